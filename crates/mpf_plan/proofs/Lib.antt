@@ -20,6 +20,9 @@ pub mod Owned
 pub mod GameNames
 pub mod GameMade
 pub mod BallActions
+pub mod Listening
+pub mod RowActions
+pub mod WithBalls
 pub mod SoundDraft
 pub mod ModesMade
 pub mod ModeWorks

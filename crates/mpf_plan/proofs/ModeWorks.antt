@@ -116,7 +116,7 @@ module _ (rows : Rows) where
 
     known : (which : ModeEvent) → number_among (names Events) (mode_event_name which row.name) < length (names Events)
     known which =
-        let entries = has_entries (contributions_of rows) (rows_are_open rows) (rows_are_placed rows) (rows_are_aimed rows) (rows_are_heard rows) (rows_are_ready rows) in
+        let entries = has_entries (contributions_of rows) (rows_are_open rows) (rows_are_placed rows) (rows_are_aimed rows) (rows_are_heard rows) (rows_are_ready rows) (rows_are_fitting rows) (rows_drain_in_game rows) in
         let at = subst (IsModeWithin (length plan.events)) made_at (All-get_or (IsModeWithin (length plan.events)) plan.modes m.0 no_mode within entries.modes) in
         subst (λ es. number_among (names Events) (mode_event_name which row.name) < length es) (names-from (contributions_of rows) Events) (by which at)
       where

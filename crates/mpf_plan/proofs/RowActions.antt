@@ -18,17 +18,17 @@ use Rattle.plan_tables.specs.declared.entries.Target.{Target}
 use Rattle.plan_tables.specs.declared.entries.Target.TheVariants.{Run, Start, Stop, Act}
 use Rattle.plan_tables.specs.PlanView.{no_row}
 use Rattle.plan_contributions.specs.DeviceEntries.{Deed, pulse, enable, disable, Effect, posts, works, changes, enters, leaves, loses, arrives}
-use Rattle.plan_contributions.specs.BallFacts.{BooksNothing, AreBallLists, IsRightRow, LastRow, with_effect}
+use Rattle.plan_contributions.specs.BallFacts.{BooksNothing, AreBallLists, IsRightRow, LastRow, first_row, with_switch, with_effect, IsRight}
 use Rattle.plan_rows.specs.declared.place.Place.{Place}
 use Rattle.mpf_plan.specs.Balls.{IsOfNoBall, AreBallActions, AreRightActions}
 use Rattle.mpf_plan.specs.Uses.{Names}
 use Rattle.mpf_plan.specs.PlanOf.{event_of, action_of, first_of_last, with_one_more}
-use Rattle.mpf_plan.proofs.Steps.{All-changed}
-use Rattle.mpf_plan.specs.declared.fault.PlanFault.{PlanFault}
+use Rattle.mpf_plan.proofs.Steps.{All-changed, blank_end}
+use Rattle.mpf_plan.proofs.Drafted.{lists_begun}
 
 -- ---- actions
 
-no_ball : (names : Names) (r : RowId) (e : Effect) → BooksNothing e → IsOfNoBall (action_of names r e)
+pub no_ball : (names : Names) (r : RowId) (e : Effect) → BooksNothing e → IsOfNoBall (action_of names r e)
 no_ball names r (works x (pulse ms power)) is = tt
 no_ball names r (works x (enable power)) is = tt
 no_ball names r (works x disable) is = tt
@@ -170,7 +170,7 @@ module _ (names : Names) where
         let more : List Action = get_or lists at [] ++ a ∷ [] in
         let count = length-set lists at more in
         kept m (with_one_more at a lists) (omega (arith, count)) (λ i below. get_or-set_other lists at i more [] (λ e. omega (arith, e, below, from)))
-        (λ few. let open = made.opened (fewer few) in omega (arith, open, count)) (λ i within all. by i within all (i == at) refl)
+        (λ few. let before = made.opened (fewer few) in omega (arith, before, count)) (λ i within all. by i within all (i == at) refl)
       where
         by : (i : ℕ) → i < length lists → All IsOfNoBall (get_or lists i []) → (b : Bool) → (i == at) ≡ b → All IsOfNoBall (get_or (with_one_more at a lists) i [])
         by i within all true is =
@@ -215,6 +215,22 @@ module _ (names : Names) where
 
     -- ---- a row more
 
+    -- the row that came last until now
+    last_made : (o : Option LastRow) → IsLastOf o rows → IsRight o → IsDoneBy (last_of rows) first lists o → (r : ℕ) → suc r ≡ length rows → IsMadeRow rows firsts lists (first + count_of o) r
+    last_made None last right done r is = absurd (omega (arith, last, is))
+    last_made (Some x) last right done r is =
+        let here : r ≡ length rows - 1 = omega (arith, is) in
+        let begin : first_at firsts r ≡ first = ap (first_at firsts) (omega (arith, is, made.count)) in
+        let its : settings_at rows r ≡ x.settings = ap (settings_at rows) here ∙ last.1 in
+        let number : record { 0 = length rows - 1 } ≡ record { 0 = r } = λ i. record { 0 = sym here i } in
+        record {
+          before = omega (arith, begin, ap list_count its);
+          right = subst (λ s. AreRightActions (record { 0 = r }) s (λ k. get_or lists (first_at firsts r + k) [])) (sym its)
+              (same_right (record { 0 = r }) x.settings (λ k. map (action_of names (record { 0 = r })) (x.done k)) (λ k. get_or lists (first_at firsts r + k) [])
+              (λ k below. ap (λ i. get_or lists (i + k) []) begin ∙ done k below ∙ ap (λ (q : RowId). map (action_of names q) (x.done k)) number)
+              (right_made names (record { 0 = r }) x.place x.settings x.done right));
+        }
+
     module _ (place : Place) (settings : Settings) (row : DeviceRow) (row_is : row.settings ≡ settings) where
       abbrev rows_then : List DeviceRow
       rows_then = rows ++ row ∷ []
@@ -237,3 +253,136 @@ module _ (names : Names) where
                 (λ k below. ap (λ i. get_or lists_then (i + k) []) begin ∙ get_or_append_left lists (replicate (list_count settings) []) [] (first_at firsts r + k) (omega (arith, own, below, few)))
                 h.right);
           }
+
+      run_then : (t : Target) → IsRunOfNone first end lists t → IsRunOfNone (length lists) (length lists + list_count settings) lists_then t
+      run_then (Run l) h =
+          let within = h.0 in
+          (omega (arith, within, length-append lists (replicate (list_count settings) [])), inl within, subst (All IsOfNoBall) (sym (get_or_append_left lists (replicate (list_count settings) []) [] l.0 within)) h.2)
+      run_then (Start m) h = tt
+      run_then (Stop m) h = tt
+      run_then (Act r act) h = tt
+
+      pub made_device : IsRight o → AreMade 1024 (Some (first_row place settings)) rows_then firsts_then lists_then bindings
+      made_device right = record {
+        count = omega (arith, longer, length_push firsts next, made.count);
+        last = (omega (arith, longer), ap (λ (x : DeviceRow). x.settings) (get_or_push rows row no_row (length rows_then - 1) (omega (arith, longer))) ∙ row_is);
+        ends = omega (arith, begin, begun);
+        opened = λ few. absurd (omega (arith, few));
+        runs = subst (λ f. All (λ b. IsRunOfNone f (f + list_count settings) lists_then b.target) bindings) (sym begin)
+            (All-weaker (λ b. IsRunOfNone first end lists b.target) (λ b. IsRunOfNone (length lists) (length lists + list_count settings) lists_then b.target) (λ b. run_then b.target) bindings made.runs);
+        earlier = λ r within. subst (λ f. IsMadeRow rows_then firsts_then lists_then f r) (sym begin) (by r (omega (arith, within, longer)) (cases_lt (suc r) (length rows)));
+        done = λ k below. ap (λ f. get_or lists_then (f + k) []) begin ∙ nothing k;
+      }
+        where
+          next : ListId
+          next = record { 0 = length lists }
+
+          longer : length rows_then ≡ length rows + 1
+          longer = length_push rows row
+
+          begin : (first_of_last firsts_then).0 ≡ length lists
+          begin = ap (λ (l : ListId). l.0) (get_or_push firsts next (record { 0 = 0 }) (length firsts_then - 1) (omega (arith, length_push firsts next)))
+
+          none : List Action
+          none = []
+
+          begun : length lists_then ≡ length lists + list_count settings
+          begun = lists_begun lists (list_count settings)
+
+          nothing : (k : ℕ) → get_or lists_then (length lists + k) [] ≡ []
+          nothing k =
+              blank_end lists (replicate (list_count settings) none) (All-replicate (λ l. l ≡ []) (list_count settings) none refl) (length lists + k)
+              ∙ get_or_past lists (length lists + k) [] (omega arith)
+
+          by : (r : ℕ) → r < length rows → (suc r < length rows) ⊎ (length rows ≤ suc r) → IsMadeRow rows_then firsts_then lists_then (length lists) r
+          by r within (inl more) = made_later first r (omega (arith, made.ends)) within (made.earlier r more)
+          by r within (inr no_more) = made_later end r made.ends within (last_made o made.last right made.done r (omega (arith, within, no_more)))
+
+    -- ---- all rows, in the end
+
+    pub made_right : IsRight o → (r : ℕ) → r < length rows → AreRightActions (record { 0 = r }) (settings_at rows r) (λ k. get_or lists (first_at firsts r + k) [])
+    made_right right r within = by (cases_lt (suc r) (length rows))
+      where
+        by : (suc r < length rows) ⊎ (length rows ≤ suc r) → AreRightActions (record { 0 = r }) (settings_at rows r) (λ k. get_or lists (first_at firsts r + k) [])
+        by (inl more) = (made.earlier r more).right
+        by (inr no_more) = (last_made o made.last right made.done r (omega (arith, within, no_more))).right
+
+  -- ---- an action more in a list of the row that came last
+
+  module _ (n : ℕ) (x : LastRow) (rows : List DeviceRow) (firsts : List ListId) (lists : List (List Action)) (bindings : List Binding) (made : AreMade n (Some x) rows firsts lists bindings) where
+    abbrev begin : ℕ
+    begin = (first_of_last firsts).0
+
+    pub made_inside : (k : ℕ) (e : Effect) → k < list_count x.settings
+        → AreMade 1024 (Some (with_effect k e x)) rows firsts (with_one_more (begin + k) (action_of names (last_of rows) e) lists) bindings
+    made_inside k e below = record {
+      count = made.count;
+      last = made.last;
+      ends = omega (arith, made.ends, count);
+      opened = λ few. absurd (omega (arith, few));
+      runs = All-weaker (λ b. IsRunOfNone begin (begin + list_count x.settings) lists b.target) (λ b. IsRunOfNone begin (begin + list_count x.settings) new b.target)
+          (λ b. run_kept n (Some x) rows firsts lists bindings made new (omega (arith, count)) (λ i within out all. subst (All IsOfNoBall) (sym (get_or-set_other lists at i more [] (apart i out))) all) b.target) bindings made.runs;
+      earlier = earlier_kept n (Some x) rows firsts lists bindings made new (λ i before. get_or-set_other lists at i more [] (λ same. omega (arith, same, before)));
+      done = λ j within. by j within (j == k) refl;
+    }
+      where
+        at : ℕ
+        at = begin + k
+
+        action : Action
+        action = action_of names (last_of rows) e
+
+        more : List Action
+        more = get_or lists at [] ++ action ∷ []
+
+        new : List (List Action)
+        new = with_one_more at action lists
+
+        count : length new ≡ length lists
+        count = length-set lists at more
+
+        apart : (i : ℕ) → (i < begin) ⊎ (begin + list_count x.settings ≤ i) → i ≡ at → ⊥
+        apart i (inl before) same = omega (arith, same, before)
+        apart i (inr behind) same = omega (arith, same, behind, below)
+
+        by : (j : ℕ) → j < list_count x.settings → (b : Bool) → (j == k) ≡ b → get_or new (begin + j) [] ≡ map (action_of names (last_of rows)) (if b then x.done j ++ e ∷ [] else x.done j)
+        by j within true same =
+            let is : j ≡ k = eqb-true j k same in
+            ap (λ i. get_or new (begin + i) []) is
+            ∙ get_or-set_same lists at more [] (omega (arith, below, made.ends))
+            ∙ ap (λ l. l ++ action ∷ []) (made.done k below)
+            ∙ sym (map-append (action_of names (last_of rows)) (x.done k) (e ∷ []))
+            ∙ ap (λ i. map (action_of names (last_of rows)) (x.done i ++ e ∷ [])) (sym is)
+        by j within false other = get_or-set_other lists at (begin + j) more [] (λ same. eqb-false j k other (omega (arith, same))) ∙ made.done j within
+
+    -- one that comes into none of its lists
+    pub made_besides : (k : ℕ) (e : Effect) → list_count x.settings ≤ k → AreMade n (Some (with_effect k e x)) rows firsts lists bindings
+    made_besides k e from = record {
+      count = made.count;
+      last = made.last;
+      ends = made.ends;
+      opened = made.opened;
+      runs = made.runs;
+      earlier = made.earlier;
+      done = λ j within. by j within (j == k) refl;
+    }
+      where
+        by : (j : ℕ) → j < list_count x.settings → (b : Bool) → (j == k) ≡ b → get_or lists (begin + j) [] ≡ map (action_of names (last_of rows)) (if b then x.done j ++ e ∷ [] else x.done j)
+        by j within true same = absurd (omega (arith, within, from, eqb-true j k same))
+        by j within false other = made.done j within
+
+    -- it listens to a switch more
+    pub made_heard : AreMade n (Some (with_switch x)) rows firsts lists bindings
+    made_heard = record { count = made.count; last = made.last; ends = made.ends; opened = made.opened; runs = made.runs; earlier = made.earlier; done = made.done }
+
+  -- before anything is made
+  pub made_none : AreMade 1024 None [] [] [] []
+  made_none = record {
+    count = refl;
+    last = refl;
+    ends = omega arith;
+    opened = λ few. absurd (omega (arith, few));
+    runs = All-nil (λ b. IsRunOfNone 0 0 [] b.target);
+    earlier = λ r within. absurd (omega (arith, within));
+    done = tt;
+  }
