@@ -69,7 +69,7 @@ module _ (rows : Rows) where
   entry_none : (place : Place) (seat : List ℕ → Option Seat) (to : List ℕ → Destination) (section : List ℕ) (e : Entry) → of_row (entry place section e) ≡ [] → of_row (entry_row rows place seat to section e) ≡ []
   entry_none place seat to section e other =
       let own = shot_of e in
-      entry_such (λ r. of_row r ≡ []) rows place seat to section e (none_shot given_coil silent none rows.machine place own (seat own.name.text) (profile_of_name rows own.profile.text)) refl other
+      entry_such (λ r. of_row r ≡ []) rows place seat to section e (none_shot given_coil silent none rows.machine place own (seat own.name.text) (profile_of_name rows own.profile.text)) refl (λ own named. refl) other
 
   -- ---- modes
 

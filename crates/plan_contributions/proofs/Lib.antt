@@ -7,12 +7,14 @@ pub mod Opened
 pub mod CoilFacts
 pub mod ShotFacts
 pub mod RowFacts
-pub mod RowEffects
 pub mod Silent
 pub mod SeatFacts
+pub mod RowEffects
 pub mod Aimed
 pub mod Unnamed
 pub mod CoilsGiven
 pub mod SwitchesGiven
+pub mod Kept
+pub mod BallRows
 pub mod ModeNames
 pub mod EventNames

@@ -21,7 +21,7 @@ use Rattle.plan_rows.specs.Seats.{Seat, seat_of, destination_of, rows_after_text
 use Rattle.plan_contributions.specs.UsedNames.{given_names}
 
 -- of two lists one has it
-or_weaker : (a b c d : Bool) → (a ≡ true → c ≡ true) → (b ≡ true → d ≡ true) → (a || b) ≡ true → (c || d) ≡ true
+pub or_weaker : (a b c d : Bool) → (a ≡ true → c ≡ true) → (b ≡ true → d ≡ true) → (a || b) ≡ true → (c || d) ≡ true
 or_weaker a b c d first second is = elim (or_cases a b is) [ inl h ↦ or_left c d (first h) | inr h ↦ or_right c d (second h) ]
 
 module _ (n : List ℕ) (rows : Rows) (seat : List ℕ → Option Seat) (to : List ℕ → Destination) where

@@ -140,8 +140,12 @@ is_plays (plays min_balls balls_per_game max_players) = true
 is_plays _ = false
 
 -- a ball may have drained only where there is a game
+abbrev pub DrainsIn : Bool → Effect → Type 0
+DrainsIn game (enters e drain) = drain ≡ true → game ≡ true
+DrainsIn game _ = Unit {0}
+
 abbrev pub DrainsInGame : Bool → Contribution → Type 0
-DrainsInGame game (does_in k (enters e drain)) = drain ≡ true → game ≡ true
+DrainsInGame game (does_in k e) = DrainsIn game e
 DrainsInGame game _ = Unit {0}
 
 abbrev pub AllDrainInGame : List Contribution → Type 0

@@ -16,10 +16,9 @@ use crate::destination::Destination;
 use crate::place::Place;
 use mpf_config::{
     ACCRUALS_NAME, AUTOFIRE_COILS_NAME, BALL_DEVICES_NAME, COUNTERS_NAME, Entry, FLIPPERS_NAME,
-    Name, SEQUENCES_NAME, SHOT_GROUPS_NAME, SHOTS_NAME, Section, TIMERS_NAME, as_ball_device,
-    as_shot_group,
+    Name, PLAYFIELD, SEQUENCES_NAME, SHOT_GROUPS_NAME, SHOTS_NAME, Section, TIMERS_NAME,
+    as_ball_device, as_shot_group,
 };
-use mpf_sections::tables::PLAYFIELD;
 use section_tables::is_one_of;
 use std::alloc::{AllocError, Global};
 use std::collections::{BTreeMap, BTreeSet};
