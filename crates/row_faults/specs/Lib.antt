@@ -6,6 +6,7 @@ pub mod ShotFaults
 pub mod VariableFaults
 pub mod Routes
 pub mod BallFaults
+pub mod Numbers
 pub mod RowFaults
 pub mod Sound
 pub mod View

@@ -8,8 +8,7 @@ ghost use Rattle.machine_definitions.specs.Definitions.{ball_devices_of};
 ghost use Rattle.machine_definitions.specs.Found.{is_found};
 ghost use Rattle.row_faults.specs.Routes.{leads_to_playfield, lacks_coil, switch_names, all_taken, is_one_taken};
 ghost use Rattle.row_faults.specs.BallFaults.{rest_faults, route_faults};
-ghost use Rattle.row_faults.specs.View.{row_faults_view};
-ghost use Rattle.row_faults.specs.Numbers.{devices_view};
+ghost use Rattle.row_faults.specs.View.{devices_view, row_faults_view};
 
 use crate::adding::{add_if, at};
 use crate::fault::{RowFault, RowFaultKind};

@@ -3,10 +3,10 @@
 //! Here a ball device goes by its place among them. The number after the last place is that of the
 //! playfield, and the one after that stands for names that no entry defines.
 
-ghost use Rattle.std.specs.Prelude.{◌≡◌, ◌+◌, ◌==◌, ℕ, List, length, map, get_or, IfOk};
-ghost use Rattle.mpf_sections.specs.View.{ball_device_view};
+ghost use Rattle.std.specs.Prelude.{◌≡◌, ◌<◌, ◌==◌, length, map, get_or, IfOk};
 ghost use Rattle.row_faults.specs.Routes.{leads_to_playfield};
-ghost use Rattle.row_faults.specs.Numbers.{IsNumbered, number_of, number_found, after};
+ghost use Rattle.row_faults.specs.Numbers.{number_found, IsNumbered, number_of, after};
+ghost use Rattle.row_faults.specs.View.{devices_view};
 
 use mpf_config::BallDevice;
 use mpf_sections::tables::PLAYFIELD;
@@ -19,11 +19,11 @@ type Numbers<'a> = BTreeMap<&'a [u8], usize>;
 /// Whether the balls that each of these ball devices ejects come to the playfield. This takes time
 /// in proportion to their number, but for its logarithm.
 pub(crate) fn leads_of(alloc: Global, devices: &[BallDevice<'_>]) -> Result<Vec<bool>, AllocError>
-    ensures { IfOk result (λ leads. leads.items ≡ map (leads_to_playfield (map ball_device_view devices.now)) (map ball_device_view devices.now)) }
+    ensures { IfOk result (λ leads. leads.items ≡ map (leads_to_playfield (devices_view devices.now)) (devices_view devices.now)) }
 {
     let numbers = numbers_of(alloc, devices)?;
     let targets = targets_of(alloc, &numbers, devices)?;
-    let ends = ends_of(alloc, &targets, targets.len())?;
+    let ends = ends_of(alloc, &targets, devices.len())?;
     are_playfield(alloc, &ends)
 }
 
@@ -32,11 +32,11 @@ fn numbers_of<'a>(
     alloc: Global,
     devices: &[BallDevice<'a>],
 ) -> Result<Numbers<'a>, AllocError>
-    ensures { IfOk result (λ numbers. IsNumbered (map ball_device_view devices.now) (number_found numbers)) }
+    ensures { IfOk result (λ numbers. IsNumbered (devices_view devices.now) (number_found numbers)) }
 {
-    let mut numbers = BTreeMap::new(alloc);
+    let mut numbers: Numbers<'a> = BTreeMap::new(alloc);
     for (number, device) in devices.iter().enumerate() {
-        numbers.insert(device.name.text.as_slice(), number)?;
+        numbers.insert(&device.name.text, number)?;
     }
     Ok(numbers)
 }
@@ -47,7 +47,7 @@ fn targets_of(
     numbers: &Numbers<'_>,
     devices: &[BallDevice<'_>],
 ) -> Result<Vec<usize>, AllocError>
-    ensures { IfOk result (λ targets. targets.items ≡ map (λ d. number_of (number_found numbers.now) (length devices.now) d.target.text) (map ball_device_view devices.now)) }
+    ensures { IfOk result (λ targets. targets.items ≡ map (λ d. number_of (number_found numbers.now) (length devices.now) d.target.text) (devices_view devices.now)) }
 {
     let mut targets = Vec::new(alloc);
     for device in devices {
@@ -58,6 +58,7 @@ fn targets_of(
 
 /// The number of a place, where there are so many ball devices.
 fn number_of(numbers: &Numbers<'_>, count: usize, name: &[u8]) -> usize
+    requires { count < usize.MAX }
     ensures { result ≡ number_of (number_found numbers.now) count name.now }
 {
     if name == PLAYFIELD {
@@ -94,20 +95,15 @@ fn one_after_other(
 ) -> Result<Vec<usize>, AllocError>
     ensures { IfOk result (λ ends. ends.items ≡ map (λ n. get_or then.now n n) first.now) }
 {
-    let mut ends = Vec::new(alloc);
-    for number in first {
-        ends.push(then.get(*number).copied().unwrap_or(*number))?;
-    }
-    Ok(ends)
+    first
+        .iter()
+        .map(|number| then.get(*number).copied().unwrap_or(*number))
+        .collect(alloc)
 }
 
 /// Which of these numbers are that of the playfield, where there are as many ball devices.
 fn are_playfield(alloc: Global, ends: &[usize]) -> Result<Vec<bool>, AllocError>
     ensures { IfOk result (λ leads. leads.items ≡ map (λ n. n == length ends.now) ends.now) }
 {
-    let mut leads = Vec::new(alloc);
-    for end in ends {
-        leads.push(*end == ends.len())?;
-    }
-    Ok(leads)
+    ends.iter().map(|end| *end == ends.len()).collect(alloc)
 }
