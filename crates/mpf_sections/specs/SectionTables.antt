@@ -357,6 +357,14 @@ shared_shapes =
     ∷ (coil_player_name, by_players coil_player)
     ∷ block_shapes
 
+-- those of devices that the machine text alone has, and those of both texts
+abbrev pub device_shapes : List (List ℕ × Shape)
+device_shapes =
+    (flippers_name, by_entries not_a_device flippers)
+    ∷ (autofire_coils_name, by_entries not_a_device autofire_coils)
+    ∷ (ball_devices_name, by_entries not_a_device ball_devices)
+    ∷ shared_shapes
+
 -- the sections of the machine text
 abbrev pub machine_shapes : List (List ℕ × Shape)
 machine_shapes =
@@ -365,10 +373,7 @@ machine_shapes =
     ∷ (game_name, by_entry game)
     ∷ (switches_name, by_entries [] switches)
     ∷ (coils_name, by_entries [] coils)
-    ∷ (flippers_name, by_entries not_a_device flippers)
-    ∷ (autofire_coils_name, by_entries not_a_device autofire_coils)
-    ∷ (ball_devices_name, by_entries not_a_device ball_devices)
-    ∷ shared_shapes
+    ∷ device_shapes
 
 -- those of the text of a mode
 abbrev pub mode_shapes : List (List ℕ × Shape)

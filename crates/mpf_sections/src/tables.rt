@@ -5,7 +5,7 @@ ghost use Rattle.std.specs.Prelude.{◌≡◌, ℕ, List, Some};
 ghost use Rattle.mpf_sections.specs.declared.tables.TextKind.{TextKind as Text};
 ghost use Rattle.mpf_sections.specs.declared.tables.TextKind.TheVariants.{Machine, Mode};
 ghost use Rattle.section_tables.specs.Kinds.{Shape as SectionShape};
-ghost use Rattle.mpf_sections.specs.SectionTables.{shot_shapes, block_shapes, shared_shapes, named_in, shape_of};
+ghost use Rattle.mpf_sections.specs.SectionTables.{shot_shapes, block_shapes, shared_shapes, device_shapes, named_in, shape_of};
 ghost use Rattle.mpf_sections.specs.TableRules.{IsRight};
 ghost use Rattle.section_tables.specs.Reading.{give};
 ghost use Rattle.section_tables.specs.TableView.{shape_view};
@@ -513,6 +513,23 @@ fn shared_shape(section: &[u8]) -> Option<Shape>
     block_shape(section)
 }
 
+// How a section is written that the machine text alone has for its devices, or that texts of both
+// kinds have.
+fn device_shape(section: &[u8]) -> Option<Shape>
+    ensures { give shape_view result ≡ named_in section.now device_shapes }
+{
+    if section == FLIPPERS_NAME {
+        return Some(Shape::Entries(NOT_A_DEVICE, FLIPPERS));
+    }
+    if section == AUTOFIRE_COILS_NAME {
+        return Some(Shape::Entries(NOT_A_DEVICE, AUTOFIRE_COILS));
+    }
+    if section == BALL_DEVICES_NAME {
+        return Some(Shape::Entries(NOT_A_DEVICE, BALL_DEVICES));
+    }
+    shared_shape(section)
+}
+
 // How a section of the machine text is written.
 fn machine_shape(section: &[u8]) -> Option<Shape>
     ensures { give shape_view result ≡ shape_of Machine section.now }
@@ -532,16 +549,7 @@ fn machine_shape(section: &[u8]) -> Option<Shape>
     if section == COILS_NAME {
         return Some(Shape::Entries(ANY_NAME, COILS));
     }
-    if section == FLIPPERS_NAME {
-        return Some(Shape::Entries(NOT_A_DEVICE, FLIPPERS));
-    }
-    if section == AUTOFIRE_COILS_NAME {
-        return Some(Shape::Entries(NOT_A_DEVICE, AUTOFIRE_COILS));
-    }
-    if section == BALL_DEVICES_NAME {
-        return Some(Shape::Entries(NOT_A_DEVICE, BALL_DEVICES));
-    }
-    shared_shape(section)
+    device_shape(section)
 }
 
 // How a section of the text of a mode is written.
