@@ -17,10 +17,10 @@ use crate::profile::Profile;
 use crate::shots::{profiles_of, shots_of, standard_profile};
 use mpf_config::config::Config;
 use mpf_config::{
-    BallDevice, Coil, Entry, Section, Shot, as_autofire, as_ball_device, as_coil, as_flipper,
-    as_switch, min_balls,
+    Coil, Entry, Section, Shot, as_autofire, as_coil, as_flipper, as_switch, min_balls,
 };
 use mpf_sections::tables::DEFAULT_PROFILE;
+use mpf_sections::{BallDevice, as_ball_device};
 use std::alloc::{AllocError, Global};
 use std::collections::{BTreeMap, BTreeSet};
 use std::marker::Model;

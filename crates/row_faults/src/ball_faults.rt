@@ -12,8 +12,9 @@ use crate::adding::{add_if, at};
 use crate::coil_faults::{add_coil_name, add_switch_name};
 use crate::fault::{RowFault, RowFaultKind};
 use machine_definitions::Definitions;
-use mpf_config::{BallDevice, Entry, Name, NameAt, as_ball_device};
+use mpf_config::{Entry, Name, NameAt};
 use mpf_sections::tables::PLAYFIELD;
+use mpf_sections::{BallDevice, as_ball_device};
 use std::alloc::{AllocError, Global};
 
 /// Adds the faults of the names in these entries of `ball_devices`.

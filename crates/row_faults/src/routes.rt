@@ -13,7 +13,8 @@ ghost use Rattle.row_faults.specs.View.{devices_view, row_faults_view};
 use crate::adding::{add_if, at};
 use crate::fault::{RowFault, RowFaultKind};
 use crate::targets::leads_of;
-use mpf_config::{BallDevice, Entry, Name, Section, as_ball_device};
+use mpf_config::{Entry, Name, Section};
+use mpf_sections::{BallDevice, as_ball_device};
 use std::alloc::{AllocError, Global};
 use std::collections::BTreeSet;
 

@@ -8,7 +8,7 @@ ghost use Rattle.row_faults.specs.Routes.{leads_to_playfield};
 ghost use Rattle.row_faults.specs.Numbers.{number_found, IsNumbered, number_of, after};
 ghost use Rattle.row_faults.specs.View.{devices_view};
 
-use mpf_config::BallDevice;
+use mpf_sections::BallDevice;
 use mpf_sections::tables::PLAYFIELD;
 use std::alloc::{AllocError, Global};
 use std::collections::BTreeMap;
