@@ -4,3 +4,5 @@ pub mod Listed
 pub mod None
 pub mod Called
 pub mod Sound
+pub mod Numbers
+pub mod Leads
