@@ -14,7 +14,7 @@ use Rattle.plan_contributions.specs.declared.contribution.Aim.{Aim}
 use Rattle.plan_contributions.specs.declared.contribution.Aim.TheVariants.{Run}
 use Rattle.plan_contributions.specs.DeviceEntries.{Deed, pulse, enable, disable, Effect, posts, works, changes, enters, leaves, loses, arrives}
 use Rattle.plan_contributions.specs.Contributions.{Contribution, gives, reads, active, inactive, mode, mode_event, binds, does, device, does_in, listens, mentions, unknown, coil, under, plays}
-use Rattle.plan_contributions.specs.BallFacts.{BooksNothing, LastRow, last_after, IsFitting, AreFitting, is_plays, DrainsInGame, AllDrainInGame}
+use Rattle.plan_contributions.specs.BallFacts.{BooksNothing, LastRow, last_after, IsFitting, AreFitting, is_plays, DrainsIn, DrainsInGame, AllDrainInGame}
 use Rattle.mpf_plan.specs.Uses.{Names, number_among}
 use Rattle.mpf_plan.specs.PlanOf.{DraftView, action_with, action_of, last_row, lists_for, with_one_more, next_row, first_of_last, with_contribution, blank, drafted}
 use Rattle.mpf_plan.proofs.Drafted.{given_plan}
@@ -23,28 +23,18 @@ use Rattle.mpf_plan.proofs.Steps.{All-changed}
 -- ---- drains
 
 -- a ball may have drained only where there is a game
-abbrev pub DrainsSo : Bool → Effect → Type 0
-DrainsSo game (enters e drain) = drain ≡ true → game ≡ true
-DrainsSo game _ = Unit {0}
-
 abbrev pub DrainsWell : Bool → Contribution → Type 0
-DrainsWell game (does e) = DrainsSo game e
-DrainsWell game (does_in k e) = DrainsSo game e
+DrainsWell game (does e) = DrainsIn game e
+DrainsWell game (does_in k e) = DrainsIn game e
 DrainsWell game _ = Unit {0}
 
-nothing_drains : (game : Bool) (e : Effect) → BooksNothing e → DrainsSo game e
+nothing_drains : (game : Bool) (e : Effect) → BooksNothing e → DrainsIn game e
 nothing_drains game (enters e drain) is = absurd is
 nothing_drains game _ is = tt
 
 drains_one : (game : Bool) (o : Option LastRow) (c : Contribution) → IsFitting o c → DrainsInGame game c → DrainsWell game c
 drains_one game o (does e) fits is = nothing_drains game e fits
-drains_one game o (does_in k (enters e drain)) fits is = is
-drains_one game o (does_in k (posts n)) fits is = tt
-drains_one game o (does_in k (works n deed)) fits is = tt
-drains_one game o (does_in k (changes v action n)) fits is = tt
-drains_one game o (does_in k leaves) fits is = tt
-drains_one game o (does_in k loses) fits is = tt
-drains_one game o (does_in k arrives) fits is = tt
+drains_one game o (does_in k e) fits is = is
 drains_one game o _ fits is = tt
 
 drains_all : (game : Bool) (o : Option LastRow) (cs : List Contribution) → AreFitting o cs → All (DrainsInGame game) cs → All (DrainsWell game) cs

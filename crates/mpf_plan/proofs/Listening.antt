@@ -104,7 +104,7 @@ module _ (names : List (List ℕ)) where
   IsNamed ns i = (m : List ℕ) × Contains ns m × (number_among names m ≡ i)
 
   named_more : (n : List ℕ) (ns : List (List ℕ)) (i : ℕ) → IsNamed ns i → IsNamed (n ∷ ns) i
-  named_more n ns i (m, (k, within, is), same) = (m, ((suc k, omega (arith, within), is), same))
+  named_more n ns i (m, (k, within, is), same) = (m, (suc k, omega (arith, within), is), same)
 
   -- Those that listen are rows that are there, by switches that they have. The row that came last listens by the first h of
   -- its numbers to switches with these names.
@@ -189,7 +189,7 @@ module _ (names : List (List ℕ)) where
               let e : i ≡ at = eqb-true i at is in
               subst (All (λ l. suc l.row.0 ≡ length rows → IsNamed (n ∷ ns) i)) (sym (ap (λ j. get_or (with_one at last lls) j []) e ∙ get_or-set_same lls at (get_or lls at [] ++ last ∷ []) [] inside))
               (All-push (λ l. suc l.row.0 ≡ length rows → IsNamed (n ∷ ns) i) (get_or lls at []) last (subst (λ j. All (λ l. suc l.row.0 ≡ length rows → IsNamed (n ∷ ns) i) (get_or lls j [])) e (more i within))
-              (λ same. (n, ((0, omega arith, refl), sym e))))
+              (λ same. (n, (0, omega arith, refl), sym e)))
           by i within false is =
               subst (All (λ l. suc l.row.0 ≡ length rows → IsNamed (n ∷ ns) i)) (sym (get_or-set_other lls at i (get_or lls at [] ++ last ∷ []) [] (eqb-false i at is))) (more i within)
 

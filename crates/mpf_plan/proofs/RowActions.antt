@@ -16,6 +16,7 @@ use Rattle.plan_tables.specs.declared.entries.Binding.{Binding}
 use Rattle.plan_tables.specs.declared.entries.ListId.{ListId}
 use Rattle.plan_tables.specs.declared.entries.Target.{Target}
 use Rattle.plan_tables.specs.declared.entries.Target.TheVariants.{Run, Start, Stop, Act}
+use Rattle.plan_tables.specs.declared.table.Table.TheVariants.{Events}
 use Rattle.plan_tables.specs.PlanView.{no_row}
 use Rattle.plan_contributions.specs.DeviceEntries.{Deed, pulse, enable, disable, Effect, posts, works, changes, enters, leaves, loses, arrives}
 use Rattle.plan_contributions.specs.BallFacts.{BooksNothing, AreBallLists, IsRightRow, LastRow, first_row, with_switch, with_effect, IsRight}
@@ -99,6 +100,9 @@ count_of (Some x) = list_count x.settings
 abbrev pub IsLastOf : Option LastRow → List DeviceRow → Type 0
 IsLastOf None rows = length rows ≡ 0
 IsLastOf (Some x) rows = (0 < length rows) × (settings_at rows (length rows - 1) ≡ x.settings)
+
+abbrev row_id : ℕ → RowId
+row_id n = record { 0 = n }
 
 -- the number of the last row
 abbrev last_of : List DeviceRow → RowId
@@ -222,7 +226,7 @@ module _ (names : Names) where
         let here : r ≡ length rows - 1 = omega (arith, is) in
         let begin : first_at firsts r ≡ first = ap (first_at firsts) (omega (arith, is, made.count)) in
         let its : settings_at rows r ≡ x.settings = ap (settings_at rows) here ∙ last.1 in
-        let number : record { 0 = length rows - 1 } ≡ record { 0 = r } = λ i. record { 0 = sym here i } in
+        let number : last_of rows ≡ row_id r = ap row_id (sym here) in
         record {
           before = omega (arith, begin, ap list_count its);
           right = subst (λ s. AreRightActions (record { 0 = r }) s (λ k. get_or lists (first_at firsts r + k) [])) (sym its)

@@ -40,11 +40,11 @@ use Rattle.mpf_plan.specs.PlanOf.{DraftView, event_of, action_of, last_row, new_
 use Rattle.mpf_plan.proofs.Among.{IsAmong, IsKnown, all_known}
 use Rattle.mpf_plan.proofs.Drafted.{given_plan, names-from, lists_begun}
 use Rattle.mpf_plan.proofs.Heard.{AreHeard}
-use Rattle.plan_contributions.specs.Facts.{row_after, IsPlaced, ArePlaced, IsOpenPlace, IsOpenAim, IsOpen, modes_after, AreOpened, row_places, IsTargetAt, IsAimed, AreAimed}
-use Rattle.mpf_plan.proofs.RowOwners.{owner_by, owners_of, modes_come, owners_fold, rows_kept, bound_on}
+use Rattle.plan_contributions.specs.Facts.{row_after, IsPlaced, ArePlaced, IsOpenPlace, IsOpenAim, IsOpen, modes_after, AreOpened, row_places, IsAimed, AreAimed}
+use Rattle.mpf_plan.proofs.RowOwners.{owner_by, owners_of, settings_of, settings_fold, modes_come, owners_fold, rows_kept, bound_on}
 use Rattle.mpf_plan.proofs.Owned.{IsOwnTarget, IsOwn, IsOwnListener, IsOwnSwitch, own_aim, own_then, own_blank, own_drafted}
-use Rattle.plan_contributions.specs.BallFacts.{AreFitting, is_plays, AllDrainInGame}
-use Rattle.mpf_plan.proofs.BallActions.{IsOfRows, DrainsSo, DrainsWell, drains_well, of_rows_drafted, game_played}
+use Rattle.plan_contributions.specs.BallFacts.{AreFitting, row_settings, IsTargetAmong, HasTarget, is_plays, DrainsIn, AllDrainInGame}
+use Rattle.mpf_plan.proofs.BallActions.{IsOfRows, DrainsWell, drains_well, of_rows_drafted, game_played}
 use Rattle.mpf_plan.proofs.Done.{IsMet, meet_drafted}
 use Rattle.mpf_plan.proofs.GameMade.{game_made, game_within}
 use Rattle.mpf_plan.proofs.Ready.{IsReadyEffect, IsReady, IsNumberedIn, AreNumbered}
@@ -67,9 +67,9 @@ row_within : (plan : PlanView) (r : RowId) → IsRowSo (length plan.rows) plan r
 row_within plan r is = record { number = is.number; owner = is.owner; target = is.target; lists = is.lists }
 
 -- of a row that contributions give
-target_there : (places : List (Place × ℕ)) (count : ℕ) (settings : Settings) → length places ≡ count → IsTargetAt places settings → IsTargetThere count (settings_target settings)
-target_there places count (kinds.BallDevice d) same is = subst (λ n. IsTargetThere n d.target) same is
-target_there places count _ same is = tt
+target_there : (all : List Settings) (count : ℕ) (settings : Settings) → length all ≡ count → IsTargetAmong all settings → IsTargetThere count (settings_target settings)
+target_there all count (kinds.BallDevice d) same is = subst (λ n. IsTargetThere n d.target) same is
+target_there all count _ same is = tt
 
 -- ---- a plan with more lists, modes and rows
 
@@ -330,25 +330,24 @@ module _ (names : Names) (final : List DeviceRow) (d : DraftView) (sound : IsSou
 
 module _ (names : Names) where
   -- where these are the rows in the end
-  module _ (final : List DeviceRow) (places : List (Place × ℕ)) (owned : owners_of final ≡ map owner_by places) where
+  module _ (final : List DeviceRow) (places : List (Place × ℕ)) (owned : owners_of final ≡ map owner_by places) (all : List Settings) (set_is : settings_of final ≡ all) where
     own_next : (c : Contribution) (cs : List Contribution) (n : ℕ) (o : Option Place) (d : DraftView) → n ≡ length d.plan.modes → (fold (with_contribution names) d (c ∷ cs)).plan.rows ≡ final
-        → IsPlaced o c → IsAimed places n c → IsOwn final o d.plan → IsOwnNext final d.plan c
-    own_next (binds x place aim) cs n o d same made placed aimed own =
+        → IsPlaced o c → IsAimed places n c → HasTarget all c → IsOwn final o d.plan → IsOwnNext final d.plan c
+    own_next (binds x place aim) cs n o d same made placed aimed target own =
         let c = binds x place aim in
         let kept = rows_kept names (c ∷ cs) d in
         own_aim names final d o own kept.0 (sym made ∙ kept.1) place aim placed (bound_on final places owned n d.plan c same aimed)
-    own_next (device place settings) cs n o d same made placed aimed own =
-        target_there places (length final) settings (sym (length-map places owner_by) ∙ ap length (sym owned) ∙ length-map final (λ (x : DeviceRow). x.owner)) aimed
-    own_next _ cs n o d same made placed aimed own = tt
+    own_next (device place settings) cs n o d same made placed aimed target own = target_there all (length final) settings (sym (ap length set_is) ∙ length-map final (λ (x : DeviceRow). x.settings)) target
+    own_next _ cs n o d same made placed aimed target own = tt
 
     sound_fold : (cs : List Contribution) (n : ℕ) (o : Option Place) (d : DraftView) → n ≡ length d.plan.modes → (fold (with_contribution names) d cs).plan.rows ≡ final
-        → AreOpened n cs → ArePlaced o cs → AreAimed places n cs → AreHeard o cs → All (IsKnown names) cs → IsOwn final o d.plan → IsSound names final d.plan → IsSound names final (fold (with_contribution names) d cs).plan
-    sound_fold [] n o d same made opened placed aimed heard known own sound = sound
-    sound_fold (c ∷ cs) n o d same made opened placed aimed heard known own sound =
+        → AreOpened n cs → ArePlaced o cs → AreAimed places n cs → AreHeard o cs → All (HasTarget all) cs → All (IsKnown names) cs → IsOwn final o d.plan → IsSound names final d.plan → IsSound names final (fold (with_contribution names) d cs).plan
+    sound_fold [] n o d same made opened placed aimed heard targets known own sound = sound
+    sound_fold (c ∷ cs) n o d same made opened placed aimed heard targets known own sound =
         let few : n ≤ length d.plan.modes = omega (arith, same) in
-        sound_fold cs (modes_after n c) (row_after o c) (with_contribution names d c) (modes_come names n d c same) made opened.1 placed.1 aimed.1 heard.1 (All-tail (IsKnown names) c cs known)
+        sound_fold cs (modes_after n c) (row_after o c) (with_contribution names d c) (modes_come names n d c same) made opened.1 placed.1 aimed.1 heard.1 (All-tail (HasTarget all) c cs targets) (All-tail (IsKnown names) c cs known)
         (own_then names final places owned c cs n o d same made placed.0 aimed.0 heard.0 own)
-        (sound_one names final d sound n few c (own_next c cs n o d same made placed.0 aimed.0 own) opened.0 (All-head (IsKnown names) c cs known))
+        (sound_one names final d sound n few c (own_next c cs n o d same made placed.0 aimed.0 (All-head (HasTarget all) c cs targets) own) opened.0 (All-head (IsKnown names) c cs known))
 
   sound_blank : (final : List DeviceRow) → IsSound names final (blank names).plan
   sound_blank final = record {
@@ -372,7 +371,7 @@ module _ (names : Names) where
     IsNumbered (Enter r e drain) = (e.0 < length (names Events)) × (drain ≡ true → game ≡ true)
     IsNumbered _ = Unit {0}
 
-    effect_known : (e : Effect) → IsAmong names (used_by e) → IsReadyEffect (IsNumberedIn (names Events)) e → DrainsSo game e → (r : RowId) → IsNumbered (action_of names r e)
+    effect_known : (e : Effect) → IsAmong names (used_by e) → IsReadyEffect (IsNumberedIn (names Events)) e → DrainsIn game e → (r : RowId) → IsNumbered (action_of names r e)
     effect_known (posts x) known ready drains r = known
     effect_known (works x (pulse ms power)) known ready drains r = known
     effect_known (works x (enable power)) known ready drains r = known
@@ -408,18 +407,18 @@ module _ (names : Names) where
     action_within plan events coils variables has (Arrive r) within there = there
 
 -- what contributions make is sound, where a mode came before what is of one, and a row before what acts on it
-pub sound_drafted : (cs : List Contribution) → AreOpened 0 cs → ArePlaced None cs → AreAimed (row_places 0 cs) 0 cs → AreHeard None cs
+pub sound_drafted : (cs : List Contribution) → AreOpened 0 cs → ArePlaced None cs → AreAimed (row_places 0 cs) 0 cs → AreHeard None cs → All (HasTarget (row_settings cs)) cs
     → IsSound (names_from cs) (drafted (names_from cs) cs).plan.rows (drafted (names_from cs) cs).plan
-sound_drafted cs opened placed aimed heard =
+sound_drafted cs opened placed aimed heard targets =
     let names = names_from cs in
     let final = (drafted names cs).plan.rows in
-    sound_fold names final (row_places 0 cs) (owners_fold names cs 0 (blank names) refl) cs 0 None (blank names) refl refl opened placed aimed heard (all_known cs) (own_blank names final) (sound_blank names final)
+    sound_fold names final (row_places 0 cs) (owners_fold names cs 0 (blank names) refl) (row_settings cs) (settings_fold names cs (blank names)) cs 0 None (blank names) refl refl opened placed aimed heard targets (all_known cs) (own_blank names final) (sound_blank names final)
 
-pub has_entries : (cs : List Contribution) → AreOpened 0 cs → ArePlaced None cs → AreAimed (row_places 0 cs) 0 cs → AreHeard None cs → AreNumbered cs → AreFitting None cs → AllDrainInGame cs → HasEntries (drafted (names_from cs) cs).plan
-has_entries cs opened placed aimed heard ready fitting drains =
+pub has_entries : (cs : List Contribution) → AreOpened 0 cs → ArePlaced None cs → AreAimed (row_places 0 cs) 0 cs → AreHeard None cs → All (HasTarget (row_settings cs)) cs → AreNumbered cs → AreFitting None cs → AllDrainInGame cs → HasEntries (drafted (names_from cs) cs).plan
+has_entries cs opened placed aimed heard targets ready fitting drains =
     let names = names_from cs in
     let plan = (drafted names cs).plan in
-    let sound = sound_drafted cs opened placed aimed heard in
+    let sound = sound_drafted cs opened placed aimed heard targets in
     let all : Grows (with_rows plan.rows plan) plan = record { events = refl; variables = refl; modes = omega arith; lists = omega arith; rows = omega arith } in
     let posted : EventId → Type 0 = IsEventWithin (length (names Events)) in
     let game = list_any is_plays cs in

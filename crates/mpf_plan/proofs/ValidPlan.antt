@@ -35,7 +35,7 @@ use Rattle.mpf_plan.proofs.Drafted.{given_plan, names-from, count-bindings, coun
 use Rattle.mpf_plan.proofs.Judged.{plan_at-Ok, plan_at-complete}
 use Rattle.plan_contributions.specs.Facts.{AreShort, IsRoomy, effects_after, effects_in_after, full, AreLimits, IsLimited, given_coil}
 use Rattle.plan_contributions.proofs.Aimed.{rows_are_aimed}
-use Rattle.plan_contributions.proofs.Fitting.{rows_are_fitting, rows_drain_in_game}
+use Rattle.plan_contributions.proofs.BallRows.{rows_are_fitting, targets_are_rows, drains_are_in_games}
 use Rattle.plan_contributions.proofs.RowFacts.{rows_are_short, rows_are_open, rows_are_limited, rows_are_placed}
 use Rattle.mpf_plan.proofs.Apart.{all_apart, named_apart}
 use Rattle.mpf_plan.proofs.Heard.{rows_are_heard, plain_of_heard}
@@ -260,7 +260,7 @@ valid_from rows short few_modes none_lacks within =
       settings = limited_fold names cs (blank names) (rows_are_limited rows short) (All-nil IsLimitedRow);
       action_limit = fit_fold names 1024 full cs (blank names) (rows_are_short rows short) none;
       names = λ t. subst (AllPairs (λ x y. x ≢ y)) (sym (names-from cs t)) (all_apart (named_of cs t) (named_apart cs t));
-      entries = has_entries cs (rows_are_open rows) (rows_are_placed rows) (rows_are_aimed rows) (rows_are_heard rows) (rows_are_ready rows) (rows_are_fitting rows) (rows_drain_in_game rows);
+      entries = has_entries cs (rows_are_open rows) (rows_are_placed rows) (rows_are_aimed rows) (rows_are_heard rows) (targets_are_rows rows) (rows_are_ready rows) (rows_are_fitting rows) (drains_are_in_games rows);
       works = works_are rows few_modes.apart;
       game_works = game_works_are rows;
     }
@@ -273,7 +273,7 @@ IsValid-plan_of rows short few none within = valid_from rows short few none with
 
 HasEntries-plan_of : (rows : Rows) → HasEntries (plan_of rows)
 unfolding plan_of
-HasEntries-plan_of rows = has_entries (contributions_of rows) (rows_are_open rows) (rows_are_placed rows) (rows_are_aimed rows) (rows_are_heard rows) (rows_are_ready rows) (rows_are_fitting rows) (rows_drain_in_game rows)
+HasEntries-plan_of rows = has_entries (contributions_of rows) (rows_are_open rows) (rows_are_placed rows) (rows_are_aimed rows) (rows_are_heard rows) (targets_are_rows rows) (rows_are_ready rows) (rows_are_fitting rows) (drains_are_in_games rows)
 
 pub HasEntries-plan_at : (rows : Rows) (plan : PlanView) → plan_at rows ≡ Ok plan → HasEntries plan
 HasEntries-plan_at rows plan is = subst HasEntries (sym (plan_at-Ok rows plan is).0) (HasEntries-plan_of rows)

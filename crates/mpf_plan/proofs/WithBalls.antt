@@ -26,10 +26,10 @@ use Rattle.plan_tables.specs.declared.entries.Target.TheVariants.{Run, Start, St
 use Rattle.plan_tables.specs.declared.table.Table.TheVariants.{Events, Switches}
 use Rattle.plan_contributions.specs.DeviceEntries.{Effect, posts, works, changes, enters, leaves, loses, arrives}
 use Rattle.plan_contributions.specs.Contributions.{Contribution, gives, reads, active, inactive, mode, mode_event, binds, does, device, does_in, listens, mentions, unknown, coil, under, plays, contributions_of}
-use Rattle.plan_contributions.specs.BallFacts.{BooksNothing, IsNoBallDevice, IsSwitchOf, IsRightRow, LastRow, first_row, with_switch, with_effect, last_after, IsRight, IfRow, IsNext, IsOffBallsAt, IsFitting, AreFitting, settings_given, row_settings, IsOffBalls, heard_after, IsHeardOnce, AreHeardOnce}
+use Rattle.plan_contributions.specs.BallFacts.{BooksNothing, IsNoBallDevice, IsSwitchOf, IsRightRow, LastRow, first_row, with_switch, with_effect, last_after, IsRight, IfRow, IsNext, IsOffBallsAt, IsFitting, AreFitting, row_settings, IsOffBalls, heard_after, IsHeardOnce, AreHeardOnce}
 use Rattle.plan_contributions.specs.Facts.{effects_after, effects_in_after, full, IsRoomy, AreShort, IsPlaceOf, IsOfMachine}
 use Rattle.plan_contributions.proofs.RowFacts.{rows_are_short, rows_are_of_machine}
-use Rattle.plan_contributions.proofs.Fitting.{rows_are_fitting, rows_are_off_balls}
+use Rattle.plan_contributions.proofs.BallRows.{rows_are_fitting, acts_are_off_balls}
 use Rattle.mpf_plan.specs.Balls.{IsOfNoBall, IsTargetOfNoBall, AreOfTwoRows, AreApart, IsOwnerOf, BallDevicesAreOwn, IsRightWithBalls}
 use Rattle.mpf_plan.specs.Uses.{Names, names_from, number_among}
 use Rattle.mpf_plan.specs.PlanOf.{DraftView, event_of, action_of, last_row, target_at, next_binding, next_row, next_listener, heard_by, first_of_last, lists_for, with_one_more, condition_of, conditioned, with_contribution, named_switch, blank, drafted, plan_of, plan_at, owner_at, last_mode}
@@ -39,7 +39,7 @@ use Rattle.mpf_plan.proofs.Listening.{all_of_first, all_of_second, heard_all, wi
 use Rattle.mpf_plan.proofs.Judged.{plan_at-Ok}
 use Rattle.mpf_plan.proofs.Ready.{IsLow, IsReady, IsNumberedIn, rows_are_ready}
 use Rattle.mpf_plan.proofs.RowActions.{settings_at, IsRunOfNone, count_of, AreMade, made_outside, made_bound, made_changed, made_begun, made_device, made_right, made_inside, made_besides, made_heard, made_none, no_ball}
-use Rattle.mpf_plan.proofs.RowOwners.{rows_kept}
+use Rattle.mpf_plan.proofs.RowOwners.{settings_of, settings_fold, rows_kept}
 use Rattle.mpf_plan.proofs.Steps.{All-changed}
 
 -- ---- what comes into the lists of a row
@@ -60,17 +60,14 @@ right_nothing place _ done none right = right
 -- what a row that is no ball device does so far has nothing to do with balls, where that fits what comes after it
 nothing_so_far : (cs : List Contribution) (x : LastRow) → IsNoBallDevice x.settings → AreFitting (Some x) cs → (k : ℕ) → All BooksNothing (x.done k)
 nothing_so_far [] x none fits k = right_nothing x.place x.settings x.done none fits k
-nothing_so_far (c ∷ cs) x none fits k = by c fits
+nothing_so_far (device place settings ∷ cs) x none fits k = right_nothing x.place x.settings x.done none fits.0 k
+nothing_so_far (does_in j e ∷ cs) x none fits k = by (k == j) (nothing_so_far cs (with_effect j e x) none fits.1 k)
   where
-    part : (j : ℕ) (e : Effect) (b : Bool) → All BooksNothing (if b then x.done k ++ e ∷ [] else x.done k) → All BooksNothing (x.done k)
-    part j e true all = all_of_first BooksNothing (x.done k) (e ∷ []) all
-    part j e false all = all
-
-    by : (c : Contribution) → AreFitting (Some x) (c ∷ cs) → All BooksNothing (x.done k)
-    by (device place settings) fits = right_nothing x.place x.settings x.done none fits.0 k
-    by (does_in j e) fits = part j e (k == j) (nothing_so_far cs (with_effect j e x) none fits.1 k)
-    by (listens j n) fits = nothing_so_far cs (with_switch x) none fits.1 k
-    by _ fits = nothing_so_far cs x none fits.1 k
+    by : (b : Bool) → All BooksNothing (if b then x.done k ++ e ∷ [] else x.done k) → All BooksNothing (x.done k)
+    by true all = all_of_first BooksNothing (x.done k) (e ∷ []) all
+    by false all = all
+nothing_so_far (listens j n ∷ cs) x none fits k = nothing_so_far cs (with_switch x) none fits.1 k
+nothing_so_far (c ∷ cs) x none fits k = nothing_so_far cs x none fits.1 k
 
 -- an effect comes into a list of the row, or has nothing to do with balls
 part_of : (cs : List Contribution) (x : LastRow) (k : ℕ) (e : Effect) → IsLow k e → AreFitting (Some (with_effect k e x)) cs → (k < list_count x.settings) ⊎ BooksNothing e
@@ -126,9 +123,6 @@ none_heard ns =
 
 -- ---- rows
 
-abbrev settings_of : List DeviceRow → List Settings
-settings_of rows = map (λ (r : DeviceRow). r.settings) rows
-
 -- to how many switches the row listens that came last
 abbrev heard_of : Option LastRow → ℕ
 heard_of None = 0
@@ -144,18 +138,6 @@ IsActOfNone rows (Act r act) = IsNoBallDevice (settings_at rows r.0)
 IsActOfNone rows _ = Unit {0}
 
 module _ (names : Names) where
-  settings_one : (d : DraftView) (c : Contribution) → settings_of (with_contribution names d c).plan.rows ≡ settings_of d.plan.rows ++ settings_given c
-  settings_one d (gives t n) = ap (λ p. settings_of p.rows) (given_plan t (number_among (names t) n) d) ∙ sym (append-nil (settings_of d.plan.rows))
-  settings_one d (device place settings) = map-append (λ (r : DeviceRow). r.settings) d.plan.rows (next_row d.plan place settings ∷ [])
-  settings_one d _ = sym (append-nil (settings_of d.plan.rows))
-
-  settings_fold : (cs : List Contribution) (d : DraftView) → settings_of (fold (with_contribution names) d cs).plan.rows ≡ settings_of d.plan.rows ++ row_settings cs
-  settings_fold [] d = sym (append-nil (settings_of d.plan.rows))
-  settings_fold (c ∷ cs) d =
-      settings_fold cs (with_contribution names d c)
-      ∙ ap (λ l. l ++ row_settings cs) (settings_one d c)
-      ∙ append_assoc (settings_of d.plan.rows) (settings_given c) (row_settings cs)
-
   -- ---- one contribution more, where these are the rows in the end
 
   module _ (final : List DeviceRow) where
@@ -366,7 +348,7 @@ right-plan_of : (rows : Rows) → AreListsShort rows → AreHeardOnce [] (contri
 unfolding plan_of
 right-plan_of rows short once =
     let cs = contributions_of rows in
-    right_drafted (IsNumberedIn (names_from cs Events)) (names_from cs) cs (rows_are_short rows short) (rows_are_fitting rows) once (rows_are_off_balls rows) (all_known cs) (rows_are_ready rows)
+    right_drafted (IsNumberedIn (names_from cs Events)) (names_from cs) cs (rows_are_short rows short) (rows_are_fitting rows) once (acts_are_off_balls rows) (all_known cs) (rows_are_ready rows)
 
 -- what the plan does with balls is right, where no row listens twice to one switch
 pub right_with_balls-plan_at : (rows : Rows) → AreListsShort rows → AreHeardOnce [] (contributions_of rows) → (plan : PlanView) → plan_at rows ≡ Ok plan → IsRightWithBalls plan
