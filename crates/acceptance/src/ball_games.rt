@@ -136,7 +136,8 @@ fn draw(state: &mut u64, limit: u32) -> u32 {
 fn on_players(alloc: Global, out: &str) -> Result<String, AllocError> {
     let mut lines = String::new(alloc);
     for line in out.split("\n") {
-        if line.contains(" machine player ") || line.contains(" machine final ") {
+        let words = line.split_once(" machine player ");
+        if words.or(line.split_once(" machine final ")).is_some() {
             write!(lines, "{line}\n")?;
         }
     }
