@@ -20,14 +20,14 @@ use Rattle.mpf_sections.proofs.CoilRows.{written_named, some_named, either_named
 
 -- ---- short lists
 
-few_all : {A : Type 0} (P : A → Type 0) (xs : List A) → All P xs → All P (few xs)
+pub few_all : {A : Type 0} (P : A → Type 0) (xs : List A) → All P xs → All P (few xs)
 few_all P xs h = all_where P (nat_le (length xs) 16) xs h
 
 few_by : {A : Type 0} (xs : List A) (b : Bool) → nat_le (length xs) 16 ≡ b → length (if b then xs else []) ≤ 16
 few_by xs true h = leb-true (length xs) 16 h
 few_by xs false h = omega arith
 
-few_short : {A : Type 0} (xs : List A) → length (few xs) ≤ 16
+pub few_short : {A : Type 0} (xs : List A) → length (few xs) ≤ 16
 few_short xs = few_by xs (nat_le (length xs) 16) refl
 
 -- ---- names
