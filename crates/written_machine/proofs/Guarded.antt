@@ -32,7 +32,7 @@ use Rattle.written_machine.specs.EventStep.{taken, EventStep}
 use Rattle.written_machine.specs.Run.{Stimulus, moment_of, IsAllowed, IsNothingLate, arrived, begin, IsRun}
 use Rattle.written_machine.specs.Allowed.{ActionsAreAllowed}
 use Rattle.written_machine.specs.Sent.{sent_at, sent_in, sendings, IsIdle, AreSkippedIdle}
-use Rattle.written_machine.specs.Moves.{Move, Wrote, Sent, Switched, Began, Ended, Marked, Turned, Asked, Varied, Stepped, do_move, Licence, MayDo, Does, IsNoCommand, TakesPart, Begins, ordinary, working}
+use Rattle.written_machine.specs.Moves.{Move, Wrote, Sent, Switched, Began, Ended, Marked, Turned, Asked, Booked, Varied, Stepped, do_move, Licence, MayDo, Does, IsNoCommand, TakesPart, Begins, ordinary, working}
 use Rattle.written_machine.proofs.Does.{start-by, stop-by, does-keeps}
 use Rattle.written_machine.proofs.Parts.{does-before, does-after, does-begin}
 use Rattle.written_machine.proofs.Held.{IsHolding}
@@ -165,6 +165,7 @@ no-sending moment owner (lines.Event e) is = refl
 no-sending moment owner (lines.Coil command) is = absurd is
 no-sending moment owner (lines.Skip command) is = absurd is
 no-sending moment owner (lines.Player player v value) is = refl
+no-sending moment owner (lines.Balls booking counts) is = refl
 no-sending moment owner (lines.Final player score) is = refl
 
 -- ---- every move

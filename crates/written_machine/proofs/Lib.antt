@@ -1,3 +1,4 @@
+pub mod Feeding
 pub mod Does
 pub mod Parts
 pub mod Pricing
