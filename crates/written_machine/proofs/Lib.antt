@@ -17,6 +17,7 @@ pub mod Hearing
 pub mod Speaking
 pub mod Resting
 pub mod Silence
+pub mod BallsKnown
 pub mod Good
 pub mod Listed
 pub mod Held

@@ -531,7 +531,7 @@ module _ (plan : PlanView) where
   does-before (Game which) s = quiet
 
   -- the scores of all players are told, where this holds
-  does-finals : (told : Bool) (s : Machine) → Does plan (MayWork plan) (finals_now told s) s (write_finals plan told s)
+  pub does-finals : (told : Bool) (s : Machine) → Does plan (MayWork plan) (finals_now told s) s (write_finals plan told s)
   does-finals true s =
       all_do-does plan (MayWork plan) (write_final plan) (λ player. Lines 1) (λ player. Unit {0}) (λ player t h. moved (Wrote owners.Machine (lines.Final player (score_of plan t.players player))) t (λ own. tt, tt, tt, tt))
       (range_with_len 1 (length s.players.players)) (λ k d there. tt) s
