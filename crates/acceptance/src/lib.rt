@@ -5,6 +5,10 @@
 #![tactic(auto)]
 
 #[cfg(test)]
+mod ball_games;
+#[cfg(test)]
+mod ball_rows;
+#[cfg(test)]
 mod cascade_rows;
 #[cfg(test)]
 mod certificate_rows;

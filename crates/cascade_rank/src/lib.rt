@@ -2,6 +2,7 @@
 //! a cycle makes a cascade endless.
 #![tactic(auto)]
 
+mod confirms;
 pub mod fault;
 mod ground;
 pub mod law;
