@@ -9,7 +9,7 @@ ghost use Rattle.std.specs.Str.{bytes_eq};
 ghost use Rattle.mpf_sections.specs.TypedShots.{shot_group_of};
 ghost use Rattle.mpf_sections.specs.View.{name_view, entry_view, section_view};
 ghost use Rattle.machine_definitions.specs.Found.{is_found};
-ghost use Rattle.plan_rows.specs.Seats.{section_entries, lists_shot, is_grouped, has_row, rows_after, rows_after_all, given_from, latest, seats_at, entry_seats, seat_of, entry_ball_row, destination_of, rows_after_text};
+ghost use Rattle.plan_rows.specs.Seats.{section_entries, lists_shot, is_grouped, has_row, rows_after, rows_after_all, given_from, latest, seats_at, entry_seats, seat_of, entry_ball_row, row_or_unknown, destination_of, rows_after_text};
 ghost use Rattle.plan_rows.specs.View.{found_seat, found_row, found_destination};
 
 use crate::destination::Destination;
@@ -47,10 +47,23 @@ impl Seats<'_> {
         if name == PLAYFIELD {
             return Destination::Playfield;
         }
-        match self.devices.get(name) {
-            Some(row) => Destination::Device(*row),
-            None => Destination::Unknown,
-        }
+        row_or_unknown(self.row(name))
+    }
+
+    /// The number of the row of the ball device of this name, if there is one.
+    fn row(&self, name: &[u8]) -> Option<usize>
+        ensures { result ≡ found_row self.now.devices name.now }
+    {
+        self.devices.get(name).copied()
+    }
+}
+
+fn row_or_unknown(row: Option<usize>) -> Destination
+    ensures { result ≡ row_or_unknown row }
+{
+    match row {
+        Some(row) => Destination::Device(row),
+        None => Destination::Unknown,
     }
 }
 
@@ -82,10 +95,9 @@ pub(crate) fn seats_of<'a>(
     ensures rows { IfOk result (λ r. r.1 ≡ rows_after_text place before (map section_view sections.now)) }
 {
     let grouped = grouped_shots(alloc, sections)?;
-    let mut seats = Seats {
-        shots: BTreeMap::new(alloc),
-        devices: BTreeMap::new(alloc),
-    };
+    let shots = BTreeMap::new(alloc);
+    let devices = BTreeMap::new(alloc);
+    let mut seats = Seats { shots, devices };
     let mut rows = before;
     for section in sections {
         rows = add_section(&mut seats, place, &grouped, rows, section)?;

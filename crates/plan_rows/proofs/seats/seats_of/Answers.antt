@@ -20,10 +20,10 @@ loop-section-init c =
     let same : grouped ≡ is_grouped sections = λ i name. c.in_ok-grouped.ensures name i in
     record {
       shots = λ name.
-          ap (λ found. found_after name (option_map seat_view (lookup (has_bytes name) found)) (given_from entry_seats place grouped before (text_entries sections))) c.new.ensures.empty
+          ap (λ found. found_after name (option_map seat_view (lookup (has_bytes name) found)) (given_from entry_seats place grouped before (text_entries sections))) c.new-shots.ensures.empty
           ∙ ap (λ (g : List ℕ → Bool). found_after name None (given_from entry_seats place g before (text_entries sections))) same;
       devices = λ name.
-          ap (λ found. found_after name (lookup (has_bytes name) found) (given_from entry_ball_row place grouped before (text_entries sections))) c.new-1.ensures.empty
+          ap (λ found. found_after name (lookup (has_bytes name) found) (given_from entry_ball_row place grouped before (text_entries sections))) c.new-devices.ensures.empty
           ∙ ap (λ (g : List ℕ → Bool). found_after name None (given_from entry_ball_row place g before (text_entries sections))) same;
       rows = ap (λ (g : List ℕ → Bool). rows_after_all place g before (text_entries sections)) same;
     }
