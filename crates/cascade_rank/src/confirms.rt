@@ -1,16 +1,15 @@
-//! What it costs that the device is told that ejected a ball, when the ball has entered another one.
+//! What follows when a ball enters a device, and the device that ejected it is told.
 //!
-//! The effect lists that a device answers when it is told of an arrival tell no other device. So what
-//! an effect list costs is stated by what telling costs, at two levels: that of `Told`, by the lists at
-//! that of `Untold`.
+//! A device that is told of an arrival answers effect lists, and these tell no further device. So what
+//! an effect list costs is stated for whatever telling costs, which is one of two: for `Told` it is what
+//! the devices answer that may be told, and for `Untold` nothing.
 
 use crate::posts::push_arrival;
 use crate::price::price_of_arrival;
 use plan_tables::{BallTarget, EventId, Plan, RowId};
 use std::alloc::AllocError;
 
-/// What it costs, and which events follow, if a ball enters a device and the device that ejected it is
-/// told.
+/// What it costs to tell the device that ejected a ball, and which events that leads to.
 pub(crate) trait Confirms {
     ghost use Rattle.std.specs.Prelude.{ℕ, ◌≡◌, ◌<◌, ◌≤◌, ◌^◌, ◌++◌, length, OnOk};
     ghost use Rattle.plan_tables.specs.PlanView.{PlanView};
@@ -19,28 +18,28 @@ pub(crate) trait Confirms {
     ghost use Rattle.cascade_rank.specs.Cost.{Cost, price};
     ghost use Rattle.cascade_rank.specs.Mentions.{weights_in};
 
-    /// What it costs at each device.
+    /// What it costs when the ball enters a device.
     ghost cost: { PlanView → RowId → Cost };
-    /// Its price is never above this one.
+    /// No price of it is above this one.
     ghost most: { ℕ };
 
-    /// The price at the device.
+    /// Its price at the device.
     fn price(plan: &Plan, weights: &[u32], row: RowId) -> u128
         requires row { row.0 < length plan.now.rows }
         requires weights { length weights.now ≡ length plan.now.events }
         ensures price { result ≡ price (weight_of weights.now) (cost plan.now row) }
         ensures small { result ≤ most };
 
-    /// Adds the events whose weights are in the cost at the device.
+    /// Adds the events whose weights are in its cost at the device.
     fn push(posts: &mut Vec<EventId>, plan: &Plan, row: RowId) -> Result<(), AllocError>
         requires { row.0 < length plan.now.rows }
         ensures { OnOk result (posts.new.items ≡ posts.old.items ++ weights_in (cost plan.now row)) };
 
-    /// Prices stay small.
+    /// So an effect list with as many entries as there may be costs at most 2^56.
     ghost few: { most ≤ 2 ^ 45 };
 }
 
-/// No device is told.
+/// No device is told, as by the effect lists that a told device answers.
 pub(crate) struct Untold;
 
 impl Confirms for Untold {
@@ -63,7 +62,7 @@ impl Confirms for Untold {
     }
 }
 
-/// One of the devices that eject their balls into the device is told.
+/// One of the devices is told that eject their balls there.
 pub(crate) struct Told;
 
 impl Confirms for Told {

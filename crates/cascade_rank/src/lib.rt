@@ -11,6 +11,7 @@ pub mod least;
 mod posts;
 mod price;
 mod releases;
+mod stimuli;
 pub mod verdict;
 mod walk;
 pub mod weights;

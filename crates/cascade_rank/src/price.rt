@@ -9,28 +9,28 @@
 //! Nothing is cut off: a weight is below 2^32, so an action that tells no device costs at most 2^33. An
 //! effect list has at most 1,024 actions, so what a device answers to an arrival costs at most 2^45, and
 //! to any other call at most 2^58. A plan has too few bindings and devices for a sum of their prices to
-//! reach 2^73. The listeners and posts of a switch for a sum of 2^123 do not fit into memory.
+//! reach 2^73.
 
 ghost use Rattle.plan_tables.specs.declared.entries.EventId.{EventId as EventIdValue};
 ghost use Rattle.std.specs.Prelude.{ℕ, ◌≡◌, ◌+◌, ◌*◌, ◌^◌, ◌<◌, ◌≤◌, true, length};
 ghost use Rattle.std.specs.List.{All};
-ghost use Rattle.plan_tables.specs.Valid.{HasGame, IsActionWithin, IsTargetWithin, IsBindingWithin, IsEventWithin, IsListenerWithin};
+ghost use Rattle.plan_tables.specs.Valid.{HasGame, IsActionWithin, IsTargetWithin, IsBindingWithin, IsEventWithin};
 ghost use Rattle.plan_tables.specs.declared.entries.Owner.TheVariants as owners;
 ghost use Rattle.plan_tables.specs.Devices.{list_count};
-ghost use Rattle.plan_tables.specs.PlanView.{bound_to, row_at, row_numbers, rows_of, work_of};
+ghost use Rattle.plan_tables.specs.PlanView.{bound_to, row_at, rows_of, work_of};
 ghost use Rattle.device_objects.specs.declared.device.Call.TheVariants as calls;
 ghost use Rattle.player_game.specs.Choices.{choices};
 ghost use Rattle.cascade_rank.specs.Events.{weight_of};
 ghost use Rattle.cascade_rank.specs.Mentions.{cost_of_feeder, cost_of_start};
-ghost use Rattle.cascade_rank.specs.Cost.{price, each_of, dearest_of, cost_of_post, cost_of_drain, cost_of_action_by, cost_of_list_by, cost_of_answer_by, cost_of_call_by, cost_of_arrival, cost_of_call, cost_of_target, cost_of_binding, cost_of_starts, cost_of_releases, cost_if_led, led_by, cost_of_choice, cost_of_scores, cost_of_request, cost_of_game, cost_of_work, cost_of_event, cost_of_listener, cost_of_playfield_switch, cost_of_acceptance, cost_of_switch, switches_of, cost_of_stimuli};
+ghost use Rattle.cascade_rank.specs.Cost.{price, each_of, dearest_of, cost_of_post, cost_of_drain, cost_of_action_by, cost_of_list_by, cost_of_answer_by, cost_of_call_by, cost_of_arrival, cost_of_call, cost_of_target, cost_of_binding, cost_of_starts, cost_of_releases, cost_if_led, led_by, cost_of_choice, cost_of_scores, cost_of_request, cost_of_game, cost_of_work, cost_of_event};
 
 use crate::confirms::{Confirms, Told, Untold};
 use crate::releases::count_enabled;
 use crate::work::{game_event, is_of, led_by};
 use device_objects::{Call, outcomes};
 use plan_tables::{
-    Act, Action, BallTarget, Binding, EventId, GameEvent, ListId, Listener, ModeEvent, ModeId,
-    Owner, Plan, RowId, SwitchId, Target, Work,
+    Act, Action, BallTarget, Binding, EventId, GameEvent, ListId, ModeEvent, ModeId, Owner, Plan,
+    RowId, Target, Work,
 };
 use player_game::{asks_for_ball, choices, tells_scores};
 
@@ -237,7 +237,12 @@ fn price_of_target(plan: &Plan, weights: &[u32], target: Target) -> u128
 }
 
 /// The dearest of what a call of a device can answer.
-fn price_of_call<C: Confirms>(plan: &Plan, weights: &[u32], row: RowId, call: Call) -> u128
+pub(crate) fn price_of_call<C: Confirms>(
+    plan: &Plan,
+    weights: &[u32],
+    row: RowId,
+    call: Call,
+) -> u128
     requires row { row.0 < length plan.now.rows }
     requires weights { length weights.now ≡ length plan.now.events }
     ensures price { result ≡ price (weight_of weights.now) (cost_of_call_by plan.now (C.cost plan.now) row call) }
@@ -313,7 +318,7 @@ fn price_of_action<C: Confirms>(plan: &Plan, weights: &[u32], action: Action) ->
     }
 }
 
-/// That a ball drains, if it may.
+/// The post of the event at which a ball drains, if it may.
 fn price_of_drain(plan: &Plan, weights: &[u32], drain: bool) -> u128
     requires game { drain ≡ true → HasGame plan.now }
     requires weights { length weights.now ≡ length plan.now.events }
@@ -327,7 +332,7 @@ fn price_of_drain(plan: &Plan, weights: &[u32], drain: bool) -> u128
     }
 }
 
-/// That a ball arrives at a target: the dearest of the devices that may be told.
+/// The dearest of what the devices answer that may be told of an arrival at a target.
 pub(crate) fn price_of_arrival(plan: &Plan, weights: &[u32], target: BallTarget) -> u128
     requires { length weights.now ≡ length plan.now.events }
     ensures price { result ≡ price (weight_of weights.now) (cost_of_arrival plan.now target) }
@@ -340,7 +345,7 @@ pub(crate) fn price_of_arrival(plan: &Plan, weights: &[u32], target: BallTarget)
     dearest
 }
 
-/// That a device is told of an arrival at a target, if it ejects its balls there.
+/// What a device answers that is told of an arrival at a target, if it ejects its balls there.
 fn price_of_feeder(plan: &Plan, weights: &[u32], target: BallTarget, row: RowId) -> u128
     requires row { row.0 < length plan.now.rows }
     requires weights { length weights.now ≡ length plan.now.events }
@@ -354,108 +359,10 @@ fn price_of_feeder(plan: &Plan, weights: &[u32], target: BallTarget, row: RowId)
     }
 }
 
-fn price_of_post(weights: &[u32], event: EventId) -> u128
+pub(crate) fn price_of_post(weights: &[u32], event: EventId) -> u128
     requires { IsEventWithin (length weights.now) event }
     ensures price { result ≡ price (weight_of weights.now) (cost_of_post event) }
     ensures small { result < 2 ^ 32 }
 {
     u128::from(weights[event.0 as usize])
-}
-
-/// The greatest cost of any stimulus.
-pub(crate) fn bound_of(plan: &Plan, weights: &[u32]) -> u128
-    requires { length weights.now ≡ length plan.now.events }
-    ensures { result ≡ price (weight_of weights.now) (cost_of_stimuli plan.now) }
-{
-    dearest_switch(plan, weights).max(dearest_alarm(plan, weights))
-}
-
-/// The greatest cost of the acceptance of a switch.
-fn dearest_switch(plan: &Plan, weights: &[u32]) -> u128
-    requires { length weights.now ≡ length plan.now.events }
-    ensures { result ≡ price (weight_of weights.now) (dearest_of (cost_of_switch plan.now) (switches_of plan.now)) }
-{
-    let mut bound = 0u128;
-    for number in 0..plan.switch_count() {
-        bound = bound.max(price_of_switch(plan, weights, SwitchId(number as u16)));
-    }
-    bound
-}
-
-/// The greatest cost of the alarm of a device.
-fn dearest_alarm(plan: &Plan, weights: &[u32]) -> u128
-    requires { length weights.now ≡ length plan.now.events }
-    ensures { result ≡ price (weight_of weights.now) (dearest_of (λ r. cost_of_call plan.now r calls.Fire) (row_numbers plan.now)) }
-{
-    let mut bound = 0u128;
-    for number in 0..plan.rows().len() {
-        let row = RowId(number as u16);
-        bound = bound.max(price_of_call::<Told>(plan, weights, row, Call::Fire));
-    }
-    bound
-}
-
-/// What the dearer acceptance of a switch costs.
-fn price_of_switch(plan: &Plan, weights: &[u32], switch: SwitchId) -> u128
-    requires switch { switch.0 < length plan.now.switches }
-    requires weights { length weights.now ≡ length plan.now.events }
-    ensures { result ≡ price (weight_of weights.now) (cost_of_switch plan.now switch) }
-{
-    let active = price_of_acceptance(plan, weights, switch, true);
-    let inactive = price_of_acceptance(plan, weights, switch, false);
-    active.max(inactive)
-}
-
-/// What it costs to accept a switch as active or inactive: its line, the acts of the devices that
-/// listen to it, that a ball arrives on the playfield, and its posts.
-fn price_of_acceptance(plan: &Plan, weights: &[u32], switch: SwitchId, active: bool) -> u128
-    requires switch { switch.0 < length plan.now.switches }
-    requires weights { length weights.now ≡ length plan.now.events }
-    ensures { result ≡ price (weight_of weights.now) (cost_of_acceptance plan.now switch active) }
-{
-    let acts = price_of_listeners(plan, weights, plan.listeners(switch), active);
-    let arrival = price_of_playfield_switch(plan, weights, switch, active);
-    let posts = price_of_posts(weights, plan.posts(switch, active));
-    1 + (acts + (arrival + posts))
-}
-
-/// That a ball arrives on the playfield, if the switch says so when it becomes active.
-fn price_of_playfield_switch(plan: &Plan, weights: &[u32], switch: SwitchId, active: bool) -> u128
-    requires switch { switch.0 < length plan.now.switches }
-    requires weights { length weights.now ≡ length plan.now.events }
-    ensures price { result ≡ price (weight_of weights.now) (cost_of_playfield_switch plan.now switch active) }
-    ensures small { result ≤ 2 ^ 45 }
-{
-    if active && plan.confirms_playfield(switch) {
-        price_of_arrival(plan, weights, BallTarget::Playfield)
-    } else {
-        0
-    }
-}
-
-/// What the acts of devices cost that listen to a switch.
-fn price_of_listeners(plan: &Plan, weights: &[u32], listeners: &[Listener], active: bool) -> u128
-    requires listeners { All (IsListenerWithin (length plan.now.rows)) listeners.now }
-    requires weights { length weights.now ≡ length plan.now.events }
-    ensures price { result ≡ price (weight_of weights.now) (each_of (cost_of_listener plan.now active) listeners.now) }
-    ensures small { result < 2 ^ 122 }
-{
-    let mut total = 0u128;
-    for listener in listeners {
-        let act = listener.act(active);
-        total += price_of_call::<Told>(plan, weights, listener.row, Call::Act(act));
-    }
-    total
-}
-
-fn price_of_posts(weights: &[u32], posts: &[EventId]) -> u128
-    requires { All (IsEventWithin (length weights.now)) posts.now }
-    ensures price { result ≡ price (weight_of weights.now) (each_of cost_of_post posts.now) }
-    ensures small { result < 2 ^ 96 }
-{
-    let mut total = 0u128;
-    for event in posts {
-        total += price_of_post(weights, *event);
-    }
-    total
 }
