@@ -20,7 +20,6 @@ use Rattle.mpf_config.specs.BundleText.{machine_name, mode_text_name}
 use Rattle.machine_definitions.specs.Definitions.{coil_called, has_switch, ball_devices_of}
 use Rattle.machine_definitions.specs.Shots.{shot_called, has_profile}
 use Rattle.machine_definitions.proofs.Called.{called-such}
-use Rattle.row_faults.specs.declared.fault.RowFaultKind.{RowFaultKind}
 use Rattle.row_faults.specs.declared.fault.RowFaultKind.TheVariants.{Name, PulseLimit, PowerLimit, HoldNotAllowed}
 use Rattle.row_faults.specs.Reserved.{events_of_modes, mode_names, is_reserved_by, posts_in, posts_of, reserved_among}
 use Rattle.row_faults.specs.CoilFaults.{fault_at, fault_if, is_above, is_enable, coil_name_faults, switch_name_faults, coil_faults, item_faults_by, item_faults, coil_player_faults, hold_faults_by, hold_faults, flipper_faults, autofire_faults}
