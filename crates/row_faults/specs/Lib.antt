@@ -4,6 +4,9 @@ pub mod Reserved
 pub mod CoilFaults
 pub mod ShotFaults
 pub mod VariableFaults
+pub mod Routes
+pub mod BallFaults
+pub mod Numbers
 pub mod RowFaults
 pub mod Sound
 pub mod View
