@@ -6,3 +6,4 @@ pub mod Called
 pub mod Sound
 pub mod Numbers
 pub mod Leads
+pub mod Routed

@@ -1,5 +1,5 @@
 -- Going on from place to place.
-use Rattle.std.proofs.Common.{◌≡◌, ℕ, zero, suc, ◌+◌, ◌*◌, ◌<◌, ◌≤◌, List, length, map, get_or, refl, sym, ap, ◌∙◌, ⊎_elim, arith}
+use Rattle.std.proofs.Common.{◌≡◌, ℕ, zero, suc, ◌+◌, ◌<◌, ◌≤◌, List, length, map, get_or, refl, sym, ap, ◌∙◌, ⊎_elim, arith}
 use Rattle.std.proofs.lemmas.Bool.{cases_lt}
 use Rattle.std.proofs.lemmas.List as lists
 use Rattle.std.proofs.Math.ListN.{get_or-eq_default}
@@ -24,8 +24,8 @@ module _ (targets : List ℕ) where
   ends-are k n =
       ⊎_elim (λ (less : n < length targets). lists.get_or-map (after targets k) targets n n n less)
       (λ (le : length targets ≤ n).
-          let long : length (map (after targets k) targets) ≤ n = omega (arith, le, lists.length-map targets (after targets k)) in
-          get_or-eq_default (map (after targets k) targets) n long ∙ sym (after-beyond (suc k) n le))
+      let long : length (map (after targets k) targets) ≤ n = omega (arith, le, lists.length-map targets (after targets k)) in
+      get_or-eq_default (map (after targets k) targets) n long ∙ sym (after-beyond (suc k) n le))
       (cases_lt n (length targets))
 
   -- half of the times, and then as many and one more

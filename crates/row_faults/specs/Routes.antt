@@ -1,6 +1,6 @@
 -- Where ball devices send their balls and by what, and which ball switches they have. Here `devices` are the ball devices of the
 -- machine text, in plan order.
-use Rattle.std.specs.Prelude.{ℕ, zero, suc, Bool, true, false, not, ◌&&◌, ◌||◌, List, [], ◌∷◌, length, map, Option, None, Some}
+use Rattle.std.specs.Prelude.{ℕ, zero, suc, Bool, false, not, ◌&&◌, ◌||◌, List, [], ◌∷◌, length, map, Option, None, Some}
 use Rattle.std.specs.Option.{is_none}
 use Rattle.std.specs.Str.{bytes_eq}
 use Rattle.mpf_sections.specs.Rows.{BallDevice}

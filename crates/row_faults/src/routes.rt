@@ -74,21 +74,26 @@ fn add_faults(
     ensures { OnOk result (row_faults_view faults.new.items ≡ row_faults_view faults.old.items ++ route_faults text.now (devices_view devices.now)) }
 {
     let mut taken = BTreeSet::new(alloc);
-    for (device, leads) in devices.iter().zip(leads) {
+    for (number, device) in devices.iter().enumerate() {
         let again = take_switches(&mut taken, device.switches)?;
-        let wrong = !*leads || again || lacks_coil(*device);
+        let wrong = is_wrong(leads[number], again, *device);
         let name = at(device.name);
         add_if(alloc, faults, wrong, RowFaultKind::BallRoute, text, name)?;
     }
     Ok(())
 }
 
+/// Whether something is wrong with the way of balls through a ball device, whose balls come to the
+/// playfield or not, and of which a ball switch was taken or not.
+fn is_wrong(leads: bool, again: bool, device: BallDevice<'_>) -> bool
+    ensures { result ≡ (not leads || again || lacks_coil (ball_device_view device.entry)) }
+{
+    !leads || again || lacks_coil(device)
+}
+
 /// Takes the ball switches of a ball device, and says whether one was taken, or stands twice among
 /// them. Where memory runs out, some may be taken.
-fn take_switches<'a>(
-    taken: &mut Switches<'a>,
-    switches: &'a [Name],
-) -> Result<bool, AllocError>
+fn take_switches<'a>(taken: &mut Switches<'a>, switches: &'a [Name]) -> Result<bool, AllocError>
     ensures again { IfOk result (λ again. again ≡ is_one_taken (map (λ w. w.text) (map name_view switches.now)) (is_found taken.old)) }
     ensures taken { IfOk result (λ _. is_found taken.new ≡ all_taken (map (λ w. w.text) (map name_view switches.now)) (is_found taken.old)) }
 {

@@ -184,7 +184,13 @@ fn add_section<'a>(
     add_names(alloc, faults, text, &posts)?;
     add_variable_faults(alloc, faults, known.modes, text, section)?;
     add_coil_faults(alloc, faults, known.definitions, text, section)?;
-    add_ball_devices(alloc, faults, known.definitions, text, section.ball_devices())?;
+    add_ball_devices(
+        alloc,
+        faults,
+        known.definitions,
+        text,
+        section.ball_devices(),
+    )?;
     add_shots(alloc, faults, known.definitions, text, section.shots())?;
     let misplaced = misplaced_shots(alloc, taken, known.definitions, known.own, section)?;
     add_names(alloc, faults, text, &misplaced)?;

@@ -28,10 +28,7 @@ pub(crate) fn leads_of(alloc: Global, devices: &[BallDevice<'_>]) -> Result<Vec<
 }
 
 /// The places of these ball devices, by their names.
-fn numbers_of<'a>(
-    alloc: Global,
-    devices: &[BallDevice<'a>],
-) -> Result<Numbers<'a>, AllocError>
+fn numbers_of<'a>(alloc: Global, devices: &[BallDevice<'a>]) -> Result<Numbers<'a>, AllocError>
     ensures { IfOk result (λ numbers. IsNumbered (devices_view devices.now) (number_found numbers)) }
 {
     let mut numbers: Numbers<'a> = BTreeMap::new(alloc);
@@ -88,11 +85,7 @@ fn ends_of(alloc: Global, targets: &[usize], times: usize) -> Result<Vec<usize>,
 
 /// Where balls come to that go to each of the first numbers, and on from there by the others. From
 /// the playfield, and from where no entry is, they go nowhere else.
-fn one_after_other(
-    alloc: Global,
-    first: &[usize],
-    then: &[usize],
-) -> Result<Vec<usize>, AllocError>
+fn one_after_other(alloc: Global, first: &[usize], then: &[usize]) -> Result<Vec<usize>, AllocError>
     ensures { IfOk result (λ ends. ends.items ≡ map (λ n. get_or then.now n n) first.now) }
 {
     first

@@ -1,9 +1,7 @@
-use Rattle.std.proofs.Common.{◌≡◌, ℕ, Bool, ◌+◌, if◌then◌else◌, Option, Some, None, option_map, unwrap_or, refl, sym, ap, ◌∙◌}
-use Rattle.std.specs.Str.{bytes_eq}
+use Rattle.std.proofs.Common.{ℕ, Bool, ◌+◌, if◌then◌else◌, Option, unwrap_or, sym, ap, ◌∙◌}
 use Rattle.std.specs.Option.{option_copied}
 use Rattle.std.proofs.lemmas.Iterator.Adapters.{option_map_id}
 use Rattle.row_faults.specs.Numbers.{number_found}
-use Rattle.mpf_sections.specs.TypedBalls.{playfield}
 use Rattle.machine_definitions.proofs.Finding.{value-found}
 use Rattle.row_faults.proofs.targets.number_of.Goals as goal
 

@@ -1,7 +1,7 @@
-use Rattle.std.proofs.Common.{◌≡◌, ℕ, ◌+◌, ◌<◌, Bool, true, false, if◌then◌else◌, List, [], ◌∷◌, ◌++◌, fold, length, map, take, get_or, Option, Some, None, IfSome, option_map, refl, sym, ap, subst, ◌∙◌, arith}
+use Rattle.std.proofs.Common.{◌≡◌, ℕ, ◌+◌, ◌<◌, Bool, true, false, if◌then◌else◌, List, [], ◌∷◌, ◌++◌, length, take, Option, Some, None, IfSome, option_map, sym, ap, subst, ◌∙◌, arith}
 use Rattle.std.specs.List.{slice_get}
 use Rattle.std.specs.Str.{bytes_eq}
-use Rattle.std.proofs.lemmas.List.{map_more, take_more, length-map, get_or-map}
+use Rattle.std.proofs.lemmas.List.{take_more, length-map, get_or-map}
 use Rattle.std.proofs.lemmas.List.Sums.{fold_push}
 use Rattle.std.proofs.lemmas.Iterator.Adapters.{option_map_id}
 use Rattle.std.proofs.lemmas.Option.{slice_get-map, slice_get-get_or}
@@ -34,8 +34,8 @@ loop-number-preserved c =
     let less : n < length given = c.loop-number-test.true in
     let took : (name : List ℕ) → number_found c.insert.new.self name ≡ (if bytes_eq name d.name.text then Some n else number_found l.numbers name) =
     λ name. sym (option_map_id _) ∙ took-value (λ n. n) l.numbers c.insert.new.self c.deref.result n d.name.text c.deref.ensures.value c.in_ok-insert.ensures.updates name ∙ ap (λ (o : Option ℕ). if bytes_eq name d.name.text then Some n else o) (option_map_id (number_found l.numbers name)) in
-    let here : slice_get devices n ≡ Some d = slice_get-devices_view given n ∙ ap (option_devices_view) (slice_get-get_or given n item less ∙ ap (λ (x : _). Some x) (sym c.index-devices-number.is)) in
-    let more : take (n + 1) devices ≡ take n devices ++ d ∷ [] = take_more devices n d (omega (arith, less, length-map given ball_device_view)) ∙ ap (λ (x : BallDevice). take n devices ++ x ∷ []) (get_or-devices_view given n item d less ∙ ap ball_device_view (sym c.index-devices-number.is)) in
+    let here : slice_get devices n ≡ Some d = slice_get-map ball_device_view given n ∙ ap (option_map ball_device_view) (slice_get-get_or given n item less ∙ ap (λ (x : _). Some x) (sym c.index-devices-number.is)) in
+    let more : take (n + 1) devices ≡ take n devices ++ d ∷ [] = take_more devices n d (omega (arith, less, length-map given ball_device_view)) ∙ ap (λ (x : BallDevice). take n devices ++ x ∷ []) (get_or-map ball_device_view given n item d less ∙ ap ball_device_view (sym c.index-devices-number.is)) in
     record {
       within = λ name. subst (λ (o : Option ℕ). IfSome o (λ m. m < length given)) (sym (took name)) (within-more (length given) n (bytes_eq name d.name.text) (number_found l.numbers name) less (l.invariant.within name));
       called = λ name.

@@ -1,4 +1,4 @@
-use Rattle.std.proofs.Common.{◌≡◌, ℕ, ◌<◌, List, length, map, take, IfSome}
+use Rattle.std.proofs.Common.{◌≡◌, ℕ, ◌<◌, List, length, take, IfSome}
 use Rattle.row_faults.specs.Numbers.{number_found, device_at}
 use Rattle.row_faults.specs.View.{devices_view}
 use Rattle.machine_definitions.specs.Definitions.{ball_device_among}
