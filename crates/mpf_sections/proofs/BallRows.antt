@@ -1,5 +1,5 @@
 -- What holds of ball devices, by the names of their settings: their names are names, and their settings are in their ranges.
-use Rattle.std.proofs.Common.{ℕ, ◌≤◌, nat_le, List, length, Option, Some, None, slice_get, refl, arith}
+use Rattle.std.proofs.Common.{ℕ, nat_le, Option, Some, None, slice_get, refl, arith}
 use Rattle.std.specs.List.{All}
 use Rattle.std.proofs.lemmas.List.Elements.{All-map, All-weaker}
 use Rattle.section_tables.specs.Rows.{nothing, flag, number, time, power, word, name, event, Value, one, names, posts, events, steps, maps, keyed, Entry}

@@ -2,7 +2,7 @@
 use Rattle.std.specs.Prelude.{ℕ, nat_le, Bool, ◌&&◌, ◌||◌, if◌then◌else◌, List, map, Option, Some, unwrap_or, codes}
 use Rattle.std.specs.List.{list_any}
 use Rattle.std.specs.Str.{bytes_eq}
-use Rattle.section_tables.specs.Rows.{Written, time, Value, one, Entry}
+use Rattle.section_tables.specs.Rows.{time, Value, one, Entry}
 use Rattle.section_tables.specs.Entries.{written_at}
 use Rattle.mpf_sections.specs.SectionTables as tables
 pub use Rattle.mpf_sections.specs.SectionTables.{ball_devices_name, playfield}

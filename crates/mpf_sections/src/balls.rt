@@ -34,6 +34,7 @@ pub struct BallDevice<'a> {
     pub mechanical: bool,
     /// How many attempts there are to eject a ball: up to 1,000; 0, as by default, for no limit.
     pub max_attempts: u16,
+    /// Its tags, of which `trough`, `home` and `drain` say what it is for.
     pub tags: &'a [Name],
 }
 
