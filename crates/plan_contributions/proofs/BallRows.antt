@@ -114,9 +114,6 @@ fitting_ball_device machine d to o right =
     let rest = map (mentions Events) own.mentioned ++ effects_from 0 own.lists in
     (right, fitting-listens Machine own.settings (λ k. []) rest after 0 own.listens (λ j within. omega (arith, within, length-map d.switches (λ (w : Written). w.text))))
   where
-    abbrev In : ℕ → List Contribution → Type 0
-    In heard cs = AreFitting (at Machine (ball_settings d to) heard (λ k. [])) cs
-
     enter : List ℕ
     enter = ball_event d.name.text (codes "_ball_enter")
 
@@ -136,36 +133,91 @@ fitting_ball_device machine d to o right =
     nothing n = All-cons BooksNothing (posts n) [] tt (All-nil BooksNothing)
 
     lists : (heard : ℕ) (coil : Option Written)
-        → In heard (effects_from 0 ((enters enter (drains machine d) ∷ []) ∷ (posts attempted ∷ posts ejecting ∷ eject_pulse machine coil) ∷ (leaves ∷ []) ∷ (loses ∷ []) ∷ (posts success ∷ []) ∷ (arrives ∷ []) ∷ (posts failure ∷ []) ∷ []))
-    lists heard None =
-        (tt, (tt, (tt, (tt, (tt, (tt, (tt, (tt, (refl, record {
-          event = enter;
-          drain = drains machine d;
-          entered = refl;
-          attempted = All-cons BooksNothing (posts attempted) (posts ejecting ∷ []) tt (nothing ejecting);
-          left = refl;
-          lost = refl;
-          succeeded = nothing success;
-          arrived = refl;
-          failed = nothing failure;
-        })))))))))
+        → AreFitting (at Machine (ball_settings d to) heard (λ k. [])) (effects_from 0 ((enters enter (drains machine d) ∷ []) ∷ (posts attempted ∷ posts ejecting ∷ eject_pulse machine coil) ∷ (leaves ∷ []) ∷ (loses ∷ []) ∷ (posts success ∷ []) ∷ (arrives ∷ []) ∷ (posts failure ∷ []) ∷ []))
+    lists heard None = (
+      tt,
+      (
+        tt,
+        (
+          tt,
+          (
+            tt,
+            (
+              tt,
+              (
+                tt,
+                (
+                  tt,
+                  (
+                    tt,
+                    (
+                      refl,
+                      record {
+                        event = enter;
+                        drain = drains machine d;
+                        entered = refl;
+                        attempted = All-cons BooksNothing (posts attempted) (posts ejecting ∷ []) tt (nothing ejecting);
+                        left = refl;
+                        lost = refl;
+                        succeeded = nothing success;
+                        arrived = refl;
+                        failed = nothing failure;
+                      },
+                    ),
+                  ),
+                ),
+              ),
+            ),
+          ),
+        ),
+      ),
+    )
     lists heard (Some w) =
-        let pulsed = works w.text (own_pulse (defaults_called machine w.text)) in
-        (tt, (tt, (tt, (tt, (tt, (tt, (tt, (tt, (tt, (refl, record {
-          event = enter;
-          drain = drains machine d;
-          entered = refl;
-          attempted = All-cons BooksNothing (posts attempted) (posts ejecting ∷ pulsed ∷ []) tt (All-cons BooksNothing (posts ejecting) (pulsed ∷ []) tt (All-cons BooksNothing pulsed [] tt (All-nil BooksNothing)));
-          left = refl;
-          lost = refl;
-          succeeded = nothing success;
-          arrived = refl;
-          failed = nothing failure;
-        }))))))))))
+        let pulsed = works w.text (own_pulse (defaults_called machine w.text)) in (
+          tt,
+          (
+            tt,
+            (
+              tt,
+              (
+                tt,
+                (
+                  tt,
+                  (
+                    tt,
+                    (
+                      tt,
+                      (
+                        tt,
+                        (
+                          tt,
+                          (
+                            refl,
+                            record {
+                              event = enter;
+                              drain = drains machine d;
+                              entered = refl;
+                              attempted = All-cons BooksNothing (posts attempted) (posts ejecting ∷ pulsed ∷ []) tt (All-cons BooksNothing (posts ejecting) (pulsed ∷ []) tt (All-cons BooksNothing pulsed [] tt (All-nil BooksNothing)));
+                              left = refl;
+                              lost = refl;
+                              succeeded = nothing success;
+                              arrived = refl;
+                              failed = nothing failure;
+                            },
+                          ),
+                        ),
+                      ),
+                    ),
+                  ),
+                ),
+              ),
+            ),
+          ),
+        )
 
-    after : (heard : ℕ) → In heard (map (mentions Events) (ball_device_from machine d to).mentioned ++ effects_from 0 (ball_lists machine d))
+    after : (heard : ℕ) → AreFitting (at Machine (ball_settings d to) heard (λ k. [])) (map (mentions Events) (ball_device_from machine d to).mentioned ++ effects_from 0 (ball_lists machine d))
     after heard =
-        each_before (In heard) (mentions Events) (λ n cs h. (tt, h)) (ball_device_from machine d to).mentioned (effects_from 0 (ball_lists machine d)) (lists heard d.eject_coil)
+        each_before (AreFitting (at Machine (ball_settings d to) heard (λ k. []))) (mentions Events) (λ n cs h. (tt, h)) (ball_device_from machine d to).mentioned (effects_from 0 (ball_lists machine d)) (lists heard d.eject_coil)
 
 fitting_kept : (rows : Rows) → IsKept (row_kinds rows) rows.machine (λ d. Unit {0}) (λ cs. (o : Option LastRow) → IsRight o → AreFitting o cs)
 fitting_kept rows = record {
@@ -245,45 +297,33 @@ kinds_are rows = sym (rows_tell row_given silent rows.machine (rows_of rows)) �
 -- where a ball device ejects its balls to is a row, or the playfield
 pub targets_are_rows : (rows : Rows) → All (HasTarget (row_settings (contributions_of rows))) (contributions_of rows)
 targets_are_rows rows =
-    each_kept rows Q plain
-    (λ place d is. device_each Q (λ e. Unit {0}) place d (no_target d.settings is.settings) (λ k n. tt) (acting_any Q (λ e p act. tt) (λ c. tt) place) (λ n. tt) (λ k e m. tt) (any_lists d.lists))
-    (λ d to is. device_each Q (λ e. Unit {0}) Machine (ball_device_from rows.machine d to) (target to is) (λ k n. tt) (acting_any Q (λ e p act. tt) (λ c. tt) Machine) (λ n. tt) (λ k e m. tt) (any_lists (ball_lists rows.machine d)))
+    each_kept rows (HasTarget (row_settings (contributions_of rows))) plain
+    (λ place d is. device_each (HasTarget (row_settings (contributions_of rows))) (λ e. Unit {0}) place d (no_target d.settings is.settings) (λ k n. tt) (acting_any (HasTarget (row_settings (contributions_of rows))) (λ e p act. tt) (λ c. tt) place) (λ n. tt) (λ k e m. tt) (any_lists d.lists))
+    (λ d to is. device_each (HasTarget (row_settings (contributions_of rows))) (λ e. Unit {0}) Machine (ball_device_from rows.machine d to) (target to is) (λ k n. tt) (acting_any (HasTarget (row_settings (contributions_of rows))) (λ e p act. tt) (λ c. tt) Machine) (λ n. tt) (λ k e m. tt) (any_lists (ball_lists rows.machine d)))
   where
-    settings : List Settings
-    settings = row_settings (contributions_of rows)
-
-    abbrev Q : Contribution → Type 0
-    Q c = HasTarget settings c
-
-    plain : (c : Contribution) → IsPlain (row_kinds rows) c → Q c
+    plain : (c : Contribution) → IsPlain (row_kinds rows) c → HasTarget (row_settings (contributions_of rows)) c
     plain (device place s) is = absurd is
     plain _ is = tt
 
-    no_target : (s : Settings) → IsNoBallDevice s → IsTargetAmong settings s
+    no_target : (s : Settings) → IsNoBallDevice s → IsTargetAmong (row_settings (contributions_of rows)) s
     no_target (kinds.BallDevice d) is = absurd is
     no_target _ is = tt
 
-    target : (to : Destination) → IsBallRow (row_kinds rows) to → IsTargetThere (length settings) (target_of to)
+    target : (to : Destination) → IsBallRow (row_kinds rows) to → IsTargetThere (length (row_settings (contributions_of rows))) (target_of to)
     target destinations.Playfield is = tt
     target (destinations.Device r) is =
         let within : r < length (row_kinds rows) = slice_get_within (row_kinds rows) r true is in
-        let same : length (row_kinds rows) ≡ length settings = ap (λ (l : List Bool). length l) (kinds_are rows) ∙ length-map settings is_ball in
+        let same : length (row_kinds rows) ≡ length (row_settings (contributions_of rows)) = ap (λ (l : List Bool). length l) (kinds_are rows) ∙ length-map (row_settings (contributions_of rows)) is_ball in
         omega (arith, within, same)
     target destinations.Unknown is = tt
 
 -- what acts on a row by its number acts on no ball device
 pub acts_are_off_balls : (rows : Rows) → All (IsOffBalls (row_settings (contributions_of rows))) (contributions_of rows)
 acts_are_off_balls rows =
-    each_kept rows Q plain
-    (λ place d is. device_each Q (λ e. Unit {0}) place d tt (λ k n. tt) (acting_any Q (λ e p act. tt) (λ c. tt) place) (λ n. tt) (λ k e m. tt) (any_lists d.lists))
-    (λ d to is. device_each Q (λ e. Unit {0}) Machine (ball_device_from rows.machine d to) tt (λ k n. tt) (acting_any Q (λ e p act. tt) (λ c. tt) Machine) (λ n. tt) (λ k e m. tt) (any_lists (ball_lists rows.machine d)))
+    each_kept rows (IsOffBalls (row_settings (contributions_of rows))) plain
+    (λ place d is. device_each (IsOffBalls (row_settings (contributions_of rows))) (λ e. Unit {0}) place d tt (λ k n. tt) (acting_any (IsOffBalls (row_settings (contributions_of rows))) (λ e p act. tt) (λ c. tt) place) (λ n. tt) (λ k e m. tt) (any_lists d.lists))
+    (λ d to is. device_each (IsOffBalls (row_settings (contributions_of rows))) (λ e. Unit {0}) Machine (ball_device_from rows.machine d to) tt (λ k n. tt) (acting_any (IsOffBalls (row_settings (contributions_of rows))) (λ e p act. tt) (λ c. tt) Machine) (λ n. tt) (λ k e m. tt) (any_lists (ball_lists rows.machine d)))
   where
-    settings : List Settings
-    settings = row_settings (contributions_of rows)
-
-    abbrev Q : Contribution → Type 0
-    Q c = IsOffBalls settings c
-
     no_ball : (s : Settings) → is_ball s ≡ false → IsNoBallDevice s
     no_ball (kinds.BallDevice d) is = absurd (true≢false is)
     no_ball _ is = tt
@@ -292,14 +332,14 @@ acts_are_off_balls rows =
     off None is = tt
     off (Some s) is = no_ball s (same_Some (is_ball s) false is)
 
-    aimed : (e : List ℕ) (place : Place) (aim : Aim) → IsPlainAim (row_kinds rows) aim → Q (binds e place aim)
-    aimed e place (On r act) is = off (slice_get settings r) (sym (slice_get-map is_ball settings r) ∙ ap (λ l. slice_get l r) (sym (kinds_are rows)) ∙ is)
+    aimed : (e : List ℕ) (place : Place) (aim : Aim) → IsPlainAim (row_kinds rows) aim → IsOffBalls (row_settings (contributions_of rows)) (binds e place aim)
+    aimed e place (On r act) is = off (slice_get (row_settings (contributions_of rows)) r) (sym (slice_get-map is_ball (row_settings (contributions_of rows)) r) ∙ ap (λ l. slice_get l r) (sym (kinds_are rows)) ∙ is)
     aimed e place Run is = tt
     aimed e place Start is = tt
     aimed e place Stop is = tt
     aimed e place (Do act) is = tt
 
-    plain : (c : Contribution) → IsPlain (row_kinds rows) c → Q c
+    plain : (c : Contribution) → IsPlain (row_kinds rows) c → IsOffBalls (row_settings (contributions_of rows)) c
     plain (binds e place aim) is = aimed e place aim is
     plain _ is = tt
 
@@ -346,27 +386,21 @@ module _ (rows : Rows) where
 -- a ball may have drained only where there is a game
 pub drains_are_in_games : (rows : Rows) → AllDrainInGame (contributions_of rows)
 drains_are_in_games rows =
-    each_kept rows Q plain
-    (λ place d is. device_each Q (DrainsIn game) place d tt (λ k n. tt) (acting_any Q (λ e p act. tt) (λ c. tt) place) (λ n. tt) (λ k e m. m) (λ i l within j e inside. nothing _ (is.lists i l within j e inside)))
-    (λ d to is. device_each Q (DrainsIn game) Machine (ball_device_from rows.machine d to) tt (λ k n. tt) (acting_any Q (λ e p act. tt) (λ c. tt) Machine) (λ n. tt) (λ k e m. m)
-    (seven (All (DrainsIn game)) _ _ _ _ _ _ _ (one (DrainsIn game) _ (drained d)) (attempts (DrainsIn game) tt tt d.eject_coil (any d.eject_coil)) (one (DrainsIn game) leaves tt) (one (DrainsIn game) loses tt)
-    (one (DrainsIn game) _ tt) (one (DrainsIn game) arrives tt) (one (DrainsIn game) _ tt)))
+    each_kept rows (DrainsInGame (list_any is_plays (contributions_of rows))) plain
+    (λ place d is. device_each (DrainsInGame (list_any is_plays (contributions_of rows))) (DrainsIn (list_any is_plays (contributions_of rows))) place d tt (λ k n. tt) (acting_any (DrainsInGame (list_any is_plays (contributions_of rows))) (λ e p act. tt) (λ c. tt) place) (λ n. tt) (λ k e m. m) (λ i l within j e inside. nothing _ (is.lists i l within j e inside)))
+    (λ d to is. device_each (DrainsInGame (list_any is_plays (contributions_of rows))) (DrainsIn (list_any is_plays (contributions_of rows))) Machine (ball_device_from rows.machine d to) tt (λ k n. tt) (acting_any (DrainsInGame (list_any is_plays (contributions_of rows))) (λ e p act. tt) (λ c. tt) Machine) (λ n. tt) (λ k e m. m)
+    (seven (All (DrainsIn (list_any is_plays (contributions_of rows)))) _ _ _ _ _ _ _ (one (DrainsIn (list_any is_plays (contributions_of rows))) _ (drained d)) (attempts (DrainsIn (list_any is_plays (contributions_of rows))) tt tt d.eject_coil (any d.eject_coil)) (one (DrainsIn (list_any is_plays (contributions_of rows))) leaves tt) (one (DrainsIn (list_any is_plays (contributions_of rows))) loses tt)
+    (one (DrainsIn (list_any is_plays (contributions_of rows))) _ tt) (one (DrainsIn (list_any is_plays (contributions_of rows))) arrives tt) (one (DrainsIn (list_any is_plays (contributions_of rows))) _ tt)))
   where
-    game : Bool
-    game = list_any is_plays (contributions_of rows)
-
-    abbrev Q : Contribution → Type 0
-    Q c = DrainsInGame game c
-
-    plain : (c : Contribution) → IsPlain (row_kinds rows) c → Q c
+    plain : (c : Contribution) → IsPlain (row_kinds rows) c → DrainsInGame (list_any is_plays (contributions_of rows)) c
     plain (does_in k e) is = absurd is
     plain _ is = tt
 
-    nothing : (e : Effect) → BooksNothing e → DrainsIn game e
+    nothing : (e : Effect) → BooksNothing e → DrainsIn (list_any is_plays (contributions_of rows)) e
     nothing (enters e drain) is = absurd is
     nothing _ is = tt
 
-    drained : (d : BallDevice) → drains rows.machine d ≡ true → game ≡ true
+    drained : (d : BallDevice) → drains rows.machine d ≡ true → list_any is_plays (contributions_of rows) ≡ true
     drained d is = game_is_given rows (both (is_drain d) (has_game rows.machine) is).1
 
     any : (o : Option Written) → IfSome o (λ w. Unit {0})
@@ -384,11 +418,10 @@ Once cs = (ns : List (List ℕ)) → AreHeardOnce ns cs
 
 once-listens : (rest : List Contribution) → Once rest → (k : ℕ) (names heard : List (List ℕ)) → AllPairs (λ m n. m ≢ n) names → All (λ n. All (λ m. n ≢ m) heard) names → AreHeardOnce heard (listens_from k names ++ rest)
 once-listens rest then_ k [] heard apart new = then_ heard
-once-listens rest then_ k (n ∷ names) heard apart new =
-    (
-      All-head (λ x. All (λ m. x ≢ m) heard) n names new,
-      once-listens rest then_ (suc k) names (n ∷ heard) (λ i j d less within. apart (suc i) (suc j) d (omega (arith, less)) (omega (arith, within))) later,
-    )
+once-listens rest then_ k (n ∷ names) heard apart new = (
+  All-head (λ x. All (λ m. x ≢ m) heard) n names new,
+  once-listens rest then_ (suc k) names (n ∷ heard) (λ i j d less within. apart (suc i) (suc j) d (omega (arith, less)) (omega (arith, within))) later,
+)
   where
     later : All (λ x. All (λ m. x ≢ m) (n ∷ heard)) names
     later i d within =
@@ -398,8 +431,7 @@ once_device : (place : Place) (d : Device) → AllPairs (λ m n. m ≢ n) d.list
 unfolding device_contributions
 once_device place d apart cs rest heard =
     let listening = listens_from 0 d.listens in
-    let more = flat_map (act_binding place) d.handled ++ (map (mentions Events) d.mentioned ++ effects_from 0 d.lists) in
-    (
+    let more = flat_map (act_binding place) d.handled ++ (map (mentions Events) d.mentioned ++ effects_from 0 d.lists) in (
       tt,
       subst (AreHeardOnce []) (sym (append_assoc listening more cs))
           (once-listens (more ++ cs) (λ ns. after ns) 0 d.listens [] apart (λ i n within. All-nil (λ m. get_or d.listens i n ≢ m))),

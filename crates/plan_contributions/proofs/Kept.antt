@@ -388,10 +388,10 @@ module _ (rows : Rows) where
             (λ own named. (where_so (bytes_eq section ball_devices_name) named (is own), balls (ball_device_of e).target.text own)) tt
 
         section_is : (s : SectionRows) → (place ≡ Machine → All B (ball_devices_in s)) → All R (rows_from rows place seat to s.name s.content)
+        unfolding ball_devices_in
         section_is s h = by s.content h
           where
             by : (content : Content) → (place ≡ Machine → All B (ball_devices_in (record { name = s.name; content = content }))) → All R (rows_from rows place seat to s.name content)
-            unfolding ball_devices_in
             by (entries es) k =
                 All-map R (entry_row rows place seat to s.name) es
                 (λ i d within. entry_is s.name (get_or es i d) (λ own. where_named B ball_device_of (bytes_eq s.name ball_devices_name) es (k own) i d within))

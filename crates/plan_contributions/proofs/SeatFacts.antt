@@ -244,8 +244,7 @@ module _ {X : Type 0} (row : X → ℕ) (give : ℕ → List ℕ × Entry → Li
   given_here : (n : ℕ) (e : List ℕ × Entry) (es : List (List ℕ × Entry)) (x : List ℕ × X) → IsOwn n e x → IsAt n (e ∷ es) x
   given_here n e es x is =
       let rest = rows_of_entries place grouped es in
-      let first : row x.1 - n ≡ 0 = omega (arith, is.0) in
-      (
+      let first : row x.1 - n ≡ 0 = omega (arith, is.0) in (
         omega (arith, is.0),
         ap (λ b. slice_get (row_if b (has_balls place e.0) ++ rest) (row x.1 - n)) is.1 ∙ ap (slice_get (has_balls place e.0 ∷ rest)) first ∙ ap Some is.2,
       )
@@ -351,28 +350,25 @@ seat_row s = s.row
 seats_own : (place : Place) (grouped : List ℕ → Bool) (n : ℕ) (e : List ℕ × Entry) → All (IsOwn seat_row entry_seats place grouped false n e) (entry_seats n e)
 seats_own place grouped n e = by (bytes_eq e.0 shot_groups_name) refl
   where
-    abbrev Q : List ℕ × Seat → Type 0
-    Q x = IsOwn seat_row entry_seats place grouped false n e x
+    in_group : (i : ℕ) (ws : List Written) → has_row place grouped e ≡ true → has_balls place e.0 ≡ false → All (IsOwn seat_row entry_seats place grouped false n e) (seats_at n i ws)
+    in_group i [] row none = All-nil (IsOwn seat_row entry_seats place grouped false n e)
+    in_group i (w ∷ ws) row none =
+        All-cons (IsOwn seat_row entry_seats place grouped false n e) (w.text, record { row = n; shot = i }) (seats_at n (suc i) ws) (refl, row, none) (in_group (suc i) ws row none)
 
-    in_group : (i : ℕ) (ws : List Written) → has_row place grouped e ≡ true → has_balls place e.0 ≡ false → All Q (seats_at n i ws)
-    in_group i [] row none = All-nil Q
-    in_group i (w ∷ ws) row none = All-cons Q (w.text, record { row = n; shot = i }) (seats_at n (suc i) ws) (refl, row, none) (in_group (suc i) ws row none)
-
-    by : (b : Bool) → bytes_eq e.0 shot_groups_name ≡ b → All Q (if b then seats_at n 0 (shot_group_of e.1).shots else [])
+    by : (b : Bool) → bytes_eq e.0 shot_groups_name ≡ b → All (IsOwn seat_row entry_seats place grouped false n e) (if b then seats_at n 0 (shot_group_of e.1).shots else [])
     by true is =
         in_group 0 (shot_group_of e.1).shots (named (λ s. has_row place grouped (s, e.1) ≡ true) e.0 shot_groups_name is (groups_among place))
         (named (λ s. has_balls place s ≡ false) e.0 shot_groups_name is (groups_no_balls place))
-    by false is = All-nil Q
+    by false is = All-nil (IsOwn seat_row entry_seats place grouped false n e)
 
 balls_own : (grouped : List ℕ → Bool) (n : ℕ) (e : List ℕ × Entry) → All (IsOwn (λ r. r) entry_ball_row Machine grouped true n e) (entry_ball_row n e)
 balls_own grouped n e = by (bytes_eq e.0 ball_devices_name) refl
   where
-    abbrev Q : List ℕ × ℕ → Type 0
-    Q x = IsOwn (λ r. r) entry_ball_row Machine grouped true n e x
-
-    by : (b : Bool) → bytes_eq e.0 ball_devices_name ≡ b → All Q (if b then ((ball_device_of e.1).name.text, n) ∷ [] else [])
-    by true is = All-cons Q ((ball_device_of e.1).name.text, n) [] (refl, named (λ s. has_row Machine grouped (s, e.1) ≡ true) e.0 ball_devices_name is refl, is) (All-nil Q)
-    by false is = All-nil Q
+    by : (b : Bool) → bytes_eq e.0 ball_devices_name ≡ b → All (IsOwn (λ r. r) entry_ball_row Machine grouped true n e) (if b then ((ball_device_of e.1).name.text, n) ∷ [] else [])
+    by true is =
+        All-cons (IsOwn (λ r. r) entry_ball_row Machine grouped true n e) ((ball_device_of e.1).name.text, n) [] (refl, named (λ s. has_row Machine grouped (s, e.1) ≡ true) e.0 ball_devices_name is refl, is)
+        (All-nil (IsOwn (λ r. r) entry_ball_row Machine grouped true n e))
+    by false is = All-nil (IsOwn (λ r. r) entry_ball_row Machine grouped true n e)
 
 -- ---- a text
 

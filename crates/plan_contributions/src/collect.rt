@@ -19,8 +19,8 @@ use mpf_config::config::Contact as WrittenContact;
 use mpf_config::{
     AUTOFIRE_COILS_NAME, COIL_PLAYER_NAME, COILS_NAME, Debounce, EVENT_PLAYER_NAME, Entry,
     EventPlayer, FLIPPERS_NAME, GAME_NAME, ModeSettings, Name, Player, SWITCHES_NAME, Switch,
-    VARIABLE_PLAYER_NAME, as_autofire, as_ball_device, as_coil, as_coil_player, as_event_player, as_flipper,
-    as_game, as_shot, as_shot_group, as_switch, as_variable_player,
+    VARIABLE_PLAYER_NAME, as_autofire, as_ball_device, as_coil, as_coil_player, as_event_player,
+    as_flipper, as_game, as_shot, as_shot_group, as_switch, as_variable_player,
 };
 use plan_rows::{Place, Row};
 use plan_tables::entries::{Contact, ModeEvent, SwitchKind};
@@ -179,12 +179,15 @@ fn kind_of(definitions: &Definitions<'_>, row: Switch<'_>) -> SwitchKind
     }
 }
 
+/// The tag of switches that a ball on the playfield presses.
+const PLAYFIELD_ACTIVE: &[u8] = b"playfield_active";
+
 /// Whether a ball that presses a switch with these tags is on the playfield.
 fn confirms(tags: &[Name]) -> bool
     ensures { result ≡ confirms (map name_view tags.now) }
 {
     tags.iter()
-        .any(|tag| tag.text.as_slice() == b"playfield_active")
+        .any(|tag| tag.text.as_slice() == PLAYFIELD_ACTIVE)
 }
 
 /// The contact of a switch, in the plan.

@@ -164,7 +164,7 @@ fn collect_lists<'a>(
     row: BallDevice<'a>,
     drain: bool,
 ) -> Result<(), AllocError>
-    requires drains { drain ≡ drains definitions.now.machine (ball_device_view row.entry) }
+    requires drains { drain ≡ drains definitions.now.machine (ball_device_view row) }
     ensures { OnOk result (contributions_view contributions.new.items ≡ contributions_view contributions.old.items ++ effects_from 0 (ball_lists definitions.now.machine (ball_device_view row.entry))) }
 {
     let name: &'a [u8] = &row.name.text;
