@@ -57,11 +57,11 @@ abbrev settings_target : Settings → BallTarget
 settings_target settings = unwrap_or (target_in settings) ball_targets.Playfield
 
 -- a row is as it has to be, where there are so many rows in the end
-record IsRowSo (count : ℕ) (plan : PlanView) (r : RowId) : Type 0 where
-  number : (row_at plan r).number ≡ r
-  owner : IsOwnerWithin plan (row_at plan r).owner
-  target : IsTargetThere count (target_of plan r)
-  lists : (list_of_row plan r 0).0 + list_count (row_at plan r).settings ≤ length plan.lists
+pub record IsRowSo (count : ℕ) (plan : PlanView) (r : RowId) : Type 0 where
+  pub number : (row_at plan r).number ≡ r
+  pub owner : IsOwnerWithin plan (row_at plan r).owner
+  pub target : IsTargetThere count (target_of plan r)
+  pub lists : (list_of_row plan r 0).0 + list_count (row_at plan r).settings ≤ length plan.lists
 
 row_within : (plan : PlanView) (r : RowId) → IsRowSo (length plan.rows) plan r → IsRowWithin plan r
 row_within plan r is = record { number = is.number; owner = is.owner; target = is.target; lists = is.lists }

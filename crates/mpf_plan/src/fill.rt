@@ -3,8 +3,10 @@
 ghost use Rattle.std.specs.Prelude.{◌≡◌, ◌<◌, ◌≤◌, ◌+◌, ◌*◌, ◌++◌, List, [], ℕ, false, length, map, fold, replicate, slice_index_or, slice_set, IfOk, OnOk};
 ghost use Rattle.std.specs.List.{All};
 ghost use Rattle.plan_tables.specs.declared.names.NameSets.{NameSets as NameSetsValue};
+ghost use Rattle.plan_tables.specs.declared.entries.Action.TheVariants.{Change};
 ghost use Rattle.plan_tables.specs.declared.table.Table.TheVariants.{Events, Switches, Coils, Variables};
 ghost use Rattle.machine_definitions.specs.GameEvents.{game_event_names};
+ghost use Rattle.machine_definitions.specs.Players.{player_event};
 ghost use Rattle.plan_contributions.specs.Contributions.{gives, active, inactive, mode, mode_event, binds, does, does_in, listens, coil, under, plays, given_by};
 ghost use Rattle.mpf_plan.specs.PlanOf.{event_of, coil_of, variable_of, last_conditioned, action_with, action_of, owner_at, priority_at, with_switch, with_kind, with_active, with_inactive, first_event, with_event, last_with_event, last_mode, last_row, next_binding, last_priority, lists_for, with_one_more, last_with, next_row, with_device, first_of_last, with_contribution, next_listener, with_listener, limited_to, named_switch, named_coil, blank, drafted, next_list, with_action_in};
 ghost use Rattle.plan_tables.specs.Inside.{name_sets_view, mode_entry_view, action_lists, switches_view};
@@ -27,7 +29,7 @@ use plan_tables::devices::{DeviceRow, RowId, Settings};
 use plan_tables::entries::{
     Action, Binding, CoilId, CoilLimits, Condition, Contact, EventId, GameRules, ListId, Listener,
     Mode, ModeEntry, ModeEvent, ModeEvents, ModeId, Owner, SwitchEntry, SwitchKind, Target,
-    VariableId,
+    VariableAction, VariableId,
 };
 use plan_tables::names::NameSets;
 use plan_tables::table::Table;
@@ -492,16 +494,7 @@ fn action_of(
             let coil = coil_of(names, text, name)?;
             Ok(action_with(coil, deed))
         }
-        Effect::Variable(name, action, number) => {
-            let variable = variable_of(names, text, name)?;
-            let event = event_of(names, text, player_event(name))?;
-            Ok(Action::Change {
-                variable,
-                action,
-                number,
-                event,
-            })
-        }
+        Effect::Variable(name, action, number) => change_of(names, text, name, action, number),
         Effect::Enter(name, drain) => {
             let event = event_of(names, text, name)?;
             Ok(Action::Enter {
@@ -514,6 +507,26 @@ fn action_of(
         Effect::Lose => Ok(Action::Lose { device: row }),
         Effect::Arrive => Ok(Action::Arrive { device: row }),
     }
+}
+
+/// What is done with a variable, with the event that is posted after it.
+fn change_of(
+    names: &NameSets,
+    text: &mut Vec<u8>,
+    name: &[u8],
+    action: VariableAction,
+    number: i64,
+) -> Result<Action, AllocError>
+    ensures { IfOk result (λ a. a ≡ Change (variable_of (name_sets_view names.now Variables) name.now) action number (event_of (name_sets_view names.now Events) (player_event name.now))) }
+{
+    let variable = variable_of(names, text, name)?;
+    let event = event_of(names, text, player_event(name))?;
+    Ok(Action::Change {
+        variable,
+        action,
+        number,
+        event,
+    })
 }
 
 fn coil_of(names: &NameSets, text: &mut Vec<u8>, name: &[u8]) -> Result<CoilId, AllocError>
