@@ -95,12 +95,12 @@ is_target-same (Device r) Playfield is = absurd (false≢true is)
 is_target-same (Device r) (Device q) is = ap (λ (k : ℕ). Device (record { 0 = k })) (sym (eqb-true r.0 q.0 is))
 
 -- what feeds a target is a ball device that ejects balls to it
-record IsFeeder (target : BallTarget) (settings : Settings) : Type 0 where
-  d : BallSettings
-  is : settings ≡ kinds.BallDevice d
-  to : d.target ≡ target
+pub record IsFeeder (target : BallTarget) (settings : Settings) : Type 0 where
+  pub d : BallSettings
+  pub is : settings ≡ kinds.BallDevice d
+  pub to : d.target ≡ target
 
-feeder : (target : BallTarget) (settings : Settings) → feeds target settings ≡ true → IsFeeder target settings
+pub feeder : (target : BallTarget) (settings : Settings) → feeds target settings ≡ true → IsFeeder target settings
 feeder target (kinds.BallDevice d) is = record { d = d; is = refl; to = is_target-same target d.target is }
 feeder target (kinds.Counter c) is = absurd (false≢true is)
 feeder target (kinds.Accrual a) is = absurd (false≢true is)
@@ -110,11 +110,11 @@ feeder target (kinds.Bank b) is = absurd (false≢true is)
 feeder target kinds.Flipper is = absurd (false≢true is)
 feeder target kinds.Autofire is = absurd (false≢true is)
 
-one-no : (x y : Bool) → y ≡ false → one (x && y) ≡ 0
+pub one-no : (x y : Bool) → y ≡ false → one (x && y) ≡ 0
 one-no true y not = ap one not
 one-no false y not = refl
 
-one-yes : (x y : Bool) → y ≡ true → one (x && y) ≡ one x
+pub one-yes : (x y : Bool) → y ≡ true → one (x && y) ≡ one x
 one-yes true y is = ap one is
 one-yes false y is = refl
 
@@ -136,7 +136,7 @@ can (ledger_calls.Arrive target) l may =
     and_from (is_target_there (length l.counted) target) (nat_lt 0 (transit_to l target))
     (can-there (length l.counted) target may.0) (lt-ltb 0 (transit_to l target) may.1)
 
-book-by : (P : Machine → Type 0) (owner : Owner) (c : LedgerCall) (s : Machine) → MayBook c s.ledger
+pub book-by : (P : Machine → Type 0) (owner : Owner) (c : LedgerCall) (s : Machine) → MayBook c s.ledger
     → P (write owner (lines.Balls (booked c s.ledger) (counts_of (after_call c s.ledger))) (set_ledger (after_call c s.ledger) s))
     → P (book owner c s)
 book-by P owner c s may h =
@@ -205,7 +205,7 @@ module _ (plan : PlanView) where
         omega (arith, sums, few_on_way Playfield tt, rows, same, most)
 
     -- a new ball does not make too many known
-    room : (o : Origin) (r : RowId) → Says o (transit_to s.ledger (Device r)) s.ledger.playfield
+    pub room : (o : Origin) (r : RowId) → Says o (transit_to s.ledger (Device r)) s.ledger.playfield
         → s.ledger.known + one (is_new o) ≤ limit
     room Awaited r says = let most = h.most in omega (arith, most)
     room OfPlayfield r says = let most = h.most in omega (arith, most)

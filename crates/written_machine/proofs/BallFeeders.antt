@@ -1,8 +1,8 @@
 -- How many of the rows that pass one test pass another: where one row changes, and where there is one.
-use Rattle.std.proofs.Common.{◌≡◌, ℕ, zero, suc, ◌+◌, ◌<◌, ◌≤◌, inl, inr, Bool, true, false, cond, if◌then◌else◌, Option, None, Some, List, [], ◌∷◌, ◌&&◌, length, map, refl, sym, ap, subst, ◌∙◌, arith}
+use Rattle.std.proofs.Common.{◌≡◌, ℕ, zero, suc, ◌+◌, ◌<◌, ◌≤◌, ◌==◌, inl, inr, Bool, true, false, cond, if◌then◌else◌, Option, None, Some, List, [], ◌∷◌, ◌&&◌, length, map, refl, sym, ap, ap₂, subst, ◌∙◌, arith}
 use Rattle.std.specs.Prelude.{filter, find}
 use Rattle.std.specs.List.{All, count_by, range_with_len}
-use Rattle.std.proofs.lemmas.Bool.{cases_eq}
+use Rattle.std.proofs.lemmas.Bool.{cases_eq, eq-eqb, ne_eqb}
 use Rattle.std.proofs.lemmas.List.Elements.{All-head, All-tail}
 use Rattle.std.proofs.lemmas.List.Sums.{sum_by-cons}
 use Rattle.std.proofs.lemmas.Option.{none-some, same_Some}
@@ -74,6 +74,17 @@ module _ (f p q : RowId → Bool) (r : ℕ) (others : (x : RowId) → (x.0 ≡ r
       → count_by q (filter f (map row (range_with_len 0 n))) + one (f (row r) && p (row r))
       ≡ count_by p (filter f (map row (range_with_len 0 n))) + one (f (row r) && q (row r))
   row-changes n within = one_changes n 0 (omega arith) (omega arith)
+
+-- a row that passes both is counted
+pub row-counts : (f p : RowId → Bool) (r n : ℕ) → r < n → f (record { 0 = r }) ≡ true → p (record { 0 = r }) ≡ true
+    → 0 < count_by p (filter f (map row (range_with_len 0 n)))
+row-counts f p r n within feeds passes =
+    let q : RowId → Bool = λ x. cond (x.0 == r) false (p x) in
+    let changes = row-changes f p q r (λ x other. sym (ap (λ (b : Bool). cond b false (p x)) (ne_eqb x.0 r other))) n within in
+    let one_is : one (f (row r) && p (row r)) ≡ 1 = ap₂ (λ (x y : Bool). one (x && y)) feeds passes in
+    let none : one (f (row r) && q (row r)) ≡ 0 =
+    ap₂ (λ (x y : Bool). one (x && y)) feeds (ap (λ (b : Bool). cond b false (p (row r))) (eq-eqb r r refl)) in
+    omega (arith, changes, one_is, none)
 
 -- ---- the first that passes
 
