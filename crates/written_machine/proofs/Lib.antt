@@ -17,6 +17,15 @@ pub mod Hearing
 pub mod Speaking
 pub mod Resting
 pub mod Silence
+pub mod BallSteps
+pub mod BallFeeders
+pub mod BallPlays
+pub mod BallCalm
+pub mod BallCalls
+pub mod BallTrace
+pub mod BallRuns
+pub mod BallLevels
+pub mod BallCounting
 pub mod BallsKnown
 pub mod Good
 pub mod Listed
