@@ -54,7 +54,7 @@ request-usual calls.Fire may = absurd may
 request-usual (calls.Act (acts.Request n)) may = tt
 request-usual (calls.Act _) may = absurd may
 
-usual-listener : (active : Bool) (l : Listener) → IsUsual (calls.Act (act_of_listener active l))
+pub usual-listener : (active : Bool) (l : Listener) → IsUsual (calls.Act (act_of_listener active l))
 usual-listener true l = tt
 usual-listener false l = tt
 
@@ -75,7 +75,7 @@ module _ (plan : PlanView) where
             ∙ ap (λ row. first_state row.settings) (sym (get_or_past plan.rows r.0 no_row past))
       ]
 
-  first-ball : (r : RowId) (d : BallSettings) → (row_at plan r).settings ≡ kinds.BallDevice d → device_at (initial plan) r ≡ first_state (kinds.BallDevice d)
+  pub first-ball : (r : RowId) (d : BallSettings) → (row_at plan r).settings ≡ kinds.BallDevice d → device_at (initial plan) r ≡ first_state (kinds.BallDevice d)
   first-ball r d is = first-device r ∙ ap first_state is
 
   none_counted : (k : ℕ) → counted_in (no_balls plan) (record { 0 = k }) ≡ 0
@@ -131,7 +131,7 @@ module _ (plan : PlanView) where
     if_accepted-calm (Some a) s h = accepted-calm a s h
 
     -- a device that is due is one of the plan
-    due-within : (s : Machine) (r : RowId) (due : ℕ) → IsCalm plan no_lag s → due_of (device_at s r) ≡ Some due → r.0 < length plan.rows
+    pub due-within : (s : Machine) (r : RowId) (due : ℕ) → IsCalm plan no_lag s → due_of (device_at s r) ≡ Some due → r.0 < length plan.rows
     due-within s r due h is =
         elim (cases_lt r.0 (length s.devices)) [
           | inl there ↦ let count = h.count in omega (arith, there, count)

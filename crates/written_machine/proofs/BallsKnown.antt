@@ -5,6 +5,7 @@ use Rattle.written_machine.specs.CheckedView.{CheckedView}
 use Rattle.written_machine.specs.Accepted.{IsAccepted}
 use Rattle.written_machine.proofs.BallTrace.{told-run, booked-run, somewhere-run}
 use Rattle.written_machine.proofs.BallRuns.{calm-run}
+use Rattle.written_machine.proofs.BallHeard.{counted-run}
 
 pub balls-known : (c : CheckedView) → IsAccepted c → AreBallsKnown c
 balls-known c accepted = record {
@@ -16,5 +17,5 @@ balls-known c accepted = record {
   away = λ stimuli trace s run target there.
       let calm = calm-run c.plan accepted.valid accepted.bookings stimuli trace s run in
       omega (arith, calm.away target there);
-  counted = ?;
+  counted = counted-run c.plan accepted.valid accepted.bookings;
 }

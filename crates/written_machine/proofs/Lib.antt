@@ -26,6 +26,10 @@ pub mod BallTrace
 pub mod BallRuns
 pub mod BallLevels
 pub mod BallCounting
+pub mod BallSteady
+pub mod BallFired
+pub mod BallListeners
+pub mod BallHeard
 pub mod BallsKnown
 pub mod Good
 pub mod Listed
