@@ -1,12 +1,12 @@
 -- A whole call of a ball device books what it answers, and leaves the ledger in step with the devices.
-use Rattle.std.proofs.Common.{◌≡◌, ℕ, zero, suc, ◌+◌, ◌-◌, ◌^◌, ◌<◌, ◌≤◌, ◌==◌, ◌&&◌, inl, inr, ◌⊎◌, if◌then◌else◌, cond, Bool, true, false, Option, Some, None, List, [], ◌∷◌, length, slice_set, refl, sym, ap, ap₂, ◌∙◌, subst, arith}
-use Rattle.std.specs.Prelude.{find, unwrap_or}
-use Rattle.std.specs.List.{All, count_by, filter}
+use Rattle.std.proofs.Common.{◌≡◌, ℕ, ◌+◌, ◌<◌, ◌≤◌, ◌==◌, ◌&&◌, inl, inr, if◌then◌else◌, Bool, true, false, Option, Some, None, List, [], ◌∷◌, length, refl, sym, ap, ap₂, ◌∙◌, subst, arith}
+use Rattle.std.specs.Prelude.{unwrap_or}
+use Rattle.std.specs.List.{All, count_by}
 use Rattle.std.proofs.lemmas.Bool.{eq-eqb, ne_eqb}
 use Rattle.std.proofs.lemmas.List.Elements.{All-filter, filter_passes}
 use Rattle.plan_tables.specs.declared.entries.GameEvent.TheVariants.{BallDrain}
 use Rattle.plan_tables.specs.PlanView.{PlanView, feeders_of, feeds, game_event, is_target, list_of_row, row_at, row_numbers, target_in, target_of}
-use Rattle.plan_tables.specs.Valid.{IsRowWithin, IsTargetThere, IsValid}
+use Rattle.plan_tables.specs.Valid.{IsTargetThere, IsValid}
 use Rattle.plan_tables.specs.declared.devices.Act.TheVariants as acts
 use Rattle.plan_tables.specs.declared.devices.BallSettings.{BallSettings}
 use Rattle.plan_tables.specs.declared.devices.BallTarget.{BallTarget}
@@ -16,17 +16,15 @@ use Rattle.plan_tables.specs.declared.devices.Settings.{Settings}
 use Rattle.plan_tables.specs.declared.devices.Settings.TheVariants as kinds
 use Rattle.plan_tables.specs.declared.entries.Action.{Action}
 use Rattle.plan_tables.specs.declared.entries.Action.TheVariants.{Enter, Leave, Lose, Arrive}
-use Rattle.plan_tables.specs.declared.entries.EventId.{EventId}
 use Rattle.plan_tables.specs.declared.entries.Owner.{Owner}
-use Rattle.ball_devices.specs.declared.booking.Booking.{Booking}
-use Rattle.ball_devices.specs.declared.booking.Booking.TheVariants.{Entered, Left, Lost, Arrived}
+use Rattle.ball_devices.specs.declared.booking.Booking.TheVariants.{Entered}
 use Rattle.ball_devices.specs.declared.booking.Origin.{Origin}
 use Rattle.ball_devices.specs.declared.booking.Origin.TheVariants.{Awaited, Found as OfPlayfield, New}
-use Rattle.ball_devices.specs.Ledger.{Ledger, counted_in, transit_to, origin_of, IsLedger}
+use Rattle.ball_devices.specs.Ledger.{counted_in, transit_to, origin_of}
 use Rattle.ball_devices.specs.Bookings.{LedgerCall, MayBook, after_call, booked, is_new_entry, is_entry_into, is_exit_from, is_start_for, is_end_for}
 use Rattle.ball_devices.specs.Bookings as ledger_calls
 use Rattle.ball_devices.proofs.Ledgers.{origin-says, call-is}
-use Rattle.ball_devices.proofs.Booked.{one, Tells, call-told}
+use Rattle.ball_devices.proofs.Booked.{one, call-told}
 use Rattle.cascade_rank.proofs.Rows.{rows-within}
 use Rattle.device_objects.specs.declared.device.Call.{Call}
 use Rattle.device_objects.specs.declared.device.Call.TheVariants as calls
@@ -35,16 +33,16 @@ use Rattle.device_objects.specs.declared.state.DeviceState.{DeviceState}
 use Rattle.device_objects.specs.declared.state.DeviceState.TheVariants as states
 use Rattle.device_objects.specs.BallDevice.{is_away, ball_step}
 use Rattle.device_objects.specs.BallDevice as lists
-use Rattle.device_objects.specs.DeviceStep.{ball_answer, device_step}
+use Rattle.device_objects.specs.DeviceStep.{device_step}
 use Rattle.device_objects.specs.Laws.{HasBallShape}
 use Rattle.device_objects.proofs.BallShapes.{ball_step-shape}
 use Rattle.player_game.specs.GameStep.{is_ball_on}
 use Rattle.written_machine.specs.BallRows.{BooksNothing, actions_in, IsBallRow, BooksRightly, BookingsAreRight}
-use Rattle.written_machine.specs.Machine.{Machine, post, set_device, all_do, book, drain_if, after_entry, do_action_by, do_list_by, world_of, device_at, called, do_answer_by, call_device_by, is_device_away, first_away, no_confirm, confirm_of, confirm_first_away, confirm_entry, call_device}
-use Rattle.written_machine.proofs.BallSteps.{balls_in, IsQuiet, AreQuiet, Answer, nothing, enters, leaves, loses, arrives, IsAnswer, IsConfirmed, IsUsual, step-answer, confirm-answer, step-confirmed}
+use Rattle.written_machine.specs.Machine.{Machine, post, set_device, all_do, book, drain_if, after_entry, do_action_by, do_list_by, world_of, device_at, do_answer_by, call_device_by, is_device_away, first_away, no_confirm, confirm_of, confirm_first_away, confirm_entry, call_device}
+use Rattle.written_machine.proofs.BallSteps.{balls_in, IsQuiet, AreQuiet, Answer, nothing, enters, leaves, loses, arrives, IsAnswer, IsUsual, step-answer, confirm-answer, step-confirmed}
 use Rattle.written_machine.proofs.BallFeeders.{Found, find-found, row-counts}
 use Rattle.written_machine.proofs.BallPlays.{IsOther, nothing-other, then-other, post-other, list-other, Plays, still, ball, arrival, both}
-use Rattle.written_machine.proofs.BallCalm.{balls_at, IsBallState, no_lag, lag_at, limit, IsCalm, IsFeeder, feeder, one-no, one-yes, book-by, other-calm, room, turned-calm}
+use Rattle.written_machine.proofs.BallCalm.{balls_at, no_lag, lag_at, limit, IsCalm, feeder, one-no, one-yes, book-by, other-calm, room, turned-calm}
 
 is_target-itself : (a : BallTarget) → is_target a a ≡ true
 is_target-itself Playfield = refl

@@ -1,52 +1,39 @@
 -- Between the calls of devices the ledger says how many balls count in each device, and how many devices are Away to each
 -- target. A whole call of a ball device leaves it so, and all that it books may be booked.
-use Rattle.std.proofs.Common.{◌≡◌, ℕ, zero, suc, ◌+◌, ◌*◌, ◌-◌, ◌^◌, ◌<◌, ◌≤◌, ◌==◌, ◌&&◌, inl, inr, ◌⊎◌, if◌then◌else◌, nat_lt, cond, Bool, true, false, Option, Some, None, List, [], ◌∷◌, ◌++◌, length, map, slice_set, slice_index_or, refl, sym, ap, ap₂, ◌∙◌, subst, arith}
-use Rattle.std.specs.Prelude.{find}
-use Rattle.std.specs.List.{All, count_by, filter, range_with_len, sum_by}
-use Rattle.std.proofs.lemmas.Bool.{and_from, cases_eq, cases_lt, eq-eqb, eqb-true, ne_eqb, false≢true, lt-ltb}
-use Rattle.std.proofs.lemmas.List.{get_or_past, length-map, length-set, length-replicate, get_or-set_same, get_or-set_other, get_or-map, get_or-replicate}
-use Rattle.std.proofs.lemmas.List.Elements.{All-from_get_or, All-filter, filter_passes}
+use Rattle.std.proofs.Common.{◌≡◌, ℕ, ◌+◌, ◌^◌, ◌<◌, ◌≤◌, ◌&&◌, inl, inr, if◌then◌else◌, nat_lt, Bool, true, false, List, length, slice_set, refl, sym, ap, ap₂, ◌∙◌, subst, arith}
+use Rattle.std.specs.List.{count_by}
+use Rattle.std.proofs.lemmas.Bool.{and_from, cases_eq, eqb-true, false≢true, lt-ltb}
+use Rattle.std.proofs.lemmas.List.{length-set, get_or-set_same, get_or-set_other}
+use Rattle.std.proofs.lemmas.List.Elements.{All-from_get_or}
 use Rattle.std.proofs.lemmas.List.Sums.{sum_by-le, count_by-le-length, length-filter}
-use Rattle.plan_tables.specs.PlanView.{PlanView, feeders_of, feeds, is_target, list_of_row, no_row, row_at, row_numbers, target_in, target_of}
-use Rattle.plan_tables.specs.Valid.{HasEntries, IsRowWithin, IsTargetThere, IsValid}
-use Rattle.plan_tables.specs.declared.devices.Act.TheVariants as acts
+use Rattle.plan_tables.specs.PlanView.{PlanView, feeders_of, feeds, is_target, no_row, row_at, row_numbers}
+use Rattle.plan_tables.specs.Valid.{IsTargetThere, IsValid}
 use Rattle.plan_tables.specs.declared.devices.BallSettings.{BallSettings}
 use Rattle.plan_tables.specs.declared.devices.BallTarget.{BallTarget}
 use Rattle.plan_tables.specs.declared.devices.BallTarget.TheVariants.{Playfield, Device}
 use Rattle.plan_tables.specs.declared.devices.RowId.{RowId}
 use Rattle.plan_tables.specs.declared.devices.Settings.{Settings}
 use Rattle.plan_tables.specs.declared.devices.Settings.TheVariants as kinds
-use Rattle.plan_tables.specs.declared.entries.Action.{Action}
-use Rattle.plan_tables.specs.declared.entries.Action.TheVariants.{Enter, Leave, Lose, Arrive}
-use Rattle.plan_tables.specs.declared.entries.EventId.{EventId}
 use Rattle.plan_tables.specs.declared.entries.Owner.{Owner}
-use Rattle.ball_devices.specs.declared.booking.Booking.{Booking}
-use Rattle.ball_devices.specs.declared.booking.Booking.TheVariants.{Entered, Left, Lost, Arrived}
 use Rattle.ball_devices.specs.declared.booking.Origin.{Origin}
 use Rattle.ball_devices.specs.declared.booking.Origin.TheVariants.{Awaited, Found as OfPlayfield, New}
-use Rattle.ball_devices.specs.Ledger.{Ledger, no_balls, counted_in, transit_to, all_counted, all_in_transit, origin_of, IsLedger}
+use Rattle.ball_devices.specs.Ledger.{Ledger, counted_in, transit_to, all_counted, all_in_transit, IsLedger}
 use Rattle.ball_devices.specs.Bookings.{LedgerCall, MayBook, after_call, booked, can_book, is_target_there, is_new, is_new_entry, is_entry_into, is_exit_from, is_start_for, is_end_for}
 use Rattle.ball_devices.specs.Bookings as ledger_calls
-use Rattle.ball_devices.proofs.Ledgers.{Says, origin-says, call-is, new-is}
-use Rattle.ball_devices.proofs.Booked.{one, Tells, call-told}
-use Rattle.cascade_rank.proofs.Rows.{length-rows, rows-within}
-use Rattle.device_objects.specs.declared.device.Call.{Call}
-use Rattle.device_objects.specs.declared.device.Call.TheVariants as calls
+use Rattle.ball_devices.proofs.Ledgers.{Says}
+use Rattle.ball_devices.proofs.Booked.{one}
+use Rattle.cascade_rank.proofs.Rows.{length-rows}
 use Rattle.device_objects.specs.declared.state.BallState.{BallState}
 use Rattle.device_objects.specs.declared.state.DeviceState.{DeviceState}
 use Rattle.device_objects.specs.declared.state.DeviceState.TheVariants as states
-use Rattle.device_objects.specs.BallDevice.{is_away, entered, attempted, left, lost, succeeded, arrived, failed, ball_step}
-use Rattle.device_objects.specs.BallDevice as balls
-use Rattle.device_objects.specs.DeviceStep.{ball_answer, device_step, first_state}
+use Rattle.device_objects.specs.BallDevice.{is_away}
+use Rattle.device_objects.specs.DeviceStep.{first_state}
 use Rattle.device_objects.specs.Laws.{HasBallShape}
-use Rattle.device_objects.proofs.BallShapes.{ball_step-shape, first_ball-shape}
-use Rattle.player_game.specs.GameStep.{is_ball_on}
 use Rattle.written_machine.specs.declared.line.Happening.TheVariants as lines
-use Rattle.written_machine.specs.BallRows.{BooksNothing, actions_in, IsBallRow, BooksRightly, BookingsAreRight}
-use Rattle.written_machine.specs.Machine.{Machine, initial, write, post, set_device, set_ledger, all_do, counts_of, book, drain_if, after_entry, enter_ball, do_action_by, do_list_by, world_of, device_state, device_at, called, do_answer_by, call_device_by, is_device_away, first_away, no_confirm, confirm_of, confirm_first_away, confirm_entry, call_device}
-use Rattle.written_machine.proofs.BallSteps.{balls_in, IsQuiet, AreQuiet, Answer, nothing, enters, leaves, loses, arrives, IsAnswer, IsConfirmed, IsUsual, step-answer, confirm-answer, step-confirmed}
-use Rattle.written_machine.proofs.BallFeeders.{filter-same, row-changes, Found, find-found}
-use Rattle.written_machine.proofs.BallPlays.{IsOther, is_ball, not_both, one_row, nothing-other, then-other, same-other, post-other, list-other, Plays, still, ball, arrival, both}
+use Rattle.written_machine.specs.Machine.{Machine, write, set_ledger, counts_of, book, device_state, device_at, is_device_away}
+use Rattle.written_machine.proofs.BallSteps.{balls_in}
+use Rattle.written_machine.proofs.BallFeeders.{filter-same, row-changes}
+use Rattle.written_machine.proofs.BallPlays.{IsOther, one_row}
 
 -- how many balls count in a device
 abbrev pub balls_at : DeviceState → ℕ

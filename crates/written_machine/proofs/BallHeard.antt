@@ -1,13 +1,13 @@
 -- In every run each ball switch follows the changes of the switch that it is.
-use Rattle.std.proofs.Common.{◌≡◌, ℕ, zero, suc, ◌+◌, ◌<◌, ◌≤◌, ◌==◌, ◌⊎◌, inl, inr, if◌then◌else◌, not, Bool, true, false, cond, ◌&&◌, ◌||◌, Option, Some, None, List, [], ◌∷◌, ◌++◌, length, map, slice_set, get_or, refl, ap, ap₂, sym, ◌∙◌, subst, arith}
+use Rattle.std.proofs.Common.{◌≡◌, ℕ, zero, suc, ◌<◌, ◌≤◌, ◌==◌, ◌⊎◌, inl, inr, if◌then◌else◌, not, Bool, true, false, cond, ◌||◌, Option, Some, None, List, [], ◌∷◌, ◌++◌, length, slice_set, get_or, refl, ap, ap₂, sym, ◌∙◌, subst, arith}
 use Rattle.std.specs.Option.{IfSome}
-use Rattle.std.specs.List.{All, AllPairs, count_by, flat_map, list_any}
+use Rattle.std.specs.List.{All, AllPairs, count_by, flat_map}
 use Rattle.std.proofs.lemmas.Bool.{and_from, and_parts, cases_Bool, cases_eq, cases_lt, cond_both, eq-eqb, false≢true, true≢false, ne_eqb, or_left}
-use Rattle.std.proofs.lemmas.List.{append-nil, get_or_past, get_or-set_same, get_or-set_other, get_or-replicate, set_past}
+use Rattle.std.proofs.lemmas.List.{append-nil, get_or_past, get_or-set_same, get_or-set_other, get_or-replicate}
 use Rattle.std.proofs.lemmas.List.Concat.{flat_map-append}
 use Rattle.std.proofs.lemmas.List.Elements.{All-get_or}
 use Rattle.std.proofs.lemmas.Option.{none-some}
-use Rattle.plan_tables.specs.PlanView.{PlanView, PlanSwitch, listeners_of, no_row, no_switch, posts_of, row_at, switch_at}
+use Rattle.plan_tables.specs.PlanView.{PlanView, PlanSwitch, listeners_of, no_row, no_switch, row_at, switch_at}
 use Rattle.plan_tables.specs.Valid.{IsListenerWithin, IsValid}
 use Rattle.plan_tables.specs.declared.devices.BallSettings.{BallSettings}
 use Rattle.plan_tables.specs.declared.devices.RowId.{RowId}
@@ -32,25 +32,25 @@ use Rattle.device_objects.specs.DeviceStep as devices
 use Rattle.device_objects.proofs.BallMoments.{ball-parts_none, ball-parts_first}
 use Rattle.switch_core.specs.declared.change.Change.{Change as Acceptance}
 use Rattle.switch_core.specs.SwitchStep.{SwitchState, changed, accepted, awaited, is_taken, same_level}
-use Rattle.switch_core.specs.Switches.{SwitchesView, all_idle, no_kind, kind_at, state_at, due_of, after_change, reported_by_change, accept, reported}
+use Rattle.switch_core.specs.Switches.{SwitchesView, no_kind, kind_at, state_at, due_of, after_change, accept, reported}
 use Rattle.switch_core.proofs.DueMoments.{due-set, idle-kind, idle-nothing_due, changes_arm_later, accept-due, accept-done}
 use Rattle.written_machine.specs.declared.line.Happening.TheVariants as lines
 use Rattle.written_machine.specs.declared.line.Line.{Line}
-use Rattle.written_machine.specs.BallRows.{AreApart, AreOfTwoRows, BookingsAreRight, IsSwitchOf}
-use Rattle.written_machine.specs.Counted.{LevelChange, change_at, changes_of, counted_level, ball_switches, is_counted}
-use Rattle.written_machine.specs.EventStep.{EventStep, after_event}
-use Rattle.written_machine.specs.Machine.{Machine, initial, write, post, set_switches, set_device, all_do, world_of, device_state, device_at, called, do_answer_by, confirm_entry, confirm_on_playfield, tell_listener, tell_listeners, do_accepted, do_if_accepted, call_device}
-use Rattle.written_machine.specs.Run.{Source, switch, device, source_due, IsNoAlarmDueBy, IsNothingLate, Stimulus, Change, Alarm, Wait, moment_of, IsAllowed, arrived, begin, IsRun, InEveryRun}
+use Rattle.written_machine.specs.BallRows.{AreOfTwoRows, BookingsAreRight, IsSwitchOf}
+use Rattle.written_machine.specs.Counted.{LevelChange, change_at, changes_of, ball_switches, is_counted}
+use Rattle.written_machine.specs.EventStep.{EventStep}
+use Rattle.written_machine.specs.Machine.{Machine, initial, write, set_switches, set_device, world_of, device_at, called, confirm_entry, tell_listeners, do_accepted, do_if_accepted, call_device}
+use Rattle.written_machine.specs.Run.{Source, switch, device, source_due, IsNoAlarmDueBy, IsNothingLate, Stimulus, Change, Alarm, Wait, IsAllowed, arrived, begin, InEveryRun}
 use Rattle.written_machine.proofs.Does.{HasStates}
-use Rattle.written_machine.proofs.Alarms.{switches-steps, switches-begin, switched, not_late-steps, not_late-begin, not_late-initial, allowed-first, forward, has_states-step, has_states-begin, has_states-initial}
+use Rattle.written_machine.proofs.Alarms.{switches-steps, switches-begin, not_late-steps, not_late-begin, not_late-initial, allowed-first, forward, has_states-step, has_states-begin, has_states-initial}
 use Rattle.written_machine.proofs.Keeps.{run-keeps}
-use Rattle.written_machine.proofs.BallPlays.{IsOther, is_ball, one_row, call-other, Plays, accepted-plays, event-plays}
+use Rattle.written_machine.proofs.BallPlays.{is_ball, call-other, accepted-plays, event-plays}
 use Rattle.written_machine.proofs.BallCalm.{balls_at, no_lag, IsCalm, calm-other}
 use Rattle.written_machine.proofs.BallRuns.{IsRequest, first-ball, calm-initial, step-calm, begin-calm, due-within}
-use Rattle.written_machine.proofs.BallLevels.{Follows, first-follows, level_by, not_yet, turned-follows, IsInTime, noted-follows}
-use Rattle.written_machine.proofs.BallCounting.{is_for, is_heard, IsSaid, row-count}
+use Rattle.written_machine.proofs.BallLevels.{Follows, first-follows, not_yet, turned-follows, IsInTime, noted-follows}
+use Rattle.written_machine.proofs.BallCounting.{is_for, is_heard, row-count}
 use Rattle.written_machine.proofs.BallSteady.{ball_of, switches_at, IsSteady, IsKeeping, other-steady, answer-steady, entered-steady, plays-steady}
-use Rattle.written_machine.proofs.BallFired.{HasTurned, IsFired, fire-fired}
+use Rattle.written_machine.proofs.BallFired.{IsFired, fire-fired}
 use Rattle.written_machine.proofs.BallListeners.{ball_switch, heard-all, switches-apart, IsListener, IsNotedBy, listeners-noted}
 
 request-keeping : (call : Call) → IsRequest call → IsKeeping call
@@ -362,20 +362,20 @@ module _ (plan : PlanView) where
       all_fired : IsFired ball at fired
       all_fired = fire-fired d at at ball (sym (ap (λ (x : DeviceState). devices.due_of x) state) ∙ due)
 
-      abbrev finished' : Machine
-      finished' = call_device plan calls.Fire r (arrived at s)
+      abbrev after_alarm : Machine
+      after_alarm = call_device plan calls.Fire r (arrived at s)
 
-      answered : IsSteady plan (set_device r next (arrived at s)) finished'
+      answered : IsSteady plan (set_device r next (arrived at s)) after_alarm
       answered = answer-steady plan (confirm_entry plan) (entered-steady plan) r (called plan calls.Fire r (arrived at s)).1 (set_device r next (arrived at s))
 
-      here : switches_at finished' r ≡ fired.switches
+      here : switches_at after_alarm r ≡ fired.switches
       here =
           let in_devices : r.0 < length s.devices = let count = calm.count in omega (arith, count, within) in
           answered.switches r d is
           ∙ (ap (λ (x : DeviceState). (ball_of x).switches) (get_or-set_same s.devices r.0 next (devices.first_state no_row.settings) in_devices)
           ∙ ap (λ (x : DeviceState). (ball_of x).switches) next-is)
 
-      there : (q : RowId) (e : BallSettings) → (row_at plan q).settings ≡ kinds.BallDevice e → (q.0 ≡ r.0 → ⊥) → switches_at finished' q ≡ switches_at s q
+      there : (q : RowId) (e : BallSettings) → (row_at plan q).settings ≡ kinds.BallDevice e → (q.0 ≡ r.0 → ⊥) → switches_at after_alarm q ≡ switches_at s q
       there q e of other =
           answered.switches q e of
           ∙ ap (λ (x : DeviceState). (ball_of x).switches) (get_or-set_other s.devices r.0 q.0 next (devices.first_state no_row.settings) other)
@@ -385,19 +385,19 @@ module _ (plan : PlanView) where
 
       -- each ball switch is the same, or was due and has turned
       each : (q : RowId) (e : BallSettings) (i : ℕ) → (row_at plan q).settings ≡ kinds.BallDevice e
-          → (ball_switch finished' q i ≡ ball_switch s q i) ⊎ (((ball_switch s q i).due ≡ Some at) × (ball_switch finished' q i ≡ turned (ball_switch s q i)))
+          → (ball_switch after_alarm q i ≡ ball_switch s q i) ⊎ (((ball_switch s q i).due ≡ Some at) × (ball_switch after_alarm q i ≡ turned (ball_switch s q i)))
       each q e i of =
           elim (cases_eq q.0 r.0) [
             | inl same ↦
                 let row : r ≡ q = ap (λ (k : ℕ). record { 0 = k }) (sym same) in
-                subst (λ (k : RowId). (ball_switch finished' k i ≡ ball_switch s k i) ⊎ (((ball_switch s k i).due ≡ Some at) × (ball_switch finished' k i ≡ turned (ball_switch s k i)))) row (own all_fired)
+                subst (λ (k : RowId). (ball_switch after_alarm k i ≡ ball_switch s k i) ⊎ (((ball_switch s k i).due ≡ Some at) × (ball_switch after_alarm k i ≡ turned (ball_switch s k i)))) row (own all_fired)
             | inr other ↦ inl (ap (λ (bs : List BallSwitch). get_or bs i empty) (there q e of other))
           ]
         where
-          own : IsFired ball at fired → (ball_switch finished' r i ≡ ball_switch s r i) ⊎ (((ball_switch s r i).due ≡ Some at) × (ball_switch finished' r i ≡ turned (ball_switch s r i)))
+          own : IsFired ball at fired → (ball_switch after_alarm r i ≡ ball_switch s r i) ⊎ (((ball_switch s r i).due ≡ Some at) × (ball_switch after_alarm r i ≡ turned (ball_switch s r i)))
           own (inl all_same) = inl (ap (λ (bs : List BallSwitch). get_or bs i empty) (here ∙ all_same) ∙ was i)
           own (inr turn) =
-              let read : ball_switch finished' r i ≡ get_or (slice_set ball.switches turn.place (turned (get_or ball.switches turn.place empty))) i empty =
+              let read : ball_switch after_alarm r i ≡ get_or (slice_set ball.switches turn.place (turned (get_or ball.switches turn.place empty))) i empty =
               ap (λ (bs : List BallSwitch). get_or bs i empty) (here ∙ turn.switches) in
               elim (cases_eq i turn.place) [
                 | inl at_it ↦
@@ -419,23 +419,23 @@ module _ (plan : PlanView) where
                     | inr past ↦ absurd (none-some at (sym (ap (λ (b : BallSwitch). b.due) (get_or_past ball.switches place empty past)) ∙ its))
                   ]
 
-      fired_changes : (m : SwitchId) → changes_of m (ls ++ finished'.lines) ≡ changes_of m ls
+      fired_changes : (m : SwitchId) → changes_of m (ls ++ after_alarm.lines) ≡ changes_of m ls
       fired_changes m =
-          flat_map-append (λ l. change_at m l.moment l.happening) ls finished'.lines
+          flat_map-append (λ l. change_at m l.moment l.happening) ls after_alarm.lines
           ∙ (ap (λ xs. changes_of m ls ++ xs) (answered.changes m) ∙ append-nil (changes_of m ls))
 
-      fired-heard : finished'.switches ≡ s.switches → AreHeard (ls ++ finished'.lines) finished'
+      fired-heard : after_alarm.switches ≡ s.switches → AreHeard (ls ++ after_alarm.lines) after_alarm
       fired-heard switches = record {
         heard = λ n q e i of its.
-            subst (λ (k : ℕ). IsHeard e (quick_at n) k (due_of finished'.switches n) (ball_switch finished' q i) (changes_of n (ls ++ finished'.lines))) (sym answered.moment)
-            (subst (λ (w : SwitchesView). IsHeard e (quick_at n) at (due_of w n) (ball_switch finished' q i) (changes_of n (ls ++ finished'.lines))) (sym switches)
+            subst (λ (k : ℕ). IsHeard e (quick_at n) k (due_of after_alarm.switches n) (ball_switch after_alarm q i) (changes_of n (ls ++ after_alarm.lines))) (sym answered.moment)
+            (subst (λ (w : SwitchesView). IsHeard e (quick_at n) at (due_of w n) (ball_switch after_alarm q i) (changes_of n (ls ++ after_alarm.lines))) (sym switches)
             (elim (each q e i of) [
               | inl same ↦
                   heard-on e (quick_at n) s.moment at later (due_of s.switches n) (ball_switch s q i) (changes_of n ls) (h.heard n q e i of its)
-                  (due_of s.switches n) (ball_switch finished' q i) (changes_of n (ls ++ finished'.lines)) (λ t o. inl o) same (fired_changes n)
+                  (due_of s.switches n) (ball_switch after_alarm q i) (changes_of n (ls ++ after_alarm.lines)) (λ t o. inl o) same (fired_changes n)
               | inr turn ↦
                   heard-turned e (quick_at n) s.moment at later (due_of s.switches n) (ball_switch s q i) (changes_of n ls) (h.heard n q e i of its)
-                  (due_of s.switches n) (ball_switch finished' q i) (changes_of n (ls ++ finished'.lines)) turn.0 (λ normal t o. fresh n t o) turn.1 (fired_changes n)
+                  (due_of s.switches n) (ball_switch after_alarm q i) (changes_of n (ls ++ after_alarm.lines)) turn.0 (λ normal t o. fresh n t o) turn.1 (fired_changes n)
             ]));
         unheard = λ q e i of none.
             elim (each q e i of) [
@@ -480,7 +480,7 @@ module _ (plan : PlanView) where
         elim (is_ball (row_at plan r).settings) [
           | inl is ↦
               fired-heard ls s r is.0 at h.heard h.calm is.1 later allowed.0.due
-              (λ n t due. elim (allowed.0.least (switch n) t due) [ | inl past ↦ past | inr never ↦ absurd never.1 ]) still
+              (λ n t due. elim (allowed.0.least (switch n) t due) [ inl past ↦ past | inr never ↦ absurd never.1 ]) still
           | inr not ↦
               let other = call-other plan valid.entries right (confirm_entry plan) calls.Fire r (arrived at s) (due-within plan valid right s r at h.calm allowed.0.due) not in
               let steady = other-steady plan other in

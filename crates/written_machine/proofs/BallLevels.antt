@@ -1,10 +1,9 @@
 -- Whether a ball counts at a ball switch follows from its changes alone.
-use Rattle.std.proofs.Common.{◌≡◌, ℕ, zero, suc, ◌+◌, ◌<◌, ◌≤◌, ◌⊎◌, inl, inr, Bool, true, false, not, cond, ◌&&◌, Option, Some, None, List, [], ◌∷◌, ◌++◌, if◌then◌else◌, nat_le, nat_lt, refl, ap, sym, ◌∙◌, append-nil, arith}
+use Rattle.std.proofs.Common.{◌≡◌, ℕ, zero, suc, ◌+◌, ◌<◌, ◌≤◌, inl, inr, Bool, true, false, not, cond, ◌&&◌, Option, Some, None, List, [], ◌∷◌, ◌++◌, if◌then◌else◌, nat_le, nat_lt, refl, ap, sym, ◌∙◌, append-nil, arith}
 use Rattle.std.specs.List.{filter, list_all, last_or}
 use Rattle.std.proofs.lemmas.Bool.{false≢true, le-leb, lt-leb, leb-true, ltb-true, cases_lt, lt-ltb, le-ltb, cond-true, cond-false}
 use Rattle.std.proofs.lemmas.List.Elements.{filter_agree}
 use Rattle.std.proofs.lemmas.List.Folds.{list_all-append}
-use Rattle.std.proofs.lemmas.Option.{same_Some}
 use Rattle.plan_tables.specs.declared.devices.BallSettings.{BallSettings}
 use Rattle.device_objects.specs.declared.state.BallSwitch.{BallSwitch}
 use Rattle.device_objects.specs.BallDevice.{delay, empty, noted, turned}

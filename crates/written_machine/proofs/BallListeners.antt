@@ -1,11 +1,11 @@
 -- Which ball switches are told of a switch, and how.
-use Rattle.std.proofs.Common.{◌≡◌, ℕ, zero, suc, ◌+◌, ◌<◌, ◌≤◌, ◌==◌, ◌⊎◌, inl, inr, nat_lt, Bool, true, false, cond, ◌&&◌, ◌||◌, List, [], ◌∷◌, ◌++◌, length, slice_set, get_or, refl, ap, ap₂, sym, ◌∙◌, subst, arith}
-use Rattle.std.specs.List.{All, AllPairs, flat_map, list_any}
-use Rattle.std.proofs.lemmas.Bool.{and_from, and_parts, cases_Bool, cases_eq, cases_lt, cond-true, eq-eqb, eqb-true, false≢true, lt-ltb, ne_eqb, or_cases, or_parts}
-use Rattle.std.proofs.lemmas.List.{get_or_past, get_or-set_same, get_or-set_other}
+use Rattle.std.proofs.Common.{◌≡◌, ℕ, zero, suc, ◌<◌, ◌==◌, inl, inr, nat_lt, Bool, true, false, cond, ◌&&◌, ◌||◌, List, [], ◌∷◌, ◌++◌, length, get_or, refl, ap, ap₂, sym, ◌∙◌, subst, arith}
+use Rattle.std.specs.List.{All, AllPairs, flat_map}
+use Rattle.std.proofs.lemmas.Bool.{and_from, and_parts, cases_Bool, cases_eq, cond-true, eq-eqb, eqb-true, false≢true, lt-ltb, ne_eqb, or_cases}
+use Rattle.std.proofs.lemmas.List.{get_or-set_same, get_or-set_other}
 use Rattle.std.proofs.lemmas.List.Elements.{All-head, All-tail}
 use Rattle.plan_tables.specs.PlanView.{PlanView, PlanSwitch, act_of_listener, no_row, no_switch, row_at}
-use Rattle.plan_tables.specs.Valid.{IsListenerWithin, IsValid}
+use Rattle.plan_tables.specs.Valid.{IsValid}
 use Rattle.plan_tables.specs.Devices.{IsWithinLimits}
 use Rattle.plan_tables.specs.declared.devices.BallSettings.{BallSettings}
 use Rattle.plan_tables.specs.declared.devices.RowId.{RowId}
@@ -23,9 +23,8 @@ use Rattle.device_objects.specs.BallDevice as balls
 use Rattle.device_objects.specs.DeviceStep.{ball_answer, device_step, first_state}
 use Rattle.written_machine.specs.BallRows.{AreApart, BookingsAreRight, IsNoBallDevice, IsSwitchOf}
 use Rattle.written_machine.specs.Counted.{changes_of}
-use Rattle.written_machine.specs.Machine.{Machine, set_device, all_do, world_of, device_state, device_at, do_answer_by, confirm_entry, tell_listener}
-use Rattle.written_machine.proofs.BallSteps.{IsUsual}
-use Rattle.written_machine.proofs.BallPlays.{is_ball, not_both, one_row, call-other, IsOther}
+use Rattle.written_machine.specs.Machine.{Machine, set_device, all_do, world_of, device_at, do_answer_by, confirm_entry, tell_listener}
+use Rattle.written_machine.proofs.BallPlays.{is_ball, not_both, one_row, call-other}
 use Rattle.written_machine.proofs.BallCalm.{no_lag, IsCalm, other-calm}
 use Rattle.written_machine.proofs.BallCalls.{call-calm}
 use Rattle.written_machine.proofs.BallRuns.{usual-listener}

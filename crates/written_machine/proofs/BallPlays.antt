@@ -1,18 +1,16 @@
 -- What the parts of the machine do with balls: a ball device is called, a ball has arrived on the playfield, or nothing
 -- that concerns balls happens.
-use Rattle.std.proofs.Common.{◌≡◌, ℕ, ℤ, ◌+◌, ◌<◌, ◌≤◌, ◌==◌, ◌&&◌, inl, inr, ◌⊎◌, if◌then◌else◌, Bool, true, false, Option, Some, None, List, [], ◌∷◌, ◌++◌, length, refl, sym, ap, ◌∙◌, subst, arith}
-use Rattle.std.specs.Prelude.{find}
-use Rattle.std.specs.List.{All, flat_map, filter, range_with_len}
-use Rattle.std.proofs.lemmas.Bool.{cases_eq, cases_lt, false≢true}
+use Rattle.std.proofs.Common.{◌≡◌, ℕ, ℤ, ◌<◌, ◌==◌, ◌&&◌, inl, inr, ◌⊎◌, if◌then◌else◌, Bool, true, false, Option, Some, None, List, [], ◌∷◌, ◌++◌, length, refl, sym, ap, ◌∙◌, subst, arith}
+use Rattle.std.specs.List.{All, filter, range_with_len}
+use Rattle.std.proofs.lemmas.Bool.{cases_lt, false≢true}
 use Rattle.std.proofs.lemmas.List.{append-nil, get_or_past, length-set, get_or-set_other}
 use Rattle.std.proofs.lemmas.List.Concat.{flat_map-append}
-use Rattle.std.proofs.lemmas.List.Elements.{All-head, All-tail, All-get_or, All-nil, All-map, All-filter, All-from_get_or, All-weaker, filter_passes}
+use Rattle.std.proofs.lemmas.List.Elements.{All-head, All-tail, All-get_or, All-nil, All-map, All-filter, All-from_get_or, filter_passes}
 use Rattle.std.proofs.lemmas.List.FromFn.{length-range_with_len, get_or-range_with_len}
 use Rattle.std.proofs.lemmas.List.Sorted.{All-permutation}
 use Rattle.plan_tables.specs.PlanView.{PlanView, act_of_listener, actions_at, binding_at, coil_numbers, first_trough, game_event, is_owner, is_trough, list_of_row, listeners_of, mode_event, no_binding, no_row, no_switch, places_of, posts_of, row_at, row_numbers, rows_of, switch_at, work_of}
 use Rattle.plan_tables.specs.Valid.{HasEntries, IsBindingWithin, IsListenerWithin, IsTargetWithin}
 use Rattle.plan_tables.specs.Devices.{list_count}
-use Rattle.plan_tables.specs.declared.devices.Act.{Act}
 use Rattle.plan_tables.specs.declared.devices.Act.TheVariants as acts
 use Rattle.plan_tables.specs.declared.devices.BallSettings.{BallSettings}
 use Rattle.plan_tables.specs.declared.devices.BallTarget.TheVariants.{Playfield}
@@ -24,7 +22,6 @@ use Rattle.plan_tables.specs.declared.entries.Action.TheVariants.{Post, Pulse, E
 use Rattle.plan_tables.specs.declared.entries.BindingId.{BindingId}
 use Rattle.plan_tables.specs.declared.entries.CoilId.{CoilId}
 use Rattle.plan_tables.specs.declared.entries.EventId.{EventId}
-use Rattle.plan_tables.specs.declared.entries.GameEvent.{GameEvent}
 use Rattle.plan_tables.specs.declared.entries.ListId.{ListId}
 use Rattle.plan_tables.specs.declared.entries.Listener.{Listener}
 use Rattle.plan_tables.specs.declared.entries.ModeEvent.TheVariants.{WillStart, Starting, Started, Stopping, Stopped}
@@ -54,17 +51,16 @@ use Rattle.event_queue.specs.declared.queue.Posted.{Posted}
 use Rattle.event_queue.specs.Handlers.{runs_at, handlers, IsHandlerOrder}
 use Rattle.mode_stack.specs.ModeStep.{starts, started, stopped, stop_answer, entered, ended}
 use Rattle.mode_stack.specs.Modes.{needs_game, mode_state, running_of}
-use Rattle.player_game.specs.Players.{PlayersState, is_met, changed_to, after_change, score_of}
+use Rattle.player_game.specs.Players.{is_met, changed_to, after_change, score_of}
 use Rattle.player_game.specs.GameStep.{GameStep, game_step}
 use Rattle.switch_core.specs.declared.change.Change.{Change as Acceptance}
 use Rattle.written_machine.specs.declared.line.Happening.{Happening}
 use Rattle.written_machine.specs.declared.line.Happening.TheVariants as lines
-use Rattle.written_machine.specs.declared.line.Line.{Line}
 use Rattle.written_machine.specs.BallRows.{BooksNothing, actions_in, IsBallRow, BooksRightly, IsNoBallDevice, IsOffBalls, BookingsAreRight}
 use Rattle.written_machine.specs.Counted.{change_at, changes_of}
-use Rattle.written_machine.specs.EventStep.{taken, do_before, do_after, is_kept, work_before, work_after, before_handlers, after_event, handlers_in}
-use Rattle.written_machine.specs.Machine.{Machine, write, post, set_switches, set_mode, set_device, set_coils, set_players, set_game, all_do, has_game, post_if, start_mode, is_post, stop_mode, told, ask_coil, release_coil, release_coils, tell_change, change_variable, do_action_by, do_list_by, world_of, device_state, device_at, called, do_answer_by, call_device_by, confirm_first_away, confirm_entry, call_device, call_devices, do_target, do_binding, do_handler, home_of, post_game, write_final, write_finals, ask_trough, ask_ball, do_step, do_game, tell_listener, tell_listeners, confirm_on_playfield, do_accepted}
-use Rattle.written_machine.proofs.BallFeeders.{Found, find-found}
+use Rattle.written_machine.specs.EventStep.{taken, do_before, do_after, is_kept, before_handlers, after_event, handlers_in}
+use Rattle.written_machine.specs.Machine.{Machine, write, post, set_mode, set_device, set_coils, set_players, set_game, all_do, has_game, post_if, start_mode, is_post, stop_mode, told, ask_coil, release_coil, release_coils, tell_change, do_action_by, do_list_by, world_of, device_state, device_at, called, call_device_by, confirm_first_away, confirm_entry, call_device, call_devices, do_target, do_handler, home_of, write_final, write_finals, ask_trough, ask_ball, do_step, tell_listener, tell_listeners, confirm_on_playfield}
+use Rattle.written_machine.proofs.BallFeeders.{find-found}
 
 -- ---- what does not concern balls
 

@@ -1,12 +1,12 @@
 -- In every run the ledger is in step with the devices.
-use Rattle.std.proofs.Common.{◌≡◌, ℕ, zero, suc, ◌+◌, ◌<◌, ◌≤◌, inl, inr, cond, Bool, true, false, Option, Some, None, List, [], ◌∷◌, ◌++◌, length, map, replicate, refl, sym, ap, ◌∙◌, subst, arith}
-use Rattle.std.specs.List.{count_by, filter}
+use Rattle.std.proofs.Common.{◌≡◌, ℕ, ◌<◌, inl, inr, cond, Bool, true, false, Option, Some, None, List, [], ◌∷◌, length, map, refl, sym, ap, ◌∙◌, subst, arith}
+use Rattle.std.specs.List.{count_by}
 use Rattle.std.proofs.lemmas.Bool.{cases_lt}
 use Rattle.std.proofs.lemmas.Option.{none-some}
 use Rattle.std.proofs.lemmas.List.{get_or_past, length-map, length-replicate, get_or-map, get_or-replicate}
 use Rattle.std.proofs.lemmas.List.Sums.{sum_by-cons}
 use Rattle.plan_tables.specs.PlanView.{PlanView, act_of_listener, feeders_of, feeds, no_row, row_at, row_numbers}
-use Rattle.plan_tables.specs.Valid.{IsTargetThere, IsValid}
+use Rattle.plan_tables.specs.Valid.{IsValid}
 use Rattle.plan_tables.specs.declared.devices.Act.TheVariants as acts
 use Rattle.plan_tables.specs.declared.devices.BallSettings.{BallSettings}
 use Rattle.plan_tables.specs.declared.devices.BallTarget.{BallTarget}
@@ -15,7 +15,6 @@ use Rattle.plan_tables.specs.declared.devices.RowId.{RowId}
 use Rattle.plan_tables.specs.declared.devices.Settings.TheVariants as kinds
 use Rattle.plan_tables.specs.declared.entries.Listener.{Listener}
 use Rattle.plan_tables.specs.declared.entries.Owner.TheVariants as owners
-use Rattle.plan_tables.specs.declared.entries.SwitchId.{SwitchId}
 use Rattle.ball_devices.specs.Ledger.{no_balls, counted_in, transit_to}
 use Rattle.ball_devices.proofs.Ledgers.{new-is}
 use Rattle.device_objects.specs.declared.device.Call.{Call}
@@ -27,16 +26,15 @@ use Rattle.device_objects.proofs.BallShapes.{first_ball-shape}
 use Rattle.switch_core.specs.declared.change.Change.{Change as Acceptance}
 use Rattle.switch_core.specs.Switches.{after_change, reported_by_change, accept, reported}
 use Rattle.written_machine.specs.declared.line.Happening.TheVariants as lines
-use Rattle.written_machine.specs.declared.line.Line.{Line}
 use Rattle.written_machine.specs.BallRows.{BookingsAreRight}
-use Rattle.written_machine.specs.EventStep.{EventStep, after_event}
+use Rattle.written_machine.specs.EventStep.{EventStep}
 use Rattle.written_machine.specs.Machine.{Machine, initial, write, set_switches, device_state, device_at, is_device_away, tell_listeners, do_accepted, do_if_accepted}
-use Rattle.written_machine.specs.Run.{switch, device, Stimulus, Change, Alarm, Wait, IsAllowed, arrived, begin, IsRun, InEveryRun}
+use Rattle.written_machine.specs.Run.{switch, device, Stimulus, Change, Alarm, Wait, IsAllowed, arrived, begin, InEveryRun}
 use Rattle.written_machine.proofs.Keeps.{run-keeps}
-use Rattle.written_machine.proofs.BallSteps.{balls_in, IsUsual}
+use Rattle.written_machine.proofs.BallSteps.{IsUsual}
 use Rattle.written_machine.proofs.BallFeeders.{filter-same}
-use Rattle.written_machine.proofs.BallPlays.{Plays, call-plays, listeners-play, accepted-plays, event-plays}
-use Rattle.written_machine.proofs.BallCalm.{balls_at, IsBallState, no_lag, IsCalm, IsFeeder, feeder, calm-other}
+use Rattle.written_machine.proofs.BallPlays.{call-plays, listeners-play, accepted-plays, event-plays}
+use Rattle.written_machine.proofs.BallCalm.{balls_at, no_lag, IsCalm, feeder, calm-other}
 use Rattle.written_machine.proofs.BallCalls.{plays-calm}
 
 -- only requests come with events

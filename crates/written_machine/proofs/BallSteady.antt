@@ -1,5 +1,5 @@
 -- Only the calls of switches, and alarms, concern the ball switches of a device.
-use Rattle.std.proofs.Common.{◌≡◌, ℕ, ◌+◌, ◌<◌, ◌≤◌, ◌&&◌, inl, inr, ◌⊎◌, if◌then◌else◌, nat_le, Bool, true, false, Option, Some, None, List, [], ◌∷◌, ◌++◌, length, slice_set, refl, sym, ap, ◌∙◌, subst, arith}
+use Rattle.std.proofs.Common.{◌≡◌, ℕ, ◌+◌, ◌&&◌, inl, inr, if◌then◌else◌, nat_le, Bool, true, false, Option, Some, None, List, [], ◌∷◌, length, refl, sym, ap, ◌∙◌, subst}
 use Rattle.std.proofs.lemmas.Bool.{cases_eq, cases_lt, cond_both}
 use Rattle.std.proofs.lemmas.List.{append-nil, length-set, get_or-set_same, get_or-set_other, set_past}
 use Rattle.std.proofs.lemmas.List.Concat.{flat_map-append}
@@ -14,7 +14,6 @@ use Rattle.plan_tables.specs.declared.devices.Settings.TheVariants as kinds
 use Rattle.plan_tables.specs.declared.entries.Action.{Action}
 use Rattle.plan_tables.specs.declared.entries.Action.TheVariants.{Post, Pulse, Enable, Disable, Change as ChangeVariable, Enter, Leave, Lose, Arrive}
 use Rattle.plan_tables.specs.declared.entries.GameEvent.TheVariants.{BallDrain}
-use Rattle.plan_tables.specs.declared.entries.ListId.{ListId}
 use Rattle.plan_tables.specs.declared.entries.Owner.{Owner}
 use Rattle.plan_tables.specs.declared.entries.SwitchId.{SwitchId}
 use Rattle.ball_devices.specs.declared.booking.Origin.{Origin}
@@ -38,10 +37,10 @@ use Rattle.player_game.specs.GameStep.{is_ball_on}
 use Rattle.written_machine.specs.declared.line.Happening.TheVariants as lines
 use Rattle.written_machine.specs.declared.line.Line.{Line}
 use Rattle.written_machine.specs.Counted.{change_at, changes_of}
-use Rattle.written_machine.specs.Machine.{Machine, write, post, set_device, set_ledger, all_do, counts_of, book, drain_if, after_entry, do_action_by, do_list_by, world_of, device_state, device_at, called, do_answer_by, call_device_by, first_away, no_confirm, confirm_of, confirm_first_away, confirm_entry, call_device}
+use Rattle.written_machine.specs.Machine.{Machine, post, set_device, set_ledger, all_do, counts_of, book, drain_if, after_entry, do_action_by, do_list_by, world_of, device_state, device_at, called, do_answer_by, call_device_by, first_away, no_confirm, confirm_of, confirm_first_away, confirm_entry}
 use Rattle.written_machine.proofs.Does.{book-by}
 use Rattle.written_machine.proofs.BallSteps.{begin-begun}
-use Rattle.written_machine.proofs.BallPlays.{IsOther, one_row, same-other, write-other, post-other, then-other, action-other, Plays, still, ball, arrival, both}
+use Rattle.written_machine.proofs.BallPlays.{IsOther, one_row, post-other, action-other, Plays, still, ball, arrival, both}
 
 -- the state of a ball device
 abbrev pub ball_of : DeviceState → BallState

@@ -1,5 +1,5 @@
 -- What each call of a ball device leads to: how many balls count in it then, whether it is Away, and what its lists book.
-use Rattle.std.proofs.Common.{◌≡◌, ℕ, suc, ◌+◌, ◌-◌, ◌<◌, ◌≤◌, min, inl, inr, ◌⊎◌, Bool, true, false, not, cond, Option, None, Some, List, [], ◌∷◌, ◌++◌, ◌&&◌, length, get_or, set, replicate, nat_lt, nat_le, if◌then◌else◌, refl, sym, ap, ◌∙◌, arith}
+use Rattle.std.proofs.Common.{◌≡◌, ℕ, suc, ◌+◌, ◌<◌, ◌≤◌, min, inl, inr, ◌⊎◌, Bool, true, false, not, cond, Option, None, Some, List, [], ◌∷◌, ◌&&◌, length, nat_lt, nat_le, refl, sym, ap, ◌∙◌, arith}
 use Rattle.std.specs.List.{count_by}
 use Rattle.std.proofs.lemmas.Bool.{and_parts, cases_lt, cond_both, false≢true}
 use Rattle.std.proofs.lemmas.List.{get_or_past, set_past}
@@ -19,7 +19,6 @@ use Rattle.device_objects.specs.declared.state.BallState.{BallState}
 use Rattle.device_objects.specs.declared.state.Eject.{Eject}
 use Rattle.device_objects.specs.declared.state.Eject.TheVariants.{Idle, Pulsing, Away}
 use Rattle.device_objects.specs.BallDevice.{empty, switch_at, set_switch, first_due, timeout_of, is_timeout_first, entered, attempted, left, lost, succeeded, arrived, failed, attempt, can_begin, is_idle, is_away, begin, after, ended, stuck, may_try_again, overdue, confirmed, time_out, confirm, noted, switched, turned, gone, count, count_due, fire, requested, act_step, ball_step}
-use Rattle.device_objects.specs.Laws.{HasBallShape}
 use Rattle.device_objects.proofs.BallDue.{first_due-is_due}
 use Rattle.ball_devices.proofs.Booked.{one}
 
@@ -138,9 +137,6 @@ module _ (d : BallSettings) (enter : Type 0) where
       (λ none. loses t fewer (ap is_away same))
   gone-answer now (Pulsing a) s t is same fewer = leaves (record t { eject = Away a }) fewer (ap is_away is) refl
   gone-answer now (Away a) s t is same fewer = loses t fewer (ap is_away same)
-
-
-
 
   count-answer : enter → (now i : ℕ) (s : BallState) → i < length s.switches → IsAnswer enter s (count d now i s)
   count-answer may now i s within =

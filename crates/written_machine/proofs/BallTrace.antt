@@ -1,5 +1,5 @@
 -- In every run all that the ledger books stands in the trace, with the counts that follow from it.
-use Rattle.std.proofs.Common.{◌≡◌, ℕ, zero, suc, ◌+◌, ◌^◌, ◌<◌, ◌≤◌, ◌⊎◌, inl, inr, nat_lt, Bool, true, false, ◌&&◌, List, [], ◌∷◌, ◌++◌, length, length-append, get_or, drop, refl, sym, ap, ◌∙◌, subst, append_assoc, arith}
+use Rattle.std.proofs.Common.{◌≡◌, ℕ, ◌+◌, ◌^◌, ◌<◌, ◌⊎◌, inl, inr, nat_lt, true, ◌&&◌, List, [], ◌∷◌, ◌++◌, length, length-append, get_or, drop, refl, sym, ap, ◌∙◌, subst, append_assoc, arith}
 use Rattle.std.proofs.lemmas.Bool.{and_parts, ltb-true}
 use Rattle.std.proofs.lemmas.List.{append-nil, ext_get_or, length-replicate}
 use Rattle.std.proofs.lemmas.List.Concat.{flat_map-append}
@@ -10,23 +10,22 @@ use Rattle.plan_tables.specs.declared.devices.BallTarget.TheVariants.{Playfield,
 use Rattle.plan_tables.specs.declared.devices.RowId.{RowId}
 use Rattle.plan_tables.specs.declared.entries.Owner.{Owner}
 use Rattle.ball_devices.specs.declared.booking.Booking.{Booking}
-use Rattle.ball_devices.specs.declared.booking.Booking.TheVariants.{Entered, Left, Lost, Arrived}
+use Rattle.ball_devices.specs.declared.booking.Booking.TheVariants.{Entered}
 use Rattle.ball_devices.specs.declared.booking.Origin.{Origin}
 use Rattle.ball_devices.specs.Ledger.{Ledger, no_balls, counted_in, transit_to, all_counted, all_in_transit, total, origin_of, IsBalanced, IsLedger}
 use Rattle.ball_devices.specs.Bookings.{LedgerCall, Enter, Leave, Lose, Arrive, MayBook, MayBookAll, after_call, after_calls, booked, booked_by, can_book, is_target_there, HasBooked, origin_after}
 use Rattle.ball_devices.proofs.Ledgers.{new-is, calls-are, call-is}
-use Rattle.ball_devices.proofs.Booked.{Tells, call-told, balls_are_somewhere, ledgers_follow_bookings, origins_are_by_bookings}
+use Rattle.ball_devices.proofs.Booked.{call-told, balls_are_somewhere, ledgers_follow_bookings, origins_are_by_bookings}
 use Rattle.cascade_rank.specs.Cost.{Cost}
-use Rattle.event_queue.specs.declared.queue.Posted.{Posted}
 use Rattle.written_machine.specs.declared.line.BallCounts.{BallCounts}
 use Rattle.written_machine.specs.declared.line.Happening.{Happening}
 use Rattle.written_machine.specs.declared.line.Happening.TheVariants as lines
 use Rattle.written_machine.specs.declared.line.Line.{Line}
 use Rattle.written_machine.specs.Counted.{booked_at, bookings, AreOriginsRight, AreCountsRight}
 use Rattle.written_machine.specs.EventStep.{taken, EventStep}
-use Rattle.written_machine.specs.Machine.{Machine, initial, write, set_ledger, told, counts_of}
+use Rattle.written_machine.specs.Machine.{Machine, initial, write, told, counts_of}
 use Rattle.written_machine.specs.Moves.{Move, Wrote, Sent, Switched, Began, Ended, Marked, Turned, Asked, Booked as Books, Varied, Stepped, do_move, Licence, MayDo, Does, IsNoBooking, TakesPart, Begins, ordinary, working}
-use Rattle.written_machine.specs.Run.{Stimulus, moment_of, IsAllowed, arrived, begin, IsRun, InEveryRun}
+use Rattle.written_machine.specs.Run.{Stimulus, IsAllowed, begin, IsRun, InEveryRun}
 use Rattle.written_machine.proofs.Does.{start-by, stop-by, book-by, does-keeps}
 use Rattle.written_machine.proofs.Parts.{does-before, does-after, does-begin}
 use Rattle.written_machine.proofs.Keeps.{step-keeps, run-keeps}

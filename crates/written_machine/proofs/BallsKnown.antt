@@ -1,5 +1,5 @@
 -- In every run of an accepted plan the ledger says where the known balls are.
-use Rattle.std.proofs.Common.{◌≡◌, ℕ, ◌+◌, arith}
+use Rattle.std.proofs.Common.{arith}
 use Rattle.written_machine.specs.GoodRun.{AreBallsKnown}
 use Rattle.written_machine.specs.CheckedView.{CheckedView}
 use Rattle.written_machine.specs.Accepted.{IsAccepted}
