@@ -20,7 +20,7 @@ use Rattle.plan_rows.specs.declared.seats.Seat as seats
 use Rattle.plan_rows.specs.declared.members.Members as members
 use Rattle.plan_rows.specs.Seats.{Seat}
 use Rattle.plan_rows.specs.Members.{Members}
-use Rattle.plan_contributions.specs.DeviceEntries.{Deed, pulse, enable, disable, Effect, posts, works, changes}
+use Rattle.plan_contributions.specs.DeviceEntries.{Deed, pulse, enable, disable, Effect, posts, works, changes, enters, leaves, loses, arrives}
 use Rattle.plan_contributions.specs.declared.contribution.Contribution as contributions
 use Rattle.plan_contributions.specs.declared.contribution.Contribution.TheVariants as contribution
 use Rattle.plan_contributions.specs.Contributions.{Contribution, gives, reads, active, inactive, mode, mode_event, binds, does, device, does_in, listens, mentions, unknown, coil, under, plays}
@@ -42,10 +42,14 @@ abbrev pub effect_view : effects.Effect → Effect
 effect_view (effect.Post n) = posts (parts_text n)
 effect_view (effect.Coil n d) = works n.now (deed_view d)
 effect_view (effect.Variable n action number) = changes n.now action number
+effect_view (effect.Enter n drain) = enters (parts_text n) drain
+effect_view effect.Leave = leaves
+effect_view effect.Lose = loses
+effect_view effect.Arrive = arrives
 
 abbrev pub contribution_view : contributions.Contribution → Contribution
 contribution_view (contribution.Gives table n) = gives table n.now
-contribution_view (contribution.Reads kind) = reads kind
+contribution_view (contribution.Reads kind confirms) = reads kind confirms
 contribution_view (contribution.Active n) = active (parts_text n)
 contribution_view (contribution.Inactive n) = inactive (parts_text n)
 contribution_view (contribution.Mode n priority game) = mode n.now priority game
