@@ -425,8 +425,11 @@ module _ (rows : Rows) where
         flat_map-append (told row_given silent rows.machine) (text_rows rows Machine 0 rows.machine) (modes_rows rows after rows.modes) ∙ ap (λ l. l ++ later) (rows_told_are Machine 0 rows.machine rows) in
         All-append R (text_rows rows Machine 0 rows.machine) (modes_rows rows after rows.modes)
         (text_is Machine 0 rows.machine [] later refl split (λ name is. ball_row split name) (λ i d within is. h i d within))
-        (modes_are after rows.modes own (rows_counted Machine 0 rows.machine) split)
+        (modes_are after rows.modes own (counted own after (rows_counted Machine 0 rows.machine)) split)
       where
+        counted : (own : List Bool) (after : ℕ) → 0 + length own ≡ after → length own ≡ after
+        counted own after same = omega (arith, same)
+
         ball_row : row_kinds ≡ rows_of_text Machine rows.machine ++ rows_told rows.machine (modes_rows rows (rows_after_text Machine 0 rows.machine) rows.modes) → (name : List ℕ) → IsBallRow row_kinds (destination_of Machine 0 rows.machine name)
         ball_row split name = by (bytes_eq name playfield) (ball_row_of Machine 0 rows.machine name) (ball_row_at 0 rows.machine name)
           where
