@@ -1,7 +1,7 @@
 -- What the contributions of every configuration say of balls: the rows of ball devices are as they are to be, they alone
 -- have to do with balls, and no event acts on them.
-use Rattle.std.proofs.Common.{◌≡◌, ℕ, zero, suc, ◌+◌, ◌<◌, ◌≤◌, ◌==◌, ◌||◌, Bool, true, false, if◌then◌else◌, List, [], ◌∷◌, ◌++◌, length, map, min, get_or, true≢false, refl, sym, ◌∙◌, ap, subst, arith, codes}
-use Rattle.std.specs.Prelude.{Option, None, Some, option_map, IfSome, slice_get, ◌&&◌, ◌≢◌}
+use Rattle.std.proofs.Common.{◌≡◌, ℕ, suc, ◌+◌, ◌<◌, ◌≤◌, ◌==◌, Bool, true, false, if◌then◌else◌, List, [], ◌∷◌, ◌++◌, length, map, get_or, true≢false, refl, sym, ◌∙◌, ap, subst, arith, codes}
+use Rattle.std.specs.Prelude.{Option, None, Some, option_map, IfSome, slice_get, ◌≢◌}
 use Rattle.std.specs.Str.{bytes_eq}
 use Rattle.std.specs.List.{All, AllPairs, flat_map, list_any}
 use Rattle.std.proofs.lemmas.Bool.{or_left}
@@ -31,10 +31,10 @@ use Rattle.plan_rows.specs.Rows.{alone, rows_from, rows_in, modes_rows, rows_of}
 use Rattle.plan_contributions.specs.declared.contribution.Aim.{Aim}
 use Rattle.plan_contributions.specs.declared.contribution.Aim.TheVariants.{Run, Start, Stop, Do, On}
 use Rattle.plan_contributions.specs.CoilEntries.{defaults_called, own_pulse}
-use Rattle.plan_contributions.specs.DeviceEntries.{texts, Effect, posts, works, changes, enters, leaves, loses, arrives}
-use Rattle.plan_contributions.specs.BallEntries.{is_entry, is_game, has_game, drains, ball_event, eject_pulse, attempt_effects, ball_lists, target_of, ball_settings, ball_device_from}
+use Rattle.plan_contributions.specs.DeviceEntries.{texts, Effect, posts, works, enters, leaves, loses, arrives}
+use Rattle.plan_contributions.specs.BallEntries.{is_entry, is_game, has_game, drains, ball_event, eject_pulse, ball_lists, target_of, ball_settings, ball_device_from}
 use Rattle.plan_contributions.specs.Contributions.{Contribution, binds, does, device, does_in, listens, mentions, under, Device, act_binding, effects_from, listens_from, device_contributions, game_contributions, alone_contributions, row_contributions, given_by, contributions_of}
-use Rattle.plan_contributions.specs.BallFacts.{BooksNothing, IsNoBallDevice, IsSwitchOf, AreBallLists, IsRightRow, LastRow, first_row, last_after, IsRight, IsFitting, AreFitting, row_settings, settings_given, IsTargetAmong, HasTarget, IsOffBalls, is_plays, DrainsIn, DrainsInGame, AllDrainInGame, heard_after, AreHeardOnce}
+use Rattle.plan_contributions.specs.BallFacts.{BooksNothing, IsNoBallDevice, IsSwitchOf, IsRightRow, LastRow, last_after, IsRight, IsFitting, AreFitting, row_settings, IsTargetAmong, HasTarget, IsOffBalls, is_plays, DrainsIn, DrainsInGame, AllDrainInGame, AreHeardOnce}
 use Rattle.plan_contributions.specs.Doing.{IsBallDeviceDoing, IsMachineDoing, AreDoing}
 use Rattle.plan_contributions.proofs.Before.{each_before, all_before, under_before, All-bound, each_some}
 use Rattle.plan_contributions.proofs.RowFacts.{All-each, All-made, All-listens, All-lists, one, attempts, seven}

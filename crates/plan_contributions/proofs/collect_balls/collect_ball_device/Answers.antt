@@ -1,4 +1,4 @@
-use Rattle.std.proofs.Common.{Bool, List, ℕ, ◌++◌, map, ap, sym, ◌∙◌}
+use Rattle.std.proofs.Common.{Bool, ◌++◌, map, ap, ◌∙◌}
 use Rattle.plan_tables.specs.declared.table.Table.TheVariants.{Events}
 use Rattle.plan_rows.specs.declared.place.Place.TheVariants.{Machine}
 use Rattle.mpf_sections.specs.View.{ball_device_view}

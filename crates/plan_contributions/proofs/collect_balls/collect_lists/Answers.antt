@@ -1,4 +1,4 @@
-use Rattle.std.proofs.Common.{Bool, List, ℕ, ◌++◌, [], ◌∷◌, map, ap, ◌∙◌, codes}
+use Rattle.std.proofs.Common.{List, ℕ, ◌++◌, [], ◌∷◌, map, ap, ◌∙◌, codes}
 use Rattle.mpf_sections.specs.View.{ball_device_view}
 use Rattle.plan_contributions.specs.DeviceEntries.{enters}
 use Rattle.plan_contributions.specs.BallEntries.{drains, ball_event, attempt_effects, later_lists}
