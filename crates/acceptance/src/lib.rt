@@ -5,6 +5,8 @@
 #![tactic(auto)]
 
 #[cfg(test)]
+mod ball_fault_rows;
+#[cfg(test)]
 mod ball_games;
 #[cfg(test)]
 mod ball_rows;

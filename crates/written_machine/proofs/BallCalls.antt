@@ -42,7 +42,7 @@ use Rattle.written_machine.specs.Machine.{Machine, post, set_device, all_do, boo
 use Rattle.written_machine.proofs.BallSteps.{balls_in, IsQuiet, AreQuiet, Answer, nothing, enters, leaves, loses, arrives, IsAnswer, IsUsual, step-answer, confirm-answer, step-confirmed}
 use Rattle.written_machine.proofs.BallFeeders.{Found, find-found, row-counts}
 use Rattle.written_machine.proofs.BallPlays.{IsOther, nothing-other, then-other, post-other, list-other, Plays, still, ball, arrival, both}
-use Rattle.written_machine.proofs.BallCalm.{balls_at, no_lag, lag_at, limit, IsCalm, feeder, one-no, one-yes, book-by, other-calm, room, turned-calm}
+use Rattle.written_machine.proofs.BallCalm.{balls_at, no_lag, lag_at, limit, IsCalm, feeder, one-no, one-yes, surely_booked, other-calm, room, turned-calm}
 
 is_target-itself : (a : BallTarget) → is_target a a ≡ true
 is_target-itself Playfield = refl
@@ -107,7 +107,7 @@ module _ (plan : PlanView) (valid : IsValid plan) (right : BookingsAreRight plan
           → (owner : Owner) → IsCalm plan later (book owner c (set_device r (states.BallDevice t) s))
       booked-calm t shape c may fits balls about later moves owner =
           let tells = call-told s.ledger h.ledger.rows c may in
-          book-by (IsCalm plan later) owner c (set_device r (states.BallDevice t) s) may
+          surely_booked (IsCalm plan later) owner c (set_device r (states.BallDevice t) s) may
           (turned-calm plan s r d within is b t was shape _ refl h tells.rows (call-is c s.ledger h.ledger may)
           (let known = tells.known in omega (arith, known, fits))
           (let here = tells.counted r row_counted in omega (arith, here, balls, held_here))

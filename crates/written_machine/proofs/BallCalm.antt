@@ -123,10 +123,10 @@ can (ledger_calls.Arrive target) l may =
     and_from (is_target_there (length l.counted) target) (nat_lt 0 (transit_to l target))
     (can-there (length l.counted) target may.0) (lt-ltb 0 (transit_to l target) may.1)
 
-pub book-by : (P : Machine → Type 0) (owner : Owner) (c : LedgerCall) (s : Machine) → MayBook c s.ledger
+pub surely_booked : (P : Machine → Type 0) (owner : Owner) (c : LedgerCall) (s : Machine) → MayBook c s.ledger
     → P (write owner (lines.Balls (booked c s.ledger) (counts_of (after_call c s.ledger))) (set_ledger (after_call c s.ledger) s))
     → P (book owner c s)
-book-by P owner c s may h =
+surely_booked P owner c s may h =
     subst P
     (sym (ap (λ (b : Bool).
     if b then write owner (lines.Balls (booked c s.ledger) (counts_of (after_call c s.ledger))) (set_ledger (after_call c s.ledger) s) else s)
