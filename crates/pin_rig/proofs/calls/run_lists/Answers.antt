@@ -11,7 +11,7 @@ use Rattle.pin_rig.specs.Core.{CoreView, CanCall, HasRoom, after}
 use Rattle.pin_rig.proofs.Callable.{actions-within, can-act_all}
 use Rattle.pin_rig.proofs.Room.{room-first, all_do-first}
 use Rattle.pin_rig.proofs.Listing.{list-grows}
-use Rattle.pin_rig.proofs.parts.run_lists.Goals as goal
+use Rattle.pin_rig.proofs.calls.run_lists.Goals as goal
 
 pub run_actions-requires-clause-room : goal.run_actions-requires-clause-room
 run_actions-requires-clause-room g c =

@@ -6,7 +6,7 @@ use Rattle.written_machine.specs.Machine.{called, set_device}
 use Rattle.pin_rig.specs.Core.{CoreView, after}
 use Rattle.pin_rig.proofs.Callable.{can-turn}
 use Rattle.pin_rig.proofs.Listing.{answer-lists}
-use Rattle.pin_rig.proofs.parts.call_device.Goals as goal
+use Rattle.pin_rig.proofs.calls.call_device.Goals as goal
 
 pub run_lists-requires-clause-lists : goal.run_lists-requires-clause-lists
 run_lists-requires-clause-lists g c =

@@ -7,7 +7,7 @@ use Rattle.written_machine.proofs.Growth.{action-grows}
 use Rattle.pin_rig.specs.Core.{CoreView, CanCall, after}
 use Rattle.pin_rig.proofs.Callable.{can-act}
 use Rattle.pin_rig.proofs.Room.{room-first, all_do-first}
-use Rattle.pin_rig.proofs.parts.run_actions.Goals as goal
+use Rattle.pin_rig.proofs.calls.run_actions.Goals as goal
 
 none : Action
 none = Post (record { 0 = 0 })

@@ -6,7 +6,7 @@ use Rattle.plan_tables.specs.declared.entries.Action.{Action}
 use Rattle.plan_tables.specs.declared.entries.Action.TheVariants.{Change}
 use Rattle.written_machine.specs.Machine.{change_variable, do_action}
 use Rattle.pin_rig.specs.Core.{HasRoom, after}
-use Rattle.pin_rig.proofs.parts.run_action.Goals as goal
+use Rattle.pin_rig.proofs.actions.run_alone.Goals as goal
 
 pub change_variable-requires-clause-variable : goal.change_variable-requires-clause-variable
 change_variable-requires-clause-variable g c =

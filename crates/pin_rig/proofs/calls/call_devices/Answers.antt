@@ -7,8 +7,8 @@ use Rattle.written_machine.specs.Machine.{all_do, call_device, call_devices}
 use Rattle.pin_rig.specs.Core.{CoreView, CanCall, after}
 use Rattle.pin_rig.proofs.Room.{room-first, all_do-first}
 use Rattle.pin_rig.proofs.Listing.{call_rows, call-grows, call-calls, own-first, other-first, rows-end}
-use Rattle.pin_rig.proofs.parts.call_devices.Goals as goal
-use Rattle.pin_rig.proofs.parts.call_devices.Goals.{then-is_of, else-is_of}
+use Rattle.pin_rig.proofs.calls.call_devices.Goals as goal
+use Rattle.pin_rig.proofs.calls.call_devices.Goals.{then-is_of, else-is_of}
 
 pub call_device-requires-clause-room : goal.call_device-requires-clause-room
 call_device-requires-clause-room g c =
