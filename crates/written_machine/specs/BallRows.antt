@@ -2,7 +2,7 @@
 use Rattle.std.specs.Prelude.{◌≡◌, ℕ, ◌<◌, Bool, List, [], ◌∷◌, length}
 use Rattle.std.specs.List.{All, AllPairs, flat_map}
 use Rattle.plan_tables.specs.Devices.{list_count}
-use Rattle.plan_tables.specs.PlanView.{PlanView, actions_at, actions_of_target, list_of_row, row_at}
+use Rattle.plan_tables.specs.PlanView.{PlanView, actions_at, list_of_row, row_at}
 use Rattle.plan_tables.specs.declared.devices.RowId.{RowId}
 use Rattle.plan_tables.specs.declared.devices.Settings.{Settings}
 use Rattle.plan_tables.specs.declared.devices.Settings.TheVariants as kinds

@@ -1,5 +1,5 @@
 -- What a trace says of balls: what the ledger has booked, and which ball switches count as holding one.
-use Rattle.std.specs.Prelude.{ℕ, ◌+◌, ◌==◌, Bool, false, if◌then◌else◌, nat_le, nat_lt, Option, None, Some, List, [], ◌∷◌, filter}
+use Rattle.std.specs.Prelude.{◌≡◌, ℕ, ◌+◌, ◌==◌, Bool, false, if◌then◌else◌, nat_le, nat_lt, Option, None, Some, List, [], ◌∷◌, ◌++◌, length, filter}
 use Rattle.std.specs.List.{flat_map, list_all, list_any, last_or}
 use Rattle.plan_tables.specs.PlanView.{PlanView, listeners_of, switch_at}
 use Rattle.plan_tables.specs.declared.devices.BallSettings.{BallSettings}
@@ -7,10 +7,16 @@ use Rattle.plan_tables.specs.declared.devices.RowId.{RowId}
 use Rattle.plan_tables.specs.declared.entries.SwitchId.{SwitchId}
 use Rattle.cascade_rank.specs.Cost.{switches_of}
 use Rattle.ball_devices.specs.declared.booking.Booking.{Booking}
+use Rattle.ball_devices.specs.declared.booking.Booking.TheVariants.{Entered}
+use Rattle.ball_devices.specs.declared.booking.Origin.{Origin}
+use Rattle.ball_devices.specs.Ledger.{Ledger}
+use Rattle.ball_devices.specs.Bookings.{HasBooked, origin_after}
 use Rattle.device_objects.specs.BallDevice.{delay}
+use Rattle.written_machine.specs.declared.line.BallCounts.{BallCounts}
 use Rattle.written_machine.specs.declared.line.Line.{Line}
 use Rattle.written_machine.specs.declared.line.Happening.{Happening}
 use Rattle.written_machine.specs.declared.line.Happening.TheVariants as lines
+use Rattle.written_machine.specs.Machine.{counts_of}
 
 -- ---- bookings
 

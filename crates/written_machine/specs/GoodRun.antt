@@ -1,11 +1,17 @@
 -- What is promised of every run.
 use Rattle.std.specs.Prelude.{◌≡◌, ℕ, ◌+◌, ◌<◌, ◌≤◌, false, true, Option, Some, None, List, [], ◌∷◌, length}
-use Rattle.plan_tables.specs.PlanView.{PlanView, row_at, switch_at}
+use Rattle.plan_tables.specs.PlanView.{PlanView, feeders_of, row_at, switch_at}
+use Rattle.plan_tables.specs.Valid.{IsTargetThere}
 use Rattle.plan_tables.specs.declared.entries.EventId.{EventId}
 use Rattle.plan_tables.specs.declared.entries.SwitchId.{SwitchId}
 use Rattle.plan_tables.specs.declared.entries.ModeId.{ModeId}
 use Rattle.plan_tables.specs.declared.entries.Owner.TheVariants as owners
 use Rattle.plan_tables.specs.declared.devices.RowId.{RowId}
+use Rattle.plan_tables.specs.declared.devices.BallTarget.{BallTarget}
+use Rattle.plan_tables.specs.declared.devices.BallSettings.{BallSettings}
+use Rattle.plan_tables.specs.declared.devices.Settings.TheVariants.{BallDevice}
+use Rattle.ball_devices.specs.Ledger.{IsBalanced, counted_in, transit_to}
+use Rattle.ball_devices.specs.Bookings.{HasBooked}
 use Rattle.device_objects.specs.declared.device.Call.TheVariants as calls
 use Rattle.switch_core.specs.declared.change.Change.{Change as Acceptance}
 use Rattle.switch_core.specs.SwitchStep.{raw_at_rest}
@@ -15,16 +21,17 @@ use Rattle.switch_core.specs.Calls.{raw_changes}
 use Rattle.cascade_rank.specs.Cost.{Cost, Lines, price, cost_of_acceptance, cost_of_call}
 use Rattle.cascade_rank.specs.Events.{weight_of}
 use Rattle.event_queue.specs.declared.queue.Posted.{Posted}
-use Rattle.written_machine.specs.Machine.{Machine}
+use Rattle.written_machine.specs.Machine.{Machine, device_at, is_device_away}
 use Rattle.written_machine.specs.EventStep.{EventStep}
 use Rattle.written_machine.specs.Run.{Source, switch, device, source_due, Stimulus, Change, Alarm, Wait, IsNoAlarmDueBy, InEveryRun, InEveryCascade}
 use Rattle.written_machine.specs.SwitchCalls.{switch_calls}
 use Rattle.written_machine.specs.Silent.{HasStarted, IsSilent}
 use Rattle.written_machine.specs.Sent.{sendings, AreSkippedIdle}
+use Rattle.written_machine.specs.Counted.{bookings, AreOriginsRight, AreCountsRight, ball_switches, is_counted}
 use Rattle.coil_guard.specs.Limits.{limits_at, IsWithin}
 use Rattle.coil_guard.specs.SentCommands.{is_held_for, IsOnThroughout}
 use Rattle.coil_guard.specs.Asked.{limits_of}
-use Rattle.std.specs.List.{All}
+use Rattle.std.specs.List.{All, count_by}
 use Rattle.plan_tables.specs.declared.entries.CoilId.{CoilId}
 use Rattle.written_machine.specs.CheckedView.{CheckedView}
 
@@ -80,7 +87,7 @@ pub record AreBallsKnown (c : CheckedView) : Type 0 where
   -- As many balls are in transit to a target as devices are Away to it.
   pub away : InEveryRun c.plan (λ stimuli trace s.
       (target : BallTarget) → IsTargetThere (length c.plan.rows) target →
-      transit_to s.ledger target ≡ count_by (λ r. is_away (device_at s r)) (feeders_of c.plan target))
+      transit_to s.ledger target ≡ count_by (λ r. is_device_away (device_at s r)) (feeders_of c.plan target))
   -- When nothing is due at or before a moment, as many balls are in a device as it has ball switches at which one counts.
   pub counted : InEveryRun c.plan (λ stimuli trace s.
       (at : ℕ) → s.moment ≤ at → IsNoAlarmDueBy s at → (r : RowId) (d : BallSettings) → r.0 < length c.plan.rows →

@@ -1,7 +1,7 @@
 -- What handlers and works do, one change of the machine after another, and which changes are theirs to make.
-use Rattle.std.specs.Prelude.{◌≡◌, ℕ, ℤ, ◌-◌, ◌≤◌, ◌<◌, Option, true, length}
+use Rattle.std.specs.Prelude.{◌≡◌, ℕ, ℤ, ◌-◌, ◌≤◌, ◌<◌, ◌⊎◌, Option, true, length}
 use Rattle.std.specs.List.{list_any}
-use Rattle.plan_tables.specs.PlanView.{PlanView, actions_of, is_enable_of, mode_event, row_at}
+use Rattle.plan_tables.specs.PlanView.{PlanView, actions_of, is_enable_of, mode_event, row_at, work_of}
 use Rattle.plan_tables.specs.Valid.{HasEntries}
 use Rattle.plan_tables.specs.declared.entries.EventId.{EventId}
 use Rattle.plan_tables.specs.declared.entries.Owner.{Owner}
@@ -10,10 +10,12 @@ use Rattle.plan_tables.specs.declared.entries.SwitchId.{SwitchId}
 use Rattle.plan_tables.specs.declared.entries.ModeId.{ModeId}
 use Rattle.plan_tables.specs.declared.entries.VariableId.{VariableId}
 use Rattle.plan_tables.specs.declared.entries.GameEvent.{GameEvent}
+use Rattle.plan_tables.specs.declared.entries.GameEvent.TheVariants.{BallDrain}
 use Rattle.plan_tables.specs.declared.entries.ModeEvent.TheVariants.{WillStart, Stopping}
 use Rattle.plan_tables.specs.declared.entries.Owner.TheVariants as owners
 use Rattle.plan_tables.specs.declared.devices.RowId.{RowId}
 use Rattle.device_objects.specs.declared.device.Call.{Call}
+use Rattle.ball_devices.specs.Bookings.{LedgerCall}
 use Rattle.mode_stack.specs.declared.phase.ModeState.{ModeState}
 use Rattle.player_game.specs.Players.{after_change}
 use Rattle.player_game.specs.GameStep.{GameStep, game_step}
@@ -27,10 +29,10 @@ use Rattle.coil_guard.specs.declared.command.Command.TheVariants as commands
 use Rattle.coil_guard.specs.Limits.{IsWithin}
 use Rattle.coil_guard.specs.Asked.{limits_of}
 use Rattle.written_machine.specs.Allowed.{ActionsAreAllowed}
-use Rattle.written_machine.specs.Machine.{ask_coil, told, Machine, write, post, set_switches, set_mode, set_device, set_players, set_game, home_of, start_mode, stop_mode, called}
+use Rattle.written_machine.specs.Machine.{ask_coil, told, Machine, write, post, set_switches, set_mode, set_device, set_players, set_game, book, home_of, start_mode, stop_mode, called}
 use Rattle.written_machine.specs.Devices.{ActsAreOwn}
 use Rattle.written_machine.specs.FreePosts.{PostsAreFree, IsFree}
-use Rattle.plan_tables.specs.declared.entries.Work.TheVariants.{Mode}
+use Rattle.plan_tables.specs.declared.entries.Work.TheVariants.{Mode, Game}
 use Rattle.plan_tables.specs.declared.entries.Action.TheVariants.{Pulse, Enable, Disable}
 use Rattle.mode_stack.specs.Modes.{running_of}
 use Rattle.event_queue.specs.Handlers.{takes_part, handlers}
