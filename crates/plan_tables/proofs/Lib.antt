@@ -6,3 +6,4 @@ pub mod Placed
 pub mod Worked
 pub mod Owners
 pub mod RowLists
+pub mod Troughs

@@ -1,5 +1,5 @@
 -- What holds of every plan: each number in it is that of an entry, no two entries of a table have one name, and no table is above its limit.
-use Rattle.std.specs.Prelude.{ℕ, ◌+◌, ◌≡◌, ◌<◌, ◌≤◌, ◌≢◌, Bool, true, Option, IsSome, IfSome, length}
+use Rattle.std.specs.Prelude.{ℕ, ◌+◌, ◌≡◌, ◌<◌, ◌≤◌, ◌≢◌, true, Option, IsSome, IfSome, length}
 use Rattle.std.specs.List.{All, AllPairs}
 use Rattle.plan_tables.specs.declared.entries.EventId.{EventId}
 use Rattle.plan_tables.specs.declared.entries.Owner.{Owner}

@@ -1,10 +1,11 @@
-//! The places of what is bound to each event.
+//! The places of what is bound to each event, and of the first trough.
 
 ghost use Rattle.std.specs.Prelude.{◌≡◌, ◌<◌, ◌≤◌, [], length, IfOk};
-ghost use Rattle.std.specs.List.{All};
-ghost use Rattle.plan_tables.specs.PlanView.{PlanView};
+ghost use Rattle.std.specs.List.{All, position};
+ghost use Rattle.plan_tables.specs.PlanView.{PlanView, is_trough};
 ghost use Rattle.plan_tables.specs.Inside.{HasPlaces};
 
+use crate::devices::DeviceRow;
 use crate::entries::{Binding, BindingId};
 use std::alloc::{AllocError, Global};
 
@@ -34,4 +35,11 @@ fn empty_lists(alloc: Global, count: usize) -> Result<Vec<Vec<BindingId>>, Alloc
         lists.push(Vec::new(alloc))?;
     }
     Ok(lists)
+}
+
+/// The place of the first trough among these rows, if there is one.
+pub(crate) fn place_of_trough(rows: &[DeviceRow]) -> Option<usize>
+    ensures { result ≡ position (λ r. is_trough r.settings) rows.now }
+{
+    rows.iter().position(|row| row.settings.is_trough())
 }

@@ -6,7 +6,7 @@ use crate::entries::{
     ModeEntry, ModeId, SwitchEntry, SwitchId, SwitchKind, VariableId, Work,
 };
 use crate::names::NameSets;
-use crate::placing::places_by_event;
+use crate::placing::{place_of_trough, places_by_event};
 use crate::table::Table;
 use crate::works::works_by_event;
 use std::alloc::{AllocError, Global};
@@ -63,7 +63,7 @@ impl Model for Plan {
 
 impl Plan {
     ghost use Rattle.std.specs.Prelude.{◌≡◌, ◌<◌, length, slice_get, Contains, IfSome, IfNone, IfOk};
-    ghost use Rattle.plan_tables.specs.PlanView.{name_of_event, event_named, name_of_variable, variable_named, mode_at, switch_at, switch_named, listeners_of, posts_of, coil_at, coil_named, actions_at, places_of, row_at, list_of_row, work_of};
+    ghost use Rattle.plan_tables.specs.PlanView.{name_of_event, event_named, name_of_variable, variable_named, mode_at, switch_at, switch_named, listeners_of, posts_of, coil_at, coil_named, actions_at, places_of, row_at, list_of_row, first_trough, work_of};
     ghost use Rattle.plan_tables.specs.declared.table.Table.TheVariants.{Switches, Coils};
     ghost use Rattle.plan_tables.specs.Inside.{name_sets_view, tables_view};
     ghost use Rattle.plan_tables.specs.Valid.{IsRowWithin, IsValid, IsWorkAt};
@@ -368,6 +368,16 @@ impl Plan {
         ensures valid { IsValid self.now }
     {
         self.tables.rows[row.0 as usize]
+    }
+
+    /// The first trough, in plan order; none if the plan has no trough.
+    pub fn first_trough(&self) -> Option<RowId>
+        ensures trough { result ≡ first_trough self.now }
+        ensures within { IfSome result (λ r. r.0 < length self.now.rows) }
+        ensures valid { IsValid self.now }
+    {
+        let place = place_of_trough(self.tables.rows.as_slice())?;
+        Some(RowId(place as u16))
     }
 
     /// An effect list of a row of the plan, by its number from 0 in the row.
