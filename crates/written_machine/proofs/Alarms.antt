@@ -36,9 +36,10 @@ use Rattle.written_machine.specs.PlanOrder.{settled}
 use Rattle.written_machine.specs.AlarmsEnd.{IsPartDone}
 use Rattle.written_machine.specs.Run.{Source, switch, device, source_due, part_due, IsNothingLate, IsNextAlarm, Stimulus, Change, Alarm, Wait, moment_of, IsAllowed, arrived, begin, IsRun}
 use Rattle.cascade_rank.specs.Cost.{Cost}
-use Rattle.written_machine.specs.Moves.{Move, Wrote, Sent, Switched, Began, Ended, Marked, Turned, Asked, Varied, Stepped, do_move, Does, TakesPart, Begins, IsMachine, ordinary, working, MayWork}
-use Rattle.written_machine.proofs.Does.{start-by, stop-by, does-keeps, due-row, off-has_coils, HasStates, moment-move, moment-does, has_states-does, switches-does}
-use Rattle.written_machine.proofs.Parts.{does-call, does-accepted, does-if_accepted, does-begin, does-before, does-after}
+use Rattle.written_machine.specs.Moves.{Move, Wrote, Sent, Switched, Began, Ended, Marked, Turned, Asked, Booked, Varied, Stepped, do_move, Does, TakesPart, Begins, IsMachine, ordinary, working, MayWork}
+use Rattle.written_machine.proofs.Does.{start-by, stop-by, book-by, does-keeps, due-row, off-has_coils, HasStates, moment-move, moment-does, has_states-does, switches-does}
+use Rattle.device_objects.proofs.Lists.{lists_are_of_the_row}
+use Rattle.written_machine.proofs.Parts.{does-answer, does-call, does-accepted, does-if_accepted, does-begin, does-before, does-after}
 use Rattle.written_machine.proofs.Keeps.{step-keeps, steps-keep, run-keeps}
 use Rattle.written_machine.proofs.PlanSteps.{plan_steps-event_steps}
 
@@ -51,30 +52,7 @@ IsLater s t = (r : RowId) (k due : ℕ) → devices.part_due (device_at t r) k �
 if_some : (P : ℕ → Type 0) (o : Option ℕ) (x : ℕ) → IfSome o P → o ≡ Some x → P x
 if_some P o x h is = subst (λ (o : Option ℕ). IfSome o P) is h
 
-same-devices : {X : Type 0} (f : X → Machine → Machine) → ((x : X) (s : Machine) → (f x s).devices ≡ s.devices) → (xs : List X) (s : Machine) → (all_do f xs s).devices ≡ s.devices
-same-devices f each [] s = refl
-same-devices f each (x ∷ xs) s = same-devices f each xs (f x s) ∙ each x s
-
-told-devices : (owner : Owner) (player : ℕ) (v : VariableId) (e : EventId) (value : Option ℤ) (s : Machine) → (tell_change owner player v e value s).devices ≡ s.devices
-told-devices owner player v e None s = refl
-told-devices owner player v e (Some value) s = refl
-
 module _ (plan : PlanView) where
-  action-devices : (owner : Owner) (a : Action) (s : Machine) → (do_action plan owner a s).devices ≡ s.devices
-  action-devices owner (Post e) s = refl
-  action-devices owner (Pulse coil ms power) s = refl
-  action-devices owner (Enable coil power) s = refl
-  action-devices owner (Disable coil) s = refl
-  action-devices owner (ChangeVariable v action n e) s =
-      let value = changed_to plan v action n s.players in
-      told-devices owner s.players.current v e value (set_players (players_after_change plan v value s.players) s)
-
-  -- what a device answers changes no device
-  answer-devices : (r : RowId) (lists : List ℕ) (s : Machine) → (do_answer plan r lists s).devices ≡ s.devices
-  answer-devices r lists s =
-      same-devices (λ k. do_list plan (row_at plan r).owner (list_of_row plan r k))
-      (λ k t. same-devices (do_action plan (row_at plan r).owner) (action-devices (row_at plan r).owner) (actions_at plan (list_of_row plan r k)) t) lists s
-
   -- of a device that is called the next state is kept, where there is such a device
   turned-at : (call : Call) (r : RowId) (s : Machine) → (device_at (set_device r (called plan call r s).0 s) r ≡ (called plan call r s).0) ⊎ ((k : ℕ) → devices.part_due (device_at (set_device r (called plan call r s).0 s) r) k ≡ None)
   turned-at call r s =
@@ -122,6 +100,7 @@ module _ (plan : PlanView) where
     later-move (Marked m state) s = λ r k due is. inl is
     later-move (Turned call r) s = later-turned call r s
     later-move (Asked owner command) s = λ r k due is. inl is
+    later-move (Booked owner call) s = book-by owner call s (IsLater s) (λ is r k due here. inl here) (λ r k due is. inl is)
     later-move (Varied v value) s = λ r k due is. inl is
     later-move (Stepped which) s = λ r k due is. inl is
 
@@ -200,7 +179,7 @@ module _ (plan : PlanView) where
   switches-begin (Alarm at (switch n)) s =
       switches-does plan (ordinary plan IsMachine ⊥) (λ none. none) (does-accepted plan IsMachine ⊥ refl (reported (accept n s.switches) n) (set_switches (accept n s.switches) (arrived at s)))
   switches-begin (Alarm at (device r)) s =
-      switches-does plan (ordinary plan (λ owner. Unit {0}) ⊥) (λ none. none) (does-call plan (λ owner. Unit {0}) ⊥ calls.Fire r (λ own. tt) (arrived at s))
+      switches-does plan (ordinary plan (λ owner. Unit {0}) ⊥) (λ none. none) (does-call plan (λ owner. Unit {0}) ⊥ tt calls.Fire r (λ own. tt) (arrived at s))
   switches-begin (Wait at) s = refl
 
   -- so they do the same with the same switches
@@ -305,13 +284,16 @@ module _ (plan : PlanView) (valid : IsValid plan) where
       let done = if_some (λ (d : ℕ). IsDone at d state fires.0) (devices.due_of state) at (fired-done (row_at plan r).settings at (world_of s) state (limits plan valid r) (has.shapes r there)) is in
       let within : r.0 < length s.devices = let count = has.count in omega (arith, there, count) in
       let next : device_at fired r ≡ fires.0 = get_or-set_same s.devices r.0 fires.0 (devices.first_state no_row.settings) within in
-      let now : device_at (begin plan (Alarm at (device r)) s) r ≡ fires.0 = ap (λ ds. device_state ds r) (answer-devices plan r fires.1 fired) ∙ next in
+      let answers = does-answer plan (λ owner. Unit {0}) ⊥ tt r (λ own. tt) fires.1 (lists_are_of_the_row (row_at plan r).settings calls.Fire at (world_of s) state) fired in
       record {
         part = done.part;
         few = part-few r s done.part at has there done.due;
         due = done.due;
         done = λ later after.
-            if_some (λ (l : ℕ). at < l) (devices.part_due fires.0 done.part) later done.done (ap (λ st. devices.part_due st done.part) (sym now) ∙ after);
+            elim (later-does plan valid answers r done.part later after) [
+              | inl before ↦ if_some (λ (l : ℕ). at < l) (devices.part_due fires.0 done.part) later done.done (ap (λ st. devices.part_due st done.part) (sym next) ∙ before)
+              | inr past ↦ past
+            ];
       }
 
   -- after an alarm and its event steps the part whose alarm it was is done

@@ -38,10 +38,12 @@ use Rattle.coil_guard.specs.Coils.{all_off, coil_at, set_coil}
 use Rattle.coil_guard.specs.Limits.{no_limits}
 use Rattle.plan_tables.proofs.Owners.{is_owner-same}
 use Rattle.coil_guard.specs.Asked.{limits_of, after_asking, answer_asking}
-use Rattle.written_machine.specs.Machine.{told, Machine, post, set_mode, home_of, has_game, is_post, post_if, start_mode, stop_mode, all_do, world_of, device_state, device_at, called}
+use Rattle.ball_devices.specs.Bookings.{LedgerCall, after_call, booked, can_book}
+use Rattle.written_machine.specs.declared.line.Happening.TheVariants as lines
+use Rattle.written_machine.specs.Machine.{told, Machine, write, post, set_ledger, counts_of, book, set_mode, home_of, has_game, is_post, post_if, start_mode, stop_mode, all_do, world_of, device_state, device_at, called}
 use Rattle.written_machine.specs.Devices.{HasDevices}
 use Rattle.written_machine.specs.GoodRun.{weigh}
-use Rattle.written_machine.specs.Moves.{Move, Wrote, Sent, Switched, Began, Ended, Marked, Turned, Asked, Varied, Stepped, do_move, cost_of_move, MayHold, IsListed, Licence, MayDo, Does, quiet, moved, both, less, Grows}
+use Rattle.written_machine.specs.Moves.{Move, Wrote, Sent, Switched, Began, Ended, Marked, Turned, Asked, Booked, Varied, Stepped, do_move, cost_of_move, MayHold, IsListed, Licence, MayDo, Does, quiet, moved, both, less, Grows}
 
 -- what these cost one after another, where each finds the state that the one before it leaves
 abbrev pub each_now : {X : Type 0} → (X → Machine → Machine) → (X → Machine → Cost) → List X → Machine → Cost
@@ -99,6 +101,22 @@ module _ (plan : PlanView) (m : ModeId) (s : Machine) where
   pub stop-by : (P : Machine → Type 0) → P (post owners.Machine (mode_event plan m Stopping) ended_mode) → P ended_mode → P (stop_mode plan m s)
   stop-by P posted not = post_if-by P (mode_event plan m Stopping) ended_mode posted not (is_post (stop_answer (mode_state s.modes m).phase))
 
+module _ (owner : Owner) (call : LedgerCall) (s : Machine) where
+  -- something is booked, where it may be, and there is a line
+  abbrev pub booked_now : Machine
+  booked_now = write owner (lines.Balls (booked call s.ledger) (counts_of (after_call call s.ledger))) (set_ledger (after_call call s.ledger) s)
+
+  pub book-by : (P : Machine → Type 0) → (can_book call s.ledger ≡ true → P booked_now) → P s → P (book owner call s)
+  book-by P here not = by (can_book call s.ledger) refl
+    where
+      by : (b : Bool) → can_book call s.ledger ≡ b → P (if b then booked_now else s)
+      by true is = here is
+      by false is = not
+
+  pub booked-length : length booked_now.lines ≡ length s.lines + 1
+  booked-length =
+      length-append s.lines (record { moment = s.moment; owner = owner; happening = lines.Balls (booked call s.ledger) (counts_of (after_call call s.ledger)) } ∷ [])
+
 -- ---- the potential grows by no more than the cost
 
 -- lines so far, and the weights of the waiting events
@@ -123,6 +141,7 @@ module _ (plan : PlanView) where
       stop-by plan m s (λ t. potential w t ≤ potential w s + w (mode_event plan m Stopping)) (potential-post w owners.Machine (mode_event plan m Stopping) (ended_mode plan m s)) (omega arith)
   potential-move w (Marked m state) s = omega arith
   potential-move w (Turned call r) s = omega arith
+  potential-move w (Booked owner call) s = book-by owner call s (λ t. potential w t ≤ potential w s + 1) (λ is. omega (arith, booked-length owner call s)) (omega arith)
   potential-move w (Varied v value) s = omega arith
   potential-move w (Stepped which) s = omega arith
   potential-move w (Asked owner command) s = omega (arith, length-append s.lines (record { moment = s.moment; owner = owner; happening = told command (answer_asking command owner s.moment s.coils) } ∷ []))
@@ -146,7 +165,7 @@ module _ (plan : PlanView) where
   of_plan-push [] p h k = (k, tt)
   of_plan-push (q ∷ ps) p h k = (h.0, of_plan-push ps p h.1 k)
 
-  grows-move : (x : Move) (s : Machine) → Grows s (do_move plan x s)
+  pub grows-move : (x : Move) (s : Machine) → Grows s (do_move plan x s)
   grows-move (Wrote owner what) s = (omega (arith, length-append s.lines (record { moment = s.moment; owner = owner; happening = what } ∷ [])), omega arith)
   grows-move (Sent owner e) s = (omega arith, omega (arith, length-append s.waiting (record { event = e; owner = owner } ∷ [])))
   grows-move (Switched n switch) s = (omega arith, omega arith)
@@ -154,6 +173,7 @@ module _ (plan : PlanView) where
   grows-move (Ended m) s = stop-by plan m s (Grows s) (omega arith, omega (arith, length-append s.waiting (record { event = mode_event plan m Stopping; owner = owners.Machine } ∷ []))) (omega arith, omega arith)
   grows-move (Marked m state) s = (omega arith, omega arith)
   grows-move (Turned call r) s = (omega arith, omega arith)
+  grows-move (Booked owner call) s = book-by owner call s (Grows s) (λ is. (omega (arith, booked-length owner call s), omega arith)) (omega arith, omega arith)
   grows-move (Varied v value) s = (omega arith, omega arith)
   grows-move (Stepped which) s = (omega arith, omega arith)
   grows-move (Asked owner command) s = (omega (arith, length-append s.lines (record { moment = s.moment; owner = owner; happening = told command (answer_asking command owner s.moment s.coils) } ∷ [])), omega arith)
@@ -167,6 +187,7 @@ module _ (plan : PlanView) where
   moment-move (Marked m state) s = refl
   moment-move (Turned call r) s = refl
   moment-move (Asked owner command) s = refl
+  moment-move (Booked owner call) s = book-by owner call s (λ t. t.moment ≡ s.moment) (λ is. refl) refl
   moment-move (Varied v value) s = refl
   moment-move (Stepped which) s = refl
 
@@ -275,9 +296,11 @@ module _ (plan : PlanView) where
   has_states-move l (Marked m state) s may h = marked-has_states m state s h
   has_states-move l (Turned call r) s may h = record { kinds = h.kinds; switches = h.switches; modes = h.modes; devices = turned-has_devices call r s h.devices; coils = h.coils; players = h.players }
   has_states-move l (Asked owner command) s may h = record { kinds = h.kinds; switches = h.switches; modes = h.modes; devices = h.devices; coils = asked-has_coils owner command s.moment s.coils may.2 h.coils; players = h.players }
+  has_states-move l (Booked owner call) s may h =
+      book-by owner call s HasStates (λ is. record { kinds = h.kinds; switches = h.switches; modes = h.modes; devices = h.devices; coils = h.coils; players = h.players }) h
   has_states-move l (Varied v value) s may h = record { kinds = h.kinds; switches = h.switches; modes = h.modes; devices = h.devices; coils = h.coils; players = varied-few v value s.players h.players }
   has_states-move l (Stepped which) s may h =
-      record { kinds = h.kinds; switches = h.switches; modes = h.modes; devices = h.devices; coils = h.coils; players = players_stay_few plan which (home_of s) s.game s.players h.players }
+      record { kinds = h.kinds; switches = h.switches; modes = h.modes; devices = h.devices; coils = h.coils; players = players_stay_few plan which (home_of plan s) s.game s.players h.players }
 
   -- a device that is due is one of the plan
   pub due-row : (s : Machine) (r : RowId) (due : ℕ) → HasDevices plan s.devices → due_of (device_at s r) ≡ Some due → r.0 < length plan.rows
@@ -296,6 +319,7 @@ module _ (plan : PlanView) where
   has_devices-move (Marked m state) s h = h
   has_devices-move (Turned call r) s h = turned-has_devices call r s h
   has_devices-move (Asked owner command) s h = h
+  has_devices-move (Booked owner call) s h = book-by owner call s (λ t. HasDevices plan t.devices) (λ is. h) h
   has_devices-move (Varied v value) s h = h
   has_devices-move (Stepped which) s h = h
 
@@ -325,6 +349,7 @@ module _ (plan : PlanView) where
     waits-move entries (Marked m state) s may h = h
     waits-move entries (Turned call r) s may h = h
     waits-move entries (Asked owner command) s may h = h
+    waits-move entries (Booked owner call) s may h = book-by owner call s WaitsInPlan (λ is. h) h
     waits-move entries (Varied v value) s may h = h
     waits-move entries (Stepped which) s may h = h
 
@@ -341,6 +366,7 @@ module _ (plan : PlanView) where
     switches-move none (Marked m state) s may = refl
     switches-move none (Turned call r) s may = refl
     switches-move none (Asked owner command) s may = refl
+    switches-move none (Booked owner call) s may = book-by owner call s (λ t. t.switches ≡ s.switches) (λ is. refl) refl
     switches-move none (Varied v value) s may = refl
     switches-move none (Stepped which) s may = refl
 

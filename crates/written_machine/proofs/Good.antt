@@ -5,6 +5,7 @@ use Rattle.written_machine.specs.Accepted.{IsAccepted}
 use Rattle.plan_tables.specs.declared.entries.Owner.TheVariants as owners
 use Rattle.written_machine.proofs.Cascade.{verified-is_bounded}
 use Rattle.written_machine.proofs.Guarded.{follows-run, skips-run, stretches-run, holder-run}
+use Rattle.written_machine.proofs.BallsKnown.{balls-known}
 use Rattle.written_machine.proofs.Silence.{stopped_is_silent, stopped_is_resting, stopped_holds_nothing}
 
 pub every_run_is_good : (c : CheckedView) → IsAccepted c → IsGood c
@@ -17,4 +18,5 @@ every_run_is_good c accepted = record {
   released = λ stimuli trace s run m coil within is.
       stopped_holds_nothing c.plan accepted.valid accepted.free accepted.own stimuli trace s run m coil within (holder-run c.plan accepted.allowed accepted.valid stimuli trace s run (owners.Mode m) coil is);
   resting = stopped_is_resting c.plan accepted.valid accepted.free accepted.own;
+  balls = balls-known c accepted;
 }

@@ -1,12 +1,22 @@
 -- What the machine does only adds to its lines and waiting events.
-use Rattle.std.proofs.Common.{ℕ, ℤ, ◌≤◌, ◌<◌, Option, None, Some, List, [], ◌∷◌, length, length-append, arith}
-use Rattle.plan_tables.specs.PlanView.{PlanView, act_of_listener, listeners_of, posts_of, work_of}
+use Rattle.std.proofs.Common.{ℕ, ℤ, ◌≤◌, ◌<◌, Bool, true, false, if◌then◌else◌, Option, None, Some, List, [], ◌∷◌, length, length-append, arith}
+use Rattle.std.specs.Prelude.{◌&&◌}
+use Rattle.plan_tables.specs.PlanView.{PlanView, act_of_listener, game_event, listeners_of, posts_of, switch_at, target_of, work_of}
+use Rattle.plan_tables.specs.declared.devices.BallTarget.{BallTarget}
+use Rattle.plan_tables.specs.declared.devices.BallTarget.TheVariants.{Playfield, Device}
+use Rattle.plan_tables.specs.declared.entries.GameEvent.TheVariants.{BallDrain}
+use Rattle.player_game.specs.GameStep.{is_ball_on}
+use Rattle.ball_devices.specs.declared.booking.Origin.{Origin}
+use Rattle.ball_devices.specs.declared.booking.Origin.TheVariants.{Awaited, Found, New}
+use Rattle.ball_devices.specs.Ledger.{origin_of}
+use Rattle.ball_devices.specs.Bookings.{LedgerCall}
+use Rattle.ball_devices.specs.Bookings as calls_of_ledger
 use Rattle.plan_tables.specs.declared.entries.EventId.{EventId}
 use Rattle.plan_tables.specs.declared.entries.BindingId.{BindingId}
 use Rattle.plan_tables.specs.declared.entries.Owner.{Owner}
 use Rattle.plan_tables.specs.declared.entries.Owner.TheVariants as owners
 use Rattle.plan_tables.specs.declared.entries.Action.{Action}
-use Rattle.plan_tables.specs.declared.entries.Action.TheVariants.{Post, Pulse, Enable, Disable, Change}
+use Rattle.plan_tables.specs.declared.entries.Action.TheVariants.{Post, Pulse, Enable, Disable, Change, Enter, Leave, Lose, Arrive}
 use Rattle.plan_tables.specs.declared.entries.VariableId.{VariableId}
 use Rattle.player_game.specs.Players.{changed_to, after_change}
 use Rattle.plan_tables.specs.declared.devices.RowId.{RowId}
@@ -19,11 +29,11 @@ use Rattle.switch_core.specs.declared.change.Change.{Change as Acceptance}
 use Rattle.written_machine.specs.declared.line.Line.{Line}
 use Rattle.written_machine.specs.declared.line.Happening.TheVariants as lines
 use Rattle.event_queue.specs.declared.queue.Posted.{Posted}
-use Rattle.written_machine.specs.Machine.{Machine, write, post, ask_coil, told, all_do, set_players, tell_change, do_action, call_device, tell_listener, tell_listeners, do_handler, do_accepted}
+use Rattle.written_machine.specs.Machine.{Machine, write, post, ask_coil, told, all_do, set_players, tell_change, book, drain_if, after_entry, enter_ball, do_action_by, do_action, call_device, confirm_first_away, confirm_entry, tell_listener, tell_listeners, confirm_on_playfield, ask_ball, do_handler, do_accepted}
 use Rattle.written_machine.specs.EventStep.{taken, is_kept, before_handlers, after_event}
-use Rattle.written_machine.specs.Moves.{Grows}
-use Rattle.written_machine.proofs.Does.{grows-does}
-use Rattle.written_machine.proofs.Parts.{does-call, does-handler, does-before, does-after}
+use Rattle.written_machine.specs.Moves.{Booked, Grows}
+use Rattle.written_machine.proofs.Does.{grows-does, grows-move}
+use Rattle.written_machine.proofs.Parts.{does-arrival, does-call, does-handler, does-request, does-before, does-after}
 
 -- where each adds, all do
 pub all_do-grows : {X : Type 0} (f : X → Machine → Machine) → ((x : X) (s : Machine) → Grows s (f x s)) → (xs : List X) (s : Machine) → Grows s (all_do f xs s)
@@ -47,31 +57,80 @@ told-grows owner player v e (Some value) s = (
   omega (arith, length-append s.waiting (record { event = e; owner = owner } ∷ [])),
 )
 
+-- first one, then the other
+pub grows-then : (s m t : Machine) → Grows s m → Grows m t → Grows s t
+grows-then s m t one next = (omega (arith, one.0, next.0), omega (arith, one.1, next.1))
+
 module _ (plan : PlanView) where
+  pub book-grows : (owner : Owner) (call : LedgerCall) (s : Machine) → Grows s (book owner call s)
+  book-grows owner call s = grows-move plan (Booked owner call) s
+
+  pub drain-grows : (owner : Owner) (drain : Bool) (s : Machine) → Grows s (drain_if plan owner drain s)
+  drain-grows owner drain s = by (drain && is_ball_on s.game.phase)
+    where
+      by : (b : Bool) → Grows s (if b then post owner (game_event plan BallDrain) s else s)
+      by true = post-grows owner (game_event plan BallDrain) s
+      by false = (omega arith, omega arith)
+
+  -- a ball has arrived at the target
+  pub arrival-grows : (target : BallTarget) (s : Machine) → Grows s (confirm_first_away plan target s)
+  arrival-grows target s = grows-does plan (does-arrival plan (λ o. Unit {0}) ⊥ tt target s)
+
+  -- a trough is asked for a ball
+  pub request-grows : (asks : Bool) (s : Machine) → Grows s (ask_ball plan asks s)
+  request-grows asks s = grows-does plan (does-request plan (λ o. Unit {0}) tt asks s)
+
+  -- where each confirm adds
+  module _ (confirm : RowId → Machine → Machine) (confirms : (r : RowId) (s : Machine) → Grows s (confirm r s)) where
+    pub entry-grows : (owner : Owner) (r : RowId) (drain : Bool) (origin : Origin) (s : Machine) → Grows s (after_entry plan confirm owner r drain origin s)
+    entry-grows owner r drain Awaited s = confirms r s
+    entry-grows owner r drain Found s = drain-grows owner drain s
+    entry-grows owner r drain New s = drain-grows owner drain s
+
+    pub action-grows_by : (owner : Owner) (a : Action) (s : Machine) → Grows s (do_action_by plan confirm owner a s)
+    action-grows_by owner (Post e) s = post-grows owner e s
+    action-grows_by owner (Pulse coil ms power) s = asked-grows owner (commands.Pulse coil ms power) s
+    action-grows_by owner (Enable coil power) s = asked-grows owner (commands.Enable coil power) s
+    action-grows_by owner (Disable coil) s = asked-grows owner (commands.Disable coil) s
+    action-grows_by owner (Change v action n e) s =
+        let value = changed_to plan v action n s.players in
+        told-grows owner s.players.current v e value (set_players (after_change plan v value s.players) s)
+    action-grows_by owner (Enter r e drain) s =
+        let booked = book owner (calls_of_ledger.Enter r) s in
+        let posted = post owner e booked in
+        grows-then s posted (do_action_by plan confirm owner (Enter r e drain) s) (grows-then s booked posted (book-grows owner (calls_of_ledger.Enter r) s) (post-grows owner e booked))
+        (entry-grows owner r drain (origin_of r s.ledger) posted)
+    action-grows_by owner (Leave r) s = book-grows owner (calls_of_ledger.Leave r (target_of plan r)) s
+    action-grows_by owner (Lose r) s = book-grows owner (calls_of_ledger.Lose r) s
+    action-grows_by owner (Arrive r) s = book-grows owner (calls_of_ledger.Arrive (target_of plan r)) s
+
   pub action-grows : (owner : Owner) (a : Action) (s : Machine) → Grows s (do_action plan owner a s)
-  action-grows owner (Post e) s = post-grows owner e s
-  action-grows owner (Pulse coil ms power) s = asked-grows owner (commands.Pulse coil ms power) s
-  action-grows owner (Enable coil power) s = asked-grows owner (commands.Enable coil power) s
-  action-grows owner (Disable coil) s = asked-grows owner (commands.Disable coil) s
-  action-grows owner (Change v action n e) s =
-      let value = changed_to plan v action n s.players in
-      told-grows owner s.players.current v e value (set_players (after_change plan v value s.players) s)
+  action-grows = action-grows_by (confirm_entry plan) (λ r s. arrival-grows (Device r) s)
 
   -- whoever takes part
   pub handler-grows : (place : BindingId) (s : Machine) → Grows s (do_handler plan place s)
-  handler-grows place s = grows-does plan (does-handler plan (λ o. Unit {0}) ⊥ place s tt)
+  handler-grows place s = grows-does plan (does-handler plan (λ o. Unit {0}) ⊥ tt place s tt)
 
   pub call-grows : (call : Call) (r : RowId) (s : Machine) → Grows s (call_device plan call r s)
-  call-grows call r s = grows-does plan (does-call plan (λ o. Unit {0}) ⊥ call r (λ own. tt) s)
+  call-grows call r s = grows-does plan (does-call plan (λ o. Unit {0}) ⊥ tt call r (λ own. tt) s)
+
+  pub playfield-grows : (a : Acceptance) (s : Machine) → Grows s (confirm_on_playfield plan a s)
+  playfield-grows a s = by (a.active && (switch_at plan a.switch).confirms_playfield)
+    where
+      by : (b : Bool) → Grows s (if b then confirm_first_away plan Playfield s else s)
+      by true = arrival-grows Playfield s
+      by false = (omega arith, omega arith)
 
   -- an acceptance adds its line
   pub accepted-grows : (a : Acceptance) (s : Machine) → (length s.lines < length (do_accepted plan a s).lines) × (length s.waiting ≤ length (do_accepted plan a s).waiting)
   accepted-grows a s =
       let written : Line = record { moment = s.moment; owner = owners.Machine; happening = lines.Switch a.switch a.active } in
       let begun = write owners.Machine (lines.Switch a.switch a.active) s in
+      let told = tell_listeners plan a begun in
       let heard = all_do-grows (tell_listener plan a.active) (λ l t. call-grows (calls.Act (act_of_listener a.active l)) l.row t) (listeners_of plan a.switch) begun in
-      let g = all_do-grows (post owners.Machine) (post-grows owners.Machine) (posts_of plan a.switch a.active) (tell_listeners plan a begun) in
-      (omega (arith, g.0, heard.0, length-append s.lines (written ∷ [])), omega (arith, g.1, heard.1))
+      let pressed = playfield-grows a told in
+      let g = all_do-grows (post owners.Machine) (post-grows owners.Machine) (posts_of plan a.switch a.active) (confirm_on_playfield plan a told) in
+      (omega (arith, g.0, pressed.0, heard.0, length-append s.lines (written ∷ [])), omega (arith, g.1, pressed.1, heard.1))
 
   -- an event step adds its line, and to what waits after its event
   pub event-grows : (first : Posted) (rest : List Posted) (order : List BindingId) (s : Machine)

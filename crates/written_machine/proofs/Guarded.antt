@@ -27,13 +27,14 @@ use Rattle.cascade_rank.specs.Cost.{Cost}
 use Rattle.written_machine.specs.declared.line.Line.{Line}
 use Rattle.written_machine.specs.declared.line.Happening.{Happening}
 use Rattle.written_machine.specs.declared.line.Happening.TheVariants as lines
-use Rattle.written_machine.specs.Machine.{Machine, initial, write, told, ask_coil}
+use Rattle.ball_devices.specs.Bookings.{after_call as after_booking, booked}
+use Rattle.written_machine.specs.Machine.{Machine, initial, write, told, ask_coil, set_ledger, counts_of}
 use Rattle.written_machine.specs.EventStep.{taken, EventStep}
 use Rattle.written_machine.specs.Run.{Stimulus, moment_of, IsAllowed, IsNothingLate, arrived, begin, IsRun}
 use Rattle.written_machine.specs.Allowed.{ActionsAreAllowed}
 use Rattle.written_machine.specs.Sent.{sent_at, sent_in, sendings, IsIdle, AreSkippedIdle}
-use Rattle.written_machine.specs.Moves.{Move, Wrote, Sent, Switched, Began, Ended, Marked, Turned, Asked, Varied, Stepped, do_move, Licence, MayDo, Does, IsNoCommand, TakesPart, Begins, ordinary, working}
-use Rattle.written_machine.proofs.Does.{start-by, stop-by, does-keeps}
+use Rattle.written_machine.specs.Moves.{Move, Wrote, Sent, Switched, Began, Ended, Marked, Turned, Asked, Booked, Varied, Stepped, do_move, Licence, MayDo, Does, IsNoCommand, TakesPart, Begins, ordinary, working}
+use Rattle.written_machine.proofs.Does.{start-by, stop-by, book-by, does-keeps}
 use Rattle.written_machine.proofs.Parts.{does-before, does-after, does-begin}
 use Rattle.written_machine.proofs.Held.{IsHolding}
 use Rattle.written_machine.proofs.Keeps.{step-keeps, run-keeps}
@@ -165,6 +166,7 @@ no-sending moment owner (lines.Event e) is = refl
 no-sending moment owner (lines.Coil command) is = absurd is
 no-sending moment owner (lines.Skip command) is = absurd is
 no-sending moment owner (lines.Player player v value) is = refl
+no-sending moment owner (lines.Balls booking counts) is = refl
 no-sending moment owner (lines.Final player score) is = refl
 
 -- ---- every move
@@ -225,6 +227,9 @@ module _ (plan : PlanView) (allowed : ActionsAreAllowed plan) where
       stop-by plan m s (IsGuarded before) (record { follows = h.follows; idle = h.idle }) (record { follows = h.follows; idle = h.idle })
   guarded-move licence before (Marked m state) s may h = record { follows = h.follows; idle = h.idle }
   guarded-move licence before (Turned call r) s may h = record { follows = h.follows; idle = h.idle }
+  guarded-move licence before (Booked owner call) s may h =
+      book-by owner call s (IsGuarded before)
+      (λ is. quiet-guarded before owner (lines.Balls (booked call s.ledger) (counts_of (after_booking call s.ledger))) (set_ledger (after_booking call s.ledger) s) tt (record { follows = h.follows; idle = h.idle })) h
   guarded-move licence before (Varied v value) s may h = record { follows = h.follows; idle = h.idle }
   guarded-move licence before (Stepped which) s may h = record { follows = h.follows; idle = h.idle }
   guarded-move licence before (Asked owner command) s may h = asked-guarded before owner command s (may.1 allowed) h

@@ -32,6 +32,7 @@ work_written plan (lines.Switch n active) = Nothing
 work_written plan (lines.Coil command) = Nothing
 work_written plan (lines.Skip command) = Nothing
 work_written plan (lines.Player player v value) = Nothing
+work_written plan (lines.Balls booking counts) = Nothing
 work_written plan (lines.Final player score) = Nothing
 
 abbrev pub written : PlanView → Line → Said
@@ -134,6 +135,7 @@ module _ (plan : PlanView) (valid : IsValid plan) (m : ModeId) (within : m.0 < l
   started_line (lines.Coil command) is = absurd (search rules)
   started_line (lines.Skip command) is = absurd (search rules)
   started_line (lines.Player player v value) is = absurd (search rules)
+  started_line (lines.Balls booking counts) is = absurd (search rules)
   started_line (lines.Final player score) is = absurd (search rules)
 
   stopped_work : (h : Happening) → h ≡ lines.Event (mode_event plan m Stopped) → work_written plan h ≡ Mode m Stopped

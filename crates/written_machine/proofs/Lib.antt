@@ -1,3 +1,4 @@
+pub mod Feeding
 pub mod Does
 pub mod Parts
 pub mod Pricing
@@ -16,6 +17,7 @@ pub mod Hearing
 pub mod Speaking
 pub mod Resting
 pub mod Silence
+pub mod BallsKnown
 pub mod Good
 pub mod Listed
 pub mod Held

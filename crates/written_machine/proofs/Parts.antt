@@ -1,13 +1,13 @@
 -- What each part of the machine does, and by which licence.
 use Rattle.std.proofs.Common.{◌≡◌, ℕ, ℤ, ◌<◌, ◌≤◌, get_or, if◌then◌else◌, Bool, true, false, Option, Some, None, List, [], length, refl, sym, ap, subst, inl, inr, arith}
 use Rattle.std.specs.List.{All, range_with_len}
-use Rattle.std.specs.Prelude.{Contains}
+use Rattle.std.specs.Prelude.{◌&&◌, Contains}
 use Rattle.std.proofs.lemmas.Bool.{cases_lt}
 use Rattle.std.proofs.lemmas.List.{get_or_past}
 use Rattle.std.proofs.lemmas.List.Elements.{All-get_or, All-nil, filter_passes}
 use Rattle.std.proofs.lemmas.List.Sorted.{All-permutation}
-use Rattle.plan_tables.specs.PlanView.{PlanView, act_of_listener, actions_of, coil_numbers, listeners_of, no_row, no_switch, no_binding, switch_at, posts_of, actions_at, binding_at, is_owner, list_of_row, places_of, game_event, mode_event, row_at, row_numbers, rows_of, work_of}
-use Rattle.plan_tables.specs.Valid.{HasEntries, IsEventWithin, IsActionWithin, IsBindingWithin, IsTargetWithin, IsWorkAt}
+use Rattle.plan_tables.specs.PlanView.{PlanView, act_of_listener, actions_of, coil_numbers, listeners_of, no_row, no_switch, no_binding, switch_at, posts_of, actions_at, binding_at, is_owner, list_of_row, places_of, first_trough, game_event, mode_event, row_at, row_numbers, rows_of, target_of, work_of}
+use Rattle.plan_tables.specs.Valid.{HasEntries, HasGame, IsValid, IsEventWithin, IsActionWithin, IsBindingWithin, IsTargetWithin, IsWorkAt}
 use Rattle.plan_tables.specs.declared.entries.EventId.{EventId}
 use Rattle.plan_tables.specs.declared.entries.ListId.{ListId}
 use Rattle.plan_tables.specs.declared.entries.BindingId.{BindingId}
@@ -17,16 +17,25 @@ use Rattle.plan_tables.specs.declared.entries.ModeId.{ModeId}
 use Rattle.plan_tables.specs.declared.entries.Work.{Work}
 use Rattle.plan_tables.specs.declared.entries.Work.TheVariants.{Nothing, Mode, Game}
 use Rattle.plan_tables.specs.declared.entries.GameEvent.{GameEvent}
+use Rattle.plan_tables.specs.declared.entries.GameEvent.TheVariants.{BallDrain}
 use Rattle.plan_tables.specs.declared.entries.VariableId.{VariableId}
+use Rattle.player_game.specs.GameStep.{is_ball_on}
 use Rattle.player_game.specs.Players.{is_met, changed_to, after_change as players_after_change, score_of}
 use Rattle.plan_tables.specs.declared.entries.Owner.{Owner}
 use Rattle.plan_tables.specs.declared.entries.Owner.TheVariants as owners
 use Rattle.plan_tables.specs.declared.entries.Action.{Action}
-use Rattle.plan_tables.specs.declared.entries.Action.TheVariants.{Post, Pulse, Enable, Disable, Change as ChangeVariable}
+use Rattle.plan_tables.specs.declared.entries.Action.TheVariants.{Post, Pulse, Enable, Disable, Change as ChangeVariable, Enter, Leave, Lose, Arrive}
 use Rattle.plan_tables.specs.declared.entries.Target.{Target}
 use Rattle.plan_tables.specs.declared.entries.Target.TheVariants.{Run, Start, Stop, Act}
 use Rattle.plan_tables.specs.Devices.{list_count}
 use Rattle.plan_tables.specs.declared.devices.RowId.{RowId}
+use Rattle.plan_tables.specs.declared.devices.BallTarget.{BallTarget}
+use Rattle.plan_tables.specs.declared.devices.BallTarget.TheVariants.{Playfield, Device}
+use Rattle.plan_tables.specs.declared.devices.Act.TheVariants.{Confirm, Request}
+use Rattle.ball_devices.specs.declared.booking.Origin.{Origin}
+use Rattle.ball_devices.specs.declared.booking.Origin.TheVariants.{Awaited, Found, New}
+use Rattle.ball_devices.specs.Ledger.{origin_of}
+use Rattle.ball_devices.specs.Bookings as calls_of_ledger
 use Rattle.plan_tables.specs.declared.entries.CoilId.{CoilId}
 use Rattle.plan_tables.specs.declared.entries.Listener.{Listener}
 use Rattle.coil_guard.specs.declared.command.Command.TheVariants as commands
@@ -43,20 +52,21 @@ use Rattle.switch_core.specs.Switches.{kind_at, state_at, after_change, reported
 use Rattle.mode_stack.specs.ModeStep.{entered, ended}
 use Rattle.mode_stack.specs.Modes.{mode_state, running_of}
 use Rattle.written_machine.specs.declared.line.Happening.TheVariants as lines
-use Rattle.cascade_rank.specs.Cost.{Cost, Lines, Both, each_of, cost_of_post, cost_of_action, cost_of_list, cost_of_answer, cost_of_target, cost_of_binding, led_by, cost_if_led, cost_of_choice}
+use Rattle.cascade_rank.specs.Cost.{Cost, Lines, Both, Greater, each_of, cost_of_post, cost_of_drain, cost_of_target, cost_of_binding, led_by, cost_if_led, cost_of_choice}
 use Rattle.cascade_rank.proofs.Games.{game_event-below, game_has-event}
 use Rattle.cascade_rank.proofs.Within.{posts-below, mode_event-within}
 use Rattle.event_queue.specs.Handlers.{runs_at, handlers, IsHandlerOrder}
-use Rattle.written_machine.specs.Machine.{Machine, write, post, ask_coil, release_coil, release_coils, set_switches, set_mode, set_device, set_players, all_do, tell_change, post_game, write_final, write_finals, do_game, do_action, do_list, world_of, device_at, called, call_device, call_devices, tell_listener, tell_listeners, do_target, do_handler, do_accepted, do_if_accepted}
+use Rattle.written_machine.specs.Machine.{Machine, write, post, ask_coil, release_coil, release_coils, set_switches, set_mode, set_device, set_players, all_do, tell_change, post_game, write_final, write_finals, do_game, book, drain_if, after_entry, enter_ball, do_action_by, do_list_by, do_answer_by, call_device_by, first_away, no_confirm, confirm_of, confirm_first_away, confirm_entry, do_action, do_list, do_answer, world_of, device_at, called, call_device, call_devices, tell_listener, tell_listeners, confirm_on_playfield, ask_trough, ask_ball, do_target, do_handler, do_accepted, do_if_accepted}
 use Rattle.written_machine.specs.EventStep.{do_before, do_after, handlers_in}
 use Rattle.written_machine.specs.Run.{switch, device, Stimulus, Change, Alarm, Wait, moment_of, arrived, begin}
 use Rattle.written_machine.specs.GoodRun.{cost_of_stimulus}
 use Rattle.written_machine.specs.Devices.{ActsAreOwn, IsOwnAct, IsOwnListener}
 use Rattle.written_machine.specs.Allowed.{IsAllowed, ActionsAreAllowed}
 use Rattle.written_machine.specs.FreePosts.{IsFree, IsFreeAction, IsFreeSwitch, PostsAreFree}
+use Rattle.written_machine.proofs.Feeding.{first_away-is, first_trough-is}
 use Rattle.written_machine.proofs.Listed.{binding-among, row-among, contains-at, enable-listed}
 use Rattle.written_machine.proofs.Does.{each_now, all_do-does, all_do-does_now, does-weaker}
-use Rattle.written_machine.specs.Moves.{Move, Wrote, Sent, Switched, Began, Ended, Marked, Turned, Asked, Varied, Stepped, step_now, do_move, MayHold, Licence, MayDo, IsFreeThere, Does, quiet, moved, both, less, TakesPart, IsMachine, ordinary, MayHandle, Begins, MayBegin, working, MayWork}
+use Rattle.written_machine.specs.Moves.{Move, Wrote, Sent, Switched, Began, Ended, Marked, Turned, Asked, Booked, Varied, Stepped, step_now, do_move, MayHold, Licence, MayDo, IsFreeThere, Does, quiet, moved, both, less, TakesPart, IsMachine, ordinary, MayHandle, Begins, MayBegin, working, MayWork}
 
 -- ---- what is in a plan
 
@@ -152,19 +162,64 @@ module _ (plan : PlanView) where
 
   -- ---- what things cost in a state
 
-  -- a device that is called costs what it answers
-  abbrev pub call_now : Call → RowId → Machine → Cost
-  call_now call r s = Both (Lines 0) (cost_of_answer plan r (called plan call r s).1)
+  -- where `confirm` costs what `confirm_now` says
+  module _ (confirm : RowId → Machine → Machine) (confirm_now : RowId → Machine → Cost) where
+    abbrev pub action_now_by : Owner → Action → Machine → Cost
+    action_now_by owner (Post e) s = cost_of_post e
+    action_now_by owner (Pulse coil ms power) s = Lines 1
+    action_now_by owner (Enable coil power) s = Lines 1
+    action_now_by owner (Disable coil) s = Lines 1
+    action_now_by owner (ChangeVariable v action n e) s = Both (Lines 1) (cost_of_post e)
+    action_now_by owner (Enter r e drain) s =
+        Both (Lines 1) (Both (cost_of_post e) (Greater (cost_of_drain plan drain) (confirm_now r (post owner e (book owner (calls_of_ledger.Enter r) s)))))
+    action_now_by owner (Leave r) s = Lines 1
+    action_now_by owner (Lose r) s = Lines 1
+    action_now_by owner (Arrive r) s = Lines 1
 
-  abbrev pub target_now : Target → Machine → Cost
-  target_now (Run l) s = cost_of_target plan (Run l)
-  target_now (Start m) s = cost_of_target plan (Start m)
-  target_now (Stop m) s = cost_of_target plan (Stop m)
-  target_now (Act r act) s = call_now (calls.Act act) r s
+    abbrev pub list_now_by : Owner → ListId → Machine → Cost
+    list_now_by owner l s = each_now (do_action_by plan confirm owner) (action_now_by owner) (actions_at plan l) s
+
+    abbrev pub answer_now_by : RowId → List ℕ → Machine → Cost
+    answer_now_by r lists s =
+        each_now (λ k. do_list_by plan confirm (row_at plan r).owner (list_of_row plan r k)) (λ k. list_now_by (row_at plan r).owner (list_of_row plan r k)) lists s
+
+    -- a device that is called costs what it answers
+    abbrev pub call_now_by : Call → RowId → Machine → Cost
+    call_now_by call r s = Both (Lines 0) (answer_now_by r (called plan call r s).1 (set_device r (called plan call r s).0 s))
+
+  abbrev pub none_now : RowId → Machine → Cost
+  none_now r s = Lines 0
+
+  -- a device that is told of an arrival
+  abbrev pub confirm_now : Option RowId → Machine → Cost
+  confirm_now None s = Lines 0
+  confirm_now (Some r) s = call_now_by no_confirm none_now (calls.Act Confirm) r s
+
+  abbrev pub arrival_now : BallTarget → Machine → Cost
+  arrival_now target s = confirm_now (first_away plan target s) s
+
+  abbrev pub entry_now : RowId → Machine → Cost
+  entry_now r s = arrival_now (Device r) s
+
+  abbrev pub list_now : Owner → ListId → Machine → Cost
+  list_now = list_now_by (confirm_entry plan) entry_now
+
+  abbrev pub answer_now : RowId → List ℕ → Machine → Cost
+  answer_now = answer_now_by (confirm_entry plan) entry_now
+
+  abbrev pub call_now : Call → RowId → Machine → Cost
+  call_now = call_now_by (confirm_entry plan) entry_now
+
+  abbrev pub target_now : Owner → Target → Machine → Cost
+  target_now owner (Run l) s = list_now owner l s
+  target_now owner (Start m) s = cost_of_target plan (Start m)
+  target_now owner (Stop m) s = cost_of_target plan (Stop m)
+  target_now owner (Act r act) s = call_now (calls.Act act) r s
 
   -- where its condition is not met, a handler costs nothing
   abbrev pub handler_now : BindingId → Machine → Cost
-  handler_now place s = if is_met plan s.players (binding_at plan place).condition then target_now (binding_at plan place).target s else Lines 0
+  handler_now place s =
+      if is_met plan s.players (binding_at plan place).condition then target_now (binding_at plan place).owner (binding_at plan place).target s else Lines 0
 
   -- all devices of a mode
   abbrev pub calls_now : Call → ModeId → Machine → Cost
@@ -177,9 +232,15 @@ module _ (plan : PlanView) where
   abbrev pub listeners_now : Acceptance → Machine → Cost
   listeners_now a s = each_now (tell_listener plan a.active) (listener_now a.active) (listeners_of plan a.switch) s
 
+  -- a ball that may have arrived on the playfield
+  abbrev pub playfield_now : Acceptance → Machine → Cost
+  playfield_now a s = if a.active && (switch_at plan a.switch).confirms_playfield then arrival_now Playfield s else Lines 0
+
   abbrev pub accepted_now : Acceptance → Machine → Cost
   accepted_now a s =
-      Both (Lines 1) (Both (listeners_now a (write owners.Machine (lines.Switch a.switch a.active) s)) (each_of cost_of_post (posts_of plan a.switch a.active)))
+      let begun = write owners.Machine (lines.Switch a.switch a.active) s in
+      Both (Lines 1)
+      (Both (listeners_now a begun) (Both (playfield_now a (tell_listeners plan a begun)) (each_of cost_of_post (posts_of plan a.switch a.active))))
 
   abbrev pub if_accepted_now : Option Acceptance → Machine → Cost
   if_accepted_now None s = Lines 0
@@ -214,10 +275,20 @@ module _ (plan : PlanView) where
   finals_now true s = each_of (λ player. Lines 1) (range_with_len 1 (length s.players.players))
   finals_now false s = Lines 0
 
+  -- the request to a trough, where a ball is asked for
+  abbrev pub trough_now : Option RowId → Machine → Cost
+  trough_now None s = Lines 0
+  trough_now (Some r) s = call_now (calls.Act (Request 1)) r s
+
+  abbrev pub request_now : Bool → Machine → Cost
+  request_now asks s = if asks then trough_now (first_trough plan) s else Lines 0
+
   -- what an event of the game leads to
   abbrev pub game_now : GameEvent → Machine → Cost
   game_now which s =
-      Both (Lines 0) (Both (finals_now (step_now plan which s).finals (do_move plan (Stepped which) s)) (cost_of_choice plan (step_now plan which s).posts))
+      let step = step_now plan which s in
+      let stepped = do_move plan (Stepped which) s in
+      Both (Lines 0) (Both (finals_now step.finals stepped) (Both (request_now step.requests (write_finals plan step.finals stepped)) (cost_of_choice plan step.posts)))
 
   abbrev pub after_now : Work → Machine → Cost
   after_now Nothing s = cost_if_led (led_by plan Nothing)
@@ -229,7 +300,8 @@ module _ (plan : PlanView) where
   after_now (Mode m Stopped) s = cost_if_led (led_by plan (Mode m Stopped))
   after_now (Game which) s = game_now which s
 
-  module _ (by : Owner → Type 0) (switches : Type 0) where
+  -- what may be done by these owners, where the machine is one of them: ball devices are its own
+  module _ (by : Owner → Type 0) (switches : Type 0) (machine : by owners.Machine) where
     abbrev May : Move → Type 0
     May = MayDo plan (ordinary plan by switches)
 
@@ -250,38 +322,92 @@ module _ (plan : PlanView) where
         → Does plan May (Both (Lines 1) (cost_of_post e)) s (tell_change owner player v e value s)
     does-told owner may player v e within free None s = less quiet (λ w. omega arith)
     does-told owner may player v e within free (Some value) s =
-        both (moved (Wrote owner (lines.Player player v value)) s (may, tt, tt)) (moved (Sent owner e) (write owner (lines.Player player v value) s) (may, within, free))
+        both (moved (Wrote owner (lines.Player player v value)) s (may, tt, tt, tt)) (moved (Sent owner e) (write owner (lines.Player player v value) s) (may, within, free))
 
-    does-action : (owner : Owner) → (ActsAreOwn plan → by owner) → (a : Action) (s : Machine) → IsFit owner a → Does plan May (cost_of_action plan a) s (do_action plan owner a s)
-    does-action owner may (Post e) s h = moved (Sent owner e) s (may, h.within, h.free)
-    does-action owner may (Pulse coil ms power) s h = moved (Asked owner (commands.Pulse coil ms power)) s (may, h.allowed, tt)
-    does-action owner may (Enable coil power) s h = moved (Asked owner (commands.Enable coil power)) s (may, h.allowed, may-hold owner coil power h.own)
-    does-action owner may (Disable coil) s h = moved (Asked owner (commands.Disable coil)) s (may, h.allowed, tt)
-    does-action owner may (ChangeVariable v action n e) s h =
-        let value = changed_to plan v action n s.players in
-        less (both (moved (Varied v value) s tt)
-        (does-told owner may s.players.current v e (λ entries. (h.within entries).1) h.free value (set_players (players_after_change plan v value s.players) s))) (λ w. omega arith)
+    -- a ball that may have drained
+    does-drain : (owner : Owner) → (ActsAreOwn plan → by owner) → (drain : Bool) → (HasEntries plan → 0 < length plan.events) → (HasEntries plan → drain ≡ true → HasGame plan) → (s : Machine)
+        → Does plan May (cost_of_drain plan drain) s (drain_if plan owner drain s)
+    does-drain owner may false some game s = quiet
+    does-drain owner may true some game s = by_phase (is_ball_on s.game.phase)
+      where
+        by_phase : (b : Bool) → Does plan May (cost_of_drain plan true) s (if b then post owner (game_event plan BallDrain) s else s)
+        by_phase true =
+            moved (Sent owner (game_event plan BallDrain)) s
+            (may, (λ entries. game_event-below plan entries (some entries) BallDrain), λ valid free. inr (valid.game_works BallDrain (game valid.entries refl)))
+        by_phase false = less quiet (λ w. omega arith)
 
-    does-list : (owner : Owner) → (ActsAreOwn plan → by owner) → (l : ListId) → All (IsItsOwn owner) (actions_at plan l) → (s : Machine) → Does plan May (cost_of_list plan l) s (do_list plan owner l s)
-    does-list owner may l own s =
-        all_do-does plan May (do_action plan owner) (cost_of_action plan) (IsFit owner) (does-action owner may) (actions_at plan l)
-        (λ k d there. record {
-          within = λ entries. of_list (IsActionWithin plan) entries.lists l k d there;
-          free = λ free. of_list (IsFreeAction plan) free.lists l k d there;
-          allowed = λ allowed. of_list (IsAllowed plan) allowed l k d there;
-          own = own k d there;
-        }) s
+    module _ (confirm : RowId → Machine → Machine) (now : RowId → Machine → Cost) (confirms : (r : RowId) (s : Machine) → Does plan May (now r s) s (confirm r s)) where
+      -- a ball that has entered a device
+      does-entry : (owner : Owner) → (ActsAreOwn plan → by owner) → (r : RowId) (drain : Bool) → (HasEntries plan → 0 < length plan.events) → (HasEntries plan → drain ≡ true → HasGame plan) → (origin : Origin) (s : Machine)
+          → Does plan May (Greater (cost_of_drain plan drain) (now r s)) s (after_entry plan confirm owner r drain origin s)
+      does-entry owner may r drain some game Awaited s = less (confirms r s) (λ w. omega arith)
+      does-entry owner may r drain some game Found s = less (does-drain owner may drain some game s) (λ w. omega arith)
+      does-entry owner may r drain some game New s = less (does-drain owner may drain some game s) (λ w. omega arith)
+
+      does-action_by : (owner : Owner) → (ActsAreOwn plan → by owner) → (a : Action) (s : Machine) → IsFit owner a → Does plan May (action_now_by confirm now owner a s) s (do_action_by plan confirm owner a s)
+      does-action_by owner may (Post e) s h = moved (Sent owner e) s (may, h.within, λ valid free. inl (h.free free))
+      does-action_by owner may (Pulse coil ms power) s h = moved (Asked owner (commands.Pulse coil ms power)) s (may, h.allowed, tt)
+      does-action_by owner may (Enable coil power) s h = moved (Asked owner (commands.Enable coil power)) s (may, h.allowed, may-hold owner coil power h.own)
+      does-action_by owner may (Disable coil) s h = moved (Asked owner (commands.Disable coil)) s (may, h.allowed, tt)
+      does-action_by owner may (ChangeVariable v action n e) s h =
+          let value = changed_to plan v action n s.players in
+          less (both (moved (Varied v value) s tt)
+          (does-told owner may s.players.current v e (λ entries. (h.within entries).1) (λ valid free. inl (h.free free)) value (set_players (players_after_change plan v value s.players) s))) (λ w. omega arith)
+      does-action_by owner may (Enter r e drain) s h =
+          let booked = book owner (calls_of_ledger.Enter r) s in
+          both (moved (Booked owner (calls_of_ledger.Enter r)) s may)
+          (both (moved (Sent owner e) booked (may, (λ entries. (h.within entries).1), λ valid free. inl (h.free free)))
+          (does-entry owner may r drain (λ entries. let there = (h.within entries).1 in omega (arith, there)) (λ entries. (h.within entries).2) (origin_of r s.ledger) (post owner e booked)))
+      does-action_by owner may (Leave r) s h = moved (Booked owner (calls_of_ledger.Leave r (target_of plan r))) s may
+      does-action_by owner may (Lose r) s h = moved (Booked owner (calls_of_ledger.Lose r)) s may
+      does-action_by owner may (Arrive r) s h = moved (Booked owner (calls_of_ledger.Arrive (target_of plan r))) s may
+
+      does-list_by : (owner : Owner) → (ActsAreOwn plan → by owner) → (l : ListId) → All (IsItsOwn owner) (actions_at plan l) → (s : Machine) → Does plan May (list_now_by confirm now owner l s) s (do_list_by plan confirm owner l s)
+      does-list_by owner may l own s =
+          all_do-does_now plan May (do_action_by plan confirm owner) (action_now_by confirm now owner) (IsFit owner) (does-action_by owner may) (actions_at plan l)
+          (λ k d there. record {
+            within = λ entries. of_list (IsActionWithin plan) entries.lists l k d there;
+            free = λ free. of_list (IsFreeAction plan) free.lists l k d there;
+            allowed = λ allowed. of_list (IsAllowed plan) allowed l k d there;
+            own = own k d there;
+          }) s
+
+      does-answer_by : (r : RowId) → (ActsAreOwn plan → by (row_at plan r).owner) → (lists : List ℕ) → All (λ k. k < list_count (row_at plan r).settings) lists → (s : Machine)
+          → Does plan May (answer_now_by confirm now r lists s) s (do_answer_by plan confirm r lists s)
+      does-answer_by r may lists below s =
+          all_do-does_now plan May (λ k. do_list_by plan confirm (row_at plan r).owner (list_of_row plan r k)) (λ k. list_now_by confirm now (row_at plan r).owner (list_of_row plan r k)) (λ k. k < list_count (row_at plan r).settings)
+          (λ k t less_than. does-list_by (row_at plan r).owner may (list_of_row plan r k) (row-own r k less_than) t) lists below s
+
+      does-call_by : (call : Call) (r : RowId) → (ActsAreOwn plan → by (row_at plan r).owner) → (s : Machine) → Does plan May (call_now_by confirm now call r s) s (call_device_by plan confirm call r s)
+      does-call_by call r may s =
+          both (moved (Turned call r) s may)
+          (does-answer_by r may (called plan call r s).1 (lists_are_of_the_row (row_at plan r).settings call s.moment (world_of s) (device_at s r)) (set_device r (called plan call r s).0 s))
+
+    -- a device that is told of an arrival confirms none
+    pub does-confirm_call : (call : Call) (r : RowId) → (ActsAreOwn plan → by (row_at plan r).owner) → (s : Machine) → Does plan May (call_now_by no_confirm none_now call r s) s (call_device_by plan no_confirm call r s)
+    does-confirm_call = does-call_by no_confirm none_now (λ r s. quiet)
+
+    -- a ball has arrived at the target
+    pub does-arrival : (target : BallTarget) (s : Machine) → Does plan May (arrival_now target s) s (confirm_first_away plan target s)
+    does-arrival target s = by_first (first_away plan target s) refl
+      where
+        by_first : (o : Option RowId) → first_away plan target s ≡ o → Does plan May (confirm_now o s) s (confirm_of plan o s)
+        by_first None is = quiet
+        by_first (Some r) is = does-confirm_call (calls.Act Confirm) r (λ own. subst by (sym ((first_away-is plan target s r is).owner own)) machine) s
+
+    does-list : (owner : Owner) → (ActsAreOwn plan → by owner) → (l : ListId) → All (IsItsOwn owner) (actions_at plan l) → (s : Machine) → Does plan May (list_now owner l s) s (do_list plan owner l s)
+    does-list = does-list_by (confirm_entry plan) entry_now (λ r s. does-arrival (Device r) s)
+
+    -- what a device answers
+    pub does-answer : (r : RowId) → (ActsAreOwn plan → by (row_at plan r).owner) → (lists : List ℕ) → All (λ k. k < list_count (row_at plan r).settings) lists → (s : Machine) → Does plan May (answer_now r lists s) s (do_answer plan r lists s)
+    does-answer = does-answer_by (confirm_entry plan) entry_now (λ r s. does-arrival (Device r) s)
 
     -- a device of an owner by whom it may be
     pub does-call : (call : Call) (r : RowId) → (ActsAreOwn plan → by (row_at plan r).owner) → (s : Machine) → Does plan May (call_now call r s) s (call_device plan call r s)
-    does-call call r may s =
-        both (moved (Turned call r) s may)
-        (all_do-does plan May (λ k. do_list plan (row_at plan r).owner (list_of_row plan r k)) (λ k. cost_of_list plan (list_of_row plan r k)) (λ k. k < list_count (row_at plan r).settings)
-        (λ k t below. does-list (row_at plan r).owner may (list_of_row plan r k) (row-own r k below) t) (called plan call r s).1
-        (lists_are_of_the_row (row_at plan r).settings call s.moment (world_of s) (device_at s r)) (set_device r (called plan call r s).0 s))
+    does-call = does-call_by (confirm_entry plan) entry_now (λ r s. does-arrival (Device r) s)
 
     does-target : (owner : Owner) → (ActsAreOwn plan → by owner) → (t : Target) → (HasEntries plan → IsThere t) → (ActsAreOwn plan → IsOwnAct plan owner t)
-        → ((l : ListId) → t ≡ Run l → All (IsItsOwn owner) (actions_at plan l)) → (s : Machine) → Does plan May (target_now t s) s (do_target plan owner t s)
+        → ((l : ListId) → t ≡ Run l → All (IsItsOwn owner) (actions_at plan l)) → (s : Machine) → Does plan May (target_now owner t s) s (do_target plan owner t s)
     does-target owner may (Run l) there own ran s = does-list owner may l (ran l refl) s
     does-target owner may (Start m) there own ran s = moved (Began m) s there
     does-target owner may (Stop m) there own ran s = moved (Ended m) s there
@@ -290,10 +416,10 @@ module _ (plan : PlanView) where
     pub does-handler : (place : BindingId) (s : Machine) → by (binding_at plan place).owner → Does plan May (handler_now place s) s (do_handler plan place s)
     does-handler place s may = if_met (is_met plan s.players (binding_at plan place).condition)
       where
-        met : Does plan May (target_now (binding_at plan place).target s) s (do_target plan (binding_at plan place).owner (binding_at plan place).target s)
+        met : Does plan May (target_now (binding_at plan place).owner (binding_at plan place).target s) s (do_target plan (binding_at plan place).owner (binding_at plan place).target s)
         met = does-target (binding_at plan place).owner (λ own. may) (binding_at plan place).target (λ entries. target-there entries place) (λ own. target-own own place) (binding-own place) s
 
-        if_met : (b : Bool) → Does plan May (if b then target_now (binding_at plan place).target s else Lines 0) s (if b then do_target plan (binding_at plan place).owner (binding_at plan place).target s else s)
+        if_met : (b : Bool) → Does plan May (if b then target_now (binding_at plan place).owner (binding_at plan place).target s else Lines 0) s (if b then do_target plan (binding_at plan place).owner (binding_at plan place).target s else s)
         if_met true = met
         if_met false = quiet
 
@@ -306,33 +432,43 @@ module _ (plan : PlanView) where
         → (s : Machine) → Does plan May (each_of cost_of_post es) s (all_do (post owner) es s)
     does-posts owner may es within free s =
         all_do-does plan May (post owner) cost_of_post (λ e. (HasEntries plan → IsEventWithin (length plan.events) e) × IsFreeThere plan e) (λ e t h. moved (Sent owner e) t (may, h.0, h.1)) es
-        (λ k d there. (λ entries. within entries k d there, λ none. free none k d there)) s
+        (λ k d there. (λ entries. within entries k d there, λ valid none. inl (free none k d there))) s
 
     -- the devices that listen
-    does-listeners : by owners.Machine → (a : Acceptance) (s : Machine) → Does plan May (listeners_now a s) s (tell_listeners plan a s)
-    does-listeners may a s =
+    does-listeners : (a : Acceptance) (s : Machine) → Does plan May (listeners_now a s) s (tell_listeners plan a s)
+    does-listeners a s =
         all_do-does_now plan May (tell_listener plan a.active) (listener_now a.active) (λ l. ActsAreOwn plan → IsOwnListener plan l)
-        (λ l t h. does-call (calls.Act (act_of_listener a.active l)) l.row (λ own. subst by (sym (h own)) may) t) (listeners_of plan a.switch)
+        (λ l t h. does-call (calls.Act (act_of_listener a.active l)) l.row (λ own. subst by (sym (h own)) machine) t) (listeners_of plan a.switch)
         (λ k d there own. listener-own own a.switch k d there) s
 
-    -- an acceptance
-    pub does-accepted : by owners.Machine → (a : Acceptance) (s : Machine) → Does plan May (accepted_now a s) s (do_accepted plan a s)
-    does-accepted may a s =
-        let begun = write owners.Machine (lines.Switch a.switch a.active) s in
-        both (moved (Wrote owners.Machine (lines.Switch a.switch a.active)) s (λ own. may, tt, tt))
-        (both (does-listeners may a begun)
-        (does-posts owners.Machine (λ own. may) (posts_of plan a.switch a.active) (λ entries. posts-below plan entries a.switch a.active) (λ free. posts-free free a.switch a.active)
-        (tell_listeners plan a begun)))
+    -- a ball that may have arrived on the playfield
+    does-playfield : (a : Acceptance) (s : Machine) → Does plan May (playfield_now a s) s (confirm_on_playfield plan a s)
+    does-playfield a s = by_switch (a.active && (switch_at plan a.switch).confirms_playfield)
+      where
+        by_switch : (b : Bool) → Does plan May (if b then arrival_now Playfield s else Lines 0) s (if b then confirm_first_away plan Playfield s else s)
+        by_switch true = does-arrival Playfield s
+        by_switch false = quiet
 
-    pub does-if_accepted : by owners.Machine → (o : Option Acceptance) (s : Machine) → Does plan May (if_accepted_now o s) s (do_if_accepted plan o s)
-    does-if_accepted may None s = quiet
-    does-if_accepted may (Some a) s = does-accepted may a s
+    -- an acceptance
+    pub does-accepted : (a : Acceptance) (s : Machine) → Does plan May (accepted_now a s) s (do_accepted plan a s)
+    does-accepted a s =
+        let begun = write owners.Machine (lines.Switch a.switch a.active) s in
+        let heard = tell_listeners plan a begun in
+        both (moved (Wrote owners.Machine (lines.Switch a.switch a.active)) s (λ own. machine, tt, tt, tt))
+        (both (does-listeners a begun)
+        (both (does-playfield a heard)
+        (does-posts owners.Machine (λ own. machine) (posts_of plan a.switch a.active) (λ entries. posts-below plan entries a.switch a.active) (λ free. posts-free free a.switch a.active)
+        (confirm_on_playfield plan a heard))))
+
+    pub does-if_accepted : (o : Option Acceptance) (s : Machine) → Does plan May (if_accepted_now o s) s (do_if_accepted plan o s)
+    does-if_accepted None s = quiet
+    does-if_accepted (Some a) s = does-accepted a s
 
   -- the handlers of an event, from the state before them on
   pub does-order : (s : Machine) (e : EventId) (order : List BindingId) → IsHandlerOrder plan (handlers_in plan s e) order → Does plan (MayHandle plan s) (each_now (do_handler plan) handler_now order s) s (all_do (do_handler plan) order s)
   does-order s e order h =
       let running = running_of s.modes in
-      does-handlers (TakesPart s) ⊥ order
+      does-handlers (TakesPart s) ⊥ refl order
       (All-permutation (λ p. TakesPart s (binding_at plan p).owner) (handlers plan running e) order h.permutation (filter_passes (runs_at plan running) (places_of plan e))) s
 
   -- what a stimulus does once it has arrived
@@ -343,7 +479,7 @@ module _ (plan : PlanView) where
   does-begin (Alarm at (switch n)) s =
       less (both (moved (Switched n (fired (kind_at s.switches n) (state_at s.switches n))) (arrived at s) tt)
       (does-accepted IsMachine (Unit {0}) refl (reported (accept n s.switches) n) (set_switches (accept n s.switches) (arrived at s)))) (λ w. omega arith)
-  does-begin (Alarm at (device r)) s = does-call (Begins plan (Alarm at (device r))) (Unit {0}) calls.Fire r (λ own. refl) (arrived at s)
+  does-begin (Alarm at (device r)) s = does-call (Begins plan (Alarm at (device r))) (Unit {0}) (inr refl) calls.Fire r (λ own. inl refl) (arrived at s)
   does-begin (Wait at) s = quiet
 
   -- ---- the machine's work
@@ -359,26 +495,31 @@ module _ (plan : PlanView) where
       one coil t false = quiet
 
   -- the devices of a mode, of events at which the machine does nothing
-  pub does-calls : (by : Owner → Type 0) (call : Call) (m : ModeId) → by (owners.Mode m) → (s : Machine) → Does plan (MayDo plan (ordinary plan by ⊥)) (calls_now call m s) s (call_devices plan call m s)
-  does-calls by call m may s =
+  pub does-calls : (by : Owner → Type 0) → by owners.Machine → (call : Call) (m : ModeId) → by (owners.Mode m) → (s : Machine) → Does plan (MayDo plan (ordinary plan by ⊥)) (calls_now call m s) s (call_devices plan call m s)
+  does-calls by machine call m may s =
       all_do-does_now plan (MayDo plan (ordinary plan by ⊥)) (call_device plan call) (call_now call) (λ r. is_owner (owners.Mode m) (row_at plan r).owner ≡ true)
-      (λ r t h. does-call by ⊥ call r (λ own. subst by (is_owner-same (owners.Mode m) (row_at plan r).owner h) may) t)
+      (λ r t h. does-call by ⊥ machine call r (λ own. subst by (is_owner-same (owners.Mode m) (row_at plan r).owner h) may) t)
       (rows_of plan (owners.Mode m)) (filter_passes (λ r. is_owner (owners.Mode m) (row_at plan r).owner) (row_numbers plan)) s
 
-  works-calls : (call : Call) (m : ModeId) (s : Machine) → Does plan (MayWork plan) (calls_now call m s) s (call_devices plan call m s)
-  works-calls call m s = does-weaker plan (MayDo plan (ordinary plan (λ owner. Unit {0}) ⊥)) (MayWork plan) works (does-calls (λ owner. Unit {0}) call m tt s)
+  -- what handlers may do, the machine may as its work
+  works : {c : Cost} {s t : Machine} → Does plan (MayDo plan (ordinary plan (λ owner. Unit {0}) ⊥)) c s t → Does plan (MayWork plan) c s t
+  works = does-weaker plan (MayDo plan (ordinary plan (λ owner. Unit {0}) ⊥)) (MayWork plan) each
     where
-      works : (x : Move) → MayDo plan (ordinary plan (λ owner. Unit {0}) ⊥) x → MayWork plan x
-      works (Wrote owner what) may = may
-      works (Sent owner e) may = (may.0, may.1, tt)
-      works (Switched n state) may = may
-      works (Began k) may = may
-      works (Ended k) may = may
-      works (Marked k state) may = absurd may
-      works (Turned turn r) may = may
-      works (Asked owner command) may = may
-      works (Varied v value) may = may
-      works (Stepped which) may = may
+      each : (x : Move) → MayDo plan (ordinary plan (λ owner. Unit {0}) ⊥) x → MayWork plan x
+      each (Wrote owner what) may = may
+      each (Sent owner e) may = (may.0, may.1, tt)
+      each (Switched n state) may = may
+      each (Began k) may = may
+      each (Ended k) may = may
+      each (Marked k state) may = absurd may
+      each (Turned turn r) may = may
+      each (Asked owner command) may = may
+      each (Booked owner call) may = may
+      each (Varied v value) may = may
+      each (Stepped which) may = may
+
+  works-calls : (call : Call) (m : ModeId) (s : Machine) → Does plan (MayWork plan) (calls_now call m s) s (call_devices plan call m s)
+  works-calls call m s = works (does-calls (λ owner. Unit {0}) tt call m tt s)
 
   pub does-before : (w : Work) (s : Machine) → Does plan (MayWork plan) (before_now w s) s (do_before plan w s)
   does-before Nothing s = quiet
@@ -390,20 +531,34 @@ module _ (plan : PlanView) where
   does-before (Game which) s = quiet
 
   -- the scores of all players are told, where this holds
-  does-finals : (told : Bool) (s : Machine) → Does plan (MayWork plan) (finals_now told s) s (write_finals plan told s)
+  pub does-finals : (told : Bool) (s : Machine) → Does plan (MayWork plan) (finals_now told s) s (write_finals plan told s)
   does-finals true s =
-      all_do-does plan (MayWork plan) (write_final plan) (λ player. Lines 1) (λ player. Unit {0}) (λ player t h. moved (Wrote owners.Machine (lines.Final player (score_of plan t.players player))) t (λ own. tt, tt, tt))
+      all_do-does plan (MayWork plan) (write_final plan) (λ player. Lines 1) (λ player. Unit {0}) (λ player t h. moved (Wrote owners.Machine (lines.Final player (score_of plan t.players player))) t (λ own. tt, tt, tt, tt))
       (range_with_len 1 (length s.players.players)) (λ k d there. tt) s
   does-finals false s = quiet
+
+  -- a trough is asked for a ball
+  pub does-trough : (by : Owner → Type 0) → by owners.Machine → (s : Machine) → Does plan (MayDo plan (ordinary plan by ⊥)) (trough_now (first_trough plan) s) s (ask_trough plan (first_trough plan) s)
+  does-trough by machine s = by_first (first_trough plan) refl
+    where
+      by_first : (o : Option RowId) → first_trough plan ≡ o → Does plan (MayDo plan (ordinary plan by ⊥)) (trough_now o s) s (ask_trough plan o s)
+      by_first None is = quiet
+      by_first (Some r) is = does-call by ⊥ machine (calls.Act (Request 1)) r (λ own. subst by (sym ((first_trough-is plan r is).owner own)) machine) s
+
+  pub does-request : (by : Owner → Type 0) → by owners.Machine → (asks : Bool) (s : Machine) → Does plan (MayDo plan (ordinary plan by ⊥)) (request_now asks s) s (ask_ball plan asks s)
+  does-request by machine true s = does-trough by machine s
+  does-request by machine false s = quiet
 
   -- the game goes on by an event that has this work
   does-game : (which : GameEvent) (e : EventId) → work_of plan e ≡ Game which → (s : Machine) → Does plan (MayWork plan) (game_now which s) s (do_game plan which s)
   does-game which e is s =
       let step = step_now plan which s in
       let stepped = do_move plan (Stepped which) s in
+      let written = write_finals plan step.finals stepped in
       both (moved (Stepped which) s tt) (both (does-finals step.finals stepped)
+      (both (works (does-request (λ owner. Unit {0}) tt step.requests written))
       (all_do-does plan (MayWork plan) (post_game plan) (λ other. cost_of_post (game_event plan other)) (λ other. Unit {0})
-      (λ other t h. moved (Sent owners.Machine (game_event plan other)) t (λ own. tt, λ entries. game_event-below plan entries (game_has-event plan entries e which is) other, tt)) step.posts (λ k d there. tt) (write_finals plan step.finals stepped)))
+      (λ other t h. moved (Sent owners.Machine (game_event plan other)) t (λ own. tt, λ entries. game_event-below plan entries (game_has-event plan entries e which is) other, tt)) step.posts (λ k d there. tt) (ask_ball plan step.requests written))))
 
   does-after_work : (kept : Bool) (w : Work) (e : EventId) → work_of plan e ≡ w → IsWorkAt plan e w → (s : Machine) → Does plan (MayWork plan) (after_now w s) s (do_after plan kept w s)
   does-after_work kept Nothing e is at s = quiet

@@ -1,12 +1,24 @@
 -- What things cost in a state is within what they cost in any, where each device has a state of its shape.
-use Rattle.std.proofs.Common.{◌≡◌, ℕ, ◌+◌, ◌<◌, ◌≤◌, Bool, true, false, if◌then◌else◌, cond, filter, inl, inr, Option, None, Some, List, [], ◌∷◌, length, refl, ap, sym, subst, arith}
-use Rattle.std.specs.Prelude.{IsSome, Contains}
+use Rattle.std.proofs.Common.{◌≡◌, ℕ, ℤ, ◌+◌, ◌<◌, ◌≤◌, Bool, true, false, if◌then◌else◌, cond, filter, inl, inr, Option, None, Some, List, [], ◌∷◌, length, refl, ap, sym, subst, arith}
+use Rattle.std.specs.Prelude.{◌&&◌, IsSome, Contains}
 use Rattle.std.specs.List.{All, list_any, range_with_len}
 use Rattle.std.proofs.lemmas.Bool.{cases_lt}
 use Rattle.std.proofs.lemmas.List.{get_or_past}
 use Rattle.std.proofs.lemmas.List.FromFn.{length-range_with_len}
 use Rattle.std.proofs.lemmas.List.Elements.{All-get_or, All-head, All-nil, All-tail}
-use Rattle.plan_tables.specs.PlanView.{PlanView, act_of_listener, actions_of, coil_numbers, is_enable_of, listeners_of, no_switch, binding_at, row_at, row_numbers, rows_of}
+use Rattle.plan_tables.specs.PlanView.{PlanView, act_of_listener, actions_at, actions_of, coil_numbers, feeders_of, first_trough, game_event, is_enable_of, list_of_row, listeners_of, no_switch, binding_at, row_at, row_numbers, rows_of, switch_at, target_of}
+use Rattle.plan_tables.specs.declared.entries.Action.{Action}
+use Rattle.plan_tables.specs.declared.entries.Action.TheVariants.{Post, Pulse, Enable, Disable, Change as ChangeVariable, Enter, Leave, Lose, Arrive}
+use Rattle.plan_tables.specs.declared.entries.ListId.{ListId}
+use Rattle.plan_tables.specs.declared.entries.VariableId.{VariableId}
+use Rattle.plan_tables.specs.declared.entries.GameEvent.TheVariants.{BallDrain}
+use Rattle.plan_tables.specs.declared.devices.Act.TheVariants.{Confirm, Request}
+use Rattle.plan_tables.specs.declared.devices.BallTarget.{BallTarget}
+use Rattle.plan_tables.specs.declared.devices.BallTarget.TheVariants.{Playfield, Device}
+use Rattle.ball_devices.specs.declared.booking.Origin.{Origin}
+use Rattle.ball_devices.specs.declared.booking.Origin.TheVariants.{Awaited, Found, New}
+use Rattle.ball_devices.specs.Ledger.{origin_of}
+use Rattle.ball_devices.specs.Bookings as calls_of_ledger
 use Rattle.plan_tables.specs.Valid.{HasEntries, IsListenerWithin}
 use Rattle.plan_tables.specs.declared.entries.CoilId.{CoilId}
 use Rattle.plan_tables.specs.declared.entries.ModeId.{ModeId}
@@ -28,8 +40,8 @@ use Rattle.plan_tables.specs.declared.entries.Work.{Work}
 use Rattle.plan_tables.specs.declared.entries.Work.TheVariants.{Nothing, Mode, Game}
 use Rattle.plan_tables.specs.declared.entries.GameEvent.{GameEvent}
 use Rattle.plan_tables.specs.declared.entries.GameRules.{GameRules}
-use Rattle.player_game.specs.Players.{is_met, most_players}
-use Rattle.player_game.specs.GameStep.{GameStep, game_step}
+use Rattle.player_game.specs.Players.{is_met, changed_to, after_change as players_after_change, most_players}
+use Rattle.player_game.specs.GameStep.{GameStep, game_step, is_ball_on}
 use Rattle.player_game.specs.Choices.{choices, tells_scores, AreFew}
 use Rattle.player_game.proofs.Chosen.{steps_are_choices}
 use Rattle.player_game.proofs.StayFew.{players_stay_few}
@@ -43,18 +55,19 @@ use Rattle.device_objects.proofs.Answered.{answers_are_outcomes}
 use Rattle.device_objects.proofs.Moments.{stopped-silent}
 use Rattle.mode_stack.specs.ModeStep.{entered}
 use Rattle.mode_stack.specs.Modes.{mode_state}
-use Rattle.cascade_rank.specs.Cost.{Cost, Lines, price, each_of, dearest_of, cost_of_acceptance, cost_of_answer, cost_of_call, cost_of_choice, cost_of_game, cost_of_listener, cost_of_releases, cost_of_target, cost_of_starts, led_by, cost_if_led}
+use Rattle.cascade_rank.specs.Cost.{Cost, Lines, price, each_of, dearest_of, cost_of_acceptance, cost_of_action_by, cost_of_list_by, cost_of_answer_by, cost_of_call_by, no_confirm_cost, entry_confirm_cost, cost_of_arrival, cost_of_list, cost_of_call, cost_of_choice, cost_of_trough, cost_of_request, cost_of_playfield_switch, cost_of_game, cost_of_listener, cost_of_releases, cost_of_target, cost_of_starts, led_by, cost_if_led}
 use Rattle.cascade_rank.specs.Weights.{bound_of}
 use Rattle.cascade_rank.proofs.Prices.{price-dearest}
 use Rattle.cascade_rank.proofs.Rows.{length-rows, row_of}
-use Rattle.written_machine.specs.Machine.{Machine, write, set_switches, set_mode, ask_coil, release_coil, world_of, device_at, called, call_device, call_devices, tell_listener, home_of, do_handler}
+use Rattle.written_machine.specs.Machine.{Machine, write, post, set_switches, set_mode, set_device, set_players, all_do, ask_coil, release_coil, tell_change, book, drain_if, after_entry, do_action_by, do_list_by, do_answer_by, call_device_by, first_away, no_confirm, confirm_of, confirm_first_away, confirm_entry, world_of, device_at, called, call_device, call_devices, tell_listener, tell_listeners, home_of, write_finals, do_handler}
 use Rattle.written_machine.specs.Devices.{HasDevices}
 use Rattle.written_machine.specs.Run.{switch, device, source_due, Stimulus, Change, Alarm, Wait, arrived}
 use Rattle.written_machine.specs.GoodRun.{cost_if_accepted, cost_of_stimulus}
-use Rattle.written_machine.specs.Moves.{Stepped, step_now, do_move}
-use Rattle.written_machine.proofs.Does.{each_now, has_devices-does, HasCoils, asked-has_coils}
+use Rattle.written_machine.specs.Moves.{Turned, Booked, Stepped, step_now, do_move}
+use Rattle.written_machine.proofs.Does.{each_now, has_devices-does, has_devices-move, HasCoils, asked-has_coils}
+use Rattle.written_machine.proofs.Feeding.{first_away-is, first_trough-is}
 use Rattle.written_machine.proofs.Resting.{stops-turn}
-use Rattle.written_machine.proofs.Parts.{IsThere, target-there, cost_of_handler, call_now, target_now, handler_now, listener_now, accepted_now, if_accepted_now, release_now, stimulus_now, before_now, finals_now, after_now, does-call, does-handler}
+use Rattle.written_machine.proofs.Parts.{IsThere, target-there, cost_of_handler, action_now_by, list_now_by, answer_now_by, call_now_by, none_now, confirm_now, arrival_now, entry_now, list_now, answer_now, call_now, target_now, handler_now, listener_now, playfield_now, accepted_now, if_accepted_now, release_now, stimulus_now, before_now, finals_now, trough_now, request_now, after_now, does-handler, does-finals}
 
 module _ (plan : PlanView) (entries : HasEntries plan) (w : EventId → ℕ) where
   dearest-of : {X : Type 0} (f : X → Cost) (xs : List X) (x : X) → Contains xs x → price w (f x) ≤ price w (dearest_of f xs)
@@ -63,30 +76,107 @@ module _ (plan : PlanView) (entries : HasEntries plan) (w : EventId → ℕ) whe
   -- one after another
   each-priced : {X : Type 0} (f : X → Machine → Machine) (now : X → Machine → Cost) (cost : X → Cost) (P : X → Type 0)
       → ((x : X) (s : Machine) → P x → HasDevices plan s.devices → (price w (now x s) ≤ price w (cost x)) × HasDevices plan (f x s).devices)
-      → (xs : List X) → All P xs → (s : Machine) → HasDevices plan s.devices → price w (each_now f now xs s) ≤ price w (each_of cost xs)
-  each-priced f now cost P one [] all s has = omega arith
+      → (xs : List X) → All P xs → (s : Machine) → HasDevices plan s.devices → (price w (each_now f now xs s) ≤ price w (each_of cost xs)) × HasDevices plan (all_do f xs s).devices
+  each-priced f now cost P one [] all s has = (omega arith, has)
   each-priced f now cost P one (x ∷ xs) all s has =
       let here = one x s (All-head P x xs all) has in
-      omega (arith, here.0, each-priced f now cost P one xs (All-tail P x xs all) (f x s) here.1)
+      let rest = each-priced f now cost P one xs (All-tail P x xs all) (f x s) here.1 in
+      (omega (arith, here.0, rest.0), rest.1)
+
+  -- ---- actions
+
+  told-devices : (owner : Owner) (player : ℕ) (v : VariableId) (e : EventId) (value : Option ℤ) (s : Machine) → HasDevices plan s.devices → HasDevices plan (tell_change owner player v e value s).devices
+  told-devices owner player v e None s has = has
+  told-devices owner player v e (Some value) s has = has
+
+  drain-devices : (owner : Owner) (drain : Bool) (s : Machine) → HasDevices plan s.devices → HasDevices plan (drain_if plan owner drain s).devices
+  drain-devices owner drain s has = by (drain && is_ball_on s.game.phase)
+    where
+      by : (b : Bool) → HasDevices plan (if b then post owner (game_event plan BallDrain) s else s).devices
+      by true = has
+      by false = has
+
+  -- where each confirm is within its cost
+  module _ (confirm : RowId → Machine → Machine) (now : RowId → Machine → Cost) (cost : RowId → Cost)
+      (confirms : (r : RowId) (s : Machine) → HasDevices plan s.devices → (price w (now r s) ≤ price w (cost r)) × HasDevices plan (confirm r s).devices) where
+    entry-devices : (owner : Owner) (r : RowId) (drain : Bool) (origin : Origin) (s : Machine) → HasDevices plan s.devices → HasDevices plan (after_entry plan confirm owner r drain origin s).devices
+    entry-devices owner r drain Awaited s has = (confirms r s has).1
+    entry-devices owner r drain Found s has = drain-devices owner drain s has
+    entry-devices owner r drain New s has = drain-devices owner drain s has
+
+    action-priced : (owner : Owner) (a : Action) (s : Machine) → HasDevices plan s.devices
+        → (price w (action_now_by plan confirm now owner a s) ≤ price w (cost_of_action_by plan cost a)) × HasDevices plan (do_action_by plan confirm owner a s).devices
+    action-priced owner (Post e) s has = (omega arith, has)
+    action-priced owner (Pulse coil ms power) s has = (omega arith, has)
+    action-priced owner (Enable coil power) s has = (omega arith, has)
+    action-priced owner (Disable coil) s has = (omega arith, has)
+    action-priced owner (ChangeVariable v action n e) s has =
+        let value = changed_to plan v action n s.players in
+        (omega arith, told-devices owner s.players.current v e value (set_players (players_after_change plan v value s.players) s) has)
+    action-priced owner (Enter r e drain) s has =
+        let posted = post owner e (book owner (calls_of_ledger.Enter r) s) in
+        let still = has_devices-move plan (Booked owner (calls_of_ledger.Enter r)) s has in
+        let confirmed = confirms r posted still in
+        (omega (arith, confirmed.0), entry-devices owner r drain (origin_of r s.ledger) posted still)
+    action-priced owner (Leave r) s has = (omega arith, has_devices-move plan (Booked owner (calls_of_ledger.Leave r (target_of plan r))) s has)
+    action-priced owner (Lose r) s has = (omega arith, has_devices-move plan (Booked owner (calls_of_ledger.Lose r)) s has)
+    action-priced owner (Arrive r) s has = (omega arith, has_devices-move plan (Booked owner (calls_of_ledger.Arrive (target_of plan r))) s has)
+
+    list-priced_by : (owner : Owner) (l : ListId) (s : Machine) → HasDevices plan s.devices
+        → (price w (list_now_by plan confirm now owner l s) ≤ price w (cost_of_list_by plan cost l)) × HasDevices plan (do_list_by plan confirm owner l s).devices
+    list-priced_by owner l s has =
+        each-priced (do_action_by plan confirm owner) (action_now_by plan confirm now owner) (cost_of_action_by plan cost) (λ a. Unit {0}) (λ a t h k. action-priced owner a t k) (actions_at plan l) (λ i d there. tt) s has
+
+    answer-priced_by : (r : RowId) (lists : List ℕ) (s : Machine) → HasDevices plan s.devices
+        → (price w (answer_now_by plan confirm now r lists s) ≤ price w (cost_of_answer_by plan cost r lists)) × HasDevices plan (do_answer_by plan confirm r lists s).devices
+    answer-priced_by r lists s has =
+        each-priced (λ k. do_list_by plan confirm (row_at plan r).owner (list_of_row plan r k)) (λ k. list_now_by plan confirm now (row_at plan r).owner (list_of_row plan r k)) (λ k. cost_of_list_by plan cost (list_of_row plan r k)) (λ k. Unit {0})
+        (λ k t h d. list-priced_by (row_at plan r).owner (list_of_row plan r k) t d) lists (λ i d there. tt) s has
+
+    -- a device that is called
+    call-priced_by : (call : Call) (r : RowId) (s : Machine) → r.0 < length plan.rows → HasDevices plan s.devices → MayCome call (device_at s r)
+        → (price w (call_now_by plan confirm now call r s) ≤ price w (cost_of_call_by plan cost r call)) × HasDevices plan (call_device_by plan confirm call r s).devices
+    call-priced_by call r s there has may =
+        let settings = (row_at plan r).settings in
+        let lists = (called plan call r s).1 in
+        let done = answer-priced_by r lists (set_device r (called plan call r s).0 s) (has_devices-move plan (Turned call r) s has) in (
+          omega (
+            arith,
+            done.0,
+            dearest-of (cost_of_answer_by plan cost r) (outcomes settings call) lists
+                (answers_are_outcomes settings call s.moment (world_of s) (device_at s r) (has.shapes r there) may),
+          ),
+          done.1,
+        )
+
+  -- ---- balls that have arrived
+
+  -- the device that is told of it is one of those that may be
+  arrival-priced : (target : BallTarget) (s : Machine) → HasDevices plan s.devices
+      → (price w (arrival_now plan target s) ≤ price w (cost_of_arrival plan target)) × HasDevices plan (confirm_first_away plan target s).devices
+  arrival-priced target s has = by (first_away plan target s) refl
+    where
+      by : (o : Option RowId) → first_away plan target s ≡ o → (price w (confirm_now plan o s) ≤ price w (cost_of_arrival plan target)) × HasDevices plan (confirm_of plan o s).devices
+      by None is = (omega arith, has)
+      by (Some r) is =
+          let first = first_away-is plan target s r is in
+          let priced = call-priced_by no_confirm (none_now plan) no_confirm_cost (λ q t k. (omega arith, k)) (calls.Act Confirm) r s first.there has tt in
+          (omega (arith, priced.0, dearest-of (λ q. cost_of_call_by plan no_confirm_cost q (calls.Act Confirm)) (feeders_of plan target) r first.listed), priced.1)
 
   -- ---- devices
 
-  call-priced : (call : Call) (r : RowId) (s : Machine) → r.0 < length plan.rows → HasDevices plan s.devices → MayCome call (device_at s r) → price w (call_now plan call r s) ≤ price w (cost_of_call plan r call)
-  call-priced call r s there has may =
-      let settings = (row_at plan r).settings in
-      omega (
-        arith,
-        dearest-of (cost_of_answer plan r) (outcomes settings call) (called plan call r s).1
-            (answers_are_outcomes settings call s.moment (world_of s) (device_at s r) (has.shapes r there) may),
-      )
+  list-priced : (owner : Owner) (l : ListId) (s : Machine) → HasDevices plan s.devices → price w (list_now plan owner l s) ≤ price w (cost_of_list plan l)
+  list-priced owner l s has = (list-priced_by (confirm_entry plan) (entry_now plan) (entry_confirm_cost plan) (λ r t k. arrival-priced (Device r) t k) owner l s has).0
 
-  call-devices : (call : Call) (r : RowId) (s : Machine) → HasDevices plan s.devices → HasDevices plan (call_device plan call r s).devices
-  call-devices call r s has = has_devices-does plan (does-call plan (λ owner. Unit {0}) ⊥ call r (λ own. tt) s) has
+  call-priced : (call : Call) (r : RowId) (s : Machine) → r.0 < length plan.rows → HasDevices plan s.devices → MayCome call (device_at s r)
+      → (price w (call_now plan call r s) ≤ price w (cost_of_call plan r call)) × HasDevices plan (call_device plan call r s).devices
+  call-priced = call-priced_by (confirm_entry plan) (entry_now plan) (entry_confirm_cost plan) (λ r t k. arrival-priced (Device r) t k)
 
   -- a device whose mode stops costs nothing
   stop-free : (r : RowId) (s : Machine) → price w (call_now plan calls.ModeStop r s) ≡ 0
   stop-free r s =
-      let silent = ap (λ lists. price w (cost_of_answer plan r lists)) (stopped-silent (row_at plan r).settings s.moment (world_of s) (device_at s r)) in
+      let turned = set_device r (called plan calls.ModeStop r s).0 s in
+      let silent = ap (λ lists. price w (answer_now plan r lists turned)) (stopped-silent (row_at plan r).settings s.moment (world_of s) (device_at s r)) in
       omega (arith, silent)
 
   stops-free : (rs : List RowId) (s : Machine) → price w (each_now (call_device plan calls.ModeStop) (call_now plan calls.ModeStop) rs s) ≡ 0
@@ -95,11 +185,11 @@ module _ (plan : PlanView) (entries : HasEntries plan) (w : EventId → ℕ) whe
 
   -- ---- handlers
 
-  target-priced : (t : Target) (s : Machine) → IsThere plan t → HasDevices plan s.devices → price w (target_now plan t s) ≤ price w (cost_of_target plan t)
-  target-priced (Run l) s there has = omega arith
-  target-priced (Start m) s there has = omega arith
-  target-priced (Stop m) s there has = omega arith
-  target-priced (Act r act) s there has = call-priced (calls.Act act) r s there has tt
+  target-priced : (owner : Owner) (t : Target) (s : Machine) → IsThere plan t → HasDevices plan s.devices → price w (target_now plan owner t s) ≤ price w (cost_of_target plan t)
+  target-priced owner (Run l) s there has = list-priced owner l s has
+  target-priced owner (Start m) s there has = omega arith
+  target-priced owner (Stop m) s there has = omega arith
+  target-priced owner (Act r act) s there has = (call-priced (calls.Act act) r s there has tt).0
 
   handler-priced : (place : BindingId) (s : Machine) → HasDevices plan s.devices → price w (handler_now plan place s) ≤ price w (cost_of_handler plan place)
   handler-priced place s has = by (is_met plan s.players (binding_at plan place).condition)
@@ -107,17 +197,20 @@ module _ (plan : PlanView) (entries : HasEntries plan) (w : EventId → ℕ) whe
       target : Target
       target = (binding_at plan place).target
 
-      met : price w (target_now plan target s) ≤ price w (cost_of_target plan target)
-      met = target-priced target s (target-there plan entries place) has
+      owner : Owner
+      owner = (binding_at plan place).owner
 
-      by : (b : Bool) → price w (if b then target_now plan target s else Lines 0) ≤ price w (cost_of_target plan target)
+      met : price w (target_now plan owner target s) ≤ price w (cost_of_target plan target)
+      met = target-priced owner target s (target-there plan entries place) has
+
+      by : (b : Bool) → price w (if b then target_now plan owner target s else Lines 0) ≤ price w (cost_of_target plan target)
       by true = met
       by false = omega arith
 
   pub handlers-priced : (order : List BindingId) (s : Machine) → HasDevices plan s.devices → price w (each_now (do_handler plan) (handler_now plan) order s) ≤ price w (each_of (cost_of_handler plan) order)
   handlers-priced order s has =
-      each-priced (do_handler plan) (handler_now plan) (cost_of_handler plan) (λ p. Unit {0})
-      (λ p t h k. (handler-priced p t k, has_devices-does plan (does-handler plan (λ owner. Unit {0}) ⊥ p t tt) k)) order (λ i d there. tt) s has
+      (each-priced (do_handler plan) (handler_now plan) (cost_of_handler plan) (λ p. Unit {0})
+      (λ p t h k. (handler-priced p t k, has_devices-does plan (does-handler plan (λ owner. Unit {0}) ⊥ tt p t tt) k)) order (λ i d there. tt) s has).0
 
   -- ---- the machine's work
 
@@ -128,8 +221,8 @@ module _ (plan : PlanView) (entries : HasEntries plan) (w : EventId → ℕ) whe
   before-priced (Mode m Started) s has =
       let active = set_mode m (entered (mode_state s.modes m)) s in
       let starts = each-priced (call_device plan calls.ModeStart) (call_now plan calls.ModeStart) (λ r. cost_of_call plan r calls.ModeStart) (λ r. r.0 < length plan.rows)
-      (λ r t there k. (call-priced calls.ModeStart r t there k tt, call-devices calls.ModeStart r t k)) (rows_of plan (owners.Mode m)) (rows_of-within plan (owners.Mode m)) active has in
-      omega (arith, starts)
+      (λ r t there k. call-priced calls.ModeStart r t there k tt) (rows_of plan (owners.Mode m)) (rows_of-within plan (owners.Mode m)) active has in
+      omega (arith, starts.0)
   before-priced (Mode m Stopping) s has = omega arith
   before-priced (Mode m Stopped) s has = omega arith
   before-priced (Game which) s has = omega arith
@@ -172,42 +265,61 @@ module _ (plan : PlanView) (entries : HasEntries plan) (w : EventId → ℕ) whe
       omega (arith, lines-each (range_with_len 1 (length s.players.players)), length-range_with_len 1 (length s.players.players), most)
   finals-priced false s few = omega arith
 
-  -- the scores are told at most where the event tells them, and the posts are one of its choices, or none
+  -- the first trough is one of the plan's devices
+  trough-priced : (s : Machine) → HasDevices plan s.devices → price w (trough_now plan (first_trough plan) s) ≤ price w (cost_of_trough plan (first_trough plan))
+  trough-priced s has = by (first_trough plan) refl
+    where
+      by : (o : Option RowId) → first_trough plan ≡ o → price w (trough_now plan o s) ≤ price w (cost_of_trough plan o)
+      by None is = omega arith
+      by (Some r) is = (call-priced (calls.Act (Request 1)) r s (first_trough-is plan r is).there has tt).0
+
+  request-priced : (asks : Bool) (s : Machine) → HasDevices plan s.devices → price w (request_now plan asks s) ≤ price w (if asks then cost_of_trough plan (first_trough plan) else Lines 0)
+  request-priced true s has = trough-priced s has
+  request-priced false s has = omega arith
+
+  -- scores are told and a ball is asked for at most where the event says so, and the posts are one of its choices, or none
   record IsChosen (which : GameEvent) (step : GameStep) : Type 0 where
     told : (k : ℕ) → (if step.finals then k else 0) ≤ (if tells_scores which then k else 0)
+    requests : price w (if step.requests then cost_of_trough plan (first_trough plan) else Lines 0) ≤ price w (cost_of_request plan which)
     posts : price w (cost_of_choice plan step.posts) ≤ price w (dearest_of (cost_of_choice plan) (choices which))
 
-  chosen : (game : Option GameRules) (which : GameEvent) (s : Machine) → IsChosen which (game_step game plan which (home_of s) s.game s.players)
+  chosen : (game : Option GameRules) (which : GameEvent) (s : Machine) → IsChosen which (game_step game plan which (home_of plan s) s.game s.players)
   unfolding game_step
-  chosen None which s = record { told = λ k. omega arith; posts = omega arith }
+  chosen None which s = record { told = λ k. omega arith; requests = omega arith; posts = omega arith }
   chosen (Some rules) which s =
-      let tells = steps_are_choices.finals rules plan which (home_of s) s.game s.players in
+      let tells = steps_are_choices.finals rules plan which (home_of plan s) s.game s.players in
+      let asks = ap (λ (b : Bool). price w (if b then cost_of_trough plan (first_trough plan) else Lines 0)) (steps_are_choices.requests rules plan which (home_of plan s) s.game s.players) in
       record {
         told = λ k. subst (λ (b : Bool). (if b then k else 0) ≤ (if tells_scores which then k else 0)) (sym tells) (omega arith);
-        posts = dearest-of (cost_of_choice plan) (choices which) (game_step (Some rules) plan which (home_of s) s.game s.players).posts (steps_are_choices.posts rules plan which (home_of s) s.game s.players);
+        requests = omega (arith, asks);
+        posts = dearest-of (cost_of_choice plan) (choices which) (game_step (Some rules) plan which (home_of plan s) s.game s.players).posts (steps_are_choices.posts rules plan which (home_of plan s) s.game s.players);
       }
 
-  game-priced : (which : GameEvent) (s : Machine) → AreFew plan s.players → price w (after_now plan (Game which) s) ≤ price w (cost_of_game plan (Game which))
-  game-priced which s few =
+  game-priced : (which : GameEvent) (s : Machine) → HasDevices plan s.devices → AreFew plan s.players → price w (after_now plan (Game which) s) ≤ price w (cost_of_game plan (Game which))
+  game-priced which s has few =
+      let step = step_now plan which s in
+      let stepped = do_move plan (Stepped which) s in
       let is = chosen plan.game which s in
       let told = is.told (most_players plan.game) in
       let posts = is.posts in
-      let finals = finals-priced (step_now plan which s).finals (do_move plan (Stepped which) s) (players_stay_few plan which (home_of s) s.game s.players few) in
-      omega (arith, told, posts, finals)
+      let finals = finals-priced step.finals stepped (players_stay_few plan which (home_of plan s) s.game s.players few) in
+      let asked = request-priced step.requests (write_finals plan step.finals stepped) (has_devices-does plan (does-finals plan step.finals stepped) has) in
+      let requests = is.requests in
+      omega (arith, told, posts, finals, asked, requests)
 
-  pub after-priced : (work : Work) (s : Machine) → HasCoils plan s.coils → AreFew plan s.players
+  pub after-priced : (work : Work) (s : Machine) → HasDevices plan s.devices → HasCoils plan s.coils → AreFew plan s.players
       → price w (after_now plan work s) ≤ price w (cost_of_releases plan work) + (price w (cost_if_led (led_by plan work)) + price w (cost_of_game plan work))
-  after-priced Nothing s has few = omega arith
-  after-priced (Mode m WillStart) s has few = omega arith
-  after-priced (Mode m Starting) s has few = omega arith
-  after-priced (Mode m Started) s has few = omega arith
-  after-priced (Mode m Stopping) s has few =
+  after-priced Nothing s devices has few = omega arith
+  after-priced (Mode m WillStart) s devices has few = omega arith
+  after-priced (Mode m Starting) s devices has few = omega arith
+  after-priced (Mode m Started) s devices has few = omega arith
+  after-priced (Mode m Stopping) s devices has few =
       let turned = stops-turn plan (rows_of plan (owners.Mode m)) s in
       let same : (call_devices plan calls.ModeStop m s).coils ≡ s.coils = ap (λ (t : Machine). t.coils) turned.1 in
       let released = releases-priced m (coil_numbers plan) (call_devices plan calls.ModeStop m s) (subst (HasCoils plan) (sym same) has) in
       omega (arith, stops-free (rows_of plan (owners.Mode m)) s, released)
-  after-priced (Mode m Stopped) s has few = omega arith
-  after-priced (Game which) s has few = let priced = game-priced which s few in omega (arith, priced)
+  after-priced (Mode m Stopped) s devices has few = omega arith
+  after-priced (Game which) s devices has few = let priced = game-priced which s devices few in omega (arith, priced)
 
   -- ---- stimuli
 
@@ -223,9 +335,16 @@ module _ (plan : PlanView) (entries : HasEntries plan) (w : EventId → ℕ) whe
   accepted-priced a s has =
       let begun = write owners.Machine (lines.Switch a.switch a.active) s in
       let listeners = each-priced (tell_listener plan a.active) (listener_now plan a.active) (cost_of_listener plan a.active) (λ l. l.row.0 < length plan.rows)
-      (λ l t there k. (call-priced (calls.Act (act_of_listener a.active l)) l.row t there k tt, call-devices (calls.Act (act_of_listener a.active l)) l.row t k)) (listeners_of plan a.switch) (listeners-within a.switch) begun has in
-      omega (arith, listeners)
+      (λ l t there k. call-priced (calls.Act (act_of_listener a.active l)) l.row t there k tt) (listeners_of plan a.switch) (listeners-within a.switch) begun has in
+      omega (arith, listeners.0, playfield (tell_listeners plan a begun) listeners.1)
     where
+      playfield : (t : Machine) → HasDevices plan t.devices → price w (playfield_now plan a t) ≤ price w (cost_of_playfield_switch plan a.switch a.active)
+      playfield t k = by (a.active && (switch_at plan a.switch).confirms_playfield)
+        where
+          by : (b : Bool) → price w (if b then arrival_now plan Playfield t else Lines 0) ≤ price w (if b then cost_of_arrival plan Playfield else Lines 0)
+          by true = (arrival-priced Playfield t k).0
+          by false = omega arith
+
       listeners-within : (n : SwitchId) → All (λ l. l.row.0 < length plan.rows) (listeners_of plan n)
       listeners-within n =
           elim (cases_lt n.0 (length plan.switches)) [
@@ -241,7 +360,7 @@ module _ (plan : PlanView) (entries : HasEntries plan) (w : EventId → ℕ) whe
   stimulus-priced (Change at n level) s fired has =
       if_accepted-priced (reported_by_change n level at s.switches) (set_switches (after_change n level at s.switches) (arrived at s)) has
   stimulus-priced (Alarm at (switch n)) s fired has = accepted-priced (reported (accept n s.switches) n) (set_switches (accept n s.switches) (arrived at s)) has
-  stimulus-priced (Alarm at (device r)) s fired has = call-priced calls.Fire r (arrived at s) fired.0 has (subst IsSome (sym fired.1) refl)
+  stimulus-priced (Alarm at (device r)) s fired has = (call-priced calls.Fire r (arrived at s) fired.0 has (subst IsSome (sym fired.1) refl)).0
   stimulus-priced (Wait at) s fired has = omega arith
 
   -- the alarm of a device of the plan is no dearer than the dearest stimulus

@@ -1,6 +1,6 @@
 -- A mode that is stopped is silent, in every run: what the moves of handlers, the machine's works and the beginning of a
 -- stimulus keep.
-use Rattle.std.proofs.Common.{◌≡◌, ℕ, ◌<◌, if◌then◌else◌, inl, inr, Some, Bool, true, false, ◌==◌, cond, List, [], ◌∷◌, ◌++◌, length, refl, ap, sym, subst, ◌∙◌, rules}
+use Rattle.std.proofs.Common.{◌≡◌, ℕ, ◌<◌, ◌⊎◌, if◌then◌else◌, inl, inr, Some, Bool, true, false, ◌==◌, cond, List, [], ◌∷◌, ◌++◌, length, refl, ap, sym, subst, ◌∙◌, rules}
 use Rattle.std.specs.List.{range_with_len}
 use Rattle.std.proofs.lemmas.Bool.{cases_eq, eq-eqb, ne_eqb}
 use Rattle.std.proofs.lemmas.List.{append-nil, get_or-replicate, length-replicate, length-set}
@@ -15,6 +15,7 @@ use Rattle.plan_tables.specs.declared.entries.Owner.TheVariants as owners
 use Rattle.plan_tables.specs.declared.entries.Work.{Work}
 use Rattle.plan_tables.specs.declared.entries.Work.TheVariants.{Nothing, Mode, Game}
 use Rattle.plan_tables.specs.declared.entries.GameEvent.{GameEvent}
+use Rattle.plan_tables.specs.declared.entries.GameEvent.TheVariants.{BallDrain}
 use Rattle.player_game.specs.Players.{score_of}
 use Rattle.plan_tables.specs.declared.devices.RowId.{RowId}
 use Rattle.plan_tables.proofs.Owners.{rows_of-there}
@@ -42,17 +43,17 @@ use Rattle.written_machine.specs.declared.line.Line.{Line}
 use Rattle.written_machine.specs.declared.line.Happening.TheVariants as lines
 use Rattle.written_machine.specs.Devices.{ActsAreOwn}
 use Rattle.written_machine.specs.FreePosts.{IsFreeWork, PostsAreFree}
-use Rattle.written_machine.specs.Machine.{Machine, initial, post, set_mode, has_game, post_game, write_final, write_finals, ask_coil, release_coil, release_coils, stop_mode, all_do, do_game, device_state, call_devices, do_handler}
+use Rattle.written_machine.specs.Machine.{Machine, initial, post, set_mode, has_game, post_game, write_final, write_finals, ask_ball, ask_coil, release_coil, release_coils, stop_mode, all_do, do_game, device_state, call_devices, do_handler}
 use Rattle.written_machine.specs.EventStep.{taken, before_handlers, handlers_in, do_before, do_after}
 use Rattle.written_machine.specs.Run.{switch, device, source_due, Stimulus, Change, Alarm, Wait, moment_of, IsAllowed, arrived, begin, IsRun}
 use Rattle.written_machine.specs.Silent.{HasStarted, IsSilent}
-use Rattle.written_machine.specs.Moves.{Move, Wrote, Sent, Switched, Began, Ended, Marked, Turned, Asked, Varied, Stepped, step_now, do_move, MayDo, Does, TakesPart, Begins, ordinary, MayHandle}
-use Rattle.written_machine.proofs.Does.{start-by, stop-by, does-keeps, off-has_coils}
-use Rattle.written_machine.proofs.Parts.{does-calls, does-releases, does-order, does-begin}
+use Rattle.written_machine.specs.Moves.{Move, Wrote, Sent, Switched, Began, Ended, Marked, Turned, Asked, Booked, Varied, Stepped, step_now, do_move, MayDo, Does, TakesPart, IsMachine, Begins, ordinary, MayHandle}
+use Rattle.written_machine.proofs.Does.{start-by, stop-by, book-by, does-keeps, off-has_coils}
+use Rattle.written_machine.proofs.Parts.{does-calls, does-releases, does-request, does-order, does-begin}
 use Rattle.written_machine.proofs.Keeps.{step-keeps, run-keeps}
 use Rattle.written_machine.proofs.Cycles.{mine, waiting_of, IsTurn, idle, turn-will_start, turn-starting, turn-started, turn-stopping, turn-stopped, stopping-runs, stopped-quiet}
 use Rattle.written_machine.proofs.Hearing.{Said, written, all_written, awaited, all_awaited, heard_at, heard_after, heard, IsFine, heard-push, fine-push, heard-started, fine-silent}
-use Rattle.written_machine.proofs.Speaking.{Holds, HoldsIn, heard_in, phase_in, IsRunning, takes-runs, runs-takes, own_state, other_state, wrote-holds, asked-holds, posted-holds, own_post, own_set, own_change, other_post, other_set, start-holds, stop-holds, lines-push}
+use Rattle.written_machine.proofs.Speaking.{Holds, HoldsIn, heard_in, phase_in, IsRunning, takes-runs, runs-takes, own_state, other_state, wrote-holds, asked-holds, booked-holds, posted-holds, own_post, own_set, own_change, other_post, other_set, start-holds, stop-holds, lines-push}
 use Rattle.written_machine.proofs.Alarms.{initial-devices, initial-quiet}
 use Rattle.written_machine.proofs.Held.{IsHolding, off-not, released-none}
 use Rattle.written_machine.proofs.Resting.{stops-turn, stops-quiet, Rests, running-rests, runs-rests, quiet-rests, move-rests}
@@ -90,6 +91,7 @@ module _ (plan : PlanView) (by : Owner → Type 0) (switches : Type 0) where
   still-move (Marked k state) s may = absurd may
   still-move (Turned call r) s may = refl
   still-move (Asked owner command) s may = refl
+  still-move (Booked owner call) s may = book-by owner call s (λ t. running_of t.modes ≡ running_of s.modes) (λ is. refl) refl
   still-move (Varied v value) s may = refl
   still-move (Stepped which) s may = refl
 
@@ -119,10 +121,11 @@ handled m (Game which) = []
 handled m (Mode k which) = cond (k.0 == m.0) (still_due which) []
 
 -- an event that may be posted is none of a mode's
-free-mine : (m : ModeId) (w : Work) → IsFreeWork w → mine m w [] ≡ []
-free-mine m Nothing is = refl
-free-mine m (Mode k which) is = absurd is
-free-mine m (Game which) is = refl
+free-mine : (m : ModeId) (w : Work) → IsFreeWork w ⊎ (w ≡ Game BallDrain) → mine m w [] ≡ []
+free-mine m w (inr is) = ap (λ (v : Work). mine m v []) is
+free-mine m Nothing (inl is) = refl
+free-mine m (Mode k which) (inl is) = absurd is
+free-mine m (Game which) (inl is) = refl
 
 module _ (plan : PlanView) (valid : IsValid plan) (free : PostsAreFree plan) (own : ActsAreOwn plan) (m : ModeId) (within : m.0 < length plan.modes) where
   -- the mode is heard only where it may be, and no device of it is due unless it runs
@@ -148,7 +151,7 @@ module _ (plan : PlanView) (valid : IsValid plan) (free : PostsAreFree plan) (ow
 
     move-holds : (front : List ModeEvent) (x : Move) (s : Machine) → MayDo plan (ordinary plan by switches) x → IsKept front s → HoldsIn plan m before front (do_move plan x s)
     move-holds front (Wrote owner what) s may h = wrote-holds plan valid m within before front owner what s may.1 (λ is. own_runs front s h (subst by is (may.0 own))) h.kept
-    move-holds front (Sent owner e) s may h = posted-holds plan valid m within before front owner e s (free-mine m (work_of plan e) (may.2 free)) (λ is. own_runs front s h (subst by is (may.0 own))) h.kept
+    move-holds front (Sent owner e) s may h = posted-holds plan valid m within before front owner e s (free-mine m (work_of plan e) (may.2 valid free)) (λ is. own_runs front s h (subst by is (may.0 own))) h.kept
     move-holds front (Switched n state) s may h = record { count = h.kept.count; fine = h.kept.fine; holds = h.kept.holds }
     move-holds front (Began k) s may h = start-holds plan valid m within before front k s (may valid.entries) h.kept
     move-holds front (Ended k) s may h = stop-holds plan valid m within before front k s (may valid.entries) h.kept
@@ -156,6 +159,7 @@ module _ (plan : PlanView) (valid : IsValid plan) (free : PostsAreFree plan) (ow
     move-holds front (Turned call r) s may h = record { count = h.kept.count; fine = h.kept.fine; holds = h.kept.holds }
     move-holds front (Varied v value) s may h = record { count = h.kept.count; fine = h.kept.fine; holds = h.kept.holds }
     move-holds front (Stepped which) s may h = record { count = h.kept.count; fine = h.kept.fine; holds = h.kept.holds }
+    move-holds front (Booked owner call) s may h = booked-holds plan valid m within before front owner call s (λ is. own_runs front s h (subst by is (may own))) h.kept
     move-holds front (Asked owner command) s may h = asked-holds plan valid m within before front owner command s (λ is. own_runs front s h (subst by is (may.0 own))) h.kept
 
     moves-hold : (front : List ModeEvent) (c : Cost) (s t : Machine) → Does plan (MayDo plan (ordinary plan by switches)) c s t → running_of s.modes ≡ running → Stays before front s → Stays before front t
@@ -198,15 +202,16 @@ module _ (plan : PlanView) (valid : IsValid plan) (free : PostsAreFree plan) (ow
   -- the devices of a mode are called, of which the lines are not those of this one or may be heard
   calls-hold : (before : List Line) (front : List ModeEvent) (call : Call) (k : ModeId) (s : Machine) → (k.0 ≡ m.0 → IsTaking s) → Stays before front s → Stays before front (call_devices plan call k s)
   calls-hold before front call k s runs h =
-      moves-hold before (λ owner. owner ≡ owners.Mode k) ⊥ (running_of s.modes) (λ is. runs (sym (mode_number is))) front _ s (call_devices plan call k s)
-      (does-calls plan (λ owner. owner ≡ owners.Mode k) call k refl s) refl h
+      moves-hold before (λ owner. (owner ≡ owners.Mode k) ⊎ IsMachine owner) ⊥ (running_of s.modes) mode_runs front _ s (call_devices plan call k s)
+      (does-calls plan (λ owner. (owner ≡ owners.Mode k) ⊎ IsMachine owner) (inr refl) call k (inl refl) s) refl h
     where
       number_of : Owner → ℕ
       number_of owners.Machine = 0
       number_of (owners.Mode i) = i.0
 
-      mode_number : owners.Mode m ≡ owners.Mode k → m.0 ≡ k.0
-      mode_number is = ap number_of is
+      mode_runs : (owners.Mode m ≡ owners.Mode k) ⊎ IsMachine (owners.Mode m) → IsTaking s
+      mode_runs (inl is) = runs (sym (ap number_of is))
+      mode_runs (inr is) = absurd (search (rules, is))
 
   -- ---- the work after the handlers
 
@@ -311,12 +316,19 @@ module _ (plan : PlanView) (valid : IsValid plan) (free : PostsAreFree plan) (ow
         post-rests (game_event plan which) s h.1,
       )
 
+  -- a trough is asked for a ball
+  request-stays : (before : List Line) (asks : Bool) (s : Machine) → Stays before [] s → Stays before [] (ask_ball plan asks s)
+  request-stays before asks s h =
+      moves-hold before IsMachine ⊥ (running_of s.modes) (λ is. absurd (search (rules, is))) [] _ s (ask_ball plan asks s) (does-request plan IsMachine refl asks s) refl h
+
   game-stays : (before : List Line) (which : GameEvent) (s : Machine) → HasGame plan → Stays before [] s → Stays before [] (do_game plan which s)
   game-stays before which s has h =
       let step = step_now plan which s in
       let stepped = do_move plan (Stepped which) s in
-      posts-stay before has step.posts (write_finals plan step.finals stepped)
-      (finals-stay before step.finals stepped (record { count = h.0.count; fine = h.0.fine; holds = h.0.holds }, running-rests plan valid own m s stepped refl refl refl h.1))
+      let written = write_finals plan step.finals stepped in
+      posts-stay before has step.posts (ask_ball plan step.requests written)
+      (request-stays before step.requests written
+      (finals-stay before step.finals stepped (record { count = h.0.count; fine = h.0.fine; holds = h.0.holds }, running-rests plan valid own m s stepped refl refl refl h.1)))
 
   abbrev numbered : ℕ → ModeId
   numbered n = record { 0 = n }
@@ -432,7 +444,8 @@ module _ (plan : PlanView) (valid : IsValid plan) (free : PostsAreFree plan) (ow
   begins-runs : (stimulus : Stimulus) (s : Machine) → IsAllowed plan s stimulus → Rests plan m s → Begins plan stimulus (owners.Mode m) → IsTaking s
   begins-runs (Change at n level) s allowed h is = absurd (search (rules, is))
   begins-runs (Alarm at (switch n)) s allowed h is = absurd (search (rules, is))
-  begins-runs (Alarm at (device r)) s allowed h is = h.rests r at (sym is) allowed.0.due
+  begins-runs (Alarm at (device r)) s allowed h (inl is) = h.rests r at (sym is) allowed.0.due
+  begins-runs (Alarm at (device r)) s allowed h (inr is) = absurd (search (rules, is))
   begins-runs (Wait at) s allowed h is = absurd (search (rules, is))
 
   begins : (before : List Line) (stimulus : Stimulus) (s : Machine) → IsAllowed plan s stimulus → s.waiting ≡ [] → Stays before [] s → Stays (before ++ s.lines) [] (begin plan stimulus s)

@@ -27,9 +27,11 @@ use Rattle.coil_guard.specs.declared.command.Command.{Command}
 use Rattle.coil_guard.specs.declared.command.Answer.{Answer}
 use Rattle.coil_guard.specs.declared.command.Answer.TheVariants as answers
 use Rattle.coil_guard.specs.Asked.{after_asking, answer_asking}
-use Rattle.written_machine.specs.Machine.{Machine, write, post, set_coils, told, ask_coil, set_mode, has_game, is_post, post_if, start_mode, stop_mode}
+use Rattle.ball_devices.specs.Bookings.{LedgerCall, after_call, booked}
+use Rattle.written_machine.specs.Machine.{Machine, write, post, set_ledger, counts_of, book, set_coils, told, ask_coil, set_mode, has_game, is_post, post_if, start_mode, stop_mode}
 use Rattle.written_machine.proofs.Cycles.{mine, waiting_of, IsTurn, waiting_of-push, turn-start, turn-stop, IsNoEnd, running-no_end}
 use Rattle.written_machine.proofs.Hearing.{Said, work_written, written, all_written, awaited, all_awaited, heard_at, heard_after, heard, IsFine, written-push, awaited-push, heard-push, fine-push}
+use Rattle.written_machine.proofs.Does.{book-by}
 use Rattle.written_machine.specs.Moves.{IsNoEvent}
 
 -- Of the mode's events: the one that is being handled, as long as its work is still to come, and those that wait. And
@@ -138,6 +140,7 @@ module _ (plan : PlanView) (valid : IsValid plan) (m : ModeId) (within : m.0 < l
   wrote-holds front owner (lines.Coil command) s quiet runs h = quiet-holds front owner (lines.Coil command) s refl runs h
   wrote-holds front owner (lines.Skip command) s quiet runs h = quiet-holds front owner (lines.Skip command) s refl runs h
   wrote-holds front owner (lines.Player player v value) s quiet runs h = quiet-holds front owner (lines.Player player v value) s refl runs h
+  wrote-holds front owner (lines.Balls booking counts) s quiet runs h = quiet-holds front owner (lines.Balls booking counts) s refl runs h
   wrote-holds front owner (lines.Final player score) s quiet runs h = quiet-holds front owner (lines.Final player score) s refl runs h
   wrote-holds front owner (lines.Event e) s quiet runs h = absurd quiet
 
@@ -152,6 +155,14 @@ module _ (plan : PlanView) (valid : IsValid plan) (m : ModeId) (within : m.0 < l
       told-quiet : (a : Answer) → work_written plan (told command a) ≡ Nothing
       told-quiet (answers.Sent sent) = refl
       told-quiet answers.Skipped = refl
+
+  -- the ledger books something
+  pub booked-holds : (front : List ModeEvent) (owner : Owner) (call : LedgerCall) (s : Machine) → (owner ≡ owners.Mode m → IsRunning m s) → HoldsIn plan m before front s → HoldsIn plan m before front (book owner call s)
+  booked-holds front owner call s runs h =
+      book-by owner call s (HoldsIn plan m before front)
+      (λ is.
+      quiet-holds front owner (lines.Balls (booked call s.ledger) (counts_of (after_call call s.ledger))) (set_ledger (after_call call s.ledger) s) refl runs
+      (record { count = h.count; fine = h.fine; holds = h.holds })) h
 
   -- an event that is none of the mode's is posted
   pub posted-holds : (front : List ModeEvent) (owner : Owner) (e : EventId) (s : Machine) → mine m (work_of plan e) [] ≡ [] → (owner ≡ owners.Mode m → IsRunning m s) → HoldsIn plan m before front s → HoldsIn plan m before front (post owner e s)

@@ -2,7 +2,7 @@
 use Rattle.std.specs.Prelude.{◌≡◌, ℕ, ℤ, ◌-◌, ◌≤◌, ◌<◌, ◌⊎◌, Option, true, length}
 use Rattle.std.specs.List.{list_any}
 use Rattle.plan_tables.specs.PlanView.{PlanView, actions_of, is_enable_of, mode_event, row_at, work_of}
-use Rattle.plan_tables.specs.Valid.{HasEntries}
+use Rattle.plan_tables.specs.Valid.{HasEntries, IsValid}
 use Rattle.plan_tables.specs.declared.entries.EventId.{EventId}
 use Rattle.plan_tables.specs.declared.entries.Owner.{Owner}
 use Rattle.plan_tables.specs.declared.entries.CoilId.{CoilId}
@@ -150,10 +150,10 @@ MayDo plan l (Booked owner call) = ActsAreOwn plan → l.by owner
 MayDo plan l (Varied v value) = Unit {0}
 MayDo plan l (Stepped which) = Unit {0}
 
--- Where nothing in the plan posts an event at which the machine itself does something, but the start button's, this is
--- none either, or it is that of a ball that drains.
+-- Where nothing in a valid plan posts an event at which the machine itself does something, but the start button's, this
+-- is none either, or it is that of a ball that drains.
 abbrev pub IsFreeThere : PlanView → EventId → Type 0
-IsFreeThere plan e = PostsAreFree plan → IsFree plan e ⊎ (work_of plan e ≡ Game BallDrain)
+IsFreeThere plan e = IsValid plan → PostsAreFree plan → IsFree plan e ⊎ (work_of plan e ≡ Game BallDrain)
 
 -- From one state to another by moves that are allowed, and that cost at most this.
 pub data Does (plan : PlanView) (may : Move → Type 0) : Cost → Machine → Machine → Type 0 where

@@ -1,0 +1,105 @@
+-- The ball devices that may be told of a ball that has arrived, and the first trough.
+use Rattle.std.proofs.Common.{◌≡◌, ℕ, zero, suc, ◌<◌, Bool, true, false, cond, Option, None, Some, List, [], ◌∷◌, length, refl, ap, sym, ◌∙◌, subst, inl, inr, arith}
+use Rattle.std.specs.Prelude.{Contains, find}
+use Rattle.std.specs.List.{All}
+use Rattle.std.proofs.lemmas.Bool.{cases_lt, false≢true}
+use Rattle.std.proofs.lemmas.List.{get_or_past}
+use Rattle.std.proofs.lemmas.List.Elements.{All-filter, All-get_or, filter_passes}
+use Rattle.std.proofs.lemmas.Option.{none-some}
+use Rattle.plan_tables.specs.PlanView.{PlanView, feeders_of, feeds, first_trough, is_trough, no_row, row_at, row_numbers}
+use Rattle.plan_tables.specs.declared.devices.BallTarget.{BallTarget}
+use Rattle.plan_tables.specs.declared.devices.RowId.{RowId}
+use Rattle.plan_tables.specs.declared.devices.Settings.{Settings}
+use Rattle.plan_tables.specs.declared.devices.Settings.TheVariants.{Counter, Accrual, Sequence, Timer, Bank, Flipper, Autofire, BallDevice}
+use Rattle.plan_tables.specs.declared.entries.Owner.{Owner}
+use Rattle.plan_tables.specs.declared.entries.Owner.TheVariants as owners
+use Rattle.plan_tables.proofs.Owners.{row_numbers-within}
+use Rattle.written_machine.specs.Devices.{ActsAreOwn, IsOwnBallDevice}
+use Rattle.written_machine.specs.Machine.{Machine, device_at, first_away, is_device_away}
+
+-- ---- what is found in a list
+
+-- what is found is in the list, and passes the test
+pub found : {X : Type 0} (p : X → Bool) (xs : List X) (x : X) → find p xs ≡ Some x → Contains xs x × (p x ≡ true)
+found p [] x is = absurd (none-some x is)
+found p (y ∷ ys) x is = by (p y) refl (found p ys x) is
+  where
+    by : (b : Bool) → p y ≡ b → (find p ys ≡ Some x → Contains ys x × (p x ≡ true)) → cond b (Some y) (find p ys) ≡ Some x → Contains (y ∷ ys) x × (p x ≡ true)
+    by true passes rest here =
+        let same : y ≡ x = cc in
+        ((0, omega arith, same), subst (λ z. p z ≡ true) same passes)
+    by false passes rest later =
+        let (there, passes_too) = rest later in
+        ((suc there.0, let within = there.1 in omega (arith, within), there.2), passes_too)
+
+-- what holds of all holds of one of them
+pub All-at : {X : Type 0} (P : X → Type 0) (xs : List X) (x : X) → All P xs → Contains xs x → P x
+All-at P xs x all (i, within, is) = subst P is (all i x within)
+
+-- ---- ball devices
+
+-- what has a target is a ball device
+feeds-own : (target : BallTarget) (settings : Settings) (owner : Owner) → feeds target settings ≡ true → IsOwnBallDevice settings owner → owner ≡ owners.Machine
+feeds-own target (BallDevice d) owner is own = own
+feeds-own target (Counter d) owner is own = absurd (false≢true is)
+feeds-own target (Accrual d) owner is own = absurd (false≢true is)
+feeds-own target (Sequence d) owner is own = absurd (false≢true is)
+feeds-own target (Timer d) owner is own = absurd (false≢true is)
+feeds-own target (Bank d) owner is own = absurd (false≢true is)
+feeds-own target Flipper owner is own = absurd (false≢true is)
+feeds-own target Autofire owner is own = absurd (false≢true is)
+
+trough-own : (settings : Settings) (owner : Owner) → is_trough settings ≡ true → IsOwnBallDevice settings owner → owner ≡ owners.Machine
+trough-own (BallDevice d) owner is own = own
+trough-own (Counter d) owner is own = absurd (false≢true is)
+trough-own (Accrual d) owner is own = absurd (false≢true is)
+trough-own (Sequence d) owner is own = absurd (false≢true is)
+trough-own (Timer d) owner is own = absurd (false≢true is)
+trough-own (Bank d) owner is own = absurd (false≢true is)
+trough-own Flipper owner is own = absurd (false≢true is)
+trough-own Autofire owner is own = absurd (false≢true is)
+
+module _ (plan : PlanView) where
+  -- a ball device is the machine's
+  ball_row-own : ActsAreOwn plan → (r : RowId) → IsOwnBallDevice (row_at plan r).settings (row_at plan r).owner
+  ball_row-own own r =
+      elim (cases_lt r.0 (length plan.rows)) [
+        | inl there ↦ All-get_or (λ row. IsOwnBallDevice row.settings row.owner) plan.rows r.0 no_row there own.balls
+        | inr past ↦ subst (λ row. IsOwnBallDevice row.settings row.owner) (sym (get_or_past plan.rows r.0 no_row past)) tt
+      ]
+
+  pub feeders-within : (target : BallTarget) → All (λ r. r.0 < length plan.rows) (feeders_of plan target)
+  feeders-within target = All-filter (λ r. feeds target (row_at plan r).settings) (λ r. r.0 < length plan.rows) (row_numbers plan) (row_numbers-within plan)
+
+  -- the first device Away to a target is a device of the plan that ejects to it, and is Away
+  pub record IsFirstAway (target : BallTarget) (s : Machine) (r : RowId) : Type 0 where
+    pub listed : Contains (feeders_of plan target) r
+    pub there : r.0 < length plan.rows
+    pub away : is_device_away (device_at s r) ≡ true
+    pub owner : ActsAreOwn plan → (row_at plan r).owner ≡ owners.Machine
+
+  pub first_away-is : (target : BallTarget) (s : Machine) (r : RowId) → first_away plan target s ≡ Some r → IsFirstAway target s r
+  first_away-is target s r is =
+      let (listed, away) = found (λ q. is_device_away (device_at s q)) (feeders_of plan target) r is in
+      let feeds_it = All-at (λ q. feeds target (row_at plan q).settings ≡ true) (feeders_of plan target) r (filter_passes (λ q. feeds target (row_at plan q).settings) (row_numbers plan)) listed in
+      record {
+        listed = listed;
+        there = All-at (λ q. q.0 < length plan.rows) (feeders_of plan target) r (feeders-within target) listed;
+        away = away;
+        owner = λ own. feeds-own target (row_at plan r).settings (row_at plan r).owner feeds_it (ball_row-own own r);
+      }
+
+  -- the first trough is a device of the plan, and the machine's
+  pub record IsFirstTrough (r : RowId) : Type 0 where
+    pub there : r.0 < length plan.rows
+    pub trough : is_trough (row_at plan r).settings ≡ true
+    pub owner : ActsAreOwn plan → (row_at plan r).owner ≡ owners.Machine
+
+  pub first_trough-is : (r : RowId) → first_trough plan ≡ Some r → IsFirstTrough r
+  first_trough-is r is =
+      let (listed, trough) = found (λ q. is_trough (row_at plan q).settings) (row_numbers plan) r is in
+      record {
+        there = All-at (λ q. q.0 < length plan.rows) (row_numbers plan) r (row_numbers-within plan) listed;
+        trough = trough;
+        owner = λ own. trough-own (row_at plan r).settings (row_at plan r).owner trough (ball_row-own own r);
+      }
