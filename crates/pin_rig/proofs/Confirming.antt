@@ -99,16 +99,12 @@ module _ (plan : PlanView) (target : BallTarget) (s : Machine) where
       ∙ ap (λ (b : Bool). cond b (Some r) (find away (filter feeds_it (drop (i + 1) (row_numbers plan))))) parts.1
 
   pub away-later : (i : ℕ) → i < length plan.rows → (feeds_it (record { 0 = i }) && away (record { 0 = i })) ≡ false → away_from i ≡ away_from (i + 1)
-  away-later i there neither = by (feeds_it r) (away r) refl refl neither
+  away-later i there neither = by (feeds_it (record { 0 = i })) (away (record { 0 = i })) refl refl neither
     where
-      r : RowId
-      r = record { 0 = i }
-
-      by : (f a : Bool) → feeds_it r ≡ f → away r ≡ a → (f && a) ≡ false → away_from i ≡ away_from (i + 1)
-      unfolding r
+      by : (f a : Bool) → feeds_it (record { 0 = i }) ≡ f → away (record { 0 = i }) ≡ a → (f && a) ≡ false → away_from i ≡ away_from (i + 1)
       by true true is of h = absurd (false≢true (sym h))
       by true false is of h =
-          ap (find away) (row-first plan feeds_it i there is) ∙ ap (λ (b : Bool). cond b (Some r) (away_from (i + 1))) of
+          ap (find away) (row-first plan feeds_it i there is) ∙ ap (λ (b : Bool). cond b (Some (record { 0 = i })) (away_from (i + 1))) of
       by false a is of h = ap (find away) (row-other plan feeds_it i there is)
 
   pub away-end : (i : ℕ) → length plan.rows ≤ i → away_from i ≡ None

@@ -1,5 +1,6 @@
 -- How many balls are at home, one device after another.
 use Rattle.std.proofs.Common.{◌≡◌, ℕ, ◌+◌, ◌*◌, ◌<◌, ◌≤◌, ◌^◌, Bool, true, false, List, [], ◌∷◌, length, filter, map, drop, refl, ap, sym, ◌∙◌, subst, arith}
+use Rattle.std.proofs.lemmas.List.Sums.{sum_by-cons}
 use Rattle.plan_tables.specs.PlanView.{PlanView, home_rows, is_home, row_at, row_numbers}
 use Rattle.plan_tables.specs.declared.devices.RowId.{RowId}
 use Rattle.ball_devices.specs.Ledger.{Ledger, IsLedger, counted_in, total}
@@ -15,7 +16,9 @@ module _ (plan : PlanView) (l : Ledger) where
   home_from i = total (map (counted_in l) (filter at_home (drop i (row_numbers plan))))
 
   pub home-here : (i : ℕ) → i < length plan.rows → at_home (record { 0 = i }) ≡ true → home_from i ≡ counted_in l (record { 0 = i }) + home_from (i + 1)
-  home-here i there is = ap (λ (rs : List RowId). total (map (counted_in l) rs)) (row-first plan at_home i there is)
+  home-here i there is =
+      let rest = filter at_home (drop (i + 1) (row_numbers plan)) in
+      ap (λ (rs : List RowId). total (map (counted_in l) rs)) (row-first plan at_home i there is) ∙ sum_by-cons (λ n. n) (counted_in l (record { 0 = i })) (map (counted_in l) rest)
 
   pub home-other : (i : ℕ) → i < length plan.rows → at_home (record { 0 = i }) ≡ false → home_from i ≡ home_from (i + 1)
   home-other i there is = ap (λ (rs : List RowId). total (map (counted_in l) rs)) (row-other plan at_home i there is)

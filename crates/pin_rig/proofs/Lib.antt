@@ -9,7 +9,6 @@ pub mod Accepting
 pub mod Entering
 pub mod Confirming
 pub mod Homes
-pub mod Booking
 pub mod Handling
 pub mod Playing
 pub mod Stepping

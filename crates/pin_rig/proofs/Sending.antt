@@ -186,15 +186,10 @@ module _ (plan : PlanView) (start : List CoilState) where
   booked-agrees : (owner : Owner) (call : LedgerCall) (s : Machine) → Agrees start s → Agrees start (book owner call s)
   booked-agrees owner call s h = by (can_book call s.ledger)
     where
-      told : Machine
-      told = set_ledger (after_call call s.ledger) s
-
-      what : Happening
-      what = lines.Balls (booked call s.ledger) (counts_of (after_call call s.ledger))
-
-      by : (b : Bool) → Agrees start (if b then write owner what told else s)
-      unfolding told what
-      by true = wrote-agrees owner what told tt (record { coils = h.coils; sent = h.sent })
+      by : (b : Bool) → Agrees start (if b then write owner (lines.Balls (booked call s.ledger) (counts_of (after_call call s.ledger))) (set_ledger (after_call call s.ledger) s) else s)
+      by true =
+          wrote-agrees owner (lines.Balls (booked call s.ledger) (counts_of (after_call call s.ledger))) (set_ledger (after_call call s.ledger) s) tt
+          (record { coils = h.coils; sent = h.sent })
       by false = h
 
   agrees-move : (licence : Licence) (x : Move) (s : Machine) → MayDo plan licence x → Agrees start s → Agrees start (do_move plan x s)

@@ -1,13 +1,13 @@
 //! Balls that have arrived where a device has ejected them to.
 
-ghost use Rattle.std.specs.Prelude.{◌≡◌, ◌<◌, IfSome, length};
+ghost use Rattle.std.specs.Prelude.{◌≡◌, ◌<◌, ◌&&◌, IfSome, length};
 ghost use Rattle.std.specs.List.{All};
 ghost use Rattle.plan_tables.specs.Devices.{list_count};
-ghost use Rattle.plan_tables.specs.PlanView.{row_at};
+ghost use Rattle.plan_tables.specs.PlanView.{feeds, row_at};
 ghost use Rattle.plan_tables.specs.Valid.{IsActionWithin};
 ghost use Rattle.plan_tables.specs.declared.devices.Act.TheVariants.{Confirm};
 ghost use Rattle.device_objects.specs.declared.device.Call.TheVariants as calls;
-ghost use Rattle.written_machine.specs.Machine.{all_do, call_device_by, confirm_first_away, do_action_by, do_answer_by, first_away, is_device_away, no_confirm};
+ghost use Rattle.written_machine.specs.Machine.{all_do, call_device_by, confirm_first_away, do_action_by, do_answer_by, device_at, first_away, is_device_away, no_confirm};
 ghost use Rattle.written_machine.specs.Devices.{HasDevices};
 ghost use Rattle.pin_rig.specs.Core.{CanCall, HasRoom, after};
 
@@ -37,11 +37,25 @@ fn first_away<D: Device>(plan: &Plan, core: &Core<'_, D>, target: BallTarget) ->
 {
     for number in 0..plan.rows().len() {
         let row = RowId(number as u16);
-        if plan.row(row).settings.feeds(target) && is_away(&core.state(row)) {
+        if is_away_to(plan, core, row, target) {
             return Some(row);
         }
     }
     None
+}
+
+/// Whether the device's ball is on its way to the target.
+fn is_away_to<D: Device>(
+    plan: &Plan,
+    core: &Core<'_, D>,
+    row: RowId,
+    target: BallTarget,
+) -> bool
+    requires row { row.0 < length plan.now.rows }
+    requires devices { HasDevices plan.now core.now.machine.devices }
+    ensures { result ≡ (feeds target (row_at plan.now row).settings && is_device_away (device_at core.now.machine row)) }
+{
+    plan.row(row).settings.feeds(target) && is_away(&core.state(row))
 }
 
 /// Whether the ball that a device has ejected is on its way.

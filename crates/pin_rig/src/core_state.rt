@@ -76,7 +76,7 @@ impl<'p, D: Device> Model for Core<'p, D> {
       room = c.queue.size;
     } };
 
-    ghost invariant = { λ c. (c.queue.size ≤ vec_capacity c.lines) × (c.modes.plan ≡ c.handlers.plan) × (c.players.plan ≡ c.handlers.plan) × (c.game.rules ≡ c.handlers.plan.game) × (map D.row_of c.devices.items ≡ c.handlers.plan.rows) × (c.alarms ≡ map (λ d. due_of (D.state_of d)) c.devices.items) × (length c.ledger.counted ≡ length c.handlers.plan.rows) × (length c.ledger.to_devices ≡ length c.handlers.plan.rows) };
+    ghost invariant = { λ c. (c.queue.size ≤ vec_capacity c.lines) × (c.modes.plan ≡ c.handlers.plan) × (c.players.plan ≡ c.handlers.plan) × (c.game.rules ≡ c.handlers.plan.game) × (map D.row_of c.devices.items ≡ c.handlers.plan.rows) × (c.alarms ≡ map (λ d. due_of (D.state_of d)) c.devices.items) × (length c.ledger.counted ≡ length c.handlers.plan.rows) };
 }
 
 impl<'p, D: Device> Core<'p, D> {
