@@ -1,6 +1,7 @@
 -- What is done where a switch was accepted.
 use Rattle.std.proofs.Common.{◌≡◌, ◌<◌, List, [], ◌∷◌, length, length-append, sym, ap, ◌∙◌, subst, arith}
 use Rattle.plan_tables.specs.PlanView.{PlanView, act_of_listener, listeners_of, posts_of}
+use Rattle.plan_tables.specs.declared.entries.EventId.{EventId}
 use Rattle.plan_tables.specs.declared.entries.Listener.{Listener}
 use Rattle.plan_tables.specs.declared.entries.Owner.TheVariants as owners
 use Rattle.device_objects.specs.declared.device.Call.TheVariants as calls
@@ -65,3 +66,16 @@ module _ (plan : PlanView) (a : Acceptance) (now : CoreView) (room : HasRoom now
       playfield-calls h =
           subst (CanCall plan) (sym core-is)
           (goes-can plan now (after (λ s. told) now) (goes-then plan now.machine begun told (goes-write plan owners.Machine (lines.Switch a.switch a.active) now.machine) (goes-told begun)) h)
+
+      -- and for its events
+      module _ (arrived_core : CoreView) (arrived_core_is : arrived_core ≡ after (confirm_on_playfield plan a) core) (events : List EventId) (events_are : events ≡ posts_of plan a.switch a.active) where
+        arrived-is : arrived_core ≡ after (λ s. arrived) now
+        arrived-is = arrived_core_is ∙ ap (after (confirm_on_playfield plan a)) core-is
+
+        pub posts-room : HasRoom arrived_core.room (all_do (post owners.Machine) events arrived_core.machine)
+        posts-room =
+            subst (λ (v : CoreView). HasRoom v.room (all_do (post owners.Machine) events v.machine)) (sym arrived-is)
+            (subst (λ (es : List EventId). HasRoom now.room (all_do (post owners.Machine) es arrived)) (sym events_are) room)
+
+        pub accepted-done : (last : CoreView) → last ≡ after (all_do (post owners.Machine) events) arrived_core → last ≡ after (do_accepted plan a) now
+        accepted-done last last_is = last_is ∙ (λ i. after (all_do (post owners.Machine) (events_are i)) (arrived-is i))

@@ -15,7 +15,7 @@ loop-number-preserved c =
     elim c.if-is_home.branch [
       | then-is_home w ↦
           let here = home-here plan l i there (is ∙ w.if-is_home.true) in
-          let few = counted-few l w.counted-home.ensures.ledger i (omega (arith, there, c.requires)) in
+          let few = counted-few plan l w.counted-home.ensures.ledger i (omega (arith, there, c.requires)) in
           record { all = omega (arith, here, w.home-is, w.counted-home.ensures.counted, c.loop-number.invariant.all); few = omega (arith, few, w.home-is, w.counted-home.ensures.counted, c.loop-number.invariant.few) }
       | else-is_home w ↦
           let other = home-other plan l i there (is ∙ w.if-is_home.false) in

@@ -31,4 +31,4 @@ returns-in-Some g c =
 pub returns-in_default : goal.returns-in_default
 returns-in_default g c =
     done-alone c.args.plan.now c.args.owner c.args.action c.args.core.now c.requires.room c.run_alone.new.core c.run_alone.ensures
-    ?
+    (sym c.awaited_entry-entry.ensures ∙ c.in_default.is)

@@ -1,4 +1,4 @@
-use Rattle.pin_rig.proofs.Accepting.{line-room, told-room, playfield-room, playfield-plan, playfield-calls}
+use Rattle.pin_rig.proofs.Accepting.{line-room, told-room, playfield-room, playfield-plan, playfield-calls, posts-room, accepted-done}
 use Rattle.pin_rig.proofs.parts.run_accepted.Goals as goal
 
 pub write-requires : goal.write-requires
@@ -22,3 +22,14 @@ pub confirm_on_playfield-requires-clause-room : goal.confirm_on_playfield-requir
 confirm_on_playfield-requires-clause-room g c =
     playfield-room c.args.plan.now c.args.change c.args.core.now c.requires.room c.write.new.self c.write.ensures c.listeners.result.now c.listeners.ensures.listeners
     c.tell_listeners.new.core c.tell_listeners.ensures
+
+pub post_each-requires : goal.post_each-requires
+post_each-requires g c =
+    posts-room c.args.plan.now c.args.change c.args.core.now c.requires.room c.write.new.self c.write.ensures c.listeners.result.now c.listeners.ensures.listeners
+    c.tell_listeners.new.core c.tell_listeners.ensures c.confirm_on_playfield.new.core c.confirm_on_playfield.ensures c.posts.result.now c.posts.ensures.posts
+
+pub returns : goal.returns
+returns g c =
+    accepted-done c.args.plan.now c.args.change c.args.core.now c.requires.room c.write.new.self c.write.ensures c.listeners.result.now c.listeners.ensures.listeners
+    c.tell_listeners.new.core c.tell_listeners.ensures c.confirm_on_playfield.new.core c.confirm_on_playfield.ensures c.posts.result.now c.posts.ensures.posts
+    c.post_each.new.core c.post_each.ensures
