@@ -45,12 +45,7 @@ fn first_away<D: Device>(plan: &Plan, core: &Core<'_, D>, target: BallTarget) ->
 }
 
 /// Whether the device's ball is on its way to the target.
-fn is_away_to<D: Device>(
-    plan: &Plan,
-    core: &Core<'_, D>,
-    row: RowId,
-    target: BallTarget,
-) -> bool
+fn is_away_to<D: Device>(plan: &Plan, core: &Core<'_, D>, row: RowId, target: BallTarget) -> bool
     requires row { row.0 < length plan.now.rows }
     requires devices { HasDevices plan.now core.now.machine.devices }
     ensures { result ≡ (feeds target (row_at plan.now row).settings && is_device_away (device_at core.now.machine row)) }

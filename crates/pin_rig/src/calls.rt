@@ -61,7 +61,12 @@ fn run_lists<D: Device>(plan: &Plan, core: &mut Core<'_, D>, row: RowId, lists: 
     }
 }
 
-pub(crate) fn run_actions<D: Device>(plan: &Plan, core: &mut Core<'_, D>, owner: Owner, actions: &[Action])
+pub(crate) fn run_actions<D: Device>(
+    plan: &Plan,
+    core: &mut Core<'_, D>,
+    owner: Owner,
+    actions: &[Action],
+)
     requires actions { All (IsActionWithin plan.now) actions.now }
     requires plan { core.old.handlers.plan ≡ plan.now }
     requires calls { CanCall plan.now core.old }
