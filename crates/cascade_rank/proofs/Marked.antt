@@ -10,7 +10,7 @@ use Rattle.std.proofs.lemmas.List.Folds.{list_any-append}
 use Rattle.plan_tables.specs.PlanView.{PlanView, actions_at, actions_of, coil_numbers, coils_enabled, is_enable_of}
 use Rattle.plan_tables.specs.Valid.{IsActionWithin, IsValid}
 use Rattle.plan_tables.specs.declared.entries.Action.{Action}
-use Rattle.plan_tables.specs.declared.entries.Action.TheVariants.{Post, Pulse, Enable, Disable, Change}
+use Rattle.plan_tables.specs.declared.entries.Action.TheVariants.{Post, Pulse, Enable, Disable, Change, Enter, Leave, Lose, Arrive}
 use Rattle.plan_tables.specs.declared.entries.ListId.{ListId}
 use Rattle.plan_tables.specs.declared.entries.CoilId.{CoilId}
 use Rattle.plan_tables.specs.declared.entries.Owner.{Owner}
@@ -64,6 +64,10 @@ coils-marked plan valid l within =
     there (Enable coil power) h = omega (arith, h, valid.coil_limit)
     there (Disable coil) h = tt
     there (Change v action n e) h = tt
+    there (Enter r e drain) h = tt
+    there (Leave r) h = tt
+    there (Lose r) h = tt
+    there (Arrive r) h = tt
 
 -- ---- counting them
 

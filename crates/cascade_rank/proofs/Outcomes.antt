@@ -1,5 +1,5 @@
 -- What a call of a device can answer, answer by answer.
-use Rattle.std.proofs.Common.{◌≡◌, ℕ, ◌<◌, List, [], ◌∷◌, length, map, get_or, refl, sym, ap, ◌∙◌, subst, arith}
+use Rattle.std.proofs.Common.{◌≡◌, ℕ, ◌<◌, ◌≤◌, List, [], ◌∷◌, length, map, take, get_or, refl, sym, ap, ◌∙◌, subst, arith, take_all}
 use Rattle.std.specs.List.{All}
 use Rattle.std.proofs.lemmas.List.{length-map, get_or-map}
 use Rattle.std.proofs.lemmas.List.Elements.{All-get_or}
@@ -11,7 +11,7 @@ use Rattle.plan_tables.specs.declared.devices.DeviceRow.{DeviceRow}
 use Rattle.device_objects.specs.declared.device.Call.{Call}
 use Rattle.device_objects.proofs.Lists.{outcomes_of_row}
 use Rattle.device_objects.specs.Outcomes.{outcomes}
-use Rattle.cascade_rank.specs.Cost.{Cost, Greater, price, each_of, dearest_of, cost_of_answer, cost_of_call}
+use Rattle.cascade_rank.specs.Cost.{Cost, Greater, price, each_of, dearest_of, cost_of_answer_by, cost_of_call_by}
 use Rattle.cascade_rank.specs.Mentions.{weights_in}
 use Rattle.cascade_rank.proofs.Places.{each_of-map}
 use Rattle.cascade_rank.proofs.Posted.{weights-dearest}
@@ -29,13 +29,19 @@ module _ {X : Type 0} (items : X → List ℕ) (plan : PlanView) (r : RowId) (ca
       subst (All (λ k. k < list_count (row_at plan r).settings)) (get_or-map items answers i d (items d) l)
       (All-get_or (All (λ k. k < list_count (row_at plan r).settings)) (map items answers) i (items d) listed whole)
 
-  pub answers-price : (w : EventId → ℕ) → price w (dearest_of (λ a. cost_of_answer plan r (items a)) answers) ≡ price w (cost_of_call plan r call)
-  answers-price w = ap (price w) (dearest_of-map (cost_of_answer plan r) items answers ∙ ap (dearest_of (cost_of_answer plan r)) are)
+  module _ (told : RowId → Cost) where
+    answers-price : (w : EventId → ℕ) → price w (dearest_of (λ a. cost_of_answer_by plan told r (items a)) answers) ≡ price w (cost_of_call_by plan told r call)
+    answers-price w = ap (price w) (dearest_of-map (cost_of_answer_by plan told r) items answers ∙ ap (dearest_of (cost_of_answer_by plan told r)) are)
 
-  pub answers-weights : weights_in (each_of (λ a. cost_of_answer plan r (items a)) answers) ≡ weights_in (cost_of_call plan r call)
-  answers-weights =
-      ap weights_in (each_of-map (cost_of_answer plan r) items answers) ∙ weights-dearest (cost_of_answer plan r) (map items answers)
-      ∙ ap (λ (ls : List (List ℕ)). weights_in (dearest_of (cost_of_answer plan r) ls)) are
+    -- once all answers are gone through
+    pub price-answers_all : (w : EventId → ℕ) (i dearest : ℕ) → length answers ≤ i → dearest ≡ price w (dearest_of (λ a. cost_of_answer_by plan told r (items a)) (take i answers)) → dearest ≡ price w (cost_of_call_by plan told r call)
+    price-answers_all w i dearest whole so_far =
+        so_far ∙ ap (λ (all : List X). price w (dearest_of (λ a. cost_of_answer_by plan told r (items a)) all)) (take_all i answers whole) ∙ answers-price w
+
+    pub answers-weights : weights_in (each_of (λ a. cost_of_answer_by plan told r (items a)) answers) ≡ weights_in (cost_of_call_by plan told r call)
+    answers-weights =
+        ap weights_in (each_of-map (cost_of_answer_by plan told r) items answers) ∙ weights-dearest (cost_of_answer_by plan told r) (map items answers)
+        ∙ ap (λ (ls : List (List ℕ)). weights_in (dearest_of (cost_of_answer_by plan told r) ls)) are
 
 -- what was read of a row
 pub outcomes-read : (plan : PlanView) (r : RowId) (call : Call) (row : DeviceRow) (all : List (List ℕ)) → row ≡ row_at plan r → all ≡ outcomes row.settings call → all ≡ outcomes (row_at plan r).settings call

@@ -24,6 +24,10 @@ pushes-more f xs i d old posts new l first then =
     ∙ append_assoc old (weights_in (each_of f (take i xs))) (weights_in (f (get_or xs i d)))
     ∙ ap (λ (es : List EventId). old ++ es) (sym (weights-each_more f xs i d l))
 
+-- the same weights, of what is the same
+pub pushes-same : {X : Type 0} (f : X → Cost) (x y : X) (old new : List EventId) → x ≡ y → new ≡ old ++ weights_in (f x) → new ≡ old ++ weights_in (f y)
+pushes-same f x y old new same are = are ∙ ap (λ z. old ++ weights_in (f z)) same
+
 -- and at last those of the whole list
 pub pushes-all : {X : Type 0} (f : X → Cost) (xs : List X) (i : ℕ) (old posts : List EventId) → length xs ≤ i →
     posts ≡ old ++ weights_in (each_of f (take i xs)) → posts ≡ old ++ weights_in (each_of f xs)

@@ -1,12 +1,12 @@
 -- The rows of a plan's devices, by number.
-use Rattle.std.proofs.Common.{◌≡◌, ℕ, ◌+◌, ◌<◌, Bool, true, false, cond, List, [], ◌∷◌, ◌++◌, length, get_or, refl, sym, ap, ◌∙◌, subst, arith}
+use Rattle.std.proofs.Common.{◌≡◌, ℕ, ◌+◌, ◌<◌, max, Bool, true, false, cond, List, [], ◌∷◌, ◌++◌, length, get_or, refl, sym, ap, ◌∙◌, subst, arith}
 use Rattle.std.specs.List.{All, filter}
 use Rattle.std.proofs.lemmas.List.Elements.{All-from_get_or}
 use Rattle.std.proofs.lemmas.List.FromFn.{length-map-range_with_len, get_or-map-range_with_len}
 use Rattle.plan_tables.specs.PlanView.{PlanView, row_numbers}
 use Rattle.plan_tables.specs.declared.entries.EventId.{EventId}
 use Rattle.plan_tables.specs.declared.devices.RowId.{RowId}
-use Rattle.cascade_rank.specs.Cost.{Cost, price, each_of}
+use Rattle.cascade_rank.specs.Cost.{Cost, price, each_of, dearest_of}
 use Rattle.cascade_rank.specs.Mentions.{cost_if, weights_in}
 
 module _ (plan : PlanView) where
@@ -31,6 +31,15 @@ price-filter w p f [] = refl
 price-filter w p f (x ∷ xs) = by (p x) ∙ ap (λ (n : ℕ). price w (cost_if (p x) (f x)) + n) (price-filter w p f xs)
   where
     by : (b : Bool) → price w (each_of f (cond b (x ∷ filter p xs) (filter p xs))) ≡ price w (cost_if b (f x)) + price w (each_of f (filter p xs))
+    by true = refl
+    by false = omega arith
+
+-- the price of the dearest
+pub price-dearest_filter : {X : Type 0} (w : EventId → ℕ) (p : X → Bool) (f : X → Cost) (xs : List X) → price w (dearest_of f (filter p xs)) ≡ price w (dearest_of (λ x. cost_if (p x) (f x)) xs)
+price-dearest_filter w p f [] = refl
+price-dearest_filter w p f (x ∷ xs) = by (p x) ∙ ap (λ (n : ℕ). max (price w (cost_if (p x) (f x))) n) (price-dearest_filter w p f xs)
+  where
+    by : (b : Bool) → price w (dearest_of f (cond b (x ∷ filter p xs) (filter p xs))) ≡ max (price w (cost_if b (f x))) (price w (dearest_of f (filter p xs)))
     by true = refl
     by false = omega arith
 

@@ -1,16 +1,18 @@
 -- The costs of a valid plan mention only events of the plan.
-use Rattle.std.proofs.Common.{◌≡◌, ℕ, ◌<◌, Bool, true, false, ◌==◌, List, [], ◌∷◌, length, refl, sym, subst, inl, inr, arith}
-use Rattle.std.specs.List.{All, AllByRecursion}
+use Rattle.std.proofs.Common.{◌≡◌, ℕ, ◌<◌, Bool, true, false, ◌==◌, ◌&&◌, if◌then◌else◌, List, [], ◌∷◌, length, Option, Some, None, refl, sym, subst, inl, inr, arith}
+use Rattle.std.specs.Prelude.{IfSome}
+use Rattle.std.specs.List.{All, AllByRecursion, find}
 use Rattle.std.proofs.lemmas.Bool.{cases_lt, or_cases, eqb-true, false≢true}
 use Rattle.std.proofs.lemmas.List.Elements.{recursion_from_All, All-get_or, All-weaker, All-nil, All-cons, All-append, All-filter}
 use Rattle.std.proofs.lemmas.List.{get_or_past}
-use Rattle.plan_tables.specs.PlanView.{PlanSwitch, PlanView, game_event, no_mode, mode_at, mode_event, work_of, no_switch, switch_at, act_of_listener, listeners_of, actions_at, posts_of, bound_to, is_owner, list_of_row, row_at, row_numbers, rows_of}
+use Rattle.plan_tables.specs.PlanView.{PlanSwitch, PlanView, feeders_of, feeds, first_trough, is_trough, game_event, no_mode, mode_at, mode_event, work_of, no_switch, switch_at, act_of_listener, listeners_of, actions_at, posts_of, bound_to, is_owner, list_of_row, row_at, row_numbers, rows_of}
 use Rattle.plan_tables.specs.Devices.{list_count}
 use Rattle.plan_tables.specs.declared.entries.ModeId.{ModeId}
 use Rattle.plan_tables.specs.declared.entries.ModeEvent.{ModeEvent}
 use Rattle.plan_tables.specs.declared.entries.ModeEvent.TheVariants.{WillStart, Starting, Started, Stopping, Stopped}
 use Rattle.plan_tables.specs.declared.entries.GameEvent.{GameEvent}
-use Rattle.player_game.specs.Choices.{choices}
+use Rattle.plan_tables.specs.declared.entries.GameEvent.TheVariants.{BallDrain}
+use Rattle.player_game.specs.Choices.{asks_for_ball, choices}
 use Rattle.plan_tables.specs.declared.entries.Work.{Work}
 use Rattle.plan_tables.specs.declared.entries.Work.TheVariants as works
 use Rattle.plan_tables.proofs.Worked.{work_found}
@@ -20,16 +22,19 @@ use Rattle.plan_tables.specs.declared.entries.SwitchId.{SwitchId}
 use Rattle.plan_tables.specs.declared.entries.Listener.{Listener}
 use Rattle.plan_tables.specs.declared.entries.ListId.{ListId}
 use Rattle.plan_tables.specs.declared.entries.Action.{Action}
-use Rattle.plan_tables.specs.declared.entries.Action.TheVariants.{Post, Pulse, Enable, Disable, Change}
+use Rattle.plan_tables.specs.declared.entries.Action.TheVariants.{Post, Pulse, Enable, Disable, Change, Enter, Leave, Lose, Arrive}
 use Rattle.plan_tables.specs.declared.entries.Target.{Target}
 use Rattle.plan_tables.specs.declared.entries.Target.TheVariants.{Run, Start, Stop, Act}
 use Rattle.plan_tables.specs.declared.entries.Owner.TheVariants as owners
+use Rattle.plan_tables.specs.declared.devices.Act.TheVariants.{Confirm, Request}
+use Rattle.plan_tables.specs.declared.devices.BallTarget.{BallTarget}
+use Rattle.plan_tables.specs.declared.devices.BallTarget.TheVariants.{Playfield, Device}
 use Rattle.plan_tables.specs.declared.devices.RowId.{RowId}
 use Rattle.device_objects.specs.declared.device.Call.{Call}
 use Rattle.device_objects.specs.declared.device.Call.TheVariants as calls
 use Rattle.device_objects.specs.Outcomes.{outcomes}
 use Rattle.plan_tables.specs.declared.entries.Binding.{Binding}
-use Rattle.cascade_rank.specs.Cost.{Cost, Lines, Weight, Both, Greater, mentions, each_of, dearest_of, cost_of_post, cost_of_action, cost_of_list, cost_of_answer, cost_of_call, cost_of_target, cost_of_binding, led_by, cost_if_led, cost_of_starts, cost_of_releases, cost_of_choice, cost_of_game, cost_of_work, cost_of_event, cost_of_listener, cost_of_acceptance, cost_of_switch, switches_of, cost_of_stimuli}
+use Rattle.cascade_rank.specs.Cost.{Cost, Lines, Weight, Both, Greater, mentions, each_of, dearest_of, cost_of_post, cost_of_drain, cost_of_action_by, cost_of_list_by, cost_of_answer_by, cost_of_call_by, no_confirm_cost, cost_of_arrival, entry_confirm_cost, cost_of_call, cost_of_target, cost_of_binding, led_by, cost_if_led, cost_of_starts, cost_of_releases, cost_of_choice, cost_of_trough, cost_of_request, cost_of_game, cost_of_work, cost_of_event, cost_of_listener, cost_of_playfield_switch, cost_of_acceptance, cost_of_switch, switches_of, cost_of_stimuli}
 use Rattle.cascade_rank.specs.Below.{IsBelow}
 use Rattle.cascade_rank.specs.Mentions.{weights_in}
 use Rattle.device_objects.proofs.Lists.{outcomes_of_row}
@@ -71,6 +76,18 @@ pub dearest_within : {X : Type 0} (n : ℕ) (f : X → Cost) (P : X → Type 0) 
 dearest_within n f P each xs h =
     IsBelow-dearest_of n f xs (recursion_from_All (λ x. IsBelow n (f x)) xs (All-weaker P (λ x. IsBelow n (f x)) each xs h))
 
+-- what holds of each of a list holds of the first that passes a test
+IfSome-find_by : {X : Type 0} (p : X → Bool) (P : X → Type 0) (xs : List X) → AllByRecursion P xs → IfSome (find p xs) P
+IfSome-find_by p P [] h = tt
+IfSome-find_by p P (x ∷ xs) h = by (p x) (IfSome-find_by p P xs h.1)
+  where
+    by : (b : Bool) → IfSome (find p xs) P → IfSome (if b then Some x else find p xs) P
+    by true rest = h.0
+    by false rest = rest
+
+IfSome-find : {X : Type 0} (p : X → Bool) (P : X → Type 0) (xs : List X) → All P xs → IfSome (find p xs) P
+IfSome-find p P xs h = IfSome-find_by p P xs (recursion_from_All P xs h)
+
 -- the same of the list of its weights
 pub weights-below : (n : ℕ) (c : Cost) → IsBelow n c → All (IsEventWithin n) (weights_in c)
 weights-below n (Lines k) h = All-nil (IsEventWithin n)
@@ -78,19 +95,7 @@ weights-below n (Weight e) h = All-cons (IsEventWithin n) e [] h (All-nil (IsEve
 weights-below n (Both a b) h = All-append (IsEventWithin n) (weights_in a) (weights_in b) (weights-below n a h.0) (weights-below n b h.1)
 weights-below n (Greater a b) h = All-append (IsEventWithin n) (weights_in a) (weights_in b) (weights-below n a h.0) (weights-below n b h.1)
 
-pub IsBelow-action : (plan : PlanView) (a : Action) → IsActionWithin plan a → IsBelow (length plan.events) (cost_of_action plan a)
-IsBelow-action plan (Post e) h = h
-IsBelow-action plan (Pulse coil ms power) h = tt
-IsBelow-action plan (Enable coil power) h = tt
-IsBelow-action plan (Disable coil) h = tt
-IsBelow-action plan (Change v action n e) h = (tt, h.1)
-
 module _ (plan : PlanView) (valid : HasEntries plan) where
-  pub IsBelow-list : (l : ListId) → l.0 < length plan.lists → IsBelow (length plan.events) (cost_of_list plan l)
-  IsBelow-list l h =
-      each_below (length plan.events) (cost_of_action plan) (IsActionWithin plan) (IsBelow-action plan) (actions_at plan l)
-      (All-get_or (All (IsActionWithin plan)) plan.lists l.0 [] h valid.lists)
-
   -- the events of a mode are events of the plan
   pub mode_event-within : (m : ModeId) (which : ModeEvent) → m.0 < length plan.modes → (mode_event plan m which).0 < length plan.events
   mode_event-within m which inside = by which (All-get_or (IsModeWithin (length plan.events)) plan.modes m.0 no_mode inside valid.modes)
@@ -112,19 +117,54 @@ module _ (plan : PlanView) (valid : HasEntries plan) where
   IsBelow-led (works.Mode m Stopped) e h = tt
   IsBelow-led (works.Game which) e h = tt
 
-  -- what a device of the plan answers to a call
+  -- the event of the game at which a ball drains
+  IsBelow-drain : (drain : Bool) → 0 < length plan.events → IsBelow (length plan.events) (cost_of_drain plan drain)
+  IsBelow-drain true some = game_event-below plan valid some BallDrain
+  IsBelow-drain false some = tt
+
   list_of_row-within : (r : RowId) → r.0 < length plan.rows → (k : ℕ) → k < list_count (row_at plan r).settings → (list_of_row plan r k).0 < length plan.lists
   list_of_row-within r l k less = omega (arith, less, (valid.rows r l).lists)
 
-  IsBelow-answer : (r : RowId) → r.0 < length plan.rows → (lists : List ℕ) → All (λ k. k < list_count (row_at plan r).settings) lists → IsBelow (length plan.events) (cost_of_answer plan r lists)
-  IsBelow-answer r l lists h =
-      each_below (length plan.events) (λ k. cost_of_list plan (list_of_row plan r k)) (λ k. k < list_count (row_at plan r).settings)
-      (λ k less. IsBelow-list (list_of_row plan r k) (list_of_row-within r l k less)) lists h
+  -- what a device of the plan answers to a call, where what telling costs is within
+  module _ (told : RowId → Cost) (within : (r : RowId) → r.0 < length plan.rows → IsBelow (length plan.events) (told r)) where
+    IsBelow-action : (a : Action) → IsActionWithin plan a → IsBelow (length plan.events) (cost_of_action_by plan told a)
+    IsBelow-action (Post e) h = h
+    IsBelow-action (Pulse coil ms power) h = tt
+    IsBelow-action (Enable coil power) h = tt
+    IsBelow-action (Disable coil) h = tt
+    IsBelow-action (Change v action n e) h = (tt, h.1)
+    IsBelow-action (Enter r e drain) h = let some : 0 < length plan.events = omega (arith, h.1) in (tt, (h.1, (IsBelow-drain drain some, within r h.0)))
+    IsBelow-action (Leave r) h = tt
+    IsBelow-action (Lose r) h = tt
+    IsBelow-action (Arrive r) h = tt
+
+    IsBelow-list : (l : ListId) → l.0 < length plan.lists → IsBelow (length plan.events) (cost_of_list_by plan told l)
+    IsBelow-list l h =
+        each_below (length plan.events) (cost_of_action_by plan told) (IsActionWithin plan) IsBelow-action (actions_at plan l)
+        (All-get_or (All (IsActionWithin plan)) plan.lists l.0 [] h valid.lists)
+
+    IsBelow-answer : (r : RowId) → r.0 < length plan.rows → (lists : List ℕ) → All (λ k. k < list_count (row_at plan r).settings) lists → IsBelow (length plan.events) (cost_of_answer_by plan told r lists)
+    IsBelow-answer r l lists h =
+        each_below (length plan.events) (λ k. cost_of_list_by plan told (list_of_row plan r k)) (λ k. k < list_count (row_at plan r).settings)
+        (λ k less. IsBelow-list (list_of_row plan r k) (list_of_row-within r l k less)) lists h
+
+    IsBelow-call_by : (r : RowId) (call : Call) → r.0 < length plan.rows → IsBelow (length plan.events) (cost_of_call_by plan told r call)
+    IsBelow-call_by r call l =
+        dearest_within (length plan.events) (cost_of_answer_by plan told r) (All (λ k. k < list_count (row_at plan r).settings)) (IsBelow-answer r l)
+        (outcomes (row_at plan r).settings call) (outcomes_of_row (row_at plan r).settings call)
+
+  -- what the devices answer that may be told of an arrival
+  IsBelow-arrival : (target : BallTarget) → IsBelow (length plan.events) (cost_of_arrival plan target)
+  IsBelow-arrival target =
+      dearest_within (length plan.events) (λ r. cost_of_call_by plan no_confirm_cost r (calls.Act Confirm)) (λ r. r.0 < length plan.rows)
+      (λ r l. IsBelow-call_by no_confirm_cost (λ q k. tt) r (calls.Act Confirm) l) (feeders_of plan target)
+      (All-filter (λ r. feeds target (row_at plan r).settings) (λ r. r.0 < length plan.rows) (row_numbers plan) (rows-within plan))
+
+  IsBelow-told : (r : RowId) → r.0 < length plan.rows → IsBelow (length plan.events) (entry_confirm_cost plan r)
+  IsBelow-told r l = IsBelow-arrival (Device r)
 
   pub IsBelow-call : (r : RowId) (call : Call) → r.0 < length plan.rows → IsBelow (length plan.events) (cost_of_call plan r call)
-  IsBelow-call r call l =
-      dearest_within (length plan.events) (cost_of_answer plan r) (All (λ k. k < list_count (row_at plan r).settings)) (IsBelow-answer r l)
-      (outcomes (row_at plan r).settings call) (outcomes_of_row (row_at plan r).settings call)
+  IsBelow-call r call l = IsBelow-call_by (entry_confirm_cost plan) IsBelow-told r call l
 
   -- and what the devices of a mode answer when it starts
   IsBelow-starts : (w : Work) → IsBelow (length plan.events) (cost_of_starts plan w)
@@ -154,10 +194,22 @@ module _ (plan : PlanView) (valid : HasEntries plan) where
       dearest_below (length plan.events) (cost_of_choice plan)
       (λ posts. each_below (length plan.events) (λ which. cost_of_post (game_event plan which)) (λ which. Unit {0}) (λ which h. game_event-below plan valid some which) posts (λ i d l. tt)) ways
 
+  -- and what the first trough answers is
+  IsBelow-trough : (o : Option RowId) → IfSome o (λ r. r.0 < length plan.rows) → IsBelow (length plan.events) (cost_of_trough plan o)
+  IsBelow-trough None h = tt
+  IsBelow-trough (Some r) h = IsBelow-call r (calls.Act (Request 1)) h
+
+  IsBelow-request : (which : GameEvent) → IsBelow (length plan.events) (cost_of_request plan which)
+  IsBelow-request which = by (asks_for_ball which)
+    where
+      by : (b : Bool) → IsBelow (length plan.events) (if b then cost_of_trough plan (first_trough plan) else Lines 0)
+      by true = IsBelow-trough (first_trough plan) (IfSome-find (λ r. is_trough (row_at plan r).settings) (λ r. r.0 < length plan.rows) (row_numbers plan) (rows-within plan))
+      by false = tt
+
   IsBelow-game : (w : Work) (e : EventId) → work_of plan e ≡ w → IsBelow (length plan.events) (cost_of_game plan w)
   IsBelow-game works.Nothing e is = tt
   IsBelow-game (works.Mode m which) e is = tt
-  IsBelow-game (works.Game which) e is = (tt, IsBelow-choices (game_has-event plan valid e which is) (choices which))
+  IsBelow-game (works.Game which) e is = (tt, (IsBelow-request which, IsBelow-choices (game_has-event plan valid e which is) (choices which)))
 
   pub IsBelow-work : (e : EventId) → IsBelow (length plan.events) (cost_of_work plan e)
   IsBelow-work e = (
@@ -166,7 +218,7 @@ module _ (plan : PlanView) (valid : HasEntries plan) where
   )
 
   pub IsBelow-target : (t : Target) → IsTargetWithin plan t → IsBelow (length plan.events) (cost_of_target plan t)
-  IsBelow-target (Run l) h = IsBelow-list l h
+  IsBelow-target (Run l) h = IsBelow-list (entry_confirm_cost plan) IsBelow-told l h
   IsBelow-target (Start m) h = mode_event-within m WillStart h
   IsBelow-target (Stop m) h = mode_event-within m Stopping h
   IsBelow-target (Act r act) h = IsBelow-call r (calls.Act act) h
@@ -205,12 +257,22 @@ module _ (plan : PlanView) (valid : HasEntries plan) where
   IsBelow-listener : (active : Bool) (l : Listener) → IsListenerWithin (length plan.rows) l → IsBelow (length plan.events) (cost_of_listener plan active l)
   IsBelow-listener active l h = IsBelow-call l.row (calls.Act (act_of_listener active l)) h
 
+  IsBelow-playfield_switch : (s : SwitchId) (active : Bool) → IsBelow (length plan.events) (cost_of_playfield_switch plan s active)
+  IsBelow-playfield_switch s active = by (active && (switch_at plan s).confirms_playfield)
+    where
+      by : (b : Bool) → IsBelow (length plan.events) (if b then cost_of_arrival plan Playfield else Lines 0)
+      by true = IsBelow-arrival Playfield
+      by false = tt
+
   pub IsBelow-acceptance : (s : SwitchId) (active : Bool) → IsBelow (length plan.events) (cost_of_acceptance plan s active)
   IsBelow-acceptance s active = (
     tt,
     (
       each_below (length plan.events) (cost_of_listener plan active) (IsListenerWithin (length plan.rows)) (IsBelow-listener active) (listeners_of plan s) (listeners-below s),
-      each_below (length plan.events) cost_of_post (IsEventWithin (length plan.events)) (λ e k. k) (posts_of plan s active) (posts-below s active),
+      (
+        IsBelow-playfield_switch s active,
+        each_below (length plan.events) cost_of_post (IsEventWithin (length plan.events)) (λ e k. k) (posts_of plan s active) (posts-below s active),
+      ),
     ),
   )
 

@@ -2,6 +2,7 @@
 //! a cycle makes a cascade endless.
 #![tactic(auto)]
 
+mod confirms;
 pub mod fault;
 mod ground;
 pub mod law;
@@ -10,6 +11,7 @@ pub mod least;
 mod posts;
 mod price;
 mod releases;
+mod stimuli;
 pub mod verdict;
 mod walk;
 pub mod weights;

@@ -1,27 +1,30 @@
 //! The events whose weights are in what an event costs.
 //!
 //! One pass over all that an event leads to: what follows from it asks only which events these are.
-//! A change of a variable leads to its post, whether the variable changes or not. An event of the game
-//! leads to what it posts by any of the ways that it can go. What is bound leads to its posts whether
-//! its condition is met or not.
+//! A change of a variable leads to its post, whether the variable changes or not. A ball that enters a
+//! device leads to its event, to its drain, and to what each of the devices answers that may be told. An
+//! event of the game leads to what it posts by any of the ways that it can go. What is bound leads to
+//! its posts whether its condition is met or not.
 
-ghost use Rattle.std.specs.Prelude.{◌≡◌, ◌<◌, ◌++◌, length, OnOk};
+ghost use Rattle.std.specs.Prelude.{◌≡◌, ◌<◌, ◌++◌, true, length, OnOk};
 ghost use Rattle.std.specs.List.{All};
 ghost use Rattle.plan_tables.specs.declared.entries.Owner.TheVariants as owners;
 ghost use Rattle.plan_tables.specs.Devices.{list_count};
-ghost use Rattle.plan_tables.specs.Valid.{HasGame, IsBindingWithin, IsTargetWithin, IsValid};
+ghost use Rattle.plan_tables.specs.Valid.{HasGame, IsActionWithin, IsBindingWithin, IsTargetWithin, IsValid};
 ghost use Rattle.plan_tables.specs.PlanView.{bound_to, row_at, rows_of, work_of};
 ghost use Rattle.device_objects.specs.declared.device.Call.TheVariants as calls;
 ghost use Rattle.player_game.specs.Choices.{choices};
-ghost use Rattle.cascade_rank.specs.Cost.{each_of, dearest_of, cost_of_action, cost_of_answer, cost_of_binding, cost_of_call, cost_of_choice, cost_of_event, cost_of_game, cost_of_starts, cost_of_target, cost_of_work};
-ghost use Rattle.cascade_rank.specs.Mentions.{cost_of_start, weights_in};
+ghost use Rattle.cascade_rank.specs.Cost.{each_of, dearest_of, cost_of_action_by, cost_of_answer_by, cost_of_arrival, cost_of_binding, cost_of_call, cost_of_call_by, cost_of_choice, cost_of_drain, cost_of_event, cost_of_game, cost_of_request, cost_of_starts, cost_of_target, cost_of_work};
+ghost use Rattle.cascade_rank.specs.Mentions.{cost_of_feeder, cost_of_start, weights_in};
 
+use crate::confirms::{Confirms, Told, Untold};
 use crate::work::{game_event, is_of, led_by};
 use device_objects::{Call, outcomes};
 use plan_tables::{
-    Action, Binding, EventId, GameEvent, ModeEvent, ModeId, Plan, RowId, Target, Work,
+    Act, Action, BallTarget, Binding, EventId, GameEvent, ModeEvent, ModeId, Plan, RowId, Target,
+    Work,
 };
-use player_game::choices;
+use player_game::{asks_for_ball, choices};
 use std::alloc::AllocError;
 
 /// Lists the events whose weights are in what an event costs, each as often as it is there.
@@ -64,53 +67,114 @@ fn push_target(posts: &mut Vec<EventId>, plan: &Plan, target: Target) -> Result<
     ensures { OnOk result (posts.new.items ≡ posts.old.items ++ weights_in (cost_of_target plan.now target)) }
 {
     match target {
-        Target::Run(list) => push_actions(posts, plan, plan.list(list))?,
+        Target::Run(list) => push_actions::<Told>(posts, plan, plan.list(list))?,
         Target::Start(mode) => posts.push(plan.mode(mode).events.will_start)?,
         Target::Stop(mode) => posts.push(plan.mode(mode).events.stopping)?,
-        Target::Act(row, act) => push_call(posts, plan, row, Call::Act(act))?,
+        Target::Act(row, act) => push_call::<Told>(posts, plan, row, Call::Act(act))?,
     }
     Ok(())
 }
 
-fn push_actions(posts: &mut Vec<EventId>, plan: &Plan, actions: &[Action]) -> Result<(), AllocError>
-    ensures { OnOk result (posts.new.items ≡ posts.old.items ++ weights_in (each_of (cost_of_action plan.now) actions.now)) }
+fn push_actions<C: Confirms>(
+    posts: &mut Vec<EventId>,
+    plan: &Plan,
+    actions: &[Action],
+) -> Result<(), AllocError>
+    requires { All (IsActionWithin plan.now) actions.now }
+    ensures { OnOk result (posts.new.items ≡ posts.old.items ++ weights_in (each_of (cost_of_action_by plan.now (C.cost plan.now)) actions.now)) }
 {
     for action in actions {
-        push_action(posts, plan, *action)?;
+        push_action::<C>(posts, plan, *action)?;
     }
     Ok(())
 }
 
-fn push_action(posts: &mut Vec<EventId>, plan: &Plan, action: Action) -> Result<(), AllocError>
-    ensures { OnOk result (posts.new.items ≡ posts.old.items ++ weights_in (cost_of_action plan.now action)) }
+fn push_action<C: Confirms>(
+    posts: &mut Vec<EventId>,
+    plan: &Plan,
+    action: Action,
+) -> Result<(), AllocError>
+    requires { IsActionWithin plan.now action }
+    ensures { OnOk result (posts.new.items ≡ posts.old.items ++ weights_in (cost_of_action_by plan.now (C.cost plan.now) action)) }
 {
     match action {
         Action::Post(posted) => posts.push(posted)?,
         Action::Change { event, .. } => posts.push(event)?,
+        Action::Enter {
+            device,
+            event,
+            drain,
+        } => {
+            posts.push(event)?;
+            push_drain(posts, plan, drain)?;
+            C::push(posts, plan, device)?;
+        }
         Action::Pulse { .. } | Action::Enable { .. } | Action::Disable { .. } => {}
+        Action::Leave { .. } | Action::Lose { .. } | Action::Arrive { .. } => {}
+    }
+    Ok(())
+}
+
+/// Adds that of a ball that drains, if it may.
+fn push_drain(posts: &mut Vec<EventId>, plan: &Plan, drain: bool) -> Result<(), AllocError>
+    requires { drain ≡ true → HasGame plan.now }
+    ensures { OnOk result (posts.new.items ≡ posts.old.items ++ weights_in (cost_of_drain plan.now drain)) }
+{
+    if drain {
+        posts.push(game_event(plan, GameEvent::BallDrain))?;
+    }
+    Ok(())
+}
+
+/// Adds those of each device that may be told of an arrival at a target.
+pub(crate) fn push_arrival(
+    posts: &mut Vec<EventId>,
+    plan: &Plan,
+    target: BallTarget,
+) -> Result<(), AllocError>
+    ensures { OnOk result (posts.new.items ≡ posts.old.items ++ weights_in (cost_of_arrival plan.now target)) }
+{
+    for number in 0..plan.rows().len() {
+        push_feeder(posts, plan, target, RowId(number as u16))?;
+    }
+    Ok(())
+}
+
+/// Adds those of a device that is told of an arrival at a target, if it ejects its balls there.
+fn push_feeder(
+    posts: &mut Vec<EventId>,
+    plan: &Plan,
+    target: BallTarget,
+    row: RowId,
+) -> Result<(), AllocError>
+    requires { row.0 < length plan.now.rows }
+    ensures { OnOk result (posts.new.items ≡ posts.old.items ++ weights_in (cost_of_feeder plan.now target row)) }
+{
+    if plan.row(row).settings.feeds(target) {
+        push_call::<Untold>(posts, plan, row, Call::Act(Act::Confirm))?;
     }
     Ok(())
 }
 
 /// Adds those of all that a call of a device can answer.
-fn push_call(
+fn push_call<C: Confirms>(
     posts: &mut Vec<EventId>,
     plan: &Plan,
     row: RowId,
     call: Call,
 ) -> Result<(), AllocError>
     requires { row.0 < length plan.now.rows }
-    ensures { OnOk result (posts.new.items ≡ posts.old.items ++ weights_in (cost_of_call plan.now row call)) }
+    ensures { OnOk result (posts.new.items ≡ posts.old.items ++ weights_in (cost_of_call_by plan.now (C.cost plan.now) row call)) }
 {
     let answers = outcomes(&plan.row(row).settings, call);
     for answer in answers.as_slice() {
-        push_answer(posts, plan, row, answer.as_slice())?;
+        push_answer::<C>(posts, plan, row, answer.as_slice())?;
     }
     Ok(())
 }
 
 /// Adds those of the effect lists of a row that its device answers.
-fn push_answer(
+fn push_answer<C: Confirms>(
     posts: &mut Vec<EventId>,
     plan: &Plan,
     row: RowId,
@@ -118,10 +182,10 @@ fn push_answer(
 ) -> Result<(), AllocError>
     requires row { row.0 < length plan.now.rows }
     requires lists { All (λ k. k < list_count (row_at plan.now row).settings) lists.now }
-    ensures { OnOk result (posts.new.items ≡ posts.old.items ++ weights_in (cost_of_answer plan.now row lists.now)) }
+    ensures { OnOk result (posts.new.items ≡ posts.old.items ++ weights_in (cost_of_answer_by plan.now (C.cost plan.now) row lists.now)) }
 {
     for list in lists {
-        push_actions(posts, plan, plan.list(plan.list_of_row(row, *list)))?;
+        push_actions::<C>(posts, plan, plan.list(plan.list_of_row(row, *list)))?;
     }
     Ok(())
 }
@@ -169,7 +233,7 @@ fn push_start(
     ensures { OnOk result (posts.new.items ≡ posts.old.items ++ weights_in (cost_of_start plan.now mode row)) }
 {
     if is_of(plan.row(row).owner, mode) {
-        push_call(posts, plan, row, Call::ModeStart)?;
+        push_call::<Told>(posts, plan, row, Call::ModeStart)?;
     }
     Ok(())
 }
@@ -180,8 +244,24 @@ fn push_game(posts: &mut Vec<EventId>, plan: &Plan, event: EventId) -> Result<()
     ensures { OnOk result (posts.new.items ≡ posts.old.items ++ weights_in (cost_of_game plan.now (work_of plan.now event))) }
 {
     match plan.work(event) {
-        Work::Game(which) => push_choices(posts, plan, which),
+        Work::Game(which) => {
+            push_request(posts, plan, which)?;
+            push_choices(posts, plan, which)
+        }
         _ => Ok(()),
+    }
+}
+
+/// Adds those of what the first trough answers, if there is one, where a ball is asked for.
+fn push_request(posts: &mut Vec<EventId>, plan: &Plan, which: GameEvent) -> Result<(), AllocError>
+    ensures { OnOk result (posts.new.items ≡ posts.old.items ++ weights_in (cost_of_request plan.now which)) }
+{
+    if !asks_for_ball(which) {
+        return Ok(());
+    }
+    match plan.first_trough() {
+        Some(row) => push_call::<Told>(posts, plan, row, Call::Act(Act::Request(1))),
+        None => Ok(()),
     }
 }
 

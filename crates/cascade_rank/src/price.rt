@@ -1,42 +1,45 @@
 //! What the parts of a plan cost at given weights.
 //!
-//! A change of a variable costs its line and the weight of the event that it posts. An event of the
-//! game costs the weights of the dearest way that it can go; where all scores are told, it costs a
-//! line for each player there can be. The condition of a binding is taken as met.
+//! A change of a variable costs its line and the weight of the event that it posts. A ball that enters
+//! a device costs also the dearer of two: that it drains, and that the device that ejected it is told.
+//! An event of the game costs the weights of the dearest way that it can go; where all scores are told,
+//! it costs a line for each player there can be, and where a ball is asked for, what the first trough
+//! answers. The condition of a binding is taken as met.
 //!
-//! Nothing is cut off: a weight is below 2^32, so an action costs at most 2^32. An effect list has at
-//! most 1,024 actions, so what a device answers costs at most 2^44. A plan has too few bindings and
-//! devices for a sum of their prices to reach 2^59. The listeners and posts of a switch for a sum of
-//! 2^109 do not fit into memory.
+//! Nothing is cut off: a weight is below 2^32, so an action that tells no device costs at most 2^33. An
+//! effect list has at most 1,024 actions, so what a device answers to an arrival costs at most 2^45, and
+//! to any other call at most 2^58. A plan has too few bindings and devices for a sum of their prices to
+//! reach 2^73.
 
 ghost use Rattle.plan_tables.specs.declared.entries.EventId.{EventId as EventIdValue};
-ghost use Rattle.std.specs.Prelude.{ℕ, ◌≡◌, ◌+◌, ◌^◌, ◌<◌, ◌≤◌, length};
+ghost use Rattle.std.specs.Prelude.{ℕ, ◌≡◌, ◌+◌, ◌*◌, ◌^◌, ◌<◌, ◌≤◌, true, length};
 ghost use Rattle.std.specs.List.{All};
-ghost use Rattle.plan_tables.specs.Valid.{HasGame, IsActionWithin, IsTargetWithin, IsBindingWithin, IsEventWithin, IsListenerWithin};
+ghost use Rattle.plan_tables.specs.Valid.{HasGame, IsActionWithin, IsTargetWithin, IsBindingWithin, IsEventWithin};
 ghost use Rattle.plan_tables.specs.declared.entries.Owner.TheVariants as owners;
 ghost use Rattle.plan_tables.specs.Devices.{list_count};
-ghost use Rattle.plan_tables.specs.PlanView.{bound_to, row_at, row_numbers, rows_of, work_of};
+ghost use Rattle.plan_tables.specs.PlanView.{bound_to, row_at, rows_of, work_of};
 ghost use Rattle.device_objects.specs.declared.device.Call.TheVariants as calls;
 ghost use Rattle.player_game.specs.Choices.{choices};
 ghost use Rattle.cascade_rank.specs.Events.{weight_of};
-ghost use Rattle.cascade_rank.specs.Mentions.{cost_of_start};
-ghost use Rattle.cascade_rank.specs.Cost.{price, each_of, dearest_of, cost_of_post, cost_of_action, cost_of_list, cost_of_answer, cost_of_call, cost_of_target, cost_of_binding, cost_of_starts, cost_of_releases, cost_if_led, led_by, cost_of_choice, cost_of_scores, cost_of_game, cost_of_work, cost_of_event, cost_of_listener, cost_of_acceptance, cost_of_switch, switches_of, cost_of_stimuli};
+ghost use Rattle.cascade_rank.specs.Mentions.{cost_of_feeder, cost_of_start};
+ghost use Rattle.cascade_rank.specs.Cost.{price, each_of, dearest_of, cost_of_post, cost_of_drain, cost_of_action_by, cost_of_list_by, cost_of_answer_by, cost_of_call_by, cost_of_arrival, cost_of_call, cost_of_target, cost_of_binding, cost_of_starts, cost_of_releases, cost_if_led, led_by, cost_of_choice, cost_of_scores, cost_of_request, cost_of_game, cost_of_work, cost_of_event};
 
+use crate::confirms::{Confirms, Told, Untold};
 use crate::releases::count_enabled;
 use crate::work::{game_event, is_of, led_by};
 use device_objects::{Call, outcomes};
 use plan_tables::{
-    Action, Binding, EventId, GameEvent, ListId, Listener, ModeEvent, ModeId, Owner, Plan, RowId,
-    SwitchId, Target, Work,
+    Act, Action, BallTarget, Binding, EventId, GameEvent, ListId, ModeEvent, ModeId, Owner, Plan,
+    RowId, Target, Work,
 };
-use player_game::{choices, tells_scores};
+use player_game::{asks_for_ball, choices, tells_scores};
 
 /// What an event costs: its line, all that is bound to it, and the machine's work.
 pub(crate) fn need(plan: &Plan, weights: &[u32], event: EventId) -> u128
     requires event { event.0 < length plan.now.events }
     requires weights { length weights.now ≡ length plan.now.events }
     ensures price { result ≡ price (weight_of weights.now) (cost_of_event plan.now event) }
-    ensures small { result < 2 ^ 59 }
+    ensures small { result < 2 ^ 73 }
 {
     let bound = price_of_bound(plan, weights, event);
     let work = price_of_work(plan, weights, event);
@@ -48,7 +51,7 @@ fn price_of_work(plan: &Plan, weights: &[u32], event: EventId) -> u128
     requires event { event.0 < length plan.now.events }
     requires weights { length weights.now ≡ length plan.now.events }
     ensures price { result ≡ price (weight_of weights.now) (cost_of_work plan.now event) }
-    ensures small { result < 2 ^ 55 }
+    ensures small { result < 2 ^ 69 }
 {
     let starts = price_of_starts(plan, weights, plan.work(event));
     let releases = price_of_releases(plan, plan.work(event));
@@ -70,16 +73,20 @@ fn price_of_led(plan: &Plan, weights: &[u32], event: EventId) -> u128
     }
 }
 
-/// The scores that are told and the dearest way that the game can go, if the event is one of the
-/// game's.
+/// The scores that are told, the ball that is asked for, and the dearest way that the game can go, if
+/// the event is one of the game's.
 fn price_of_game(plan: &Plan, weights: &[u32], event: EventId) -> u128
     requires event { event.0 < length plan.now.events }
     requires weights { length weights.now ≡ length plan.now.events }
     ensures price { result ≡ price (weight_of weights.now) (cost_of_game plan.now (work_of plan.now event)) }
-    ensures small { result < 2 ^ 34 }
+    ensures small { result < 2 ^ 59 }
 {
     match plan.work(event) {
-        Work::Game(which) => price_of_scores(plan, which) + dearest_choice(plan, weights, which),
+        Work::Game(which) => {
+            let scores = price_of_scores(plan, which);
+            let request = price_of_request(plan, weights, which);
+            scores + (request + dearest_choice(plan, weights, which))
+        }
         _ => 0,
     }
 }
@@ -94,6 +101,21 @@ fn price_of_scores(plan: &Plan, which: GameEvent) -> u128
         u128::from(plan.game().unwrap().max_players)
     } else {
         0
+    }
+}
+
+/// What the first trough answers, if there is one, where a ball is asked for.
+fn price_of_request(plan: &Plan, weights: &[u32], which: GameEvent) -> u128
+    requires { length weights.now ≡ length plan.now.events }
+    ensures price { result ≡ price (weight_of weights.now) (cost_of_request plan.now which) }
+    ensures small { result ≤ 2 ^ 58 }
+{
+    if !asks_for_ball(which) {
+        return 0;
+    }
+    match plan.first_trough() {
+        Some(row) => price_of_call::<Told>(plan, weights, row, Call::Act(Act::Request(1))),
+        None => 0,
     }
 }
 
@@ -130,7 +152,7 @@ fn price_of_choice(plan: &Plan, weights: &[u32], choice: &[GameEvent]) -> u128
 fn price_of_starts(plan: &Plan, weights: &[u32], work: Work) -> u128
     requires { length weights.now ≡ length plan.now.events }
     ensures price { result ≡ price (weight_of weights.now) (cost_of_starts plan.now work) }
-    ensures small { result ≤ 2 ^ 54 }
+    ensures small { result ≤ 2 ^ 68 }
 {
     match work {
         Work::Mode(mode, ModeEvent::Started) => price_of_devices(plan, weights, mode),
@@ -153,7 +175,7 @@ fn price_of_releases(plan: &Plan, work: Work) -> u128
 fn price_of_devices(plan: &Plan, weights: &[u32], mode: ModeId) -> u128
     requires { length weights.now ≡ length plan.now.events }
     ensures price { result ≡ price (weight_of weights.now) (each_of (λ r. cost_of_call plan.now r calls.ModeStart) (rows_of plan.now (owners.Mode mode))) }
-    ensures small { result ≤ 2 ^ 54 }
+    ensures small { result ≤ 2 ^ 68 }
 {
     let mut total = 0u128;
     for number in 0..plan.rows().len() {
@@ -167,10 +189,10 @@ fn price_of_start(plan: &Plan, weights: &[u32], mode: ModeId, row: RowId) -> u12
     requires row { row.0 < length plan.now.rows }
     requires weights { length weights.now ≡ length plan.now.events }
     ensures price { result ≡ price (weight_of weights.now) (cost_of_start plan.now mode row) }
-    ensures small { result ≤ 2 ^ 44 }
+    ensures small { result ≤ 2 ^ 58 }
 {
     if is_of(plan.row(row).owner, mode) {
-        price_of_call(plan, weights, row, Call::ModeStart)
+        price_of_call::<Told>(plan, weights, row, Call::ModeStart)
     } else {
         0
     }
@@ -181,7 +203,7 @@ fn price_of_bound(plan: &Plan, weights: &[u32], event: EventId) -> u128
     requires event { event.0 < length plan.now.events }
     requires weights { length weights.now ≡ length plan.now.events }
     ensures price { result ≡ 1 + price (weight_of weights.now) (each_of (cost_of_binding plan.now) (bound_to plan.now event)) }
-    ensures small { result < 2 ^ 58 + 2 }
+    ensures small { result < 2 ^ 72 + 2 }
 {
     let mut total = 1u128;
     for place in plan.bindings_of(event) {
@@ -195,7 +217,7 @@ fn price_of_binding(plan: &Plan, weights: &[u32], binding: Binding) -> u128
     requires binding { IsBindingWithin plan.now binding }
     requires weights { length weights.now ≡ length plan.now.events }
     ensures price { result ≡ price (weight_of weights.now) (cost_of_binding plan.now binding) }
-    ensures small { result ≤ 2 ^ 44 }
+    ensures small { result ≤ 2 ^ 58 }
 {
     price_of_target(plan, weights, binding.target)
 }
@@ -204,170 +226,143 @@ fn price_of_target(plan: &Plan, weights: &[u32], target: Target) -> u128
     requires target { IsTargetWithin plan.now target }
     requires weights { length weights.now ≡ length plan.now.events }
     ensures price { result ≡ price (weight_of weights.now) (cost_of_target plan.now target) }
-    ensures small { result ≤ 2 ^ 44 }
+    ensures small { result ≤ 2 ^ 58 }
 {
     match target {
-        Target::Run(list) => price_of_list(plan, weights, list),
+        Target::Run(list) => price_of_list::<Told>(plan, weights, list),
         Target::Start(mode) => price_of_post(weights, plan.mode(mode).events.will_start),
         Target::Stop(mode) => price_of_post(weights, plan.mode(mode).events.stopping),
-        Target::Act(row, act) => price_of_call(plan, weights, row, Call::Act(act)),
+        Target::Act(row, act) => price_of_call::<Told>(plan, weights, row, Call::Act(act)),
     }
 }
 
 /// The dearest of what a call of a device can answer.
-fn price_of_call(plan: &Plan, weights: &[u32], row: RowId, call: Call) -> u128
+pub(crate) fn price_of_call<C: Confirms>(
+    plan: &Plan,
+    weights: &[u32],
+    row: RowId,
+    call: Call,
+) -> u128
     requires row { row.0 < length plan.now.rows }
     requires weights { length weights.now ≡ length plan.now.events }
-    ensures price { result ≡ price (weight_of weights.now) (cost_of_call plan.now row call) }
-    ensures small { result ≤ 2 ^ 44 }
+    ensures price { result ≡ price (weight_of weights.now) (cost_of_call_by plan.now (C.cost plan.now) row call) }
+    ensures small { result ≤ 4096 * (2 ^ 33 + C.most) }
 {
     let answers = outcomes(&plan.row(row).settings, call);
     let mut dearest = 0u128;
     for answer in answers.as_slice() {
-        dearest = dearest.max(price_of_answer(plan, weights, row, answer.as_slice()));
+        dearest = dearest.max(price_of_answer::<C>(plan, weights, row, answer.as_slice()));
     }
     dearest
 }
 
 /// The effect lists of a row that its device answers.
-fn price_of_answer(plan: &Plan, weights: &[u32], row: RowId, lists: &[u16]) -> u128
+fn price_of_answer<C: Confirms>(plan: &Plan, weights: &[u32], row: RowId, lists: &[u16]) -> u128
     requires row { row.0 < length plan.now.rows }
     requires lists { All (λ k. k < list_count (row_at plan.now row).settings) lists.now }
     requires few { length lists.now ≤ 4 }
     requires weights { length weights.now ≡ length plan.now.events }
-    ensures price { result ≡ price (weight_of weights.now) (cost_of_answer plan.now row lists.now) }
-    ensures small { result ≤ 2 ^ 44 }
+    ensures price { result ≡ price (weight_of weights.now) (cost_of_answer_by plan.now (C.cost plan.now) row lists.now) }
+    ensures small { result ≤ 4096 * (2 ^ 33 + C.most) }
 {
     let mut total = 0u128;
     for list in lists {
-        total += price_of_list(plan, weights, plan.list_of_row(row, *list));
+        total += price_of_list::<C>(plan, weights, plan.list_of_row(row, *list));
     }
     total
 }
 
-fn price_of_list(plan: &Plan, weights: &[u32], list: ListId) -> u128
+fn price_of_list<C: Confirms>(plan: &Plan, weights: &[u32], list: ListId) -> u128
     requires list { list.0 < length plan.now.lists }
     requires weights { length weights.now ≡ length plan.now.events }
-    ensures price { result ≡ price (weight_of weights.now) (cost_of_list plan.now list) }
-    ensures small { result ≤ 2 ^ 42 }
+    ensures price { result ≡ price (weight_of weights.now) (cost_of_list_by plan.now (C.cost plan.now) list) }
+    ensures small { result ≤ 1024 * (2 ^ 33 + C.most) }
 {
-    price_of_actions(plan, weights, plan.list(list))
+    price_of_actions::<C>(plan, weights, plan.list(list))
 }
 
-fn price_of_actions(plan: &Plan, weights: &[u32], actions: &[Action]) -> u128
+fn price_of_actions<C: Confirms>(plan: &Plan, weights: &[u32], actions: &[Action]) -> u128
     requires actions { All (IsActionWithin plan.now) actions.now }
     requires few { length actions.now ≤ 1024 }
     requires weights { length weights.now ≡ length plan.now.events }
-    ensures price { result ≡ price (weight_of weights.now) (each_of (cost_of_action plan.now) actions.now) }
-    ensures small { result ≤ 2 ^ 42 }
+    ensures price { result ≡ price (weight_of weights.now) (each_of (cost_of_action_by plan.now (C.cost plan.now)) actions.now) }
+    ensures small { result ≤ 1024 * (2 ^ 33 + C.most) }
 {
     let mut total = 0u128;
     for action in actions {
-        total += price_of_action(plan, weights, *action);
+        total += price_of_action::<C>(plan, weights, *action);
     }
     total
 }
 
-fn price_of_action(plan: &Plan, weights: &[u32], action: Action) -> u128
+fn price_of_action<C: Confirms>(plan: &Plan, weights: &[u32], action: Action) -> u128
     requires action { IsActionWithin plan.now action }
     requires weights { length weights.now ≡ length plan.now.events }
-    ensures price { result ≡ price (weight_of weights.now) (cost_of_action plan.now action) }
-    ensures small { result ≤ 2 ^ 32 }
+    ensures price { result ≡ price (weight_of weights.now) (cost_of_action_by plan.now (C.cost plan.now) action) }
+    ensures small { result ≤ 2 ^ 33 + C.most }
 {
     match action {
         Action::Post(event) => price_of_post(weights, event),
         Action::Change { event, .. } => 1 + price_of_post(weights, event),
+        Action::Enter {
+            device,
+            event,
+            drain,
+        } => {
+            let drained = price_of_drain(plan, weights, drain);
+            let told = C::price(plan, weights, device);
+            1 + (price_of_post(weights, event) + drained.max(told))
+        }
         Action::Pulse { .. } | Action::Enable { .. } | Action::Disable { .. } => 1,
+        Action::Leave { .. } | Action::Lose { .. } | Action::Arrive { .. } => 1,
     }
 }
 
-fn price_of_post(weights: &[u32], event: EventId) -> u128
+/// The post of the event at which a ball drains, if it may.
+fn price_of_drain(plan: &Plan, weights: &[u32], drain: bool) -> u128
+    requires game { drain ≡ true → HasGame plan.now }
+    requires weights { length weights.now ≡ length plan.now.events }
+    ensures price { result ≡ price (weight_of weights.now) (cost_of_drain plan.now drain) }
+    ensures small { result < 2 ^ 32 }
+{
+    if drain {
+        price_of_post(weights, game_event(plan, GameEvent::BallDrain))
+    } else {
+        0
+    }
+}
+
+/// The dearest of what the devices answer that may be told of an arrival at a target.
+pub(crate) fn price_of_arrival(plan: &Plan, weights: &[u32], target: BallTarget) -> u128
+    requires { length weights.now ≡ length plan.now.events }
+    ensures price { result ≡ price (weight_of weights.now) (cost_of_arrival plan.now target) }
+    ensures small { result ≤ 2 ^ 45 }
+{
+    let mut dearest = 0u128;
+    for number in 0..plan.rows().len() {
+        dearest = dearest.max(price_of_feeder(plan, weights, target, RowId(number as u16)));
+    }
+    dearest
+}
+
+/// What a device answers that is told of an arrival at a target, if it ejects its balls there.
+fn price_of_feeder(plan: &Plan, weights: &[u32], target: BallTarget, row: RowId) -> u128
+    requires row { row.0 < length plan.now.rows }
+    requires weights { length weights.now ≡ length plan.now.events }
+    ensures price { result ≡ price (weight_of weights.now) (cost_of_feeder plan.now target row) }
+    ensures small { result ≤ 2 ^ 45 }
+{
+    if plan.row(row).settings.feeds(target) {
+        price_of_call::<Untold>(plan, weights, row, Call::Act(Act::Confirm))
+    } else {
+        0
+    }
+}
+
+pub(crate) fn price_of_post(weights: &[u32], event: EventId) -> u128
     requires { IsEventWithin (length weights.now) event }
     ensures price { result ≡ price (weight_of weights.now) (cost_of_post event) }
     ensures small { result < 2 ^ 32 }
 {
     u128::from(weights[event.0 as usize])
-}
-
-/// The greatest cost of any stimulus.
-pub(crate) fn bound_of(plan: &Plan, weights: &[u32]) -> u128
-    requires { length weights.now ≡ length plan.now.events }
-    ensures { result ≡ price (weight_of weights.now) (cost_of_stimuli plan.now) }
-{
-    dearest_switch(plan, weights).max(dearest_alarm(plan, weights))
-}
-
-/// The greatest cost of the acceptance of a switch.
-fn dearest_switch(plan: &Plan, weights: &[u32]) -> u128
-    requires { length weights.now ≡ length plan.now.events }
-    ensures { result ≡ price (weight_of weights.now) (dearest_of (cost_of_switch plan.now) (switches_of plan.now)) }
-{
-    let mut bound = 0u128;
-    for number in 0..plan.switch_count() {
-        bound = bound.max(price_of_switch(plan, weights, SwitchId(number as u16)));
-    }
-    bound
-}
-
-/// The greatest cost of the alarm of a device.
-fn dearest_alarm(plan: &Plan, weights: &[u32]) -> u128
-    requires { length weights.now ≡ length plan.now.events }
-    ensures { result ≡ price (weight_of weights.now) (dearest_of (λ r. cost_of_call plan.now r calls.Fire) (row_numbers plan.now)) }
-{
-    let mut bound = 0u128;
-    for number in 0..plan.rows().len() {
-        let row = RowId(number as u16);
-        bound = bound.max(price_of_call(plan, weights, row, Call::Fire));
-    }
-    bound
-}
-
-/// What the dearer acceptance of a switch costs.
-fn price_of_switch(plan: &Plan, weights: &[u32], switch: SwitchId) -> u128
-    requires switch { switch.0 < length plan.now.switches }
-    requires weights { length weights.now ≡ length plan.now.events }
-    ensures { result ≡ price (weight_of weights.now) (cost_of_switch plan.now switch) }
-{
-    let active = price_of_acceptance(plan, weights, switch, true);
-    let inactive = price_of_acceptance(plan, weights, switch, false);
-    active.max(inactive)
-}
-
-/// What it costs to accept a switch as active or inactive: its line, the acts of the devices that
-/// listen to it, and its posts.
-fn price_of_acceptance(plan: &Plan, weights: &[u32], switch: SwitchId, active: bool) -> u128
-    requires switch { switch.0 < length plan.now.switches }
-    requires weights { length weights.now ≡ length plan.now.events }
-    ensures { result ≡ price (weight_of weights.now) (cost_of_acceptance plan.now switch active) }
-{
-    let acts = price_of_listeners(plan, weights, plan.listeners(switch), active);
-    let posts = price_of_posts(weights, plan.posts(switch, active));
-    1 + acts + posts
-}
-
-/// What the acts of devices cost that listen to a switch.
-fn price_of_listeners(plan: &Plan, weights: &[u32], listeners: &[Listener], active: bool) -> u128
-    requires listeners { All (IsListenerWithin (length plan.now.rows)) listeners.now }
-    requires weights { length weights.now ≡ length plan.now.events }
-    ensures price { result ≡ price (weight_of weights.now) (each_of (cost_of_listener plan.now active) listeners.now) }
-    ensures small { result < 2 ^ 108 }
-{
-    let mut total = 0u128;
-    for listener in listeners {
-        let act = listener.act(active);
-        total += price_of_call(plan, weights, listener.row, Call::Act(act));
-    }
-    total
-}
-
-fn price_of_posts(weights: &[u32], posts: &[EventId]) -> u128
-    requires { All (IsEventWithin (length weights.now)) posts.now }
-    ensures price { result ≡ price (weight_of weights.now) (each_of cost_of_post posts.now) }
-    ensures small { result < 2 ^ 96 }
-{
-    let mut total = 0u128;
-    for event in posts {
-        total += price_of_post(weights, *event);
-    }
-    total
 }

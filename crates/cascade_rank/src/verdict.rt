@@ -9,7 +9,8 @@ ghost use Rattle.cascade_rank.specs.View.{GivesBound, IfRank};
 ghost use Rattle.cascade_rank.specs.Verified.{IsVerified, IsUnverified, IsFirstShort};
 
 use crate::fault::RankFault;
-use crate::price::{bound_of, need};
+use crate::price::need;
+use crate::stimuli::bound_of;
 use crate::weights::Weights;
 use plan_tables::{EventId, Plan};
 

@@ -1,20 +1,14 @@
 -- What is due: only a stimulus alters that, and no alarm comes late.
-use Rattle.std.proofs.Common.{◌≡◌, ℕ, ℤ, ◌≤◌, ◌<◌, ◌⊎◌, Option, None, Some, IfSome, List, [], ◌∷◌, length, slice_set, refl, ap, sym, subst, ◌∙◌, inl, inr, arith}
+use Rattle.std.proofs.Common.{◌≡◌, ℕ, ◌≤◌, ◌<◌, ◌⊎◌, Option, None, Some, IfSome, List, [], length, slice_set, refl, ap, sym, subst, ◌∙◌, inl, inr, arith}
 use Rattle.std.proofs.lemmas.Bool.{cases_eq, cases_lt}
 use Rattle.std.proofs.lemmas.Option.{none-some}
 use Rattle.std.proofs.lemmas.List.{get_or_past, get_or-map, get_or-set_same, get_or-set_other, length-map, length-replicate, length-set}
 use Rattle.std.proofs.lemmas.List.Elements.{All-get_or}
 use Rattle.mode_stack.specs.declared.phase.Phase.TheVariants.{Idle}
 use Rattle.mode_stack.specs.ModeStep.{in_phase}
-use Rattle.plan_tables.specs.PlanView.{PlanView, actions_at, list_of_row, no_row, row_at, work_of}
+use Rattle.plan_tables.specs.PlanView.{PlanView, no_row, row_at, work_of}
 use Rattle.plan_tables.specs.Valid.{IsValid}
 use Rattle.plan_tables.specs.Devices.{IsWithinLimits}
-use Rattle.plan_tables.specs.declared.entries.Action.{Action}
-use Rattle.plan_tables.specs.declared.entries.Action.TheVariants.{Post, Pulse, Enable, Disable, Change as ChangeVariable}
-use Rattle.plan_tables.specs.declared.entries.EventId.{EventId}
-use Rattle.plan_tables.specs.declared.entries.VariableId.{VariableId}
-use Rattle.player_game.specs.Players.{changed_to, after_change as players_after_change}
-use Rattle.plan_tables.specs.declared.entries.Owner.{Owner}
 use Rattle.plan_tables.specs.declared.entries.SwitchId.{SwitchId}
 use Rattle.plan_tables.specs.declared.devices.RowId.{RowId}
 use Rattle.plan_tables.specs.declared.devices.DeviceRow.{DeviceRow}
@@ -29,7 +23,7 @@ use Rattle.switch_core.specs.SwitchStep.{idle}
 use Rattle.switch_core.specs.Switches.{SwitchesView, IsComplete, due_of, after_change, reported_by_change, accept, reported}
 use Rattle.switch_core.proofs.DueMoments.{changes_arm_later, accept-due, accept-done, idle-nothing_due}
 use Rattle.written_machine.specs.declared.line.Line.{Line}
-use Rattle.written_machine.specs.Machine.{Machine, set_switches, set_device, set_players, all_do, tell_change, do_action, do_list, world_of, device_state, device_at, called, do_answer, initial}
+use Rattle.written_machine.specs.Machine.{Machine, set_switches, set_device, world_of, device_state, device_at, called, initial}
 use Rattle.written_machine.specs.Devices.{HasDevices}
 use Rattle.written_machine.specs.EventStep.{taken, EventStep, EventSteps}
 use Rattle.written_machine.specs.PlanOrder.{settled}

@@ -29,7 +29,7 @@ use Rattle.switch_core.specs.declared.change.Change.{Change as Acceptance}
 use Rattle.written_machine.specs.declared.line.Line.{Line}
 use Rattle.written_machine.specs.declared.line.Happening.TheVariants as lines
 use Rattle.event_queue.specs.declared.queue.Posted.{Posted}
-use Rattle.written_machine.specs.Machine.{Machine, write, post, ask_coil, told, all_do, set_players, tell_change, book, drain_if, after_entry, enter_ball, do_action_by, do_action, call_device, confirm_first_away, confirm_entry, tell_listener, tell_listeners, confirm_on_playfield, ask_ball, do_handler, do_accepted}
+use Rattle.written_machine.specs.Machine.{Machine, write, post, ask_coil, told, all_do, set_players, tell_change, book, drain_if, after_entry, do_action_by, do_action, call_device, confirm_first_away, confirm_entry, tell_listener, tell_listeners, confirm_on_playfield, ask_ball, do_handler, do_accepted}
 use Rattle.written_machine.specs.EventStep.{taken, is_kept, before_handlers, after_event}
 use Rattle.written_machine.specs.Moves.{Booked, Grows}
 use Rattle.written_machine.proofs.Does.{grows-does, grows-move}

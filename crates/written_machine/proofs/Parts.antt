@@ -7,7 +7,7 @@ use Rattle.std.proofs.lemmas.List.{get_or_past}
 use Rattle.std.proofs.lemmas.List.Elements.{All-get_or, All-nil, filter_passes}
 use Rattle.std.proofs.lemmas.List.Sorted.{All-permutation}
 use Rattle.plan_tables.specs.PlanView.{PlanView, act_of_listener, actions_of, coil_numbers, listeners_of, no_row, no_switch, no_binding, switch_at, posts_of, actions_at, binding_at, is_owner, list_of_row, places_of, first_trough, game_event, mode_event, row_at, row_numbers, rows_of, target_of, work_of}
-use Rattle.plan_tables.specs.Valid.{HasEntries, HasGame, IsValid, IsEventWithin, IsActionWithin, IsBindingWithin, IsTargetWithin, IsWorkAt}
+use Rattle.plan_tables.specs.Valid.{HasEntries, HasGame, IsEventWithin, IsActionWithin, IsBindingWithin, IsTargetWithin, IsWorkAt}
 use Rattle.plan_tables.specs.declared.entries.EventId.{EventId}
 use Rattle.plan_tables.specs.declared.entries.ListId.{ListId}
 use Rattle.plan_tables.specs.declared.entries.BindingId.{BindingId}
@@ -56,7 +56,7 @@ use Rattle.cascade_rank.specs.Cost.{Cost, Lines, Both, Greater, each_of, cost_of
 use Rattle.cascade_rank.proofs.Games.{game_event-below, game_has-event}
 use Rattle.cascade_rank.proofs.Within.{posts-below, mode_event-within}
 use Rattle.event_queue.specs.Handlers.{runs_at, handlers, IsHandlerOrder}
-use Rattle.written_machine.specs.Machine.{Machine, write, post, ask_coil, release_coil, release_coils, set_switches, set_mode, set_device, set_players, all_do, tell_change, post_game, write_final, write_finals, do_game, book, drain_if, after_entry, enter_ball, do_action_by, do_list_by, do_answer_by, call_device_by, first_away, no_confirm, confirm_of, confirm_first_away, confirm_entry, do_action, do_list, do_answer, world_of, device_at, called, call_device, call_devices, tell_listener, tell_listeners, confirm_on_playfield, ask_trough, ask_ball, do_target, do_handler, do_accepted, do_if_accepted}
+use Rattle.written_machine.specs.Machine.{Machine, write, post, ask_coil, release_coil, release_coils, set_switches, set_mode, set_device, set_players, all_do, tell_change, post_game, write_final, write_finals, do_game, book, drain_if, after_entry, do_action_by, do_list_by, do_answer_by, call_device_by, first_away, no_confirm, confirm_of, confirm_first_away, confirm_entry, do_list, do_answer, world_of, device_at, called, call_device, call_devices, tell_listener, tell_listeners, confirm_on_playfield, ask_trough, ask_ball, do_target, do_handler, do_accepted, do_if_accepted}
 use Rattle.written_machine.specs.EventStep.{do_before, do_after, handlers_in}
 use Rattle.written_machine.specs.Run.{switch, device, Stimulus, Change, Alarm, Wait, moment_of, arrived, begin}
 use Rattle.written_machine.specs.GoodRun.{cost_of_stimulus}

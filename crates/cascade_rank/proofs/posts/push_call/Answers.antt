@@ -1,17 +1,16 @@
-use Rattle.std.proofs.Common.{◌≡◌, ℕ, ◌<◌, ◌++◌, List, map, sym, ap, ◌∙◌, subst}
+use Rattle.std.proofs.Common.{◌≡◌, ℕ, ◌<◌, ◌++◌, map, sym, ap, ◌∙◌, subst}
 use Rattle.std.specs.List.{All}
 use Rattle.arrayvec.specs.ArrayVec.{ArrayVec}
 use Rattle.plan_tables.specs.PlanView.{row_at}
 use Rattle.plan_tables.specs.Devices.{list_count}
 use Rattle.device_objects.specs.Outcomes.{outcomes}
-use Rattle.cascade_rank.specs.Cost.{cost_of_answer}
-use Rattle.cascade_rank.specs.Mentions.{weights_in}
+use Rattle.cascade_rank.specs.Cost.{cost_of_answer_by}
 use Rattle.cascade_rank.proofs.Outcomes.{outcomes-read, answer-within, answers-weights}
-use Rattle.cascade_rank.proofs.Posted.{pushes-more, pushes-all}
+use Rattle.cascade_rank.proofs.Posted.{pushes-more, pushes-same, pushes-all}
 use Rattle.cascade_rank.proofs.posts.push_call.Goals as goal
 
 pub push_answer-requires-clause-lists : goal.push_answer-requires-clause-lists
-push_answer-requires-clause-lists c =
+push_answer-requires-clause-lists g c =
     let are : map (λ (a : ArrayVec ℕ). a.items) c.as_slice-answer-items.result.now ≡ outcomes (row_at c.args.plan.now c.args.row).settings c.args.call =
     (outcomes-read c.args.plan.now c.args.row c.args.call c.row.result _ c.row.ensures.row (ap (map (λ (a : ArrayVec ℕ). a.items)) c.as_slice-answer-items.ensures.value ∙ c.outcomes-answers.ensures)) in
     let same = c.as_slice.ensures.value ∙ ap (λ (a : ArrayVec ℕ). a.items) c.answer-item.is in
@@ -19,14 +18,14 @@ push_answer-requires-clause-lists c =
     (answer-within (λ (a : ArrayVec ℕ). a.items) c.args.plan.now c.args.row c.args.call c.as_slice-answer-items.result.now are c.loop-answer.answer-index c.answer-item.result c.loop-answer-test.true)
 
 pub loop-answer-preserved : goal.loop-answer-preserved
-loop-answer-preserved c =
+loop-answer-preserved g c =
     let same = c.as_slice.ensures.value ∙ ap (λ (a : ArrayVec ℕ). a.items) c.answer-item.is in
-    pushes-more (λ (a : ArrayVec ℕ). cost_of_answer c.args.plan.now c.args.row a.items) c.as_slice-answer-items.result.now c.loop-answer.answer-index c.answer-item.result c.args.posts.now.items c.loop-answer.posts.items c.push_answer.new.posts.items
-    c.loop-answer-test.true c.loop-answer.invariant (c.in_ok-push_answer.ensures ∙ ap (λ (ls : List ℕ). c.loop-answer.posts.items ++ weights_in (cost_of_answer c.args.plan.now c.args.row ls)) same)
+    pushes-more (λ (a : ArrayVec ℕ). cost_of_answer_by c.args.plan.now (g.C.Confirms.cost c.args.plan.now) c.args.row a.items) c.as_slice-answer-items.result.now c.loop-answer.answer-index c.answer-item.result c.args.posts.now.items c.loop-answer.posts.items c.push_answer.new.posts.items
+    c.loop-answer-test.true c.loop-answer.invariant (pushes-same (cost_of_answer_by c.args.plan.now (g.C.Confirms.cost c.args.plan.now) c.args.row) c.as_slice.result.now _ c.loop-answer.posts.items c.push_answer.new.posts.items same c.in_ok-push_answer.ensures)
 
 pub returns : goal.returns
-returns c =
+returns g c =
     let are : map (λ (a : ArrayVec ℕ). a.items) c.as_slice-answer-items.result.now ≡ outcomes (row_at c.args.plan.now c.args.row).settings c.args.call =
     (outcomes-read c.args.plan.now c.args.row c.args.call c.row.result _ c.row.ensures.row (ap (map (λ (a : ArrayVec ℕ). a.items)) c.as_slice-answer-items.ensures.value ∙ c.outcomes-answers.ensures)) in
-    pushes-all (λ (a : ArrayVec ℕ). cost_of_answer c.args.plan.now c.args.row a.items) c.as_slice-answer-items.result.now c.loop-answer.answer-index c.args.posts.now.items c.loop-answer.posts.items c.loop-answer-test.false c.loop-answer.invariant
-    ∙ ap (λ es. c.args.posts.now.items ++ es) (answers-weights (λ (a : ArrayVec ℕ). a.items) c.args.plan.now c.args.row c.args.call c.as_slice-answer-items.result.now are)
+    pushes-all (λ (a : ArrayVec ℕ). cost_of_answer_by c.args.plan.now (g.C.Confirms.cost c.args.plan.now) c.args.row a.items) c.as_slice-answer-items.result.now c.loop-answer.answer-index c.args.posts.now.items c.loop-answer.posts.items c.loop-answer-test.false c.loop-answer.invariant
+    ∙ ap (λ es. c.args.posts.now.items ++ es) (answers-weights (λ (a : ArrayVec ℕ). a.items) c.args.plan.now c.args.row c.args.call c.as_slice-answer-items.result.now are (g.C.Confirms.cost c.args.plan.now))

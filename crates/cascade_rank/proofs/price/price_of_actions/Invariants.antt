@@ -1,11 +1,11 @@
-use Rattle.std.proofs.Common.{◌≡◌, ◌*◌, ◌^◌, ◌≤◌, take}
+use Rattle.std.proofs.Common.{◌≡◌, ◌+◌, ◌*◌, ◌^◌, ◌≤◌, take}
 use Rattle.cascade_rank.specs.Events.{weight_of}
-use Rattle.cascade_rank.specs.Cost.{price, each_of, cost_of_action}
+use Rattle.cascade_rank.specs.Cost.{price, each_of, cost_of_action_by}
 use Rattle.cascade_rank.proofs.price.price_of_actions.Given as goal
 
--- the price of the actions so far, each of which is below 2^32
+-- the price of the actions so far
 abbrev pub invariant-loop-action : goal.invariant-loop-action
-invariant-loop-action l = record {
-  price : l.total ≡ price (weight_of l.weights) (each_of (cost_of_action l.plan) (take l.action-index l.actions));
-  small : l.total ≤ l.action-index * 2 ^ 32;
+invariant-loop-action g l = record {
+  price : l.total ≡ price (weight_of l.weights) (each_of (cost_of_action_by l.plan (g.C.Confirms.cost l.plan)) (take l.action-index l.actions));
+  small : l.total ≤ l.action-index * (2 ^ 33 + g.C.Confirms.most);
 }

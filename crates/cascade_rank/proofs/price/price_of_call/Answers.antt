@@ -1,17 +1,17 @@
-use Rattle.std.proofs.Common.{◌≡◌, ℕ, ◌<◌, List, map, max, sym, ap, ◌∙◌, subst, arith, take_all}
+use Rattle.std.proofs.Common.{◌≡◌, ℕ, ◌<◌, List, map, max, sym, ap, ◌∙◌, subst, arith}
 use Rattle.std.specs.List.{All}
 use Rattle.arrayvec.specs.ArrayVec.{ArrayVec}
 use Rattle.plan_tables.specs.PlanView.{row_at}
 use Rattle.plan_tables.specs.Devices.{list_count}
 use Rattle.device_objects.specs.Outcomes.{outcomes}
 use Rattle.cascade_rank.specs.Events.{weight_of}
-use Rattle.cascade_rank.specs.Cost.{price, dearest_of, cost_of_answer}
-use Rattle.cascade_rank.proofs.Outcomes.{outcomes-read, answer-within, answers-price}
+use Rattle.cascade_rank.specs.Cost.{price, cost_of_answer_by}
+use Rattle.cascade_rank.proofs.Outcomes.{outcomes-read, answer-within, price-answers_all}
 use Rattle.cascade_rank.proofs.Prices.{price-dearest_more}
 use Rattle.cascade_rank.proofs.price.price_of_call.Goals as goal
 
 pub price_of_answer-requires-clause-lists : goal.price_of_answer-requires-clause-lists
-price_of_answer-requires-clause-lists c =
+price_of_answer-requires-clause-lists g c =
     let are : map (λ (a : ArrayVec ℕ). a.items) c.as_slice-answer-items.result.now ≡ outcomes (row_at c.args.plan.now c.args.row).settings c.args.call =
     (outcomes-read c.args.plan.now c.args.row c.args.call c.row.result _ c.row.ensures.row (ap (map (λ (a : ArrayVec ℕ). a.items)) c.as_slice-answer-items.ensures.value ∙ c.outcomes-answers.ensures)) in
     let same = c.as_slice.ensures.value ∙ ap (λ (a : ArrayVec ℕ). a.items) c.answer-item.is in
@@ -19,10 +19,10 @@ price_of_answer-requires-clause-lists c =
     (answer-within (λ (a : ArrayVec ℕ). a.items) c.args.plan.now c.args.row c.args.call c.as_slice-answer-items.result.now are c.loop-answer.answer-index c.answer-item.result c.loop-answer-test.true)
 
 pub loop-answer-preserved : goal.loop-answer-preserved
-loop-answer-preserved c =
+loop-answer-preserved g c =
     let same = c.as_slice.ensures.value ∙ ap (λ (a : ArrayVec ℕ). a.items) c.answer-item.is in
-    let here = ap (λ (ls : List ℕ). price (weight_of c.args.weights.now) (cost_of_answer c.args.plan.now c.args.row ls)) same in
-    let more = price-dearest_more (weight_of c.args.weights.now) (λ (a : ArrayVec ℕ). cost_of_answer c.args.plan.now c.args.row a.items) c.as_slice-answer-items.result.now c.loop-answer.answer-index c.answer-item.result c.loop-answer-test.true in
+    let here = ap (λ (ls : List ℕ). price (weight_of c.args.weights.now) (cost_of_answer_by c.args.plan.now (g.C.Confirms.cost c.args.plan.now) c.args.row ls)) same in
+    let more = price-dearest_more (weight_of c.args.weights.now) (λ (a : ArrayVec ℕ). cost_of_answer_by c.args.plan.now (g.C.Confirms.cost c.args.plan.now) c.args.row a.items) c.as_slice-answer-items.result.now c.loop-answer.answer-index c.answer-item.result c.loop-answer-test.true in
     let larger : c.max-dearest.result ≡ max c.loop-answer.dearest c.price_of_answer.result = c.max-dearest.ensures in
     record {
       price = omega (arith, more, here, larger, c.loop-answer.invariant.price, c.price_of_answer.ensures.price);
@@ -30,9 +30,8 @@ loop-answer-preserved c =
     }
 
 pub returns-clause-price : goal.returns-clause-price
-returns-clause-price c =
+returns-clause-price g c =
     let are : map (λ (a : ArrayVec ℕ). a.items) c.as_slice-answer-items.result.now ≡ outcomes (row_at c.args.plan.now c.args.row).settings c.args.call =
     (outcomes-read c.args.plan.now c.args.row c.args.call c.row.result _ c.row.ensures.row (ap (map (λ (a : ArrayVec ℕ). a.items)) c.as_slice-answer-items.ensures.value ∙ c.outcomes-answers.ensures)) in
-    c.loop-answer.invariant.price
-    ∙ ap (λ (answers : List (ArrayVec ℕ)). price (weight_of c.args.weights.now) (dearest_of (λ (a : ArrayVec ℕ). cost_of_answer c.args.plan.now c.args.row a.items) answers)) (take_all c.loop-answer.answer-index c.as_slice-answer-items.result.now c.loop-answer-test.false)
-    ∙ answers-price (λ (a : ArrayVec ℕ). a.items) c.args.plan.now c.args.row c.args.call c.as_slice-answer-items.result.now are (weight_of c.args.weights.now)
+    price-answers_all (λ (a : ArrayVec ℕ). a.items) c.args.plan.now c.args.row c.args.call c.as_slice-answer-items.result.now are (g.C.Confirms.cost c.args.plan.now) (weight_of c.args.weights.now)
+    c.loop-answer.answer-index c.loop-answer.dearest c.loop-answer-test.false c.loop-answer.invariant.price

@@ -7,5 +7,5 @@ use Rattle.cascade_rank.proofs.price.price_of_game.Goals as goal
 pub returns-in-Game-clause-price : goal.returns-in-Game-clause-price
 returns-in-Game-clause-price c =
     let here = ap (λ (w : Work). price (weight_of c.args.weights.now) (cost_of_game c.args.plan.now w)) c.in-Game.ensures.work in
-    let scores = c.price_of_scores.ensures.price (weight_of c.args.weights.now) in
-    omega (arith, here, scores, c.dearest_choice.ensures.price)
+    let scores = c.price_of_scores-scores.ensures.price (weight_of c.args.weights.now) in
+    omega (arith, here, scores, c.price_of_request-request.ensures.price, c.dearest_choice.ensures.price)

@@ -3,7 +3,7 @@ use Rattle.plan_tables.specs.PlanView.{row_numbers}
 use Rattle.device_objects.specs.declared.device.Call.TheVariants as calls
 use Rattle.cascade_rank.specs.Events.{weight_of}
 use Rattle.cascade_rank.specs.Cost.{price, dearest_of, cost_of_call}
-use Rattle.cascade_rank.proofs.price.dearest_alarm.Given as goal
+use Rattle.cascade_rank.proofs.stimuli.dearest_alarm.Given as goal
 
 -- the price of the dearest alarm so far
 abbrev pub invariant-loop-number : goal.invariant-loop-number

@@ -2,7 +2,7 @@ use Rattle.std.proofs.Common.{arith}
 use Rattle.cascade_rank.specs.Events.{weight_of}
 use Rattle.cascade_rank.specs.Cost.{cost_of_post}
 use Rattle.cascade_rank.proofs.Prices.{price-each_more}
-use Rattle.cascade_rank.proofs.price.price_of_posts.Goals as goal
+use Rattle.cascade_rank.proofs.stimuli.price_of_posts.Goals as goal
 
 pub loop-event-preserved : goal.loop-event-preserved
 loop-event-preserved c =

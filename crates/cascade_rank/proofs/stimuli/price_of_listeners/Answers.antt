@@ -5,7 +5,7 @@ use Rattle.device_objects.specs.declared.device.Call.TheVariants as calls
 use Rattle.cascade_rank.specs.Events.{weight_of}
 use Rattle.cascade_rank.specs.Cost.{price, cost_of_call, cost_of_listener}
 use Rattle.cascade_rank.proofs.Prices.{price-each_more}
-use Rattle.cascade_rank.proofs.price.price_of_listeners.Goals as goal
+use Rattle.cascade_rank.proofs.stimuli.price_of_listeners.Goals as goal
 
 pub loop-listener-preserved : goal.loop-listener-preserved
 loop-listener-preserved c =

@@ -4,7 +4,7 @@ use Rattle.cascade_rank.specs.Events.{weight_of}
 use Rattle.cascade_rank.specs.Cost.{price, dearest_of, cost_of_switch, switches_of}
 use Rattle.cascade_rank.proofs.Prices.{price-dearest_more}
 use Rattle.cascade_rank.proofs.Switches.{length-switches, switch_of}
-use Rattle.cascade_rank.proofs.price.dearest_switch.Goals as goal
+use Rattle.cascade_rank.proofs.stimuli.dearest_switch.Goals as goal
 
 pub loop-number-preserved : goal.loop-number-preserved
 loop-number-preserved c =

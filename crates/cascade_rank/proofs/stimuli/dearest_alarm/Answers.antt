@@ -6,7 +6,7 @@ use Rattle.cascade_rank.specs.Events.{weight_of}
 use Rattle.cascade_rank.specs.Cost.{price, dearest_of, cost_of_call}
 use Rattle.cascade_rank.proofs.Prices.{price-dearest_more}
 use Rattle.cascade_rank.proofs.Rows.{length-rows, row_of}
-use Rattle.cascade_rank.proofs.price.dearest_alarm.Goals as goal
+use Rattle.cascade_rank.proofs.stimuli.dearest_alarm.Goals as goal
 
 pub loop-number-preserved : goal.loop-number-preserved
 loop-number-preserved c =

@@ -1,5 +1,5 @@
 use Rattle.cascade_rank.proofs.Within.{listeners-within, posts-within}
-use Rattle.cascade_rank.proofs.price.price_of_acceptance.Goals as goal
+use Rattle.cascade_rank.proofs.stimuli.price_of_acceptance.Goals as goal
 
 pub price_of_listeners-acts-requires-clause-listeners : goal.price_of_listeners-acts-requires-clause-listeners
 price_of_listeners-acts-requires-clause-listeners c = listeners-within c.args.plan.now c.listeners.ensures.valid.entries c.args.switch c.listeners.result.now c.listeners.ensures.listeners
