@@ -6,7 +6,6 @@ use Rattle.plan_tables.specs.declared.entries.Listener.{Listener}
 use Rattle.plan_tables.specs.declared.entries.Owner.TheVariants as owners
 use Rattle.device_objects.specs.declared.device.Call.TheVariants as calls
 use Rattle.switch_core.specs.declared.change.Change.{Change as Acceptance}
-use Rattle.written_machine.specs.declared.line.Line.{Line}
 use Rattle.written_machine.specs.declared.line.Happening.TheVariants as lines
 use Rattle.written_machine.specs.Machine.{Machine, write, post, all_do, tell_listener, tell_listeners, confirm_on_playfield, do_accepted}
 use Rattle.pin_rig.specs.Core.{CoreView, CanCall, HasRoom, after}

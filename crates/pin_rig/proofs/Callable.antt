@@ -4,7 +4,6 @@ use Rattle.std.specs.List.{All}
 use Rattle.std.proofs.lemmas.List.Elements.{All-get_or}
 use Rattle.plan_tables.specs.PlanView.{PlanView, actions_at}
 use Rattle.plan_tables.specs.Valid.{HasEntries, IsActionWithin}
-use Rattle.plan_tables.specs.declared.entries.Action.{Action}
 use Rattle.plan_tables.specs.declared.entries.ListId.{ListId}
 use Rattle.cascade_rank.specs.Cost.{Cost}
 use Rattle.written_machine.specs.Machine.{Machine}

@@ -1,8 +1,8 @@
 -- An action, and then what it confirms; and the first device that is Away to a target.
 use Rattle.std.specs.Prelude.{◌&&◌, find}
-use Rattle.std.proofs.Common.{◌≡◌, ℕ, ◌+◌, ◌<◌, ◌≤◌, Bool, true, false, if◌then◌else◌, cond, Option, None, Some, List, [], ◌∷◌, length, filter, drop, refl, ap, sym, ◌∙◌, subst, arith}
+use Rattle.std.proofs.Common.{◌≡◌, ℕ, ◌+◌, ◌<◌, ◌≤◌, Bool, true, false, if◌then◌else◌, cond, Option, None, Some, List, length, filter, drop, refl, ap, sym, ◌∙◌, subst}
 use Rattle.std.proofs.lemmas.Bool.{and_parts, false≢true}
-use Rattle.plan_tables.specs.PlanView.{PlanView, feeds, feeders_of, row_at, row_numbers}
+use Rattle.plan_tables.specs.PlanView.{PlanView, feeds, row_at, row_numbers}
 use Rattle.plan_tables.specs.declared.entries.Action.{Action}
 use Rattle.plan_tables.specs.declared.entries.Action.TheVariants.{Post, Pulse, Enable, Disable, Change, Enter, Leave, Lose, Arrive}
 use Rattle.plan_tables.specs.declared.entries.Owner.{Owner}
@@ -14,7 +14,7 @@ use Rattle.ball_devices.specs.declared.booking.Origin.TheVariants.{Awaited, Foun
 use Rattle.ball_devices.specs.Ledger.{origin_of}
 use Rattle.ball_devices.specs.Bookings.{is_awaited}
 use Rattle.ball_devices.specs.Bookings as calls_of_ledger
-use Rattle.written_machine.specs.Machine.{Machine, post, book, after_entry, do_action_by, do_action, no_confirm, confirm_first_away, confirm_entry, device_at, is_device_away, first_away}
+use Rattle.written_machine.specs.Machine.{Machine, post, book, after_entry, do_action_by, do_action, no_confirm, confirm_first_away, confirm_entry, device_at, is_device_away}
 use Rattle.pin_rig.specs.Balls.{awaited_entry}
 use Rattle.pin_rig.specs.Core.{CoreView, CanCall, HasRoom, after}
 use Rattle.pin_rig.proofs.Going.{Goes, goes-none, goes-can, goes-confirm, goes-action_by, goes-no_confirm}

@@ -1,5 +1,5 @@
 -- A ball enters a device.
-use Rattle.std.proofs.Common.{◌≡◌, ℕ, ◌<◌, Bool, true, false, List, [], ◌∷◌, length, length-append, refl, ap, sym, ◌∙◌, subst, arith}
+use Rattle.std.proofs.Common.{◌≡◌, ◌<◌, Bool, true, false, [], ◌∷◌, length, length-append, refl, ap, sym, ◌∙◌, subst, arith}
 use Rattle.std.proofs.lemmas.Bool.{false≢true}
 use Rattle.plan_tables.specs.PlanView.{PlanView}
 use Rattle.plan_tables.specs.declared.entries.EventId.{EventId}
@@ -12,7 +12,7 @@ use Rattle.ball_devices.specs.Bookings.{is_awaited}
 use Rattle.ball_devices.specs.Bookings as calls_of_ledger
 use Rattle.written_machine.specs.Machine.{Machine, post, book, drain_if, after_entry, enter_ball, no_confirm}
 use Rattle.pin_rig.specs.Core.{CoreView, HasRoom, after}
-use Rattle.pin_rig.proofs.Going.{Goes, goes-then, goes-post, goes-after_entry, goes-no_confirm}
+use Rattle.pin_rig.proofs.Going.{goes-post, goes-after_entry, goes-no_confirm}
 use Rattle.pin_rig.proofs.Listing.{grown}
 use Rattle.pin_rig.proofs.Room.{room-before}
 

@@ -1,12 +1,11 @@
 -- What is kept while actions are done, devices are called, and balls that have arrived are confirmed.
 use Rattle.std.specs.Prelude.{◌&&◌}
-use Rattle.std.proofs.Common.{◌≡◌, ℕ, ℤ, ◌≤◌, Bool, true, false, if◌then◌else◌, Option, None, Some, List, [], ◌∷◌, length, length-append, refl, ◌∙◌, subst, sym, arith}
-use Rattle.plan_tables.specs.PlanView.{PlanView, actions_at, feeders_of, first_trough, game_event, list_of_row, row_at, switch_at, target_of}
+use Rattle.std.proofs.Common.{◌≡◌, ℕ, ℤ, ◌≤◌, Bool, true, false, if◌then◌else◌, Option, None, Some, List, [], ◌∷◌, length, length-append, refl, ◌∙◌, arith}
+use Rattle.plan_tables.specs.PlanView.{PlanView, actions_at, first_trough, game_event, list_of_row, row_at, switch_at, target_of}
 use Rattle.plan_tables.specs.declared.entries.Action.{Action}
 use Rattle.plan_tables.specs.declared.entries.Action.TheVariants.{Post, Pulse, Enable, Disable, Change, Enter, Leave, Lose, Arrive}
 use Rattle.plan_tables.specs.declared.entries.EventId.{EventId}
 use Rattle.plan_tables.specs.declared.entries.GameEvent.TheVariants.{BallDrain}
-use Rattle.plan_tables.specs.declared.entries.ListId.{ListId}
 use Rattle.plan_tables.specs.declared.entries.Owner.{Owner}
 use Rattle.plan_tables.specs.declared.entries.VariableId.{VariableId}
 use Rattle.plan_tables.specs.declared.devices.Act.TheVariants.{Confirm, Request}
@@ -15,22 +14,21 @@ use Rattle.plan_tables.specs.declared.devices.BallTarget.TheVariants as targets
 use Rattle.plan_tables.specs.declared.devices.RowId.{RowId}
 use Rattle.ball_devices.specs.Bookings.{LedgerCall, after_call, booked, can_book}
 use Rattle.ball_devices.specs.Bookings as calls_of_ledger
-use Rattle.ball_devices.specs.Ledger.{Ledger, origin_of}
+use Rattle.ball_devices.specs.Ledger.{origin_of}
 use Rattle.ball_devices.specs.declared.booking.Origin.{Origin}
 use Rattle.ball_devices.specs.declared.booking.Origin.TheVariants.{Awaited, Found, New}
 use Rattle.coil_guard.specs.declared.command.Command.{Command}
 use Rattle.coil_guard.specs.declared.command.Command.TheVariants as commands
 use Rattle.device_objects.specs.declared.device.Call.{Call}
 use Rattle.device_objects.specs.declared.device.Call.TheVariants as calls
-use Rattle.mode_stack.specs.declared.phase.ModeState.{ModeState}
 use Rattle.player_game.specs.GameStep.{is_ball_on}
 use Rattle.player_game.specs.Players.{PlayersState, changed_to, after_change}
 use Rattle.switch_core.specs.declared.change.Change.{Change as Acceptance}
 use Rattle.written_machine.specs.declared.line.Happening.{Happening}
 use Rattle.written_machine.specs.declared.line.Happening.TheVariants as lines
 use Rattle.written_machine.specs.Devices.{HasDevices}
-use Rattle.written_machine.specs.Machine.{Machine, write, post, set_device, set_ledger, set_players, all_do, ask_coil, tell_change, book, counts_of, drain_if, after_entry, enter_ball, do_action_by, do_list_by, do_answer_by, called, call_device_by, first_away, no_confirm, confirm_of, confirm_first_away, confirm_entry, do_action, do_list, do_answer, call_device, ask_trough, ask_ball, confirm_on_playfield}
-use Rattle.written_machine.specs.Moves.{Move, Turned, Does, moved}
+use Rattle.written_machine.specs.Machine.{Machine, write, post, set_device, set_ledger, set_players, all_do, ask_coil, tell_change, book, counts_of, drain_if, after_entry, enter_ball, do_action_by, do_list_by, do_answer_by, called, call_device_by, first_away, no_confirm, confirm_of, confirm_first_away, confirm_entry, do_action, do_list, call_device, ask_trough, ask_ball, confirm_on_playfield}
+use Rattle.written_machine.specs.Moves.{Turned, Does, moved}
 use Rattle.written_machine.proofs.Does.{has_devices-does}
 use Rattle.written_machine.proofs.Growth.{post-grows, asked-grows, told-grows}
 use Rattle.written_machine.proofs.Held.{asked-count}

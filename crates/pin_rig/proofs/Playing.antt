@@ -1,5 +1,5 @@
 -- What an event of the game leads to.
-use Rattle.std.proofs.Common.{◌≡◌, ℕ, suc, ◌+◌, ◌-◌, ◌<◌, ◌≤◌, Bool, true, false, List, [], ◌∷◌, length, refl, ap, sym, ◌∙◌, subst, arith}
+use Rattle.std.proofs.Common.{◌≡◌, ℕ, suc, ◌+◌, ◌-◌, ◌<◌, ◌≤◌, Bool, true, false, List, [], ◌∷◌, length, ap, sym, ◌∙◌, subst, arith}
 use Rattle.std.specs.List.{range_with_len}
 use Rattle.plan_tables.specs.PlanView.{PlanView}
 use Rattle.plan_tables.specs.declared.entries.GameEvent.{GameEvent}
@@ -13,7 +13,7 @@ use Rattle.plan_tables.specs.PlanView.{game_event}
 use Rattle.written_machine.specs.declared.line.Happening.TheVariants as lines
 use Rattle.written_machine.specs.Machine.{Machine, all_do, ask_ball, do_game, post_game, write_final, write_finals}
 use Rattle.pin_rig.specs.Core.{CoreView, CanCall, HasRoom, IsWorkOfGame, after, played, step_at}
-use Rattle.pin_rig.proofs.Going.{Goes, goes-none, goes-then, goes-can, goes-all, goes-post, goes-write, goes-ask}
+use Rattle.pin_rig.proofs.Going.{Goes, goes-none, goes-can, goes-all, goes-post, goes-write, goes-ask}
 use Rattle.pin_rig.proofs.Listing.{grown}
 use Rattle.pin_rig.proofs.Room.{room-before}
 

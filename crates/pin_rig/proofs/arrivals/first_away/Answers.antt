@@ -1,4 +1,4 @@
-use Rattle.std.proofs.Common.{◌≡◌, ◌<◌, ◌≤◌, length, ap, sym, ◌∙◌, arith}
+use Rattle.std.proofs.Common.{◌<◌, ◌≤◌, length, ap, sym, ◌∙◌, arith}
 use Rattle.pin_rig.proofs.Confirming.{away-here, away-later, away-end}
 use Rattle.pin_rig.proofs.arrivals.first_away.Goals as goal
 

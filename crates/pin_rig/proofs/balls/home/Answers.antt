@@ -1,7 +1,7 @@
-use Rattle.std.proofs.Common.{◌≡◌, ◌+◌, ◌<◌, ◌≤◌, true, length, ap, sym, ◌∙◌, arith}
+use Rattle.std.proofs.Common.{◌<◌, ◌≤◌, length, ap, sym, ◌∙◌, arith}
 use Rattle.plan_tables.specs.PlanView.{is_home}
 use Rattle.plan_tables.specs.declared.devices.DeviceRow.{DeviceRow}
-use Rattle.pin_rig.proofs.Homes.{home_from, home-here, home-other, home-end, counted-few}
+use Rattle.pin_rig.proofs.Homes.{home-here, home-other, home-end, counted-few}
 use Rattle.pin_rig.proofs.balls.home.Goals as goal
 use Rattle.pin_rig.proofs.balls.home.Goals.{then-is_home, else-is_home}
 
