@@ -16,6 +16,7 @@ use Rattle.machine_definitions.specs.GameEvents.{game_event_names}
 use Rattle.machine_definitions.specs.Players.{player_event}
 use Rattle.plan_contributions.specs.Contributions.{event_ending, mode_event_name}
 use Rattle.plan_contributions.specs.DeviceEntries.{block_event, block_endings, timer_event, timer_endings}
+use Rattle.plan_contributions.specs.BallEntries.{ball_event, ball_endings}
 use Rattle.plan_contributions.specs.ShotEntries.{shot_events, group_events}
 use Rattle.mpf_plan.specs.PlanOf.{plan_of}
 use Rattle.mpf_plan.proofs.EventNames.{event_names}
@@ -85,7 +86,7 @@ mode-word which name h =
     (All-append (λ b. is_in_word b ≡ true) name (event_ending which) (name-in_word name h) ending.1)
 
 -- a name between what its kind of device begins with and an ending
-own-word : (front ending name : List ℕ) → 0 < length front → length front + length ending ≤ 20 → AllInWord front → AllInWord ending → IsName name → IsEventWord (front ++ name ++ ending)
+own-word : (front ending name : List ℕ) → 0 < length front → length front + length ending ≤ 134 → AllInWord front → AllInWord ending → IsName name → IsEventWord (front ++ name ++ ending)
 own-word front ending name some small first last h =
     let few = h.few in
     let both = length-append front name in
@@ -110,6 +111,19 @@ timer-words name h =
   where
     of_timer : (ending : List ℕ) → length ending ≤ 9 → AllInWord ending → (IsEventWord (timer_event name ending))
     of_timer ending few letters = own-word (codes "timer_") ending name (omega arith) (omega (arith, few)) (AllPass-from_list_all is_in_word (codes "timer_") refl) letters h
+
+ball-words : (name : List ℕ) → IsName name → All (λ ending. IsEventWord (ball_event name ending)) ball_endings
+ball-words name h =
+    All-from_recursion (λ ending. IsEventWord (ball_event name ending)) ball_endings (
+      of_ball (codes "_ball_enter") (omega arith) (AllPass-from_list_all is_in_word (codes "_ball_enter") refl),
+      (of_ball (codes "_ball_eject_attempt") (omega arith) (AllPass-from_list_all is_in_word (codes "_ball_eject_attempt") refl),
+      (of_ball (codes "_ejecting_ball") (omega arith) (AllPass-from_list_all is_in_word (codes "_ejecting_ball") refl),
+      (of_ball (codes "_ball_eject_success") (omega arith) (AllPass-from_list_all is_in_word (codes "_ball_eject_success") refl),
+      (of_ball (codes "_ball_eject_failed") (omega arith) (AllPass-from_list_all is_in_word (codes "_ball_eject_failed") refl), tt)))),
+    )
+  where
+    of_ball : (ending : List ℕ) → length ending ≤ 19 → AllInWord ending → IsEventWord (ball_event name ending)
+    of_ball ending few letters = own-word (codes "balldevice_") ending name (omega arith) (omega (arith, few)) (AllPass-from_list_all is_in_word (codes "balldevice_") refl) letters h
 
 player-word : (name : List ℕ) → IsName name → IsEventWord (player_event name)
 player-word name h =
@@ -198,6 +212,7 @@ module _ (bundle : List ℕ) (rows : Rows) (read : rows_at bundle ≡ Ok rows) w
     player = player-word;
     block = block-words;
     timer = timer-words;
+    ball_device = ball-words;
     shot = shot-words;
     group = λ name state n s. (group-words 4 (codes "_hit") name state (omega arith) hit n s, group-words 9 (codes "_complete") name state (omega arith) complete n s);
   }) rows (rows_are_named bundle rows read) (modes_are_named bundle rows read)

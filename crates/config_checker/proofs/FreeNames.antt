@@ -1,5 +1,6 @@
--- The events that switches, blocks, timers, shots and groups of shots post by their own names are not reserved.
-use Rattle.std.proofs.Common.{◌≡◌, ℕ, ◌+◌, ◌*◌, ◌==◌, Bool, true, false, ◌||◌, List, [], ◌∷◌, ◌++◌, codes, refl, sym, ap, ◌∙◌, true≢false}
+-- The events that switches, blocks, timers, ball devices, shots and groups of shots post by their own names are not
+-- reserved.
+use Rattle.std.proofs.Common.{◌≡◌, ℕ, ◌+◌, ◌*◌, ◌==◌, Bool, true, false, ◌||◌, List, [], ◌∷◌, ◌++◌, slice_index, codes, refl, sym, ap, ◌∙◌, true≢false}
 use Rattle.std.specs.List.{All, list_any}
 use Rattle.std.specs.Str.{bytes_eq}
 use Rattle.std.proofs.lemmas.Bool.{eq-eqb}
@@ -8,6 +9,7 @@ use Rattle.std.proofs.lemmas.Slice.Eq.{bytes_eq-Decides}
 use Rattle.yaml_subset.specs.Keys.{is_among}
 use Rattle.mpf_config.specs.Rows.{Rows}
 use Rattle.plan_contributions.specs.DeviceEntries.{block_event, timer_event}
+use Rattle.plan_contributions.specs.BallEntries.{ball_event}
 use Rattle.plan_contributions.specs.ShotEntries.{shot_events, group_events}
 use Rattle.machine_definitions.specs.GameEvents.{reserved_game_events}
 use Rattle.row_faults.specs.Reserved.{events_of_modes, mode_names, is_reserved}
@@ -64,6 +66,24 @@ timer-free name ending rows = begins-free rows 116 _ refl refl
 
 pub tag-free : (name : List ℕ) (rows : Rows) → is_reserved rows (codes "sw_" ++ name) ≡ false
 tag-free name rows = begins-free rows 115 _ refl refl
+
+-- ---- names with a fifth byte of their own
+
+abbrev fifth_of : List ℕ → ℕ
+fifth_of name = slice_index name 4
+
+-- `_` is the fifth byte of the events of modes
+fifth-other : (ws : List (List ℕ)) → list_any (λ e. fifth_of e == 100) (events_of_modes ws) ≡ false
+fifth-other [] = refl
+fifth-other (w ∷ ws) = fifth-other ws
+
+-- the events of ball devices
+pub ball-free : (name ending : List ℕ) (rows : Rows) → is_reserved rows (ball_event name ending) ≡ false
+ball-free name ending rows =
+    let event = ball_event name ending in
+    let game : is_among reserved_game_events event ≡ false = not_among fifth_of event reserved_game_events refl in
+    let mode : is_among (events_of_modes (mode_names rows)) event ≡ false = not_among fifth_of event (events_of_modes (mode_names rows)) (fifth-other (mode_names rows)) in
+    λ i. game i || mode i
 
 -- ---- names with last bytes of their own
 

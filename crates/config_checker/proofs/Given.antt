@@ -15,7 +15,7 @@ use Rattle.plan_tables.specs.declared.table.Table.{Table}
 use Rattle.plan_tables.specs.declared.table.Table.TheVariants.{Events, Switches, Coils, Variables}
 use Rattle.plan_tables.specs.Limits.{order_of}
 use Rattle.machine_definitions.specs.Definitions.{latest_coil, coil_called}
-use Rattle.plan_contributions.specs.DeviceEntries.{Effect, posts, works, changes}
+use Rattle.plan_contributions.specs.DeviceEntries.{Effect, posts, works, changes, enters, leaves, loses, arrives}
 use Rattle.plan_contributions.specs.CoilEntries.{limits_of_coil}
 use Rattle.plan_contributions.specs.Contributions.{Contribution, gives, reads, active, inactive, mode, mode_event, mode_event_name, binds, does, device, does_in, listens, mentions, unknown, coil, under, plays, contributions_of}
 use Rattle.plan_contributions.specs.Doing.{IsMention, Does}
@@ -126,6 +126,10 @@ module _ (rows : Rows) (sound : IsSound rows) where
   effect-given (posts n) h = never n
   effect-given (works n deed) h = λ needed. coil_given n rows h.coil h.called
   effect-given (changes v action n) h = never_variable v
+  effect-given (enters n drain) h = never n
+  effect-given leaves h = tt
+  effect-given loses h = tt
+  effect-given arrives h = tt
 
   -- what a setting names
   mention-given : (t : Table) (n : List ℕ) → IsMention (IsFine rows) (IsUnreserved rows) (IsThere rows) t n → IsGiven cs (Some (t, n))
@@ -143,7 +147,7 @@ module _ (rows : Rows) (sound : IsSound rows) where
   is_given i d (listens k n) within at h = λ needed. switches_given rows n h
   is_given i d (does e) within at h = effect-given e h
   is_given i d (does_in k e) within at h = effect-given e h
-  is_given i d (reads kind) within at h = tt
+  is_given i d (reads kind confirms) within at h = tt
   is_given i d (device place settings) within at h = tt
   is_given i d (active n) within at h = never n
   is_given i d (inactive n) within at h = never n

@@ -1,5 +1,5 @@
 -- The plan of rows without faults of their own: nothing posts an event at which the machine itself does something, acts are
--- on rows of their own owner, and each command to a coil is within the limits of the coil.
+-- on rows of their own owner, each command to a coil is within the limits of the coil, and what is done with balls is right.
 use Rattle.std.proofs.Common.{◌≡◌, ◌≢◌, ℕ, zero, suc, ◌<◌, Bool, true, false, ◌||◌, if◌then◌else◌, List, [], ◌∷◌, length, map, fold, get_or, Contains, ◌⊎◌, inl, inr, refl, sym, ap, ◌∙◌, subst, true≢false, arith}
 use Rattle.std.specs.Prelude.{Ok, Option, Some, None, option_map}
 use Rattle.std.specs.Str.{bytes_eq}
@@ -13,11 +13,13 @@ use Rattle.mpf_sections.specs.Rows.{Written, Coil}
 use Rattle.mpf_sections.specs.Typed.{listed_modes}
 use Rattle.mpf_sections.specs.TypedCoils.{coils_in}
 use Rattle.mpf_config.specs.Rows.{ModeRows, Rows}
+use Rattle.mpf_config.specs.Short.{AreListsShort}
+use Rattle.mpf_config.specs.FewModes.{AreFewModes}
 use Rattle.plan_tables.specs.declared.entries.EventId.{EventId}
 use Rattle.plan_tables.specs.declared.entries.ModeEvent.{ModeEvent}
 use Rattle.plan_tables.specs.declared.entries.ModeEvent.TheVariants.{WillStart, Starting, Started, Stopping, Stopped}
 use Rattle.plan_tables.specs.declared.entries.Action.{Action}
-use Rattle.plan_tables.specs.declared.entries.Action.TheVariants.{Post, Pulse, Enable, Disable, Change}
+use Rattle.plan_tables.specs.declared.entries.Action.TheVariants.{Post, Pulse, Enable, Disable, Change, Enter, Leave, Lose, Arrive}
 use Rattle.plan_tables.specs.declared.entries.CoilId.{CoilId}
 use Rattle.plan_tables.specs.declared.entries.CoilLimits.{CoilLimits}
 use Rattle.plan_tables.specs.declared.entries.Owner.{Owner}
@@ -25,22 +27,32 @@ use Rattle.plan_tables.specs.declared.entries.Target.{Target}
 use Rattle.plan_tables.specs.declared.entries.Target.TheVariants.{Run, Start, Stop, Act}
 use Rattle.plan_tables.specs.declared.devices.RowId.{RowId}
 use Rattle.plan_tables.specs.declared.devices.Act.{Act as ActOfDevice}
-use Rattle.plan_tables.specs.PlanView.{PlanCoil, no_coil, PlanView, name_of_event, coil_at, row_at}
+use Rattle.plan_tables.specs.declared.devices.Settings.{Settings}
+use Rattle.plan_tables.specs.declared.devices.Settings.TheVariants as kinds
+use Rattle.plan_tables.specs.PlanView.{PlanCoil, no_coil, no_row, PlanView, name_of_event, actions_at, coil_at, row_at}
 use Rattle.plan_tables.specs.Valid.{IsActionWithin}
+use Rattle.cascade_rank.specs.Verified.{IsVerified}
 use Rattle.coil_guard.specs.Asked.{limits_of}
 use Rattle.coil_guard.specs.Limits.{no_limits, limits_at}
 use Rattle.machine_definitions.specs.Definitions.{latest_coil, coil_called}
 use Rattle.plan_contributions.specs.CoilEntries.{limits_of_coil}
 use Rattle.plan_contributions.specs.Contributions.{mode_event_name, contributions_of}
+use Rattle.plan_contributions.specs.BallFacts as balls
+use Rattle.plan_contributions.proofs.BallRows.{doing_heard_once}
 use Rattle.plan_contributions.proofs.CoilsGiven.{coils_given}
 use Rattle.plan_contributions.proofs.RowEffects.{all_do}
 use Rattle.mpf_plan.specs.PlanOf.{plan_at}
 use Rattle.mpf_plan.specs.ByName.{IsByVariable, IsDone, effect_of, latest_limits, limits_called}
 use Rattle.mpf_plan.proofs.DoneNames.{by_variable, done-named}
 use Rattle.mpf_plan.proofs.ModeEventNames.{free-by_name}
-use Rattle.mpf_plan.proofs.ValidPlan.{HasEntries-plan_at, own-plan_at, listeners-plan_at, limits-plan_at}
+use Rattle.mpf_plan.specs.Balls.{IsOfNoBall, AreRightActions, row_actions, IsTargetOfNoBall, IsOwnerOf}
+use Rattle.mpf_plan.proofs.ValidPlan.{HasEntries-plan_at, own-plan_at, listeners-plan_at, limits-plan_at, IsValid-plan_at}
+use Rattle.mpf_plan.proofs.WithBalls.{ball_devices_own-plan_at, right_with_balls-plan_at}
 use Rattle.written_machine.specs.Allowed.{IsAllowed, ActionsAreAllowed}
-use Rattle.written_machine.specs.Devices.{ActsAreOwn, IsOwnAct}
+use Rattle.written_machine.specs.Accepted.{IsAccepted}
+use Rattle.written_machine.specs.BallRows.{BooksNothing, BooksRightly, IsNoBallDevice, IsOffBalls, IsSwitchOf, BookingsAreRight}
+use Rattle.written_machine.specs.CheckedView.{CheckedView}
+use Rattle.written_machine.specs.Devices.{ActsAreOwn, IsOwnAct, IsOwnBallDevice}
 use Rattle.written_machine.specs.FreePosts.{IsFree, IsFreeWork, IsFreeAction, IsFreeSwitch, PostsAreFree}
 use Rattle.row_faults.specs.Reserved.{mode_events, events_of_modes, mode_names, is_reserved}
 use Rattle.machine_definitions.specs.GameEvents.{reserved_game_events}
@@ -145,11 +157,15 @@ module _ (rows : Rows) (none : faults_of_rows rows ≡ []) (plan : PlanView) (is
   action-free (Enable coil power) by h = tt
   action-free (Disable coil) by h = tt
   action-free (Change v action n e) by h = event-free e (subst (IsUnreserved rows) (sym by) h)
+  action-free (Enter r e drain) by h = event-free e h
+  action-free (Leave r) by h = tt
+  action-free (Lose r) by h = tt
+  action-free (Arrive r) by h = tt
 
   abbrev IsNamedFree : EventId → Type 0
   IsNamedFree e = IsUnreserved rows (name_of_event plan e)
 
-  pub plan_free : PostsAreFree plan
+  plan_free : PostsAreFree plan
   plan_free = record {
     lists =
         let by = by_variable rows plan is in
@@ -194,19 +210,24 @@ module _ (rows : Rows) (none : faults_of_rows rows ≡ []) (plan : PlanView) (is
       (ap (λ (l : CoilLimits). l.may_hold) same ∙ hold.allowed, omega (arith, hold.greatest, ap (λ (l : CoilLimits). l.max_hold_power) same))
   action-allowed (Disable c) within h = tt
   action-allowed (Change v action n e) within h = tt
+  action-allowed (Enter r e drain) within h = tt
+  action-allowed (Leave r) within h = tt
+  action-allowed (Lose r) within h = tt
+  action-allowed (Arrive r) within h = tt
 
-  pub plan_allowed : ActionsAreAllowed plan
+  plan_allowed : ActionsAreAllowed plan
   plan_allowed =
       let entries = HasEntries-plan_at rows plan is in
       let fine = done.lists in
       λ i d inside j a within. action-allowed (get_or (get_or plan.lists i d) j a) (entries.lists i d inside j a within) (fine i d inside j a within)
 
--- a binding acts on a device of its own owner, and a device that listens is the machine's
-pub plan_own : (rows : Rows) (plan : PlanView) → plan_at rows ≡ Ok plan → ActsAreOwn plan
-plan_own rows plan is = record {
+-- a binding acts on a device of its own owner, and a device that listens is the machine's, and so is a ball device
+plan_own : (rows : Rows) → AreListsShort rows → (plan : PlanView) → plan_at rows ≡ Ok plan → ActsAreOwn plan
+plan_own rows short plan is = record {
   bindings = All-weaker (λ b. (r : RowId) (act : ActOfDevice) → b.target ≡ Act r act → (row_at plan r).owner ≡ b.owner) (λ b. IsOwnAct plan b.owner b.target) (λ b h. own b.owner b.target h) plan.bindings
       (own-plan_at rows plan is);
   listeners = listeners-plan_at rows plan is;
+  balls = All-weaker (λ row. IsOwnerOf row.settings row.owner) (λ row. IsOwnBallDevice row.settings row.owner) (λ row. ball_device row.settings row.owner) plan.rows (ball_devices_own-plan_at rows short plan is);
 }
   where
     own : (owner : Owner) (t : Target) → ((r : RowId) (act : ActOfDevice) → t ≡ Act r act → (row_at plan r).owner ≡ owner) → IsOwnAct plan owner t
@@ -214,3 +235,76 @@ plan_own rows plan is = record {
     own owner (Start m) h = tt
     own owner (Stop m) h = tt
     own owner (Act r act) h = h r act refl
+
+    ball_device : (settings : Settings) (owner : Owner) → IsOwnerOf settings owner → IsOwnBallDevice settings owner
+    ball_device (kinds.BallDevice d) owner is = is
+    ball_device _ owner is = tt
+
+-- ---- balls
+
+nothing-booked : (a : Action) → IsOfNoBall a → BooksNothing a
+nothing-booked (Enter r e drain) is = is
+nothing-booked (Leave r) is = is
+nothing-booked (Lose r) is = is
+nothing-booked (Arrive r) is = is
+nothing-booked _ is = tt
+
+all-booked : (actions : List Action) → All IsOfNoBall actions → All BooksNothing actions
+all-booked actions all = All-weaker IsOfNoBall BooksNothing nothing-booked actions all
+
+module _ (plan : PlanView) where
+  books-rightly : (r : RowId) (settings : Settings) → IsOwnerOf settings (row_at plan r).owner → AreRightActions r settings (row_actions plan r) → BooksRightly plan r settings
+  books-rightly r (kinds.BallDevice d) own h = record {
+    owner = own;
+    event = h.event;
+    drain = h.drain;
+    entered = h.entered;
+    attempted = all-booked (row_actions plan r 1) h.attempted;
+    left = h.left;
+    lost = h.lost;
+    succeeded = all-booked (row_actions plan r 4) h.succeeded;
+    arrived = h.arrived;
+    failed = all-booked (row_actions plan r 6) h.failed;
+  }
+  books-rightly r _ own h = λ k within. all-booked (row_actions plan r k) (h k within)
+
+  no_ball_device : (settings : Settings) → balls.IsNoBallDevice settings → IsNoBallDevice settings
+  no_ball_device (kinds.BallDevice d) is = is
+  no_ball_device _ is = tt
+
+  off-balls : (t : Target) → IsTargetOfNoBall plan t → IsOffBalls plan t
+  off-balls (Run l) h = all-booked (actions_at plan l) h
+  off-balls (Start m) h = tt
+  off-balls (Stop m) h = tt
+  off-balls (Act r act) h = no_ball_device (row_at plan r).settings h
+
+  switch-of : (settings : Settings) (i : ℕ) → balls.IsSwitchOf settings i → IsSwitchOf settings i
+  switch-of (kinds.BallDevice d) i is = is
+  switch-of _ i is = tt
+
+plan_bookings : (rows : Rows) → AreListsShort rows → faults_of_rows rows ≡ [] → (plan : PlanView) → plan_at rows ≡ Ok plan → BookingsAreRight plan
+plan_bookings rows short none plan is =
+    let once = doing_heard_once (IsFine rows) (IsUnreserved rows) (IsThere rows) rows (rows_doing rows (rows_sound rows none)) in
+    let right = right_with_balls-plan_at rows short once plan is in
+    let own = ball_devices_own-plan_at rows short plan is in
+    record {
+      rows = λ r within. books-rightly plan r (row_at plan r).settings (own r.0 no_row within) (right.rows r within);
+      bindings = All-weaker (λ b. IsTargetOfNoBall plan b.target) (λ b. IsOffBalls plan b.target) (λ b. off-balls plan b.target) plan.bindings right.bindings;
+      switches = All-weaker (λ s. All (λ l. balls.IsSwitchOf (row_at plan l.row).settings l.switch) s.listeners) (λ s. All (λ l. IsSwitchOf (row_at plan l.row).settings l.switch) s.listeners)
+          (λ s. All-weaker (λ l. balls.IsSwitchOf (row_at plan l.row).settings l.switch) (λ l. IsSwitchOf (row_at plan l.row).settings l.switch) (λ l. switch-of plan (row_at plan l.row).settings l.switch) s.listeners) plan.switches right.switches;
+      once = right.once;
+      apart = right.apart;
+    }
+
+-- ---- what is accepted
+
+-- where no list in the rows is too long, and there are not too many modes, their plan is accepted with weights that serve
+pub plan_accepted : (rows : Rows) → AreListsShort rows → AreFewModes rows.modes → faults_of_rows rows ≡ [] → (c : CheckedView) → plan_at rows ≡ Ok c.plan → IsVerified c.plan c.weights c.bound → IsAccepted c
+plan_accepted rows short few none c is verified = record {
+  valid = IsValid-plan_at rows short few c.plan is;
+  free = plan_free rows none c.plan is;
+  own = plan_own rows short c.plan is;
+  allowed = plan_allowed rows none c.plan is;
+  bookings = plan_bookings rows short none c.plan is;
+  verified = verified;
+}

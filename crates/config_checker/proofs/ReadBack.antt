@@ -26,7 +26,7 @@ use Rattle.cascade_rank.proofs.Verifying.{IsWithinLimit-from_test, verified_at-b
 use Rattle.cascade_rank.proofs.Finds.{ranks_least}
 use Rattle.written_machine.specs.CheckedView.{CheckedView}
 use Rattle.written_machine.specs.Accepted.{IsAccepted}
-use Rattle.config_checker.proofs.PlanFree.{plan_free, plan_own, plan_allowed}
+use Rattle.config_checker.proofs.PlanFree.{plan_accepted}
 use Rattle.config_checker.specs.CertificateText.{Certificate, certificate_of, certificate_text}
 use Rattle.config_checker.specs.CertificateOf.{IsWord, IsWritable, certificate_at}
 use Rattle.config_checker.specs.Checking.{FaultView, same_names, certificate_names, certificate_weights, weighed, weighed_plan, bounded, certified, certified_plan, reported_alone, faults_of_rows, faults_first, checked, checked_at, checked_with_at}
@@ -131,7 +131,7 @@ module _ (rows : Rows) where
   pub found_is_accepted : AreListsShort rows → AreFewModes rows.modes → (c : CheckedView) → checked_at rows ≡ Ok c → IsAccepted c
   found_is_accepted short few c is =
       let from = found_is_verified c is in
-      record { valid = IsValid-plan_at rows short few c.plan from.0; free = plan_free rows (found-none c is) c.plan from.0; own = plan_own rows c.plan from.0; allowed = plan_allowed rows (found-none c is) c.plan from.0; verified = from.1 }
+      plan_accepted rows short few (found-none c is) c from.0 from.1
 
   -- where the rows are those of a bundle, the names of its events are words
   pub read-again : (bundle : List ℕ) (c : CheckedView) → rows_at bundle ≡ Ok rows → checked_at rows ≡ Ok c → IsReadAgain rows c

@@ -1,12 +1,13 @@
 -- What sound rows do: they post nothing reserved, by a variable neither, each deed is within the limits of its coil,
--- each switch to which a device listens or which a shot has is defined, and so is each profile, and each shot that a
--- group lists.
-use Rattle.std.proofs.Common.{◌≡◌, ℕ, Bool, true, false, ◌||◌, if◌then◌else◌, List, [], ◌∷◌, ◌++◌, map, get_or, codes, refl, sym, true≢false}
-use Rattle.std.specs.Prelude.{Option, Some, None}
+-- each switch to which a device listens or which a shot has is defined, and so is each profile, each shot that a group
+-- lists, and each target of a ball device; and no ball device has a ball switch twice.
+use Rattle.std.proofs.Common.{◌≡◌, ◌≢◌, ℕ, suc, ◌<◌, Bool, true, false, ◌||◌, if◌then◌else◌, List, [], ◌∷◌, ◌++◌, length, map, fold, get_or, codes, refl, sym, ◌∙◌, ap, subst, true≢false, arith, length-append}
+use Rattle.std.specs.Prelude.{Option, Some, None, IfSome, is_some}
 use Rattle.std.specs.Str.{bytes_eq}
-use Rattle.std.specs.List.{All, flat_map}
-use Rattle.std.proofs.lemmas.List.Elements.{All-nil, All-cons, All-head, All-tail, All-append, All-map, All-weaker, All-from_get_or}
-use Rattle.mpf_sections.specs.Rows.{Written, Entry, Switch, CoilPlayer, VariablePlayer, Block, Flipper, Autofire, Shot, ShotGroup, SectionRows}
+use Rattle.std.specs.List.{All, AllPairs, flat_map, list_any}
+use Rattle.std.proofs.lemmas.List.{get_or_append_left}
+use Rattle.std.proofs.lemmas.List.Elements.{All-nil, All-cons, All-head, All-tail, All-append, All-map, All-weaker, All-from_get_or, All-from_recursion}
+use Rattle.mpf_sections.specs.Rows.{Written, Entry, Switch, CoilPlayer, VariablePlayer, Block, Flipper, Autofire, Shot, ShotGroup, BallDevice, SectionRows}
 use Rattle.mpf_sections.specs.TypedGame.{variable_players_in}
 use Rattle.machine_definitions.specs.Players.{player_event, is_set_by_game}
 use Rattle.plan_contributions.specs.VariableEntries.{item_change}
@@ -14,22 +15,26 @@ use Rattle.mpf_config.specs.Rows.{Rows}
 use Rattle.mpf_sections.specs.Typed.{counters_name, accruals_name, sequences_name, timers_name, counter_of, step_block_of, timer_of, entries_in, switches_in, event_players_in, counters_in, accruals_in, sequences_in}
 use Rattle.mpf_sections.specs.TypedCoils.{coil_players_in, flippers_in, autofires_in}
 use Rattle.mpf_sections.specs.TypedShots.{shots_in, shot_groups_in}
+use Rattle.mpf_sections.specs.TypedBalls.{playfield, ball_devices_in}
 use Rattle.plan_tables.specs.declared.devices.StepSettings.{StepSettings}
 use Rattle.plan_tables.specs.declared.devices.Settings.{Settings}
 use Rattle.plan_tables.specs.declared.devices.Settings.TheVariants as kinds
-use Rattle.machine_definitions.specs.Definitions.{has_switch}
+use Rattle.machine_definitions.specs.Definitions.{has_switch, ball_devices_of, latest_ball_device}
 use Rattle.machine_definitions.specs.Shots.{Profile, profile_of_name}
-use Rattle.plan_contributions.specs.DeviceEntries.{Effect, posts, works, changes, Device, counter_device, step_device, step_settings, timer_device, device_of, block_event, or_own, block_lists, timer_event, timer_endings, timer_lists}
-use Rattle.plan_contributions.specs.CoilEntries.{item_effect, flipper_device, autofire_device}
+use Rattle.plan_contributions.specs.DeviceEntries.{Effect, posts, works, changes, enters, leaves, loses, arrives, Device, counter_device, step_device, step_settings, timer_device, device_of, block_event, or_own, block_lists, timer_event, timer_endings, timer_lists}
+use Rattle.plan_contributions.specs.CoilEntries.{defaults_called, own_pulse, item_effect, flipper_device, autofire_device}
+use Rattle.plan_contributions.specs.BallEntries.{drains, ball_event, eject_pulse, ball_lists}
 use Rattle.plan_contributions.specs.ShotEntries.{shot_events, group_events, shot_lists, state_lists, group_lists}
 use Rattle.plan_rows.specs.Members.{members_of}
 use Rattle.plan_contributions.specs.Contributions.{texts, tag_event}
-use Rattle.plan_contributions.specs.Doing.{IsSwitchDoing, IsPlayerDoing, IsDeviceDoing, IsEntryDoing, IsCoilPlayerDoing, IsVariablePlayerDoing, IsShotDoing, IsShotGroupDoing, IsDoing, IsMachineDoing, AreDoing}
+use Rattle.plan_contributions.specs.Doing.{IsSwitchDoing, IsPlayerDoing, IsDeviceDoing, IsEntryDoing, IsCoilPlayerDoing, IsVariablePlayerDoing, IsShotDoing, IsShotGroupDoing, has_target, IsBallDeviceDoing, IsDoing, IsMachineDoing, AreDoing}
 use Rattle.plan_contributions.proofs.Before.{All-flat_map}
 use Rattle.row_faults.specs.Reserved.{is_reserved, switch_posts, player_posts, block_posts, counter_posts, step_posts, posts_in, posts_of}
-use Rattle.row_faults.specs.Sound.{ChangesNothingBarred, IsChangeFree, IsItemSound, IsCoilPlayerSound, IsFlipperSound, IsAutofireSound, IsShotSound, IsShotGroupSound, IsSectionSound, IsSound}
-use Rattle.config_checker.proofs.FreeNames.{active-free, inactive-free, tag-free, block-free, timer-free, shot-free, group_hit-free, group_complete-free}
-use Rattle.config_checker.proofs.CoilDeeds.{IsDeedSound, item_deed, flipper_doing, autofire_doing}
+use Rattle.row_faults.specs.Sound.{ChangesNothingBarred, IsChangeFree, IsItemSound, IsCoilSound, IsCoilSuch, IsCoilPlayerSound, IsFlipperSound, IsAutofireSound, IsShotSound, IsShotGroupSound, IsBallDeviceSound, IsSectionSound, IsSound}
+use Rattle.row_faults.specs.Routes.{switch_names}
+use Rattle.row_faults.specs.BallFaults.{is_place}
+use Rattle.config_checker.proofs.FreeNames.{active-free, inactive-free, tag-free, block-free, timer-free, ball-free, shot-free, group_hit-free, group_complete-free}
+use Rattle.config_checker.proofs.CoilDeeds.{IsDeedSound, item_deed, pulse_deed, flipper_doing, autofire_doing}
 
 -- ---- parts of lists
 
@@ -45,6 +50,21 @@ all-each P f (x ∷ xs) h =
     let parts = all-parts P (f x) (flat_map f xs) h in
     All-cons (λ y. All P (f y)) x xs parts.0 (all-each P f xs parts.1)
 
+-- two of the items that are made of one are two of all
+first-pairs : {X : Type 0} (R : X → X → Type 0) (xs ys : List X) → AllPairs R (xs ++ ys) → AllPairs R xs
+first-pairs R xs ys h i j d less within =
+    let both = length-append xs ys in
+    subst (λ x. R x (get_or xs j d)) (get_or_append_left xs ys d i (omega (arith, less, within)))
+    (subst (R (get_or (xs ++ ys) i d)) (get_or_append_left xs ys d j within) (h i j d less (omega (arith, within, both))))
+
+rest-pairs : {X : Type 0} (R : X → X → Type 0) (xs ys : List X) → AllPairs R (xs ++ ys) → AllPairs R ys
+rest-pairs R [] ys h = h
+rest-pairs R (x ∷ xs) ys h = rest-pairs R xs ys (λ i j d less within. h (suc i) (suc j) d (omega (arith, less)) (omega (arith, within)))
+
+pairs-each : {X Y : Type 0} (R : Y → Y → Type 0) (f : X → List Y) (xs : List X) → AllPairs R (flat_map f xs) → All (λ x. AllPairs R (f x)) xs
+pairs-each R f [] h = All-nil (λ x. AllPairs R (f x))
+pairs-each R f (x ∷ xs) h = All-cons (λ y. AllPairs R (f y)) x xs (first-pairs R (f x) (flat_map f xs) h) (pairs-each R f xs (rest-pairs R (f x) (flat_map f xs) h))
+
 -- of what an item of a list is made, where it is in the list
 from_map : {X Y : Type 0} (P : Y → Type 0) (f : X → Y) (xs : List X) → All P (map f xs) → All (λ x. P (f x)) xs
 from_map P f [] h = All-nil (λ x. P (f x))
@@ -59,6 +79,10 @@ module _ (rows : Rows) where
   IsFine (posts n) = IsUnreserved n
   IsFine (works n deed) = IsDeedSound rows.machine n deed
   IsFine (changes v action n) = IsUnreserved (player_event v)
+  IsFine (enters n drain) = IsUnreserved n
+  IsFine leaves = Unit {0}
+  IsFine loses = Unit {0}
+  IsFine arrives = Unit {0}
 
   -- a switch to which a device listens is defined
   abbrev pub IsThere : List ℕ → Type 0
@@ -174,6 +198,63 @@ module _ (rows : Rows) where
     listens = All-cons IsThere a.switch.text [] h.switch (All-nil IsThere);
   }
 
+  -- ---- ball devices
+
+  eject-doing : (o : Option Written) → IfSome o (λ w. IsCoilSuch rows.machine w.text IsCoilSound) → All IsFine (eject_pulse rows.machine o)
+  eject-doing None h = All-nil IsFine
+  eject-doing (Some w) h = one (works w.text (own_pulse (defaults_called rows.machine w.text))) (pulse_deed rows.machine w.text h)
+
+  ball-lists : (d : BallDevice) → IsBallDeviceSound rows.machine d → All (All IsFine) (ball_lists rows.machine d)
+  ball-lists d h =
+      let name = d.name.text in
+      let enter = ball_event name (codes "_ball_enter") in
+      let attempt = ball_event name (codes "_ball_eject_attempt") in
+      let ejecting = ball_event name (codes "_ejecting_ball") in
+      let success = ball_event name (codes "_ball_eject_success") in
+      let failed = ball_event name (codes "_ball_eject_failed") in
+      let pulse = eject_pulse rows.machine d.eject_coil in
+      All-from_recursion (All IsFine) (ball_lists rows.machine d) (
+        one (enters enter (drains rows.machine d)) (ball-free name (codes "_ball_enter") rows),
+        (All-cons IsFine (posts attempt) (posts ejecting ∷ pulse) (ball-free name (codes "_ball_eject_attempt") rows)
+        (All-cons IsFine (posts ejecting) pulse (ball-free name (codes "_ejecting_ball") rows) (eject-doing d.eject_coil h.eject_coil)),
+        (one leaves tt,
+        (one loses tt,
+        (one (posts success) (ball-free name (codes "_ball_eject_success") rows), (one arrives tt, (one (posts failed) (ball-free name (codes "_ball_eject_failed") rows), tt)))))),
+      )
+
+  -- no two of its ball switches have one name
+  abbrev HasApart : BallDevice → Type 0
+  HasApart d = AllPairs (λ v w. v ≢ w) (switch_names d)
+
+  -- a ball device that is called so is one of them
+  called-any : (name : List ℕ) (ds : List BallDevice) (o : Option BallDevice) → is_some (fold (latest_ball_device name) o ds) ≡ (list_any (λ (d : BallDevice). bytes_eq name d.name.text) ds || is_some o)
+  called-any name [] o = refl
+  called-any name (d ∷ ds) o =
+      called-any name ds (latest_ball_device name o d) ∙ by (bytes_eq name d.name.text) (list_any (λ (x : BallDevice). bytes_eq name x.name.text) ds)
+    where
+      by : (b c : Bool) → (c || is_some (if b then Some d else o)) ≡ ((b || c) || is_some o)
+      by true true = refl
+      by true false = refl
+      by false c = refl
+
+  no_other : (a b : Bool) → (a || (b || false)) ≡ (a || b)
+  no_other true b = refl
+  no_other false true = refl
+  no_other false false = refl
+
+  target-there : (name : List ℕ) → is_place rows.machine name ≡ true → has_target rows.machine name ≡ true
+  target-there name is =
+      let ds = ball_devices_of rows.machine in
+      sym (no_other (bytes_eq name playfield) (list_any (λ (d : BallDevice). bytes_eq name d.name.text) ds)) ∙ ap (λ b. bytes_eq name playfield || b) (sym (called-any name ds None)) ∙ is
+
+  ball_device-doing : (d : BallDevice) → HasApart d → IsBallDeviceSound rows.machine d → IsBallDeviceDoing IsFine IsUnreserved IsThere rows d
+  ball_device-doing d apart h = record {
+    lists = ball-lists d h;
+    listens = All-map IsThere (λ (w : Written). w.text) d.switches h.switches;
+    apart = apart;
+    target = target-there d.target.text h.target;
+  }
+
   -- ---- shots and groups of them
 
   -- what the effect lists of a shot, or of a group, post in each state of a profile
@@ -232,23 +313,25 @@ module _ (rows : Rows) where
       groups = All-weaker (IsShotGroupSound rows) (IsShotGroupDoing IsFine IsUnreserved IsThere rows) group-doing (shot_groups_in s) sound.groups;
     }
 
-    machine-doing : IsMachineDoing IsFine IsUnreserved IsThere rows s
-    machine-doing = record {
+    machine-doing : All HasApart (ball_devices_in s) → IsMachineDoing IsFine IsUnreserved IsThere rows s
+    machine-doing apart = record {
       all = section-doing;
       switches = All-weaker (λ x. All IsFreePost (switch_posts x)) (IsSwitchDoing IsFine IsUnreserved IsThere) switch-doing (switches_in s) (all-each IsFreePost switch_posts (switches_in s) section-parts.0);
       flippers = All-weaker (IsFlipperSound rows.machine) (λ f. IsDeviceDoing IsFine IsUnreserved IsThere (flipper_device rows.machine f)) flipper-doing (flippers_in s) sound.flippers;
       autofires = All-weaker (IsAutofireSound rows.machine) (λ a. IsDeviceDoing IsFine IsUnreserved IsThere (autofire_device rows.machine a)) autofire-doing (autofires_in s) sound.autofires;
+      ball_devices = λ i d within. ball_device-doing (get_or (ball_devices_in s) i d) (apart i d within) (sound.ball_devices i d within);
     }
 
   -- each section of a list
-  each-doing : (R : SectionRows → Type 0) → ((s : SectionRows) → All IsFreePost (posts_in s) → ChangesNothingBarred rows s → IsSectionSound rows s → R s)
-      → (ss : List SectionRows) → All IsFreePost (posts_of ss) → All (ChangesNothingBarred rows) ss → All (IsSectionSound rows) ss → All R ss
-  each-doing R make ss free changing sound =
+  each-doing : (E R : SectionRows → Type 0) → ((s : SectionRows) → All IsFreePost (posts_in s) → ChangesNothingBarred rows s → IsSectionSound rows s → E s → R s)
+      → (ss : List SectionRows) → All IsFreePost (posts_of ss) → All (ChangesNothingBarred rows) ss → All (IsSectionSound rows) ss → All E ss → All R ss
+  each-doing E R make ss free changing sound more =
       let all = all-each IsFreePost posts_in ss free in
-      λ i d within. make (get_or ss i d) (all i d within) (changing i d within) (sound i d within)
+      λ i d within. make (get_or ss i d) (all i d within) (changing i d within) (sound i d within) (more i d within)
 
   pub rows_doing : IsSound rows → AreDoing IsFine IsUnreserved IsThere rows
   rows_doing h = record {
-    machine = each-doing (IsMachineDoing IsFine IsUnreserved IsThere rows) machine-doing rows.machine h.posts.machine h.changes h.machine;
-    modes = λ i d within. each-doing (IsDoing IsFine IsUnreserved IsThere rows) section-doing (get_or rows.modes i d).sections (h.posts.modes i d within) (h.mode_changes i d within) (h.modes i d within);
+    machine = each-doing (λ s. All HasApart (ball_devices_in s)) (IsMachineDoing IsFine IsUnreserved IsThere rows) machine-doing rows.machine h.posts.machine h.changes h.machine
+        (all-each HasApart ball_devices_in rows.machine (pairs-each (λ v w. v ≢ w) switch_names (ball_devices_of rows.machine) h.balls.switches));
+    modes = λ i d within. each-doing (λ s. Unit {0}) (IsDoing IsFine IsUnreserved IsThere rows) (λ s free changing sound none. section-doing s free changing sound) (get_or rows.modes i d).sections (h.posts.modes i d within) (h.mode_changes i d within) (h.modes i d within) (λ j e inside. tt);
   }

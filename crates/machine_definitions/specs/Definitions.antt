@@ -2,9 +2,10 @@
 use Rattle.std.specs.Prelude.{ℕ, Bool, false, if◌then◌else◌, List, [], ◌++◌, Option, None, Some, fold, map, unwrap_or}
 use Rattle.std.specs.List.{flat_map, list_any}
 use Rattle.std.specs.Str.{bytes_eq}
-use Rattle.mpf_sections.specs.Rows.{Coil, SectionRows}
+use Rattle.mpf_sections.specs.Rows.{Coil, BallDevice, SectionRows}
 use Rattle.mpf_sections.specs.Typed.{switches_in}
 use Rattle.mpf_sections.specs.TypedCoils.{coils_in, flippers_in, autofires_in}
+use Rattle.mpf_sections.specs.TypedBalls.{ball_devices_in}
 
 -- the coil of this name, if there is one; of two the later
 abbrev pub latest_coil : List ℕ → Option Coil → Coil → Option Coil
@@ -40,3 +41,17 @@ rule_switches s = map (λ f. f.switch.text) (flippers_in s) ++ map (λ a. a.swit
 -- whether one of them has this name
 abbrev pub makes_quick : List SectionRows → List ℕ → Bool
 makes_quick machine name = list_any (bytes_eq name) (flat_map rule_switches machine)
+
+-- the ball devices of sections, in plan order
+abbrev pub ball_devices_of : List SectionRows → List BallDevice
+ball_devices_of sections = flat_map ball_devices_in sections
+
+-- of these ball devices the one of this name, if there is one; of two the later
+abbrev pub latest_ball_device : List ℕ → Option BallDevice → BallDevice → Option BallDevice
+latest_ball_device name found d = if bytes_eq name d.name.text then Some d else found
+
+abbrev pub ball_device_among : List BallDevice → List ℕ → Option BallDevice
+ball_device_among devices name = fold (latest_ball_device name) None devices
+
+abbrev pub ball_device_called : List SectionRows → List ℕ → Option BallDevice
+ball_device_called machine name = ball_device_among (ball_devices_of machine) name

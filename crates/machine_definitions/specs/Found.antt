@@ -12,9 +12,12 @@ use Rattle.mpf_sections.specs.View.{coil_view}
 use Rattle.mpf_sections.specs.declared.shots.Shot as shot_rows
 use Rattle.mpf_sections.specs.Rows.{Shot}
 use Rattle.mpf_sections.specs.View.{shot_view}
+use Rattle.mpf_sections.specs.declared.balls.BallDevice as ball_rows
+use Rattle.mpf_sections.specs.Rows.{BallDevice}
+use Rattle.mpf_sections.specs.View.{ball_device_view}
 use Rattle.mpf_config.specs.Rows.{Rows}
 use Rattle.machine_definitions.specs.declared.profile.Profile as profiles
-use Rattle.machine_definitions.specs.Definitions.{coil_called, has_switch, makes_quick}
+use Rattle.machine_definitions.specs.Definitions.{coil_called, has_switch, makes_quick, ball_device_called}
 use Rattle.machine_definitions.specs.Shots.{shot_called, Profile, standard_profile, profile_called}
 
 -- the names of states
@@ -35,6 +38,9 @@ found_coil coils name = option_map coil_view (lookup (has_bytes name) coils.entr
 abbrev pub is_found : BTreeSet (Bor (List ℕ)) → List ℕ → Bool
 is_found names name = list_any (has_bytes name) names.keys
 
+abbrev pub found_ball_device : BTreeMap (Bor (List ℕ)) ball_rows.BallDevice → List ℕ → Option BallDevice
+found_ball_device devices name = option_map ball_device_view (lookup (has_bytes name) devices.entries)
+
 abbrev pub found_shot : BTreeMap (Bor (List ℕ)) shot_rows.Shot → List ℕ → Option Shot
 found_shot shots name = option_map shot_view (lookup (has_bytes name) shots.entries)
 
@@ -52,6 +58,10 @@ HasSwitches machine names = (name : List ℕ) → is_found names name ≡ has_sw
 abbrev pub HasQuick : List SectionRows → BTreeSet (Bor (List ℕ)) → Type 0
 HasQuick machine names = (name : List ℕ) → is_found names name ≡ makes_quick machine name
 
+-- by each name the ball device that has it is found
+abbrev pub HasBallDevices : List SectionRows → BTreeMap (Bor (List ℕ)) ball_rows.BallDevice → Type 0
+HasBallDevices machine devices = (name : List ℕ) → found_ball_device devices name ≡ ball_device_called machine name
+
 -- the shots and the profiles of all texts
 abbrev pub HasShots : Rows → BTreeMap (Bor (List ℕ)) shot_rows.Shot → Type 0
 HasShots rows shots = (name : List ℕ) → found_shot shots name ≡ shot_called rows name
@@ -60,11 +70,12 @@ abbrev pub HasProfiles : Rows → BTreeMap (Bor (List ℕ)) profiles.Profile →
 HasProfiles rows found = (name : List ℕ) → found_profile found name ≡ profile_called rows name
 
 -- what all fields of `Definitions` hold, where it is of these rows
-pub record IsDefined (rows : Rows) (coils : BTreeMap (Bor (List ℕ)) coil_rows.Coil) (switches quick : BTreeSet (Bor (List ℕ))) (shots : BTreeMap (Bor (List ℕ)) shot_rows.Shot)
+pub record IsDefined (rows : Rows) (coils : BTreeMap (Bor (List ℕ)) coil_rows.Coil) (switches quick : BTreeSet (Bor (List ℕ))) (devices : BTreeMap (Bor (List ℕ)) ball_rows.BallDevice) (shots : BTreeMap (Bor (List ℕ)) shot_rows.Shot)
     (found : BTreeMap (Bor (List ℕ)) profiles.Profile) (standard : profiles.Profile) : Type 0 where
   pub coils_found : HasCoils rows.machine coils
   pub switches_found : HasSwitches rows.machine switches
   pub quick_found : HasQuick rows.machine quick
+  pub devices_found : HasBallDevices rows.machine devices
   pub shots_found : HasShots rows shots
   pub profiles_found : HasProfiles rows found
   pub standard_is : profile_view standard ≡ standard_profile

@@ -5,12 +5,13 @@ ghost use Rattle.std.specs.List.{list_any};
 ghost use Rattle.std.specs.Str.{bytes_eq};
 ghost use Rattle.mpf_sections.specs.Typed.{switch_of};
 ghost use Rattle.mpf_sections.specs.TypedCoils.{coil_of, flipper_of, autofire_of};
+ghost use Rattle.mpf_sections.specs.TypedBalls.{ball_device_of};
 ghost use Rattle.mpf_sections.specs.TypedGame.{min_balls_of};
-ghost use Rattle.mpf_sections.specs.View.{entry_view, section_view, coil_view, shot_view};
+ghost use Rattle.mpf_sections.specs.View.{entry_view, section_view, coil_view, shot_view, ball_device_view};
 ghost use Rattle.mpf_config.specs.View.{rows_view};
-ghost use Rattle.machine_definitions.specs.Definitions.{coil_called, latest_coil, has_switch, makes_quick};
+ghost use Rattle.machine_definitions.specs.Definitions.{coil_called, latest_coil, has_switch, makes_quick, latest_ball_device, ball_device_called};
 ghost use Rattle.machine_definitions.specs.Shots.{shot_called, has_profile, profile_of_name};
-ghost use Rattle.machine_definitions.specs.Found.{found_coil, is_found, profile_view, HasCoils, HasSwitches, HasQuick};
+ghost use Rattle.machine_definitions.specs.Found.{found_coil, found_ball_device, is_found, profile_view, HasCoils, HasSwitches, HasQuick, HasBallDevices};
 
 use crate::profile::Profile;
 use crate::shots::{profiles_of, shots_of, standard_profile};
@@ -19,19 +20,21 @@ use mpf_config::{
     Coil, Entry, Section, Shot, as_autofire, as_coil, as_flipper, as_switch, min_balls,
 };
 use mpf_sections::tables::DEFAULT_PROFILE;
+use mpf_sections::{BallDevice, as_ball_device};
 use std::alloc::{AllocError, Global};
 use std::collections::{BTreeMap, BTreeSet};
 use std::marker::Model;
 
 /// What the entries of a configuration define: the coils of the machine text, the names of its
-/// switches, the names of those that flippers and autofire coils use, and the shots and the profiles
-/// of all texts.
+/// switches, the names of those that flippers and autofire coils use, its ball devices, and the shots
+/// and the profiles of all texts.
 #[derive(Drop)]
 pub struct Definitions<'a> {
     config: &'a Config,
     coils: BTreeMap<&'a [u8], Coil<'a>>,
     switches: BTreeSet<&'a [u8]>,
     quick: BTreeSet<&'a [u8]>,
+    ball_devices: BTreeMap<&'a [u8], BallDevice<'a>>,
     shots: BTreeMap<&'a [u8], Shot<'a>>,
     profiles: BTreeMap<&'a [u8], Profile<'a>>,
     standard: Profile<'a>,
@@ -46,7 +49,7 @@ impl<'a> Model for Definitions<'a> {
 
     ghost view = { λ d. rows_view d.config.now };
 
-    ghost invariant = { λ d. IsDefined (rows_view d.config.now) d.coils d.switches d.quick d.shots d.profiles d.standard };
+    ghost invariant = { λ d. IsDefined (rows_view d.config.now) d.coils d.switches d.quick d.ball_devices d.shots d.profiles d.standard };
 }
 
 impl<'a> Definitions<'a> {
@@ -62,6 +65,7 @@ impl<'a> Definitions<'a> {
         let coils = coils_of(alloc, machine)?;
         let switches = switches_of(alloc, machine)?;
         let quick = quick_of(alloc, machine)?;
+        let ball_devices = ball_devices_of(alloc, machine)?;
         let shots = shots_of(alloc, config)?;
         let profiles = profiles_of(alloc, config)?;
         let standard = standard_profile(alloc)?;
@@ -70,6 +74,7 @@ impl<'a> Definitions<'a> {
             coils,
             switches,
             quick,
+            ball_devices,
             shots,
             profiles,
             standard,
@@ -110,6 +115,13 @@ impl<'a> Definitions<'a> {
         ensures { result ≡ makes_quick self.now.machine name.now }
     {
         self.quick.contains(name)
+    }
+
+    /// The ball device of this name, if there is one.
+    pub fn ball_device(&self, name: &[u8]) -> Option<BallDevice<'a>>
+        ensures { option_map ball_device_view result ≡ ball_device_called self.now.machine name.now }
+    {
+        self.ball_devices.get(name).copied()
     }
 
     /// The shot of this name, if there is one, in whichever text.
@@ -157,6 +169,33 @@ fn add_coils<'a>(
     for entry in entries {
         let coil = as_coil(entry);
         coils.insert(&coil.name.text, coil)?;
+    }
+    Ok(())
+}
+
+/// The ball devices of all sections, by their names.
+fn ball_devices_of<'a>(
+    alloc: Global,
+    sections: &'a [Section],
+) -> Result<BTreeMap<&'a [u8], BallDevice<'a>>, AllocError>
+    ensures { IfOk result (λ devices. HasBallDevices (map section_view sections.now) devices) }
+{
+    let mut devices = BTreeMap::new(alloc);
+    for section in sections {
+        add_ball_devices(&mut devices, section.ball_devices())?;
+    }
+    Ok(devices)
+}
+
+fn add_ball_devices<'a>(
+    devices: &mut BTreeMap<&'a [u8], BallDevice<'a>>,
+    entries: &'a [Entry],
+) -> Result<(), AllocError>
+    ensures { OnOk result ((name : List ℕ) → found_ball_device devices.new name ≡ fold (latest_ball_device name) (found_ball_device devices.old name) (map ball_device_of (map entry_view entries.now))) }
+{
+    for entry in entries {
+        let device = as_ball_device(entry);
+        devices.insert(&device.name.text, device)?;
     }
     Ok(())
 }

@@ -23,21 +23,22 @@ pub use config::{
 };
 pub use escape::{escaped_makes_no_line, write_escaped};
 pub use fault::{ConfigFault, Fault, FaultKind, write_fault};
-// The sections: their names, and their entries by the names of their settings.
+// The sections: their names, and their entries by the names of their settings. Ball devices are in
+// `mpf_sections` alone.
 pub use mpf_sections::tables::{
-    ACCRUALS_NAME, AUTOFIRE_COILS_NAME, COIL_PLAYER_NAME, COILS_NAME, COUNTERS_NAME,
-    DEFAULT_PROFILE, EVENT_PLAYER_NAME, FLIPPERS_NAME, GAME_NAME, MACHINE_SECTION_NAME, MODE_NAME,
-    MODES_NAME, SEQUENCES_NAME, SHOT_GROUPS_NAME, SHOT_PROFILES_NAME, SHOTS_NAME, SWITCHES_NAME,
-    TIMERS_NAME, VARIABLE_PLAYER_NAME,
+    ACCRUALS_NAME, AUTOFIRE_COILS_NAME, BALL_DEVICES_NAME, COIL_PLAYER_NAME, COILS_NAME,
+    COUNTERS_NAME, DEFAULT_PROFILE, EVENT_PLAYER_NAME, FLIPPERS_NAME, GAME_NAME,
+    MACHINE_SECTION_NAME, MODE_NAME, MODES_NAME, PLAYFIELD, SEQUENCES_NAME, SHOT_GROUPS_NAME,
+    SHOT_PROFILES_NAME, SHOTS_NAME, SWITCHES_NAME, TIMERS_NAME, VARIABLE_PLAYER_NAME,
 };
 pub use mpf_sections::{
-    Autofire, Block, Coil, CoilItem, CoilPlayer, Control, Counter, EventPlayer, Flipper,
-    GameSettings, HandledAt, ModeSettings, NameAt, Shot, ShotGroup, ShotProfile, StepBlock, Switch,
-    Timer, VariableItem, VariablePlayer, as_autofire, as_coil, as_coil_item, as_coil_player,
-    as_control, as_counter, as_event_player, as_flipper, as_game, as_handled, as_shot,
-    as_shot_group, as_shot_profile, as_state, as_step_block, as_switch, as_timer, as_variable_item,
-    as_variable_player, blocks, coil_rules, coils, game, listed_modes, min_balls, mode_settings,
-    timers, typed,
+    Autofire, BallDevice, Block, Coil, CoilItem, CoilPlayer, Control, Counter, EventPlayer,
+    Flipper, GameSettings, HandledAt, ModeSettings, NameAt, Shot, ShotGroup, ShotProfile,
+    StepBlock, Switch, Timer, VariableItem, VariablePlayer, as_autofire, as_ball_device, as_coil,
+    as_coil_item, as_coil_player, as_control, as_counter, as_event_player, as_flipper, as_game,
+    as_handled, as_shot, as_shot_group, as_shot_profile, as_state, as_step_block, as_switch,
+    as_timer, as_variable_item, as_variable_player, blocks, coil_rules, coils, game, listed_modes,
+    min_balls, mode_settings, timers, typed,
 };
 pub use notes::write_note;
 pub use section_tables::rows::{Entry, Fields, Guard, Handler, Keyed, Name, Plain, Player, Value};

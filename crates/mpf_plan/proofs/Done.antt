@@ -8,11 +8,12 @@ use Rattle.plan_contributions.specs.declared.contribution.Aim.TheVariants.{Run}
 use Rattle.plan_tables.specs.declared.entries.Action.{Action}
 use Rattle.plan_tables.specs.declared.entries.EventId.{EventId}
 use Rattle.plan_tables.specs.declared.table.Table.TheVariants.{Events, Switches}
+use Rattle.plan_tables.specs.declared.devices.RowId.{RowId}
 use Rattle.plan_tables.specs.Devices.{list_count}
 use Rattle.plan_tables.specs.PlanView.{PlanSwitch, no_switch, PlanView}
 use Rattle.plan_contributions.specs.Contributions.{Contribution, gives, reads, active, inactive, mode, mode_event, binds, does, device, does_in, listens, mentions, unknown, coil, under, plays}
 use Rattle.mpf_plan.specs.Uses.{Names, number_among}
-use Rattle.mpf_plan.specs.PlanOf.{DraftView, event_of, action_of, last_switch, lists_for, with_one_more, next_listener, heard_by, first_of_last, with_contribution, named_switch, blank, drafted}
+use Rattle.mpf_plan.specs.PlanOf.{DraftView, event_of, action_of, last_row, last_switch, lists_for, with_one_more, next_listener, heard_by, first_of_last, with_contribution, named_switch, blank, drafted}
 use Rattle.mpf_plan.proofs.Drafted.{given_plan}
 use Rattle.mpf_plan.proofs.Steps.{All-changed}
 
@@ -25,12 +26,12 @@ module _ (Q : EventId → Type 0) (A : Action → Type 0) where
     pub switches : All IsPosting plan.switches
     pub lists : All (All A) plan.lists
 
-  -- of the event that a contribution makes a switch post, and of its action
+  -- of the event that a contribution makes a switch post, and of its action, whatever row came last
   abbrev pub IsMet : Names → Contribution → Type 0
   IsMet names (active n) = Q (event_of (names Events) n)
   IsMet names (inactive n) = Q (event_of (names Events) n)
-  IsMet names (does e) = A (action_of names e)
-  IsMet names (does_in k e) = A (action_of names e)
+  IsMet names (does e) = (r : RowId) → A (action_of names r e)
+  IsMet names (does_in k e) = (r : RowId) → A (action_of names r e)
   IsMet names _ = Unit {0}
 
   -- ---- one contribution more
@@ -48,7 +49,7 @@ module _ (Q : EventId → Type 0) (A : Action → Type 0) where
 
     meet_one : (c : Contribution) → IsMet names c → Meets (with_contribution names d c).plan
     meet_one (gives t n) is = subst Meets (sym (given_plan t (number_among (names t) n) d)) meet
-    meet_one (reads kind) is = switch_meets (λ s. record s { kind = kind }) (λ s posts. posts)
+    meet_one (reads kind confirms) is = switch_meets (λ s. record s { kind = kind; confirms_playfield = confirms }) (λ s posts. posts)
     meet_one (active n) is =
         switch_meets (λ s. record s { active = s.active ++ event_of (names Events) n ∷ [] }) (λ s posts. (All-push Q s.active (event_of (names Events) n) posts.0 is, posts.1))
     meet_one (inactive n) is =
@@ -56,14 +57,14 @@ module _ (Q : EventId → Type 0) (A : Action → Type 0) where
     meet_one (mode n priority game) is = record { switches = meet.switches; lists = meet.lists }
     meet_one (mode_event which n) is = record { switches = meet.switches; lists = meet.lists }
     meet_one (binds n place aim) is = record { switches = meet.switches; lists = list_meets aim }
-    meet_one (does e) is = record { switches = meet.switches; lists = action_meets (length d.plan.lists - 1) (action_of names e) is }
+    meet_one (does e) is = record { switches = meet.switches; lists = action_meets (length d.plan.lists - 1) (action_of names (last_row d.plan) e) (is (last_row d.plan)) }
     meet_one (device place settings) is =
         let none : List Action = [] in
         record {
           switches = meet.switches;
           lists = All-append (All A) d.plan.lists (replicate (list_count settings) none) meet.lists (All-replicate (All A) (list_count settings) none (All-nil A));
         }
-    meet_one (does_in k e) is = record { switches = meet.switches; lists = action_meets ((first_of_last d.plan.row_lists).0 + k) (action_of names e) is }
+    meet_one (does_in k e) is = record { switches = meet.switches; lists = action_meets ((first_of_last d.plan.row_lists).0 + k) (action_of names (last_row d.plan) e) (is (last_row d.plan)) }
     meet_one (listens k n) is = record {
       switches = All-changed IsPosting (heard_by (next_listener d.plan k)) d.plan.switches (number_among (names Switches) n) no_switch (λ s posts. posts) meet.switches;
       lists = meet.lists;

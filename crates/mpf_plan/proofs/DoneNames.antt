@@ -1,18 +1,19 @@
 -- What holds of all that rows do holds of all that their plan does, by names.
-use Rattle.std.proofs.Common.{◌≡◌, ◌<◌, ◌⊎◌, inl, inr, ℕ, ◌≤◌, List, [], length, map, get_or, slice_index_or, Ok, sym, ◌∙◌, ap, subst, arith}
+use Rattle.std.proofs.Common.{◌≡◌, ◌<◌, ◌⊎◌, inl, inr, ℕ, ◌≤◌, List, [], length, map, get_or, slice_index_or, Ok, refl, sym, ◌∙◌, ap, subst, arith}
 use Rattle.std.specs.List.{All}
 use Rattle.std.proofs.lemmas.Bool.{cases_lt}
 use Rattle.std.proofs.lemmas.List.{get_or-map, get_or_past, length-map}
 use Rattle.std.proofs.lemmas.List.Elements.{All-weaker}
 use Rattle.mpf_config.specs.Rows.{Rows}
+use Rattle.plan_tables.specs.declared.devices.RowId.{RowId}
 use Rattle.plan_tables.specs.declared.entries.EventId.{EventId}
 use Rattle.plan_tables.specs.declared.entries.CoilId.{CoilId}
 use Rattle.plan_tables.specs.declared.entries.VariableId.{VariableId}
 use Rattle.plan_tables.specs.declared.entries.Action.{Action}
-use Rattle.plan_tables.specs.declared.entries.Action.TheVariants.{Post, Pulse, Enable, Disable, Change}
+use Rattle.plan_tables.specs.declared.entries.Action.TheVariants.{Post, Pulse, Enable, Disable, Change, Enter, Leave, Lose, Arrive}
 use Rattle.plan_tables.specs.declared.table.Table.TheVariants.{Events, Coils, Variables}
 use Rattle.plan_tables.specs.PlanView.{PlanCoil, no_coil, PlanView, coil_at, name_of_event, name_of_variable}
-use Rattle.plan_contributions.specs.DeviceEntries.{pulse, enable, disable, Effect, works, posts, changes}
+use Rattle.plan_contributions.specs.DeviceEntries.{pulse, enable, disable, Effect, works, posts, changes, enters, leaves, loses, arrives}
 use Rattle.plan_contributions.specs.Contributions.{Contribution, active, inactive, does, does_in, contributions_of}
 use Rattle.plan_contributions.specs.Doing.{Does}
 use Rattle.plan_contributions.specs.UsedNames.{used_by}
@@ -54,6 +55,10 @@ module _ (cs : List Contribution) where
   named_is (Enable c power) = ap (λ n. works n (enable power)) (coil_name c)
   named_is (Disable c) = ap (λ n. works n disable) (coil_name c)
   named_is (Change v action n e) = ap (λ m. changes m action n) (variable_name v)
+  named_is (Enter r e drain) = ap (λ n. enters n drain) (event_name e)
+  named_is (Leave r) = refl
+  named_is (Lose r) = refl
+  named_is (Arrive r) = refl
 
 -- ---- what is done
 
@@ -68,8 +73,8 @@ module _ (P : Effect → Type 0) (S L : List ℕ → Type 0) where
     is_met : (c : Contribution) → IsKnown (names_from cs) c → Does P S L c → IsMet AtEvent AtAction (names_from cs) c
     is_met (active n) known h = subst S (sym (at_number (names_from cs Events) n known)) h
     is_met (inactive n) known h = subst S (sym (at_number (names_from cs Events) n known)) h
-    is_met (does e) known h = subst P (sym (effect_named (names_from cs) e known)) h
-    is_met (does_in k e) known h = subst P (sym (effect_named (names_from cs) e known)) h
+    is_met (does e) known h = λ r. subst P (sym (effect_named (names_from cs) r e known)) h
+    is_met (does_in k e) known h = λ r. subst P (sym (effect_named (names_from cs) r e known)) h
     is_met _ known h = tt
 
     pub done_from : All (Does P S L) cs → IsDone P S (plan_from cs)
@@ -99,16 +104,20 @@ module _ (cs : List Contribution) where
   AtVariable (Change v action n e) = slice_index_or (names_from cs Events) e.0 [] ≡ player_event (slice_index_or (names_from cs Variables) v.0 [])
   AtVariable _ = Unit {0}
 
-  effect_by_variable : (e : Effect) → IsAmong (names_from cs) (used_by e) → IsReadyEffect (IsNumberedIn (names_from cs Events)) e → AtVariable (action_of (names_from cs) e)
-  effect_by_variable (posts n) known ready = tt
-  effect_by_variable (works n (pulse ms power)) known ready = tt
-  effect_by_variable (works n (enable power)) known ready = tt
-  effect_by_variable (works n disable) known ready = tt
-  effect_by_variable (changes v action n) known ready = at_number (names_from cs Events) (player_event v) ready ∙ ap player_event (sym (at_number (names_from cs Variables) v known))
+  effect_by_variable : (e : Effect) → IsAmong (names_from cs) (used_by e) → IsReadyEffect (IsNumberedIn (names_from cs Events)) e → (r : RowId) → AtVariable (action_of (names_from cs) r e)
+  effect_by_variable (posts n) known ready r = tt
+  effect_by_variable (works n (pulse ms power)) known ready r = tt
+  effect_by_variable (works n (enable power)) known ready r = tt
+  effect_by_variable (works n disable) known ready r = tt
+  effect_by_variable (enters n drain) known ready r = tt
+  effect_by_variable leaves known ready r = tt
+  effect_by_variable loses known ready r = tt
+  effect_by_variable arrives known ready r = tt
+  effect_by_variable (changes v action n) known ready r = at_number (names_from cs Events) (player_event v) ready ∙ ap player_event (sym (at_number (names_from cs Variables) v known))
 
   change_is_met : (c : Contribution) → IsKnown (names_from cs) c → IsReady (IsNumberedIn (names_from cs Events)) c → IsMet (λ e. Unit {0}) AtVariable (names_from cs) c
   change_is_met (does e) known ready = effect_by_variable e known ready
-  change_is_met (does_in k e) known ready = effect_by_variable e known ready
+  change_is_met (does_in k e) known ready = effect_by_variable e known ready.0
   change_is_met (active n) known ready = tt
   change_is_met (inactive n) known ready = tt
   change_is_met _ known ready = tt

@@ -30,7 +30,7 @@ use Rattle.plan_tables.specs.PlanView.{PlanSwitch, no_switch, PlanCoil, no_coil,
 use Rattle.plan_tables.specs.Limits.{entry_count, entry_names}
 use Rattle.plan_contributions.specs.Contributions.{Contribution, gives, reads, active, inactive, mode, mode_event, mode_event_name, binds, does, device, does_in, listens, mentions, unknown, coil, under, plays, row_contributions, given_by}
 use Rattle.mpf_plan.specs.Uses.{Names, names_from, number_among}
-use Rattle.mpf_plan.specs.PlanOf.{DraftView, event_of, action_of, last_switch, with_given, new_mode, with_event_in, next_binding, lists_for, with_binding, with_list_for, with_one_more, next_row, next_list, with_device, next_listener, heard_by, with_listener, first_of_last, limited_to, with_coil, condition_of, conditioned, last_conditioned, with_condition, rules_of, with_game, with_contribution, named_switch, named_coil, blank, drafted, plan_from}
+use Rattle.mpf_plan.specs.PlanOf.{DraftView, event_of, action_of, last_row, last_switch, with_given, new_mode, with_event_in, next_binding, lists_for, with_binding, with_list_for, with_one_more, next_row, next_list, with_device, next_listener, heard_by, with_listener, first_of_last, limited_to, with_coil, condition_of, conditioned, last_conditioned, with_condition, rules_of, with_game, with_contribution, named_switch, named_coil, blank, drafted, plan_from}
 use Rattle.plan_tables.specs.Inside.{name_sets_view, mode_entry_view}
 use Rattle.mpf_plan.specs.Inside.{limited_coils, draft_view}
 use Rattle.plan_contributions.specs.View.{contribution_view, contributions_view}
@@ -217,7 +217,7 @@ module _ (names : Names) where
   -- one contribution more
   counts_one : (d : DraftView) (c : Contribution) → Counts (bindings_given c) (rows_given c) (lists_given c) d (with_contribution names d c)
   counts_one d (gives t n) = given_counts t _ d
-  counts_one d (reads kind) = switch_counts (λ s. record s { kind = kind }) (λ s. refl) d
+  counts_one d (reads kind confirms) = switch_counts (λ s. record s { kind = kind; confirms_playfield = confirms }) (λ s. refl) d
   counts_one d (active n) = switch_counts (λ s. record s { active = s.active ++ event_of (names Events) n ∷ [] }) (λ s. refl) d
   counts_one d (inactive n) = switch_counts (λ s. record s { inactive = s.inactive ++ event_of (names Events) n ∷ [] }) (λ s. refl) d
   counts_one d (mode n priority game) = modes_counts (d.plan.modes ++ new_mode n priority game (event_of (names Events) (mode_event_name WillStart n)) ∷ []) d
@@ -225,9 +225,9 @@ module _ (names : Names) where
       let last = length d.plan.modes - 1 in
       modes_counts (slice_set d.plan.modes last (with_event_in which (event_of (names Events) (mode_event_name which n)) (get_or d.plan.modes last no_mode))) d
   counts_one d (binds n place aim) = binding_counts aim (next_binding d.plan (event_of (names Events) n) place aim) d
-  counts_one d (does e) = action_counts (length d.plan.lists - 1) (action_of names e) d
+  counts_one d (does e) = action_counts (length d.plan.lists - 1) (action_of names (last_row d.plan) e) d
   counts_one d (device place settings) = device_counts place settings d
-  counts_one d (does_in k e) = action_counts ((first_of_last d.plan.row_lists).0 + k) (action_of names e) d
+  counts_one d (does_in k e) = action_counts ((first_of_last d.plan.row_lists).0 + k) (action_of names (last_row d.plan) e) d
   counts_one d (listens k n) = listener_counts (number_among (names Switches) n) (next_listener d.plan k) d
   counts_one d (coil n limits) = coil_counts (number_among (names Coils) n) limits d
   counts_one d (mentions t n) = modes_counts d.plan.modes d

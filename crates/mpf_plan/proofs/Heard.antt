@@ -4,7 +4,7 @@ use Rattle.std.specs.Prelude.{Option, None, Some}
 use Rattle.std.specs.Str.{bytes_eq}
 use Rattle.std.specs.List.{All, flat_map}
 use Rattle.std.proofs.lemmas.List.Elements.{All-nil, All-cons, All-append, All-head, All-tail}
-use Rattle.mpf_sections.specs.Rows.{Written, Entry, Player, Switch, VariableItem, VariablePlayer, Shot, ShotGroup, GameSettings, ModeSettings, SectionRows}
+use Rattle.mpf_sections.specs.Rows.{Written, Entry, Player, Switch, VariableItem, VariablePlayer, Shot, ShotGroup, BallDevice, GameSettings, ModeSettings, SectionRows}
 use Rattle.mpf_config.specs.Rows.{Rows}
 use Rattle.mpf_sections.specs.Typed.{switches_name, event_player_name, counters_name, accruals_name, sequences_name, timers_name, switch_of, event_player_of}
 use Rattle.mpf_sections.specs.TypedCoils.{coils_name, coil_player_name, coil_of, coil_player_of}
@@ -21,10 +21,12 @@ use Rattle.machine_definitions.specs.Shots.{Profile}
 use Rattle.plan_tables.specs.declared.devices.Act.{Act}
 use Rattle.plan_contributions.specs.DeviceEntries.{Device, device_of}
 use Rattle.plan_contributions.specs.ShotEntries.{shot_acts, lone_device, group_device}
+use Rattle.plan_contributions.specs.BallEntries.{is_known, ball_device_from}
+use Rattle.plan_rows.specs.declared.destination.Destination.{Destination}
 use Rattle.plan_rows.specs.Seats.{Seat}
 use Rattle.plan_rows.specs.Members.{Members}
-use Rattle.plan_contributions.specs.Contributions.{Contribution, gives, reads, active, inactive, mode, mode_event, binds, does, device, does_in, listens, mentions, unknown, coil, under, plays, bound, switch_contributions, player_contributions, coil_contributions, coil_player_contributions, item_contributions, variable_player_contributions, game_contributions, controls, mode_contributions, act_binding, effects_from, listens_from, device_contributions, where_device, unknown_unless, shot_switch, act_at, seated, shot_contributions, group_contributions, machine_device, machine_entry_contributions, entry_contributions, alone_contributions, player_entry_contributions, row_contributions, given_by, contributions_of}
-use Rattle.plan_rows.specs.Rows.{Row, entry, alone, shot, group, player, of_mode, rows_of}
+use Rattle.plan_contributions.specs.Contributions.{Contribution, gives, reads, active, inactive, mode, mode_event, binds, does, device, does_in, listens, mentions, unknown, coil, under, plays, bound, switch_contributions, player_contributions, coil_contributions, coil_player_contributions, item_contributions, variable_player_contributions, game_contributions, controls, mode_contributions, act_binding, effects_from, listens_from, device_contributions, where_device, unknown_unless, shot_switch, act_at, seated, shot_contributions, group_contributions, ball_device_contributions, machine_device, machine_entry_contributions, entry_contributions, alone_contributions, player_entry_contributions, row_contributions, given_by, contributions_of}
+use Rattle.plan_rows.specs.Rows.{Row, entry, alone, shot, group, ball_device, player, of_mode, rows_of}
 use Rattle.plan_contributions.specs.Facts.{row_after}
 use Rattle.plan_contributions.proofs.RowFacts.{All-each, All-made}
 use Rattle.mpf_plan.proofs.Usual.{IsUsual, of_switch, of_bound, of_player, of_coil_player, of_device, of_unknown, of_shot_switch, of_acts_at, of_controls}
@@ -56,7 +58,7 @@ AreQuiet cs = All IsQuiet cs
 usual_quiet : IsUsual IsQuiet (λ e. Unit {0})
 usual_quiet = record {
   given = λ n. refl;
-  read = λ kind. tt;
+  read = λ kind confirms. tt;
   on = λ n. tt;
   off = λ n. tt;
   bindings = λ n place aim. tt;
@@ -121,7 +123,7 @@ quiet_controls s = of_controls IsQuiet (λ e. Unit {0}) usual_quiet s
 heard_any : (o : Option Place) (cs : List Contribution) → AreHeard None cs → AreHeard o cs
 heard_any o [] h = tt
 heard_any o (gives t n ∷ cs) h = (h.0, heard_any o cs h.1)
-heard_any o (reads kind ∷ cs) h = (tt, heard_any o cs h.1)
+heard_any o (reads kind confirms ∷ cs) h = (tt, heard_any o cs h.1)
 heard_any o (active n ∷ cs) h = (tt, heard_any o cs h.1)
 heard_any o (inactive n ∷ cs) h = (tt, heard_any o cs h.1)
 heard_any o (mode n priority game ∷ cs) h = (tt, h.1)
@@ -174,7 +176,7 @@ abbrev ListensToNone : Option Device → Type 0
 ListensToNone None = Unit {0}
 ListensToNone (Some d) = d.listens ≡ []
 
--- such are all but flippers and autofire coils
+-- such are all but flippers, autofire coils and ball devices
 listens_to_none : (section : List ℕ) (e : Entry) → ListensToNone (device_of section e)
 unfolding device_of
 listens_to_none section e = when (bytes_eq section counters_name) _ _ refl (when (bytes_eq section accruals_name) _ _ refl (when (bytes_eq section sequences_name) _ _ refl (when (bytes_eq section timers_name) _ None refl tt)))
@@ -234,11 +236,18 @@ heard_group place g m =
     heard_append (unknown_unless m.all_known) (device_contributions place (group_device g m)) None (quiet_heard (unknown_unless m.all_known) None (quiet_unknown m.all_known))
     (silent_device place (group_device g m) refl)
 
+heard_ball_device : (machine : List SectionRows) (d : BallDevice) (to : Destination) → AreHeard None (ball_device_contributions machine d to)
+unfolding ball_device_contributions
+heard_ball_device machine d to =
+    heard_append (unknown_unless (is_known to)) (device_contributions Machine (ball_device_from machine d to)) None (quiet_heard (unknown_unless (is_known to)) None (quiet_unknown (is_known to)))
+    (heard_device (ball_device_from machine d to))
+
 heard_row : (machine : List SectionRows) (r : Row) → AreHeard None (row_contributions machine r)
 unfolding mode_contributions
 heard_row machine (entry place section e) = heard_entry machine place section e
 heard_row machine (shot place s seat known p) = heard_shot place s seat known p
 heard_row machine (group place g m) = heard_group place g m
+heard_row machine (ball_device d to) = heard_ball_device machine d to
 heard_row machine (alone place section e) = quiet_heard (alone_contributions machine place section e) None (quiet_alone machine place section e)
 heard_row machine (player place section p) = quiet_heard (player_entry_contributions machine place section p) None (quiet_player_entry machine place section p)
 heard_row machine (of_mode name s) = (tt, (tt, (tt, (tt, (tt, quiet_heard (controls s) None (quiet_controls s))))))

@@ -19,6 +19,10 @@ pub mod RowOwners
 pub mod Owned
 pub mod GameNames
 pub mod GameMade
+pub mod BallActions
+pub mod Listening
+pub mod RowActions
+pub mod WithBalls
 pub mod SoundDraft
 pub mod ModesMade
 pub mod ModeWorks

@@ -25,6 +25,7 @@ use Rattle.mpf_plan.proofs.GameNames.{not_of_mode}
 use Rattle.mpf_plan.proofs.Heard.{rows_are_heard}
 use Rattle.mpf_plan.proofs.Numbers.{at_number}
 use Rattle.plan_contributions.proofs.Aimed.{rows_are_aimed}
+use Rattle.plan_contributions.proofs.BallRows.{rows_are_fitting, targets_are_rows, drains_are_in_games}
 use Rattle.plan_contributions.proofs.RowFacts.{rows_are_open, rows_are_placed}
 use Rattle.mpf_plan.proofs.Ready.{rows_are_ready}
 use Rattle.mpf_plan.proofs.SoundDraft.{has_entries}
@@ -116,7 +117,7 @@ module _ (rows : Rows) where
 
     known : (which : ModeEvent) → number_among (names Events) (mode_event_name which row.name) < length (names Events)
     known which =
-        let entries = has_entries (contributions_of rows) (rows_are_open rows) (rows_are_placed rows) (rows_are_aimed rows) (rows_are_heard rows) (rows_are_ready rows) in
+        let entries = has_entries (contributions_of rows) (rows_are_open rows) (rows_are_placed rows) (rows_are_aimed rows) (rows_are_heard rows) (targets_are_rows rows) (rows_are_ready rows) (rows_are_fitting rows) (drains_are_in_games rows) in
         let at = subst (IsModeWithin (length plan.events)) made_at (All-get_or (IsModeWithin (length plan.events)) plan.modes m.0 no_mode within entries.modes) in
         subst (λ es. number_among (names Events) (mode_event_name which row.name) < length es) (names-from (contributions_of rows) Events) (by which at)
       where

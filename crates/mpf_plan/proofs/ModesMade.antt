@@ -19,15 +19,18 @@ use Rattle.plan_tables.specs.declared.entries.ModeEvent.{ModeEvent}
 use Rattle.plan_tables.specs.declared.entries.ModeEvent.TheVariants.{WillStart, Starting, Started, Stopping, Stopped}
 use Rattle.plan_tables.specs.declared.table.Table.TheVariants.{Events}
 use Rattle.plan_tables.specs.PlanView.{PlanMode, no_mode, event_among}
-use Rattle.mpf_sections.specs.Rows.{Shot, ShotGroup}
+use Rattle.mpf_sections.specs.Rows.{Shot, ShotGroup, BallDevice}
 use Rattle.mpf_sections.specs.TypedShots.{shots_name, shot_groups_name, shot_of, shot_group_of}
 use Rattle.machine_definitions.specs.Shots.{Profile}
 use Rattle.plan_contributions.specs.DeviceEntries.{Device, device_of}
 use Rattle.plan_contributions.specs.ShotEntries.{shot_acts, lone_device, group_device}
-use Rattle.plan_rows.specs.Seats.{Seat, seat_of, rows_after_text}
+use Rattle.mpf_sections.specs.TypedBalls.{ball_devices_name, ball_device_of}
+use Rattle.plan_contributions.specs.BallEntries.{is_known, ball_device_from}
+use Rattle.plan_rows.specs.declared.destination.Destination.{Destination}
+use Rattle.plan_rows.specs.Seats.{Seat, seat_of, destination_of, rows_after_text}
 use Rattle.plan_rows.specs.Members.{Members}
-use Rattle.plan_contributions.specs.Contributions.{Contribution, gives, mode, mode_event, mode_event_name, mentions, switch_contributions, coil_contributions, later_events, controls, mode_contributions, act_binding, effects_from, listens_from, device_contributions, where_device, unknown_unless, shot_switch, act_at, seated, shot_contributions, group_contributions, machine_device, machine_entry_contributions, entry_contributions, alone_contributions, player_entry_contributions, row_contributions, given_by, contributions_of}
-use Rattle.plan_rows.specs.Rows.{Row, entry, alone, shot, group, player, of_mode, shot_row, group_row, entry_row, rows_from, rows_in, text_rows, mode_rows, modes_rows, rows_of}
+use Rattle.plan_contributions.specs.Contributions.{Contribution, gives, mode, mode_event, mode_event_name, mentions, switch_contributions, coil_contributions, later_events, controls, mode_contributions, act_binding, effects_from, listens_from, device_contributions, where_device, unknown_unless, shot_switch, act_at, seated, shot_contributions, group_contributions, ball_device_contributions, machine_device, machine_entry_contributions, entry_contributions, alone_contributions, player_entry_contributions, row_contributions, given_by, contributions_of}
+use Rattle.plan_rows.specs.Rows.{Row, entry, alone, shot, group, ball_device, player, of_mode, shot_row, group_row, ball_device_row, other_row, entry_row, rows_from, rows_in, text_rows, mode_rows, modes_rows, rows_of}
 use Rattle.mpf_plan.specs.Uses.{Names, names_from, number_among}
 use Rattle.mpf_plan.specs.PlanOf.{DraftView, event_of, new_mode, with_event_in, last_with_event, with_contribution, blank, drafted, plan_from}
 use Rattle.mpf_plan.proofs.Drafted.{given_plan}
@@ -135,6 +138,12 @@ module _ (names : Names) where
   in_group place g m =
       both (unknown_unless m.all_known) (device_contributions place (group_device g m)) (quiet_leaves (unknown_unless m.all_known) (quiet_unknown m.all_known)) (in_device place (group_device g m))
 
+  in_ball_device : (machine : List SectionRows) (d : BallDevice) (to : Destination) → Leaves (ball_device_contributions machine d to)
+  unfolding ball_device_contributions
+  in_ball_device machine d to =
+      both (unknown_unless (is_known to)) (device_contributions Machine (ball_device_from machine d to)) (quiet_leaves (unknown_unless (is_known to)) (quiet_unknown (is_known to)))
+      (in_device Machine (ball_device_from machine d to))
+
   in_player_entry : (machine : List SectionRows) (place : Place) (section : List ℕ) (p : Player) → Leaves (player_entry_contributions machine place section p)
   in_player_entry machine place section p = quiet_leaves (player_entry_contributions machine place section p) (quiet_player_entry machine place section p)
 
@@ -175,6 +184,7 @@ module _ (names : Names) where
   row_adds machine (alone place section e) ms = quiet_leaves (alone_contributions machine place section e) (quiet_alone machine place section e) ms ∙ sym (append-nil ms)
   row_adds machine (shot place s seat known p) ms = in_shot place s seat known p ms ∙ sym (append-nil ms)
   row_adds machine (group place g m) ms = in_group place g m ms ∙ sym (append-nil ms)
+  row_adds machine (ball_device d to) ms = in_ball_device machine d to ms ∙ sym (append-nil ms)
   row_adds machine (player place section p) ms = in_player_entry machine place section p ms ∙ sym (append-nil ms)
   row_adds machine (of_mode name s) ms = mode_adds name s ms
 
@@ -191,28 +201,37 @@ module _ (names : Names) where
   none_mapped make none [] = refl
   none_mapped make none (x ∷ xs) = λ i. none x i ++ none_mapped make none xs i
 
-  module _ (rows : Rows) (place : Place) (seat : List ℕ → Option Seat) where
-    none_entry : (name : List ℕ) (e : Entry) → modes_of (entry_row rows place seat name e) ≡ []
+  none_other : (destination : List ℕ → Destination) (place : Place) (name : List ℕ) (e : Entry) → modes_of (other_row destination place name e) ≡ []
+  none_other destination Machine name e = by (bytes_eq name ball_devices_name)
+    where
+      by : (b : Bool) → modes_of (if b then ball_device_row destination (ball_device_of e) else entry Machine name e) ≡ []
+      by true = refl
+      by false = refl
+  none_other destination Control name e = refl
+  none_other destination Mode name e = refl
+
+  module _ (rows : Rows) (place : Place) (seat : List ℕ → Option Seat) (destination : List ℕ → Destination) where
+    none_entry : (name : List ℕ) (e : Entry) → modes_of (entry_row rows place seat destination name e) ≡ []
     none_entry name e = by (bytes_eq name shots_name) (bytes_eq name shot_groups_name)
       where
-        by : (s g : Bool) → modes_of (if s then shot_row rows place seat (shot_of e) else (if g then group_row rows place seat (shot_group_of e) else entry place name e)) ≡ []
+        by : (s g : Bool) → modes_of (if s then shot_row rows place seat (shot_of e) else (if g then group_row rows place seat (shot_group_of e) else other_row destination place name e)) ≡ []
         by true g = refl
         by false true = refl
-        by false false = refl
+        by false false = none_other destination place name e
 
-    none_from : (name : List ℕ) (content : Content) → flat_map modes_of (rows_from rows place seat name content) ≡ []
-    none_from name (entries es) = none_mapped (entry_row rows place seat name) (none_entry name) es
+    none_from : (name : List ℕ) (content : Content) → flat_map modes_of (rows_from rows place seat destination name content) ≡ []
+    none_from name (entries es) = none_mapped (entry_row rows place seat destination name) (none_entry name) es
     none_from name (players ps) = none_mapped (player place name) (λ p. refl) ps
     none_from name (sections.entry e) = refl
     none_from name (sections.listed ws) = refl
 
-    none_in : (ss : List SectionRows) → flat_map modes_of (rows_in rows place seat ss) ≡ []
+    none_in : (ss : List SectionRows) → flat_map modes_of (rows_in rows place seat destination ss) ≡ []
     none_in [] = refl
     none_in (s ∷ ss) =
-        flat_map-append modes_of (rows_from rows place seat s.name s.content) (rows_in rows place seat ss) ∙ (λ i. none_from s.name s.content i ++ none_in ss i)
+        flat_map-append modes_of (rows_from rows place seat destination s.name s.content) (rows_in rows place seat destination ss) ∙ (λ i. none_from s.name s.content i ++ none_in ss i)
 
   none_of_text : (rows : Rows) (place : Place) (n : ℕ) (ss : List SectionRows) → flat_map modes_of (text_rows rows place n ss) ≡ []
-  none_of_text rows place n ss = none_in rows place (seat_of place n ss) ss
+  none_of_text rows place n ss = none_in rows place (seat_of place n ss) (destination_of place n ss) ss
 
   of_modes : (rows : Rows) (n : ℕ) (ms : List ModeRows) → flat_map modes_of (modes_rows rows n ms) ≡ map made ms
   of_modes rows n [] = refl

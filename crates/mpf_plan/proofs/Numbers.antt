@@ -4,9 +4,10 @@ use Rattle.std.specs.Str.{bytes_eq}
 use Rattle.std.specs.List.{position_or_len}
 use Rattle.std.proofs.lemmas.Slice.Eq.{bytes_eq-Decides}
 use Rattle.plan_tables.specs.declared.entries.Action.{Action}
-use Rattle.plan_tables.specs.declared.entries.Action.TheVariants.{Post, Pulse, Enable, Disable, Change}
+use Rattle.plan_tables.specs.declared.entries.Action.TheVariants.{Post, Pulse, Enable, Disable, Change, Enter, Leave, Lose, Arrive}
+use Rattle.plan_tables.specs.declared.devices.RowId.{RowId}
 use Rattle.plan_tables.specs.declared.table.Table.TheVariants.{Events, Coils, Variables}
-use Rattle.plan_contributions.specs.DeviceEntries.{pulse, enable, disable, Effect, posts, works, changes}
+use Rattle.plan_contributions.specs.DeviceEntries.{pulse, enable, disable, Effect, posts, works, changes, enters, leaves, loses, arrives}
 use Rattle.plan_contributions.specs.UsedNames.{used_by}
 use Rattle.mpf_plan.specs.Uses.{Names, number_among}
 use Rattle.mpf_plan.specs.PlanOf.{action_of}
@@ -30,11 +31,19 @@ named_effect names (Pulse c ms power) = works (slice_index_or (names Coils) c.0 
 named_effect names (Enable c power) = works (slice_index_or (names Coils) c.0 []) (enable power)
 named_effect names (Disable c) = works (slice_index_or (names Coils) c.0 []) disable
 named_effect names (Change v action n e) = changes (slice_index_or (names Variables) v.0 []) action n
+named_effect names (Enter r e drain) = enters (slice_index_or (names Events) e.0 []) drain
+named_effect names (Leave r) = leaves
+named_effect names (Lose r) = loses
+named_effect names (Arrive r) = arrives
 
 -- an effect is what its action does, by names
-pub effect_named : (names : Names) (e : Effect) → IsAmong names (used_by e) → named_effect names (action_of names e) ≡ e
-effect_named names (posts n) known = ap posts (at_number (names Events) n known)
-effect_named names (works n (pulse ms power)) known = ap (λ m. works m (pulse ms power)) (at_number (names Coils) n known)
-effect_named names (works n (enable power)) known = ap (λ m. works m (enable power)) (at_number (names Coils) n known)
-effect_named names (works n disable) known = ap (λ m. works m disable) (at_number (names Coils) n known)
-effect_named names (changes v action n) known = ap (λ m. changes m action n) (at_number (names Variables) v known)
+pub effect_named : (names : Names) (r : RowId) (e : Effect) → IsAmong names (used_by e) → named_effect names (action_of names r e) ≡ e
+effect_named names r (posts n) known = ap posts (at_number (names Events) n known)
+effect_named names r (works n (pulse ms power)) known = ap (λ m. works m (pulse ms power)) (at_number (names Coils) n known)
+effect_named names r (works n (enable power)) known = ap (λ m. works m (enable power)) (at_number (names Coils) n known)
+effect_named names r (works n disable) known = ap (λ m. works m disable) (at_number (names Coils) n known)
+effect_named names r (changes v action n) known = ap (λ m. changes m action n) (at_number (names Variables) v known)
+effect_named names r (enters n drain) known = ap (λ m. enters m drain) (at_number (names Events) n known)
+effect_named names r leaves known = refl
+effect_named names r loses known = refl
+effect_named names r arrives known = refl

@@ -101,7 +101,7 @@ module _ (names : Names) (final : List DeviceRow) (d : DraftView) (o : Option Pl
 
     pub own_one : (c : Contribution) → IsPlaced o c → IsBoundOn final d.plan c → IsHeard o c → IsOwn final (row_after o c) (with_contribution names d c).plan
     own_one (gives t n) is on heard = subst (IsOwn final o) (sym (given_plan t (number_among (names t) n) d)) own
-    own_one (reads kind) is on heard = record { bindings = own.bindings; listeners = changed_switch (λ s. record s { kind = kind }) (λ s h. h) d.last; last = own.last }
+    own_one (reads kind confirms) is on heard = record { bindings = own.bindings; listeners = changed_switch (λ s. record s { kind = kind; confirms_playfield = confirms }) (λ s h. h) d.last; last = own.last }
     own_one (active n) is on heard = record {
       bindings = own.bindings;
       listeners = changed_switch (λ s. record s { active = s.active ++ event_of (names Events) n ∷ [] }) (λ s h. h) d.last;

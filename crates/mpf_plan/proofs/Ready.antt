@@ -1,16 +1,16 @@
 -- Where a contribution speaks of an event whose name it does not use, another contribution uses that name; and what is said
 -- of the game is within its limits.
-use Rattle.std.proofs.Common.{◌≡◌, ℕ, zero, suc, ◌<◌, ◌≤◌, Bool, true, false, if◌then◌else◌, ◌||◌, ◌&&◌, nat_le, List, [], ◌∷◌, ◌++◌, length, map, get_or, codes, refl, ◌∙◌, ap, arith}
+use Rattle.std.proofs.Common.{◌≡◌, ℕ, zero, suc, ◌+◌, ◌<◌, ◌≤◌, Bool, true, false, if◌then◌else◌, ◌||◌, ◌&&◌, nat_le, List, [], ◌∷◌, ◌++◌, length, map, get_or, codes, refl, ◌∙◌, ap, arith}
 use Rattle.std.specs.Prelude.{pos, Option, None, Some}
 use Rattle.std.specs.Str.{bytes_eq}
 use Rattle.std.specs.List.{All, flat_map, list_any}
 use Rattle.std.proofs.lemmas.Bool.{and_parts, leb-true, or_left, or_right}
 use Rattle.std.proofs.lemmas.Grind.{flat_map-append}
-use Rattle.std.proofs.lemmas.List.Elements.{All-nil, All-cons, All-append, All-map, All-weaker, All-from_get_or}
+use Rattle.std.proofs.lemmas.List.Elements.{All-nil, All-cons, All-append, All-map, All-weaker, All-head, All-tail, All-from_get_or, All-from_recursion}
 use Rattle.std.proofs.lemmas.List.Folds.{list_any-append, list_any_at}
 use Rattle.std.proofs.lemmas.Slice.Eq.{bytes_eq-Decides}
 use Rattle.section_tables.specs.Rows.{number, Value, one}
-use Rattle.mpf_sections.specs.Rows.{Entry, Player, Block, Flipper, VariableItem, VariablePlayer, Shot, ShotGroup, ModeSettings, SectionRows, Written}
+use Rattle.mpf_sections.specs.Rows.{Entry, Player, Block, Flipper, VariableItem, VariablePlayer, Shot, ShotGroup, BallDevice, ModeSettings, SectionRows, Written}
 use Rattle.mpf_config.specs.Rows.{Rows}
 use Rattle.mpf_sections.specs.Typed.{switches_name, event_player_name, counters_name, accruals_name, sequences_name, timers_name, switch_of, event_player_of, counter_of, step_block_of, timer_of, setting_of, row_or, content_named, natural_within}
 use Rattle.mpf_sections.specs.TypedCoils.{coils_name, coil_player_name, flippers_name, autofire_coils_name, coil_of, coil_player_of, flipper_of}
@@ -23,14 +23,16 @@ use Rattle.plan_rows.specs.declared.place.Place.TheVariants.{Machine, Control, M
 use Rattle.plan_contributions.specs.declared.contribution.Aim.TheVariants.{Run}
 use Rattle.plan_tables.specs.declared.table.Table.TheVariants.{Events}
 use Rattle.plan_contributions.specs.VariableEntries.{item_change}
-use Rattle.plan_contributions.specs.DeviceEntries.{texts, disable, Effect, posts, works, changes, Device, device_of, block_event, block_lists, or_own, timer_event, timer_endings}
+use Rattle.plan_contributions.specs.DeviceEntries.{texts, disable, Effect, posts, works, changes, enters, leaves, loses, arrives, Device, device_of, block_event, block_lists, or_own, timer_event, timer_endings}
 use Rattle.machine_definitions.specs.Shots.{Profile}
 use Rattle.plan_contributions.specs.ShotEntries.{shot_events, shot_lists, group_events, state_lists, group_lists, shot_acts, lone_device, group_device}
+use Rattle.plan_contributions.specs.BallEntries.{eject_pulse, ball_lists, is_known, ball_device_from}
+use Rattle.plan_rows.specs.declared.destination.Destination.{Destination}
 use Rattle.plan_rows.specs.Seats.{Seat}
 use Rattle.plan_rows.specs.Members.{Members}
 use Rattle.plan_contributions.specs.CoilEntries.{flipper_on, flipper_off, flipper_device}
-use Rattle.plan_contributions.specs.Contributions.{Contribution, device, does, does_in, mentions, coil, plays, bound, switch_contributions, player_contributions, coil_contributions, coil_player_contributions, item_contributions, variable_player_contributions, game_contributions, mode, later_events, controls, mode_contributions, act_binding, effects_from, listens_from, device_contributions, where_device, unknown_unless, shot_switch, act_at, seated, shot_contributions, group_contributions, machine_device, machine_entry_contributions, entry_contributions, alone_contributions, player_entry_contributions, row_contributions, given_by, contributions_of}
-use Rattle.plan_rows.specs.Rows.{Row, entry, alone, shot, group, player, of_mode, rows_of}
+use Rattle.plan_contributions.specs.Contributions.{Contribution, device, does, does_in, mentions, coil, plays, bound, switch_contributions, player_contributions, coil_contributions, coil_player_contributions, item_contributions, variable_player_contributions, game_contributions, mode, later_events, controls, mode_contributions, act_binding, effects_from, listens_from, device_contributions, where_device, unknown_unless, shot_switch, act_at, seated, shot_contributions, group_contributions, ball_device_contributions, machine_device, machine_entry_contributions, entry_contributions, alone_contributions, player_entry_contributions, row_contributions, given_by, contributions_of}
+use Rattle.plan_rows.specs.Rows.{Row, entry, alone, shot, group, ball_device, player, of_mode, rows_of}
 use Rattle.plan_contributions.specs.UsedNames.{used, name_in_table, uses}
 use Rattle.plan_contributions.specs.Facts.{AreRules}
 use Rattle.plan_contributions.proofs.RowFacts.{All-listens, All-made}
@@ -38,6 +40,14 @@ use Rattle.mpf_plan.specs.Uses.{names_from, number_among}
 use Rattle.mpf_plan.proofs.Among.{place_within}
 use Rattle.mpf_plan.proofs.Lacking.{any_first}
 use Rattle.mpf_plan.proofs.Usual.{IsUsual, of_switch, of_bound, of_player, of_coil_player, of_device, of_unknown, of_shot_switch, of_acts_at, of_controls}
+
+-- what happens with balls is in one of seven lists
+abbrev pub IsLow : ℕ → Effect → Type 0
+IsLow k (enters e drain) = k < 7
+IsLow k leaves = k < 7
+IsLow k loses = k < 7
+IsLow k arrives = k < 7
+IsLow k _ = Unit {0}
 
 -- Q holds of each name of an event of which a contribution speaks, where it does not use that name
 module _ (Q : List ℕ → Type 0) where
@@ -47,19 +57,18 @@ module _ (Q : List ℕ → Type 0) where
 
   abbrev pub IsReady : Contribution → Type 0
   IsReady (does e) = IsReadyEffect e
-  IsReady (does_in k e) = IsReadyEffect e
+  IsReady (does_in k e) = IsReadyEffect e × IsLow k e
   IsReady (plays min_balls balls_per_game max_players) = All Q game_event_names × AreRules min_balls balls_per_game max_players
   IsReady _ = Unit {0}
 
 module _ (Q R : List ℕ → Type 0) (weaker : (n : List ℕ) → Q n → R n) where
   effect_weaker : (e : Effect) → IsReadyEffect Q e → IsReadyEffect R e
   effect_weaker (changes v action n) is = weaker (player_event v) is
-  effect_weaker (posts n) is = tt
-  effect_weaker (works n deed) is = tt
+  effect_weaker _ is = tt
 
   pub ready_weaker : (c : Contribution) → IsReady Q c → IsReady R c
   ready_weaker (does e) is = effect_weaker e is
-  ready_weaker (does_in k e) is = effect_weaker e is
+  ready_weaker (does_in k e) is = (effect_weaker e is.0, is.1)
   ready_weaker (plays min_balls balls_per_game max_players) is = (All-weaker Q R weaker game_event_names is.0, is.1)
   ready_weaker _ is = tt
 
@@ -96,11 +105,12 @@ both cs ds a b =
     (All-weaker (IsReady (IsUsed cs)) (IsReady all) (ready_weaker (IsUsed cs) all (used_left cs ds)) cs a)
     (All-weaker (IsReady (IsUsed ds)) (IsReady all) (ready_weaker (IsUsed ds) all (used_right cs ds)) ds b)
 
--- ---- contributions that speak of no such event
+-- ---- contributions that speak of no such event, nor of balls
 
 abbrev IsPlainEffect : Effect → Type 0
-IsPlainEffect (changes v action n) = ⊥
-IsPlainEffect _ = Unit {0}
+IsPlainEffect (posts n) = Unit {0}
+IsPlainEffect (works n deed) = Unit {0}
+IsPlainEffect _ = ⊥
 
 abbrev IsPlain : Contribution → Type 0
 IsPlain (does e) = IsPlainEffect e
@@ -112,20 +122,25 @@ plain_ready : (cs : List Contribution) → All IsPlain cs → AreReady cs
 plain_ready cs plain = All-weaker IsPlain (IsReady (IsUsed cs)) by cs plain
   where
     effect : (e : Effect) → IsPlainEffect e → IsReadyEffect (IsUsed cs) e
-    effect (changes v action n) is = absurd is
     effect (posts n) is = tt
     effect (works n deed) is = tt
+    effect _ is = absurd is
+
+    low : (k : ℕ) (e : Effect) → IsPlainEffect e → IsLow k e
+    low k (posts n) is = tt
+    low k (works n deed) is = tt
+    low k _ is = absurd is
 
     by : (c : Contribution) → IsPlain c → IsReady (IsUsed cs) c
     by (does e) is = effect e is
-    by (does_in k e) is = effect e is
+    by (does_in k e) is = (effect e is, low k e is)
     by (plays min_balls balls_per_game max_players) is = absurd is
     by _ is = tt
 
 usual_plain : IsUsual IsPlain IsPlainEffect
 usual_plain = record {
   given = λ n. tt;
-  read = λ kind. tt;
+  read = λ kind confirms. tt;
   on = λ n. tt;
   off = λ n. tt;
   bindings = λ n place aim. tt;
@@ -138,7 +153,7 @@ usual_plain = record {
   worked = λ n deed. tt;
 }
 
--- ---- devices change no variables
+-- ---- devices change no variables, and but for ball devices nothing happens with balls by them
 
 abbrev ArePlain : List (List Effect) → Type 0
 ArePlain lists = All (All IsPlainEffect) lists
@@ -258,6 +273,61 @@ ready_group place g m =
     both (unknown_unless m.all_known) (device_contributions place (group_device g m)) (ready_unknown m.all_known)
     (ready_device place (group_device g m) (plain_group m.profile g.name.text (texts g.shots)))
 
+-- ---- ball devices
+
+-- an effect that changes no variable
+abbrev IsSteady : Effect → Type 0
+IsSteady (changes v action n) = ⊥
+IsSteady _ = Unit {0}
+
+steady_ready : (Q : List ℕ → Type 0) (e : Effect) → IsSteady e → IsReadyEffect Q e
+steady_ready Q (changes v action n) is = absurd is
+steady_ready Q _ is = tt
+
+low_list : (k : ℕ) (e : Effect) → k < 7 → IsLow k e
+low_list k (posts n) low = tt
+low_list k (works n deed) low = tt
+low_list k (changes v action n) low = tt
+low_list k _ low = low
+
+-- seven lists at most
+ready_lists : (Q : List ℕ → Type 0) (k : ℕ) (ls : List (List Effect)) → k + length ls ≤ 7 → All (All IsSteady) ls → All (IsReady Q) (effects_from k ls)
+ready_lists Q k [] few each = All-nil (IsReady Q)
+ready_lists Q k (es ∷ rest) few each =
+    let here = All-head (All IsSteady) es rest each in
+    All-append (IsReady Q) (map (does_in k) es) (effects_from (suc k) rest)
+    (All-map (IsReady Q) (does_in k) es (λ i d within. (steady_ready Q (get_or es i d) (here i d within), low_list k (get_or es i d) (omega (arith, few)))))
+    (ready_lists Q (suc k) rest (omega (arith, few)) (All-tail (All IsSteady) es rest each))
+
+steady_list : (e : Effect) → IsSteady e → All IsSteady (e ∷ [])
+steady_list e is = All-cons IsSteady e [] is (All-nil IsSteady)
+
+steady_pulse : (machine : List SectionRows) (o : Option Written) → All IsSteady (eject_pulse machine o)
+steady_pulse machine None = All-nil IsSteady
+steady_pulse machine (Some w) = steady_list (works _ _) tt
+
+steady_ball : (machine : List SectionRows) (d : BallDevice) → All (All IsSteady) (ball_lists machine d)
+steady_ball machine d =
+    All-from_recursion (All IsSteady) (ball_lists machine d) (
+      steady_list (enters _ _) tt,
+      (All-cons IsSteady (posts _) (posts _ ∷ eject_pulse machine d.eject_coil) tt (All-cons IsSteady (posts _) (eject_pulse machine d.eject_coil) tt (steady_pulse machine d.eject_coil)),
+      (steady_list leaves tt, (steady_list loses tt, (steady_list (posts _) tt, (steady_list arrives tt, (steady_list (posts _) tt, tt)))))),
+    )
+
+ready_ball_device : (machine : List SectionRows) (d : BallDevice) (to : Destination) → AreReady (ball_device_contributions machine d to)
+unfolding ball_device_contributions device_contributions
+ready_ball_device machine d to =
+    let made = ball_device_from machine d to in
+    let cs = device_contributions Machine made in
+    let listening = listens_from 0 made.listens in
+    let named = map (mentions Events) made.mentioned in
+    let doing = effects_from 0 made.lists in
+    let all = IsReady (IsUsed cs) in
+    both (unknown_unless (is_known to)) cs (ready_unknown (is_known to))
+    (All-cons all (device Machine made.settings) (listening ++ ([] ++ (named ++ doing))) tt
+    (All-append all listening ([] ++ (named ++ doing)) (All-listens all (λ n. Unit {0}) (λ k n h. tt) 0 made.listens (λ i n within. tt))
+    (All-append all named doing (All-made all (mentions Events) (λ n. tt) made.mentioned) (ready_lists (IsUsed cs) 0 made.lists (omega arith) (steady_ball machine d)))))
+
 -- ---- the game
 
 within_range : (least greatest otherwise : ℕ) → least ≤ otherwise → otherwise ≤ greatest → (o : Option Value) → (least ≤ natural_within least greatest otherwise o) × (natural_within least greatest otherwise o ≤ greatest)
@@ -374,6 +444,7 @@ ready_row machine (entry place section e) = ready_entry machine place section e
 ready_row machine (alone place section e) = ready_alone machine place section e
 ready_row machine (shot place s seat known p) = ready_shot place s seat known p
 ready_row machine (group place g m) = ready_group place g m
+ready_row machine (ball_device d to) = ready_ball_device machine d to
 ready_row machine (player place section p) = ready_player_entry machine place section p
 ready_row machine (of_mode name s) =
     let first = mode name s.priority s.game ∷ later_events name in

@@ -8,12 +8,14 @@ use Rattle.std.proofs.lemmas.List.Elements.{All-nil, All-cons}
 use Rattle.std.proofs.lemmas.List.Sums.{sum_by-cons}
 use Rattle.std.proofs.lemmas.Option.{slice_get-map, slice_get_within, slice_get-get_or, same_Some}
 use Rattle.plan_tables.specs.declared.devices.DeviceRow.{DeviceRow}
+use Rattle.plan_tables.specs.declared.devices.Settings.{Settings}
 use Rattle.plan_tables.specs.declared.entries.Owner.{Owner}
 use Rattle.plan_tables.specs.PlanView.{PlanView, no_row}
 use Rattle.plan_contributions.specs.declared.contribution.Aim.{Aim}
 use Rattle.plan_contributions.specs.declared.contribution.Aim.TheVariants.{On}
 use Rattle.plan_rows.specs.declared.place.Place.{Place}
 use Rattle.plan_contributions.specs.Contributions.{Contribution, gives, mode, mode_event, binds, device}
+use Rattle.plan_contributions.specs.BallFacts.{settings_given, row_settings}
 use Rattle.plan_contributions.specs.Facts.{modes_after, row_place, row_places, IsAimed, AreAimed}
 use Rattle.mpf_plan.specs.Uses.{Names, number_among}
 use Rattle.mpf_plan.specs.Numbering.{rows_given, row_count}
@@ -27,6 +29,9 @@ owner_by p = owner_at (record { 0 = p.1 - 1 }) p.0
 
 abbrev pub owners_of : List DeviceRow → List Owner
 owners_of rows = map (λ (r : DeviceRow). r.owner) rows
+
+abbrev pub settings_of : List DeviceRow → List Settings
+settings_of rows = map (λ (r : DeviceRow). r.settings) rows
 
 -- ---- rows that are made
 
@@ -54,6 +59,19 @@ module _ (names : Names) where
       ∙ ap (λ l. l ++ later) (owners_one n d c same)
       ∙ append_assoc (owners_of d.plan.rows) here later
       ∙ ap (λ l. owners_of d.plan.rows ++ l) (sym (map-append owner_by (row_place n c) (row_places (modes_after n c) cs)))
+
+  -- the rows have the settings that contributions give
+  settings_one : (d : DraftView) (c : Contribution) → settings_of (with_contribution names d c).plan.rows ≡ settings_of d.plan.rows ++ settings_given c
+  settings_one d (gives t n) = ap (λ p. settings_of p.rows) (given_plan t (number_among (names t) n) d) ∙ sym (append-nil (settings_of d.plan.rows))
+  settings_one d (device place settings) = map-append (λ (r : DeviceRow). r.settings) d.plan.rows (next_row d.plan place settings ∷ [])
+  settings_one d _ = sym (append-nil (settings_of d.plan.rows))
+
+  pub settings_fold : (cs : List Contribution) (d : DraftView) → settings_of (fold (with_contribution names) d cs).plan.rows ≡ settings_of d.plan.rows ++ row_settings cs
+  settings_fold [] d = sym (append-nil (settings_of d.plan.rows))
+  settings_fold (c ∷ cs) d =
+      settings_fold cs (with_contribution names d c)
+      ∙ ap (λ l. l ++ row_settings cs) (settings_one d c)
+      ∙ append_assoc (settings_of d.plan.rows) (settings_given c) (row_settings cs)
 
   -- rows stay, and others come after them
   abbrev Kept : List DeviceRow → List DeviceRow → Type 0

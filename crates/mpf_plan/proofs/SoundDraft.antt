@@ -1,7 +1,7 @@
 -- What contributions make has entries for all its numbers, where a mode came before what is of one.
 use Rattle.std.proofs.Common.{◌≡◌, ℕ, ◌+◌, ◌-◌, ◌<◌, ◌≤◌, ◌⊎◌, inl, inr, Bool, true, false, nat_lt, List, [], ◌∷◌, ◌++◌, length, map, fold, set, get_or, slice_index_or, refl, sym, ◌∙◌, ap, subst, arith}
-use Rattle.std.specs.Prelude.{Option, None, Some, IfSome}
-use Rattle.std.specs.List.{All}
+use Rattle.std.specs.Prelude.{Option, None, Some, IfSome, unwrap_or}
+use Rattle.std.specs.List.{All, list_any}
 use Rattle.std.proofs.lemmas.Bool.{cases_lt, ltb-true, ltb-false}
 use Rattle.std.proofs.lemmas.List.{length_push, length-map, length-set, set_past, get_or_push, get_or_append_left}
 use Rattle.std.proofs.lemmas.List.Elements.{All-nil, All-push, All-set, All-weaker, All-get_or, All-head, All-tail}
@@ -10,7 +10,7 @@ use Rattle.plan_contributions.specs.declared.contribution.Aim.TheVariants as aim
 use Rattle.plan_rows.specs.declared.place.Place.{Place}
 use Rattle.plan_rows.specs.declared.place.Place.TheVariants as places
 use Rattle.plan_tables.specs.declared.entries.Action.{Action}
-use Rattle.plan_tables.specs.declared.entries.Action.TheVariants.{Post, Pulse, Enable, Disable, Change}
+use Rattle.plan_tables.specs.declared.entries.Action.TheVariants.{Post, Pulse, Enable, Disable, Change, Enter, Leave, Lose, Arrive}
 use Rattle.plan_tables.specs.declared.entries.EventId.{EventId}
 use Rattle.plan_tables.specs.declared.entries.ModeEvent.{ModeEvent}
 use Rattle.plan_tables.specs.declared.entries.ModeEvent.TheVariants.{WillStart, Starting, Started, Stopping, Stopped}
@@ -23,27 +23,53 @@ use Rattle.plan_tables.specs.declared.entries.Condition.{Condition}
 use Rattle.plan_tables.specs.declared.entries.GameRules.{GameRules}
 use Rattle.plan_tables.specs.declared.table.Table.TheVariants.{Events, Coils, Variables}
 use Rattle.plan_tables.specs.declared.entries.ListId.{ListId}
+use Rattle.plan_tables.specs.declared.devices.BallTarget.{BallTarget}
+use Rattle.plan_tables.specs.declared.devices.BallTarget.TheVariants as ball_targets
 use Rattle.plan_tables.specs.declared.devices.DeviceRow.{DeviceRow}
 use Rattle.plan_tables.specs.declared.devices.RowId.{RowId}
 use Rattle.plan_tables.specs.declared.devices.Settings.{Settings}
+use Rattle.plan_tables.specs.declared.devices.Settings.TheVariants as kinds
 use Rattle.plan_tables.specs.Devices.{list_count}
-use Rattle.plan_tables.specs.PlanView.{PlanSwitch, PlanCoil, PlanMode, no_binding, no_mode, no_row, row_at, list_of_row, PlanView}
-use Rattle.plan_tables.specs.Valid.{IsEventWithin, IsSwitchWithin, IsListenerWithin, IsModeWithin, IsActionWithin, IsOwnerWithin, IsTargetWithin, IsConditionWithin, IsBindingWithin, IsGameWithin, IsRowWithin, HasEntries}
-use Rattle.plan_contributions.specs.DeviceEntries.{pulse, enable, disable, Effect, posts, works, changes}
+use Rattle.plan_tables.specs.PlanView.{PlanSwitch, PlanCoil, PlanMode, no_binding, no_mode, no_row, row_at, list_of_row, target_in, target_of, PlanView}
+use Rattle.plan_tables.specs.Valid.{IsEventWithin, IsSwitchWithin, IsListenerWithin, IsModeWithin, IsActionWithin, IsOwnerWithin, IsTargetWithin, IsConditionWithin, IsBindingWithin, IsGameWithin, IsTargetThere, IsRowWithin, HasGame, HasEntries}
+use Rattle.plan_contributions.specs.DeviceEntries.{pulse, enable, disable, Effect, posts, works, changes, enters, leaves, loses, arrives}
 use Rattle.plan_contributions.specs.UsedNames.{used_by}
 use Rattle.plan_contributions.specs.Contributions.{Contribution, gives, reads, active, inactive, mode, mode_event, mode_event_name, binds, does, device, does_in, listens, mentions, unknown, coil, under, plays}
 use Rattle.mpf_plan.specs.Uses.{Names, names_from, number_among}
-use Rattle.mpf_plan.specs.PlanOf.{DraftView, event_of, action_of, new_mode, with_event_in, with_mode, with_mode_event, last_mode, owner_at, target_at, next_binding, lists_for, with_list_for, with_binding, next_row, next_list, with_device, first_of_last, with_one_more, condition_of, conditioned, last_conditioned, with_condition, rules_of, with_game, with_contribution, blank, drafted}
+use Rattle.mpf_plan.specs.PlanOf.{DraftView, event_of, action_of, last_row, new_mode, with_event_in, with_mode, with_mode_event, last_mode, owner_at, target_at, next_binding, lists_for, with_list_for, with_binding, next_row, next_list, with_device, first_of_last, with_one_more, condition_of, conditioned, last_conditioned, with_condition, rules_of, with_game, with_contribution, blank, drafted}
 use Rattle.mpf_plan.proofs.Among.{IsAmong, IsKnown, all_known}
 use Rattle.mpf_plan.proofs.Drafted.{given_plan, names-from, lists_begun}
 use Rattle.mpf_plan.proofs.Heard.{AreHeard}
 use Rattle.plan_contributions.specs.Facts.{row_after, IsPlaced, ArePlaced, IsOpenPlace, IsOpenAim, IsOpen, modes_after, AreOpened, row_places, IsAimed, AreAimed}
-use Rattle.mpf_plan.proofs.RowOwners.{owner_by, owners_of, modes_come, owners_fold, rows_kept, bound_on}
+use Rattle.mpf_plan.proofs.RowOwners.{owner_by, owners_of, settings_of, settings_fold, modes_come, owners_fold, rows_kept, bound_on}
 use Rattle.mpf_plan.proofs.Owned.{IsOwnTarget, IsOwn, IsOwnListener, IsOwnSwitch, own_aim, own_then, own_blank, own_drafted}
+use Rattle.plan_contributions.specs.BallFacts.{AreFitting, row_settings, IsTargetAmong, HasTarget, is_plays, DrainsIn, AllDrainInGame}
+use Rattle.mpf_plan.proofs.BallActions.{IsOfRows, DrainsWell, drains_well, of_rows_drafted, game_played}
 use Rattle.mpf_plan.proofs.Done.{IsMet, meet_drafted}
 use Rattle.mpf_plan.proofs.GameMade.{game_made, game_within}
 use Rattle.mpf_plan.proofs.Ready.{IsReadyEffect, IsReady, IsNumberedIn, AreNumbered}
 use Rattle.mpf_plan.proofs.Steps.{All-changed}
+
+-- ---- rows that eject balls to rows that may come later
+
+-- where a device with these settings ejects balls to; the playfield, where it is no ball device
+abbrev settings_target : Settings → BallTarget
+settings_target settings = unwrap_or (target_in settings) ball_targets.Playfield
+
+-- a row is as it has to be, where there are so many rows in the end
+pub record IsRowSo (count : ℕ) (plan : PlanView) (r : RowId) : Type 0 where
+  pub number : (row_at plan r).number ≡ r
+  pub owner : IsOwnerWithin plan (row_at plan r).owner
+  pub target : IsTargetThere count (target_of plan r)
+  pub lists : (list_of_row plan r 0).0 + list_count (row_at plan r).settings ≤ length plan.lists
+
+row_within : (plan : PlanView) (r : RowId) → IsRowSo (length plan.rows) plan r → IsRowWithin plan r
+row_within plan r is = record { number = is.number; owner = is.owner; target = is.target; lists = is.lists }
+
+-- of a row that contributions give
+target_there : (all : List Settings) (count : ℕ) (settings : Settings) → length all ≡ count → IsTargetAmong all settings → IsTargetThere count (settings_target settings)
+target_there all count (kinds.BallDevice d) same is = subst (λ n. IsTargetThere n d.target) same is
+target_there all count _ same is = tt
 
 -- ---- a plan with more lists, modes and rows
 
@@ -54,7 +80,7 @@ record Grows (p q : PlanView) : Type 0 where
   lists : length p.lists ≤ length q.lists
   rows : length p.rows ≤ length q.rows
 
-module _ (p q : PlanView) (grows : Grows p q) where
+module _ (count : ℕ) (p q : PlanView) (grows : Grows p q) where
   owner_grows : (o : Owner) → IsOwnerWithin p o → IsOwnerWithin q o
   owner_grows Machine within = tt
   owner_grows (Mode m) within = omega (arith, within, grows.modes)
@@ -72,34 +98,36 @@ module _ (p q : PlanView) (grows : Grows p q) where
   binding_grows : (b : Binding) → IsBindingWithin p b → IsBindingWithin q b
   binding_grows b within = (let event = within.0 in omega (arith, event, grows.events), owner_grows b.owner within.1, target_grows b.target within.2, condition_grows b.condition within.3)
 
-  row_stays : (r : RowId) → row_at q r ≡ row_at p r → (list_of_row q r 0).0 ≡ (list_of_row p r 0).0 → IsRowWithin p r → IsRowWithin q r
+  row_stays : (r : RowId) → row_at q r ≡ row_at p r → (list_of_row q r 0).0 ≡ (list_of_row p r 0).0 → IsRowSo count p r → IsRowSo count q r
   row_stays r same first within = record {
     number = ap (λ (x : DeviceRow). x.number) same ∙ within.number;
     owner = subst (λ (x : DeviceRow). IsOwnerWithin q x.owner) (sym same) (owner_grows (row_at p r).owner within.owner);
+    target = subst (λ (x : DeviceRow). IsTargetThere count (settings_target x.settings)) (sym same) within.target;
     lists = omega (arith, within.lists, grows.lists, first, ap (λ (x : DeviceRow). list_count x.settings) same);
   }
 
-  rows_stay : q.rows ≡ p.rows → q.row_lists ≡ p.row_lists → ((r : RowId) → r.0 < length p.rows → IsRowWithin p r) → (r : RowId) → r.0 < length q.rows → IsRowWithin q r
+  rows_stay : q.rows ≡ p.rows → q.row_lists ≡ p.row_lists → ((r : RowId) → r.0 < length p.rows → IsRowSo count p r) → (r : RowId) → r.0 < length q.rows → IsRowSo count q r
   rows_stay same firsts within r inside =
       row_stays r (ap (λ rows. slice_index_or rows r.0 no_row) same) (ap (λ (ls : List ListId). (slice_index_or ls r.0 (record { 0 = 0 })).0 + 0) firsts) (within r (omega (arith, inside, ap length same)))
 
   -- a row more
   module _ (row : DeviceRow) (first : ListId) (rows : q.rows ≡ p.rows ++ row ∷ []) (firsts : q.row_lists ≡ p.row_lists ++ first ∷ []) (each : length p.row_lists ≡ length p.rows)
-      (number : row.number ≡ record { 0 = length p.rows }) (owner : IsOwnerWithin q row.owner) (room : first.0 + list_count row.settings ≤ length q.lists) where
-    row_last : (r : RowId) → length p.rows ≡ r.0 → IsRowWithin q r
+      (number : row.number ≡ record { 0 = length p.rows }) (owner : IsOwnerWithin q row.owner) (target : IsTargetThere count (settings_target row.settings)) (room : first.0 + list_count row.settings ≤ length q.lists) where
+    row_last : (r : RowId) → length p.rows ≡ r.0 → IsRowSo count q r
     row_last r here =
         let is : row_at q r ≡ row = ap (λ rs. slice_index_or rs r.0 no_row) rows ∙ get_or_push p.rows row no_row r.0 here in
         let begins : slice_index_or q.row_lists r.0 (record { 0 = 0 }) ≡ first = ap (λ (ls : List ListId). slice_index_or ls r.0 (record { 0 = 0 })) firsts ∙ get_or_push p.row_lists first (record { 0 = 0 }) r.0 (each ∙ here) in
         record {
           number = ap (λ (x : DeviceRow). x.number) is ∙ number ∙ (λ i. record { 0 = here i });
           owner = subst (λ (x : DeviceRow). IsOwnerWithin q x.owner) (sym is) owner;
+          target = subst (λ (x : DeviceRow). IsTargetThere count (settings_target x.settings)) (sym is) target;
           lists = omega (arith, room, ap (λ (x : DeviceRow). list_count x.settings) is, ap (λ (l : ListId). l.0) begins);
         }
 
-    rows_more : ((r : RowId) → r.0 < length p.rows → IsRowWithin p r) → (r : RowId) → r.0 < length q.rows → IsRowWithin q r
+    rows_more : ((r : RowId) → r.0 < length p.rows → IsRowSo count p r) → (r : RowId) → r.0 < length q.rows → IsRowSo count q r
     rows_more within r inside = by (cases_lt r.0 (length p.rows))
       where
-        by : (r.0 < length p.rows) ⊎ (length p.rows ≤ r.0) → IsRowWithin q r
+        by : (r.0 < length p.rows) ⊎ (length p.rows ≤ r.0) → IsRowSo count q r
         by (inl before) =
             row_stays r (ap (λ rs. slice_index_or rs r.0 no_row) rows ∙ get_or_append_left p.rows (row ∷ []) no_row r.0 before)
             (ap (λ (ls : List ListId). (slice_index_or ls r.0 (record { 0 = 0 })).0 + 0) firsts ∙ ap (λ (l : ListId). l.0 + 0) (get_or_append_left p.row_lists (first ∷ []) (record { 0 = 0 }) r.0 (omega (arith, before, each))))
@@ -115,7 +143,7 @@ module _ (final : List DeviceRow) (p q : PlanView) (grows : Grows p q) where
   finally_grows = record { events = grows.events; variables = grows.variables; modes = grows.modes; lists = grows.lists; rows = omega arith }
 
   bindings_grow : (bs : List Binding) → All (IsBindingWithin (with_rows final p)) bs → All (IsBindingWithin (with_rows final q)) bs
-  bindings_grow bs all = All-weaker (IsBindingWithin (with_rows final p)) (IsBindingWithin (with_rows final q)) (binding_grows (with_rows final p) (with_rows final q) finally_grows) bs all
+  bindings_grow bs all = All-weaker (IsBindingWithin (with_rows final p)) (IsBindingWithin (with_rows final q)) (binding_grows 0 (with_rows final p) (with_rows final q) finally_grows) bs all
 
 -- ---- one contribution more
 
@@ -126,12 +154,13 @@ pub record IsSound (names : Names) (final : List DeviceRow) (plan : PlanView) : 
   pub variables : plan.variables ≡ names Variables
   pub modes : All (IsModeWithin (length plan.events)) plan.modes
   pub bindings : All (IsBindingWithin (with_rows final plan)) plan.bindings
-  pub rows : (r : RowId) → r.0 < length plan.rows → IsRowWithin plan r
+  pub rows : (r : RowId) → r.0 < length plan.rows → IsRowSo (length final) plan r
   pub row_lists : length plan.row_lists ≡ length plan.rows
 
--- what is bound next acts on a row of its own owner
+-- what is bound next acts on a row of its own owner, and a row that is next ejects balls to a row that is there
 abbrev IsOwnNext : List DeviceRow → PlanView → Contribution → Type 0
 IsOwnNext final plan (binds x place aim) = IsOwnTarget final (owner_at (last_mode plan) place) (target_at plan aim)
+IsOwnNext final plan (device place settings) = IsTargetThere (length final) (settings_target settings)
 IsOwnNext final plan _ = Unit {0}
 
 -- a mode came before
@@ -162,7 +191,7 @@ module _ (names : Names) (final : List DeviceRow) (d : DraftView) (sound : IsSou
         variables = sound.variables;
         modes = sound.modes;
         bindings = bindings_grow final d.plan new grows d.plan.bindings sound.bindings;
-        rows = rows_stay d.plan new grows refl refl sound.rows;
+        rows = rows_stay (length final) d.plan new grows refl refl sound.rows;
         row_lists = sound.row_lists;
       }
 
@@ -178,7 +207,7 @@ module _ (names : Names) (final : List DeviceRow) (d : DraftView) (sound : IsSou
         modes = sound.modes;
         bindings = bindings_grow final d.plan new grows changed
             (All-changed (IsBindingWithin (with_rows final d.plan)) (conditioned c) d.plan.bindings (length d.plan.bindings - 1) no_binding (λ b h. (h.0, h.1, h.2, known)) sound.bindings);
-        rows = rows_stay d.plan new grows refl refl sound.rows;
+        rows = rows_stay (length final) d.plan new grows refl refl sound.rows;
         row_lists = sound.row_lists;
       }
 
@@ -191,7 +220,7 @@ module _ (names : Names) (final : List DeviceRow) (d : DraftView) (sound : IsSou
         variables = sound.variables;
         modes = sound.modes;
         bindings = bindings_grow final d.plan new grows d.plan.bindings sound.bindings;
-        rows = rows_stay d.plan new grows refl refl sound.rows;
+        rows = rows_stay (length final) d.plan new grows refl refl sound.rows;
         row_lists = sound.row_lists;
       }
 
@@ -204,7 +233,7 @@ module _ (names : Names) (final : List DeviceRow) (d : DraftView) (sound : IsSou
         variables = sound.variables;
         modes = within;
         bindings = bindings_grow final d.plan new grows d.plan.bindings sound.bindings;
-        rows = rows_stay d.plan new grows refl refl sound.rows;
+        rows = rows_stay (length final) d.plan new grows refl refl sound.rows;
         row_lists = sound.row_lists;
       }
 
@@ -250,25 +279,25 @@ module _ (names : Names) (final : List DeviceRow) (d : DraftView) (sound : IsSou
           variables = sound.variables;
           modes = sound.modes;
           bindings = All-push (IsBindingWithin (with_rows final new)) d.plan.bindings b (bindings_grow final d.plan new grows d.plan.bindings sound.bindings)
-              (known, owner_grows (with_rows final d.plan) (with_rows final new) (finally_grows final d.plan new grows) b.owner (owner_within (with_rows final d.plan) n place few placed), target_within aim b.owner (with_rows final new) aimed own refl refl, tt);
-          rows = rows_stay d.plan new grows refl refl sound.rows;
+              (known, owner_grows 0 (with_rows final d.plan) (with_rows final new) (finally_grows final d.plan new grows) b.owner (owner_within (with_rows final d.plan) n place few placed), target_within aim b.owner (with_rows final new) aimed own refl refl, tt);
+          rows = rows_stay (length final) d.plan new grows refl refl sound.rows;
           row_lists = sound.row_lists;
         }
 
-    device_sound : (place : Place) (settings : Settings) → IsOpenPlace n place → IsSound names final (with_device place settings d).plan
-    device_sound place settings placed =
+    device_sound : (place : Place) (settings : Settings) → IsOpenPlace n place → IsTargetThere (length final) (settings_target settings) → IsSound names final (with_device place settings d).plan
+    device_sound place settings placed target =
         let row = next_row d.plan place settings in
         let first = next_list d.plan in
         let new : PlanView = (with_device place settings d).plan in
         let begun = lists_begun d.plan.lists (list_count settings) in
         let grows : Grows d.plan new = record { events = refl; variables = refl; modes = omega arith; lists = omega (arith, begun); rows = omega (arith, length_push d.plan.rows row) } in
-        let owner : IsOwnerWithin new row.owner = owner_grows d.plan new grows row.owner (owner_within d.plan n place few placed) in
+        let owner : IsOwnerWithin new row.owner = owner_grows 0 d.plan new grows row.owner (owner_within d.plan n place few placed) in
         record {
           events = sound.events;
           variables = sound.variables;
           modes = sound.modes;
           bindings = bindings_grow final d.plan new grows d.plan.bindings sound.bindings;
-          rows = rows_more d.plan new grows row first refl refl sound.row_lists refl owner (omega (arith, begun)) sound.rows;
+          rows = rows_more (length final) d.plan new grows row first refl refl sound.row_lists refl owner target (omega (arith, begun)) sound.rows;
           row_lists = omega (arith, sound.row_lists, length_push d.plan.rows row, length_push d.plan.row_lists first);
         }
 
@@ -278,7 +307,7 @@ module _ (names : Names) (final : List DeviceRow) (d : DraftView) (sound : IsSou
 
     pub sound_one : (c : Contribution) → IsOwnNext final d.plan c → IsOpen n c → IsKnown names c → IsSound names final (with_contribution names d c).plan
     sound_one (gives t x) own opened known = subst (IsSound names final) (sym (given_plan t (number_among (names t) x) d)) sound
-    sound_one (reads kind) own opened known = same_sound (with_contribution names d (reads kind)).plan.switches d.plan.coils d.plan.lists (omega arith)
+    sound_one (reads kind confirms) own opened known = same_sound (with_contribution names d (reads kind confirms)).plan.switches d.plan.coils d.plan.lists (omega arith)
     sound_one (active x) own opened known = same_sound (with_contribution names d (active x)).plan.switches d.plan.coils d.plan.lists (omega arith)
     sound_one (inactive x) own opened known = same_sound (with_contribution names d (inactive x)).plan.switches d.plan.coils d.plan.lists (omega arith)
     sound_one (mode x priority game) own opened known =
@@ -287,9 +316,9 @@ module _ (names : Names) (final : List DeviceRow) (d : DraftView) (sound : IsSou
         mode_added (new_mode x priority game (event_of (names Events) (mode_event_name WillStart x))) (record { will_start = here; starting = some; started = some; stopping = some; stopped = some })
     sound_one (mode_event which x) own opened known = mode_changed which (event_of (names Events) (mode_event_name which x)) (event_within (mode_event_name which x) known)
     sound_one (binds x place aim) own opened known = binding_sound (event_of (names Events) x) place aim (event_within x known) opened.0 opened.1 own
-    sound_one (does e) own opened known = action_sound (length d.plan.lists - 1) (action_of names e)
-    sound_one (device place settings) own opened known = device_sound place settings opened
-    sound_one (does_in k e) own opened known = action_sound ((first_of_last d.plan.row_lists).0 + k) (action_of names e)
+    sound_one (does e) own opened known = action_sound (length d.plan.lists - 1) (action_of names (last_row d.plan) e)
+    sound_one (device place settings) own opened known = device_sound place settings opened own
+    sound_one (does_in k e) own opened known = action_sound ((first_of_last d.plan.row_lists).0 + k) (action_of names (last_row d.plan) e)
     sound_one (listens k x) own opened known = same_sound (with_contribution names d (listens k x)).plan.switches d.plan.coils d.plan.lists (omega arith)
     sound_one (mentions t x) own opened known = sound
     sound_one unknown own opened known = sound
@@ -301,23 +330,24 @@ module _ (names : Names) (final : List DeviceRow) (d : DraftView) (sound : IsSou
 
 module _ (names : Names) where
   -- where these are the rows in the end
-  module _ (final : List DeviceRow) (places : List (Place × ℕ)) (owned : owners_of final ≡ map owner_by places) where
+  module _ (final : List DeviceRow) (places : List (Place × ℕ)) (owned : owners_of final ≡ map owner_by places) (all : List Settings) (set_is : settings_of final ≡ all) where
     own_next : (c : Contribution) (cs : List Contribution) (n : ℕ) (o : Option Place) (d : DraftView) → n ≡ length d.plan.modes → (fold (with_contribution names) d (c ∷ cs)).plan.rows ≡ final
-        → IsPlaced o c → IsAimed places n c → IsOwn final o d.plan → IsOwnNext final d.plan c
-    own_next (binds x place aim) cs n o d same made placed aimed own =
+        → IsPlaced o c → IsAimed places n c → HasTarget all c → IsOwn final o d.plan → IsOwnNext final d.plan c
+    own_next (binds x place aim) cs n o d same made placed aimed target own =
         let c = binds x place aim in
         let kept = rows_kept names (c ∷ cs) d in
         own_aim names final d o own kept.0 (sym made ∙ kept.1) place aim placed (bound_on final places owned n d.plan c same aimed)
-    own_next _ cs n o d same made placed aimed own = tt
+    own_next (device place settings) cs n o d same made placed aimed target own = target_there all (length final) settings (sym (ap length set_is) ∙ length-map final (λ (x : DeviceRow). x.settings)) target
+    own_next _ cs n o d same made placed aimed target own = tt
 
     sound_fold : (cs : List Contribution) (n : ℕ) (o : Option Place) (d : DraftView) → n ≡ length d.plan.modes → (fold (with_contribution names) d cs).plan.rows ≡ final
-        → AreOpened n cs → ArePlaced o cs → AreAimed places n cs → AreHeard o cs → All (IsKnown names) cs → IsOwn final o d.plan → IsSound names final d.plan → IsSound names final (fold (with_contribution names) d cs).plan
-    sound_fold [] n o d same made opened placed aimed heard known own sound = sound
-    sound_fold (c ∷ cs) n o d same made opened placed aimed heard known own sound =
+        → AreOpened n cs → ArePlaced o cs → AreAimed places n cs → AreHeard o cs → All (HasTarget all) cs → All (IsKnown names) cs → IsOwn final o d.plan → IsSound names final d.plan → IsSound names final (fold (with_contribution names) d cs).plan
+    sound_fold [] n o d same made opened placed aimed heard targets known own sound = sound
+    sound_fold (c ∷ cs) n o d same made opened placed aimed heard targets known own sound =
         let few : n ≤ length d.plan.modes = omega (arith, same) in
-        sound_fold cs (modes_after n c) (row_after o c) (with_contribution names d c) (modes_come names n d c same) made opened.1 placed.1 aimed.1 heard.1 (All-tail (IsKnown names) c cs known)
+        sound_fold cs (modes_after n c) (row_after o c) (with_contribution names d c) (modes_come names n d c same) made opened.1 placed.1 aimed.1 heard.1 (All-tail (HasTarget all) c cs targets) (All-tail (IsKnown names) c cs known)
         (own_then names final places owned c cs n o d same made placed.0 aimed.0 heard.0 own)
-        (sound_one names final d sound n few c (own_next c cs n o d same made placed.0 aimed.0 own) opened.0 (All-head (IsKnown names) c cs known))
+        (sound_one names final d sound n few c (own_next c cs n o d same made placed.0 aimed.0 (All-head (HasTarget all) c cs targets) own) opened.0 (All-head (IsKnown names) c cs known))
 
   sound_blank : (final : List DeviceRow) → IsSound names final (blank names).plan
   sound_blank final = record {
@@ -329,64 +359,83 @@ module _ (names : Names) where
     row_lists = refl;
   }
 
-  -- an event that is posted is one of the names, and so is a coil with which something is done, and a variable that is
-  -- changed
-  abbrev IsNumbered : Action → Type 0
-  IsNumbered (Post e) = e.0 < length (names Events)
-  IsNumbered (Pulse c ms power) = c.0 < length (names Coils)
-  IsNumbered (Enable c power) = c.0 < length (names Coils)
-  IsNumbered (Disable c) = c.0 < length (names Coils)
-  IsNumbered (Change v action n e) = (v.0 < length (names Variables)) × (e.0 < length (names Events))
+  -- An event that is posted is one of the names, and so is a coil with which something is done, and a variable that is
+  -- changed. A ball may have drained only where there is a game.
+  module _ (game : Bool) where
+    abbrev IsNumbered : Action → Type 0
+    IsNumbered (Post e) = e.0 < length (names Events)
+    IsNumbered (Pulse c ms power) = c.0 < length (names Coils)
+    IsNumbered (Enable c power) = c.0 < length (names Coils)
+    IsNumbered (Disable c) = c.0 < length (names Coils)
+    IsNumbered (Change v action n e) = (v.0 < length (names Variables)) × (e.0 < length (names Events))
+    IsNumbered (Enter r e drain) = (e.0 < length (names Events)) × (drain ≡ true → game ≡ true)
+    IsNumbered _ = Unit {0}
 
-  effect_known : (e : Effect) → IsAmong names (used_by e) → IsReadyEffect (IsNumberedIn (names Events)) e → IsNumbered (action_of names e)
-  effect_known (posts x) known ready = known
-  effect_known (works x (pulse ms power)) known ready = known
-  effect_known (works x (enable power)) known ready = known
-  effect_known (works x disable) known ready = known
-  effect_known (changes v action n) known ready = (known, ready)
+    effect_known : (e : Effect) → IsAmong names (used_by e) → IsReadyEffect (IsNumberedIn (names Events)) e → DrainsIn game e → (r : RowId) → IsNumbered (action_of names r e)
+    effect_known (posts x) known ready drains r = known
+    effect_known (works x (pulse ms power)) known ready drains r = known
+    effect_known (works x (enable power)) known ready drains r = known
+    effect_known (works x disable) known ready drains r = known
+    effect_known (changes v action n) known ready drains r = (known, ready)
+    effect_known (enters x drain) known ready drains r = (known, drains)
+    effect_known leaves known ready drains r = tt
+    effect_known loses known ready drains r = tt
+    effect_known arrives known ready drains r = tt
 
-  done_known : (c : Contribution) → IsKnown names c → IsReady (IsNumberedIn (names Events)) c → IsMet (IsEventWithin (length (names Events))) IsNumbered names c
-  done_known (active x) known ready = known
-  done_known (inactive x) known ready = known
-  done_known (does e) known ready = effect_known e known ready
-  done_known (does_in k e) known ready = effect_known e known ready
-  done_known _ known ready = tt
+    done_known : (c : Contribution) → IsKnown names c → IsReady (IsNumberedIn (names Events)) c → DrainsWell game c → IsMet (IsEventWithin (length (names Events))) IsNumbered names c
+    done_known (active x) known ready drains = known
+    done_known (inactive x) known ready drains = known
+    done_known (does e) known ready drains = effect_known e known ready drains
+    done_known (does_in k e) known ready drains = effect_known e known ready.0 drains
+    done_known _ known ready drains = tt
 
-  action_within : (plan : PlanView) → length plan.events ≡ length (names Events) → length plan.coils ≡ length (names Coils) → length plan.variables ≡ length (names Variables) → (a : Action) → IsNumbered a → IsActionWithin plan a
-  action_within plan events coils variables (Post e) within = omega (arith, within, events)
-  action_within plan events coils variables (Pulse c ms power) within = omega (arith, within, coils)
-  action_within plan events coils variables (Enable c power) within = omega (arith, within, coils)
-  action_within plan events coils variables (Disable c) within = omega (arith, within, coils)
-  action_within plan events coils variables (Change v action n e) within =
-      let variable = within.0 in
-      let event = within.1 in
-      (omega (arith, variable, variables), omega (arith, event, events))
+    action_within : (plan : PlanView) → length plan.events ≡ length (names Events) → length plan.coils ≡ length (names Coils) → length plan.variables ≡ length (names Variables) → (game ≡ true → HasGame plan)
+        → (a : Action) → IsNumbered a → IsOfRows (length plan.rows) a → IsActionWithin plan a
+    action_within plan events coils variables has (Post e) within there = omega (arith, within, events)
+    action_within plan events coils variables has (Pulse c ms power) within there = omega (arith, within, coils)
+    action_within plan events coils variables has (Enable c power) within there = omega (arith, within, coils)
+    action_within plan events coils variables has (Disable c) within there = omega (arith, within, coils)
+    action_within plan events coils variables has (Change v action n e) within there =
+        let variable = within.0 in
+        let event = within.1 in
+        (omega (arith, variable, variables), omega (arith, event, events))
+    action_within plan events coils variables has (Enter r e drain) within there =
+        let event = within.0 in
+        (there, omega (arith, event, events), λ is. has (within.1 is))
+    action_within plan events coils variables has (Leave r) within there = there
+    action_within plan events coils variables has (Lose r) within there = there
+    action_within plan events coils variables has (Arrive r) within there = there
 
 -- what contributions make is sound, where a mode came before what is of one, and a row before what acts on it
-pub sound_drafted : (cs : List Contribution) → AreOpened 0 cs → ArePlaced None cs → AreAimed (row_places 0 cs) 0 cs → AreHeard None cs
+pub sound_drafted : (cs : List Contribution) → AreOpened 0 cs → ArePlaced None cs → AreAimed (row_places 0 cs) 0 cs → AreHeard None cs → All (HasTarget (row_settings cs)) cs
     → IsSound (names_from cs) (drafted (names_from cs) cs).plan.rows (drafted (names_from cs) cs).plan
-sound_drafted cs opened placed aimed heard =
+sound_drafted cs opened placed aimed heard targets =
     let names = names_from cs in
     let final = (drafted names cs).plan.rows in
-    sound_fold names final (row_places 0 cs) (owners_fold names cs 0 (blank names) refl) cs 0 None (blank names) refl refl opened placed aimed heard (all_known cs) (own_blank names final) (sound_blank names final)
+    sound_fold names final (row_places 0 cs) (owners_fold names cs 0 (blank names) refl) (row_settings cs) (settings_fold names cs (blank names)) cs 0 None (blank names) refl refl opened placed aimed heard targets (all_known cs) (own_blank names final) (sound_blank names final)
 
-pub has_entries : (cs : List Contribution) → AreOpened 0 cs → ArePlaced None cs → AreAimed (row_places 0 cs) 0 cs → AreHeard None cs → AreNumbered cs → HasEntries (drafted (names_from cs) cs).plan
-has_entries cs opened placed aimed heard ready =
+pub has_entries : (cs : List Contribution) → AreOpened 0 cs → ArePlaced None cs → AreAimed (row_places 0 cs) 0 cs → AreHeard None cs → All (HasTarget (row_settings cs)) cs → AreNumbered cs → AreFitting None cs → AllDrainInGame cs → HasEntries (drafted (names_from cs) cs).plan
+has_entries cs opened placed aimed heard targets ready fitting drains =
     let names = names_from cs in
     let plan = (drafted names cs).plan in
-    let sound = sound_drafted cs opened placed aimed heard in
+    let sound = sound_drafted cs opened placed aimed heard targets in
     let all : Grows (with_rows plan.rows plan) plan = record { events = refl; variables = refl; modes = omega arith; lists = omega arith; rows = omega arith } in
     let posted : EventId → Type 0 = IsEventWithin (length (names Events)) in
-    let meet = meet_drafted posted (IsNumbered names) names cs (λ i d within. done_known names (get_or cs i d) (all_known cs i d within) (ready i d within)) in
+    let game = list_any is_plays cs in
+    let well = drains_well cs fitting drains in
+    let numbered = IsNumbered names game in
+    let meet = meet_drafted posted numbered names cs (λ i d within. done_known names game (get_or cs i d) (all_known cs i d within) (ready i d within) (well i d within)) in
+    let there = of_rows_drafted names cs fitting in
     let events = ap length sound.events in
     let coils = sym (length-map plan.coils (λ (c : PlanCoil). c.name)) ∙ ap length (names-from cs Coils) in
+    let variables = ap length sound.variables in
     let own = own_drafted names cs placed aimed heard in
     record {
       modes = sound.modes;
       switches = subst (λ n. All (IsSwitchWithin n) plan.switches) (sym events) meet.switches;
       listeners = All-weaker (IsOwnSwitch plan.rows) (λ s. All (IsListenerWithin (length plan.rows)) s.listeners) (λ s. All-weaker (IsOwnListener plan.rows) (IsListenerWithin (length plan.rows)) (λ l is. is.0) s.listeners) plan.switches own.1;
-      lists = All-weaker (All (IsNumbered names)) (All (IsActionWithin plan)) (All-weaker (IsNumbered names) (IsActionWithin plan) (action_within names plan events coils (ap length sound.variables))) plan.lists meet.lists;
-      bindings = All-weaker (IsBindingWithin (with_rows plan.rows plan)) (IsBindingWithin plan) (binding_grows (with_rows plan.rows plan) plan all) plan.bindings sound.bindings;
-      rows = sound.rows;
+      lists = λ i d inside j a within. action_within names game plan events coils variables (game_played names cs) (get_or (get_or plan.lists i d) j a) (meet.lists i d inside j a within) (there i d inside j a within);
+      bindings = All-weaker (IsBindingWithin (with_rows plan.rows plan)) (IsBindingWithin plan) (binding_grows 0 (with_rows plan.rows plan) plan all) plan.bindings sound.bindings;
+      rows = λ r within. row_within plan r (sound.rows r within);
       game = subst (λ n. IfSome plan.game (IsGameWithin n)) (sym events) (game_within names plan.game (game_made cs ready));
     }

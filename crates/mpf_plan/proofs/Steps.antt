@@ -1,7 +1,7 @@
 -- Items changed in their places, as they are seen; and switches of which the names alone are known.
 use Rattle.std.proofs.Common.{◌≡◌, ℕ, zero, suc, ◌-◌, ◌<◌, ◌≤◌, List, [], ◌∷◌, ◌++◌, ◌⊎◌, inl, inr, Bool, false, length, map, set, get_or, Vec, Global, refl, sym, ◌∙◌, ap, subst, arith}
 use Rattle.std.specs.List.{All}
-use Rattle.std.proofs.lemmas.List.{set_past, map-set, get_or-map, length-map}
+use Rattle.std.proofs.lemmas.List.{set_past, map-set, get_or-map, get_or_past, length-map}
 use Rattle.std.proofs.lemmas.List.Elements.{All-head, All-tail, All-set, All-get_or}
 use Rattle.std.proofs.lemmas.Bool.{cases_lt}
 use Rattle.plan_tables.specs.declared.entries.Action.{Action}
@@ -28,6 +28,20 @@ All-changed {X} P f xs i d keeps all = by (cases_lt i (length xs))
     by : (i < length xs) ⊎ (length xs ≤ i) → All P (set xs i (f (get_or xs i d)))
     by (inl inside) = All-set P xs i (f (get_or xs i d)) (keeps (get_or xs i d) (All-get_or P xs i d inside all)) all
     by (inr past) = subst (All P) (sym (set_past xs i (f (get_or xs i d)) past)) all
+
+-- what holds of each list, and of one that is not there
+pub at_any : (P : List Action → Type 0) → P [] → (ls : List (List Action)) → All P ls → (i : ℕ) → P (get_or ls i [])
+at_any P none ls all i = by (cases_lt i (length ls))
+  where
+    by : (i < length ls) ⊎ (length ls ≤ i) → P (get_or ls i [])
+    by (inl within) = All-get_or P ls i [] within all
+    by (inr past) = subst P (sym (get_or_past ls i [] past)) none
+
+-- empty lists at the end change none
+pub blank_end : (ls more : List (List Action)) → All (λ l. l ≡ []) more → (i : ℕ) → get_or (ls ++ more) i [] ≡ get_or ls i []
+blank_end [] more empty i = at_any (λ l. l ≡ []) refl more empty i
+blank_end (x ∷ ls) more empty zero = refl
+blank_end (x ∷ ls) more empty (suc i) = blank_end ls more empty i
 
 -- an action pushed to the list of this number
 pub action_pushed_at : (lists : List (Vec Action Global)) (n : ℕ) (old new : Vec Action Global) (a : Action) → n < length lists → old ≡ get_or lists n old → new.items ≡ old.items ++ a ∷ []
@@ -89,6 +103,7 @@ switch_unchanged change names entries i past =
 pub record IsBlank (e : SwitchEntry) : Type 0 where
   pub kind : e.kind ≡ no_switch.kind
   pub listeners : e.listeners.items ≡ []
+  pub confirms : e.confirms_playfield ≡ false
   pub active : e.active.items ≡ []
   pub inactive : e.inactive.items ≡ []
 
@@ -97,7 +112,7 @@ blank_entries [] entries count all = refl
 blank_entries (n ∷ ns) [] count all = absurd (omega (arith, count))
 blank_entries (n ∷ ns) (e ∷ es) count all =
     let first = All-head IsBlank e es all in
-    λ i. record { name = n; kind = first.kind i; listeners = first.listeners i; active = first.active i; inactive = first.inactive i } ∷ blank_entries ns es (omega (arith, count)) (All-tail IsBlank e es all) i
+    λ i. record { name = n; kind = first.kind i; listeners = first.listeners i; confirms_playfield = first.confirms i; active = first.active i; inactive = first.inactive i } ∷ blank_entries ns es (omega (arith, count)) (All-tail IsBlank e es all) i
 
 -- ---- coils
 

@@ -15,13 +15,13 @@ use Rattle.plan_tables.specs.declared.table.Table.{Table}
 use Rattle.plan_tables.specs.declared.table.Table.TheVariants.{Events, Switches}
 use Rattle.plan_contributions.specs.DeviceEntries.{texts, events, Deed, Effect, posts, works, Device}
 use Rattle.plan_contributions.specs.CoilEntries.{item_effect}
-use Rattle.plan_contributions.specs.Contributions.{Contribution, gives, reads, active, inactive, binds, does, does_in, mentions, unknown, under, under_where, bound, always, active_posts, inactive_posts, kind_of, switch_contributions, player_contributions, coil_player_contributions, starter, stopper, stopper_where, controls, act_binding, effects_from, unknown_unless, shot_switch, aim_at, act_at}
+use Rattle.plan_contributions.specs.Contributions.{Contribution, gives, reads, active, inactive, binds, does, does_in, mentions, unknown, under, under_where, bound, always, active_posts, inactive_posts, kind_of, confirms, switch_contributions, player_contributions, coil_player_contributions, starter, stopper, stopper_where, controls, act_binding, effects_from, unknown_unless, shot_switch, aim_at, act_at}
 use Rattle.plan_contributions.proofs.RowFacts.{All-each, All-made, All-lists}
 
 -- P holds of contributions that are usual, and of those that do such an effect as devices do and players of events and coils
 pub record IsUsual (P : Contribution → Type 0) (R : Effect → Type 0) : Type 0 where
   pub given : (n : List ℕ) → P (gives Switches n)
-  pub read : (kind : SwitchKind) → P (reads kind)
+  pub read : (kind : SwitchKind) (confirms_playfield : Bool) → P (reads kind confirms_playfield)
   pub on : (n : List ℕ) → P (active n)
   pub off : (n : List ℕ) → P (inactive n)
   pub bindings : (n : List ℕ) (place : Place) (aim : Aim) → P (binds n place aim)
@@ -39,7 +39,7 @@ module _ (P : Contribution → Type 0) (R : Effect → Type 0) (usual : IsUsual 
   of_switch machine s =
       let on = map active (active_posts s) in
       let off = map inactive (inactive_posts s) in
-      All-cons P (gives Switches s.name.text) (reads (kind_of machine s) ∷ on ++ off) (usual.given s.name.text) (All-cons P (reads (kind_of machine s)) (on ++ off) (usual.read (kind_of machine s))
+      All-cons P (gives Switches s.name.text) (reads (kind_of machine s) (confirms s.tags) ∷ on ++ off) (usual.given s.name.text) (All-cons P (reads (kind_of machine s) (confirms s.tags)) (on ++ off) (usual.read (kind_of machine s) (confirms s.tags))
       (All-append P on off (All-made P active usual.on (active_posts s)) (All-made P inactive usual.off (inactive_posts s))))
 
   of_condition : (o : Option Condition) → All P (under_where o)

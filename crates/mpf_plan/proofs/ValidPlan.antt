@@ -29,18 +29,20 @@ use Rattle.plan_contributions.specs.Contributions.{Contribution, gives, reads, a
 use Rattle.mpf_plan.specs.Uses.{Names, names_from, number_among, lacks_name}
 use Rattle.mpf_plan.specs.ByName.{latest_limits, AreLimitsByName, ListenersAreOwn}
 use Rattle.plan_tables.specs.Limits.{entry_count, limit_of}
-use Rattle.mpf_plan.specs.PlanOf.{DraftView, action_of, first_of_last, next_row, next_list, with_one_more, with_contribution, blank, plan_from, plan_of, plan_at}
+use Rattle.mpf_plan.specs.PlanOf.{DraftView, action_of, last_row, first_of_last, next_row, next_list, with_one_more, with_contribution, blank, plan_from, plan_of, plan_at}
 use Rattle.mpf_plan.proofs.Counts.{named_of}
 use Rattle.mpf_plan.proofs.Drafted.{given_plan, names-from, count-bindings, count-rows, count-row_lists, count-lists, lists_few}
 use Rattle.mpf_plan.proofs.Judged.{plan_at-Ok, plan_at-complete}
 use Rattle.plan_contributions.specs.Facts.{AreShort, IsRoomy, effects_after, effects_in_after, full, AreLimits, IsLimited, given_coil}
 use Rattle.plan_contributions.proofs.Aimed.{rows_are_aimed}
+use Rattle.plan_contributions.proofs.BallRows.{rows_are_fitting, targets_are_rows, drains_are_in_games}
 use Rattle.plan_contributions.proofs.RowFacts.{rows_are_short, rows_are_open, rows_are_limited, rows_are_placed}
 use Rattle.mpf_plan.proofs.Apart.{all_apart, named_apart}
 use Rattle.mpf_plan.proofs.Heard.{rows_are_heard, plain_of_heard}
 use Rattle.mpf_plan.proofs.Limited.{limits_by_name}
 use Rattle.mpf_plan.proofs.Owned.{IsOwnTarget, IsOwnBinding, IsOwnListener, IsOwnSwitch, own_drafted}
 use Rattle.mpf_plan.proofs.SoundDraft.{has_entries}
+use Rattle.mpf_plan.proofs.Steps.{at_any, blank_end}
 use Rattle.mpf_plan.proofs.ModeWorks.{modes-count, works_are}
 use Rattle.mpf_plan.proofs.GameWorks.{game_works_are}
 use Rattle.mpf_plan.proofs.Ready.{rows_are_ready}
@@ -62,20 +64,6 @@ last_length-set (x ∷ xs) l n short =
     let at = length (x ∷ xs) - 1 in
     subst (λ k. length (get_or (set (x ∷ xs) at l) (k - 1) []) ≤ n) (sym (length-set (x ∷ xs) at l))
     (subst (λ y. length y ≤ n) (sym (get_or-set_same (x ∷ xs) at l [] (omega arith))) short)
-
--- what holds of each list, and of one that is not there
-at_any : (P : List Action → Type 0) → P [] → (ls : List (List Action)) → All P ls → (i : ℕ) → P (get_or ls i [])
-at_any P none ls all i = by (cases_lt i (length ls))
-  where
-    by : (i < length ls) ⊎ (length ls ≤ i) → P (get_or ls i [])
-    by (inl within) = All-get_or P ls i [] within all
-    by (inr past) = subst P (sym (get_or_past ls i [] past)) none
-
--- empty lists at the end change none
-blank_end : (ls more : List (List Action)) → All (λ l. l ≡ []) more → (i : ℕ) → get_or (ls ++ more) i [] ≡ get_or ls i []
-blank_end [] more empty i = at_any (λ l. l ≡ []) refl more empty i
-blank_end (x ∷ ls) more empty zero = refl
-blank_end (x ∷ ls) more empty (suc i) = blank_end ls more empty i
 
 -- no effect list has more than 1,024 actions; that which began last has at most so many, and so have those of the row that
 -- came last
@@ -176,7 +164,7 @@ IsLimitedRow row = IsWithinLimits row.settings
 module _ (names : Names) where
   fit_one : (n : ℕ) (f : ℕ → ℕ) (d : DraftView) (c : Contribution) → IsRoomy n f c → AreFit n f d.plan → AreFit (effects_after n c) (effects_in_after f c) (with_contribution names d c).plan
   fit_one n f d (gives t e) room fit = subst (AreFit n f) (sym (given_plan t (number_among (names t) e) d)) fit
-  fit_one n f d (reads kind) room fit = record { lists = fit.lists; last = fit.last; in_row = fit.in_row }
+  fit_one n f d (reads kind confirms) room fit = record { lists = fit.lists; last = fit.last; in_row = fit.in_row }
   fit_one n f d (active e) room fit = record { lists = fit.lists; last = fit.last; in_row = fit.in_row }
   fit_one n f d (inactive e) room fit = record { lists = fit.lists; last = fit.last; in_row = fit.in_row }
   fit_one n f d (mode e priority game) room fit = record { lists = fit.lists; last = fit.last; in_row = fit.in_row }
@@ -186,9 +174,9 @@ module _ (names : Names) where
   fit_one n f d (binds e place (Do act)) room fit = record { lists = fit.lists; last = fit.last; in_row = fit.in_row }
   fit_one n f d (binds e place (On r act)) room fit = record { lists = fit.lists; last = fit.last; in_row = fit.in_row }
   fit_one n f d (binds e place Run) room fit = let more = fit_more n f d.plan fit in record { lists = more.lists; last = more.last; in_row = more.in_row }
-  fit_one n f d (does e) room fit = fit_last n f d.plan fit (action_of names e) room
+  fit_one n f d (does e) room fit = fit_last n f d.plan fit (action_of names (last_row d.plan) e) room
   fit_one n f d (device place settings) room fit = fit_device n f d.plan fit (d.plan.rows ++ next_row d.plan place settings ∷ []) (list_count settings)
-  fit_one n f d (does_in k e) room fit = fit_in n f d.plan fit k (action_of names e) room
+  fit_one n f d (does_in k e) room fit = fit_in n f d.plan fit k (action_of names (last_row d.plan) e) room
   fit_one n f d (listens k e) room fit = record { lists = fit.lists; last = fit.last; in_row = fit.in_row }
   fit_one n f d (mentions t e) room fit = fit
   fit_one n f d unknown room fit = fit
@@ -272,7 +260,7 @@ valid_from rows short few_modes none_lacks within =
       settings = limited_fold names cs (blank names) (rows_are_limited rows short) (All-nil IsLimitedRow);
       action_limit = fit_fold names 1024 full cs (blank names) (rows_are_short rows short) none;
       names = λ t. subst (AllPairs (λ x y. x ≢ y)) (sym (names-from cs t)) (all_apart (named_of cs t) (named_apart cs t));
-      entries = has_entries cs (rows_are_open rows) (rows_are_placed rows) (rows_are_aimed rows) (rows_are_heard rows) (rows_are_ready rows);
+      entries = has_entries cs (rows_are_open rows) (rows_are_placed rows) (rows_are_aimed rows) (rows_are_heard rows) (targets_are_rows rows) (rows_are_ready rows) (rows_are_fitting rows) (drains_are_in_games rows);
       works = works_are rows few_modes.apart;
       game_works = game_works_are rows;
     }
@@ -285,7 +273,7 @@ IsValid-plan_of rows short few none within = valid_from rows short few none with
 
 HasEntries-plan_of : (rows : Rows) → HasEntries (plan_of rows)
 unfolding plan_of
-HasEntries-plan_of rows = has_entries (contributions_of rows) (rows_are_open rows) (rows_are_placed rows) (rows_are_aimed rows) (rows_are_heard rows) (rows_are_ready rows)
+HasEntries-plan_of rows = has_entries (contributions_of rows) (rows_are_open rows) (rows_are_placed rows) (rows_are_aimed rows) (rows_are_heard rows) (targets_are_rows rows) (rows_are_ready rows) (rows_are_fitting rows) (drains_are_in_games rows)
 
 pub HasEntries-plan_at : (rows : Rows) (plan : PlanView) → plan_at rows ≡ Ok plan → HasEntries plan
 HasEntries-plan_at rows plan is = subst HasEntries (sym (plan_at-Ok rows plan is).0) (HasEntries-plan_of rows)

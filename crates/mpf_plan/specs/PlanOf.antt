@@ -13,7 +13,7 @@ use Rattle.plan_tables.specs.declared.entries.ModeEvents.{ModeEvents}
 use Rattle.plan_tables.specs.declared.entries.Owner.{Owner}
 use Rattle.plan_tables.specs.declared.entries.Owner.TheVariants as owners
 use Rattle.plan_tables.specs.declared.entries.Action.{Action}
-use Rattle.plan_tables.specs.declared.entries.Action.TheVariants.{Post, Pulse, Enable, Disable, Change}
+use Rattle.plan_tables.specs.declared.entries.Action.TheVariants.{Post, Pulse, Enable, Disable, Change, Enter, Leave, Lose, Arrive}
 use Rattle.mpf_values.specs.Events.{Condition}
 use Rattle.plan_tables.specs.declared.entries.Condition as numbered
 use Rattle.plan_tables.specs.declared.entries.VariableId.{VariableId}
@@ -37,7 +37,7 @@ use Rattle.plan_tables.specs.declared.table.Table.TheVariants.{Events, Switches,
 use Rattle.mpf_plan.specs.declared.fault.PlanFault.{PlanFault}
 use Rattle.mpf_plan.specs.declared.fault.PlanFault.TheVariants as faults
 use Rattle.plan_tables.specs.PlanView.{PlanSwitch, no_switch, PlanCoil, no_binding, no_coil, PlanMode, no_event, no_mode, PlanView}
-use Rattle.plan_contributions.specs.DeviceEntries.{Deed, pulse, enable, disable, Effect, posts, works, changes}
+use Rattle.plan_contributions.specs.DeviceEntries.{Deed, pulse, enable, disable, Effect, posts, works, changes, enters, leaves, loses, arrives}
 use Rattle.plan_contributions.specs.Contributions.{Contribution, gives, reads, active, inactive, mode, mode_event, mode_event_name, binds, does, device, does_in, listens, mentions, unknown, coil, under, plays, contributions_of}
 use Rattle.mpf_plan.specs.Uses.{Names, names_from, number_among, lacks_name}
 use Rattle.plan_tables.specs.Limits.{first_above, IsFirstAbove}
@@ -60,11 +60,15 @@ action_with c (pulse ms power) = Pulse c ms power
 action_with c (enable power) = Enable c power
 action_with c disable = Disable c
 
--- what an effect list does, by number
-abbrev pub action_of : Names → Effect → Action
-action_of names (posts n) = Post (event_of (names Events) n)
-action_of names (works n deed) = action_with (coil_of (names Coils) n) deed
-action_of names (changes v action n) = Change (variable_of (names Variables) v) action n (event_of (names Events) (player_event v))
+-- what an effect list does, by number; what happens with balls is of this row
+abbrev pub action_of : Names → RowId → Effect → Action
+action_of names r (posts n) = Post (event_of (names Events) n)
+action_of names r (works n deed) = action_with (coil_of (names Coils) n) deed
+action_of names r (changes v action n) = Change (variable_of (names Variables) v) action n (event_of (names Events) (player_event v))
+action_of names r (enters n drain) = Enter r (event_of (names Events) n) drain
+action_of names r leaves = Leave r
+action_of names r loses = Lose r
+action_of names r arrives = Arrive r
 
 -- a condition, by number
 abbrev pub condition_of : Names → Condition → numbered.Condition
@@ -101,9 +105,9 @@ abbrev pub with_given : Table → ℕ → DraftView → DraftView
 with_given Switches n d = with_switch n d
 with_given _ n d = d
 
--- the last switch is read so
-abbrev pub with_kind : SwitchKind → DraftView → DraftView
-with_kind kind d = last_switch (λ s. record s { kind = kind }) d
+-- the last switch is read so, and this says whether a ball that presses it is on the playfield
+abbrev pub with_kind : SwitchKind → Bool → DraftView → DraftView
+with_kind kind confirms d = last_switch (λ s. record s { kind = kind; confirms_playfield = confirms }) d
 
 abbrev pub with_active : EventId → DraftView → DraftView
 with_active e d = last_switch (λ s. record s { active = s.active ++ e ∷ [] }) d
@@ -299,7 +303,7 @@ with_game rules d = record d { plan = record d.plan { game = Some rules } }
 -- what one contribution adds, where names have these numbers
 abbrev pub with_contribution : Names → DraftView → Contribution → DraftView
 with_contribution names d (gives table n) = with_given table (number_among (names table) n) d
-with_contribution names d (reads kind) = with_kind kind d
+with_contribution names d (reads kind confirms) = with_kind kind confirms d
 with_contribution names d (active n) = with_active (event_of (names Events) n) d
 with_contribution names d (inactive n) = with_inactive (event_of (names Events) n) d
 with_contribution names d (mode n priority game) =
@@ -308,9 +312,9 @@ with_contribution names d (mode_event which n) =
     with_mode_event which (event_of (names Events) (mode_event_name which n)) d
 with_contribution names d (binds n place aim) =
     with_list_for aim (with_binding (next_binding d.plan (event_of (names Events) n) place aim) d)
-with_contribution names d (does e) = with_action (action_of names e) d
+with_contribution names d (does e) = with_action (action_of names (last_row d.plan) e) d
 with_contribution names d (device place settings) = with_device place settings d
-with_contribution names d (does_in k e) = with_action_in k (action_of names e) d
+with_contribution names d (does_in k e) = with_action_in k (action_of names (last_row d.plan) e) d
 with_contribution names d (listens k n) = with_listener (number_among (names Switches) n) (next_listener d.plan k) d
 with_contribution names d (mentions table n) = d
 with_contribution names d unknown = d

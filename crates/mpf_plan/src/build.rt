@@ -34,6 +34,10 @@ use std::alloc::Global;
 /// The rows of its text come after these. Where an event is handled under a condition, the variable
 /// of the condition is used right after it.
 ///
+/// A ball device uses its ball switches in the order in which it lists them, then the event of a
+/// ball that enters it, then `ball_drain` where it is tagged `drain` and there is a game, then what
+/// its effect lists post and its coil.
+///
 /// When a switch becomes active, it posts `NAME_active`, then `sw_TAG` for each of its tags, then
 /// its `events_when_activated`. When it becomes inactive, it posts `NAME_inactive`, then its
 /// `events_when_deactivated`. Tags and events keep the order in which they are written, and each is
@@ -73,10 +77,18 @@ use std::alloc::Global;
 /// `NAME_PROFILE_STATE_hit` and `NAME_STATE_hit`. A group has two for each state: one posts
 /// `NAME_hit` and `NAME_STATE_hit`, the other `NAME_complete` and `NAME_STATE_complete`.
 ///
+/// Each entry of `ball_devices` is such a row too, which listens to its ball switches. No binding
+/// acts on it. Of its effect lists the first posts `balldevice_NAME_ball_enter`, and `ball_drain`
+/// where the ball has drained; the second posts `balldevice_NAME_ball_eject_attempt` and
+/// `balldevice_NAME_ejecting_ball` and pulses its coil; the fifth posts
+/// `balldevice_NAME_ball_eject_success`, and the seventh `balldevice_NAME_ball_eject_failed`. The
+/// first, third, fourth and sixth say what happens with a ball of the row. Where a switch is tagged
+/// `playfield_active`, a ball that presses it is on the playfield.
+///
 /// # Errors
 ///
 /// - `NoSuchName`: a switch or a coil is named that no entry of the machine text has, or a setting
-///   names something else that nothing has: a profile or a shot.
+///   names something else that nothing has: a profile, a shot or a ball device.
 /// - `Limit`: a table is above its limit; the first such table in the order of `Table` is reported.
 /// - `NoMemory`: memory ran out.
 pub fn plan(alloc: Global, config: &Config) -> Result<Plan, PlanFault>

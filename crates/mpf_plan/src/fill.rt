@@ -3,8 +3,10 @@
 ghost use Rattle.std.specs.Prelude.{◌≡◌, ◌<◌, ◌≤◌, ◌+◌, ◌*◌, ◌++◌, List, [], ℕ, false, length, map, fold, replicate, slice_index_or, slice_set, IfOk, OnOk};
 ghost use Rattle.std.specs.List.{All};
 ghost use Rattle.plan_tables.specs.declared.names.NameSets.{NameSets as NameSetsValue};
+ghost use Rattle.plan_tables.specs.declared.entries.Action.TheVariants.{Change};
 ghost use Rattle.plan_tables.specs.declared.table.Table.TheVariants.{Events, Switches, Coils, Variables};
 ghost use Rattle.machine_definitions.specs.GameEvents.{game_event_names};
+ghost use Rattle.machine_definitions.specs.Players.{player_event};
 ghost use Rattle.plan_contributions.specs.Contributions.{gives, active, inactive, mode, mode_event, binds, does, does_in, listens, coil, under, plays, given_by};
 ghost use Rattle.mpf_plan.specs.PlanOf.{event_of, coil_of, variable_of, last_conditioned, action_with, action_of, owner_at, priority_at, with_switch, with_kind, with_active, with_inactive, first_event, with_event, last_with_event, last_mode, last_row, next_binding, last_priority, lists_for, with_one_more, last_with, next_row, with_device, first_of_last, with_contribution, next_listener, with_listener, limited_to, named_switch, named_coil, blank, drafted, next_list, with_action_in};
 ghost use Rattle.plan_tables.specs.Inside.{name_sets_view, mode_entry_view, action_lists, switches_view};
@@ -27,7 +29,7 @@ use plan_tables::devices::{DeviceRow, RowId, Settings};
 use plan_tables::entries::{
     Action, Binding, CoilId, CoilLimits, Condition, Contact, EventId, GameRules, ListId, Listener,
     Mode, ModeEntry, ModeEvent, ModeEvents, ModeId, Owner, SwitchEntry, SwitchKind, Target,
-    VariableId,
+    VariableAction, VariableId,
 };
 use plan_tables::names::NameSets;
 use plan_tables::table::Table;
@@ -91,8 +93,8 @@ fn add(
 {
     match *contribution {
         Contribution::Gives(table, name) => add_given(names, text, draft, table, name),
-        Contribution::Reads(kind) => {
-            read_switch(draft, kind);
+        Contribution::Reads(kind, confirms) => {
+            read_switch(draft, kind, confirms);
             Ok(())
         }
         Contribution::Active(name) => add_active(names, text, draft, name),
@@ -161,13 +163,15 @@ fn define_switch(draft: &mut Draft, n: usize)
     draft.last = n;
 }
 
-/// The switch that came last is read so.
-fn read_switch(draft: &mut Draft, kind: SwitchKind)
-    ensures { (names : NameSetsValue) → draft_view names draft.new ≡ with_kind kind (draft_view names draft.old) }
+/// The switch that came last is read so, and this says whether a ball that presses it is on the playfield.
+fn read_switch(draft: &mut Draft, kind: SwitchKind, confirms: bool)
+    ensures { (names : NameSetsValue) → draft_view names draft.new ≡ with_kind kind confirms (draft_view names draft.old) }
 {
     let last = draft.last;
     if last < draft.switches.len() {
-        draft.switches[last].kind = kind;
+        let entry = &mut draft.switches[last];
+        entry.kind = kind;
+        entry.confirms_playfield = confirms;
     }
 }
 
@@ -464,16 +468,22 @@ fn add_effect(
     draft: &mut Draft,
     effect: Effect,
 ) -> Result<(), AllocError>
+    requires rows { length draft.old.rows.items ≤ 1024 }
     ensures { OnOk result (draft_view names.now draft.new ≡ with_contribution (name_sets_view names.now) (draft_view names.now draft.old) (does (effect_view effect.entry))) }
 {
-    let action = action_of(names, text, effect)?;
+    let action = action_of(names, text, last_row(draft), effect)?;
     push_action(&mut draft.lists, action)?;
     Ok(())
 }
 
-/// What an effect list does, by number.
-fn action_of(names: &NameSets, text: &mut Vec<u8>, effect: Effect) -> Result<Action, AllocError>
-    ensures { IfOk result (λ a. a ≡ action_of (name_sets_view names.now) (effect_view effect.entry)) }
+/// What an effect list does, by number. What happens with balls is of this row.
+fn action_of(
+    names: &NameSets,
+    text: &mut Vec<u8>,
+    row: RowId,
+    effect: Effect,
+) -> Result<Action, AllocError>
+    ensures { IfOk result (λ a. a ≡ action_of (name_sets_view names.now) row (effect_view effect.entry)) }
 {
     match effect {
         Effect::Post(name) => {
@@ -484,17 +494,39 @@ fn action_of(names: &NameSets, text: &mut Vec<u8>, effect: Effect) -> Result<Act
             let coil = coil_of(names, text, name)?;
             Ok(action_with(coil, deed))
         }
-        Effect::Variable(name, action, number) => {
-            let variable = variable_of(names, text, name)?;
-            let event = event_of(names, text, player_event(name))?;
-            Ok(Action::Change {
-                variable,
-                action,
-                number,
+        Effect::Variable(name, action, number) => change_of(names, text, name, action, number),
+        Effect::Enter(name, drain) => {
+            let event = event_of(names, text, name)?;
+            Ok(Action::Enter {
+                device: row,
                 event,
+                drain,
             })
         }
+        Effect::Leave => Ok(Action::Leave { device: row }),
+        Effect::Lose => Ok(Action::Lose { device: row }),
+        Effect::Arrive => Ok(Action::Arrive { device: row }),
     }
+}
+
+/// What is done with a variable, with the event that is posted after it.
+fn change_of(
+    names: &NameSets,
+    text: &mut Vec<u8>,
+    name: &[u8],
+    action: VariableAction,
+    number: i64,
+) -> Result<Action, AllocError>
+    ensures { IfOk result (λ a. a ≡ Change (variable_of (name_sets_view names.now Variables) name.now) action number (event_of (name_sets_view names.now Events) (player_event name.now))) }
+{
+    let variable = variable_of(names, text, name)?;
+    let event = event_of(names, text, player_event(name))?;
+    Ok(Action::Change {
+        variable,
+        action,
+        number,
+        event,
+    })
 }
 
 fn coil_of(names: &NameSets, text: &mut Vec<u8>, name: &[u8]) -> Result<CoilId, AllocError>
@@ -579,9 +611,10 @@ fn add_effect_in(
     number: u16,
     effect: Effect,
 ) -> Result<(), AllocError>
+    requires rows { length draft.old.rows.items ≤ 1024 }
     ensures { OnOk result (draft_view names.now draft.new ≡ with_contribution (name_sets_view names.now) (draft_view names.now draft.old) (does_in number (effect_view effect.entry))) }
 {
-    let action = action_of(names, text, effect)?;
+    let action = action_of(names, text, last_row(draft), effect)?;
     let place = first_of_last(&draft.row_lists).0 as usize + number as usize;
     push_action_at(&mut draft.lists, place, action)?;
     Ok(())
@@ -753,6 +786,7 @@ fn blank_switches(alloc: Global, count: usize) -> Result<Vec<SwitchEntry>, Alloc
                 quick: false,
             },
             listeners: Vec::new(alloc),
+            confirms_playfield: false,
             active: Vec::new(alloc),
             inactive: Vec::new(alloc),
         })?;

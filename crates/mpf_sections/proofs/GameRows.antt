@@ -107,19 +107,19 @@ variable_players_short s h =
 -- ---- numbers of a range
 
 module _ (least greatest otherwise : ℕ) (from : least ≤ otherwise) (to : otherwise ≤ greatest) where
-  abbrev InRange : ℕ → Type 0
+  abbrev pub InRange : ℕ → Type 0
   InRange n = (least ≤ n) × (n ≤ greatest)
 
-  by : (n : ℕ) (low high : Bool) → nat_le least n ≡ low → nat_le n greatest ≡ high → InRange (if low && high then n else otherwise)
-  by n true true low high = (leb-true least n low, leb-true n greatest high)
-  by n true false low high = (from, to)
-  by n false high low e = (from, to)
+  pub kept_in_range : (n : ℕ) (low high : Bool) → nat_le least n ≡ low → nat_le n greatest ≡ high → InRange (if low && high then n else otherwise)
+  kept_in_range n true true low high = (leb-true least n low, leb-true n greatest high)
+  kept_in_range n true false low high = (from, to)
+  kept_in_range n false high low e = (from, to)
 
-  natural_in_range : (o : Option Value) → InRange (natural_within least greatest otherwise o)
+  pub natural_in_range : (o : Option Value) → InRange (natural_within least greatest otherwise o)
   natural_in_range None = (from, to)
   natural_in_range (Some (one nothing)) = (from, to)
   natural_in_range (Some (one (flag b))) = (from, to)
-  natural_in_range (Some (one (number (pos n)))) = by n (nat_le least n) (nat_le n greatest) refl refl
+  natural_in_range (Some (one (number (pos n)))) = kept_in_range n (nat_le least n) (nat_le n greatest) refl refl
   natural_in_range (Some (one (number (negsuc n)))) = (from, to)
   natural_in_range (Some (one (time ms))) = (from, to)
   natural_in_range (Some (one (power n))) = (from, to)

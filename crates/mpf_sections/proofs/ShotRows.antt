@@ -5,8 +5,8 @@ use Rattle.std.proofs.lemmas.Bool.{leb-true}
 use Rattle.std.proofs.lemmas.List.Elements.{All-nil, All-cons, All-head, All-tail, All-map, All-weaker, All-from_recursion}
 use Rattle.section_tables.specs.Rows.{Fields, Value, one, names, posts, events, steps, maps, keyed, Entry}
 use Rattle.section_tables.specs.Entries.{written_at}
-use Rattle.section_tables.specs.Named.{IsNamedHandled, AreNamedPlains, IsNamedEntry, IsShortEntry}
-use Rattle.mpf_sections.specs.Rows.{Written, Handled, SectionRows}
+use Rattle.section_tables.specs.Named.{AreNamedPlains, IsNamedEntry, IsShortEntry}
+use Rattle.mpf_sections.specs.Rows.{Written, SectionRows}
 use Rattle.mpf_sections.specs.Typed.{text_of, listed_names, listed_events, listed_maps, name_in, entries_of}
 use Rattle.mpf_sections.specs.TypedShots.{few, shots_name, shot_groups_name, shot_profiles_name, default_profile, shot_of, shot_group_of, state_of, shot_profile_of, shots_in, shot_groups_in, shot_profiles_in}
 use Rattle.mpf_sections.specs.Named.{AllNames, AllNamedEvents, IsNamedShot, IsNamedShotGroup, IsNamedShotProfile, IsNamed}
@@ -20,14 +20,14 @@ use Rattle.mpf_sections.proofs.CoilRows.{written_named, some_named, either_named
 
 -- ---- short lists
 
-few_all : {A : Type 0} (P : A → Type 0) (xs : List A) → All P xs → All P (few xs)
+pub few_all : {A : Type 0} (P : A → Type 0) (xs : List A) → All P xs → All P (few xs)
 few_all P xs h = all_where P (nat_le (length xs) 16) xs h
 
 few_by : {A : Type 0} (xs : List A) (b : Bool) → nat_le (length xs) 16 ≡ b → length (if b then xs else []) ≤ 16
 few_by xs true h = leb-true (length xs) 16 h
 few_by xs false h = omega arith
 
-few_short : {A : Type 0} (xs : List A) → length (few xs) ≤ 16
+pub few_short : {A : Type 0} (xs : List A) → length (few xs) ≤ 16
 few_short xs = few_by xs (nat_le (length xs) 16) refl
 
 -- ---- names

@@ -11,7 +11,7 @@ use Rattle.section_tables.specs.Rows.{Handled}
 use Rattle.section_tables.specs.Kinds.{Shape}
 use Rattle.section_tables.specs.Entries.{handled_at}
 use Rattle.section_tables.specs.Named.{IsNamedHandled, IsNamedKinds, IsNamedTable, IsNamedShape, IsShortTable, IsShortShape}
-use Rattle.mpf_sections.specs.SectionTables.{switches, coils, rule_events, flippers, autofire_coils, block, counters, step_blocks, timers, default_profile, shots, shot_groups, shot_profiles, shot_shapes, mode, machine, game, event_player, coil_player, variable_player, shared_shapes, machine_shapes, mode_shapes, named_in, shape_of}
+use Rattle.mpf_sections.specs.SectionTables.{switches, coils, rule_events, flippers, autofire_coils, playfield, ball_devices, block, counters, step_blocks, timers, default_profile, shots, shot_groups, shot_profiles, shot_shapes, mode, machine, game, event_player, coil_player, variable_player, shared_shapes, device_shapes, machine_shapes, mode_shapes, named_in, shape_of}
 use Rattle.mpf_sections.specs.TableRules.{IsRight}
 use Rattle.section_tables.proofs.RowNames.{no_items, few_items}
 use Rattle.section_tables.proofs.Steps.{word_is}
@@ -120,6 +120,17 @@ shot_profiles_named = ((tt, (tt, tt)), ((tt, tt), ((tt, tt), tt)))
 shot_profiles_short : (longest : ℕ) → IsShortTable longest shot_profiles
 shot_profiles_short longest = let none = no_items longest in (none, (none, (none, tt)))
 
+-- ---- `ball_devices`
+
+pub playfield_named : IsName playfield
+playfield_named = IsName-from_is_name playfield refl
+
+ball_devices_named : IsNamedTable ball_devices
+ball_devices_named = ((tt, tt), ((tt, tt), ((playfield_named, tt), ((tt, tt), ((tt, tt), ((tt, tt), ((tt, tt), ((tt, tt), ((tt, tt), tt)))))))))
+
+ball_devices_short : (longest : ℕ) → IsShortTable longest ball_devices
+ball_devices_short longest = let none = no_items longest in (none, (none, (none, (none, (none, (none, (none, (none, (none, tt)))))))))
+
 -- ---- `mode`
 
 mode_named : IsNamedTable mode
@@ -180,19 +191,28 @@ shared_short longest = (tt, (tt, (tt, (counters_short longest, (step_blocks_shor
 shared_right : AllShapes IsRight shared_shapes
 shared_right = (refl, (refl, (refl, (refl, (refl, (refl, shot_right))))))
 
+device_named : AllShapes IsNamedShape device_shapes
+device_named = (flippers_named, (autofire_coils_named, (ball_devices_named, shared_named)))
+
+device_short : (longest : ℕ) → 1 ≤ longest → AllShapes (IsShortShape longest) device_shapes
+device_short longest one = (flippers_short longest one, (autofire_coils_short longest one, (ball_devices_short longest, shared_short longest)))
+
+device_right : AllShapes IsRight device_shapes
+device_right = (refl, (refl, (refl, shared_right)))
+
 pub shape_named : (text : TextKind) (section : List ℕ) (shape : Shape) → shape_of text section ≡ Some shape → IsNamedShape shape
 shape_named Machine section shape is = holds_at (λ name s. IsNamedShape s) section shape machine_shapes is
-    (tt, (machine_named, (game_named, (switches_named, (coils_named, (flippers_named, (autofire_coils_named, shared_named)))))))
+    (tt, (machine_named, (game_named, (switches_named, (coils_named, device_named)))))
 shape_named Mode section shape is = holds_at (λ name s. IsNamedShape s) section shape mode_shapes is
     (mode_named, (timers_named, shared_named))
 
 pub shape_short : (longest : ℕ) → 1 ≤ longest → (text : TextKind) (section : List ℕ) (shape : Shape) → shape_of text section ≡ Some shape → IsShortShape longest shape
 shape_short longest one Machine section shape is = holds_at (λ name s. IsShortShape longest s) section shape machine_shapes is
-    (tt, (machine_short longest, (game_short longest, (switches_short longest, (coils_short longest, (flippers_short longest one, (autofire_coils_short longest one, shared_short longest)))))))
+    (tt, (machine_short longest, (game_short longest, (switches_short longest, (coils_short longest, device_short longest one)))))
 shape_short longest one Mode section shape is = holds_at (λ name s. IsShortShape longest s) section shape mode_shapes is
     (mode_short longest, (timers_short longest, shared_short longest))
 
 pub shape_right : (text : TextKind) (section : List ℕ) (shape : Shape) → shape_of text section ≡ Some shape → IsRight shape
 shape_right Machine section shape is = holds_at (λ name s. IsRight s) section shape machine_shapes is
-    (tt, (refl, (refl, (refl, (refl, (refl, (refl, shared_right)))))))
+    (tt, (refl, (refl, (refl, (refl, device_right)))))
 shape_right Mode section shape is = holds_at (λ name s. IsRight s) section shape mode_shapes is (refl, (refl, shared_right))

@@ -5,6 +5,7 @@ pub mod Typed
 pub mod TypedCoils
 pub mod TypedGame
 pub mod TypedShots
+pub mod TypedBalls
 pub mod Named
 pub mod Short
 pub mod SectionView

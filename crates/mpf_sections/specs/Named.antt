@@ -2,7 +2,7 @@
 use Rattle.std.specs.Prelude.{List, IfSome}
 use Rattle.std.specs.List.{All}
 pub use Rattle.section_tables.specs.Named.{IsNamedHandled, IsNamedEntry, IsNamedPlayer}
-use Rattle.mpf_sections.specs.Rows.{Written, Handled, Switch, EventPlayer, Coil, CoilPlayer, VariablePlayer, Flipper, Autofire, Shot, ShotGroup, ShotProfile, Block, Counter, StepBlock, Timer, ModeSettings, Content, entries, players, entry, listed, SectionRows}
+use Rattle.mpf_sections.specs.Rows.{Written, Handled, Switch, EventPlayer, Coil, CoilPlayer, VariablePlayer, Flipper, Autofire, Shot, ShotGroup, ShotProfile, BallDevice, Block, Counter, StepBlock, Timer, ModeSettings, Content, entries, players, entry, listed, SectionRows}
 pub use Rattle.mpf_values.specs.Names.{IsName}
 
 -- each name in a list is one
@@ -80,6 +80,14 @@ pub record IsNamedShotGroup (g : ShotGroup) : Type 0 where
 pub record IsNamedShotProfile (p : ShotProfile) : Type 0 where
   pub name : IsName p.name.text
   pub states : AllNames p.states
+
+-- the name of a ball device is one, and so are those of its ball switches, its coil, its target and its tags
+pub record IsNamedBallDevice (d : BallDevice) : Type 0 where
+  pub name : IsName d.name.text
+  pub switches : AllNames d.switches
+  pub eject_coil : IfSome d.eject_coil (λ w. IsName w.text)
+  pub target : IsName d.target.text
+  pub tags : AllNames d.tags
 
 -- the events of a logic block are names
 pub record IsNamedBlock (b : Block) : Type 0 where

@@ -82,6 +82,22 @@ pub record Autofire : Type 0 where
   pub enables : List Handled
   pub disables : List Handled
 
+-- An entry of `ball_devices`: its ball switches, the coil that ejects a ball, if there is one, and where it ejects its
+-- balls to; how many milliseconds an attempt to eject a ball lasts, and how many a ball switch has to be active before
+-- its ball counts, and inactive before its ball is gone; whether a ball that leaves by itself counts as ejected; how
+-- many attempts there are, 0 for no limit; and its tags.
+pub record BallDevice : Type 0 where
+  pub name : Written
+  pub switches : List Written
+  pub eject_coil : Option Written
+  pub target : Written
+  pub timeout : ℕ
+  pub entrance_delay : ℕ
+  pub exit_delay : ℕ
+  pub mechanical : Bool
+  pub max_attempts : ℕ
+  pub tags : List Written
+
 -- what `mode` says of a mode: the events that start and stop it, its priority, whether it runs only in a game, and
 -- whether it stops with the ball
 pub record ModeSettings : Type 0 where

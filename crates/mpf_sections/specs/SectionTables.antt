@@ -152,12 +152,16 @@ control_events =
     ∷ row (codes "value") any_number (default (number (pos 0)))
     ∷ []
 
+-- a time of at least a millisecond, this one by default
+abbrev some_time : List ℕ → ℕ → Setting
+some_time key otherwise = row key (single (time_within 1 4294967295)) (default (one (time otherwise)))
+
 abbrev pub timers : List Setting
 timers =
     from_zero (codes "start_value")
     ∷ optional (codes "end_value") any_number
     ∷ direction
-    ∷ row (codes "tick_interval") (single (time_within 1 4294967295)) (default (one (time 1000)))
+    ∷ some_time (codes "tick_interval") 1000
     ∷ no (codes "start_running")
     ∷ no (codes "restart_on_complete")
     ∷ row (codes "control_events") (map_list control_events false (at_least 0)) (default (maps []))
@@ -236,6 +240,24 @@ variable_player = record { key = an_event; value = keyed_maps variable_item 0 an
 abbrev whole : List ℕ → ℕ → ℕ → ℕ → Setting
 whole key least greatest otherwise = row key (single (number_within (pos least) (pos greatest))) (default (one (number (pos otherwise))))
 
+-- the name of the playfield: balls are ejected to it where nothing else is said, so no device has it
+abbrev pub playfield : List ℕ
+playfield = codes "playfield"
+
+-- at most 16 ball switches; without a limit on attempts, there are 0
+abbrev pub ball_devices : List Setting
+ball_devices =
+    row (codes "ball_switches") (name_list (between 0 16)) required
+    ∷ optional (codes "eject_coil") a_name
+    ∷ row (codes "eject_targets") (single a_name) (default (one (name (written_at 0 playfield))))
+    ∷ some_time (codes "eject_timeouts") 10000
+    ∷ some_time (codes "entrance_count_delay") 500
+    ∷ some_time (codes "exit_count_delay") 500
+    ∷ no (codes "mechanical_eject")
+    ∷ whole (codes "max_eject_attempts") 0 1000 0
+    ∷ naming (codes "tags")
+    ∷ []
+
 -- what holds of the whole machine
 abbrev pub machine : List Setting
 machine = whole (codes "min_balls") 0 99 1 ∷ []
@@ -260,6 +282,9 @@ flippers_name = codes "flippers"
 
 abbrev pub autofire_coils_name : List ℕ
 autofire_coils_name = codes "autofire_coils"
+
+abbrev pub ball_devices_name : List ℕ
+ball_devices_name = codes "ball_devices"
 
 abbrev pub coil_player_name : List ℕ
 coil_player_name = codes "coil_player"
@@ -306,7 +331,7 @@ game_name = codes "game"
 
 -- the name that no device has
 abbrev pub not_a_device : List (List ℕ)
-not_a_device = codes "playfield" ∷ []
+not_a_device = playfield ∷ []
 
 -- the sections of shots, each with how it is written
 abbrev pub shot_shapes : List (List ℕ × Shape)
@@ -332,6 +357,14 @@ shared_shapes =
     ∷ (coil_player_name, by_players coil_player)
     ∷ block_shapes
 
+-- those of devices that the machine text alone has, and those of both texts
+abbrev pub device_shapes : List (List ℕ × Shape)
+device_shapes =
+    (flippers_name, by_entries not_a_device flippers)
+    ∷ (autofire_coils_name, by_entries not_a_device autofire_coils)
+    ∷ (ball_devices_name, by_entries not_a_device ball_devices)
+    ∷ shared_shapes
+
 -- the sections of the machine text
 abbrev pub machine_shapes : List (List ℕ × Shape)
 machine_shapes =
@@ -340,9 +373,7 @@ machine_shapes =
     ∷ (game_name, by_entry game)
     ∷ (switches_name, by_entries [] switches)
     ∷ (coils_name, by_entries [] coils)
-    ∷ (flippers_name, by_entries not_a_device flippers)
-    ∷ (autofire_coils_name, by_entries not_a_device autofire_coils)
-    ∷ shared_shapes
+    ∷ device_shapes
 
 -- those of the text of a mode
 abbrev pub mode_shapes : List (List ℕ × Shape)

@@ -2,7 +2,7 @@
 use Rattle.std.specs.Prelude.{ℕ, ◌≤◌, ℤ, pos, neg_ℤ, ◌≤ℤ◌, Option, IfSome, length}
 use Rattle.std.specs.List.{All}
 pub use Rattle.section_tables.specs.Named.{IsShortEntry, IsShortPlayer}
-use Rattle.mpf_sections.specs.Rows.{Switch, EventPlayer, Coil, CoilItem, CoilPlayer, VariableItem, VariablePlayer, GameSettings, Flipper, Autofire, Shot, ShotGroup, ShotProfile, Block, Counter, StepBlock, Timer, Content, SectionRows}
+use Rattle.mpf_sections.specs.Rows.{Switch, EventPlayer, Coil, CoilItem, CoilPlayer, VariableItem, VariablePlayer, GameSettings, Flipper, Autofire, Shot, ShotGroup, ShotProfile, BallDevice, Block, Counter, StepBlock, Timer, Content, SectionRows}
 use Rattle.mpf_sections.specs.Typed.{entries_in, players_in, entry_in, names_in}
 
 -- No list in a section is longer, whatever its settings are; the coils of an entry of `coil_player` are such a list, and
@@ -93,6 +93,19 @@ pub record IsShortShotGroup (g : ShotGroup) : Type 0 where
 
 abbrev pub IsShortShotProfile : ShotProfile → Type 0
 IsShortShotProfile p = length p.states ≤ 16
+
+-- milliseconds, at least one
+abbrev pub IsSomeTime : ℕ → Type 0
+IsSomeTime ms = (1 ≤ ms) × (ms ≤ 4294967295)
+
+-- a ball device has at most 16 ball switches, and its times and the number of its attempts are in their ranges
+pub record IsShortBallDevice (d : BallDevice) : Type 0 where
+  pub switches : length d.switches ≤ 16
+  pub timeout : IsSomeTime d.timeout
+  pub entrance_delay : IsSomeTime d.entrance_delay
+  pub exit_delay : IsSomeTime d.exit_delay
+  pub max_attempts : d.max_attempts ≤ 1000
+  pub tags : length d.tags ≤ 1024
 
 -- the events that a logic block posts
 pub record IsShortBlock (b : Block) : Type 0 where

@@ -26,7 +26,8 @@ use Rattle.mpf_sections.specs.declared.coil_rules.Autofire as typed_autofires
 use Rattle.mpf_sections.specs.declared.shots.Shot as typed_shots
 use Rattle.mpf_sections.specs.declared.shots.ShotGroup as typed_groups
 use Rattle.mpf_sections.specs.declared.shots.ShotProfile as typed_profiles
-use Rattle.mpf_sections.specs.Rows.{Written, Handled, Switch, EventPlayer, Coil, CoilItem, CoilPlayer, VariableItem, VariablePlayer, GameSettings, Flipper, Autofire, Shot, ShotGroup, ShotProfile, Block, Counter, StepBlock, Control, Timer, ModeSettings}
+use Rattle.mpf_sections.specs.declared.balls.BallDevice as typed_balls
+use Rattle.mpf_sections.specs.Rows.{Written, Handled, Switch, EventPlayer, Coil, CoilItem, CoilPlayer, VariableItem, VariablePlayer, GameSettings, Flipper, Autofire, Shot, ShotGroup, ShotProfile, BallDevice, Block, Counter, StepBlock, Control, Timer, ModeSettings}
 use Rattle.mpf_sections.specs.Typed.{controls_of}
 use Rattle.mpf_sections.specs.TypedCoils.{coil_item_of}
 use Rattle.mpf_sections.specs.TypedGame.{variable_item_of}
@@ -189,4 +190,18 @@ shot_profile_view p = record {
   states = filter_map state_of (map fields_view p.states.now);
   advance_on_hit = p.advance_on_hit;
   loops = p.loops;
+}
+
+abbrev pub ball_device_view : typed_balls.BallDevice → BallDevice
+ball_device_view d = record {
+  name = name_view d.name.now;
+  switches = map name_view d.switches.now;
+  eject_coil = option_map name_at_view d.eject_coil;
+  target = name_at_view d.target;
+  timeout = d.timeout;
+  entrance_delay = d.entrance_delay;
+  exit_delay = d.exit_delay;
+  mechanical = d.mechanical;
+  max_attempts = d.max_attempts;
+  tags = map name_view d.tags.now;
 }

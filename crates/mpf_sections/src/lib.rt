@@ -5,10 +5,11 @@
 //! [`Section`] has the entries that were read by it. They are rows of values in the order of the
 //! table: [`as_switch`], [`as_event_player`], [`as_coil`], [`as_coil_player`],
 //! [`as_variable_player`], [`as_flipper`], [`as_autofire`], [`as_counter`], [`as_step_block`],
-//! [`as_timer`], [`as_shot`], [`as_shot_group`], [`as_shot_profile`], [`as_game`], [`min_balls`] and
-//! [`mode_settings`] give each setting by its name.
+//! [`as_timer`], [`as_shot`], [`as_shot_group`], [`as_shot_profile`], [`as_ball_device`],
+//! [`as_game`], [`min_balls`] and [`mode_settings`] give each setting by its name.
 #![tactic(auto)]
 
+pub mod balls;
 pub mod blocks;
 pub mod coil_rules;
 pub mod coils;
@@ -21,6 +22,7 @@ pub mod typed;
 mod values;
 pub mod words;
 
+pub use balls::{BallDevice, as_ball_device};
 pub use blocks::{Block, Counter, StepBlock, as_counter, as_step_block};
 pub use coil_rules::{Autofire, Flipper, as_autofire, as_flipper};
 pub use coils::{Coil, CoilItem, CoilPlayer, as_coil, as_coil_item, as_coil_player};

@@ -1,16 +1,15 @@
 //! The entries of `shots`, `shot_groups` and `shot_profiles`, by the names of their settings.
 
-ghost use Rattle.std.specs.Prelude.{◌≡◌, map, option_map, slice_get, unwrap_or};
-ghost use Rattle.section_tables.specs.Entries.{written_at};
+ghost use Rattle.std.specs.Prelude.{◌≡◌, map, option_map, slice_get};
 ghost use Rattle.section_tables.specs.View.{values_view};
-ghost use Rattle.mpf_sections.specs.Typed.{listed_names, listed_maps};
-ghost use Rattle.mpf_sections.specs.TypedShots.{few, default_profile, shot_of, shot_group_of, state_of, shot_profile_of, shots_in, shot_groups_in, shot_profiles_in};
-ghost use Rattle.mpf_sections.specs.View.{name_view, fields_view, entry_view, section_view, name_at_view, shot_view, shot_group_view, shot_profile_view};
+ghost use Rattle.mpf_sections.specs.Typed.{listed_maps};
+ghost use Rattle.mpf_sections.specs.TypedShots.{few, shot_of, shot_group_of, state_of, shot_profile_of, shots_in, shot_groups_in, shot_profiles_in};
+ghost use Rattle.mpf_sections.specs.View.{fields_view, entry_view, section_view, name_at_view, shot_view, shot_group_view, shot_profile_view};
 
 use crate::section::Section;
 use crate::tables::{DEFAULT_PROFILE, SHOT_GROUPS_NAME, SHOT_PROFILES_NAME, SHOTS_NAME};
 use crate::typed::NameAt;
-use crate::values::{field, flag, handlers, maps, name, names, text};
+use crate::values::{few_names, field, flag, handlers, maps, name, name_or, text};
 use section_tables::rows::{Entry, Fields, Handler, Name, Value};
 
 /// An entry of `shots`.
@@ -99,27 +98,6 @@ const LOOP: usize = 2;
 // The place of the field in the map of a state.
 const STATE_NAME: usize = 0;
 
-// The profile of this name, or where none is written the default one.
-fn profile_or_default(written: Option<NameAt<'_>>) -> NameAt<'_>
-    ensures { name_at_view result ≡ unwrap_or (option_map name_at_view written.entry) (written_at 0 default_profile) }
-{
-    match written {
-        Some(profile) => profile,
-        None => NameAt {
-            line: 0,
-            text: DEFAULT_PROFILE,
-        },
-    }
-}
-
-// The names at a place of a row, 16 at most.
-fn few_names(row: &[Value], at: usize) -> &[Name]
-    ensures { map name_view result.now ≡ few (listed_names (slice_get (values_view row.now) at)) }
-{
-    let names = names(row, at);
-    if names.len() <= 16 { names } else { &[] }
-}
-
 // The maps at a place of a row, 16 at most.
 fn few_maps(row: &[Value], at: usize) -> &[Fields]
     ensures { map fields_view result.now ≡ few (listed_maps (slice_get (values_view row.now) at)) }
@@ -138,7 +116,7 @@ pub fn as_shot(entry: &Entry) -> Shot<'_>
         name: &entry.name,
         switch: name(text(row, SWITCH)),
         hits: handlers(row, HITS),
-        profile: profile_or_default(name(text(row, PROFILE))),
+        profile: name_or(text(row, PROFILE), DEFAULT_PROFILE),
         advances: handlers(row, ADVANCES),
         resets: handlers(row, SHOT_RESETS),
         enables: handlers(row, ENABLES),

@@ -5,7 +5,7 @@ ghost use Rattle.std.specs.Prelude.{◌≡◌, ℕ, List, Some};
 ghost use Rattle.mpf_sections.specs.declared.tables.TextKind.{TextKind as Text};
 ghost use Rattle.mpf_sections.specs.declared.tables.TextKind.TheVariants.{Machine, Mode};
 ghost use Rattle.section_tables.specs.Kinds.{Shape as SectionShape};
-ghost use Rattle.mpf_sections.specs.SectionTables.{shot_shapes, block_shapes, shared_shapes, named_in, shape_of};
+ghost use Rattle.mpf_sections.specs.SectionTables.{shot_shapes, block_shapes, shared_shapes, device_shapes, named_in, shape_of};
 ghost use Rattle.mpf_sections.specs.TableRules.{IsRight};
 ghost use Rattle.section_tables.specs.Reading.{give};
 ghost use Rattle.section_tables.specs.TableView.{shape_view};
@@ -80,6 +80,9 @@ const PULSE: Scalar = Scalar::Time(1, 5_000);
 const POWER: Kind = Kind::One(Scalar::Power);
 
 const FULL_POWER: Without = Without::One(Absent::Power(1_000));
+
+/// A time of at least a millisecond.
+const SOME_TIME: Kind = Kind::One(Scalar::Time(1, u32::MAX));
 
 const DIRECTION: Setting = setting!(
     b"direction",
@@ -201,7 +204,7 @@ pub const TIMERS: &[Setting] = &[
     DIRECTION,
     setting!(
         b"tick_interval",
-        Kind::One(Scalar::Time(1, u32::MAX)),
+        SOME_TIME,
         Without::One(Absent::Time(1_000))
     ),
     setting!(b"start_running", FLAG, NO),
@@ -255,6 +258,47 @@ pub const SHOT_PROFILES: &[Setting] = &[
     ),
     setting!(b"advance_on_hit", FLAG, YES),
     setting!(b"loop", FLAG, NO),
+];
+
+/// The name of the playfield, to which balls are ejected where nothing else is said. No device has
+/// it.
+pub const PLAYFIELD: &[u8] = b"playfield";
+
+/// `ball_devices`: at most 16 ball switches. Without a limit on attempts, there are 0.
+pub const BALL_DEVICES: &[Setting] = &[
+    setting!(
+        b"ball_switches",
+        Kind::Names(Bounds::Between(0, 16)),
+        REQUIRED
+    ),
+    setting!(b"eject_coil", NAME, NOTHING),
+    setting!(
+        b"eject_targets",
+        NAME,
+        Without::One(Absent::Name(PLAYFIELD))
+    ),
+    setting!(
+        b"eject_timeouts",
+        SOME_TIME,
+        Without::One(Absent::Time(10_000))
+    ),
+    setting!(
+        b"entrance_count_delay",
+        SOME_TIME,
+        Without::One(Absent::Time(500))
+    ),
+    setting!(
+        b"exit_count_delay",
+        SOME_TIME,
+        Without::One(Absent::Time(500))
+    ),
+    setting!(b"mechanical_eject", FLAG, NO),
+    setting!(
+        b"max_eject_attempts",
+        Kind::One(Scalar::Number(0, 1_000)),
+        ZERO
+    ),
+    setting!(b"tags", Kind::Names(ANY), Without::NoNames),
 ];
 
 /// `mode`: the settings of a mode itself. `use_wait_queue` can only be no.
@@ -358,6 +402,9 @@ pub const FLIPPERS_NAME: &[u8] = b"flippers";
 /// The name of the section [`AUTOFIRE_COILS`].
 pub const AUTOFIRE_COILS_NAME: &[u8] = b"autofire_coils";
 
+/// The name of the section [`BALL_DEVICES`].
+pub const BALL_DEVICES_NAME: &[u8] = b"ball_devices";
+
 /// The name of the section [`COIL_PLAYER`].
 pub const COIL_PLAYER_NAME: &[u8] = b"coil_player";
 
@@ -387,7 +434,7 @@ pub const SHOT_PROFILES_NAME: &[u8] = b"shot_profiles";
 
 /// The name that no device has.
 const NOT_A_DEVICE: Barred = Barred {
-    names: &[b"playfield"],
+    names: &[PLAYFIELD],
 };
 
 /// The name that no entry of [`SHOT_PROFILES`] has.
@@ -466,6 +513,23 @@ fn shared_shape(section: &[u8]) -> Option<Shape>
     block_shape(section)
 }
 
+// How a section is written that the machine text alone has for its devices, or that texts of both
+// kinds have.
+fn device_shape(section: &[u8]) -> Option<Shape>
+    ensures { give shape_view result ≡ named_in section.now device_shapes }
+{
+    if section == FLIPPERS_NAME {
+        return Some(Shape::Entries(NOT_A_DEVICE, FLIPPERS));
+    }
+    if section == AUTOFIRE_COILS_NAME {
+        return Some(Shape::Entries(NOT_A_DEVICE, AUTOFIRE_COILS));
+    }
+    if section == BALL_DEVICES_NAME {
+        return Some(Shape::Entries(NOT_A_DEVICE, BALL_DEVICES));
+    }
+    shared_shape(section)
+}
+
 // How a section of the machine text is written.
 fn machine_shape(section: &[u8]) -> Option<Shape>
     ensures { give shape_view result ≡ shape_of Machine section.now }
@@ -485,13 +549,7 @@ fn machine_shape(section: &[u8]) -> Option<Shape>
     if section == COILS_NAME {
         return Some(Shape::Entries(ANY_NAME, COILS));
     }
-    if section == FLIPPERS_NAME {
-        return Some(Shape::Entries(NOT_A_DEVICE, FLIPPERS));
-    }
-    if section == AUTOFIRE_COILS_NAME {
-        return Some(Shape::Entries(NOT_A_DEVICE, AUTOFIRE_COILS));
-    }
-    shared_shape(section)
+    device_shape(section)
 }
 
 // How a section of the text of a mode is written.

@@ -1,11 +1,14 @@
 //! Values in a row, by their places.
 
-ghost use Rattle.std.specs.Prelude.{◌≡◌, ◌&&◌, nat_le, map, option_map, slice_get, pos, negsuc};
+ghost use Rattle.std.specs.Prelude.{◌≡◌, ◌&&◌, nat_le, map, option_map, slice_get, unwrap_or, pos, negsuc};
+ghost use Rattle.section_tables.specs.Entries.{written_at};
 ghost use Rattle.section_tables.specs.EntryOf.{within};
 ghost use Rattle.section_tables.specs.View.{name_view, handler_view, handlers_view, fields_view, keyed_view, plain_view, plains_view, value_view, values_view};
 ghost use Rattle.mpf_sections.specs.Typed.{listed_names, listed_events, listed_posts, listed_steps, listed_maps, listed_keyed, text_of, word_of, flag_of, natural_of, natural_within, number_of, direction_of, limit_of, time_of, handled_in, event_in, name_in, word_in, number_in, pulse_in, power_in};
 ghost use Rattle.section_tables.specs.Rows.{name as named};
 ghost use Rattle.mpf_sections.specs.TypedGame.{change_in};
+ghost use Rattle.mpf_sections.specs.TypedShots.{few};
+ghost use Rattle.mpf_sections.specs.TypedBalls.{some_time_of};
 ghost use Rattle.mpf_sections.specs.View.{name_at_view, handled_at_view, plain_option_view};
 
 use crate::typed::{HandledAt, NameAt, as_handled};
@@ -24,6 +27,15 @@ pub fn names(row: &[Value], at: usize) -> &[Name]
         Some(Value::Names(names)) => names,
         _ => &[],
     }
+}
+
+/// The names at a place of a row, 16 at most; none where there are more, or there is no list of
+/// names.
+pub fn few_names(row: &[Value], at: usize) -> &[Name]
+    ensures { map name_view result.now ≡ few (listed_names (slice_get (values_view row.now) at)) }
+{
+    let names = names(row, at);
+    if names.len() <= 16 { names } else { &[] }
 }
 
 /// The handled events at a place of a row; none where there is no list of them.
@@ -146,6 +158,16 @@ pub fn milliseconds(row: &[Value], at: usize) -> u32
     }
 }
 
+/// The milliseconds at a place of a row, at least 1; where there are none, others.
+pub fn some_time(row: &[Value], at: usize, otherwise: u32) -> u32
+    ensures { result ≡ some_time_of otherwise (slice_get (values_view row.now) at) }
+{
+    match row.get(at) {
+        Some(Value::One(Plain::Time(ms))) if *ms >= 1 => *ms,
+        _ => otherwise,
+    }
+}
+
 /// The steps at a place of a row, 16 at most; none where there are no steps.
 pub fn steps(row: &[Value], at: usize) -> &[Vec<Handler>]
     ensures { map handlers_view result.now ≡ listed_steps (slice_get (values_view row.now) at) }
@@ -236,6 +258,19 @@ pub fn name(text: Option<&Plain>) -> Option<NameAt<'_>>
         }),
         Some(Plain::DefaultName(text)) => Some(NameAt { line: 0, text }),
         _ => None,
+    }
+}
+
+/// The name that a text is, where it is written; where it is no name, another one, at line 0.
+pub fn name_or<'a>(text: Option<&'a Plain>, otherwise: &'static [u8]) -> NameAt<'a>
+    ensures { name_at_view result ≡ unwrap_or (name_in (plain_option_view text.entry)) (written_at 0 otherwise.now) }
+{
+    match name(text) {
+        Some(written) => written,
+        None => NameAt {
+            line: 0,
+            text: otherwise,
+        },
     }
 }
 

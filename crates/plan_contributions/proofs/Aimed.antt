@@ -5,15 +5,16 @@ use Rattle.std.specs.Prelude.{IfSome}
 use Rattle.std.specs.List.{All, flat_map}
 use Rattle.std.specs.Str.{bytes_eq}
 use Rattle.std.proofs.lemmas.Grind.{flat_map-append}
-use Rattle.std.proofs.lemmas.List.{append_assoc, length-map, get_or_append_left, get_or-append_right}
-use Rattle.std.proofs.lemmas.Option.{slice_get-get_or}
+use Rattle.std.proofs.lemmas.List.{append_assoc, get_or_append_left, get_or-append_right}
+use Rattle.std.proofs.lemmas.Option.{slice_get-get_or, slice_get_within}
 use Rattle.std.proofs.lemmas.List.Elements.{All-nil, All-cons, All-head, All-tail, All-append, All-map}
 use Rattle.mpf_values.specs.Events.{Condition, Event}
-use Rattle.mpf_sections.specs.Rows.{Written, Entry, Player, Switch, EventPlayer, CoilPlayer, VariablePlayer, VariableItem, GameSettings, Shot, ShotGroup, ModeSettings, Content, entries, players, SectionRows}
+use Rattle.mpf_sections.specs.Rows.{Written, Entry, Player, Switch, EventPlayer, CoilPlayer, VariablePlayer, VariableItem, GameSettings, Shot, ShotGroup, BallDevice, ModeSettings, Content, entries, players, SectionRows}
 use Rattle.mpf_sections.specs.Rows as sections
 use Rattle.mpf_sections.specs.Typed.{switches_name, event_player_name, switch_of, event_player_of, mode_settings}
 use Rattle.mpf_sections.specs.TypedCoils.{coils_name, coil_player_name, coil_of, coil_player_of}
 use Rattle.mpf_sections.specs.TypedShots.{shot_of, shot_group_of}
+use Rattle.mpf_sections.specs.TypedBalls.{ball_device_of}
 use Rattle.mpf_sections.specs.TypedGame.{variable_player_name, game_name, variable_player_of, game_of, min_balls_of}
 use Rattle.mpf_config.specs.Rows.{ModeRows, Rows}
 use Rattle.machine_definitions.specs.GameEvents.{game_event_names}
@@ -31,15 +32,17 @@ use Rattle.plan_contributions.specs.VariableEntries.{item_change}
 use Rattle.plan_contributions.specs.CoilEntries.{item_effect}
 use Rattle.plan_contributions.specs.DeviceEntries.{texts, events, posts, Device, device_of}
 use Rattle.plan_contributions.specs.ShotEntries.{shot_acts, lone_device, group_device}
-use Rattle.plan_rows.specs.Seats.{Seat, seat_of, rows_after_text}
+use Rattle.plan_contributions.specs.BallEntries.{ball_device_from, is_known}
+use Rattle.plan_rows.specs.declared.destination.Destination.{Destination}
+use Rattle.plan_rows.specs.Seats.{Seat, seat_of, destination_of, rows_after_text}
 use Rattle.plan_rows.specs.Members.{Members, members_of}
-use Rattle.plan_contributions.specs.Contributions.{Contribution, gives, reads, active, inactive, mode, mode_event, binds, does, device, mentions, under, unknown, plays, under_where, bound, always, kind_of, active_posts, inactive_posts, switch_contributions, player_contributions, coil_contributions, coil_player_contributions, item_contributions, variable_player_contributions, game_contributions, later_events, starter, stopper, stopper_where, controls, mode_contributions, act_binding, effects_from, listens_from, device_contributions, where_device, machine_device, machine_entry_contributions, entry_contributions, alone_contributions, player_entry_contributions, unknown_unless, shot_switch, act_at, seated, shot_contributions, group_contributions, row_contributions, given_by, contributions_of}
+use Rattle.plan_contributions.specs.Contributions.{Contribution, gives, reads, active, inactive, mode, mode_event, binds, does, device, mentions, under, unknown, plays, under_where, bound, always, kind_of, confirms, active_posts, inactive_posts, switch_contributions, player_contributions, coil_contributions, coil_player_contributions, item_contributions, variable_player_contributions, game_contributions, later_events, starter, stopper, stopper_where, controls, mode_contributions, act_binding, effects_from, listens_from, device_contributions, where_device, machine_device, machine_entry_contributions, entry_contributions, alone_contributions, player_entry_contributions, unknown_unless, shot_switch, act_at, seated, shot_contributions, group_contributions, ball_device_contributions, row_contributions, given_by, contributions_of}
 use Rattle.plan_rows.specs.Rows.{Row, alone, player, of_mode, entry_row, rows_from, rows_in, text_rows, mode_rows, modes_rows}
 use Rattle.plan_contributions.specs.Facts.{row_places, IsAimedAt, AreAimed}
 use Rattle.plan_contributions.proofs.Before.{All-every, All-flat_map}
 use Rattle.plan_contributions.proofs.RowFacts.{All-each, All-made, All-listens, All-lists, entry_such, sections_each}
 use Rattle.plan_contributions.proofs.Silent.{row_tells, rows_tell}
-use Rattle.plan_contributions.proofs.SeatFacts.{row_given, silent, IsSeatIn, seat_in, rows_count}
+use Rattle.plan_contributions.proofs.SeatFacts.{row_given, silent, rows_of_text, IsRowAt, seat_at, rows_told_are, rows_counted}
 
 -- What a contribution of a text of this place is like: no mode comes by it, its row is of the place, and what it binds is
 -- aimed so.
@@ -78,13 +81,13 @@ module _ (A : Place → Aim → Type 0) (place : Place) (n : ℕ) where
       by _ is h = h
 
   -- and they are as many as the contributions tell of
-  pub places_told : (cs : List Contribution) → All (IsOfText A place) cs → row_places n cs ≡ map (λ p. (p, n)) (flat_map row_given cs)
+  pub places_told : (cs : List Contribution) → All (IsOfText A place) cs → length (row_places n cs) ≡ length (flat_map row_given cs)
   places_told [] own = refl
   places_told (c ∷ cs) own = by c (All-head (IsOfText A place) c cs own) (places_told cs (All-tail (IsOfText A place) c cs own))
     where
-      by : (c : Contribution) → IsOfText A place c → row_places n cs ≡ map (λ p. (p, n)) (flat_map row_given cs) → row_places n (c ∷ cs) ≡ map (λ p. (p, n)) (flat_map row_given (c ∷ cs))
+      by : (c : Contribution) → IsOfText A place c → length (row_places n cs) ≡ length (flat_map row_given cs) → length (row_places n (c ∷ cs)) ≡ length (flat_map row_given (c ∷ cs))
       by (mode name priority game) is h = absurd is
-      by (device own settings) is h = ap (λ l. (own, n) ∷ l) h
+      by (device own settings) is h = ap suc h
       by _ is h = h
 
 -- where they are aimed at these rows, all are
@@ -110,8 +113,8 @@ module _ (A : Place → Aim → Type 0) (plain : (own : Place) (aim : Aim) → I
   in_switch machine s =
       let on = map active (active_posts s) in
       let off = map inactive (inactive_posts s) in
-      All-cons Q (gives Switches s.name.text) (reads (kind_of machine s) ∷ on ++ off) tt
-      (All-cons Q (reads (kind_of machine s)) (on ++ off) tt (All-append Q on off (All-made Q active (λ e. tt) (active_posts s)) (All-made Q inactive (λ e. tt) (inactive_posts s))))
+      All-cons Q (gives Switches s.name.text) (reads (kind_of machine s) (confirms s.tags) ∷ on ++ off) tt
+      (All-cons Q (reads (kind_of machine s) (confirms s.tags)) (on ++ off) tt (All-append Q on off (All-made Q active (λ e. tt) (active_posts s)) (All-made Q inactive (λ e. tt) (inactive_posts s))))
 
   -- a handled event is bound, under its condition
   in_bound : (e : Event) (own : Place) (aim : Aim) → A own aim → All Q (bound e own aim)
@@ -192,6 +195,13 @@ module _ (A : Place → Aim → Type 0) (plain : (own : Place) (aim : Aim) → I
   unfolding group_contributions
   in_group g m = All-append Q (unknown_unless m.all_known) (device_contributions place (group_device g m)) (in_unknown m.all_known) (in_device (group_device g m))
 
+  -- a ball device, which is of the machine
+  in_ball_device : (machine : List SectionRows) (d : BallDevice) (to : Destination) → place ≡ Machine → All Q (ball_device_contributions machine d to)
+  unfolding ball_device_contributions
+  in_ball_device machine d to own =
+      let given = device_contributions Machine (ball_device_from machine d to) in
+      All-append Q (unknown_unless (is_known to)) given (in_unknown (is_known to)) (subst (λ p. All Q (device_contributions p (ball_device_from machine d to))) own (in_device (ball_device_from machine d to)))
+
   -- ---- entries
 
   when : (b : Bool) (cs ds : List Contribution) → All Q cs → All Q ds → All Q (if b then cs else ds)
@@ -233,27 +243,28 @@ module _ (A : Place → Aim → Type 0) (plain : (own : Place) (aim : Aim) → I
   in_entry Mode section e = in_where A plain Mode (device_of section e)
 
   -- all that a section gives, or a text, where A holds of each act on a seat
-  module _ (place : Place) (seat : List ℕ → Option Seat) (seats : (name : List ℕ) → IfSome (seat name) (λ s. (act : Act) → A place (On s.row act))) where
+  module _ (place : Place) (seat : List ℕ → Option Seat) (to : List ℕ → Destination) (seats : (name : List ℕ) → IfSome (seat name) (λ s. (act : Act) → A place (On s.row act))) where
     abbrev R : Row → Type 0
     R r = All (IsOfText A place) (row_contributions rows.machine r)
 
-    of_entry : (section : List ℕ) (e : Entry) → R (entry_row rows place seat section e)
+    of_entry : (section : List ℕ) (e : Entry) → R (entry_row rows place seat to section e)
     of_entry section e =
         let own = shot_of e in
         let others = shot_group_of e in
-        entry_such R rows place seat section e (in_shot A plain place own (seat own.name.text) (has_profile rows own.profile.text) (profile_of_name rows own.profile.text) (seats own.name.text))
-        (in_group A plain place others (members_of rows others)) (in_entry place section e)
+        entry_such R rows place seat to section e (in_shot A plain place own (seat own.name.text) (has_profile rows own.profile.text) (profile_of_name rows own.profile.text) (seats own.name.text))
+        (in_group A plain place others (members_of rows others))
+        (λ ball named. let d = ball_device_of e in in_ball_device A plain place rows.machine d (to d.target.text) ball) (in_entry place section e)
 
-    of_section : (section : List ℕ) (content : Content) → All R (rows_from rows place seat section content)
-    of_section section (entries es) = All-map R (entry_row rows place seat section) es (All-every (λ e. R (entry_row rows place seat section e)) (of_entry section) es)
+    of_section : (section : List ℕ) (content : Content) → All R (rows_from rows place seat to section content)
+    of_section section (entries es) = All-map R (entry_row rows place seat to section) es (All-every (λ e. R (entry_row rows place seat to section e)) (of_entry section) es)
     of_section section (players ps) = All-map R (player place section) ps (All-every (λ p. R (player place section p)) (in_player_entry A plain place rows.machine place section) ps)
     of_section section (sections.entry e) = All-cons R (alone place section e) [] (in_alone A plain place rows.machine place section e) (All-nil R)
     of_section section (sections.listed ws) = All-nil R
 
-    pub of_text : (ss : List SectionRows) → All (IsOfText A place) (given_by rows.machine (rows_in rows place seat ss))
+    pub of_text : (ss : List SectionRows) → All (IsOfText A place) (given_by rows.machine (rows_in rows place seat to ss))
     of_text ss =
-        All-flat_map (IsOfText A place) (row_contributions rows.machine) (rows_in rows place seat ss)
-        (sections_each R (λ s. Unit {0}) rows place seat (λ s h. of_section s.name s.content) ss (All-every (λ s. Unit {0}) (λ s. tt) ss))
+        All-flat_map (IsOfText A place) (row_contributions rows.machine) (rows_in rows place seat to ss)
+        (sections_each R (λ s. Unit {0}) rows place seat to (λ s h. of_section s.name s.content) ss (All-every (λ s. Unit {0}) (λ s. tt) ss))
 
 -- ---- modes
 
@@ -307,7 +318,7 @@ module _ (rows : Rows) (place : Place) (n : ℕ) (ss : List SectionRows) where
   text_given = given_by rows.machine (text_rows rows place n ss)
 
   of_any : All (IsOfText IsAny place) text_given
-  of_any = of_text IsAny (λ own aim is. tt) rows place (seat_of place n ss) (λ name. any_seat (seat_of place n ss name)) ss
+  of_any = of_text IsAny (λ own aim is. tt) rows place (seat_of place n ss) (destination_of place n ss) (λ name. any_seat (seat_of place n ss name)) ss
     where
       any_seat : (o : Option Seat) → IfSome o (λ s. (act : Act) → Unit {0})
       any_seat None = tt
@@ -317,26 +328,30 @@ module _ (rows : Rows) (place : Place) (n : ℕ) (ss : List SectionRows) where
     -- its rows are those that are counted
     places_count : n + length (row_places k text_given) ≡ rows_after_text place n ss
     places_count =
-        ap (λ l. n + length l) (places_told IsAny place k text_given of_any)
-        ∙ ap (λ i. n + i) (length-map (flat_map row_given text_given) (λ p. (p, k)))
-        ∙ ap (λ (l : List Place). n + length l) (rows_tell row_given silent rows.machine (text_rows rows place n ss))
-        ∙ rows_count place n ss rows
+        ap (λ i. n + i) (places_told IsAny place k text_given of_any ∙ ap (λ (l : List Bool). length l) (rows_tell row_given silent rows.machine (text_rows rows place n ss) ∙ rows_told_are place n ss rows))
+        ∙ rows_counted place n ss
 
     -- so each act on a seat is on one of them
     text_aimed : (places before later : List (Place × ℕ)) → length before ≡ n → places ≡ before ++ (row_places k text_given ++ later) → All (IsOfText (IsAimedAt places k) place) text_given
     text_aimed places before later first all =
-        of_text (IsAimedAt places k) (unnumbered places k) rows place (seat_of place n ss) (λ name. at (seat_of place n ss name) (seat_in place n ss name)) ss
+        of_text (IsAimedAt places k) (unnumbered places k) rows place (seat_of place n ss) (destination_of place n ss) (λ name. at (seat_of place n ss name) (seat_at place n ss name)) ss
       where
         own : List (Place × ℕ)
         own = row_places k text_given
 
-        at : (o : Option Seat) → IfSome o (IsSeatIn n (rows_after_text place n ss)) → IfSome o (λ s. (act : Act) → IsAimedAt places k place (On s.row act))
+        at : (o : Option Seat) → IfSome o (λ s. IsRowAt n (rows_of_text place ss) false s.row) → IfSome o (λ s. (act : Act) → IsAimedAt places k place (On s.row act))
         at None h = tt
-        at (Some s) h = λ act. ap (λ l. slice_get l s.row) all ∙ in_middle before own later n s.row (place, k) first (places_of_text IsAny place k text_given of_any) h.0 (omega (arith, h.1, places_count))
+        at (Some s) h =
+            let within : s.row < n + length own = omega (arith, h.0, slice_get_within (rows_of_text place ss) (s.row - n) false h.1, places_count, rows_counted place n ss) in
+            λ act. ap (λ l. slice_get l s.row) all ∙ in_middle before own later n s.row (place, k) first (places_of_text IsAny place k text_given of_any) h.0 within
 
 -- ---- all texts
 
 module _ (places : List (Place × ℕ)) (rows : Rows) where
+  no_items : {X : Type 0} (xs : List X) → length xs ≡ 0 → xs ≡ []
+  no_items [] is = refl
+  no_items (x ∷ xs) is = absurd (omega (arith, is))
+
   -- a mode gives no row of its own
   mode_places : (n : ℕ) (name : List ℕ) (s : ModeSettings) (text later : List Contribution) → All (IsOfText IsAny Mode) text
       → row_places n ((mode_contributions name s ++ text) ++ later) ≡ row_places (suc n) text ++ row_places (suc n) later
@@ -345,7 +360,7 @@ module _ (places : List (Place × ℕ)) (rows : Rows) where
       let first = later_events name ++ controls s in
       let first_own : All (IsOfText IsAny Mode) first = of_controls IsAny (λ own aim is. tt) name s in
       let none : row_places (suc n) first ≡ [] =
-      places_told IsAny Mode (suc n) first first_own ∙ ap (map (λ p. (p, suc n))) (row_tells row_given silent rows.machine (of_mode name s)) in
+      no_items (row_places (suc n) first) (places_told IsAny Mode (suc n) first first_own ∙ ap (λ (l : List Bool). length l) (row_tells row_given silent rows.machine (of_mode name s))) in
       ap (row_places (suc n)) (append_assoc first text later)
       ∙ places_before IsAny Mode (suc n) first (text ++ later) first_own
       ∙ (λ i. none i ++ places_before IsAny Mode (suc n) text later own i)

@@ -17,7 +17,8 @@ use Rattle.machine_definitions.specs.Shots.{profile_of_name}
 use Rattle.plan_rows.specs.declared.place.Place.{Place}
 use Rattle.plan_rows.specs.declared.place.Place.TheVariants.{Machine, Mode}
 use Rattle.plan_contributions.specs.CoilEntries.{limits_of_coil}
-use Rattle.plan_rows.specs.Seats.{Seat, seat_of, rows_after_text}
+use Rattle.plan_rows.specs.declared.destination.Destination.{Destination}
+use Rattle.plan_rows.specs.Seats.{Seat, seat_of, destination_of, rows_after_text}
 use Rattle.plan_contributions.specs.Contributions.{device, coil_contributions, contributions_of}
 use Rattle.plan_rows.specs.Rows.{Row, entry, player, entry_row, rows_from, rows_in, mode_rows, modes_rows, rows_of}
 use Rattle.plan_contributions.specs.Facts.{given_coil, AreCoilsOf}
@@ -27,7 +28,7 @@ use Rattle.plan_contributions.proofs.Silent.{IsSilent, told, rows_tell, none_mac
 silent : IsSilent given_coil
 silent = record {
   given = λ n. refl;
-  read = λ kind. refl;
+  read = λ kind confirms. refl;
   on = λ n. refl;
   off = λ n. refl;
   modes = λ n priority game. refl;
@@ -65,65 +66,66 @@ module _ (rows : Rows) where
   none_both rs qs a b = flat_map-append of_row rs qs ∙ (λ i. a i ++ b i)
 
   -- a shot and a group give none
-  entry_none : (place : Place) (seat : List ℕ → Option Seat) (section : List ℕ) (e : Entry) → of_row (entry place section e) ≡ [] → of_row (entry_row rows place seat section e) ≡ []
-  entry_none place seat section e other =
+  entry_none : (place : Place) (seat : List ℕ → Option Seat) (to : List ℕ → Destination) (section : List ℕ) (e : Entry) → of_row (entry place section e) ≡ [] → of_row (entry_row rows place seat to section e) ≡ []
+  entry_none place seat to section e other =
       let own = shot_of e in
-      entry_such (λ r. of_row r ≡ []) rows place seat section e (none_shot given_coil silent none rows.machine place own (seat own.name.text) (profile_of_name rows own.profile.text)) refl other
+      entry_such (λ r. of_row r ≡ []) rows place seat to section e (none_shot given_coil silent none rows.machine place own (seat own.name.text) (profile_of_name rows own.profile.text)) refl (λ own named. refl) other
 
   -- ---- modes
 
-  mode_content_none : (seat : List ℕ → Option Seat) (name : List ℕ) (content : Content) → of_rows (rows_from rows Mode seat name content) ≡ []
-  mode_content_none seat name (entries es) = none_each (entry_row rows Mode seat name) (λ e. entry_none Mode seat name e (none_mode given_coil silent none rows.machine name e)) es
-  mode_content_none seat name (players ps) = none_each (player Mode name) (λ p. refl) ps
-  mode_content_none seat name (sections.entry e) = refl
-  mode_content_none seat name (sections.listed ws) = refl
+  mode_content_none : (seat : List ℕ → Option Seat) (to : List ℕ → Destination) (name : List ℕ) (content : Content) → of_rows (rows_from rows Mode seat to name content) ≡ []
+  mode_content_none seat to name (entries es) = none_each (entry_row rows Mode seat to name) (λ e. entry_none Mode seat to name e (none_mode given_coil silent none rows.machine name e)) es
+  mode_content_none seat to name (players ps) = none_each (player Mode name) (λ p. refl) ps
+  mode_content_none seat to name (sections.entry e) = refl
+  mode_content_none seat to name (sections.listed ws) = refl
 
-  mode_sections_none : (seat : List ℕ → Option Seat) (ss : List SectionRows) → of_rows (rows_in rows Mode seat ss) ≡ []
-  mode_sections_none seat [] = refl
-  mode_sections_none seat (s ∷ ss) = none_both (rows_from rows Mode seat s.name s.content) (rows_in rows Mode seat ss) (mode_content_none seat s.name s.content) (mode_sections_none seat ss)
+  mode_sections_none : (seat : List ℕ → Option Seat) (to : List ℕ → Destination) (ss : List SectionRows) → of_rows (rows_in rows Mode seat to ss) ≡ []
+  mode_sections_none seat to [] = refl
+  mode_sections_none seat to (s ∷ ss) = none_both (rows_from rows Mode seat to s.name s.content) (rows_in rows Mode seat to ss) (mode_content_none seat to s.name s.content) (mode_sections_none seat to ss)
 
   modes_none : (n : ℕ) (ms : List ModeRows) → of_rows (modes_rows rows n ms) ≡ []
   modes_none n [] = refl
   modes_none n (m ∷ ms) =
       let after = rows_after_text Mode n m.sections in
-      none_both (mode_rows rows n m) (modes_rows rows after ms) (mode_sections_none (seat_of Mode n m.sections) m.sections) (modes_none after ms)
+      none_both (mode_rows rows n m) (modes_rows rows after ms) (mode_sections_none (seat_of Mode n m.sections) (destination_of Mode n m.sections) m.sections) (modes_none after ms)
 
   -- ---- the machine
 
-  module _ (seat : List ℕ → Option Seat) where
-    of_coils : (es : List Entry) → of_rows (map (entry_row rows Machine seat coils_name) es) ≡ map as_given (map coil_of es)
+  module _ (seat : List ℕ → Option Seat) (to : List ℕ → Destination) where
+    of_coils : (es : List Entry) → of_rows (map (entry_row rows Machine seat to coils_name) es) ≡ map as_given (map coil_of es)
     unfolding coil_contributions
     of_coils [] = refl
     of_coils (e ∷ es) = ap (λ l. as_given (coil_of e) ∷ l) (of_coils es)
 
-    entries_coils : (name : List ℕ) (es : List Entry) (b : Bool) → bytes_eq name coils_name ≡ b → of_rows (map (entry_row rows Machine seat name) es) ≡ map as_given (map coil_of (if b then es else []))
+    entries_coils : (name : List ℕ) (es : List Entry) (b : Bool) → bytes_eq name coils_name ≡ b → of_rows (map (entry_row rows Machine seat to name) es) ≡ map as_given (map coil_of (if b then es else []))
     entries_coils name es true same =
-        subst (λ (section : List ℕ). of_rows (map (entry_row rows Machine seat section) es) ≡ map as_given (map coil_of es)) (sym ((bytes_eq-Decides name coils_name).0 same)) (of_coils es)
-    entries_coils name es false other = none_each (entry_row rows Machine seat name) (λ e. entry_none Machine seat name e (none_machine given_coil silent none rows.machine name e other)) es
+        subst (λ (section : List ℕ). of_rows (map (entry_row rows Machine seat to section) es) ≡ map as_given (map coil_of es)) (sym ((bytes_eq-Decides name coils_name).0 same)) (of_coils es)
+    entries_coils name es false other = none_each (entry_row rows Machine seat to name) (λ e. entry_none Machine seat to name e (none_machine given_coil silent none rows.machine name e other)) es
 
     none_named : (b : Bool) → [] ≡ map as_given (map coil_of (if b then [] else []))
     none_named true = refl
     none_named false = refl
 
-    content_coils : (name : List ℕ) (content : Content) → of_rows (rows_from rows Machine seat name content) ≡ map as_given (coils_in (record { name = name; content = content }))
+    content_coils : (name : List ℕ) (content : Content) → of_rows (rows_from rows Machine seat to name content) ≡ map as_given (coils_in (record { name = name; content = content }))
     unfolding coils_in
     content_coils name (entries es) = entries_coils name es (bytes_eq name coils_name) refl
     content_coils name (players ps) = none_each (player Machine name) (λ p. refl) ps ∙ none_named (bytes_eq name coils_name)
     content_coils name (sections.entry e) = none_named (bytes_eq name coils_name)
     content_coils name (sections.listed ws) = none_named (bytes_eq name coils_name)
 
-    sections_coils : (ss : List SectionRows) → of_rows (rows_in rows Machine seat ss) ≡ map as_given (flat_map coils_in ss)
+    sections_coils : (ss : List SectionRows) → of_rows (rows_in rows Machine seat to ss) ≡ map as_given (flat_map coils_in ss)
     sections_coils [] = refl
     sections_coils (s ∷ ss) =
-        flat_map-append of_row (rows_from rows Machine seat s.name s.content) (rows_in rows Machine seat ss)
+        flat_map-append of_row (rows_from rows Machine seat to s.name s.content) (rows_in rows Machine seat to ss)
         ∙ (λ i. content_coils s.name s.content i ++ sections_coils ss i)
         ∙ sym (map-append as_given (coils_in s) (flat_map coils_in ss))
 
 pub coils_given : (rows : Rows) → AreCoilsOf rows.machine (contributions_of rows)
 coils_given rows =
     let seat = seat_of Machine 0 rows.machine in
+    let to = destination_of Machine 0 rows.machine in
     let after = rows_after_text Machine 0 rows.machine in
     rows_tell given_coil silent rows.machine (rows_of rows)
-    ∙ flat_map-append (of_row rows) (rows_in rows Machine seat rows.machine) (modes_rows rows after rows.modes)
-    ∙ (λ i. sections_coils rows seat rows.machine i ++ modes_none rows after rows.modes i)
+    ∙ flat_map-append (of_row rows) (rows_in rows Machine seat to rows.machine) (modes_rows rows after rows.modes)
+    ∙ (λ i. sections_coils rows seat to rows.machine i ++ modes_none rows after rows.modes i)
     ∙ append-nil (map as_given (flat_map coils_in rows.machine))

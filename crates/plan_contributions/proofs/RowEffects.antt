@@ -1,14 +1,15 @@
 -- What holds of each effect of the rows, of each event that their switches post, and of each switch to which their devices
 -- listen, holds of those of their contributions.
-use Rattle.std.proofs.Common.{◌≡◌, ℕ, Bool, true, false, if◌then◌else◌, List, [], ◌∷◌, ◌++◌, map, get_or, zero, suc, sym, true≢false, arith, codes}
+use Rattle.std.proofs.Common.{◌≡◌, ℕ, Bool, true, false, if◌then◌else◌, List, [], ◌∷◌, ◌++◌, map, get_or, zero, suc, refl, sym, true≢false, arith, codes}
 use Rattle.std.specs.Prelude.{Option, None, Some, IfSome, is_some}
 use Rattle.std.specs.Str.{bytes_eq}
 use Rattle.std.specs.List.{All, flat_map}
 use Rattle.std.proofs.lemmas.List.Elements.{All-nil, All-cons, All-append, All-map, All-weaker, All-head, All-tail}
 use Rattle.std.proofs.lemmas.List.Sums.{list_all-from_AllPass}
 use Rattle.mpf_values.specs.Events.{Condition, Event}
-use Rattle.mpf_sections.specs.Rows.{Written, Entry, Player, Switch, EventPlayer, CoilItem, CoilPlayer, VariablePlayer, VariableItem, GameSettings, Coil, Flipper, Autofire, Shot, ShotGroup, ModeSettings, Content, entries, players, SectionRows}
+use Rattle.mpf_sections.specs.Rows.{Written, Entry, Player, Switch, EventPlayer, CoilItem, CoilPlayer, VariablePlayer, VariableItem, GameSettings, Coil, Flipper, Autofire, Shot, ShotGroup, BallDevice, ModeSettings, Content, entries, players, SectionRows}
 use Rattle.mpf_sections.specs.TypedGame.{variable_player_name, game_name, variable_player_of, game_of, variable_players_in, min_balls_of}
+use Rattle.mpf_sections.specs.TypedBalls.{ball_devices_name, ball_device_of, ball_devices_in}
 use Rattle.machine_definitions.specs.GameEvents.{game_event_names}
 use Rattle.machine_definitions.specs.Shots.{Profile, shot_called, has_profile, profile_of_name}
 use Rattle.mpf_sections.specs.TypedShots.{shots_name, shot_groups_name, shot_of, shot_group_of, shots_in, shot_groups_in}
@@ -26,14 +27,17 @@ use Rattle.plan_contributions.specs.declared.contribution.Aim.{Aim}
 use Rattle.plan_contributions.specs.declared.contribution.Aim.TheVariants.{Run, Start, Stop, Do, On}
 use Rattle.plan_contributions.specs.CoilEntries.{limits_of_coil, item_effect, flipper_device, autofire_device}
 use Rattle.plan_contributions.specs.DeviceEntries.{Effect, posts}
+use Rattle.plan_contributions.specs.BallEntries.{ball_device_from, is_known}
 use Rattle.plan_contributions.specs.ShotEntries.{shot_lists, shot_acts, lone_device, group_device}
-use Rattle.plan_rows.specs.Seats.{Seat, seat_of}
+use Rattle.plan_rows.specs.declared.destination.Destination.{Destination}
+use Rattle.plan_rows.specs.Seats.{Seat, seat_of, destination_of, rows_after_text}
 use Rattle.plan_rows.specs.Members.{members_of}
-use Rattle.plan_contributions.specs.Contributions.{Contribution, reads, active, inactive, mode, binds, does, device, mentions, coil, under, plays, under_where, bound, always, texts, events, kind_of, active_posts, inactive_posts, switch_contributions, player_contributions, coil_contributions, coil_player_contributions, item_contributions, variable_player_contributions, game_contributions, starter, stopper, stopper_where, later_events, controls, mode_contributions, Device, act_binding, listens_from, effects_from, device_contributions, device_of, where_device, machine_device, unknown_unless, shot_switch, act_at, seated, shot_contributions, group_contributions, machine_entry_contributions, entry_contributions, alone_contributions, player_entry_contributions, row_contributions, contributions_of}
-use Rattle.plan_rows.specs.Rows.{Row, entry, alone, player, of_mode, shot_row, group_row, entry_row, rows_from, rows_in, mode_rows, rows_of}
+use Rattle.plan_contributions.specs.Contributions.{Contribution, reads, active, inactive, mode, binds, does, device, mentions, coil, under, plays, under_where, bound, always, texts, events, kind_of, confirms, active_posts, inactive_posts, switch_contributions, player_contributions, coil_contributions, coil_player_contributions, item_contributions, variable_player_contributions, game_contributions, starter, stopper, stopper_where, later_events, controls, mode_contributions, Device, act_binding, listens_from, effects_from, device_contributions, device_of, where_device, machine_device, unknown_unless, shot_switch, act_at, seated, shot_contributions, group_contributions, ball_device_contributions, machine_entry_contributions, entry_contributions, alone_contributions, player_entry_contributions, row_contributions, contributions_of}
+use Rattle.plan_rows.specs.Rows.{Row, entry, alone, player, of_mode, shot_row, group_row, ball_device_row, other_row, entry_row, rows_from, rows_in, mode_rows, modes_rows, rows_of}
 use Rattle.plan_contributions.proofs.Before.{All-every, All-flat_map}
-use Rattle.plan_contributions.proofs.RowFacts.{All-made, All-listens, All-lists, sections_each, rows_each}
-use Rattle.plan_contributions.specs.Doing.{IsSwitchDoing, IsPlayerDoing, IsDeviceDoing, IsEntryDoing, IsCoilPlayerDoing, IsVariablePlayerDoing, IsShotDoing, IsShotGroupDoing, IsDoing, IsMachineDoing, AreDoing, Does}
+use Rattle.plan_contributions.proofs.RowFacts.{All-made, All-listens, All-lists, sections_each, modes_each}
+use Rattle.plan_contributions.proofs.SeatFacts.{targets_known}
+use Rattle.plan_contributions.specs.Doing.{has_target, IsBallDeviceDoing, IsSwitchDoing, IsPlayerDoing, IsDeviceDoing, IsEntryDoing, IsCoilPlayerDoing, IsVariablePlayerDoing, IsShotDoing, IsShotGroupDoing, IsDoing, IsMachineDoing, AreDoing, Does}
 
 -- what holds of each item as it is seen
 from_map : {X Y : Type 0} (R : Y → Type 0) (f : X → Y) (xs : List X) → All R (map f xs) → All (λ x. R (f x)) xs
@@ -41,12 +45,16 @@ from_map R f [] h = All-nil (λ x. R (f x))
 from_map R f (x ∷ xs) h = All-cons (λ x. R (f x)) x xs (All-head R (f x) (map f xs) h) (from_map R f xs (All-tail R (f x) (map f xs) h))
 
 -- where this holds, that does
-abbrev Where : Bool → Type 0 → Type 0
+abbrev pub Where : Bool → Type 0 → Type 0
 Where true A = A
 Where false A = Unit {0}
 
+pub where_so : {A : Type 0} (b : Bool) → b ≡ true → Where b A → A
+where_so true is h = h
+where_so false is h = absurd (true≢false (sym is))
+
 -- where a section has a name, what holds of its items as they are seen there
-where_named : {X Y : Type 0} (R : Y → Type 0) (f : X → Y) (b : Bool) (xs : List X) → All R (map f (if b then xs else [])) → All (λ x. Where b (R (f x))) xs
+pub where_named : {X Y : Type 0} (R : Y → Type 0) (f : X → Y) (b : Bool) (xs : List X) → All R (map f (if b then xs else [])) → All (λ x. Where b (R (f x))) xs
 where_named R f true xs h = from_map R f xs h
 where_named R f false xs h = λ i d within. tt
 
@@ -59,7 +67,7 @@ module _ (P : Effect → Type 0) (S L : List ℕ → Type 0) where
   in_switch machine s h =
       let on = map active (active_posts s) in
       let off = map inactive (inactive_posts s) in
-      All-cons D _ (reads (kind_of machine s) ∷ on ++ off) tt (All-cons D _ (on ++ off) tt
+      All-cons D _ (reads (kind_of machine s) (confirms s.tags) ∷ on ++ off) tt (All-cons D _ (on ++ off) tt
       (All-append D on off (All-map D active (active_posts s) h.0) (All-map D inactive (inactive_posts s) h.1)))
 
   -- a handled event is bound, under its condition
@@ -178,6 +186,16 @@ module _ (P : Effect → Type 0) (S L : List ℕ → Type 0) where
       All-append D (unknown_unless m.all_known) (device_contributions place (group_device g m)) (in_unknown m.all_known (list_all-from_AllPass (λ w. is_some (shot_called rows w.text)) g.shots h.shots))
       (in_device place (group_device g m) (record { lists = h.lists; listens = All-nil L }))
 
+  -- ---- ball devices
+
+  module _ (rows : Rows) where
+    -- a ball device that ejects its balls to what there is
+    in_ball_device : (d : BallDevice) (to : Destination) → is_known to ≡ true → IsBallDeviceDoing P S L rows d → All D (ball_device_contributions rows.machine d to)
+    unfolding ball_device_contributions
+    in_ball_device d to known h =
+        let own = ball_device_from rows.machine d to in
+        All-append D (unknown_unless (is_known to)) (device_contributions Machine own) (in_unknown (is_known to) known) (in_device Machine own (record { lists = h.lists; listens = h.listens }))
+
   -- ---- rows
 
   module _ (rows : Rows) where
@@ -239,55 +257,87 @@ module _ (P : Effect → Type 0) (S L : List ℕ → Type 0) where
         let changing = where_named (IsVariablePlayerDoing P S L) variable_player_of (bytes_eq s.name variable_player_name) ps variables in
         All-map GivesDoing (player place s.name) ps (λ i d within. in_player_entry place s.name (get_or ps i d) (own i d within) (others i d within) (changing i d within))
 
-    -- an entry of a section, where it is a shot, a group, or neither
-    in_entry_row : (place : Place) (seat : List ℕ → Option Seat) (section : List ℕ) (e : Entry) → Where (bytes_eq section shots_name) (IsShotDoing P S L rows (shot_of e)) → Where (bytes_eq section shot_groups_name) (IsShotGroupDoing P S L rows (shot_group_of e))
-        → All D (entry_contributions machine place section e) → GivesDoing (entry_row rows place seat section e)
-    in_entry_row place seat section e = by (bytes_eq section shots_name) (bytes_eq section shot_groups_name)
-      where
-        by : (s g : Bool) → Where s (IsShotDoing P S L rows (shot_of e)) → Where g (IsShotGroupDoing P S L rows (shot_group_of e)) → All D (entry_contributions machine place section e)
-            → GivesDoing (if s then shot_row rows place seat (shot_of e) else (if g then group_row rows place seat (shot_group_of e) else entry place section e))
-        by true g hs hg h = in_shot rows place (shot_of e) (seat (shot_of e).name.text) hs
-        by false true hs hg h = in_group rows place (shot_group_of e) hg
-        by false false hs hg h = h
+    -- where an entry is a ball device of the machine text, it does so, and ejects its balls to what there is
+    abbrev IsBallEntryDoing : (List ℕ → Destination) → Place → List ℕ → Entry → Type 0
+    IsBallEntryDoing to place section e =
+        place ≡ Machine → bytes_eq section ball_devices_name ≡ true → IsBallDeviceDoing P S L rows (ball_device_of e) × (is_known (to (ball_device_of e).target.text) ≡ true)
 
-    in_entries : (place : Place) (seat : List ℕ → Option Seat) (s : SectionRows) (es : List Entry) → All (IsShotDoing P S L rows) (map shot_of (if bytes_eq s.name shots_name then es else []))
-        → All (IsShotGroupDoing P S L rows) (map shot_group_of (if bytes_eq s.name shot_groups_name then es else [])) → All (λ e. All D (entry_contributions machine place s.name e)) es → All GivesDoing (map (entry_row rows place seat s.name) es)
-    in_entries place seat s es shots groups others =
+    -- an entry of a section, where it is a shot, a group, a ball device, or none of these
+    in_entry_row : (place : Place) (seat : List ℕ → Option Seat) (to : List ℕ → Destination) (section : List ℕ) (e : Entry) → Where (bytes_eq section shots_name) (IsShotDoing P S L rows (shot_of e)) → Where (bytes_eq section shot_groups_name) (IsShotGroupDoing P S L rows (shot_group_of e))
+        → IsBallEntryDoing to place section e → All D (entry_contributions machine place section e) → GivesDoing (entry_row rows place seat to section e)
+    in_entry_row place seat to section e = by (bytes_eq section shots_name) (bytes_eq section shot_groups_name)
+      where
+        in_machine : (b : Bool) → (b ≡ true → IsBallDeviceDoing P S L rows (ball_device_of e) × (is_known (to (ball_device_of e).target.text) ≡ true)) → All D (entry_contributions machine Machine section e)
+            → GivesDoing (if b then ball_device_row to (ball_device_of e) else entry Machine section e)
+        in_machine true ball h = let own = ball refl in in_ball_device rows (ball_device_of e) (to (ball_device_of e).target.text) own.1 own.0
+        in_machine false ball h = h
+
+        in_other : (place : Place) → IsBallEntryDoing to place section e → All D (entry_contributions machine place section e) → GivesDoing (other_row to place section e)
+        in_other Machine ball h = in_machine (bytes_eq section ball_devices_name) (ball refl) h
+        in_other Control ball h = h
+        in_other Mode ball h = h
+
+        by : (s g : Bool) → Where s (IsShotDoing P S L rows (shot_of e)) → Where g (IsShotGroupDoing P S L rows (shot_group_of e)) → IsBallEntryDoing to place section e → All D (entry_contributions machine place section e)
+            → GivesDoing (if s then shot_row rows place seat (shot_of e) else (if g then group_row rows place seat (shot_group_of e) else other_row to place section e))
+        by true g hs hg ball h = in_shot rows place (shot_of e) (seat (shot_of e).name.text) hs
+        by false true hs hg ball h = in_group rows place (shot_group_of e) hg
+        by false false hs hg ball h = in_other place ball h
+
+    in_entries : (place : Place) (seat : List ℕ → Option Seat) (to : List ℕ → Destination) (s : SectionRows) (es : List Entry) → All (IsShotDoing P S L rows) (map shot_of (if bytes_eq s.name shots_name then es else []))
+        → All (IsShotGroupDoing P S L rows) (map shot_group_of (if bytes_eq s.name shot_groups_name then es else [])) → All (IsBallEntryDoing to place s.name) es → All (λ e. All D (entry_contributions machine place s.name e)) es
+        → All GivesDoing (map (entry_row rows place seat to s.name) es)
+    in_entries place seat to s es shots groups balls others =
         let own = where_named (IsShotDoing P S L rows) shot_of (bytes_eq s.name shots_name) es shots in
         let grouped = where_named (IsShotGroupDoing P S L rows) shot_group_of (bytes_eq s.name shot_groups_name) es groups in
-        All-map GivesDoing (entry_row rows place seat s.name) es (λ i d within. in_entry_row place seat s.name (get_or es i d) (own i d within) (grouped i d within) (others i d within))
+        All-map GivesDoing (entry_row rows place seat to s.name) es (λ i d within. in_entry_row place seat to s.name (get_or es i d) (own i d within) (grouped i d within) (balls i d within) (others i d within))
+
+    -- what each ball device ejects to is there
+    abbrev AreKnown : (List ℕ → Destination) → Type 0
+    AreKnown to = (name : List ℕ) → has_target machine name ≡ true → is_known (to name) ≡ true
 
     -- of a section of a mode
-    in_mode_content : (seat : List ℕ → Option Seat) (s : SectionRows) (content : Content) → IsDoing P S L rows (record { name = s.name; content = content }) → All GivesDoing (rows_from rows Mode seat s.name content)
+    in_mode_content : (seat : List ℕ → Option Seat) (to : List ℕ → Destination) (s : SectionRows) (content : Content) → IsDoing P S L rows (record { name = s.name; content = content }) → All GivesDoing (rows_from rows Mode seat to s.name content)
     unfolding event_players_in coil_players_in variable_players_in shots_in shot_groups_in entry_contributions
-    in_mode_content seat s (entries es) h = in_entries Mode seat s es h.shots h.groups (λ i d within. in_where Mode (device_of s.name (get_or es i d)) (h.devices i d within))
-    in_mode_content seat s (players ps) h = in_players Mode s ps h.players h.coil_players h.variable_players
-    in_mode_content seat s (sections.entry e) h = All-cons GivesDoing (alone Mode s.name e) [] (in_alone Mode s.name e) (All-nil GivesDoing)
-    in_mode_content seat s (sections.listed ws) h = All-nil GivesDoing
+    in_mode_content seat to s (entries es) h = in_entries Mode seat to s es h.shots h.groups (λ i d within own named. absurd cc) (λ i d within. in_where Mode (device_of s.name (get_or es i d)) (h.devices i d within))
+    in_mode_content seat to s (players ps) h = in_players Mode s ps h.players h.coil_players h.variable_players
+    in_mode_content seat to s (sections.entry e) h = All-cons GivesDoing (alone Mode s.name e) [] (in_alone Mode s.name e) (All-nil GivesDoing)
+    in_mode_content seat to s (sections.listed ws) h = All-nil GivesDoing
 
     -- and of one of the machine
-    in_machine_content : (seat : List ℕ → Option Seat) (s : SectionRows) (content : Content) → IsMachineDoing P S L rows (record { name = s.name; content = content }) → All GivesDoing (rows_from rows Machine seat s.name content)
-    unfolding switches_in event_players_in coil_players_in variable_players_in flippers_in autofires_in shots_in shot_groups_in entry_contributions
-    in_machine_content seat s (entries es) h =
+    in_machine_content : (seat : List ℕ → Option Seat) (to : List ℕ → Destination) → AreKnown to → (s : SectionRows) (content : Content) → IsMachineDoing P S L rows (record { name = s.name; content = content }) → All GivesDoing (rows_from rows Machine seat to s.name content)
+    unfolding switches_in event_players_in coil_players_in variable_players_in flippers_in autofires_in shots_in shot_groups_in ball_devices_in entry_contributions
+    in_machine_content seat to known s (entries es) h =
         let switches = where_named (IsSwitchDoing P S L) switch_of (bytes_eq s.name switches_name) es h.switches in
         let flippers = where_named (λ f. IsDeviceDoing P S L (flipper_device machine f)) flipper_of (bytes_eq s.name flippers_name) es h.flippers in
         let autofires = where_named (λ a. IsDeviceDoing P S L (autofire_device machine a)) autofire_of (bytes_eq s.name autofire_coils_name) es h.autofires in
         let all : IsDoing P S L rows (record { name = s.name; content = entries es }) = h.all in
-        in_entries Machine seat s es all.shots all.groups (λ i d within.
+        let balls = where_named (IsBallDeviceDoing P S L rows) ball_device_of (bytes_eq s.name ball_devices_name) es h.ball_devices in
+        in_entries Machine seat to s es all.shots all.groups
+        (λ i d within own named.
+        let ball = where_so (bytes_eq s.name ball_devices_name) named (balls i d within) in
+        (ball, known (ball_device_of (get_or es i d)).target.text ball.target))
+        (λ i d within.
         let e = get_or es i d in
         in_machine_entry s.name e (switches i d within) (in_machine_device s.name e (flippers i d within) (autofires i d within) (all.devices i d within)))
-    in_machine_content seat s (players ps) h = let all : IsDoing P S L rows (record { name = s.name; content = players ps }) = h.all in in_players Machine s ps all.players all.coil_players all.variable_players
-    in_machine_content seat s (sections.entry e) h = All-cons GivesDoing (alone Machine s.name e) [] (in_alone Machine s.name e) (All-nil GivesDoing)
-    in_machine_content seat s (sections.listed ws) h = All-nil GivesDoing
+    in_machine_content seat to known s (players ps) h = let all : IsDoing P S L rows (record { name = s.name; content = players ps }) = h.all in in_players Machine s ps all.players all.coil_players all.variable_players
+    in_machine_content seat to known s (sections.entry e) h = All-cons GivesDoing (alone Machine s.name e) [] (in_alone Machine s.name e) (All-nil GivesDoing)
+    in_machine_content seat to known s (sections.listed ws) h = All-nil GivesDoing
 
     in_mode_rows : (n : ℕ) (m : ModeRows) → All (IsDoing P S L rows) m.sections → All GivesDoing (mode_rows rows n m)
     in_mode_rows n m h =
         let seat = seat_of Mode n m.sections in
-        All-cons GivesDoing (of_mode m.name (mode_settings m.sections)) (rows_in rows Mode seat m.sections) (in_mode m.name (mode_settings m.sections))
-        (sections_each GivesDoing (IsDoing P S L rows) rows Mode seat (λ s. in_mode_content seat s s.content) m.sections h)
+        let to = destination_of Mode n m.sections in
+        All-cons GivesDoing (of_mode m.name (mode_settings m.sections)) (rows_in rows Mode seat to m.sections) (in_mode m.name (mode_settings m.sections))
+        (sections_each GivesDoing (IsDoing P S L rows) rows Mode seat to (λ s. in_mode_content seat to s s.content) m.sections h)
 
   pub all_do : (rows : Rows) → AreDoing P S L rows → All (Does P S L) (contributions_of rows)
   all_do rows h =
+      let R = GivesDoing rows in
+      let seat = seat_of Machine 0 rows.machine in
+      let to = destination_of Machine 0 rows.machine in
+      let after = rows_after_text Machine 0 rows.machine in
       let IsModeDoing : ModeRows → Type 0 = λ m. All (IsDoing P S L rows) m.sections in
       All-flat_map D (row_contributions rows.machine) (rows_of rows)
-      (rows_each (GivesDoing rows) (IsMachineDoing P S L rows) IsModeDoing rows (λ seat s. in_machine_content rows seat s s.content) (in_mode_rows rows) h.machine h.modes)
+      (All-append R (rows_in rows Machine seat to rows.machine) (modes_rows rows after rows.modes)
+      (sections_each R (IsMachineDoing P S L rows) rows Machine seat to (λ s. in_machine_content rows seat to (targets_known 0 rows.machine) s s.content) rows.machine h.machine)
+      (modes_each R IsModeDoing rows (in_mode_rows rows) after rows.modes h.modes))

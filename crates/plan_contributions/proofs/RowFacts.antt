@@ -1,5 +1,5 @@
 -- What the contributions of a row are like: proved here once for each section, and all else follows from it.
-use Rattle.std.proofs.Common.{◌≡◌, ℕ, suc, ◌<◌, ◌≤◌, Bool, true, false, if◌then◌else◌, List, [], ◌∷◌, ◌++◌, length, map, get_or, refl, sym, subst, arith, codes}
+use Rattle.std.proofs.Common.{◌≡◌, ℕ, zero, suc, ◌<◌, ◌≤◌, Bool, true, false, if◌then◌else◌, List, [], ◌∷◌, ◌++◌, length, map, get_or, refl, sym, subst, arith, codes}
 use Rattle.std.specs.Prelude.{Option, None, Some, IfSome}
 use Rattle.std.specs.Str.{bytes_eq}
 use Rattle.std.specs.List.{All, flat_map}
@@ -7,28 +7,30 @@ use Rattle.std.proofs.lemmas.Grind.{flat_map-append}
 use Rattle.std.proofs.lemmas.List.{length-map}
 use Rattle.std.proofs.lemmas.List.Elements.{All-nil, All-cons, All-head, All-tail, All-append, All-map, All-weaker}
 use Rattle.mpf_values.specs.Events.{Event}
-use Rattle.mpf_sections.specs.Rows.{Written, Handled, Entry, Player, Switch, EventPlayer, Coil, CoilItem, CoilPlayer, VariableItem, VariablePlayer, GameSettings, Flipper, Autofire, Block, Counter, StepBlock, Control as TimerControl, Timer, Shot, ShotGroup, ModeSettings, Content, entries, players, SectionRows}
+use Rattle.mpf_sections.specs.Rows.{Written, Handled, Entry, Player, Switch, EventPlayer, Coil, CoilItem, CoilPlayer, VariableItem, VariablePlayer, GameSettings, Flipper, Autofire, Block, Counter, StepBlock, Control as TimerControl, Timer, Shot, ShotGroup, BallDevice, ModeSettings, Content, entries, players, SectionRows}
 use Rattle.mpf_config.specs.Rows.{ModeRows, Rows}
 use Rattle.mpf_sections.specs.Rows as sections
-use Rattle.mpf_sections.specs.Named.{IsName, AllNames, IsNamedHandled, AllNamedEvents, IsNamedEntry, IsNamedPlayer, IsNamedSwitch, IsNamedEventPlayer, IsNamedCoil, IsNamedCoilPlayer, IsNamedVariablePlayer, IsNamedFlipper, IsNamedAutofire, IsNamedShot, IsNamedShotGroup, IsNamedBlock, IsNamedCounter, IsNamedStepBlock, IsNamedTimer, AreNamedSettings, IsNamedContent, IsNamed}
+use Rattle.mpf_sections.specs.Named.{IsName, AllNames, IsNamedHandled, AllNamedEvents, IsNamedEntry, IsNamedPlayer, IsNamedSwitch, IsNamedEventPlayer, IsNamedCoil, IsNamedCoilPlayer, IsNamedVariablePlayer, IsNamedFlipper, IsNamedAutofire, IsNamedShot, IsNamedShotGroup, IsNamedBallDevice, IsNamedBlock, IsNamedCounter, IsNamedStepBlock, IsNamedTimer, AreNamedSettings, IsNamedContent, IsNamed}
 use Rattle.mpf_config.specs.Named.{IsNamedMode}
 use Rattle.mpf_sections.specs.Typed.{switches_name, event_player_name, counters_name, accruals_name, sequences_name, timers_name, switch_of, event_player_of, counter_of, step_block_of, timer_of, mode_settings}
 use Rattle.mpf_sections.specs.TypedCoils.{coils_name, coil_player_name, flippers_name, autofire_coils_name, coil_of, coil_player_of, flipper_of, autofire_of}
 use Rattle.mpf_sections.specs.TypedShots.{shots_name, shot_groups_name, shot_of, shot_group_of}
+use Rattle.mpf_sections.specs.TypedBalls.{ball_devices_name, ball_device_of}
 use Rattle.mpf_sections.specs.TypedGame.{variable_player_name, game_name, variable_player_of, game_of, min_balls_of}
-use Rattle.mpf_sections.specs.Short.{IsGameInRange, IsCoilInRange, IsItemInRange, IsCoilPlayerInRange, IsShortEntry, IsShortPlayer, IsShortBlock, IsShortCounter, IsShortStepBlock, IsShortTimer, IsShortContent, IsShortSection}
+use Rattle.mpf_sections.specs.Short.{IsGameInRange, IsCoilInRange, IsItemInRange, IsCoilPlayerInRange, IsShortEntry, IsShortPlayer, IsShortBlock, IsShortCounter, IsShortStepBlock, IsShortTimer, IsShortBallDevice, IsShortContent, IsShortSection}
 use Rattle.mpf_config.specs.Short.{IsShortMode, AreListsShort}
 use Rattle.mpf_sections.proofs.RowNames.{switch_named, event_player_named, mode_settings_named}
 use Rattle.mpf_sections.proofs.ShortRows.{event_player_short}
 use Rattle.mpf_sections.proofs.DeviceRows.{counter_named, step_block_named, timer_named, counter_short, step_block_short, timer_in_range}
 use Rattle.mpf_sections.proofs.CoilRows.{coil_named, coil_player_named, flipper_named, autofire_named, coil_in_range, coil_player_short, coil_player_in_range}
 use Rattle.mpf_sections.proofs.ShotRows.{shot_named, shot_group_named, shot_group_short}
+use Rattle.mpf_sections.proofs.BallRows.{ball_device_named, ball_device_short}
 use Rattle.mpf_sections.proofs.GameRows.{variable_player_named, variable_player_short, game_in_range, min_balls_few}
 use Rattle.plan_contributions.specs.declared.contribution.Aim.{Aim}
 use Rattle.plan_contributions.specs.declared.contribution.Aim.TheVariants.{Run, Start, Stop, Do, On}
 use Rattle.plan_rows.specs.declared.place.Place.{Place}
 use Rattle.plan_rows.specs.declared.place.Place.TheVariants.{Machine, Control, Mode}
-use Rattle.plan_tables.specs.Devices.{IsWithinLimits}
+use Rattle.plan_tables.specs.Devices.{IsAttemptsWithin, IsWithinLimits}
 use Rattle.plan_tables.specs.declared.devices.Act.{Act}
 use Rattle.plan_tables.specs.declared.devices.Act.TheVariants.{Count, Step, Enable, Disable, Reset, Restart}
 use Rattle.plan_tables.specs.declared.devices.Settings.{Settings}
@@ -38,16 +40,18 @@ use Rattle.machine_definitions.specs.Players.{player_event}
 use Rattle.machine_definitions.specs.Shots.{Profile}
 use Rattle.plan_contributions.specs.VariableEntries.{item_change}
 use Rattle.plan_contributions.specs.CoilEntries.{limits_of_coil, defaults_called, own_pulse, own_hold, item_effect, flipper_on, flipper_off, flipper_device, autofire_device}
-use Rattle.plan_contributions.specs.DeviceEntries.{disable, Effect, posts, works, changes, events, device_of, acts, block_acts, block_mentions, block_event, or_own, block_lists, counter_device, step_acts, step_settings, step_device, controlled, timer_event, timer_endings, timer_device, always}
+use Rattle.plan_contributions.specs.DeviceEntries.{disable, Effect, posts, works, changes, enters, leaves, loses, arrives, events, device_of, acts, block_acts, block_mentions, block_event, or_own, block_lists, counter_device, step_acts, step_settings, step_device, controlled, timer_event, timer_endings, timer_device, always}
+use Rattle.plan_contributions.specs.BallEntries.{drains, ball_event, ball_endings, eject_pulse, attempt_effects, drain_mentions, attempts_of, ball_device_from, is_known}
 use Rattle.plan_contributions.specs.ShotEntries.{shot_events, group_events, shot_acts, lone_device, group_device}
-use Rattle.plan_rows.specs.Seats.{Seat, seat_of, rows_after_text}
+use Rattle.plan_rows.specs.declared.destination.Destination.{Destination}
+use Rattle.plan_rows.specs.Seats.{Seat, seat_of, destination_of, rows_after_text}
 use Rattle.plan_rows.specs.Members.{flags, is_enabled, Members}
 use Rattle.plan_tables.specs.declared.entries.ModeEvent.{ModeEvent}
 use Rattle.plan_tables.specs.declared.entries.ModeEvent.TheVariants.{WillStart, Starting, Started, Stopping, Stopped}
 use Rattle.plan_tables.specs.declared.table.Table.{Table}
 use Rattle.plan_tables.specs.declared.table.Table.TheVariants.{Events, Switches, Coils, Variables}
-use Rattle.plan_contributions.specs.Contributions.{Contribution, gives, reads, active, inactive, mode, mode_event, mode_event_name, binds, does, device, does_in, listens, mentions, unknown, coil, under, plays, bound, texts, kind_of, tag_event, active_posts, inactive_posts, switch_contributions, player_contributions, coil_contributions, coil_player_contributions, item_contributions, variable_player_contributions, game_contributions, starter, stopper, stopper_where, later_events, controls, mode_contributions, Device, act_binding, effects_from, listens_from, device_contributions, where_device, unknown_unless, shot_switch, act_at, seated, shot_contributions, group_contributions, machine_device, machine_entry_contributions, entry_contributions, alone_contributions, player_entry_contributions, row_contributions, given_by, contributions_of}
-use Rattle.plan_rows.specs.Rows.{Row, entry, alone, shot, group, player, of_mode, shot_row, group_row, entry_row, rows_from, rows_in, mode_rows, modes_rows, rows_of}
+use Rattle.plan_contributions.specs.Contributions.{Contribution, gives, reads, active, inactive, mode, mode_event, mode_event_name, binds, does, device, does_in, listens, mentions, unknown, coil, under, plays, bound, texts, kind_of, confirms, tag_event, active_posts, inactive_posts, switch_contributions, player_contributions, coil_contributions, coil_player_contributions, item_contributions, variable_player_contributions, game_contributions, starter, stopper, stopper_where, later_events, controls, mode_contributions, Device, act_binding, effects_from, listens_from, device_contributions, where_device, unknown_unless, shot_switch, act_at, seated, shot_contributions, group_contributions, ball_device_contributions, machine_device, machine_entry_contributions, entry_contributions, alone_contributions, player_entry_contributions, row_contributions, given_by, contributions_of}
+use Rattle.plan_rows.specs.Rows.{Row, entry, alone, shot, group, ball_device, player, of_mode, shot_row, group_row, ball_device_row, other_row, entry_row, rows_from, rows_in, mode_rows, modes_rows, rows_of}
 use Rattle.plan_contributions.specs.Facts.{ArePlaced, IsOfNames, effects_in_after, full, IsRoomy, AreShort, AreLimits, AreRules, IsDeedInRange, IsEffectInRange, IsLimited, IsPlaceOf, IsOfMachine, IsPlaced, IsOpenPlace, IsOpen, AreOpened}
 use Rattle.plan_contributions.proofs.Before.{each_before, each_alone, all_before, all_alone, All-bound, each_some, All-flat_map}
 use Rattle.plan_contributions.proofs.CoilFacts.{pulse_ranged, hold_ranged, item_ranged, flips_on, flips_off}
@@ -70,6 +74,10 @@ abbrev pub IsFitEffect : (List ℕ → Type 0) → Effect → Type 0
 IsFitEffect P (posts n) = P n
 IsFitEffect P (works n deed) = IsName n
 IsFitEffect P (changes v action n) = IsName v
+IsFitEffect P (enters e drain) = P e
+IsFitEffect P leaves = Unit {0}
+IsFitEffect P loses = Unit {0}
+IsFitEffect P arrives = Unit {0}
 
 -- so it is with the name that a contribution uses
 abbrev pub IsFit : (List ℕ → Type 0) → Contribution → Type 0
@@ -111,6 +119,7 @@ IsNamedRow (entry place section e) = IsNamedEntry e
 IsNamedRow (alone place section e) = IsNamedEntry e
 IsNamedRow (shot place s seat known p) = IsNamedShot s × IsNamedProfile p
 IsNamedRow (group place g m) = IsNamedShotGroup g × IsNamedProfile m.profile
+IsNamedRow (ball_device d to) = IsNamedBallDevice d
 IsNamedRow (player place section p) = IsNamedPlayer p
 IsNamedRow (of_mode name s) = IsName name × AreNamedSettings s
 
@@ -119,6 +128,7 @@ IsShortRow (entry place section e) = IsShortEntry 1024 e
 IsShortRow (alone place section e) = IsShortEntry 1024 e
 IsShortRow (shot place s seat known p) = IsShortProfile p
 IsShortRow (group place g m) = IsShortGroup g m
+IsShortRow (ball_device d to) = IsShortBallDevice d
 IsShortRow (player place section p) = IsShortPlayer 1024 p
 IsShortRow (of_mode name s) = Unit {0}
 
@@ -170,7 +180,7 @@ short_lists name b h =
     (All-cons IsFew (map posts complete) [] (few_posts complete (short_or_own b.complete _ h.complete)) (All-nil IsFew)))
 
 -- what holds of each effect that posts holds of all effects of a block
-all_block : (Q : Effect → Type 0) → ((n : List ℕ) → Q (posts n)) → (name : List ℕ) (b : Block) → All (All Q) (block_lists name b)
+pub all_block : (Q : Effect → Type 0) → ((n : List ℕ) → Q (posts n)) → (name : List ℕ) (b : Block) → All (All Q) (block_lists name b)
 all_block Q each name b =
     let hit = or_own b.hit (block_event name (codes "_hit")) in
     let complete = or_own b.complete (block_event name (codes "_complete")) in
@@ -272,6 +282,47 @@ short_group place g m h = record {
   place_of = tt;
 }
 
+-- what holds of one effect, and of what a ball device does when it attempts to eject a ball
+pub one : (Q : Effect → Type 0) (e : Effect) → Q e → All Q (e ∷ [])
+one Q e is = All-cons Q e [] is (All-nil Q)
+
+pub attempts : (machine : List SectionRows) (name : List ℕ) (Q : Effect → Type 0) → Q (posts (ball_event name (codes "_ball_eject_attempt"))) → Q (posts (ball_event name (codes "_ejecting_ball")))
+    → (o : Option Written) → IfSome o (λ w. Q (works w.text (own_pulse (defaults_called machine w.text)))) → All Q (attempt_effects machine name o)
+attempts machine name Q first other o is =
+    let ejecting = posts (ball_event name (codes "_ejecting_ball")) in
+    All-cons Q (posts (ball_event name (codes "_ball_eject_attempt"))) (ejecting ∷ eject_pulse machine o) first (All-cons Q ejecting (eject_pulse machine o) other (by o is))
+  where
+    by : (o : Option Written) → IfSome o (λ w. Q (works w.text (own_pulse (defaults_called machine w.text)))) → All Q (eject_pulse machine o)
+    by None is = All-nil Q
+    by (Some w) is = one Q (works w.text (own_pulse (defaults_called machine w.text))) is
+
+-- the seven lists of a ball device
+pub seven : {A : Type 0} (R : A → Type 0) (a b c d e f g : A) → R a → R b → R c → R d → R e → R f → R g → All R (a ∷ b ∷ c ∷ d ∷ e ∷ f ∷ g ∷ [])
+seven R a b c d e f g ra rb rc rd re rf rg =
+    All-cons R a (b ∷ c ∷ d ∷ e ∷ f ∷ g ∷ []) ra (All-cons R b (c ∷ d ∷ e ∷ f ∷ g ∷ []) rb (All-cons R c (d ∷ e ∷ f ∷ g ∷ []) rc
+    (All-cons R d (e ∷ f ∷ g ∷ []) rd (All-cons R e (f ∷ g ∷ []) re (All-cons R f (g ∷ []) rf (All-cons R g [] rg (All-nil R)))))))
+
+short_ball_device : (machine : List SectionRows) (d : BallDevice) (to : Destination) → IsShortBallDevice d → IsRightDevice Machine (ball_device_from machine d to)
+short_ball_device machine d to h = record {
+  lists = seven IsFew _ _ _ _ _ _ _ (omega arith) (few d.eject_coil) (omega arith) (omega arith) (omega arith) (omega arith) (omega arith);
+  limits = record { switches = h.switches; entrance = h.entrance_delay.0; exit = h.exit_delay.0; timeout = h.timeout.0; attempts = attempts_few d.max_attempts h.max_attempts };
+  effects = seven (All IsEffectInRange) _ _ _ _ _ _ _ (one IsEffectInRange _ tt) (attempts machine d.name.text IsEffectInRange tt tt d.eject_coil (ranged d.eject_coil)) (one IsEffectInRange leaves tt) (one IsEffectInRange loses tt)
+      (one IsEffectInRange _ tt) (one IsEffectInRange arrives tt) (one IsEffectInRange _ tt);
+  place_of = refl;
+}
+  where
+    few : (o : Option Written) → IsFew (attempt_effects machine d.name.text o)
+    few None = omega arith
+    few (Some w) = omega arith
+
+    ranged : (o : Option Written) → IfSome o (λ w. IsEffectInRange (works w.text (own_pulse (defaults_called machine w.text))))
+    ranged None = tt
+    ranged (Some w) = pulse_ranged machine w.text
+
+    attempts_few : (n : ℕ) → n ≤ 1000 → IsAttemptsWithin (attempts_of n)
+    attempts_few zero few = tt
+    attempts_few (suc n) few = (omega arith, few)
+
 module _ (machine : List SectionRows) (P : List ℕ → Type 0) (of : IsOfNames P) (n : ℕ) where
   all_names : (ws : List Written) → AllNames ws → All P (texts ws)
   all_names ws h = All-map P (λ (w : Written). w.text) ws (All-weaker (λ (w : Written). IsName w.text) (λ w. P w.text) (λ w. of.name w.text) ws h)
@@ -291,12 +342,12 @@ module _ (machine : List SectionRows) (P : List ℕ → Type 0) (of : IsOfNames 
   switch_facts s =
       let on = map active (active_posts s) in
       let off = map inactive (inactive_posts s) in
-      let kind = kind_of machine s in
+      let read = reads (kind_of machine s) (confirms s.tags) in
       record {
-        names = λ h. All-cons (IsFit P) _ (reads kind ∷ on ++ off) h.name (All-cons (IsFit P) _ (on ++ off) tt (fit_switch s h));
+        names = λ h. All-cons (IsFit P) _ (read ∷ on ++ off) h.name (All-cons (IsFit P) _ (on ++ off) tt (fit_switch s h));
         lists = λ h. (tt, (tt, AreShort-append on off 1024 full (omega arith) (λ k. omega arith) (each_alone (AreShort 1024 full) active (λ e cs k. (tt, k)) (active_posts s) tt) (each_alone (AreShort 1024 full) inactive (λ e cs k. (tt, k)) (inactive_posts s) tt)));
         modes = λ h. (tt, (tt, AreOpened-append on off n n (omega arith) (each_alone (AreOpened n) active (λ e cs k. (tt, k)) (active_posts s) tt) (each_alone (AreOpened n) inactive (λ e cs k. (tt, k)) (inactive_posts s) tt)));
-        limits = λ h. All-cons IsRight _ (reads kind ∷ on ++ off) (tt, tt) (All-cons IsRight _ (on ++ off) (tt, tt)
+        limits = λ h. All-cons IsRight _ (read ∷ on ++ off) (tt, tt) (All-cons IsRight _ (on ++ off) (tt, tt)
             (All-append IsRight on off (All-made IsRight active (λ e. (tt, tt)) (active_posts s)) (All-made IsRight inactive (λ e. (tt, tt)) (inactive_posts s))));
         acts = (tt, (tt, ArePlaced-append on off None (each_alone (ArePlaced None) active (λ e cs k. (tt, k)) (active_posts s) tt) (each_alone (ArePlaced None) inactive (λ e cs k. (tt, k)) (inactive_posts s) tt)));
       }
@@ -694,6 +745,9 @@ module _ (machine : List SectionRows) (P : List ℕ → Type 0) (of : IsOfNames 
   own_listener : (s : List ℕ) → All (λ (s : List ℕ). Machine ≡ Machine) (s ∷ [])
   own_listener s = All-cons (λ (s : List ℕ). Machine ≡ Machine) s [] refl (All-nil (λ (s : List ℕ). Machine ≡ Machine))
 
+  own_listeners : (ns : List (List ℕ)) → All (λ (s : List ℕ). Machine ≡ Machine) ns
+  own_listeners ns i d within = refl
+
   good_where : (place : Place) (e : Entry) (b : Bool) (o q : Option Device) → IsGood place e o → IsGood place e q → IsGood place e (if b then o else q)
   good_where place e true o q first other = first
   good_where place e false o q first other = other
@@ -821,6 +875,33 @@ module _ (machine : List SectionRows) (P : List ℕ → Type 0) (of : IsOfNames 
       both (unknown_unless m.all_known) (device_contributions place (group_device g m)) (unknown_facts (IsNamedShotGroup g × IsNamedProfile m.profile) (IsShortGroup g m) (IsOpenPlace n place) m.all_known)
       (record { names = λ h. facts.names (fit_group g m h); lists = λ h. facts.lists (short_group place g m h); modes = facts.modes; limits = λ h. facts.limits (short_group place g m h); acts = facts.acts })
 
+  -- ---- ball devices
+
+  fit_ball_device : (d : BallDevice) (to : Destination) → IsNamedBallDevice d → IsFitDevice (ball_device_from machine d to)
+  fit_ball_device d to h =
+      let Q = IsFitEffect P in
+      let name = d.name.text in
+      let event : (i : ℕ) → i < 5 → P (ball_event name (get_or ball_endings i [])) = λ i within. of.ball_device name h.name i [] within in
+      record {
+        listens = All-map IsName (λ (w : Written). w.text) d.switches h.switches;
+        handled = All-nil (λ (x : Event × Act). IsFitEvent P x.0);
+        mentioned = All-cons P (ball_event name (codes "_ball_enter")) _ (event 0 (omega arith)) (drained (drains machine d));
+        lists = seven (All Q) _ _ _ _ _ _ _ (one Q _ (event 0 (omega arith))) (attempts machine name Q (event 1 (omega arith)) (event 2 (omega arith)) d.eject_coil h.eject_coil) (one Q leaves tt) (one Q loses tt)
+            (one Q _ (event 3 (omega arith))) (one Q arrives tt) (one Q _ (event 4 (omega arith)));
+      }
+    where
+      drained : (b : Bool) → All P (drain_mentions b)
+      drained true = All-cons P (codes "ball_drain") [] (of.game_events 11 [] (omega arith)) (All-nil P)
+      drained false = All-nil P
+
+  ball_device_facts : (d : BallDevice) (to : Destination) → Facts P n (IsNamedBallDevice d) (IsShortBallDevice d) (Unit {0}) (ball_device_contributions machine d to)
+  unfolding ball_device_contributions
+  ball_device_facts d to =
+      let own = ball_device_from machine d to in
+      let facts = device_facts Machine own (own_listeners (texts d.switches)) in
+      both (unknown_unless (is_known to)) (device_contributions Machine own) (unknown_facts (IsNamedBallDevice d) (IsShortBallDevice d) (Unit {0}) (is_known to))
+      (record { names = λ h. facts.names (fit_ball_device d to h); lists = λ h. facts.lists (short_ball_device machine d to h); modes = facts.modes; limits = λ h. facts.limits (short_ball_device machine d to h); acts = facts.acts })
+
   -- ---- all rows
 
   row_facts : (r : Row) → Facts P n (IsNamedRow r) (IsShortRow r) (IsOpenRow n r) (row_contributions machine r)
@@ -828,6 +909,7 @@ module _ (machine : List SectionRows) (P : List ℕ → Type 0) (of : IsOfNames 
   row_facts (alone place section e) = alone_facts place section e
   row_facts (shot place s seat known p) = shot_facts place s seat known p
   row_facts (group place g m) = group_facts place g m
+  row_facts (ball_device d to) = ball_device_facts d to
   row_facts (player place section p) = player_entry_facts place section p
   row_facts (of_mode name s) = mode_facts name s
 
@@ -850,6 +932,7 @@ any_name = record {
   player = λ n k. tt;
   block = λ n k i d within. tt;
   timer = λ n k i d within. tt;
+  ball_device = λ n k i d within. tt;
   shot = λ name profile state h k l i d within. tt;
   group = λ name state h k. (λ i d within. tt, λ i d within. tt);
 }
@@ -883,21 +966,30 @@ all_placed machine (r ∷ rs) =
 
 -- ---- the rows of sections
 
--- what holds of a row of a shot, of a group and of any other entry holds of each entry's row
-pub entry_such : (R : Row → Type 0) (rows : Rows) (place : Place) (seat : List ℕ → Option Seat) (section : List ℕ) (e : Entry) → R (shot_row rows place seat (shot_of e)) → R (group_row rows place seat (shot_group_of e))
-    → R (entry place section e) → R (entry_row rows place seat section e)
-entry_such R rows place seat section e of_shot of_group other = by (bytes_eq section shots_name) (bytes_eq section shot_groups_name)
+-- what holds of a row of a shot, of a group, of a ball device and of any other entry holds of each entry's row
+pub entry_such : (R : Row → Type 0) (rows : Rows) (place : Place) (seat : List ℕ → Option Seat) (to : List ℕ → Destination) (section : List ℕ) (e : Entry) → R (shot_row rows place seat (shot_of e)) → R (group_row rows place seat (shot_group_of e))
+    → (place ≡ Machine → bytes_eq section ball_devices_name ≡ true → R (ball_device_row to (ball_device_of e))) → R (entry place section e) → R (entry_row rows place seat to section e)
+entry_such R rows place seat to section e of_shot of_group of_ball other = by (bytes_eq section shots_name) (bytes_eq section shot_groups_name)
   where
-    by : (s g : Bool) → R (if s then shot_row rows place seat (shot_of e) else (if g then group_row rows place seat (shot_group_of e) else entry place section e))
+    in_machine : (b : Bool) → (b ≡ true → R (ball_device_row to (ball_device_of e))) → R (entry Machine section e) → R (if b then ball_device_row to (ball_device_of e) else entry Machine section e)
+    in_machine true ball rest = ball refl
+    in_machine false ball rest = rest
+
+    in_other : (place : Place) → (place ≡ Machine → bytes_eq section ball_devices_name ≡ true → R (ball_device_row to (ball_device_of e))) → R (entry place section e) → R (other_row to place section e)
+    in_other Machine ball rest = in_machine (bytes_eq section ball_devices_name) (ball refl) rest
+    in_other Control ball rest = rest
+    in_other Mode ball rest = rest
+
+    by : (s g : Bool) → R (if s then shot_row rows place seat (shot_of e) else (if g then group_row rows place seat (shot_group_of e) else other_row to place section e))
     by true g = of_shot
     by false true = of_group
-    by false false = other
+    by false false = in_other place of_ball other
 
 -- what holds of each row that stands in a section
-module _ (R : Row → Type 0) (S : SectionRows → Type 0) (rows : Rows) (place : Place) (seat : List ℕ → Option Seat) (each : (s : SectionRows) → S s → All R (rows_from rows place seat s.name s.content)) where
-  pub sections_each : (sections : List SectionRows) → All S sections → All R (rows_in rows place seat sections)
+module _ (R : Row → Type 0) (S : SectionRows → Type 0) (rows : Rows) (place : Place) (seat : List ℕ → Option Seat) (to : List ℕ → Destination) (each : (s : SectionRows) → S s → All R (rows_from rows place seat to s.name s.content)) where
+  pub sections_each : (sections : List SectionRows) → All S sections → All R (rows_in rows place seat to sections)
   sections_each sections h =
-      All-flat_map R (λ s. rows_from rows place seat s.name s.content) sections (All-weaker S (λ s. All R (rows_from rows place seat s.name s.content)) each sections h)
+      All-flat_map R (λ s. rows_from rows place seat to s.name s.content) sections (All-weaker S (λ s. All R (rows_from rows place seat to s.name s.content)) each sections h)
 
 -- what holds of each row of modes, one after the other
 module _ (R : Row → Type 0) (M : ModeRows → Type 0) (rows : Rows) (each : (n : ℕ) (m : ModeRows) → M m → All R (mode_rows rows n m)) where
@@ -908,26 +1000,28 @@ module _ (R : Row → Type 0) (M : ModeRows → Type 0) (rows : Rows) (each : (n
       All-append R (mode_rows rows n m) (modes_rows rows after ms) (each n m (All-head M m ms h)) (modes_each after ms (All-tail M m ms h))
 
 -- what holds of each row of a configuration
-module _ (R : Row → Type 0) (S : SectionRows → Type 0) (M : ModeRows → Type 0) (rows : Rows) (first : (seat : List ℕ → Option Seat) (s : SectionRows) → S s → All R (rows_from rows Machine seat s.name s.content))
+module _ (R : Row → Type 0) (S : SectionRows → Type 0) (M : ModeRows → Type 0) (rows : Rows) (first : (seat : List ℕ → Option Seat) (to : List ℕ → Destination) (s : SectionRows) → S s → All R (rows_from rows Machine seat to s.name s.content))
     (each : (n : ℕ) (m : ModeRows) → M m → All R (mode_rows rows n m)) where
   pub rows_each : All S rows.machine → All M rows.modes → All R (rows_of rows)
   rows_each machine modes =
       let seat = seat_of Machine 0 rows.machine in
+      let to = destination_of Machine 0 rows.machine in
       let after = rows_after_text Machine 0 rows.machine in
-      All-append R (rows_in rows Machine seat rows.machine) (modes_rows rows after rows.modes) (sections_each R S rows Machine seat (first seat) rows.machine machine) (modes_each R M rows each after rows.modes modes)
+      All-append R (rows_in rows Machine seat to rows.machine) (modes_rows rows after rows.modes) (sections_each R S rows Machine seat to (first seat to) rows.machine machine) (modes_each R M rows each after rows.modes modes)
 
 module _ (rows : Rows) (machine : All IsNamed rows.machine) (modes : All IsNamedMode rows.modes) where
-  rows_named : (place : Place) (seat : List ℕ → Option Seat) (s : SectionRows) → IsNamed s → All IsNamedRow (rows_from rows place seat s.name s.content)
-  rows_named place seat s h = by s.content h
+  rows_named : (place : Place) (seat : List ℕ → Option Seat) (to : List ℕ → Destination) (s : SectionRows) → IsNamed s → All IsNamedRow (rows_from rows place seat to s.name s.content)
+  rows_named place seat to s h = by s.content h
     where
-      entry_named : (e : Entry) → IsNamedEntry e → IsNamedRow (entry_row rows place seat s.name e)
+      entry_named : (e : Entry) → IsNamedEntry e → IsNamedRow (entry_row rows place seat to s.name e)
       entry_named e k =
           let own = shot_of e in
           let others = shot_group_of e in
-          entry_such IsNamedRow rows place seat s.name e (shot_named e k, profile_named rows machine modes own.profile.text) (shot_group_named e k, members_named rows machine modes others) k
+          entry_such IsNamedRow rows place seat to s.name e (shot_named e k, profile_named rows machine modes own.profile.text) (shot_group_named e k, members_named rows machine modes others)
+          (λ own named. ball_device_named e k) k
 
-      by : (content : Content) → IsNamedContent content → All IsNamedRow (rows_from rows place seat s.name content)
-      by (entries es) k = All-map IsNamedRow (entry_row rows place seat s.name) es (All-weaker IsNamedEntry (λ e. IsNamedRow (entry_row rows place seat s.name e)) entry_named es k)
+      by : (content : Content) → IsNamedContent content → All IsNamedRow (rows_from rows place seat to s.name content)
+      by (entries es) k = All-map IsNamedRow (entry_row rows place seat to s.name) es (All-weaker IsNamedEntry (λ e. IsNamedRow (entry_row rows place seat to s.name e)) entry_named es k)
       by (players ps) k = All-map IsNamedRow (player place s.name) ps k
       by (sections.entry e) k = All-cons IsNamedRow (alone place s.name e) [] k (All-nil IsNamedRow)
       by (sections.listed ws) k = All-nil IsNamedRow
@@ -935,24 +1029,26 @@ module _ (rows : Rows) (machine : All IsNamed rows.machine) (modes : All IsNamed
   mode_rows_named : (n : ℕ) (m : ModeRows) → IsNamedMode m → All IsNamedRow (mode_rows rows n m)
   mode_rows_named n m h =
       let seat = seat_of Mode n m.sections in
-      All-cons IsNamedRow (of_mode m.name (mode_settings m.sections)) (rows_in rows Mode seat m.sections) (h.name, mode_settings_named m.sections h.sections)
-      (sections_each IsNamedRow IsNamed rows Mode seat (rows_named Mode seat) m.sections h.sections)
+      let to = destination_of Mode n m.sections in
+      All-cons IsNamedRow (of_mode m.name (mode_settings m.sections)) (rows_in rows Mode seat to m.sections) (h.name, mode_settings_named m.sections h.sections)
+      (sections_each IsNamedRow IsNamed rows Mode seat to (rows_named Mode seat to) m.sections h.sections)
 
   all_rows_named : All IsNamedRow (rows_of rows)
   all_rows_named = rows_each IsNamedRow IsNamed IsNamedMode rows (rows_named Machine) mode_rows_named machine modes
 
 module _ (rows : Rows) where
-  rows_short : (place : Place) (seat : List ℕ → Option Seat) (s : SectionRows) → IsShortSection s → All IsShortRow (rows_from rows place seat s.name s.content)
-  rows_short place seat s h = by s.content h
+  rows_short : (place : Place) (seat : List ℕ → Option Seat) (to : List ℕ → Destination) (s : SectionRows) → IsShortSection s → All IsShortRow (rows_from rows place seat to s.name s.content)
+  rows_short place seat to s h = by s.content h
     where
-      entry_short : (e : Entry) → IsShortEntry 1024 e → IsShortRow (entry_row rows place seat s.name e)
+      entry_short : (e : Entry) → IsShortEntry 1024 e → IsShortRow (entry_row rows place seat to s.name e)
       entry_short e k =
           let own = shot_of e in
           let others = shot_group_of e in
-          entry_such IsShortRow rows place seat s.name e (profile_short rows own.profile.text) (members_short rows others (let short = shot_group_short e k in short.shots)) k
+          entry_such IsShortRow rows place seat to s.name e (profile_short rows own.profile.text) (members_short rows others (let short = shot_group_short e k in short.shots))
+          (λ own named. ball_device_short e k) k
 
-      by : (content : Content) → IsShortContent content → All IsShortRow (rows_from rows place seat s.name content)
-      by (entries es) k = All-map IsShortRow (entry_row rows place seat s.name) es (All-weaker (IsShortEntry 1024) (λ e. IsShortRow (entry_row rows place seat s.name e)) entry_short es k.0)
+      by : (content : Content) → IsShortContent content → All IsShortRow (rows_from rows place seat to s.name content)
+      by (entries es) k = All-map IsShortRow (entry_row rows place seat to s.name) es (All-weaker (IsShortEntry 1024) (λ e. IsShortRow (entry_row rows place seat to s.name e)) entry_short es k.0)
       by (players ps) k = All-map IsShortRow (player place s.name) ps k.1
       by (sections.entry e) k = All-map IsShortRow (alone place s.name) (e ∷ []) k.2
       by (sections.listed ws) k = All-nil IsShortRow
@@ -960,24 +1056,25 @@ module _ (rows : Rows) where
   mode_rows_short : (n : ℕ) (m : ModeRows) → IsShortMode m → All IsShortRow (mode_rows rows n m)
   mode_rows_short n m h =
       let seat = seat_of Mode n m.sections in
-      All-cons IsShortRow (of_mode m.name (mode_settings m.sections)) (rows_in rows Mode seat m.sections) tt (sections_each IsShortRow IsShortSection rows Mode seat (rows_short Mode seat) m.sections h)
+      let to = destination_of Mode n m.sections in
+      All-cons IsShortRow (of_mode m.name (mode_settings m.sections)) (rows_in rows Mode seat to m.sections) tt (sections_each IsShortRow IsShortSection rows Mode seat to (rows_short Mode seat to) m.sections h)
 
   all_rows_short : AreListsShort rows → All IsShortRow (rows_of rows)
   all_rows_short h = rows_each IsShortRow IsShortSection IsShortMode rows (rows_short Machine) mode_rows_short h.0 h.1
 
   -- each row of a place is open where the place is
-  rows_open : (n : ℕ) (place : Place) → IsOpenPlace n place → (seat : List ℕ → Option Seat) (name : List ℕ) (content : Content) → All (IsOpenRow n) (rows_from rows place seat name content)
-  rows_open n place opened seat name (entries es) =
-      All-map (IsOpenRow n) (entry_row rows place seat name) es (λ i d within. entry_such (IsOpenRow n) rows place seat name (get_or es i d) opened opened opened)
-  rows_open n place opened seat name (players ps) = All-map (IsOpenRow n) (player place name) ps (λ i d within. opened)
-  rows_open n place opened seat name (sections.entry e) = All-cons (IsOpenRow n) (alone place name e) [] opened (All-nil (IsOpenRow n))
-  rows_open n place opened seat name (sections.listed ws) = All-nil (IsOpenRow n)
+  rows_open : (n : ℕ) (place : Place) → IsOpenPlace n place → (seat : List ℕ → Option Seat) (to : List ℕ → Destination) (name : List ℕ) (content : Content) → All (IsOpenRow n) (rows_from rows place seat to name content)
+  rows_open n place opened seat to name (entries es) =
+      All-map (IsOpenRow n) (entry_row rows place seat to name) es (λ i d within. entry_such (IsOpenRow n) rows place seat to name (get_or es i d) opened opened (λ own named. tt) opened)
+  rows_open n place opened seat to name (players ps) = All-map (IsOpenRow n) (player place name) ps (λ i d within. opened)
+  rows_open n place opened seat to name (sections.entry e) = All-cons (IsOpenRow n) (alone place name e) [] opened (All-nil (IsOpenRow n))
+  rows_open n place opened seat to name (sections.listed ws) = All-nil (IsOpenRow n)
 
   -- what rows of sections give
-  sections_open : (n : ℕ) (place : Place) → IsOpenPlace n place → (seat : List ℕ → Option Seat) (sections : List SectionRows) → AreOpened n (given_by rows.machine (rows_in rows place seat sections))
-  sections_open n place opened seat sections =
-      all_open rows.machine n (rows_in rows place seat sections)
-      (sections_each (IsOpenRow n) (λ s. Unit {0}) rows place seat (λ s h. rows_open n place opened seat s.name s.content) sections (λ i d within. tt))
+  sections_open : (n : ℕ) (place : Place) → IsOpenPlace n place → (seat : List ℕ → Option Seat) (to : List ℕ → Destination) (sections : List SectionRows) → AreOpened n (given_by rows.machine (rows_in rows place seat to sections))
+  sections_open n place opened seat to sections =
+      all_open rows.machine n (rows_in rows place seat to sections)
+      (sections_each (IsOpenRow n) (λ s. Unit {0}) rows place seat to (λ s h. rows_open n place opened seat to s.name s.content) sections (λ i d within. tt))
 
 -- ---- the rows of a bundle
 
@@ -1005,10 +1102,11 @@ unfolding mode_contributions
 mode_open rows n before m =
     let s = mode_settings m.sections in
     let seat = seat_of Mode before m.sections in
-    let rest = given_by rows.machine (rows_in rows Mode seat m.sections) in
+    let to = destination_of Mode before m.sections in
+    let rest = given_by rows.machine (rows_in rows Mode seat to m.sections) in
     let first = row_facts rows.machine (λ e. Unit {0}) any_name n (of_mode m.name s) in
     let some : 1 ≤ suc n = omega arith in
-    (tt, AreOpened-append (later_events m.name ++ controls s) rest 1 (suc n) some (first.modes tt).1 (sections_open rows 1 Mode (omega arith) seat m.sections))
+    (tt, AreOpened-append (later_events m.name ++ controls s) rest 1 (suc n) some (first.modes tt).1 (sections_open rows 1 Mode (omega arith) seat to m.sections))
 
 modes_open : (rows : Rows) (n before : ℕ) (ms : List ModeRows) → AreOpened n (given_by rows.machine (modes_rows rows before ms))
 modes_open rows n before [] = tt
@@ -1022,8 +1120,9 @@ modes_open rows n before (m ∷ ms) =
 pub rows_are_open : (rows : Rows) → AreOpened 0 (contributions_of rows)
 rows_are_open rows =
     let seat = seat_of Machine 0 rows.machine in
-    let first = rows_in rows Machine seat rows.machine in
+    let to = destination_of Machine 0 rows.machine in
+    let first = rows_in rows Machine seat to rows.machine in
     let after = rows_after_text Machine 0 rows.machine in
     let rest = modes_rows rows after rows.modes in
     subst (AreOpened 0) (sym (flat_map-append (row_contributions rows.machine) first rest))
-    (AreOpened-append (given_by rows.machine first) (given_by rows.machine rest) 0 0 (omega arith) (sections_open rows 0 Machine tt seat rows.machine) (modes_open rows 0 after rows.modes))
+    (AreOpened-append (given_by rows.machine first) (given_by rows.machine rest) 0 0 (omega arith) (sections_open rows 0 Machine tt seat to rows.machine) (modes_open rows 0 after rows.modes))

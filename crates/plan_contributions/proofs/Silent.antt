@@ -6,7 +6,7 @@ use Rattle.std.specs.List.{flat_map}
 use Rattle.std.proofs.lemmas.Grind.{flat_map-append}
 use Rattle.std.proofs.lemmas.List.{append-nil}
 use Rattle.mpf_values.specs.Events.{Condition, Event}
-use Rattle.mpf_sections.specs.Rows.{Written, Entry, Player, Switch, EventPlayer, CoilPlayer, VariablePlayer, VariableItem, GameSettings, Shot, ShotGroup, ModeSettings, SectionRows}
+use Rattle.mpf_sections.specs.Rows.{Written, Entry, Player, Switch, EventPlayer, CoilPlayer, VariablePlayer, VariableItem, GameSettings, Shot, ShotGroup, BallDevice, ModeSettings, SectionRows}
 use Rattle.mpf_sections.specs.TypedGame.{variable_player_name, game_name, variable_player_of, game_of, min_balls_of}
 use Rattle.machine_definitions.specs.GameEvents.{game_event_names}
 use Rattle.machine_definitions.specs.Players.{player_event}
@@ -27,15 +27,17 @@ use Rattle.plan_contributions.specs.CoilEntries.{item_effect}
 use Rattle.plan_contributions.specs.DeviceEntries.{Effect, posts, device_of}
 use Rattle.machine_definitions.specs.Shots.{Profile}
 use Rattle.plan_contributions.specs.ShotEntries.{shot_acts, bank_settings, lone_device, group_device}
+use Rattle.plan_contributions.specs.BallEntries.{ball_device_from, is_known}
+use Rattle.plan_rows.specs.declared.destination.Destination.{Destination}
 use Rattle.plan_rows.specs.Seats.{Seat}
 use Rattle.plan_rows.specs.Members.{flags, is_enabled, Members}
-use Rattle.plan_contributions.specs.Contributions.{Contribution, gives, reads, active, inactive, mode, mode_event, binds, does, device, does_in, listens, mentions, unknown, under, plays, under_where, bound, always, kind_of, texts, events, active_posts, inactive_posts, switch_contributions, player_contributions, coil_contributions, coil_player_contributions, item_contributions, variable_player_contributions, game_contributions, starter, stopper, stopper_where, later_events, controls, mode_contributions, Device, act_binding, listens_from, effects_from, device_contributions, where_device, machine_device, unknown_unless, shot_switch, act_at, seated, shot_contributions, group_contributions, machine_entry_contributions, entry_contributions, alone_contributions, player_entry_contributions, row_contributions, given_by}
-use Rattle.plan_rows.specs.Rows.{Row, entry, alone, shot, group, player, of_mode}
+use Rattle.plan_contributions.specs.Contributions.{Contribution, gives, reads, active, inactive, mode, mode_event, binds, does, device, does_in, listens, mentions, unknown, under, plays, under_where, bound, always, kind_of, confirms, texts, events, active_posts, inactive_posts, switch_contributions, player_contributions, coil_contributions, coil_player_contributions, item_contributions, variable_player_contributions, game_contributions, starter, stopper, stopper_where, later_events, controls, mode_contributions, Device, act_binding, listens_from, effects_from, device_contributions, where_device, machine_device, unknown_unless, shot_switch, act_at, seated, shot_contributions, group_contributions, ball_device_contributions, machine_entry_contributions, entry_contributions, alone_contributions, player_entry_contributions, row_contributions, given_by}
+use Rattle.plan_rows.specs.Rows.{Row, entry, alone, shot, group, ball_device, player, of_mode}
 
 -- each contribution but a coil's and a row's tells nothing
 pub record IsSilent {X : Type 0} (tell : Contribution → List X) : Type 0 where
   pub given : (n : List ℕ) → tell (gives Switches n) ≡ []
-  pub read : (kind : SwitchKind) → tell (reads kind) ≡ []
+  pub read : (kind : SwitchKind) (confirms_playfield : Bool) → tell (reads kind confirms_playfield) ≡ []
   pub on : (n : List ℕ) → tell (active n) ≡ []
   pub off : (n : List ℕ) → tell (inactive n) ≡ []
   pub modes : (n : List ℕ) (priority : ℕ) (game : Bool) → tell (mode n priority game) ≡ []
@@ -82,7 +84,8 @@ module _ {X : Type 0} (tell : Contribution → List X) (silent : IsSilent tell) 
   unfolding switch_contributions
   in_switch machine s =
       let doing = map active (active_posts s) ++ map inactive (inactive_posts s) in
-      first (gives Switches s.name.text) (reads (kind_of machine s) ∷ doing) (silent.given s.name.text) (first (reads (kind_of machine s)) doing (silent.read (kind_of machine s))
+      let read = reads (kind_of machine s) (confirms s.tags) in
+      first (gives Switches s.name.text) (read ∷ doing) (silent.given s.name.text) (first read doing (silent.read (kind_of machine s) (confirms s.tags))
       (both (map active (active_posts s)) (map inactive (inactive_posts s)) (each active silent.on (active_posts s)) (each inactive silent.off (inactive_posts s))))
 
   -- a handled event is bound, under its condition
@@ -255,6 +258,12 @@ module _ {X : Type 0} (tell : Contribution → List X) (silent : IsSilent tell) 
   in_group place g m =
       after_none (unknown_unless m.all_known) (device_contributions place (group_device g m)) (told_row place (group_device g m)) (in_unknown m.all_known) (in_device place (group_device g m))
 
+  in_ball_device : (machine : List SectionRows) (d : BallDevice) (to : Destination) → Tells (ball_device_contributions machine d to) (told_row Machine (ball_device_from machine d to))
+  unfolding ball_device_contributions
+  in_ball_device machine d to =
+      let own = ball_device_from machine d to in
+      after_none (unknown_unless (is_known to)) (device_contributions Machine own) (told_row Machine own) (in_unknown (is_known to)) (in_device Machine own)
+
   -- ---- all rows
 
   module _ (machine : List SectionRows) where
@@ -263,6 +272,7 @@ module _ {X : Type 0} (tell : Contribution → List X) (silent : IsSilent tell) 
     told (alone place section e) = []
     told (shot place s seat known p) = told_shot place s seat p
     told (group place g m) = told_row place (group_device g m)
+    told (ball_device d to) = told_row Machine (ball_device_from machine d to)
     told (player place section p) = []
     told (of_mode name s) = []
 
@@ -271,6 +281,7 @@ module _ {X : Type 0} (tell : Contribution → List X) (silent : IsSilent tell) 
     row_tells (alone place section e) = in_alone machine place section e
     row_tells (shot place s seat known p) = in_shot place s seat known p
     row_tells (group place g m) = in_group place g m
+    row_tells (ball_device d to) = in_ball_device machine d to
     row_tells (player place section p) = in_player_entry machine place section p
     row_tells (of_mode name s) = in_mode name s
 

@@ -16,20 +16,21 @@ use Rattle.plan_rows.specs.declared.place.Place.TheVariants.{Machine}
 use Rattle.machine_definitions.specs.Definitions.{has_switch}
 use Rattle.plan_contributions.specs.Contributions.{Contribution, switch_contributions, machine_entry_contributions, entry_contributions, row_contributions, given_by, contributions_of}
 use Rattle.plan_rows.specs.Rows.{Row, entry_row, rows_from, rows_in, modes_rows}
-use Rattle.plan_rows.specs.Seats.{Seat, seat_of, rows_after_text}
+use Rattle.plan_rows.specs.declared.destination.Destination.{Destination}
+use Rattle.plan_rows.specs.Seats.{Seat, seat_of, destination_of, rows_after_text}
 use Rattle.plan_contributions.specs.UsedNames.{given_names}
 
 -- of two lists one has it
-or_weaker : (a b c d : Bool) → (a ≡ true → c ≡ true) → (b ≡ true → d ≡ true) → (a || b) ≡ true → (c || d) ≡ true
+pub or_weaker : (a b c d : Bool) → (a ≡ true → c ≡ true) → (b ≡ true → d ≡ true) → (a || b) ≡ true → (c || d) ≡ true
 or_weaker a b c d first second is = elim (or_cases a b is) [ inl h ↦ or_left c d (first h) | inr h ↦ or_right c d (second h) ]
 
-module _ (n : List ℕ) (rows : Rows) (seat : List ℕ → Option Seat) where
+module _ (n : List ℕ) (rows : Rows) (seat : List ℕ → Option Seat) (to : List ℕ → Destination) where
   abbrev machine : List SectionRows
   machine = rows.machine
 
   -- the row of an entry in a section of this name
   abbrev row_of : List ℕ → Entry → Row
-  row_of section e = entry_row rows Machine seat section e
+  row_of section e = entry_row rows Machine seat to section e
 
   -- whether a switch of this name is given
   abbrev gives_it : List Contribution → Bool
@@ -61,7 +62,7 @@ module _ (n : List ℕ) (rows : Rows) (seat : List ℕ → Option Seat) where
   none_named true = refl
   none_named false = refl
 
-  of_content : (name : List ℕ) (content : Content) → list_any is_it (switches_in (record { name = name; content = content })) ≡ true → given_in (rows_from rows Machine seat name content) ≡ true
+  of_content : (name : List ℕ) (content : Content) → list_any is_it (switches_in (record { name = name; content = content })) ≡ true → given_in (rows_from rows Machine seat to name content) ≡ true
   unfolding switches_in
   of_content name (entries es) is = by (bytes_eq name switches_name) refl is
     where
@@ -72,16 +73,17 @@ module _ (n : List ℕ) (rows : Rows) (seat : List ℕ → Option Seat) where
   of_content name (sections.entry e) is = absurd (true≢false (sym is ∙ none_named (bytes_eq name switches_name)))
   of_content name (sections.listed ws) is = absurd (true≢false (sym is ∙ none_named (bytes_eq name switches_name)))
 
-  of_sections : (ss : List SectionRows) → list_any is_it (flat_map switches_in ss) ≡ true → given_in (rows_in rows Machine seat ss) ≡ true
+  of_sections : (ss : List SectionRows) → list_any is_it (flat_map switches_in ss) ≡ true → given_in (rows_in rows Machine seat to ss) ≡ true
   of_sections [] is = absurd (true≢false (sym is))
   of_sections (s ∷ ss) is =
-      given-append (rows_from rows Machine seat s.name s.content) (rows_in rows Machine seat ss)
+      given-append (rows_from rows Machine seat to s.name s.content) (rows_in rows Machine seat to ss)
       ∙ or_weaker (list_any is_it (switches_in s)) (list_any is_it (flat_map switches_in ss)) _ _ (of_content s.name s.content) (of_sections ss)
       (sym (list_any-append is_it (switches_in s) (flat_map switches_in ss)) ∙ is)
 
 pub switches_given : (rows : Rows) (n : List ℕ) → has_switch rows.machine n ≡ true → list_any (bytes_eq n) (given_names Switches (contributions_of rows)) ≡ true
 switches_given rows n is =
     let seat = seat_of Machine 0 rows.machine in
-    let first = rows_in rows Machine seat rows.machine in
-    given-append n rows seat first (modes_rows rows (rows_after_text Machine 0 rows.machine) rows.modes)
-    ∙ or_left (given_in n rows seat first) _ (of_sections n rows seat rows.machine is)
+    let to = destination_of Machine 0 rows.machine in
+    let first = rows_in rows Machine seat to rows.machine in
+    given-append n rows seat to first (modes_rows rows (rows_after_text Machine 0 rows.machine) rows.modes)
+    ∙ or_left (given_in n rows seat to first) _ (of_sections n rows seat to rows.machine is)

@@ -11,10 +11,10 @@ use Rattle.plan_tables.specs.declared.table.Table.{Table}
 use Rattle.plan_tables.specs.declared.table.Table.TheVariants.{Events, Bindings, Switches, Coils, Variables, Rows}
 use Rattle.plan_rows.specs.declared.place.Place.{Place}
 use Rattle.plan_rows.specs.declared.place.Place.TheVariants.{Machine, Control, Mode}
-use Rattle.plan_contributions.specs.DeviceEntries.{Effect, posts, works, changes}
+use Rattle.plan_contributions.specs.DeviceEntries.{Effect, posts, works, changes, enters, leaves, loses, arrives}
 use Rattle.plan_contributions.specs.DeviceEntries.{device_of}
 use Rattle.plan_contributions.specs.Contributions.{Contribution, mode_event_name, device, coil_contributions, machine_device, given_by}
-use Rattle.plan_rows.specs.Rows.{Row, entry, alone, shot, group, player, of_mode}
+use Rattle.plan_rows.specs.Rows.{Row, entry, alone, shot, group, ball_device, player, of_mode}
 use Rattle.plan_contributions.specs.UsedNames.{used_by, used, name_in_table, uses}
 use Rattle.plan_contributions.proofs.Silent.{IsSilent, told_where, told_machine, told_entry, told, rows_tell, none_where, none_machine, none_shot}
 
@@ -28,11 +28,15 @@ module _ (t : Table) (no_event : (n : List ℕ) → name_in_table t (Some (Event
   no_effect (posts n) = no_event n
   no_effect (works n deed) = no_coil n
   no_effect (changes v action n) = no_variable v
+  no_effect (enters e drain) = no_event e
+  no_effect leaves = refl
+  no_effect loses = refl
+  no_effect arrives = refl
 
   silent : IsSilent name_of
   silent = record {
     given = no_switch;
-    read = λ kind. refl;
+    read = λ kind confirms. refl;
     on = no_event;
     off = no_event;
     modes = λ n priority game. no_event _;
@@ -76,6 +80,7 @@ module _ (t : Table) (no_event : (n : List ℕ) → name_in_table t (Some (Event
     in_row (alone place section e) = refl
     in_row (shot place s seat known p) = none_shot name_of silent none machine place s seat p
     in_row (group place g m) = refl
+    in_row (ball_device d to) = refl
     in_row (player place section p) = refl
     in_row (of_mode name s) = refl
 

@@ -1,19 +1,19 @@
 -- What the rows give to a plan, by names and in plan order.
 use Rattle.std.specs.Prelude.{ℕ, suc, Bool, true, false, if◌then◌else◌, List, [], ◌∷◌, ◌++◌, map, Option, None, Some, codes}
-use Rattle.std.specs.List.{flat_map}
+use Rattle.std.specs.List.{flat_map, list_any}
 use Rattle.std.specs.Str.{bytes_eq}
 use Rattle.mpf_sections.specs.declared.words.Contact.{Contact as WrittenContact}
 use Rattle.mpf_sections.specs.declared.words.Contact.TheVariants as written
 use Rattle.mpf_sections.specs.declared.words.Debounce.{Debounce}
 use Rattle.mpf_sections.specs.declared.words.Debounce.TheVariants.{Auto, Quick, Normal}
 use Rattle.mpf_values.specs.Events.{Condition, Event}
-use Rattle.mpf_sections.specs.Rows.{Written, Entry, Player, Switch, EventPlayer, ModeSettings, VariablePlayer, VariableItem, GameSettings, Content, entries, players, entry as single, listed, SectionRows}
+use Rattle.mpf_sections.specs.Rows.{Written, Entry, Player, Switch, EventPlayer, ModeSettings, VariablePlayer, VariableItem, GameSettings, SectionRows}
 use Rattle.mpf_sections.specs.TypedGame.{variable_player_name, game_name, variable_player_of, game_of, min_balls_of}
 use Rattle.machine_definitions.specs.GameEvents.{game_event_names}
 use Rattle.machine_definitions.specs.Players.{player_event}
 use Rattle.plan_contributions.specs.VariableEntries.{item_change}
-use Rattle.mpf_config.specs.Rows.{ModeRows, Rows}
-use Rattle.mpf_sections.specs.Typed.{switches_name, event_player_name, switch_of, event_player_of, mode_settings}
+use Rattle.mpf_config.specs.Rows.{Rows}
+use Rattle.mpf_sections.specs.Typed.{switches_name, event_player_name, switch_of, event_player_of}
 use Rattle.plan_tables.specs.declared.entries.Contact.{Contact}
 use Rattle.plan_tables.specs.declared.entries.Contact.TheVariants.{NormallyOpen, NormallyClosed}
 use Rattle.plan_tables.specs.declared.entries.SwitchKind.{SwitchKind}
@@ -27,31 +27,33 @@ use Rattle.plan_tables.specs.declared.devices.Settings.{Settings}
 use Rattle.plan_tables.specs.declared.devices.Act.{Act}
 use Rattle.plan_tables.specs.declared.table.Table.{Table}
 use Rattle.plan_tables.specs.declared.table.Table.TheVariants.{Events, Switches}
-pub use Rattle.plan_contributions.specs.DeviceEntries.{texts, events, Effect, posts, works, changes, Device, always, device_of}
+pub use Rattle.plan_contributions.specs.DeviceEntries.{texts, events, Effect, posts, works, changes, enters, leaves, loses, arrives, Device, always, device_of}
 use Rattle.machine_definitions.specs.Definitions.{makes_quick}
 use Rattle.plan_contributions.specs.CoilEntries.{limits_of_coil, item_effect, flipper_device, autofire_device}
-use Rattle.mpf_sections.specs.Rows.{Coil, CoilPlayer, Shot, ShotGroup}
-use Rattle.mpf_sections.specs.TypedShots.{shots_name, shot_groups_name, shot_of, shot_group_of}
-use Rattle.machine_definitions.specs.Shots.{Profile, has_profile, profile_of_name}
+use Rattle.mpf_sections.specs.Rows.{Coil, CoilPlayer, Shot, ShotGroup, BallDevice}
+use Rattle.machine_definitions.specs.Shots.{Profile}
 use Rattle.plan_contributions.specs.ShotEntries.{shot_acts, lone_device, group_device}
-use Rattle.plan_rows.specs.Seats.{Seat, seat_of, rows_after_text}
-use Rattle.plan_rows.specs.Members.{Members, members_of}
+use Rattle.plan_contributions.specs.BallEntries.{is_known, ball_device_from}
+use Rattle.plan_rows.specs.declared.destination.Destination.{Destination}
+use Rattle.plan_rows.specs.Seats.{Seat}
+use Rattle.plan_rows.specs.Members.{Members}
 use Rattle.mpf_sections.specs.TypedCoils.{coils_name, coil_player_name, flippers_name, autofire_coils_name, coil_of, coil_player_of, flipper_of, autofire_of}
 use Rattle.plan_tables.specs.declared.entries.CoilLimits.{CoilLimits}
-use Rattle.plan_rows.specs.Rows.{Row, entry, alone, shot, group, player, of_mode, rows_of}
+use Rattle.plan_rows.specs.Rows.{Row, entry, alone, shot, group, ball_device, player, of_mode, rows_of}
 
--- One thing that a row gives: an entry of a table, by its name; how the last given switch is read; an event that this
--- switch posts when it becomes active, or inactive; a mode by its name, with its priority, and whether it starts only
--- in a game; an event of the mode that came last, which has this name; a binding of an event, with which an effect list
--- begins where it is to run one; what the list does that began last; a row of a device with its settings, with which
--- its effect lists begin; what this list of the last row does, by its number in the row; a switch to which the last row
--- listens, by its number in the row; an event or a switch that a setting names, by its table, which gets its number
--- here; something that a setting names, which is in no table, and which nothing has; a coil by its name, with what it
--- may be sent; the condition of the binding that came last; the rules of the game: how many balls have to be at home
--- for it to begin, how many each player has, and how many players there can be.
+-- One thing that a row gives: an entry of a table, by its name; how the last given switch is read, and whether a ball
+-- that presses it is on the playfield; an event that this switch posts when it becomes active, or inactive; a mode by
+-- its name, with its priority, and whether it starts only in a game; an event of the mode that came last, which has
+-- this name; a binding of an event, with which an effect list begins where it is to run one; what the list does that
+-- began last; a row of a device with its settings, with which its effect lists begin; what this list of the last row
+-- does, by its number in the row; a switch to which the last row listens, by its number in the row; an event or a
+-- switch that a setting names, by its table, which gets its number here; something that a setting names, which is in
+-- no table, and which nothing has; a coil by its name, with what it may be sent; the condition of the binding that
+-- came last; the rules of the game: how many balls have to be at home for it to begin, how many each player has, and
+-- how many players there can be.
 pub data Contribution : Type 0 where
   gives : Table → List ℕ → Contribution
-  reads : SwitchKind → Contribution
+  reads : SwitchKind → (confirms_playfield : Bool) → Contribution
   active : List ℕ → Contribution
   inactive : List ℕ → Contribution
   mode : List ℕ → ℕ → Bool → Contribution
@@ -95,6 +97,10 @@ contact_of written.NormallyClosed = NormallyClosed
 abbrev pub kind_of : List SectionRows → Switch → SwitchKind
 kind_of machine s = record { contact = contact_of s.contact; quick = is_quick machine s.name.text s.debounce }
 
+-- whether a ball that presses a switch with these tags is on the playfield
+abbrev pub confirms : List Written → Bool
+confirms tags = list_any (λ t. bytes_eq t.text (codes "playfield_active")) tags
+
 -- the event of a tag
 abbrev pub tag_event : Written → List ℕ
 tag_event t = codes "sw_" ++ t.text
@@ -111,7 +117,7 @@ inactive_posts s = (s.name.text ++ codes "_inactive") ∷ texts s.deactivated
 -- a switch, with what it posts, whatever the order of its settings: first when it becomes active
 unfoldable pub switch_contributions : List SectionRows → Switch → List Contribution
 switch_contributions machine s =
-    gives Switches s.name.text ∷ reads (kind_of machine s) ∷ map active (active_posts s) ++ map inactive (inactive_posts s)
+    gives Switches s.name.text ∷ reads (kind_of machine s) (confirms s.tags) ∷ map active (active_posts s) ++ map inactive (inactive_posts s)
 
 -- ---- event_player
 
@@ -251,6 +257,13 @@ shot_contributions place s seat known p = unknown_unless known ++ (shot_switch s
 unfoldable pub group_contributions : Place → ShotGroup → Members → List Contribution
 group_contributions place g m = unknown_unless m.all_known ++ device_contributions place (group_device g m)
 
+-- ---- ball devices
+
+-- a ball device, with where it ejects its balls to
+unfoldable pub ball_device_contributions : List SectionRows → BallDevice → Destination → List Contribution
+ball_device_contributions machine d to =
+    unknown_unless (is_known to) ++ device_contributions Machine (ball_device_from machine d to)
+
 -- ---- rows
 
 -- the device of an entry of the machine text, whatever its kind
@@ -293,6 +306,7 @@ row_contributions machine (entry place section e) = entry_contributions machine 
 row_contributions machine (alone place section e) = alone_contributions machine place section e
 row_contributions machine (shot place s seat known p) = shot_contributions place s seat known p
 row_contributions machine (group place g m) = group_contributions place g m
+row_contributions machine (ball_device d to) = ball_device_contributions machine d to
 row_contributions machine (player place section p) = player_entry_contributions machine place section p
 row_contributions machine (of_mode name s) = mode_contributions name s
 

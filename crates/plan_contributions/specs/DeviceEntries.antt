@@ -1,5 +1,5 @@
 -- What the entries of devices say: of counters, accruals, sequences and timers.
-use Rattle.std.specs.Prelude.{ℕ, suc, ℤ, Bool, true, false, if◌then◌else◌, List, [], ◌∷◌, ◌++◌, length, map, Option, None, Some, codes}
+use Rattle.std.specs.Prelude.{ℕ, suc, ℤ, Bool, if◌then◌else◌, List, [], ◌∷◌, ◌++◌, length, map, Option, None, Some, codes}
 use Rattle.std.specs.Str.{bytes_eq}
 use Rattle.mpf_sections.specs.declared.words.Direction.{Direction as WrittenDirection}
 use Rattle.mpf_sections.specs.declared.words.Direction.TheVariants as written
@@ -34,11 +34,17 @@ pub data Deed : Type 0 where
   disable : Deed
 
 -- One thing that an effect list does: it posts the event of this name, does this with the coil of this name, or does this
--- with the variable of this name, with a number.
+-- with the variable of this name, with a number. Or it is what happens with the balls of its row, a ball device: a ball
+-- enters it, which posts the event of this name and may have drained where `drain` holds; the ball that it ejects leaves
+-- it; a ball is lost from it; or a ball that was on its way from it is on the playfield.
 pub data Effect : Type 0 where
   posts : (event : List ℕ) → Effect
   works : (coil : List ℕ) → Deed → Effect
   changes : (variable : List ℕ) → VariableAction → (number : ℤ) → Effect
+  enters : (event : List ℕ) → (drain : Bool) → Effect
+  leaves : Effect
+  loses : Effect
+  arrives : Effect
 
 -- What the entry of a device says: its settings; the switches to which it listens, by name; each event that it handles,
 -- and what the event does; other events that its settings name; and what each of its effect lists does.

@@ -1,8 +1,10 @@
 -- What holds of each effect, of each event that a switch posts, and of each switch to which a device listens or which a
 -- setting names: of those of rows, and of those of contributions.
-use Rattle.std.specs.Prelude.{◌≡◌, ℕ, true, List, Option, None, Some, IfSome, IsSome}
-use Rattle.std.specs.List.{All}
-use Rattle.mpf_sections.specs.Rows.{Switch, EventPlayer, CoilPlayer, VariablePlayer, Shot, ShotGroup, SectionRows}
+use Rattle.std.specs.Prelude.{◌≡◌, ◌≢◌, ℕ, Bool, true, ◌||◌, List, Option, None, Some, IfSome, IsSome}
+use Rattle.std.specs.List.{All, AllPairs, flat_map, list_any}
+use Rattle.std.specs.Str.{bytes_eq}
+use Rattle.mpf_sections.specs.Rows.{Switch, EventPlayer, CoilPlayer, VariablePlayer, Shot, ShotGroup, BallDevice, SectionRows}
+use Rattle.mpf_sections.specs.TypedBalls.{playfield, ball_devices_in}
 use Rattle.mpf_sections.specs.TypedGame.{variable_players_in}
 use Rattle.plan_contributions.specs.VariableEntries.{item_change}
 use Rattle.mpf_config.specs.Rows.{ModeRows, Rows}
@@ -14,9 +16,14 @@ use Rattle.plan_tables.specs.declared.table.Table.{Table}
 use Rattle.plan_tables.specs.declared.table.Table.TheVariants.{Events, Switches}
 use Rattle.plan_contributions.specs.DeviceEntries.{texts, Effect, posts, Device, device_of}
 use Rattle.plan_contributions.specs.ShotEntries.{shot_lists, group_lists}
+use Rattle.plan_contributions.specs.BallEntries.{ball_lists}
 use Rattle.plan_rows.specs.Members.{members_of}
 use Rattle.plan_contributions.specs.CoilEntries.{item_effect, flipper_device, autofire_device}
 use Rattle.plan_contributions.specs.Contributions.{Contribution, active, inactive, does, does_in, listens, mentions, unknown, active_posts, inactive_posts}
+
+-- the playfield, or a ball device of the machine text, has this name
+abbrev pub has_target : List SectionRows → List ℕ → Bool
+has_target machine name = bytes_eq name playfield || list_any (λ d. bytes_eq name d.name.text) (flat_map ball_devices_in machine)
 
 module _ (P : Effect → Type 0) (S L : List ℕ → Type 0) where
   -- S holds of the name of each event that a switch posts, and P of each post of an entry of `event_player`
@@ -58,6 +65,14 @@ module _ (P : Effect → Type 0) (S L : List ℕ → Type 0) where
       pub shots : All (λ w. IsSome (shot_called rows w.text)) g.shots
       pub lists : All (All P) (group_lists (members_of rows g).profile g.name.text (texts g.shots))
 
+    -- P holds of all that the effect lists of a ball device do, and L of the name of each of its ball switches, which are
+    -- no two of one name; and it ejects its balls onto the playfield or into a ball device
+    pub record IsBallDeviceDoing (d : BallDevice) : Type 0 where
+      pub lists : All (All P) (ball_lists rows.machine d)
+      pub listens : All L (texts d.switches)
+      pub apart : AllPairs (λ m n. m ≢ n) (texts d.switches)
+      pub target : has_target rows.machine d.target.text ≡ true
+
     -- and of all that a section does, of whichever text
     pub record IsDoing (s : SectionRows) : Type 0 where
       pub players : All IsPlayerDoing (event_players_in s)
@@ -73,6 +88,7 @@ module _ (P : Effect → Type 0) (S L : List ℕ → Type 0) where
       pub switches : All IsSwitchDoing (switches_in s)
       pub flippers : All (λ f. IsDeviceDoing (flipper_device rows.machine f)) (flippers_in s)
       pub autofires : All (λ a. IsDeviceDoing (autofire_device rows.machine a)) (autofires_in s)
+      pub ball_devices : All IsBallDeviceDoing (ball_devices_in s)
 
   -- each section of the machine and of the modes
   pub record AreDoing (rows : Rows) : Type 0 where

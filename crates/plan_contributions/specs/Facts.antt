@@ -11,12 +11,13 @@ use Rattle.plan_rows.specs.declared.place.Place.{Place}
 use Rattle.plan_rows.specs.declared.place.Place.TheVariants.{Machine, Control, Mode}
 use Rattle.plan_tables.specs.Devices.{IsWithinLimits}
 use Rattle.plan_tables.specs.declared.devices.Settings.{Settings}
-use Rattle.plan_tables.specs.declared.devices.Settings.TheVariants.{Flipper, Autofire}
+use Rattle.plan_tables.specs.declared.devices.Settings.TheVariants.{Flipper, Autofire, BallDevice}
 use Rattle.plan_tables.specs.declared.entries.CoilLimits.{CoilLimits}
 use Rattle.plan_tables.specs.declared.entries.ModeEvent.{ModeEvent}
-use Rattle.plan_contributions.specs.DeviceEntries.{Deed, pulse, enable, disable, Effect, posts, works, changes, block_event, block_endings, timer_event, timer_endings}
+use Rattle.plan_contributions.specs.DeviceEntries.{Deed, pulse, enable, disable, Effect, posts, works, changes, enters, leaves, loses, arrives, block_event, block_endings, timer_event, timer_endings}
 use Rattle.plan_contributions.specs.CoilEntries.{limits_of_coil}
 use Rattle.plan_contributions.specs.ShotEntries.{shot_events, group_events}
+use Rattle.plan_contributions.specs.BallEntries.{ball_event, ball_endings}
 use Rattle.plan_contributions.specs.Contributions.{Contribution, mode, mode_event_name, binds, does, device, does_in, listens, coil, plays}
 use Rattle.machine_definitions.specs.GameEvents.{game_event_names}
 use Rattle.machine_definitions.specs.Players.{player_event}
@@ -36,6 +37,7 @@ pub record IsOfNames (P : List ℕ → Type 0) : Type 0 where
   pub player : (n : List ℕ) → IsName n → P (player_event n)
   pub block : (n : List ℕ) → IsName n → All (λ ending. P (block_event n ending)) block_endings
   pub timer : (n : List ℕ) → IsName n → All (λ ending. P (timer_event n ending)) timer_endings
+  pub ball_device : (n : List ℕ) → IsName n → All (λ ending. P (ball_event n ending)) ball_endings
   pub shot : (name profile state : List ℕ) → IsName name → IsName profile → IsName state → All P (shot_events name profile state)
   pub group : (name state : List ℕ) → IsName name → IsName state → All P (group_events (codes "_hit") name state) × All P (group_events (codes "_complete") name state)
 
@@ -87,6 +89,10 @@ abbrev pub IsEffectInRange : Effect → Type 0
 IsEffectInRange (posts n) = Unit {0}
 IsEffectInRange (works n deed) = IsDeedInRange deed
 IsEffectInRange (changes v action n) = Unit {0}
+IsEffectInRange (enters e drain) = Unit {0}
+IsEffectInRange leaves = Unit {0}
+IsEffectInRange loses = Unit {0}
+IsEffectInRange arrives = Unit {0}
 
 -- at most 99 balls at home, from 1 to 99 balls a player, and from 1 to 4 players
 pub record AreRules (min_balls balls_per_game max_players : ℕ) : Type 0 where
@@ -180,10 +186,11 @@ AreAimed rows n (c ∷ cs) = IsAimed rows n c × AreAimed rows (modes_after n c)
 
 -- ---- rows of the machine alone
 
--- flippers and autofire coils are the machine's
+-- flippers, autofire coils and ball devices are the machine's
 abbrev pub IsPlaceOf : Settings → Place → Type 0
 IsPlaceOf Flipper place = place ≡ Machine
 IsPlaceOf Autofire place = place ≡ Machine
+IsPlaceOf (BallDevice d) place = place ≡ Machine
 IsPlaceOf _ place = Unit {0}
 
 abbrev pub IsOfMachine : Contribution → Type 0

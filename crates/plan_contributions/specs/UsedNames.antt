@@ -5,15 +5,19 @@ use Rattle.plan_tables.specs.declared.entries.ModeEvent.TheVariants.{WillStart}
 use Rattle.plan_tables.specs.declared.table.Table.{Table}
 use Rattle.plan_tables.specs.declared.table.Table.TheVariants.{Events, Switches, Coils, Variables}
 use Rattle.plan_tables.specs.Limits.{order_of}
-use Rattle.plan_contributions.specs.Contributions.{Contribution, gives, active, inactive, mode, mode_event, mode_event_name, binds, Effect, posts, works, changes, does, does_in, listens, mentions, coil, under}
+use Rattle.plan_contributions.specs.Contributions.{Contribution, gives, active, inactive, mode, mode_event, mode_event_name, binds, Effect, posts, works, changes, enters, leaves, loses, arrives, does, does_in, listens, mentions, coil, under}
 
 -- ---- one contribution
 
--- what an effect list does uses the name of an event, of a coil, or of a variable
+-- what an effect list does uses the name of an event, of a coil, or of a variable, or no name
 abbrev pub used_by : Effect → Option (Table × List ℕ)
 used_by (posts n) = Some (Events, n)
 used_by (works n deed) = Some (Coils, n)
 used_by (changes v action n) = Some (Variables, v)
+used_by (enters e drain) = Some (Events, e)
+used_by leaves = None
+used_by loses = None
+used_by arrives = None
 
 -- the name that a contribution uses, and its table; giving something under a name is a use of it
 abbrev pub used : Contribution → Option (Table × List ℕ)

@@ -2,10 +2,11 @@
 
 ghost use Rattle.std.specs.Prelude.{◌≡◌, ◌++◌, map, OnOk};
 ghost use Rattle.mpf_sections.specs.View.{switch_view as switch_row_view, event_player_view, mode_settings_view, entry_view, player_view, name_view};
-ghost use Rattle.plan_contributions.specs.Contributions.{active, inactive, does, posts, texts, contact_of, is_quick, kind_of, tag_event, active_posts, inactive_posts, switch_contributions, player_contributions, stopper_where, later_events, controls, mode_contributions, machine_entry_contributions, entry_contributions, alone_contributions, player_entry_contributions, row_contributions};
+ghost use Rattle.plan_contributions.specs.Contributions.{active, inactive, does, posts, texts, contact_of, is_quick, kind_of, confirms, tag_event, active_posts, inactive_posts, switch_contributions, player_contributions, stopper_where, later_events, controls, mode_contributions, machine_entry_contributions, entry_contributions, alone_contributions, player_entry_contributions, row_contributions};
 ghost use Rattle.plan_contributions.specs.View.{contributions_view};
 ghost use Rattle.plan_rows.specs.View.{row_view};
 
+use crate::collect_balls::collect_ball_device;
 use crate::collect_bound::{collect_bound, collect_each};
 use crate::collect_coils::{collect_autofire, collect_coil, collect_coil_player, collect_flipper};
 use crate::collect_devices::collect_device;
@@ -18,8 +19,8 @@ use mpf_config::config::Contact as WrittenContact;
 use mpf_config::{
     AUTOFIRE_COILS_NAME, COIL_PLAYER_NAME, COILS_NAME, Debounce, EVENT_PLAYER_NAME, Entry,
     EventPlayer, FLIPPERS_NAME, GAME_NAME, ModeSettings, Name, Player, SWITCHES_NAME, Switch,
-    VARIABLE_PLAYER_NAME, as_autofire, as_coil, as_coil_player, as_event_player, as_flipper,
-    as_game, as_shot, as_shot_group, as_switch, as_variable_player,
+    VARIABLE_PLAYER_NAME, as_autofire, as_ball_device, as_coil, as_coil_player, as_event_player,
+    as_flipper, as_game, as_shot, as_shot_group, as_switch, as_variable_player,
 };
 use plan_rows::{Place, Row};
 use plan_tables::entries::{Contact, ModeEvent, SwitchKind};
@@ -54,6 +55,9 @@ pub fn collect_row<'a>(
         }
         Row::Group(place, entry, members) => {
             collect_group(contributions, place, as_shot_group(entry), members)
+        }
+        Row::BallDevice(entry, to) => {
+            collect_ball_device(contributions, definitions, as_ball_device(entry), to)
         }
         Row::Player(place, section, player) => {
             collect_player(contributions, definitions, place, section, player)
@@ -159,7 +163,7 @@ fn collect_switch<'a>(
     ensures { OnOk result (contributions_view contributions.new.items ≡ contributions_view contributions.old.items ++ switch_contributions definitions.now.machine (switch_row_view row.entry)) }
 {
     contributions.push(Contribution::Gives(Table::Switches, &row.name.text))?;
-    contributions.push(Contribution::Reads(kind_of(definitions, row)))?;
+    contributions.push(Contribution::Reads(kind_of(definitions, row), confirms(row.tags)))?;
     collect_active(contributions, row)?;
     collect_inactive(contributions, row)?;
     Ok(())
@@ -173,6 +177,17 @@ fn kind_of(definitions: &Definitions<'_>, row: Switch<'_>) -> SwitchKind
         contact: contact_of(row.contact),
         quick: is_quick(definitions, &row.name.text, row.debounce),
     }
+}
+
+/// The tag of switches that a ball on the playfield presses.
+const PLAYFIELD_ACTIVE: &[u8] = b"playfield_active";
+
+/// Whether a ball that presses a switch with these tags is on the playfield.
+fn confirms(tags: &[Name]) -> bool
+    ensures { result ≡ confirms (map name_view tags.now) }
+{
+    tags.iter()
+        .any(|tag| tag.text.as_slice() == PLAYFIELD_ACTIVE)
 }
 
 /// The contact of a switch, in the plan.

@@ -59,7 +59,7 @@ pub(crate) struct Defaults {
     may_hold: bool,
 }
 
-fn defaults_of(definitions: &Definitions<'_>, name: &[u8]) -> Defaults
+pub(crate) fn defaults_of(definitions: &Definitions<'_>, name: &[u8]) -> Defaults
     ensures { defaults_view result ≡ defaults_called definitions.now.machine name.now }
 {
     match definitions.coil(name) {
@@ -126,7 +126,7 @@ fn collect_items<'a>(
 
 // ---- `flippers` and `autofire_coils`
 
-fn own_pulse(coil: Defaults) -> Deed
+pub(crate) fn own_pulse(coil: Defaults) -> Deed
     ensures { deed_view result ≡ own_pulse (defaults_view coil) }
 {
     Deed::Pulse {

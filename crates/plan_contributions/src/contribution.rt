@@ -1,6 +1,6 @@
 //! What rows give to a plan, by names.
 
-ghost use Rattle.std.specs.Prelude.{◌≡◌, Some, option_map, OnOk, ◌++◌};
+ghost use Rattle.std.specs.Prelude.{◌≡◌, option_map, OnOk, ◌++◌};
 ghost use Rattle.plan_contributions.specs.UsedNames.{used_by, used, given};
 ghost use Rattle.plan_contributions.specs.Contributions.{event_ending, mode_event_name};
 ghost use Rattle.machine_definitions.specs.Players.{player_event};
@@ -60,6 +60,15 @@ pub enum Effect<'a> {
     Coil(&'a [u8], Deed),
     /// It does this with the variable of this name, with a number.
     Variable(&'a [u8], VariableAction, i64),
+    /// A ball enters the ball device of the row, which posts the event of this name. The flag says
+    /// whether the ball may have drained.
+    Enter(Parts<'a>, bool),
+    /// The ball that the ball device of the row ejects leaves it.
+    Leave,
+    /// A ball is lost from the ball device of the row: it leaves without being ejected.
+    Lose,
+    /// A ball that was on its way from the ball device of the row is on the playfield.
+    Arrive,
 }
 
 /// One thing that a row gives to a plan. What comes last depends on the order: it is the last that
@@ -68,8 +77,8 @@ pub enum Effect<'a> {
 pub enum Contribution<'a> {
     /// What stands in the table under this name.
     Gives(Table, &'a [u8]),
-    /// How the switch is read that came last.
-    Reads(SwitchKind),
+    /// How the switch is read that came last, and whether a ball that presses it is on the playfield.
+    Reads(SwitchKind, bool),
     /// The switch that came last posts the event when it becomes active.
     Active(Parts<'a>),
     /// It posts the event when it becomes inactive.
@@ -174,14 +183,16 @@ pub fn write_name(text: &mut Vec<u8>, name: Parts) -> Result<(), AllocError>
     text.extend_from_slice(name.sixth)
 }
 
-/// The name that a part of an effect list uses, and its table.
-fn used_by(effect: Effect<'_>) -> (Table, Parts<'_>)
-    ensures { Some (named_view result) ≡ used_by (effect_view effect.entry) }
+/// The name that a part of an effect list uses, and its table, if it uses one.
+fn used_by(effect: Effect<'_>) -> Option<(Table, Parts<'_>)>
+    ensures { option_map named_view result ≡ used_by (effect_view effect.entry) }
 {
     match effect {
-        Effect::Post(name) => (Table::Events, name),
-        Effect::Coil(name, _) => (Table::Coils, whole(name)),
-        Effect::Variable(name, _, _) => (Table::Variables, whole(name)),
+        Effect::Post(name) => Some((Table::Events, name)),
+        Effect::Coil(name, _) => Some((Table::Coils, whole(name))),
+        Effect::Variable(name, _, _) => Some((Table::Variables, whole(name))),
+        Effect::Enter(name, _) => Some((Table::Events, name)),
+        Effect::Leave | Effect::Lose | Effect::Arrive => None,
     }
 }
 
@@ -198,8 +209,8 @@ pub fn used<'a>(contribution: &Contribution<'a>) -> Option<(Table, Parts<'a>)>
         }
         Contribution::ModeEvent(which, name) => Some((Table::Events, mode_event_name(which, name))),
         Contribution::Binds(name, _, _) => Some((Table::Events, name)),
-        Contribution::Does(effect) => Some(used_by(effect)),
-        Contribution::DoesIn(_, effect) => Some(used_by(effect)),
+        Contribution::Does(effect) => used_by(effect),
+        Contribution::DoesIn(_, effect) => used_by(effect),
         Contribution::Listens(_, name) => Some((Table::Switches, whole(name))),
         Contribution::Coil(name, _) => Some((Table::Coils, whole(name))),
         Contribution::Mentions(table, name) => Some((table, name)),

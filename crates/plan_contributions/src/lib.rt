@@ -6,9 +6,11 @@
 #![tactic(auto)]
 
 pub mod collect;
+mod collect_balls;
 mod collect_bound;
 mod collect_coils;
 mod collect_devices;
+mod collect_effects;
 mod collect_game;
 mod collect_shots;
 mod collect_variables;

@@ -1,4 +1,4 @@
--- Which seats the entries of a text have, one entry after the other.
+-- What the entries of a text give under names, such as the seats of shots, one entry after the other.
 use Rattle.std.proofs.Common.{◌≡◌, ℕ, suc, ◌+◌, ◌<◌, Bool, List, [], ◌∷◌, ◌++◌, length, map, fold, drop, get_or, Option, refl, sym, ◌∙◌, ap, arith}
 use Rattle.std.specs.Prelude.{true, not, if◌then◌else◌}
 use Rattle.std.specs.Str.{bytes_eq}
@@ -13,24 +13,24 @@ use Rattle.yaml_subset.specs.Keys.{is_among}
 use Rattle.mpf_sections.specs.TypedShots.{shots_name}
 use Rattle.machine_definitions.proofs.Finding.{next-is}
 use Rattle.plan_rows.specs.declared.place.Place.{Place}
-use Rattle.plan_rows.specs.Seats.{section_entries, text_entries, row_sections, has_row, rows_after, rows_after_all, Seat, seats_at, entry_seats, seats_from, latest_seat}
+use Rattle.plan_rows.specs.Seats.{section_entries, text_entries, row_sections, has_row, rows_after, rows_after_all, Seat, seats_at, given_from, latest}
 
--- the seat of a name after these, where this one was found before
-abbrev pub seat_after : List ℕ → Option Seat → List (List ℕ × Seat) → Option Seat
-seat_after name o seats = fold (latest_seat name) o seats
+-- what is found under a name after these, where this was found before
+abbrev pub found_after : {X : Type 0} → List ℕ → Option X → List (List ℕ × X) → Option X
+found_after name o xs = fold (latest name) o xs
 
 -- ---- the shots of a group
 
 -- one shot, and then the others
 pub seat_next : (name : List ℕ) (o : Option Seat) (row : ℕ) (shots : List Name) (i : ℕ) (d : Name) → i < length shots
-    → seat_after name (latest_seat name o ((name_view (get_or shots i d)).text, record { row = row; shot = i })) (seats_at row (i + 1) (map name_view (drop (i + 1) shots)))
-    ≡ seat_after name o (seats_at row i (map name_view (drop i shots)))
+    → found_after name (latest name o ((name_view (get_or shots i d)).text, record { row = row; shot = i })) (seats_at row (i + 1) (map name_view (drop (i + 1) shots)))
+    ≡ found_after name o (seats_at row i (map name_view (drop i shots)))
 seat_next name o row shots i d within =
     let next : i + 1 ≡ suc i = omega arith in
     let later = map name_view (drop (i + 1) shots) in
-    let found = latest_seat name o ((name_view (get_or shots i d)).text, record { row = row; shot = i }) in
-    ap (λ k. seat_after name found (seats_at row k later)) next
-    ∙ ap (λ l. seat_after name o (seats_at row i (map name_view l))) (sym (drop_more shots i d within))
+    let found = latest name o ((name_view (get_or shots i d)).text, record { row = row; shot = i }) in
+    ap (λ k. found_after name found (seats_at row k later)) next
+    ∙ ap (λ l. found_after name o (seats_at row i (map name_view l))) (sym (drop_more shots i d within))
 
 -- ---- the entries of a text
 
@@ -43,40 +43,12 @@ module _ (place : Place) (grouped : List ℕ → Bool) where
   pub shot_has_row : (section : List ℕ) (e : Entry) → bytes_eq section shots_name ≡ true → not (grouped e.name.text) ≡ has_row place grouped (section, e)
   shot_has_row section e is = ap (λ (b : Bool). if b then not (grouped e.name.text) else is_among (row_sections place) section) (sym is)
 
-  -- the seats of some entries, and then those of others
-  pub seats-append : (n : ℕ) (xs ys : List (List ℕ × Entry)) → seats_from place grouped n (xs ++ ys) ≡ seats_from place grouped n xs ++ seats_from place grouped (rows_after_all place grouped n xs) ys
-  seats-append n [] ys = refl
-  seats-append n (x ∷ xs) ys =
-      let after = rows_after place grouped n x in
-      ap (λ l. entry_seats n x ++ l) (seats-append after xs ys)
-      ∙ sym (append_assoc (entry_seats n x) (seats_from place grouped after xs) (seats_from place grouped (rows_after_all place grouped after xs) ys))
-
-  -- one entry of a section, and then the others
-  pub entry_next : (name section : List ℕ) (o : Option Seat) (n : ℕ) (es : List rows.Entry) (i : ℕ) (d : rows.Entry) → i < length es → d ≡ get_or es i d
-      → seat_after name (seat_after name o (entry_seats n (section, entry_view d))) (seats_from place grouped (rows_after place grouped n (section, entry_view d)) (entries_of section (drop (i + 1) es)))
-      ≡ seat_after name o (seats_from place grouped n (entries_of section (drop i es)))
-  entry_next name section o n es i d within is =
-      let later = entries_of section (drop (i + 1) es) in
-      sym (fold-append (latest_seat name) o (entry_seats n (section, entry_view d)) (seats_from place grouped (rows_after place grouped n (section, entry_view d)) later))
-      ∙ next-is (λ l. seat_after name o (seats_from place grouped n (entries_of section l))) es i d within is
-
-  -- how many rows come before what comes after it
+  -- how many rows come before what comes after an entry of a section
   pub entry_rows_next : (section : List ℕ) (n : ℕ) (es : List rows.Entry) (i : ℕ) (d : rows.Entry) → i < length es → d ≡ get_or es i d
       → rows_after_all place grouped (rows_after place grouped n (section, entry_view d)) (entries_of section (drop (i + 1) es)) ≡ rows_after_all place grouped n (entries_of section (drop i es))
   entry_rows_next section n es i d within is = next-is (λ l. rows_after_all place grouped n (entries_of section l)) es i d within is
 
-  -- one section, and then the others
-  pub section_next : (name : List ℕ) (o : Option Seat) (n : ℕ) (ss : List Section) (i : ℕ) (d : Section) → i < length ss → d ≡ get_or ss i d
-      → seat_after name (seat_after name o (seats_from place grouped n (section_entries (section_view d)))) (seats_from place grouped (rows_after_all place grouped n (section_entries (section_view d))) (text_entries (map section_view (drop (i + 1) ss))))
-      ≡ seat_after name o (seats_from place grouped n (text_entries (map section_view (drop i ss))))
-  section_next name o n ss i d within is =
-      let here = section_entries (section_view d) in
-      let later = text_entries (map section_view (drop (i + 1) ss)) in
-      sym (fold-append (latest_seat name) o (seats_from place grouped n here) (seats_from place grouped (rows_after_all place grouped n here) later))
-      ∙ ap (seat_after name o) (sym (seats-append n here later))
-      ∙ next-is (λ l. seat_after name o (seats_from place grouped n (text_entries (map section_view l)))) ss i d within is
-
-  -- and how many rows come before what comes after it
+  -- and after a section
   pub section_rows_next : (n : ℕ) (ss : List Section) (i : ℕ) (d : Section) → i < length ss → d ≡ get_or ss i d
       → rows_after_all place grouped (rows_after_all place grouped n (section_entries (section_view d))) (text_entries (map section_view (drop (i + 1) ss)))
       ≡ rows_after_all place grouped n (text_entries (map section_view (drop i ss)))
@@ -84,3 +56,33 @@ module _ (place : Place) (grouped : List ℕ → Bool) where
       let here = section_entries (section_view d) in
       let later = text_entries (map section_view (drop (i + 1) ss)) in
       sym (fold-append (rows_after place grouped) n here later) ∙ next-is (λ l. rows_after_all place grouped n (text_entries (map section_view l))) ss i d within is
+
+  -- Here `give` says what an entry gives under which names.
+  module _ {X : Type 0} (give : ℕ → List ℕ × Entry → List (List ℕ × X)) where
+    -- what some entries give, and then others
+    pub given-append : (n : ℕ) (xs ys : List (List ℕ × Entry)) → given_from give place grouped n (xs ++ ys) ≡ given_from give place grouped n xs ++ given_from give place grouped (rows_after_all place grouped n xs) ys
+    given-append n [] ys = refl
+    given-append n (x ∷ xs) ys =
+        let after = rows_after place grouped n x in
+        ap (λ l. give n x ++ l) (given-append after xs ys)
+        ∙ sym (append_assoc (give n x) (given_from give place grouped after xs) (given_from give place grouped (rows_after_all place grouped after xs) ys))
+
+    -- one entry of a section, and then the others
+    pub entry_next : (name section : List ℕ) (o : Option X) (n : ℕ) (es : List rows.Entry) (i : ℕ) (d : rows.Entry) → i < length es → d ≡ get_or es i d
+        → found_after name (found_after name o (give n (section, entry_view d))) (given_from give place grouped (rows_after place grouped n (section, entry_view d)) (entries_of section (drop (i + 1) es)))
+        ≡ found_after name o (given_from give place grouped n (entries_of section (drop i es)))
+    entry_next name section o n es i d within is =
+        let later = entries_of section (drop (i + 1) es) in
+        sym (fold-append (latest name) o (give n (section, entry_view d)) (given_from give place grouped (rows_after place grouped n (section, entry_view d)) later))
+        ∙ next-is (λ l. found_after name o (given_from give place grouped n (entries_of section l))) es i d within is
+
+    -- one section, and then the others
+    pub section_next : (name : List ℕ) (o : Option X) (n : ℕ) (ss : List Section) (i : ℕ) (d : Section) → i < length ss → d ≡ get_or ss i d
+        → found_after name (found_after name o (given_from give place grouped n (section_entries (section_view d)))) (given_from give place grouped (rows_after_all place grouped n (section_entries (section_view d))) (text_entries (map section_view (drop (i + 1) ss))))
+        ≡ found_after name o (given_from give place grouped n (text_entries (map section_view (drop i ss))))
+    section_next name o n ss i d within is =
+        let here = section_entries (section_view d) in
+        let later = text_entries (map section_view (drop (i + 1) ss)) in
+        sym (fold-append (latest name) o (given_from give place grouped n here) (given_from give place grouped (rows_after_all place grouped n here) later))
+        ∙ ap (found_after name o) (sym (given-append n here later))
+        ∙ next-is (λ l. found_after name o (given_from give place grouped n (text_entries (map section_view l)))) ss i d within is

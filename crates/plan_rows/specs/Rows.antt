@@ -6,21 +6,25 @@ use Rattle.mpf_sections.specs.Rows.{Entry, Player, ModeSettings, Content, entrie
 use Rattle.mpf_config.specs.Rows.{ModeRows, Rows}
 use Rattle.mpf_sections.specs.Typed.{mode_settings}
 use Rattle.plan_rows.specs.declared.place.Place.{Place}
-use Rattle.plan_rows.specs.declared.place.Place.TheVariants.{Machine, Mode}
-use Rattle.mpf_sections.specs.Rows.{Shot, ShotGroup}
+use Rattle.plan_rows.specs.declared.place.Place.TheVariants.{Machine, Control, Mode}
+use Rattle.plan_rows.specs.declared.destination.Destination.{Destination}
+use Rattle.mpf_sections.specs.Rows.{Shot, ShotGroup, BallDevice}
 use Rattle.mpf_sections.specs.TypedShots.{shots_name, shot_groups_name, shot_of, shot_group_of}
+use Rattle.mpf_sections.specs.TypedBalls.{ball_devices_name, ball_device_of}
 use Rattle.machine_definitions.specs.Shots.{Profile, has_profile, profile_of_name}
-use Rattle.plan_rows.specs.Seats.{Seat, seat_of, rows_after_text}
+use Rattle.plan_rows.specs.Seats.{Seat, seat_of, destination_of, rows_after_text}
 use Rattle.plan_rows.specs.Members.{Members, members_of}
 
 -- An entry in the section of this name, or the one that the section is; a shot, with its seat if it has one, whether
--- its profile is known, and its profile; a group, with what is known of its shots; or an entry of a player, whose
--- bindings have this place; or a mode by its name, with what its text says of it.
+-- its profile is known, and its profile; a group, with what is known of its shots; a ball device, which is the machine's,
+-- with where it ejects its balls to; or an entry of a player, whose bindings have this place; or a mode by its name, with
+-- what its text says of it.
 pub data Row : Type 0 where
   entry : Place → List ℕ → Entry → Row
   alone : Place → List ℕ → Entry → Row
   shot : Place → Shot → Option Seat → Bool → Profile → Row
   group : Place → ShotGroup → Members → Row
+  ball_device : BallDevice → Destination → Row
   player : Place → List ℕ → Player → Row
   of_mode : List ℕ → ModeSettings → Row
 
@@ -32,11 +36,25 @@ module _ (rows : Rows) (place : Place) (seat : List ℕ → Option Seat) where
   abbrev pub group_row : ShotGroup → Row
   group_row g = group place g (members_of rows g)
 
+-- Here `destination` says of a name where balls go that are ejected to what has this name.
+module _ (destination : List ℕ → Destination) where
+  abbrev pub ball_device_row : BallDevice → Row
+  ball_device_row d = ball_device d (destination d.target.text)
+
+  -- an entry of neither a shot nor a group; ball devices stand in the machine text alone
+  abbrev pub other_row : Place → List ℕ → Entry → Row
+  other_row Machine section e =
+      if bytes_eq section ball_devices_name then ball_device_row (ball_device_of e) else entry Machine section e
+  other_row Control section e = entry Control section e
+  other_row Mode section e = entry Mode section e
+
+module _ (rows : Rows) (place : Place) (seat : List ℕ → Option Seat) (destination : List ℕ → Destination) where
   -- an entry in the section of this name
   abbrev pub entry_row : List ℕ → Entry → Row
   entry_row section e =
-      if bytes_eq section shots_name then shot_row (shot_of e)
-      else (if bytes_eq section shot_groups_name then group_row (shot_group_of e) else entry place section e)
+      if bytes_eq section shots_name then shot_row rows place seat (shot_of e)
+      else (if bytes_eq section shot_groups_name then group_row rows place seat (shot_group_of e)
+      else other_row destination place section e)
 
   abbrev pub rows_from : List ℕ → Content → List Row
   rows_from name (entries es) = map (entry_row name) es
@@ -50,7 +68,7 @@ module _ (rows : Rows) (place : Place) (seat : List ℕ → Option Seat) where
 
 -- the rows of a text, where so many rows of devices come before it
 abbrev pub text_rows : Rows → Place → ℕ → List SectionRows → List Row
-text_rows rows place n sections = rows_in rows place (seat_of place n sections) sections
+text_rows rows place n sections = rows_in rows place (seat_of place n sections) (destination_of place n sections) sections
 
 -- a mode, and then the rows of its text
 abbrev pub mode_rows : Rows → ℕ → ModeRows → List Row

@@ -1,4 +1,4 @@
--- Which row of the plan each shot is in.
+-- Which row of the plan each shot is in, and which is that of each ball device.
 use Rattle.std.specs.Prelude.{ℕ, suc, Bool, not, if◌then◌else◌, List, [], ◌∷◌, ◌++◌, map, fold, Option, None, Some}
 use Rattle.std.specs.List.{flat_map, list_any}
 use Rattle.std.specs.Str.{bytes_eq}
@@ -7,6 +7,9 @@ use Rattle.mpf_sections.specs.Rows.{Written, Entry, ShotGroup, SectionRows}
 use Rattle.mpf_sections.specs.Typed.{entries_in, counters_name, accruals_name, sequences_name, timers_name}
 use Rattle.mpf_sections.specs.TypedCoils.{flippers_name, autofire_coils_name}
 use Rattle.mpf_sections.specs.TypedShots.{shots_name, shot_groups_name, shot_group_of, shot_groups_in}
+use Rattle.mpf_sections.specs.TypedBalls.{ball_devices_name, playfield, ball_device_of}
+use Rattle.plan_rows.specs.declared.destination.Destination.{Destination}
+use Rattle.plan_rows.specs.declared.destination.Destination.TheVariants.{Playfield, Device, Unknown}
 use Rattle.plan_rows.specs.declared.place.Place.{Place}
 use Rattle.plan_rows.specs.declared.place.Place.TheVariants.{Machine, Control, Mode}
 
@@ -27,7 +30,8 @@ is_grouped sections name = list_any (lists_shot name) (flat_map shot_groups_in s
 -- the sections whose entries each have a row, in a text of this place; beside them there are shots
 abbrev pub row_sections : Place → List (List ℕ)
 row_sections Machine =
-    flippers_name ∷ autofire_coils_name ∷ counters_name ∷ accruals_name ∷ sequences_name ∷ timers_name ∷ shot_groups_name ∷ []
+    flippers_name ∷ autofire_coils_name ∷ ball_devices_name
+    ∷ counters_name ∷ accruals_name ∷ sequences_name ∷ timers_name ∷ shot_groups_name ∷ []
 row_sections Control = counters_name ∷ accruals_name ∷ sequences_name ∷ timers_name ∷ shot_groups_name ∷ []
 row_sections Mode = counters_name ∷ accruals_name ∷ sequences_name ∷ timers_name ∷ shot_groups_name ∷ []
 
@@ -45,6 +49,24 @@ module _ (place : Place) (grouped : List ℕ → Bool) where
   abbrev pub rows_after_all : ℕ → List (List ℕ × Entry) → ℕ
   rows_after_all n es = fold rows_after n es
 
+-- Here `give` says what an entry gives under which names, where so many rows come before it.
+module _ {X : Type 0} (give : ℕ → List ℕ × Entry → List (List ℕ × X)) (place : Place) (grouped : List ℕ → Bool) where
+  -- what these entries give, where so many rows come before them
+  abbrev pub given_from : ℕ → List (List ℕ × Entry) → List (List ℕ × X)
+  given_from n [] = []
+  given_from n (e ∷ es) = give n e ++ given_from (rows_after place grouped n e) es
+
+-- what is given under this name, or was found before; of two the later
+abbrev pub latest : {X : Type 0} → List ℕ → Option X → List ℕ × X → Option X
+latest name found x = if bytes_eq name x.0 then Some x.1 else found
+
+-- what the entries of a text give under this name, where so many rows come before it
+abbrev pub found_in : {X : Type 0} → (ℕ → List ℕ × Entry → List (List ℕ × X)) → Place → ℕ → List SectionRows → List ℕ → Option X
+found_in give place n sections name =
+    fold (latest name) None (given_from give place (is_grouped sections) n (text_entries sections))
+
+-- ---- shots
+
 -- The seat of a shot in a group: the number of the group's row, and that of the shot in the group.
 pub record Seat : Type 0 where
   pub row : ℕ
@@ -59,19 +81,30 @@ seats_at row i (w ∷ ws) = (w.text, record { row = row; shot = i }) ∷ seats_a
 abbrev pub entry_seats : ℕ → List ℕ × Entry → List (List ℕ × Seat)
 entry_seats n e = if bytes_eq e.0 shot_groups_name then seats_at n 0 (shot_group_of e.1).shots else []
 
--- and that these entries have
-abbrev pub seats_from : Place → (List ℕ → Bool) → ℕ → List (List ℕ × Entry) → List (List ℕ × Seat)
-seats_from place grouped n [] = []
-seats_from place grouped n (e ∷ es) = entry_seats n e ++ seats_from place grouped (rows_after place grouped n e) es
-
--- the seat of the shot of this name, if it has one; of two the later
-abbrev pub latest_seat : List ℕ → Option Seat → List ℕ × Seat → Option Seat
-latest_seat name found s = if bytes_eq name s.0 then Some s.1 else found
-
--- the same in a text, where so many rows come before it
+-- the seat of the shot of this name in a text, if it has one
 abbrev pub seat_of : Place → ℕ → List SectionRows → List ℕ → Option Seat
-seat_of place n sections name =
-    fold (latest_seat name) None (seats_from place (is_grouped sections) n (text_entries sections))
+seat_of = found_in entry_seats
+
+-- ---- ball devices
+
+-- the number of the row of a ball device, by its name
+abbrev pub entry_ball_row : ℕ → List ℕ × Entry → List (List ℕ × ℕ)
+entry_ball_row n e = if bytes_eq e.0 ball_devices_name then ((ball_device_of e.1).name.text, n) ∷ [] else []
+
+-- the row of the ball device of this name in a text, if there is one
+abbrev pub ball_row_of : Place → ℕ → List SectionRows → List ℕ → Option ℕ
+ball_row_of = found_in entry_ball_row
+
+abbrev pub row_or_unknown : Option ℕ → Destination
+row_or_unknown None = Unknown
+row_or_unknown (Some row) = Device row
+
+-- where balls go that are ejected to what has this name: onto the playfield, or into the ball device of that name
+abbrev pub destination_of : Place → ℕ → List SectionRows → List ℕ → Destination
+destination_of place n sections name =
+    if bytes_eq name playfield then Playfield else row_or_unknown (ball_row_of place n sections name)
+
+-- ---- texts
 
 -- how many rows come before the text after this one
 abbrev pub rows_after_text : Place → ℕ → List SectionRows → ℕ

@@ -1,18 +1,22 @@
 -- What rows, seats and members hold.
-use Rattle.std.specs.Prelude.{ℕ, List, map, Option, option_map}
+use Rattle.std.specs.Prelude.{ℕ, List, map, Option, option_map, if◌then◌else◌}
 use Rattle.std.specs.Borrow.{Bor}
 use Rattle.std.specs.BTreeMap.{BTreeMap}
 use Rattle.std.specs.Map.{lookup}
+use Rattle.std.specs.Str.{bytes_eq}
 use Rattle.mpf_sections.specs.View.{entry_view, player_view, mode_settings_view}
 use Rattle.mpf_sections.specs.TypedShots.{shot_of, shot_group_of}
+use Rattle.mpf_sections.specs.TypedBalls.{playfield, ball_device_of}
 use Rattle.machine_definitions.specs.Found.{has_bytes, profile_view}
 use Rattle.plan_rows.specs.declared.rows.Row as rows
 use Rattle.plan_rows.specs.declared.rows.Row.TheVariants as row
 use Rattle.plan_rows.specs.declared.seats.Seat as seats
 use Rattle.plan_rows.specs.declared.members.Members as members
-use Rattle.plan_rows.specs.Seats.{Seat}
+use Rattle.plan_rows.specs.declared.destination.Destination.{Destination}
+use Rattle.plan_rows.specs.declared.destination.Destination.TheVariants.{Playfield}
+use Rattle.plan_rows.specs.Seats.{Seat, row_or_unknown}
 use Rattle.plan_rows.specs.Members.{Members}
-use Rattle.plan_rows.specs.Rows.{Row, entry, alone, shot, group, player, of_mode}
+use Rattle.plan_rows.specs.Rows.{Row, entry, alone, shot, group, ball_device, player, of_mode}
 
 abbrev pub seat_view : seats.Seat → Seat
 seat_view s = record { row = s.row; shot = s.shot }
@@ -20,6 +24,14 @@ seat_view s = record { row = s.row; shot = s.shot }
 -- the seat that is found by a name
 abbrev pub found_seat : BTreeMap (Bor (List ℕ)) seats.Seat → List ℕ → Option Seat
 found_seat found name = option_map seat_view (lookup (has_bytes name) found.entries)
+
+-- the row that is found by a name
+abbrev pub found_row : BTreeMap (Bor (List ℕ)) ℕ → List ℕ → Option ℕ
+found_row found name = lookup (has_bytes name) found.entries
+
+-- where balls go that are ejected to what has this name, where these are the rows of ball devices
+abbrev pub found_destination : BTreeMap (Bor (List ℕ)) ℕ → List ℕ → Destination
+found_destination found name = if bytes_eq name playfield then Playfield else row_or_unknown (found_row found name)
 
 abbrev pub members_view : members.Members → Members
 members_view m = record { enabled = m.enabled; all_known = m.all_known; profile = profile_view m.profile.now }
@@ -29,6 +41,7 @@ row_view (row.Entry place section e) = entry place section.now (entry_view e.now
 row_view (row.Alone place section e) = alone place section.now (entry_view e.now)
 row_view (row.Shot place s seat known p) = shot place (shot_of (entry_view s.now)) (option_map seat_view seat) known (profile_view p.now)
 row_view (row.Group place g m) = group place (shot_group_of (entry_view g.now)) (members_view m)
+row_view (row.BallDevice d to) = ball_device (ball_device_of (entry_view d.now)) to
 row_view (row.Player place section p) = player place section.now (player_view p.now)
 row_view (row.Mode name s) = of_mode name.now (mode_settings_view s)
 

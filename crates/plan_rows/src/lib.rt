@@ -1,14 +1,16 @@
 //! The rows of a configuration in plan order: entries, shots with their seats, groups with what is known of
-//! their shots, entries of players, and modes.
+//! their shots, ball devices with where they eject their balls to, entries of players, and modes.
 //!
 //! A row has all that it needs of other entries, so that what it gives to a plan is by the row alone.
 #![tactic(auto)]
 
+pub mod destination;
 pub mod members;
 pub mod place;
 pub mod rows;
 pub mod seats;
 
+pub use destination::Destination;
 pub use members::{Members, is_enabled, is_none};
 pub use place::Place;
 pub use rows::{Row, rows_of};

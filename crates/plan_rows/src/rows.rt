@@ -2,21 +2,23 @@
 
 ghost use Rattle.std.specs.Prelude.{◌≡◌, ◌++◌, map, IfOk, OnOk};
 ghost use Rattle.mpf_sections.specs.TypedShots.{shot_of};
+ghost use Rattle.mpf_sections.specs.TypedBalls.{ball_device_of};
 ghost use Rattle.mpf_sections.specs.View.{section_view, entry_view, player_view};
 ghost use Rattle.mpf_config.specs.View.{mode_view, rows_view};
-ghost use Rattle.plan_rows.specs.Rows.{player, shot_row, entry_row, rows_from, rows_in, text_rows, mode_rows, rows_of};
+ghost use Rattle.plan_rows.specs.Rows.{player, shot_row, ball_device_row, other_row, entry_row, rows_from, rows_in, text_rows, mode_rows, rows_of};
 ghost use Rattle.plan_rows.specs.Seats.{rows_after_text};
 ghost use Rattle.plan_rows.specs.declared.place.Place.TheVariants.{Mode};
-ghost use Rattle.plan_rows.specs.View.{found_seat, row_view, row_list_view};
+ghost use Rattle.plan_rows.specs.View.{found_seat, found_destination, row_view, row_list_view};
 
+use crate::destination::Destination;
 use crate::members::{Members, members_of};
 use crate::place::Place;
 use crate::seats::{Seat, Seats, seats_of};
 use machine_definitions::{Definitions, Profile};
 use mpf_config::config::ModeText;
 use mpf_config::{
-    Content, Entry, ModeSettings, Player, SHOT_GROUPS_NAME, SHOTS_NAME, Section, as_shot,
-    as_shot_group, mode_settings,
+    BALL_DEVICES_NAME, Content, Entry, ModeSettings, Player, SHOT_GROUPS_NAME, SHOTS_NAME, Section,
+    as_ball_device, as_shot, as_shot_group, mode_settings,
 };
 use std::alloc::{AllocError, Global};
 
@@ -31,6 +33,8 @@ pub enum Row<'d, 'a> {
     Shot(Place, &'a Entry, Option<Seat>, bool, &'d Profile<'a>),
     /// A group, with what is known of its shots.
     Group(Place, &'a Entry, Members<'d, 'a>),
+    /// A ball device of the machine text, with where it ejects its balls to.
+    BallDevice(&'a Entry, Destination),
     /// An entry of a player in the section of this name, whose bindings have this place.
     Player(Place, &'a [u8], &'a Player),
     /// A mode by its name, with what its text says of it.
@@ -110,7 +114,7 @@ fn add_sections<'d, 'a>(
     seats: &Seats<'a>,
     sections: &'a [Section],
 ) -> Result<(), AllocError>
-    ensures { OnOk result (row_list_view rows.new.items ≡ row_list_view rows.old.items ++ rows_in definitions.now place (found_seat seats.now) (map section_view sections.now)) }
+    ensures { OnOk result (row_list_view rows.new.items ≡ row_list_view rows.old.items ++ rows_in definitions.now place (found_seat seats.now.shots) (found_destination seats.now.devices) (map section_view sections.now)) }
 {
     for section in sections {
         add_rows(rows, definitions, place, seats, section)?;
@@ -125,7 +129,7 @@ fn add_rows<'d, 'a>(
     seats: &Seats<'a>,
     section: &'a Section,
 ) -> Result<(), AllocError>
-    ensures { OnOk result (row_list_view rows.new.items ≡ row_list_view rows.old.items ++ rows_from definitions.now place (found_seat seats.now) (section_view section.now).name (section_view section.now).content) }
+    ensures { OnOk result (row_list_view rows.new.items ≡ row_list_view rows.old.items ++ rows_from definitions.now place (found_seat seats.now.shots) (found_destination seats.now.devices) (section_view section.now).name (section_view section.now).content) }
 {
     match &section.content {
         Content::Entries(entries) => {
@@ -148,7 +152,7 @@ fn add_entries<'d, 'a>(
     section: &'a [u8],
     entries: &'a [Entry],
 ) -> Result<(), AllocError>
-    ensures { OnOk result (row_list_view rows.new.items ≡ row_list_view rows.old.items ++ map (entry_row definitions.now place (found_seat seats.now) section.now) (map entry_view entries.now)) }
+    ensures { OnOk result (row_list_view rows.new.items ≡ row_list_view rows.old.items ++ map (entry_row definitions.now place (found_seat seats.now.shots) (found_destination seats.now.devices) section.now) (map entry_view entries.now)) }
 {
     for entry in entries {
         rows.push(entry_row(definitions, place, seats, section, entry))?;
@@ -178,7 +182,7 @@ fn entry_row<'d, 'a>(
     section: &'a [u8],
     entry: &'a Entry,
 ) -> Row<'d, 'a>
-    ensures { row_view result ≡ entry_row definitions.now place (found_seat seats.now) section.now (entry_view entry.now) }
+    ensures { row_view result ≡ entry_row definitions.now place (found_seat seats.now.shots) (found_destination seats.now.devices) section.now (entry_view entry.now) }
 {
     if section == SHOTS_NAME {
         return shot_row(definitions, place, seats, entry);
@@ -186,7 +190,7 @@ fn entry_row<'d, 'a>(
     if section == SHOT_GROUPS_NAME {
         return Row::Group(place, entry, members_of(definitions, as_shot_group(entry)));
     }
-    Row::Entry(place, section, entry)
+    other_row(place, seats, section, entry)
 }
 
 /// That of a shot.
@@ -196,15 +200,37 @@ fn shot_row<'d, 'a>(
     seats: &Seats<'a>,
     entry: &'a Entry,
 ) -> Row<'d, 'a>
-    ensures { row_view result ≡ shot_row definitions.now place (found_seat seats.now) (shot_of (entry_view entry.now)) }
+    ensures { row_view result ≡ shot_row definitions.now place (found_seat seats.now.shots) (shot_of (entry_view entry.now)) }
 {
     let shot = as_shot(entry);
     let profile = shot.profile.text;
     Row::Shot(
         place,
         entry,
-        seats.get(shot.name.text.as_slice()).copied(),
+        seats.shots.get(shot.name.text.as_slice()).copied(),
         definitions.has_profile(profile),
         definitions.profile(profile),
     )
+}
+
+/// That of an entry that is neither a shot nor a group.
+fn other_row<'d, 'a>(
+    place: Place,
+    seats: &Seats<'a>,
+    section: &'a [u8],
+    entry: &'a Entry,
+) -> Row<'d, 'a>
+    ensures { row_view result ≡ other_row (found_destination seats.now.devices) place section.now (entry_view entry.now) }
+{
+    match place {
+        Place::Machine if section == BALL_DEVICES_NAME => ball_device_row(seats, entry),
+        _ => Row::Entry(place, section, entry),
+    }
+}
+
+/// That of a ball device.
+fn ball_device_row<'d, 'a>(seats: &Seats<'a>, entry: &'a Entry) -> Row<'d, 'a>
+    ensures { row_view result ≡ ball_device_row (found_destination seats.now.devices) (ball_device_of (entry_view entry.now)) }
+{
+    Row::BallDevice(entry, seats.destination(as_ball_device(entry).target.text))
 }

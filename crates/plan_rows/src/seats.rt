@@ -1,4 +1,4 @@
-//! Which row of a plan each shot is in.
+//! Which row of a plan each shot is in, and which is that of each ball device.
 //!
 //! A group has a row, and its shots have seats in it. A shot that no group of its text lists has a
 //! row of its own.
@@ -9,13 +9,15 @@ ghost use Rattle.std.specs.Str.{bytes_eq};
 ghost use Rattle.mpf_sections.specs.TypedShots.{shot_group_of};
 ghost use Rattle.mpf_sections.specs.View.{name_view, entry_view, section_view};
 ghost use Rattle.machine_definitions.specs.Found.{is_found};
-ghost use Rattle.plan_rows.specs.Seats.{section_entries, lists_shot, is_grouped, has_row, rows_after, rows_after_all, seats_at, entry_seats, seats_from, latest_seat, seat_of, rows_after_text};
-ghost use Rattle.plan_rows.specs.View.{found_seat};
+ghost use Rattle.plan_rows.specs.Seats.{section_entries, lists_shot, is_grouped, has_row, rows_after, rows_after_all, given_from, latest, seats_at, entry_seats, seat_of, entry_ball_row, row_or_unknown, destination_of, rows_after_text};
+ghost use Rattle.plan_rows.specs.View.{found_seat, found_row, found_destination};
 
+use crate::destination::Destination;
 use crate::place::Place;
 use mpf_config::{
-    ACCRUALS_NAME, AUTOFIRE_COILS_NAME, COUNTERS_NAME, Entry, FLIPPERS_NAME, Name, SEQUENCES_NAME,
-    SHOT_GROUPS_NAME, SHOTS_NAME, Section, TIMERS_NAME, as_shot_group,
+    ACCRUALS_NAME, AUTOFIRE_COILS_NAME, BALL_DEVICES_NAME, COUNTERS_NAME, Entry, FLIPPERS_NAME,
+    Name, PLAYFIELD, SEQUENCES_NAME, SHOT_GROUPS_NAME, SHOTS_NAME, Section, TIMERS_NAME,
+    as_ball_device, as_shot_group,
 };
 use section_tables::is_one_of;
 use std::alloc::{AllocError, Global};
@@ -30,13 +32,46 @@ pub struct Seat {
     pub shot: usize,
 }
 
-/// The seats of shots, by the names of the shots.
-pub(crate) type Seats<'a> = BTreeMap<&'a [u8], Seat>;
+/// The seats of the shots of a text, and the numbers of the rows of its ball devices, by their names.
+#[derive(Drop)]
+pub(crate) struct Seats<'a> {
+    pub(crate) shots: BTreeMap<&'a [u8], Seat>,
+    pub(crate) devices: BTreeMap<&'a [u8], usize>,
+}
+
+impl Seats<'_> {
+    /// Where balls go that are ejected to what has this name.
+    pub(crate) fn destination(&self, name: &[u8]) -> Destination
+        ensures { result ≡ found_destination self.now.devices name.now }
+    {
+        if name == PLAYFIELD {
+            return Destination::Playfield;
+        }
+        row_or_unknown(self.row(name))
+    }
+
+    /// The number of the row of the ball device of this name, if there is one.
+    fn row(&self, name: &[u8]) -> Option<usize>
+        ensures { result ≡ found_row self.now.devices name.now }
+    {
+        self.devices.get(name).copied()
+    }
+}
+
+fn row_or_unknown(row: Option<usize>) -> Destination
+    ensures { result ≡ row_or_unknown row }
+{
+    match row {
+        Some(row) => Destination::Device(row),
+        None => Destination::Unknown,
+    }
+}
 
 /// The sections whose entries each have a row, first those that the machine text alone can have.
-const ROW_SECTIONS: [&[u8]; 7] = [
+const ROW_SECTIONS: [&[u8]; 8] = [
     FLIPPERS_NAME,
     AUTOFIRE_COILS_NAME,
+    BALL_DEVICES_NAME,
     COUNTERS_NAME,
     ACCRUALS_NAME,
     SEQUENCES_NAME,
@@ -55,11 +90,14 @@ pub(crate) fn seats_of<'a>(
     before: usize,
     sections: &'a [Section],
 ) -> Result<(Seats<'a>, usize), AllocError>
-    ensures seats { IfOk result (λ r. (name : List ℕ) → found_seat r.0 name ≡ seat_of place before (map section_view sections.now) name) }
+    ensures seats { IfOk result (λ r. (name : List ℕ) → found_seat r.0.shots name ≡ seat_of place before (map section_view sections.now) name) }
+    ensures destinations { IfOk result (λ r. (name : List ℕ) → found_destination r.0.devices name ≡ destination_of place before (map section_view sections.now) name) }
     ensures rows { IfOk result (λ r. r.1 ≡ rows_after_text place before (map section_view sections.now)) }
 {
     let grouped = grouped_shots(alloc, sections)?;
-    let mut seats = BTreeMap::new(alloc);
+    let shots = BTreeMap::new(alloc);
+    let devices = BTreeMap::new(alloc);
+    let mut seats = Seats { shots, devices };
     let mut rows = before;
     for section in sections {
         rows = add_section(&mut seats, place, &grouped, rows, section)?;
@@ -76,7 +114,8 @@ fn add_section<'a>(
     before: usize,
     section: &'a Section,
 ) -> Result<usize, AllocError>
-    ensures seats { OnOk result ((name : List ℕ) → found_seat seats.new name ≡ fold (latest_seat name) (found_seat seats.old name) (seats_from place (is_found grouped.now) before (section_entries (section_view section.now)))) }
+    ensures shots { OnOk result ((name : List ℕ) → found_seat seats.new.shots name ≡ fold (latest name) (found_seat seats.old.shots name) (given_from entry_seats place (is_found grouped.now) before (section_entries (section_view section.now)))) }
+    ensures devices { OnOk result ((name : List ℕ) → found_row seats.new.devices name ≡ fold (latest name) (found_row seats.old.devices name) (given_from entry_ball_row place (is_found grouped.now) before (section_entries (section_view section.now)))) }
     ensures rows { IfOk result (λ rows. rows ≡ rows_after_all place (is_found grouped.now) before (section_entries (section_view section.now))) }
 {
     let mut rows = before;
@@ -87,14 +126,28 @@ fn add_section<'a>(
     Ok(rows)
 }
 
-/// Adds the seats that an entry has, where so many rows come before it.
+/// Adds the seats that an entry has, or the row of a ball device, where so many rows come before it.
 fn add_entry<'a>(
     seats: &mut Seats<'a>,
     before: usize,
     section: &[u8],
     entry: &'a Entry,
 ) -> Result<(), AllocError>
-    ensures { OnOk result ((name : List ℕ) → found_seat seats.new name ≡ fold (latest_seat name) (found_seat seats.old name) (entry_seats before (section.now, entry_view entry.now))) }
+    ensures shots { OnOk result ((name : List ℕ) → found_seat seats.new.shots name ≡ fold (latest name) (found_seat seats.old.shots name) (entry_seats before (section.now, entry_view entry.now))) }
+    ensures devices { OnOk result ((name : List ℕ) → found_row seats.new.devices name ≡ fold (latest name) (found_row seats.old.devices name) (entry_ball_row before (section.now, entry_view entry.now))) }
+{
+    add_group(&mut seats.shots, before, section, entry)?;
+    add_ball_device(&mut seats.devices, before, section, entry)
+}
+
+/// Adds the seats that an entry has, where so many rows come before it.
+fn add_group<'a>(
+    seats: &mut BTreeMap<&'a [u8], Seat>,
+    before: usize,
+    section: &[u8],
+    entry: &'a Entry,
+) -> Result<(), AllocError>
+    ensures { OnOk result ((name : List ℕ) → found_seat seats.new name ≡ fold (latest name) (found_seat seats.old name) (entry_seats before (section.now, entry_view entry.now))) }
 {
     if section == SHOT_GROUPS_NAME {
         return add_seats(seats, before, as_shot_group(entry).shots);
@@ -102,9 +155,28 @@ fn add_entry<'a>(
     Ok(())
 }
 
+/// Adds the row of an entry that is a ball device, where so many rows come before it.
+fn add_ball_device<'a>(
+    rows: &mut BTreeMap<&'a [u8], usize>,
+    before: usize,
+    section: &[u8],
+    entry: &'a Entry,
+) -> Result<(), AllocError>
+    ensures { OnOk result ((name : List ℕ) → found_row rows.new name ≡ fold (latest name) (found_row rows.old name) (entry_ball_row before (section.now, entry_view entry.now))) }
+{
+    if section == BALL_DEVICES_NAME {
+        rows.insert(&as_ball_device(entry).name.text, before)?;
+    }
+    Ok(())
+}
+
 /// Adds the seats of the shots that a group lists, whose row has this number.
-fn add_seats<'a>(seats: &mut Seats<'a>, row: usize, shots: &'a [Name]) -> Result<(), AllocError>
-    ensures { OnOk result ((name : List ℕ) → found_seat seats.new name ≡ fold (latest_seat name) (found_seat seats.old name) (seats_at row 0 (map name_view shots.now))) }
+fn add_seats<'a>(
+    seats: &mut BTreeMap<&'a [u8], Seat>,
+    row: usize,
+    shots: &'a [Name],
+) -> Result<(), AllocError>
+    ensures { OnOk result ((name : List ℕ) → found_seat seats.new name ≡ fold (latest name) (found_seat seats.old name) (seats_at row 0 (map name_view shots.now))) }
 {
     for shot in 0..shots.len() {
         seats.insert(&shots[shot].text, Seat { row, shot })?;
@@ -138,7 +210,7 @@ fn has_row(place: Place, grouped: &BTreeSet<&[u8]>, section: &[u8], entry: &Entr
     }
     match place {
         Place::Machine => is_one_of(&ROW_SECTIONS, section),
-        Place::Control | Place::Mode => is_one_of(&ROW_SECTIONS[2..], section),
+        Place::Control | Place::Mode => is_one_of(&ROW_SECTIONS[3..], section),
     }
 }
 

@@ -1,5 +1,6 @@
 //! Bundles and their rows, faults and notes.
 
+use crate::balls::show_balls;
 use crate::cases::{Subject, assert_rows, utf8};
 use crate::coils::show_coils;
 use crate::devices::show_devices;
@@ -199,7 +200,8 @@ fn show_section(out: &mut String, section: &Section) -> Result<(), AllocError> {
     show_coils(out, section)?;
     show_variables(out, section)?;
     show_devices(out, section)?;
-    show_shots(out, section)
+    show_shots(out, section)?;
+    show_balls(out, section)
 }
 
 fn show_machine(out: &mut String, sections: &[Section]) -> Result<(), AllocError> {

@@ -2,6 +2,8 @@
 #![tactic(auto)]
 
 #[cfg(test)]
+mod balls;
+#[cfg(test)]
 mod bundles;
 #[cfg(test)]
 mod cases;

@@ -463,6 +463,7 @@ switches:¶ => no section
 coils:¶ => no section
 flippers:¶ => no section
 autofire_coils:¶ => no section
+ball_devices:¶ => no section
 ";
 
 // ---- what is shown

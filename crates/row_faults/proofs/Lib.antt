@@ -4,3 +4,6 @@ pub mod Listed
 pub mod None
 pub mod Called
 pub mod Sound
+pub mod Numbers
+pub mod Leads
+pub mod Routed

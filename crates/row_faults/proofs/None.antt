@@ -1,13 +1,25 @@
 -- Lists without items, and the faults that they are made of.
-use Rattle.std.proofs.Common.{◌≡◌, ℕ, nat_lt, Bool, true, false, if◌then◌else◌, List, [], ◌∷◌, ◌++◌, map, refl, sym, ◌∙◌, inl, inr}
+use Rattle.std.proofs.Common.{◌≡◌, ℕ, nat_lt, Bool, true, false, ◌||◌, if◌then◌else◌, List, [], ◌∷◌, ◌++◌, map, refl, sym, ◌∙◌, inl, inr}
 use Rattle.std.specs.List.{All, filter, flat_map}
 use Rattle.std.proofs.lemmas.Bool.{cases_Bool}
 use Rattle.std.proofs.lemmas.List.Elements.{All-nil, All-cons, All-head, All-tail, All-append}
+use Rattle.mpf_sections.specs.Rows.{Written}
+use Rattle.row_faults.specs.declared.fault.RowFaultKind.{RowFaultKind}
 use Rattle.row_faults.specs.FaultView.{RowFaultView}
+use Rattle.row_faults.specs.CoilFaults.{fault_at, fault_if}
 use Rattle.row_faults.specs.RowFaults.{put_by, ordered_by, listed_once}
 
 pub filled : {X : Type 0} (x : X) (xs : List X) → x ∷ xs ≡ [] → ⊥
 filled x xs e = cc
+
+-- tests that find nothing
+pub fault_if-none : (wrong : Bool) (kind : RowFaultKind) (text : List ℕ) (w : Written) → fault_if wrong kind text w ≡ [] → wrong ≡ false
+fault_if-none true kind text w e = absurd (filled (fault_at kind text w) [] e)
+fault_if-none false kind text w e = refl
+
+pub or-none : (a b : Bool) → (a || b) ≡ false → (a ≡ false) × (b ≡ false)
+or-none true b e = absurd cc
+or-none false b e = (refl, e)
 
 pub map-none : {X Y : Type 0} (f : X → Y) (xs : List X) → map f xs ≡ [] → xs ≡ []
 map-none f [] e = refl

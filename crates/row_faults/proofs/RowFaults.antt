@@ -22,6 +22,9 @@ use Rattle.mpf_sections.specs.Typed.{timers_in}
 use Rattle.mpf_sections.specs.Rows.{VariableItem, VariablePlayer}
 use Rattle.mpf_sections.specs.TypedGame.{variable_players_in}
 use Rattle.mpf_sections.specs.TypedShots.{shots_in}
+use Rattle.mpf_sections.specs.TypedBalls.{ball_devices_in}
+use Rattle.machine_definitions.specs.Definitions.{ball_devices_of}
+use Rattle.row_faults.specs.BallFaults.{ball_device_faults, route_faults}
 use Rattle.machine_definitions.specs.GameEvents.{reserved_game_events}
 use Rattle.machine_definitions.specs.Players.{player_event, is_set_by_game}
 use Rattle.row_faults.specs.declared.fault.RowFaultKind.TheVariants.{Name}
@@ -125,6 +128,7 @@ section_by test rows is_own is_taken text s =
     map (name_fault text) (filter (λ w. is_among reserved_game_events w.text || test w.text) (posts_in s))
     ++ variables_by test text s
     ++ coil_faults_in rows.machine text s
+    ++ flat_map (ball_device_faults rows.machine text) (ball_devices_in s)
     ++ flat_map (shot_faults rows text) (shots_in s)
     ++ map (name_fault text) (misplaced rows is_own is_taken (listed_in rows s))
     ++ map (timer_fault text) (filter starts_at_end (timers_in s))
@@ -142,7 +146,8 @@ module _ (modes others : List (List ℕ)) (rows : Rows) (same : (q : List ℕ) �
       ∙ ap (λ (fs : List RowFaultView). section_faults others rows is_own is_taken text s ++ fs) (same_written is_own later text ss)
 
   same_text : (is_taken : List ℕ → Bool) (text : List ℕ) (sections : List SectionRows) → text_faults modes rows is_taken text sections ≡ text_faults others rows is_taken text sections
-  same_text is_taken text sections = ap (λ (fs : List RowFaultView). ordered_by fault_line (ordered_by fault_number fs)) (same_written (is_own_shot sections) is_taken text sections)
+  same_text is_taken text sections =
+      ap (λ (fs : List RowFaultView). ordered_by fault_line (ordered_by fault_number (fs ++ route_faults text (ball_devices_of sections)))) (same_written (is_own_shot sections) is_taken text sections)
 
   same_modes : (is_taken : List ℕ → Bool) (ms : List ModeRows) → mode_faults modes rows is_taken ms ≡ mode_faults others rows is_taken ms
   same_modes is_taken [] = refl

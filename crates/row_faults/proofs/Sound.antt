@@ -6,38 +6,32 @@ use Rattle.std.proofs.lemmas.Bool.{ltb-false, not-false}
 use Rattle.std.proofs.lemmas.List.Elements.{All-nil, All-cons, All-weaker}
 use Rattle.mpf_sections.specs.declared.words.CoilAction.{CoilAction}
 use Rattle.mpf_sections.specs.declared.words.CoilAction.TheVariants.{Pulse, Enable, Disable}
-use Rattle.mpf_sections.specs.Rows.{Written, Coil, CoilItem, CoilPlayer, Flipper, Autofire, VariableItem, VariablePlayer, Shot, ShotGroup, SectionRows}
+use Rattle.mpf_sections.specs.Rows.{Written, Coil, CoilItem, CoilPlayer, Flipper, Autofire, VariableItem, VariablePlayer, Shot, ShotGroup, BallDevice, SectionRows}
 use Rattle.mpf_sections.specs.Typed.{timers_in}
 use Rattle.mpf_sections.specs.TypedCoils.{coils_in, coil_players_in, flippers_in, autofires_in}
 use Rattle.mpf_sections.specs.TypedGame.{variable_players_in}
 use Rattle.mpf_sections.specs.TypedShots.{shots_in, shot_groups_in}
+use Rattle.mpf_sections.specs.TypedBalls.{ball_devices_in}
 use Rattle.row_faults.specs.VariableFaults.{is_barred, variable_item_faults, variable_player_faults, variable_faults}
 use Rattle.mpf_sections.specs.Short.{IsPulseInRange, IsCoilInRange, IsItemInRange, IsCoilPlayerInRange}
 use Rattle.mpf_sections.proofs.CoilRows.{coils_in_range, coil_players_in_range}
 use Rattle.mpf_config.specs.Rows.{ModeRows, Rows}
 use Rattle.mpf_config.specs.BundleText.{machine_name, mode_text_name}
-use Rattle.machine_definitions.specs.Definitions.{coil_called, has_switch}
+use Rattle.machine_definitions.specs.Definitions.{coil_called, has_switch, ball_devices_of}
 use Rattle.machine_definitions.specs.Shots.{shot_called, has_profile}
 use Rattle.machine_definitions.proofs.Called.{called-such}
-use Rattle.row_faults.specs.declared.fault.RowFaultKind.{RowFaultKind}
 use Rattle.row_faults.specs.declared.fault.RowFaultKind.TheVariants.{Name, PulseLimit, PowerLimit, HoldNotAllowed}
 use Rattle.row_faults.specs.Reserved.{events_of_modes, mode_names, is_reserved_by, posts_in, posts_of, reserved_among}
 use Rattle.row_faults.specs.CoilFaults.{fault_at, fault_if, is_above, is_enable, coil_name_faults, switch_name_faults, coil_faults, item_faults_by, item_faults, coil_player_faults, hold_faults_by, hold_faults, flipper_faults, autofire_faults}
-use Rattle.row_faults.specs.RowFaults.{fault_line, fault_number, ordered_by, name_fault, starts_at_end, timer_fault, coil_faults_in, section_faults, written_faults, text_faults, mode_faults, is_none_taken, faults_by, row_faults}
+use Rattle.row_faults.specs.RowFaults.{fault_line, fault_number, ordered_by, name_fault, starts_at_end, timer_fault, coil_faults_in, section_faults, written_faults, all_faults, text_faults, mode_faults, is_none_taken, faults_by, row_faults}
+use Rattle.row_faults.specs.BallFaults.{is_place, eject_coil_faults, ball_device_faults, route_faults}
 use Rattle.row_faults.specs.ShotFaults.{shot_switch_faults, shot_faults, Listed, first_shot, listed_by, listed_in, listed_of, is_own_shot, are_of_two_profiles, is_misplaced, taken_with, taken_after, kept_if, misplaced}
-use Rattle.row_faults.specs.Sound.{ChangesNothingBarred, IsHoldWithin, IsCoilSound, IsCoilSuch, IsActionWithin, IsItemSound, IsCoilPlayerSound, IsFlipperSound, IsAutofireSound, IsShotSound, IsShotGroupSound, IsSectionSound, IsSound}
-use Rattle.row_faults.proofs.None.{filled, map-none, append-none, flat_map-none, filter-none, ordered-none, once-none, All-each, each-All, map-All}
+use Rattle.row_faults.specs.Sound.{ChangesNothingBarred, IsHoldWithin, IsCoilSound, IsCoilSuch, IsActionWithin, IsItemSound, IsCoilPlayerSound, IsFlipperSound, IsAutofireSound, IsShotSound, IsShotGroupSound, IsBallDeviceSound, IsSectionSound, IsSound}
+use Rattle.row_faults.proofs.None.{filled, fault_if-none, or-none, map-none, append-none, flat_map-none, filter-none, ordered-none, once-none, All-each, each-All, map-All}
 use Rattle.row_faults.proofs.Called.{machine-called, mode-called}
+use Rattle.row_faults.proofs.Routed.{route_faults-none}
 
 -- ---- tests that find nothing
-
-fault_if-none : (wrong : Bool) (kind : RowFaultKind) (text : List ℕ) (w : Written) → fault_if wrong kind text w ≡ [] → wrong ≡ false
-fault_if-none true kind text w e = absurd (filled (fault_at kind text w) [] e)
-fault_if-none false kind text w e = refl
-
-or-none : (a b : Bool) → (a || b) ≡ false → (a ≡ false) × (b ≡ false)
-or-none true b e = absurd cc
-or-none false b e = (refl, e)
 
 above-none : (o : Option ℕ) (greatest : ℕ) → is_above o greatest ≡ false → IfSome o (λ n. n ≤ greatest)
 above-none None greatest e = tt
@@ -144,6 +138,25 @@ module _ (machine : List SectionRows) (all : All IsCoilSound (flat_map coils_in 
       let parts = append-none (coil_name_faults machine text a.coil) (switch_name_faults machine text a.switch) e in
       record { coil = named-sound a.coil parts.0; switch = switch-sound a.switch parts.1 }
 
+  -- ---- ball devices
+
+  eject-sound : (o : Option Written) → eject_coil_faults machine text o ≡ [] → IfSome o (λ w. IsCoilSuch machine w.text IsCoilSound)
+  eject-sound None e = tt
+  eject-sound (Some w) e = named-sound w e
+
+  ball_device-sound : (d : BallDevice) → ball_device_faults machine text d ≡ [] → IsBallDeviceSound machine d
+  ball_device-sound d e =
+      let switches = flat_map (switch_name_faults machine text) d.switches in
+      let coil = eject_coil_faults machine text d.eject_coil in
+      let parts = append-none (switches ++ coil) (fault_if (not (is_place machine d.target.text)) Name text d.target) e in
+      let names = append-none switches coil parts.0 in
+      let none = flat_map-none (switch_name_faults machine text) d.switches names.0 in
+      record {
+        switches = λ i x within. switch-sound (get_or d.switches i x) (none i x within);
+        eject_coil = eject-sound d.eject_coil names.1;
+        target = not-false (is_place machine d.target.text) (fault_if-none _ Name text d.target parts.1);
+      }
+
 -- ---- shots, and the shots that groups list
 
 shot-sound : (rows : Rows) (text : List ℕ) (s : Shot) → shot_faults rows text s ≡ [] → IsShotSound rows s
@@ -190,6 +203,7 @@ module _ (modes : List (List ℕ)) (rows : Rows) (is_own : List ℕ → Bool) (t
     pub players : All (λ p. coil_player_faults rows.machine text p ≡ []) (coil_players_in s)
     pub flippers : All (λ f. flipper_faults rows.machine text f ≡ []) (flippers_in s)
     pub autofires : All (λ a. autofire_faults rows.machine text a ≡ []) (autofires_in s)
+    pub devices : All (λ d. ball_device_faults rows.machine text d ≡ []) (ball_devices_in s)
     pub shots : All (λ t. shot_faults rows text t ≡ []) (shots_in s)
     pub listed : All (λ l. is_own l.shot.text ≡ true) (listed_in rows s)
 
@@ -202,12 +216,14 @@ module _ (modes : List (List ℕ)) (rows : Rows) (is_own : List ℕ → Bool) (t
       let flippers = flat_map (flipper_faults machine text) (flippers_in s) in
       let autofires = flat_map (autofire_faults machine text) (autofires_in s) in
       let variables = variable_faults modes text s in
+      let devices = flat_map (ball_device_faults machine text) (ball_devices_in s) in
       let shots = flat_map (shot_faults rows text) (shots_in s) in
       let names = misplaced rows is_own is_taken (listed_in rows s) in
-      let all = append-none ((((posts ++ variables) ++ coil_faults_in machine text s) ++ shots) ++ map (name_fault text) names) (map (timer_fault text) (filter starts_at_end (timers_in s))) e in
-      let most = append-none (((posts ++ variables) ++ coil_faults_in machine text s) ++ shots) (map (name_fault text) names) all.0 in
-      let more = append-none ((posts ++ variables) ++ coil_faults_in machine text s) shots most.0 in
-      let front = append-none (posts ++ variables) (coil_faults_in machine text s) more.0 in
+      let all = append-none (((((posts ++ variables) ++ coil_faults_in machine text s) ++ devices) ++ shots) ++ map (name_fault text) names) (map (timer_fault text) (filter starts_at_end (timers_in s))) e in
+      let most = append-none ((((posts ++ variables) ++ coil_faults_in machine text s) ++ devices) ++ shots) (map (name_fault text) names) all.0 in
+      let more = append-none (((posts ++ variables) ++ coil_faults_in machine text s) ++ devices) shots most.0 in
+      let rest = append-none ((posts ++ variables) ++ coil_faults_in machine text s) devices more.0 in
+      let front = append-none (posts ++ variables) (coil_faults_in machine text s) rest.0 in
       let events = append-none posts variables front.0 in
       let last = append-none ((coils ++ players) ++ flippers) autofires front.1 in
       let third = append-none (coils ++ players) flippers last.0 in
@@ -219,6 +235,7 @@ module _ (modes : List (List ℕ)) (rows : Rows) (is_own : List ℕ → Bool) (t
         players = flat_map-none (coil_player_faults machine text) (coil_players_in s) first.1;
         flippers = flat_map-none (flipper_faults machine text) (flippers_in s) third.1;
         autofires = flat_map-none (autofire_faults machine text) (autofires_in s) last.1;
+        devices = flat_map-none (ball_device_faults machine text) (ball_devices_in s) rest.1;
         shots = flat_map-none (shot_faults rows text) (shots_in s) more.1;
         listed = listed-own rows is_own is_taken (listed_in rows s) (map-none (name_fault text) names most.1);
       }
@@ -236,6 +253,7 @@ module _ (modes : List (List ℕ)) (rows : Rows) (is_own : List ℕ → Bool) (t
         autofires = λ i d within. autofire-sound machine all text (get_or (autofires_in s) i d) (h.autofires i d within);
         shots = λ i d within. shot-sound rows text (get_or (shots_in s) i d) (h.shots i d within);
         groups = groups-sound rows is_own called s h.listed;
+        ball_devices = λ i d within. ball_device-sound machine all text (get_or (ball_devices_in s) i d) (h.devices i d within);
       }
 
   -- no variable is changed that no row may change
@@ -271,10 +289,17 @@ module _ (modes : List (List ℕ)) (rows : Rows) where
   abbrev TextHasNone : List ℕ → List SectionRows → Type 0
   TextHasNone text sections = All (HasNone modes rows (is_own_shot sections) text) sections
 
+  -- of a text without faults neither its sections have any, nor the ways of balls
+  all-none : (is_taken : List ℕ → Bool) (text : List ℕ) (sections : List SectionRows) → text_faults modes rows is_taken text sections ≡ []
+      → (written_faults modes rows (is_own_shot sections) is_taken text sections ≡ []) × (route_faults text (ball_devices_of sections) ≡ [])
+  all-none is_taken text sections e =
+      let written = written_faults modes rows (is_own_shot sections) is_taken text sections in
+      let all = all_faults modes rows is_taken text sections in
+      append-none written (route_faults text (ball_devices_of sections)) (ordered-none fault_number all (ordered-none fault_line (ordered_by fault_number all) e))
+
   text-none : (is_taken : List ℕ → Bool) (text : List ℕ) (sections : List SectionRows) → text_faults modes rows is_taken text sections ≡ [] → TextHasNone text sections
   text-none is_taken text sections e =
-      let all = written_faults modes rows (is_own_shot sections) is_taken text sections in
-      sections-none modes rows (is_own_shot sections) text is_taken sections (ordered-none fault_number all (ordered-none fault_line (ordered_by fault_number all) e))
+      let both = all-none is_taken text sections e in sections-none modes rows (is_own_shot sections) text is_taken sections both.0
 
   abbrev ModeHasNone : ModeRows → Type 0
   ModeHasNone m = TextHasNone (mode_text_name m.name) m.sections
@@ -317,5 +342,6 @@ no_faults_sound rows none =
       changes = text-changes modes rows machine_name machine own;
       mode_changes = All-weaker (ModeHasNone modes rows) (λ m. All (ChangesNothingBarred rows) m.sections) (λ m h. text-changes modes rows (text_of m) m.sections h) rows.modes each;
       machine = text-sound modes rows all machine_name machine (λ name. machine-called name rows) own;
+      balls = let both = all-none modes rows is_none_taken machine_name machine parts.0 in route_faults-none machine_name (ball_devices_of machine) both.1;
       modes = λ i d within. text-sound modes rows all (text_of (get_or rows.modes i d)) (get_or rows.modes i d).sections (λ name. mode-called name rows i d within) (each i d within);
     }

@@ -4,7 +4,7 @@ use Rattle.std.specs.Fmt.{decimal}
 use Rattle.mpf_config.specs.FaultLine.{spaced}
 use Rattle.mpf_config.specs.Escaped.{escaped}
 use Rattle.row_faults.specs.declared.fault.RowFaultKind.{RowFaultKind}
-use Rattle.row_faults.specs.declared.fault.RowFaultKind.TheVariants.{Name, PulseLimit, PowerLimit, HoldNotAllowed, TimerAtEnd}
+use Rattle.row_faults.specs.declared.fault.RowFaultKind.TheVariants.{Name, PulseLimit, PowerLimit, HoldNotAllowed, TimerAtEnd, BallRoute}
 use Rattle.row_faults.specs.FaultView.{RowFaultView}
 
 -- the number and the name of a fault of a row
@@ -14,6 +14,7 @@ row_fault_number PulseLimit = 2
 row_fault_number PowerLimit = 3
 row_fault_number HoldNotAllowed = 4
 row_fault_number TimerAtEnd = 5
+row_fault_number BallRoute = 6
 
 abbrev pub row_fault_name : RowFaultKind → List ℕ
 row_fault_name Name = codes "Name"
@@ -21,6 +22,7 @@ row_fault_name PulseLimit = codes "PulseLimit"
 row_fault_name PowerLimit = codes "PowerLimit"
 row_fault_name HoldNotAllowed = codes "HoldNotAllowed"
 row_fault_name TimerAtEnd = codes "TimerAtEnd"
+row_fault_name BallRoute = codes "BallRoute"
 
 -- `fault NUMBER NAME`
 abbrev pub row_title : RowFaultKind → List ℕ

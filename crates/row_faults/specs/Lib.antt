@@ -4,6 +4,10 @@ pub mod Reserved
 pub mod CoilFaults
 pub mod ShotFaults
 pub mod VariableFaults
+pub mod Routes
+pub mod BallFaults
 pub mod RowFaults
 pub mod Sound
 pub mod View
+-- what contracts of the functions inside this crate see
+pub mod Numbers

@@ -15,8 +15,11 @@ use Rattle.row_faults.specs.FaultText.{row_fault_number, row_fault_line}
 use Rattle.row_faults.specs.Reserved.{events_of_modes, mode_names, posts_in, reserved_among}
 use Rattle.row_faults.specs.VariableFaults.{variable_faults}
 use Rattle.row_faults.specs.CoilFaults.{fault_at, coil_faults, coil_player_faults, flipper_faults, autofire_faults}
+use Rattle.machine_definitions.specs.Definitions.{ball_devices_of}
+use Rattle.row_faults.specs.BallFaults.{ball_device_faults, route_faults}
 use Rattle.row_faults.specs.ShotFaults.{shot_faults, listed_in, listed_of, is_own_shot, taken_after, misplaced}
 use Rattle.mpf_sections.specs.TypedShots.{shots_in}
+use Rattle.mpf_sections.specs.TypedBalls.{ball_devices_in}
 
 -- ---- one section
 
@@ -46,13 +49,14 @@ coil_faults_in machine text s =
     ++ flat_map (autofire_faults machine text) (autofires_in s)
 
 -- The faults of a section of a text, as written: its posts of reserved events, those of what it says of variables, of
--- coils and of shots, the shots that its groups may not list, and its timers that start at their end. A section is of
--- one kind, so at most one of these lists has any.
+-- coils, of ball devices and of shots, the shots that its groups may not list, and its timers that start at their end.
+-- A section is of one kind, so at most one of these lists has any.
 abbrev pub section_faults : List (List ℕ) → Rows → (is_own is_taken : List ℕ → Bool) → List ℕ → SectionRows → List RowFaultView
 section_faults modes rows is_own is_taken text s =
     map (name_fault text) (reserved_among modes (posts_in s))
     ++ variable_faults modes text s
     ++ coil_faults_in rows.machine text s
+    ++ flat_map (ball_device_faults rows.machine text) (ball_devices_in s)
     ++ flat_map (shot_faults rows text) (shots_in s)
     ++ map (name_fault text) (misplaced rows is_own is_taken (listed_in rows s))
     ++ map (timer_fault text) (filter starts_at_end (timers_in s))
@@ -83,11 +87,15 @@ fault_line f = f.line
 abbrev pub fault_number : RowFaultView → ℕ
 fault_number f = row_fault_number f.kind
 
+-- all faults of a text: those of its sections, as written, and those of the ways of balls through its ball devices
+abbrev pub all_faults : List (List ℕ) → Rows → (is_taken : List ℕ → Bool) → List ℕ → List SectionRows → List RowFaultView
+all_faults modes rows is_taken text sections =
+    written_faults modes rows (is_own_shot sections) is_taken text sections ++ route_faults text (ball_devices_of sections)
+
 -- the faults of a text, by line, on one line by number, and those of one line and number as written; groups of texts
 -- before it list the shots that are taken
 abbrev pub text_faults : List (List ℕ) → Rows → (is_taken : List ℕ → Bool) → List ℕ → List SectionRows → List RowFaultView
-text_faults modes rows is_taken text sections =
-    ordered_by fault_line (ordered_by fault_number (written_faults modes rows (is_own_shot sections) is_taken text sections))
+text_faults modes rows is_taken text sections = ordered_by fault_line (ordered_by fault_number (all_faults modes rows is_taken text sections))
 
 -- the faults of the texts of these modes, in their order
 abbrev pub mode_faults : List (List ℕ) → Rows → (is_taken : List ℕ → Bool) → List ModeRows → List RowFaultView

@@ -1,18 +1,22 @@
--- What holds of rows without faults: nothing that they say of a coil goes past its limits, and the coils, switches,
--- shots and profiles of which they speak are defined. Here `machine` is the sections of the machine text.
-use Rattle.std.specs.Prelude.{◌≡◌, ℕ, ◌≤◌, true, false, Some, IfSome, IsSome, List, unwrap_or}
-use Rattle.std.specs.List.{All}
+-- What holds of rows without faults: nothing that they say of a coil goes past its limits; the coils, switches, shots,
+-- profiles and ball devices of which they speak are defined; the balls of each ball device come to the playfield; and
+-- each ball switch is of one ball device, once. Here `machine` is the sections of the machine text.
+use Rattle.std.specs.Prelude.{◌≡◌, ◌≢◌, ℕ, ◌≤◌, true, false, ◌||◌, Some, IfSome, IsSome, is_some, List, unwrap_or}
+use Rattle.std.specs.List.{All, AllPairs, flat_map}
 use Rattle.mpf_sections.specs.declared.words.CoilAction.{CoilAction}
 use Rattle.mpf_sections.specs.declared.words.CoilAction.TheVariants.{Pulse, Enable, Disable}
-use Rattle.mpf_sections.specs.Rows.{Coil, CoilItem, CoilPlayer, Flipper, Autofire, VariableItem, Shot, ShotGroup, SectionRows}
+use Rattle.mpf_sections.specs.Rows.{Coil, CoilItem, CoilPlayer, Flipper, Autofire, VariableItem, Shot, ShotGroup, BallDevice, SectionRows}
 use Rattle.mpf_sections.specs.TypedCoils.{coils_in, coil_players_in, flippers_in, autofires_in}
 use Rattle.mpf_config.specs.Rows.{Rows}
-use Rattle.machine_definitions.specs.Definitions.{coil_called, has_switch}
+use Rattle.mpf_sections.specs.TypedBalls.{is_trough, ball_devices_in}
+use Rattle.machine_definitions.specs.Definitions.{coil_called, has_switch, ball_devices_of}
 use Rattle.machine_definitions.specs.Shots.{shot_called, has_profile}
 use Rattle.mpf_sections.specs.TypedShots.{shots_in, shot_groups_in}
 use Rattle.row_faults.specs.Reserved.{events_of_modes, is_reserved, mode_names, posts_of}
 use Rattle.mpf_sections.specs.TypedGame.{variable_players_in}
 use Rattle.row_faults.specs.VariableFaults.{is_barred}
+use Rattle.row_faults.specs.Routes.{leads_to_playfield, switch_names}
+use Rattle.row_faults.specs.BallFaults.{is_place}
 
 -- ---- what a coil is sent
 
@@ -72,6 +76,13 @@ pub record IsShotSound (rows : Rows) (s : Shot) : Type 0 where
 abbrev pub IsShotGroupSound : Rows → ShotGroup → Type 0
 IsShotGroupSound rows g = All (λ w. IsSome (shot_called rows w.text)) g.shots
 
+-- the ball switches of a ball device are defined, and so is its eject coil, if it has one; its target is the playfield,
+-- or a ball device that is defined
+pub record IsBallDeviceSound (machine : List SectionRows) (d : BallDevice) : Type 0 where
+  pub switches : All (λ w. has_switch machine w.text ≡ true) d.switches
+  pub eject_coil : IfSome d.eject_coil (λ w. IsCoilSuch machine w.text IsCoilSound)
+  pub target : is_place machine d.target.text ≡ true
+
 pub record IsSectionSound (rows : Rows) (s : SectionRows) : Type 0 where
   pub coils : All IsCoilSound (coils_in s)
   pub coil_players : All (IsCoilPlayerSound rows.machine) (coil_players_in s)
@@ -79,6 +90,21 @@ pub record IsSectionSound (rows : Rows) (s : SectionRows) : Type 0 where
   pub autofires : All (IsAutofireSound rows.machine) (autofires_in s)
   pub shots : All (IsShotSound rows) (shots_in s)
   pub groups : All (IsShotGroupSound rows) (shot_groups_in s)
+  pub ball_devices : All (IsBallDeviceSound rows.machine) (ball_devices_in s)
+
+-- ---- the ways of balls
+
+-- The balls that a ball device ejects come to the playfield. It has a coil that ejects them, or they leave by
+-- themselves; a trough has a coil.
+pub record IsRouted (devices : List BallDevice) (d : BallDevice) : Type 0 where
+  pub leads : leads_to_playfield devices d ≡ true
+  pub ejects : (is_some d.eject_coil || d.mechanical) ≡ true
+  pub trough : is_trough d ≡ true → IsSome d.eject_coil
+
+-- This holds of each ball device, and each ball switch is of one ball device, once.
+pub record AreRouted (devices : List BallDevice) : Type 0 where
+  pub each : All (IsRouted devices) devices
+  pub switches : AllPairs (λ v w. v ≢ w) (flat_map switch_names devices)
 
 -- ---- all texts
 
@@ -100,3 +126,4 @@ pub record IsSound (rows : Rows) : Type 0 where
   pub mode_changes : All (λ m. All (ChangesNothingBarred rows) m.sections) rows.modes
   pub machine : All (IsSectionSound rows) rows.machine
   pub modes : All (λ m. All (IsSectionSound rows) m.sections) rows.modes
+  pub balls : AreRouted (ball_devices_of rows.machine)

@@ -4,6 +4,9 @@ use Rattle.std.specs.BTreeSet.{BTreeSet}
 use Rattle.std.specs.Borrow.{Bor}
 use Rattle.std.specs.Global.{Vec}
 use Rattle.section_tables.specs.declared.rows.Name.{Name}
+use Rattle.mpf_sections.specs.declared.balls.BallDevice as typed_balls
+use Rattle.mpf_sections.specs.Rows.{BallDevice}
+use Rattle.mpf_sections.specs.View.{ball_device_view}
 use Rattle.mpf_config.specs.Rows.{Written}
 use Rattle.mpf_config.specs.View.{name_view}
 use Rattle.row_faults.specs.declared.fault.RowFault.{RowFault}
@@ -22,3 +25,7 @@ keys_view set = map (λ key. key.items) set.keys
 -- the names that are met in a text
 abbrev pub written_view : List (Bor Name) → List Written
 written_view names = map (λ n. name_view n.now) names
+
+-- ball devices, apart from where they lie in memory
+abbrev pub devices_view : List typed_balls.BallDevice → List BallDevice
+devices_view devices = map ball_device_view devices

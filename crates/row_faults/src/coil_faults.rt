@@ -36,7 +36,7 @@ pub(crate) fn add_coil_faults(
 // ---- names
 
 /// Adds a fault where no entry defines a coil of this name.
-fn add_coil_name(
+pub(crate) fn add_coil_name(
     alloc: Global,
     faults: &mut Vec<RowFault>,
     definitions: &Definitions<'_>,

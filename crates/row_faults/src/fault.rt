@@ -8,7 +8,7 @@ ghost use Rattle.row_faults.specs.FaultText.{row_fault_number, row_fault_name};
 pub enum RowFaultKind {
     /// A reserved event is posted: one of a game, or of a mode that the machine text lists. Or a
     /// variable is changed that the game alone sets, or whose change posts a reserved event. Or no
-    /// entry defines the coil, the switch or the profile of this name. Or a group lists a shot that
+    /// entry defines the coil, the switch, the profile or the ball device of this name. Or a group lists a shot that
     /// its own text does not define, that a group lists before, or that has another profile than the
     /// first one of the group.
     Name,
@@ -20,6 +20,10 @@ pub enum RowFaultKind {
     HoldNotAllowed,
     /// The value at which a timer starts has reached or passed its end.
     TimerAtEnd,
+    /// The balls of a ball device never come to the playfield. Or one of its ball switches is of a
+    /// ball device before it, or stands twice in it. Or no coil ejects its balls, though it is a
+    /// trough, or they do not leave by themselves.
+    BallRoute,
 }
 
 impl RowFaultKind {
@@ -33,6 +37,7 @@ impl RowFaultKind {
             RowFaultKind::PowerLimit => 3,
             RowFaultKind::HoldNotAllowed => 4,
             RowFaultKind::TimerAtEnd => 5,
+            RowFaultKind::BallRoute => 6,
         }
     }
 
@@ -46,6 +51,7 @@ impl RowFaultKind {
             RowFaultKind::PowerLimit => "PowerLimit",
             RowFaultKind::HoldNotAllowed => "HoldNotAllowed",
             RowFaultKind::TimerAtEnd => "TimerAtEnd",
+            RowFaultKind::BallRoute => "BallRoute",
         }
     }
 }
@@ -59,6 +65,6 @@ pub struct RowFault {
     /// The line of what is at fault, counted from 1.
     pub line: u32,
     /// The name that is at fault: that of the event, the variable, the coil, the switch, the
-    /// profile, the shot or the timer.
+    /// profile, the shot, the timer or the ball device.
     pub name: Vec<u8>,
 }

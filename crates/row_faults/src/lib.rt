@@ -4,13 +4,16 @@
 #![tactic(auto)]
 
 mod adding;
+mod ball_faults;
 mod coil_faults;
 pub mod fault;
 pub mod fault_text;
 mod once;
 mod reserved;
+mod routes;
 pub mod rows;
 mod shot_faults;
+mod targets;
 mod variable_faults;
 
 pub use fault::{RowFault, RowFaultKind};

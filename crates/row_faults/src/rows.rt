@@ -12,10 +12,12 @@ ghost use Rattle.machine_definitions.specs.Found.{is_found};
 ghost use Rattle.row_faults.specs.View.{keys_view, written_view, row_fault_view, row_faults_view};
 
 use crate::adding::{at, fault_at};
+use crate::ball_faults::add_ball_devices;
 use crate::coil_faults::add_coil_faults;
 use crate::fault::{RowFault, RowFaultKind};
 use crate::once::listed_once;
 use crate::reserved::{ModeEvents, add_texts, events_of_modes, reserved_posts};
+use crate::routes::add_route_faults;
 use crate::shot_faults::{Shots, add_shots, misplaced_shots, shots_of};
 use crate::variable_faults::add_variable_faults;
 use machine_definitions::Definitions;
@@ -28,7 +30,7 @@ use std::collections::BTreeSet;
 
 /// The faults of the rows of a configuration, in the order in which a report lists them: by text,
 /// line and number. Those that print the same line are listed once. Rows without any are sound: no
-/// coil is sent what goes past its limits.
+/// coil is sent what goes past its limits, and the balls of each ball device come to the playfield.
 ///
 /// # Errors
 ///
@@ -117,6 +119,7 @@ fn faults_of_text<'a>(
         own: &own,
     };
     let mut faults = written_faults(alloc, taken, known, text, sections)?;
+    add_route_faults(alloc, &mut faults, text, sections)?;
     sort_by_number(&mut faults)?;
     sort_by_line(&mut faults)?;
     Ok(faults)
@@ -181,6 +184,13 @@ fn add_section<'a>(
     add_names(alloc, faults, text, &posts)?;
     add_variable_faults(alloc, faults, known.modes, text, section)?;
     add_coil_faults(alloc, faults, known.definitions, text, section)?;
+    add_ball_devices(
+        alloc,
+        faults,
+        known.definitions,
+        text,
+        section.ball_devices(),
+    )?;
     add_shots(alloc, faults, known.definitions, text, section.shots())?;
     let misplaced = misplaced_shots(alloc, taken, known.definitions, known.own, section)?;
     add_names(alloc, faults, text, &misplaced)?;

@@ -1,7 +1,6 @@
 use Rattle.std.proofs.Common.{Err, Ok, Result, IfErr, sym, ap, ◌∙◌, subst}
 use Rattle.std.proofs.lemmas.Result.{err_from_is_err_and}
 use Rattle.mpf_config.specs.View.{rows_view}
-use Rattle.mpf_plan.proofs.ValidPlan.{IsValid-plan_at}
 use Rattle.cascade_rank.specs.View.{rank_view}
 use Rattle.config_checker.specs.declared.report.Report.{Report}
 use Rattle.written_machine.specs.CheckedView.{CheckedView}
@@ -10,7 +9,7 @@ use Rattle.config_checker.specs.View.{GivesChecked, fault_view}
 use Rattle.config_checker.specs.Checking.{checked_at}
 use Rattle.config_checker.specs.Refused.{IsLimitFault, IsFaultOf, Reports}
 use Rattle.written_machine.proofs.Good.{every_run_is_good}
-use Rattle.config_checker.proofs.PlanFree.{plan_free, plan_own, plan_allowed}
+use Rattle.config_checker.proofs.PlanFree.{plan_accepted}
 use Rattle.config_checker.proofs.Judging.{own-found, own-reports, reports-one, one-gives, reports-gives, reports-there, limit-found, limit-fault, unfound-checked, unfound-fault, found-accepted}
 use Rattle.config_checker.proofs.checker.check.Goals as goal
 
@@ -59,17 +58,7 @@ returns-clause-exact c =
     found-accepted (rows_view c.args.config.now) c.in_ok-refuse_own.ensures.none c.in_ok-plan.plan c.in_ok-plan.ensures.plan c.in-Ok.weights c.in-Ok-verify.bound.0 c.in-Ok.ensures.exact c.in-Ok-verify.ensures.verified.bound_is ∙ ap Ok (sym c.new.ensures)
 
 pub returns-clause-good : goal.returns-clause-good
-returns-clause-good c =
-    let valid = IsValid-plan_at (rows_view c.args.config.now) c.args.config.now.lists_short c.args.config.now.few_modes c.in_ok-plan.plan c.in_ok-plan.ensures.plan in
-    subst IsGood (sym c.new.ensures) (every_run_is_good _ (record { valid = valid; free = plan_free (rows_view c.args.config.now) c.in_ok-refuse_own.ensures.none c.in_ok-plan.plan c.in_ok-plan.ensures.plan; own = plan_own (rows_view c.args.config.now) c.in_ok-plan.plan c.in_ok-plan.ensures.plan; allowed = plan_allowed (rows_view c.args.config.now) c.in_ok-refuse_own.ensures.none c.in_ok-plan.plan c.in_ok-plan.ensures.plan; verified = c.in-Ok-verify.ensures.verified }))
+returns-clause-good c = subst IsGood (sym c.new.ensures) (every_run_is_good _ (plan_accepted (rows_view c.args.config.now) c.args.config.now.lists_short c.args.config.now.few_modes c.in_ok-refuse_own.ensures.none _ c.in_ok-plan.ensures.plan c.in-Ok-verify.ensures.verified))
 
 pub new-requires : goal.new-requires
-new-requires c =
-    let rows = rows_view c.args.config.now in
-    record {
-      valid = IsValid-plan_at rows c.args.config.now.lists_short c.args.config.now.few_modes c.in_ok-plan.plan c.in_ok-plan.ensures.plan;
-      free = plan_free rows c.in_ok-refuse_own.ensures.none c.in_ok-plan.plan c.in_ok-plan.ensures.plan;
-      own = plan_own rows c.in_ok-plan.plan c.in_ok-plan.ensures.plan;
-      allowed = plan_allowed rows c.in_ok-refuse_own.ensures.none c.in_ok-plan.plan c.in_ok-plan.ensures.plan;
-      verified = c.in-Ok-verify.ensures.verified;
-    }
+new-requires c = plan_accepted (rows_view c.args.config.now) c.args.config.now.lists_short c.args.config.now.few_modes c.in_ok-refuse_own.ensures.none _ c.in_ok-plan.ensures.plan c.in-Ok-verify.ensures.verified

@@ -3,7 +3,6 @@ use Rattle.std.proofs.lemmas.Bool.{eqb-true, eqb-false}
 use Rattle.std.proofs.lemmas.Result.{err_from_is_err_and}
 use Rattle.std.proofs.lemmas.List.{length-map}
 use Rattle.mpf_config.specs.View.{rows_view}
-use Rattle.mpf_plan.proofs.ValidPlan.{IsValid-plan_at}
 use Rattle.cascade_rank.specs.View.{rank_view}
 use Rattle.config_checker.specs.declared.report.Report.{Report}
 use Rattle.written_machine.specs.CheckedView.{CheckedView}
@@ -13,7 +12,7 @@ use Rattle.config_checker.specs.View.{GivesChecked, fault_view}
 use Rattle.config_checker.specs.Checking.{certificate, bad_line, other_events, other_bound, same_names, checked_with_at}
 use Rattle.config_checker.specs.Refused.{IsLimitFault, IsFaultWith, Reports}
 use Rattle.written_machine.proofs.Good.{every_run_is_good}
-use Rattle.config_checker.proofs.PlanFree.{plan_free, plan_own, plan_allowed}
+use Rattle.config_checker.proofs.PlanFree.{plan_accepted}
 use Rattle.config_checker.proofs.Judging.{own-given, own-reports, reports-one, one-gives, reports-gives, reports-there, limit-given, limit-fault_with, misread-checked, misread-fault, read-as, other_events-checked, other_events-fault, unverified-checked, unverified-fault, verified-checked, verified-text, other_bound-checked, other_bound-fault}
 use Rattle.config_checker.proofs.checker.check_with.Goals as goal
 
@@ -138,7 +137,7 @@ returns-in-Ok-2-clause-refused c =
 -- ---- accepted
 
 pub new-requires : goal.new-requires
-new-requires c = record { valid = IsValid-plan_at (rows_view c.args.config.now) c.args.config.now.lists_short c.args.config.now.few_modes c.in_ok-plan.plan c.in_ok-plan.ensures.plan; free = plan_free (rows_view c.args.config.now) c.in_ok-refuse_own.ensures.none c.in_ok-plan.plan c.in_ok-plan.ensures.plan; own = plan_own (rows_view c.args.config.now) c.in_ok-plan.plan c.in_ok-plan.ensures.plan; allowed = plan_allowed (rows_view c.args.config.now) c.in_ok-refuse_own.ensures.none c.in_ok-plan.plan c.in_ok-plan.ensures.plan; verified = c.in-Ok-verify.ensures.verified }
+new-requires c = plan_accepted (rows_view c.args.config.now) c.args.config.now.lists_short c.args.config.now.few_modes c.in_ok-refuse_own.ensures.none _ c.in_ok-plan.ensures.plan c.in-Ok-verify.ensures.verified
 
 pub returns-in-Ok-verify-clause-exact : goal.returns-in-Ok-verify-clause-exact
 returns-in-Ok-verify-clause-exact c =
@@ -163,6 +162,4 @@ returns-in-Ok-verify-clause-text c =
     ap certificate_text c.new.ensures ∙ verified-text rows c.in_ok-refuse_own.ensures.none plan c.in_ok-plan.ensures.plan text _ names ws reading same c.in-Ok-verify.bound.0 (eqb-true c.in-Ok-verify.bound.0 c.in-Ok.lines.bound (sym c.is_stated.ensures ∙ c.if-is_stated.true))
 
 pub returns-in-Ok-verify-clause-good : goal.returns-in-Ok-verify-clause-good
-returns-in-Ok-verify-clause-good c =
-    let valid = IsValid-plan_at (rows_view c.args.config.now) c.args.config.now.lists_short c.args.config.now.few_modes c.in_ok-plan.plan c.in_ok-plan.ensures.plan in
-    subst IsGood (sym c.new.ensures) (every_run_is_good _ (record { valid = valid; free = plan_free (rows_view c.args.config.now) c.in_ok-refuse_own.ensures.none c.in_ok-plan.plan c.in_ok-plan.ensures.plan; own = plan_own (rows_view c.args.config.now) c.in_ok-plan.plan c.in_ok-plan.ensures.plan; allowed = plan_allowed (rows_view c.args.config.now) c.in_ok-refuse_own.ensures.none c.in_ok-plan.plan c.in_ok-plan.ensures.plan; verified = c.in-Ok-verify.ensures.verified }))
+returns-in-Ok-verify-clause-good c = subst IsGood (sym c.new.ensures) (every_run_is_good _ (plan_accepted (rows_view c.args.config.now) c.args.config.now.lists_short c.args.config.now.few_modes c.in_ok-refuse_own.ensures.none _ c.in_ok-plan.ensures.plan c.in-Ok-verify.ensures.verified))

@@ -1,4 +1,4 @@
-use Rattle.std.proofs.Common.{List, map, length, ap, arith}
+use Rattle.std.proofs.Common.{map, length, ap, arith}
 use Rattle.std.specs.List.{filter_map}
 use Rattle.std.proofs.lemmas.List.{length-map}
 use Rattle.mpf_sections.specs.Rows.{Written, ShotProfile}

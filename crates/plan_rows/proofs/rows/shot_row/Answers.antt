@@ -12,7 +12,7 @@ use Rattle.plan_rows.proofs.rows.shot_row.Goals as goal
 pub returns : goal.returns
 returns c =
     let rows = c.args.definitions.now in
-    let seats = c.args.seats.now in
+    let seats = c.args.seats.now.shots in
     let s = shot_of (entry_view c.args.entry.now) in
     let name = c.as_slice.ensures.value ∙ ap (λ (x : Shot). x.name.text) c.as_shot-shot.ensures in
     let profile = ap (λ (x : Shot). x.profile.text) c.as_shot-shot.ensures in

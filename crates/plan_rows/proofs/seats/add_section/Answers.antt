@@ -1,9 +1,9 @@
 use Rattle.std.proofs.Common.{◌+◌, ℕ, drop, Option, ap, ◌∙◌}
 use Rattle.mpf_sections.specs.View.{entry_view, section_view}
 use Rattle.machine_definitions.specs.Found.{is_found}
-use Rattle.plan_rows.specs.Seats.{Seat, rows_after, rows_after_all, entry_seats, seats_from}
-use Rattle.plan_rows.specs.View.{found_seat}
-use Rattle.plan_rows.proofs.SeatParts.{seat_after, entries_of, entry_next, entry_rows_next}
+use Rattle.plan_rows.specs.Seats.{rows_after, rows_after_all, given_from, entry_seats, entry_ball_row}
+use Rattle.plan_rows.specs.View.{found_seat, found_row}
+use Rattle.plan_rows.proofs.SeatParts.{found_after, entries_of, entry_next, entry_rows_next}
 use Rattle.plan_rows.proofs.seats.add_section.Goals as goal
 
 pub loop-entry-preserved : goal.loop-entry-preserved
@@ -17,12 +17,19 @@ loop-entry-preserved c =
     let later = entries_of section (drop (l.entry-index + 1) es) in
     let rows = c.in_ok-rows.ensures ∙ ap (λ s. rows_after place grouped l.rows (s, entry_view e)) c.deref-in-loop-entry.ensures.value in
     record {
-      seats = λ name.
-          let found = found_seat l.seats name in
-          let here = c.in_ok-add_entry.ensures name ∙ ap (λ s. seat_after name found (entry_seats l.rows (s, entry_view e))) c.deref.ensures.value in
-          ap (λ (o : Option Seat). seat_after name o (seats_from place grouped c.in_ok-rows.rows later)) here
-          ∙ ap (λ (n : ℕ). seat_after name (seat_after name found (entry_seats l.rows (section, entry_view e))) (seats_from place grouped n later)) rows
-          ∙ entry_next place grouped name section found l.rows es l.entry-index e c.loop-entry-test.true c.entry-item.is
-          ∙ l.invariant.seats name;
+      shots = λ name.
+          let found = found_seat l.seats.shots name in
+          let here = c.in_ok-add_entry.ensures.shots name ∙ ap (λ s. found_after name found (entry_seats l.rows (s, entry_view e))) c.deref.ensures.value in
+          ap (λ (o : Option _). found_after name o (given_from entry_seats place grouped c.in_ok-rows.rows later)) here
+          ∙ ap (λ (n : ℕ). found_after name (found_after name found (entry_seats l.rows (section, entry_view e))) (given_from entry_seats place grouped n later)) rows
+          ∙ entry_next place grouped entry_seats name section found l.rows es l.entry-index e c.loop-entry-test.true c.entry-item.is
+          ∙ l.invariant.shots name;
+      devices = λ name.
+          let found = found_row l.seats.devices name in
+          let here = c.in_ok-add_entry.ensures.devices name ∙ ap (λ s. found_after name found (entry_ball_row l.rows (s, entry_view e))) c.deref.ensures.value in
+          ap (λ (o : Option _). found_after name o (given_from entry_ball_row place grouped c.in_ok-rows.rows later)) here
+          ∙ ap (λ (n : ℕ). found_after name (found_after name found (entry_ball_row l.rows (section, entry_view e))) (given_from entry_ball_row place grouped n later)) rows
+          ∙ entry_next place grouped entry_ball_row name section found l.rows es l.entry-index e c.loop-entry-test.true c.entry-item.is
+          ∙ l.invariant.devices name;
       rows = ap (λ (n : ℕ). rows_after_all place grouped n later) rows ∙ entry_rows_next place grouped section l.rows es l.entry-index e c.loop-entry-test.true c.entry-item.is ∙ l.invariant.rows;
     }

@@ -1,7 +1,7 @@
 use Rattle.std.proofs.Common.{◌≡◌, ◌||◌, Bool, Option, None, Some, option_map, is_some, refl, ap, sym, ◌∙◌}
 use Rattle.mpf_config.specs.Rows.{Rows}
 use Rattle.machine_definitions.specs.declared.profile.Profile as profiles
-use Rattle.machine_definitions.specs.Shots.{Profile, profile_called, has_profile}
+use Rattle.machine_definitions.specs.Shots.{Profile, profile_called}
 use Rattle.machine_definitions.specs.Found.{profile_view}
 use Rattle.machine_definitions.proofs.Finding.{value-found}
 use Rattle.machine_definitions.proofs.definitions.Definitions.has_profile.Goals as goal

@@ -1,0 +1,355 @@
+-- What the plan of contributions does with balls is right.
+use Rattle.std.proofs.Common.{◌≡◌, ◌≢◌, ℕ, suc, ◌+◌, ◌-◌, ◌<◌, ◌≤◌, ◌==◌, ◌⊎◌, inl, inr, if◌then◌else◌, Bool, true, false, List, [], ◌∷◌, ◌++◌, length, map, fold, set, get_or, refl, sym, ◌∙◌, ap, subst, arith}
+use Rattle.std.specs.Prelude.{Option, None, Some, IfSome, option_map, slice_get, Ok}
+use Rattle.std.specs.List.{All, AllPairs, flat_map}
+use Rattle.std.proofs.Math.Seq.{map-set_same}
+use Rattle.std.proofs.lemmas.Bool.{cases_lt, eq-eqb}
+use Rattle.std.proofs.lemmas.List.{append-nil, append_assoc, map-append, map-set, get_or-map, get_or_past, get_or_append_left, get_or_push, length_push, length-map}
+use Rattle.std.proofs.lemmas.List.Elements.{All-nil, All-push, All-head, All-tail, All-map, All-weaker, All-from_get_or}
+use Rattle.std.proofs.lemmas.Option.{slice_get-map, slice_get-get_or}
+use Rattle.mpf_config.specs.Rows.{Rows}
+use Rattle.mpf_config.specs.Short.{AreListsShort}
+use Rattle.plan_contributions.specs.declared.contribution.Aim.{Aim}
+use Rattle.plan_contributions.specs.declared.contribution.Aim.TheVariants as aims
+use Rattle.plan_rows.specs.declared.place.Place.{Place}
+use Rattle.plan_tables.specs.Devices.{list_count}
+use Rattle.plan_tables.specs.PlanView.{PlanSwitch, no_switch, PlanView, no_binding, no_row}
+use Rattle.plan_tables.specs.declared.devices.DeviceRow.{DeviceRow}
+use Rattle.plan_tables.specs.declared.devices.RowId.{RowId}
+use Rattle.plan_tables.specs.declared.devices.Settings.{Settings}
+use Rattle.plan_tables.specs.declared.devices.Settings.TheVariants as kinds
+use Rattle.plan_tables.specs.declared.entries.Action.{Action}
+use Rattle.plan_tables.specs.declared.entries.Binding.{Binding}
+use Rattle.plan_tables.specs.declared.entries.Listener.{Listener}
+use Rattle.plan_tables.specs.declared.entries.Target.{Target}
+use Rattle.plan_tables.specs.declared.entries.Target.TheVariants.{Run, Start, Stop, Act}
+use Rattle.plan_tables.specs.declared.table.Table.TheVariants.{Events, Switches}
+use Rattle.plan_contributions.specs.DeviceEntries.{Effect, posts, works, changes, enters, leaves, loses, arrives}
+use Rattle.plan_contributions.specs.Contributions.{Contribution, gives, reads, active, inactive, mode, mode_event, binds, does, device, does_in, listens, mentions, unknown, coil, under, plays, contributions_of}
+use Rattle.plan_contributions.specs.BallFacts.{BooksNothing, IsNoBallDevice, IsSwitchOf, IsRightRow, LastRow, first_row, with_switch, with_effect, last_after, IsRight, IfRow, IsNext, IsOffBallsAt, IsFitting, AreFitting, row_settings, IsOffBalls, heard_after, IsHeardOnce, AreHeardOnce}
+use Rattle.plan_contributions.specs.Facts.{effects_after, effects_in_after, full, IsRoomy, AreShort, IsPlaceOf, IsOfMachine}
+use Rattle.plan_contributions.proofs.RowFacts.{rows_are_short, rows_are_of_machine}
+use Rattle.plan_contributions.proofs.BallRows.{rows_are_fitting, acts_are_off_balls}
+use Rattle.mpf_plan.specs.Balls.{IsOfNoBall, IsTargetOfNoBall, AreOfTwoRows, AreApart, IsOwnerOf, BallDevicesAreOwn, IsRightWithBalls}
+use Rattle.mpf_plan.specs.Uses.{Names, names_from, number_among}
+use Rattle.mpf_plan.specs.PlanOf.{DraftView, event_of, action_of, last_row, target_at, next_binding, next_row, next_listener, heard_by, first_of_last, lists_for, with_one_more, condition_of, conditioned, with_contribution, named_switch, blank, drafted, plan_of, plan_at, owner_at, last_mode}
+use Rattle.mpf_plan.proofs.Among.{IsKnown, all_known}
+use Rattle.mpf_plan.proofs.Drafted.{given_plan}
+use Rattle.mpf_plan.proofs.Listening.{all_of_first, all_of_second, heard_all, with_one, AreListening, listening_device, listening_more, listening_none}
+use Rattle.mpf_plan.proofs.Judged.{plan_at-Ok}
+use Rattle.mpf_plan.proofs.Ready.{IsLow, IsReady, IsNumberedIn, rows_are_ready}
+use Rattle.mpf_plan.proofs.RowActions.{settings_at, IsRunOfNone, count_of, AreMade, made_outside, made_bound, made_changed, made_begun, made_device, made_right, made_inside, made_besides, made_heard, made_none, no_ball}
+use Rattle.mpf_plan.proofs.RowOwners.{settings_of, settings_fold, rows_kept}
+use Rattle.mpf_plan.proofs.Steps.{All-changed}
+
+-- ---- what comes into the lists of a row
+
+low_nothing : (k : ℕ) (e : Effect) → 7 ≤ k → IsLow k e → BooksNothing e
+low_nothing k (posts n) from low = tt
+low_nothing k (works n deed) from low = tt
+low_nothing k (changes v action n) from low = tt
+low_nothing k (enters n drain) from low = absurd (omega (arith, from, low))
+low_nothing k leaves from low = absurd (omega (arith, from, low))
+low_nothing k loses from low = absurd (omega (arith, from, low))
+low_nothing k arrives from low = absurd (omega (arith, from, low))
+
+right_nothing : (place : Place) (settings : Settings) (done : ℕ → List Effect) → IsNoBallDevice settings → IsRightRow place settings done → (k : ℕ) → All BooksNothing (done k)
+right_nothing place (kinds.BallDevice d) done none right = absurd none
+right_nothing place _ done none right = right
+
+-- what a row that is no ball device does so far has nothing to do with balls, where that fits what comes after it
+nothing_so_far : (cs : List Contribution) (x : LastRow) → IsNoBallDevice x.settings → AreFitting (Some x) cs → (k : ℕ) → All BooksNothing (x.done k)
+nothing_so_far [] x none fits k = right_nothing x.place x.settings x.done none fits k
+nothing_so_far (device place settings ∷ cs) x none fits k = right_nothing x.place x.settings x.done none fits.0 k
+nothing_so_far (does_in j e ∷ cs) x none fits k = by (k == j) (nothing_so_far cs (with_effect j e x) none fits.1 k)
+  where
+    by : (b : Bool) → All BooksNothing (if b then x.done k ++ e ∷ [] else x.done k) → All BooksNothing (x.done k)
+    by true all = all_of_first BooksNothing (x.done k) (e ∷ []) all
+    by false all = all
+nothing_so_far (listens j n ∷ cs) x none fits k = nothing_so_far cs (with_switch x) none fits.1 k
+nothing_so_far (c ∷ cs) x none fits k = nothing_so_far cs x none fits.1 k
+
+-- an effect comes into a list of the row, or has nothing to do with balls
+part_of : (cs : List Contribution) (x : LastRow) (k : ℕ) (e : Effect) → IsLow k e → AreFitting (Some (with_effect k e x)) cs → (k < list_count x.settings) ⊎ BooksNothing e
+part_of cs x k e low fits = by x.settings refl
+  where
+    here : (b : Bool) → b ≡ true → All BooksNothing (if b then x.done k ++ e ∷ [] else x.done k) → BooksNothing e
+    here true is all = All-head BooksNothing e [] (all_of_second BooksNothing (x.done k) (e ∷ []) all)
+    here false is all = absurd (false_true is)
+      where
+        false_true : false ≡ true → ⊥
+        false_true e = cc
+
+    by : (s : Settings) → x.settings ≡ s → (k < list_count x.settings) ⊎ BooksNothing e
+    by (kinds.BallDevice d) same = seven (cases_lt k 7)
+      where
+        seven : (k < 7) ⊎ (7 ≤ k) → (k < list_count x.settings) ⊎ BooksNothing e
+        seven (inl below) = inl (omega (arith, below, ap list_count same))
+        seven (inr from) = inr (low_nothing k e from low)
+    by _ same = inr (here (k == k) (eq-eqb k k refl) (nothing_so_far cs (with_effect k e x) (subst IsNoBallDevice (sym same) tt) fits k))
+
+-- ---- switches
+
+-- what listens to each of these switches
+abbrev heard_in : List PlanSwitch → List (List Listener)
+heard_in ss = map (λ (s : PlanSwitch). s.listeners) ss
+
+heard_same : (change : PlanSwitch → PlanSwitch) → ((s : PlanSwitch) → (change s).listeners ≡ s.listeners) → (ss : List PlanSwitch) (i : ℕ) → heard_in (set ss i (change (get_or ss i no_switch))) ≡ heard_in ss
+heard_same change same ss i = map-set_same (λ (s : PlanSwitch). s.listeners) ss i (change (get_or ss i no_switch)) no_switch (same (get_or ss i no_switch))
+
+heard_more : (l : Listener) (ss : List PlanSwitch) (i : ℕ) → heard_in (set ss i (heard_by l (get_or ss i no_switch))) ≡ with_one i l (heard_in ss)
+heard_more l ss i =
+    map-set (λ (s : PlanSwitch). s.listeners) ss i (heard_by l (get_or ss i no_switch))
+    ∙ ap (λ ls. set (heard_in ss) i (ls ++ l ∷ [])) (by (cases_lt i (length ss)))
+  where
+    by : (i < length ss) ⊎ (length ss ≤ i) → (get_or ss i no_switch).listeners ≡ get_or (heard_in ss) i []
+    by (inl inside) = sym (get_or-map (λ (s : PlanSwitch). s.listeners) ss i no_switch [] inside)
+    by (inr past) =
+        ap (λ (s : PlanSwitch). s.listeners) (get_or_past ss i no_switch past)
+        ∙ sym (get_or_past (heard_in ss) i [] (omega (arith, past, length-map ss (λ (s : PlanSwitch). s.listeners))))
+
+heard_flat : (ss : List PlanSwitch) → flat_map (λ (s : PlanSwitch). s.listeners) ss ≡ heard_all (heard_in ss)
+heard_flat [] = refl
+heard_flat (s ∷ ss) = ap (λ ls. s.listeners ++ ls) (heard_flat ss)
+
+of_heard : (P : List Listener → Type 0) (ss : List PlanSwitch) → All P (heard_in ss) → All (λ (s : PlanSwitch). P s.listeners) ss
+of_heard P ss all i d within =
+    subst P (get_or-map (λ (s : PlanSwitch). s.listeners) ss i d [] within) (all i [] (omega (arith, within, length-map ss (λ (s : PlanSwitch). s.listeners))))
+
+none_heard : (ns : List (List ℕ)) → All (λ ls. ls ≡ []) (heard_in (map named_switch ns))
+none_heard ns =
+    All-map (λ ls. ls ≡ []) (λ (s : PlanSwitch). s.listeners) (map named_switch ns)
+    (All-map (λ (s : PlanSwitch). s.listeners ≡ []) named_switch ns (All-from_get_or (λ n. (named_switch n).listeners ≡ []) ns [] (λ i inside. refl)))
+
+-- ---- rows
+
+-- to how many switches the row listens that came last
+abbrev heard_of : Option LastRow → ℕ
+heard_of None = 0
+heard_of (Some x) = x.heard
+
+heard_still : (k : ℕ) (e : Effect) (o : Option LastRow) → heard_of (option_map (with_effect k e) o) ≡ heard_of o
+heard_still k e None = refl
+heard_still k e (Some x) = refl
+
+-- what a binding does is done to no ball device of these rows
+abbrev IsActOfNone : List DeviceRow → Target → Type 0
+IsActOfNone rows (Act r act) = IsNoBallDevice (settings_at rows r.0)
+IsActOfNone rows _ = Unit {0}
+
+module _ (names : Names) where
+  -- ---- one contribution more, where these are the rows in the end
+
+  module _ (final : List DeviceRow) where
+    record IsSoFar (n : ℕ) (o : Option LastRow) (ns : List (List ℕ)) (plan : PlanView) : Type 0 where
+      made : AreMade names n o plan.rows plan.row_lists plan.lists plan.bindings
+      acts : All (λ b. IsActOfNone final b.target) plan.bindings
+      listening : AreListening (names Switches) (heard_of o) ns plan.rows (heard_in plan.switches)
+
+    module _ (n : ℕ) (o : Option LastRow) (ns : List (List ℕ)) (d : DraftView) (own : IsSoFar n o ns d.plan) where
+      -- switches of which nothing changes but what they post and how they are read
+      switches_so : (ss : List PlanSwitch) → heard_in ss ≡ heard_in d.plan.switches → IsSoFar n o ns (record d.plan { switches = ss })
+      switches_so ss same = record { made = own.made; acts = own.acts; listening = subst (AreListening (names Switches) (heard_of o) ns d.plan.rows) (sym same) own.listening }
+
+      act_on : (r : ℕ) → IfSome (slice_get (settings_of final) r) IsNoBallDevice → IsNoBallDevice (settings_at final r)
+      act_on r off = by (cases_lt r (length final))
+        where
+          by : (r < length final) ⊎ (length final ≤ r) → IsNoBallDevice (settings_at final r)
+          by (inl inside) =
+              subst (λ x. IfSome x IsNoBallDevice)
+              (slice_get-map (λ (x : DeviceRow). x.settings) final r ∙ ap (option_map (λ (x : DeviceRow). x.settings)) (slice_get-get_or final r no_row inside)) off
+          by (inr past) = subst (λ (x : DeviceRow). IsNoBallDevice x.settings) (sym (get_or_past final r no_row past)) tt
+
+      act_last : (rest : List DeviceRow) → final ≡ d.plan.rows ++ rest → (o : Option LastRow) → AreMade names n o d.plan.rows d.plan.row_lists d.plan.lists d.plan.bindings → IfRow (λ r. IsNoBallDevice r.settings) o → IsNoBallDevice (settings_at final (last_row d.plan).0)
+      act_last rest all None made off = absurd off
+      act_last rest all (Some x) made off =
+          let last = made.last in
+          let some = last.0 in
+          let at : settings_at final (length d.plan.rows - 1) ≡ x.settings =
+          ap (λ rows. settings_at rows (length d.plan.rows - 1)) all
+          ∙ ap (λ (r : DeviceRow). r.settings) (get_or_append_left d.plan.rows rest no_row (length d.plan.rows - 1) (omega (arith, some)))
+          ∙ last.1 in
+          subst IsNoBallDevice (sym at) off
+
+      act_off : (rest : List DeviceRow) → final ≡ d.plan.rows ++ rest → (m : List ℕ) (place : Place) (aim : Aim) → IsOffBallsAt o aim → IsOffBalls (settings_of final) (binds m place aim) → IsActOfNone final (target_at d.plan aim)
+      act_off rest all m place aims.Run at off = tt
+      act_off rest all m place aims.Start at off = tt
+      act_off rest all m place aims.Stop at off = tt
+      act_off rest all m place (aims.Do act) at off = act_last rest all o own.made at
+      act_off rest all m place (aims.On r act) at off = act_on r off
+
+      abbrev first : ℕ
+      first = (first_of_last d.plan.row_lists).0
+
+      abbrev end : ℕ
+      end = first + count_of o
+
+      bound_made : (e : List ℕ) (place : Place) (aim : Aim) → AreMade names (effects_after n (binds e place aim)) o d.plan.rows d.plan.row_lists (lists_for aim d.plan.lists) (d.plan.bindings ++ next_binding d.plan (event_of (names Events) e) place aim ∷ [])
+      bound_made e place aims.Run =
+          let none : List Action = [] in
+          let lists = d.plan.lists ++ none ∷ [] in
+          let begun = made_begun names n o d.plan.rows d.plan.row_lists d.plan.lists d.plan.bindings own.made in
+          made_bound names 0 o d.plan.rows d.plan.row_lists lists d.plan.bindings begun (next_binding d.plan (event_of (names Events) e) place aims.Run) (omega (arith, length_push d.plan.lists none), inr own.made.ends, subst (All IsOfNoBall) (sym (get_or_push d.plan.lists none [] (length d.plan.lists) refl)) (All-nil IsOfNoBall))
+      bound_made e place aims.Start = made_bound names n o d.plan.rows d.plan.row_lists d.plan.lists d.plan.bindings own.made (next_binding d.plan (event_of (names Events) e) place aims.Start) tt
+      bound_made e place aims.Stop = made_bound names n o d.plan.rows d.plan.row_lists d.plan.lists d.plan.bindings own.made (next_binding d.plan (event_of (names Events) e) place aims.Stop) tt
+      bound_made e place (aims.Do act) = made_bound names n o d.plan.rows d.plan.row_lists d.plan.lists d.plan.bindings own.made (next_binding d.plan (event_of (names Events) e) place (aims.Do act)) tt
+      bound_made e place (aims.On r act) = made_bound names n o d.plan.rows d.plan.row_lists d.plan.lists d.plan.bindings own.made (next_binding d.plan (event_of (names Events) e) place (aims.On r act)) tt
+
+      -- the lists of the row that came last, and those of none
+      does_made : (e : Effect) → IsRoomy n full (does e) → BooksNothing e → AreMade names (suc n) o d.plan.rows d.plan.row_lists (with_one_more (length d.plan.lists - 1) (action_of names (last_row d.plan) e) d.plan.lists) d.plan.bindings
+      does_made e room none =
+          let opened = own.made.opened room in
+          made_outside names n o d.plan.rows d.plan.row_lists d.plan.lists d.plan.bindings own.made (suc n) (length d.plan.lists - 1) (action_of names (last_row d.plan) e) (omega (arith, opened)) (λ few. omega (arith, few)) (no_ball names (last_row d.plan) e none)
+
+    -- an effect in a list of the row that came last
+    does_in_made : (n : ℕ) (x : LastRow) (plan : PlanView) (k : ℕ) (e : Effect) → (k < list_count x.settings) ⊎ BooksNothing e → AreMade names n (Some x) plan.rows plan.row_lists plan.lists plan.bindings
+        → AreMade names 1024 (Some (with_effect k e x)) plan.rows plan.row_lists (with_one_more ((first_of_last plan.row_lists).0 + k) (action_of names (last_row plan) e) plan.lists) plan.bindings
+    does_in_made n x plan k e part made = by (cases_lt k (list_count x.settings)) part
+      where
+        by : (k < list_count x.settings) ⊎ (list_count x.settings ≤ k) → (k < list_count x.settings) ⊎ BooksNothing e
+            → AreMade names 1024 (Some (with_effect k e x)) plan.rows plan.row_lists (with_one_more ((first_of_last plan.row_lists).0 + k) (action_of names (last_row plan) e) plan.lists) plan.bindings
+        by (inl below) part = made_inside names n x plan.rows plan.row_lists plan.lists plan.bindings made k e below
+        by (inr from) (inl below) = absurd (omega (arith, from, below))
+        by (inr from) (inr none) =
+            made_besides names 1024 x plan.rows plan.row_lists (with_one_more ((first_of_last plan.row_lists).0 + k) (action_of names (last_row plan) e) plan.lists) plan.bindings
+            (made_outside names n (Some x) plan.rows plan.row_lists plan.lists plan.bindings made 1024 ((first_of_last plan.row_lists).0 + k) (action_of names (last_row plan) e) (omega (arith, from)) (λ few. absurd (omega (arith, few))) (no_ball names (last_row plan) e none))
+            k e from
+
+    so_far_does_in : (cs : List Contribution) (n : ℕ) (o : Option LastRow) (ns : List (List ℕ)) (d : DraftView) (k : ℕ) (e : Effect) → IsLow k e → AreFitting o (does_in k e ∷ cs) → IsSoFar n o ns d.plan
+        → IsSoFar 1024 (last_after o (does_in k e)) ns (with_contribution names d (does_in k e)).plan
+    so_far_does_in cs n None ns d k e low fits own = absurd fits.0
+    so_far_does_in cs n (Some x) ns d k e low fits own = record {
+      made = does_in_made n x d.plan k e (part_of cs x k e low fits.1) own.made;
+      acts = own.acts;
+      listening = own.listening;
+    }
+
+    so_far_listens : (n : ℕ) (o : Option LastRow) (ns : List (List ℕ)) (d : DraftView) (k : ℕ) (m : List ℕ) → IsFitting o (listens k m) → IsHeardOnce ns (listens k m) → IsKnown names (listens k m) → IsSoFar n o ns d.plan
+        → IsSoFar n (last_after o (listens k m)) (m ∷ ns) (with_contribution names d (listens k m)).plan
+    so_far_listens n None ns d k m fits once known own = absurd fits
+    so_far_listens n (Some x) ns d k m fits once known own =
+        let last = own.made.last in
+        let at = number_among (names Switches) m in
+        let next : next_listener d.plan k ≡ record { row = record { 0 = length d.plan.rows - 1 }; switch = x.heard } = λ i. record { row = record { 0 = length d.plan.rows - 1 }; switch = fits.0 i } in
+        record {
+          made = made_heard names n x d.plan.rows d.plan.row_lists d.plan.lists d.plan.bindings own.made;
+          acts = own.acts;
+          listening = subst (AreListening (names Switches) (suc x.heard) (m ∷ ns) d.plan.rows)
+              (sym (heard_more (next_listener d.plan k) d.plan.switches at ∙ ap (λ l. with_one at l (heard_in d.plan.switches)) next))
+              (listening_more (names Switches) x.heard ns d.plan.rows (heard_in d.plan.switches) own.listening m once known last.0 x.settings last.1 (subst (IsSwitchOf x.settings) fits.0 fits.1));
+        }
+
+    module _ (Q : List ℕ → Type 0) (cs : List Contribution) (n : ℕ) (f : ℕ → ℕ) (o : Option LastRow) (ns : List (List ℕ)) (d : DraftView) (own : IsSoFar n o ns d.plan) (rest : List DeviceRow) (all : final ≡ d.plan.rows ++ rest) where
+      so_far_one : (c : Contribution) → IsRoomy n f c → AreFitting o (c ∷ cs) → IsHeardOnce ns c → IsOffBalls (settings_of final) c → IsKnown names c → IsReady Q c
+          → IsSoFar (effects_after n c) (last_after o c) (heard_after ns c) (with_contribution names d c).plan
+      so_far_one (gives t m) room fits once off known ready = subst (IsSoFar n o ns) (sym (given_plan t (number_among (names t) m) d)) own
+      so_far_one (reads kind confirms) room fits once off known ready =
+          switches_so n o ns d own (with_contribution names d (reads kind confirms)).plan.switches (heard_same (λ s. record s { kind = kind; confirms_playfield = confirms }) (λ s. refl) d.plan.switches d.last)
+      so_far_one (active m) room fits once off known ready =
+          switches_so n o ns d own (with_contribution names d (active m)).plan.switches (heard_same (λ s. record s { active = s.active ++ event_of (names Events) m ∷ [] }) (λ s. refl) d.plan.switches d.last)
+      so_far_one (inactive m) room fits once off known ready =
+          switches_so n o ns d own (with_contribution names d (inactive m)).plan.switches (heard_same (λ s. record s { inactive = s.inactive ++ event_of (names Events) m ∷ [] }) (λ s. refl) d.plan.switches d.last)
+      so_far_one (binds m place aim) room fits once off known ready = record {
+        made = bound_made n o ns d own m place aim;
+        acts = All-push (λ b. IsActOfNone final b.target) d.plan.bindings (next_binding d.plan (event_of (names Events) m) place aim) own.acts (act_off n o ns d own rest all m place aim fits.0 off);
+        listening = own.listening;
+      }
+      so_far_one (does e) room fits once off known ready = record { made = does_made n o ns d own e room fits.0; acts = own.acts; listening = own.listening }
+      so_far_one (device place settings) room fits once off known ready = record {
+        made = made_device names n o d.plan.rows d.plan.row_lists d.plan.lists d.plan.bindings own.made place settings (next_row d.plan place settings) refl fits.0;
+        acts = own.acts;
+        listening = listening_device (names Switches) (heard_of o) ns d.plan.rows (heard_in d.plan.switches) own.listening (next_row d.plan place settings);
+      }
+      so_far_one (does_in k e) room fits once off known ready = so_far_does_in cs n o ns d k e ready.1 fits own
+      so_far_one (listens k m) room fits once off known ready = so_far_listens n o ns d k m fits.0 once known own
+      so_far_one (under c) room fits once off known ready = record {
+        made = made_changed names n o d.plan.rows d.plan.row_lists d.plan.lists d.plan.bindings own.made (conditioned (condition_of names c)) (length d.plan.bindings - 1) no_binding (λ b. refl);
+        acts = All-changed (λ b. IsActOfNone final b.target) (conditioned (condition_of names c)) d.plan.bindings (length d.plan.bindings - 1) no_binding (λ b h. h) own.acts;
+        listening = own.listening;
+      }
+      so_far_one (mode m priority game) room fits once off known ready = record { made = own.made; acts = own.acts; listening = own.listening }
+      so_far_one (mode_event which m) room fits once off known ready = record { made = own.made; acts = own.acts; listening = own.listening }
+      so_far_one (mentions t m) room fits once off known ready = own
+      so_far_one unknown room fits once off known ready = own
+      so_far_one (coil m limits) room fits once off known ready = record { made = own.made; acts = own.acts; listening = own.listening }
+      so_far_one (plays min_balls balls_per_game max_players) room fits once off known ready = record { made = own.made; acts = own.acts; listening = own.listening }
+
+    -- ---- all contributions
+
+    so_right : (n : ℕ) (o : Option LastRow) (ns : List (List ℕ)) (plan : PlanView) → IsRight o → plan.rows ≡ final → IsSoFar n o ns plan → IsRightWithBalls plan
+    so_right n o ns plan right same own =
+        let made = own.made in
+        let listening = own.listening in
+        record {
+          rows = λ r within. made_right names n o plan.rows plan.row_lists plan.lists plan.bindings made right r.0 within;
+          bindings = λ i d within. by (get_or plan.bindings i d).target (made.runs i d within) (own.acts i d within);
+          switches = of_heard (All (λ l. IsSwitchOf (settings_at plan.rows l.row.0) l.switch)) plan.switches listening.within;
+          once = of_heard (AllPairs AreOfTwoRows) plan.switches listening.once;
+          apart = subst (AllPairs AreApart) (sym (heard_flat plan.switches)) listening.apart;
+        }
+      where
+        by : (t : Target) → IsRunOfNone (first_of_last plan.row_lists).0 ((first_of_last plan.row_lists).0 + count_of o) plan.lists t → IsActOfNone final t → IsTargetOfNoBall plan t
+        by (Run l) run act = run.2
+        by (Start m) run act = tt
+        by (Stop m) run act = tt
+        by (Act r act_) run act = subst (λ rows. IsNoBallDevice (settings_at rows r.0)) (sym same) act
+
+    so_far_fold : (Q : List ℕ → Type 0) (cs : List Contribution) (n : ℕ) (f : ℕ → ℕ) (o : Option LastRow) (ns : List (List ℕ)) (d : DraftView) → (fold (with_contribution names) d cs).plan.rows ≡ final
+        → AreShort n f cs → AreFitting o cs → AreHeardOnce ns cs → All (IsOffBalls (settings_of final)) cs → All (IsKnown names) cs → All (IsReady Q) cs → IsSoFar n o ns d.plan → IsRightWithBalls (fold (with_contribution names) d cs).plan
+    so_far_fold Q [] n f o ns d made short fits once off known ready own = so_right n o ns d.plan fits made own
+    so_far_fold Q (c ∷ cs) n f o ns d made short fits once off known ready own =
+        let kept = rows_kept names (c ∷ cs) d in
+        so_far_fold Q cs (effects_after n c) (effects_in_after f c) (last_after o c) (heard_after ns c) (with_contribution names d c) made short.1 fits.1 once.1
+        (All-tail (IsOffBalls (settings_of final)) c cs off) (All-tail (IsKnown names) c cs known) (All-tail (IsReady Q) c cs ready)
+        (so_far_one Q cs n f o ns d own kept.0 (sym made ∙ kept.1) c short.0 fits once.0 (All-head (IsOffBalls (settings_of final)) c cs off) (All-head (IsKnown names) c cs known) (All-head (IsReady Q) c cs ready))
+
+-- what the plan of contributions does with balls is right
+pub right_drafted : (Q : List ℕ → Type 0) (names : Names) (cs : List Contribution) → AreShort 1024 full cs → AreFitting None cs → AreHeardOnce [] cs → All (IsOffBalls (row_settings cs)) cs → All (IsKnown names) cs → All (IsReady Q) cs
+    → IsRightWithBalls (drafted names cs).plan
+right_drafted Q names cs short fits once off known ready =
+    let final = (drafted names cs).plan.rows in
+    so_far_fold names final Q cs 1024 full None [] (blank names) refl short fits once (subst (λ s. All (IsOffBalls s) cs) (sym (settings_fold names cs (blank names))) off) known ready
+    (record {
+      made = made_none names;
+      acts = All-nil (λ b. IsActOfNone final b.target);
+      listening = listening_none (names Switches) (heard_in (blank names).plan.switches) (none_heard (names Switches));
+    })
+
+-- ---- the rows of ball devices are the machine's
+
+abbrev IsOwnRow : DeviceRow → Type 0
+IsOwnRow row = IsOwnerOf row.settings row.owner
+
+module _ (names : Names) where
+  own_row : (d : DraftView) (place : Place) (settings : Settings) → IsPlaceOf settings place → IsOwnRow (next_row d.plan place settings)
+  own_row d place (kinds.BallDevice b) is = ap (owner_at (last_mode d.plan)) is
+  own_row d place _ is = tt
+
+  own_one : (d : DraftView) (c : Contribution) → IsOfMachine c → All IsOwnRow d.plan.rows → All IsOwnRow (with_contribution names d c).plan.rows
+  own_one d (gives t n) is all = subst (λ (p : PlanView). All IsOwnRow p.rows) (sym (given_plan t (number_among (names t) n) d)) all
+  own_one d (device place settings) is all = All-push IsOwnRow d.plan.rows (next_row d.plan place settings) all (own_row d place settings is)
+  own_one d _ is all = all
+
+  own_fold : (cs : List Contribution) (d : DraftView) → All IsOfMachine cs → All IsOwnRow d.plan.rows → All IsOwnRow (fold (with_contribution names) d cs).plan.rows
+  own_fold [] d each all = all
+  own_fold (c ∷ cs) d each all = own_fold cs (with_contribution names d c) (All-tail IsOfMachine c cs each) (own_one d c (All-head IsOfMachine c cs each) all)
+
+-- ---- the plan of rows
+
+own-plan_of : (rows : Rows) → AreListsShort rows → BallDevicesAreOwn (plan_of rows)
+unfolding plan_of
+own-plan_of rows short = own_fold (names_from (contributions_of rows)) (contributions_of rows) (blank (names_from (contributions_of rows))) (rows_are_of_machine rows short) (All-nil IsOwnRow)
+
+-- ball devices are the machine's
+pub ball_devices_own-plan_at : (rows : Rows) → AreListsShort rows → (plan : PlanView) → plan_at rows ≡ Ok plan → BallDevicesAreOwn plan
+ball_devices_own-plan_at rows short plan is = subst BallDevicesAreOwn (sym (plan_at-Ok rows plan is).0) (own-plan_of rows short)
+
+right-plan_of : (rows : Rows) → AreListsShort rows → AreHeardOnce [] (contributions_of rows) → IsRightWithBalls (plan_of rows)
+unfolding plan_of
+right-plan_of rows short once =
+    let cs = contributions_of rows in
+    right_drafted (IsNumberedIn (names_from cs Events)) (names_from cs) cs (rows_are_short rows short) (rows_are_fitting rows) once (acts_are_off_balls rows) (all_known cs) (rows_are_ready rows)
+
+-- what the plan does with balls is right, where no row listens twice to one switch
+pub right_with_balls-plan_at : (rows : Rows) → AreListsShort rows → AreHeardOnce [] (contributions_of rows) → (plan : PlanView) → plan_at rows ≡ Ok plan → IsRightWithBalls plan
+right_with_balls-plan_at rows short once plan is = subst IsRightWithBalls (sym (plan_at-Ok rows plan is).0) (right-plan_of rows short once)

@@ -1,0 +1,15 @@
+use Rattle.std.proofs.Common.{sym, ◌∙◌, rules, tests}
+use Rattle.std.specs.Str.{bytes_eq}
+use Rattle.std.proofs.lemmas.Iterator.{YieldsList-from_slice}
+use Rattle.std.proofs.lemmas.Iterator.Search.{any_from_yields_List}
+use Rattle.section_tables.specs.declared.rows.Name.{Name}
+use Rattle.section_tables.specs.View.{name_view}
+use Rattle.mpf_sections.proofs.Each.{any_mapped}
+use Rattle.mpf_sections.proofs.balls.BallDevice.is_tagged.Goals as goal
+
+pub returns : goal.returns
+returns c =
+    let tags = c.args.self.now.tags.now in
+    let tag = c.args.tag.now in
+    any_from_yields_List (λ (n : Name). bytes_eq n.text.items tag) _ _ c.any.result c.any.ensures.ran (YieldsList-from_slice tags cc) (λ x b q k. search (rules, tests))
+    ∙ sym (any_mapped (λ w. bytes_eq w.text tag) name_view tags)

@@ -1,0 +1,50 @@
+-- What is wrong with ball devices. Here `machine` is the sections of the machine text, and `text` is the name of the
+-- text.
+use Rattle.std.specs.Prelude.{ℕ, Bool, false, not, ◌||◌, List, [], ◌∷◌, ◌++◌, Option, Some, None, is_some}
+use Rattle.std.specs.List.{flat_map}
+use Rattle.std.specs.Str.{bytes_eq}
+use Rattle.mpf_sections.specs.Rows.{Written, BallDevice, SectionRows}
+use Rattle.mpf_sections.specs.TypedBalls.{playfield}
+use Rattle.machine_definitions.specs.Definitions.{ball_device_called}
+use Rattle.row_faults.specs.declared.fault.RowFaultKind.TheVariants.{Name, BallRoute}
+use Rattle.row_faults.specs.FaultView.{RowFaultView}
+use Rattle.row_faults.specs.CoilFaults.{fault_if, coil_name_faults, switch_name_faults}
+use Rattle.row_faults.specs.Routes.{leads_to_playfield, lacks_coil, switch_names, all_taken, is_one_taken}
+
+-- ---- names
+
+-- whether balls can be ejected to a place of this name: the playfield, or a ball device that an entry defines
+abbrev pub is_place : List SectionRows → List ℕ → Bool
+is_place machine name = bytes_eq name playfield || is_some (ball_device_called machine name)
+
+abbrev pub eject_coil_faults : List SectionRows → List ℕ → Option Written → List RowFaultView
+eject_coil_faults machine text None = []
+eject_coil_faults machine text (Some w) = coil_name_faults machine text w
+
+-- names that no entry defines, in the order of the section's table
+abbrev pub ball_device_faults : List SectionRows → List ℕ → BallDevice → List RowFaultView
+ball_device_faults machine text d =
+    flat_map (switch_name_faults machine text) d.switches
+    ++ eject_coil_faults machine text d.eject_coil
+    ++ fault_if (not (is_place machine d.target.text)) Name text d.target
+
+-- ---- the ways of balls
+
+-- Whether something is wrong with the way of balls through a ball device: its balls do not come to the playfield, it
+-- has a ball switch that is taken or has one twice, or it lacks a coil.
+abbrev pub is_route_wrong : List BallDevice → (is_taken : List ℕ → Bool) → BallDevice → Bool
+is_route_wrong devices is_taken d = not (leads_to_playfield devices d) || is_one_taken (switch_names d) is_taken || lacks_coil d
+
+-- the same of the rest of the ball devices; those before it have the ball switches that are taken
+abbrev pub rest_faults : List BallDevice → (is_taken : List ℕ → Bool) → List ℕ → (rest : List BallDevice) → List RowFaultView
+rest_faults devices is_taken text [] = []
+rest_faults devices is_taken text (d ∷ ds) =
+    fault_if (is_route_wrong devices is_taken d) BallRoute text d.name ++ rest_faults devices (all_taken (switch_names d) is_taken) text ds
+
+-- no ball switch is taken before the first ball device
+abbrev pub is_free : List ℕ → Bool
+is_free name = false
+
+-- the ball devices with whose ways something is wrong, one fault each
+abbrev pub route_faults : List ℕ → List BallDevice → List RowFaultView
+route_faults text devices = rest_faults devices is_free text devices

@@ -1,0 +1,96 @@
+//! What is wrong with ball devices.
+
+ghost use Rattle.std.specs.Prelude.{◌≡◌, ◌++◌, map, option_map, OnOk};
+ghost use Rattle.std.specs.List.{flat_map};
+ghost use Rattle.mpf_sections.specs.TypedBalls.{ball_device_of};
+ghost use Rattle.mpf_sections.specs.View.{name_view, name_at_view, entry_view, ball_device_view};
+ghost use Rattle.row_faults.specs.CoilFaults.{switch_name_faults};
+ghost use Rattle.row_faults.specs.BallFaults.{is_place, eject_coil_faults, ball_device_faults};
+ghost use Rattle.row_faults.specs.View.{row_faults_view};
+
+use crate::adding::{add_if, at};
+use crate::coil_faults::{add_coil_name, add_switch_name};
+use crate::fault::{RowFault, RowFaultKind};
+use machine_definitions::Definitions;
+use mpf_config::{Entry, Name, NameAt};
+use mpf_sections::tables::PLAYFIELD;
+use mpf_sections::{BallDevice, as_ball_device};
+use std::alloc::{AllocError, Global};
+
+/// Adds the faults of the names in these entries of `ball_devices`.
+pub(crate) fn add_ball_devices(
+    alloc: Global,
+    faults: &mut Vec<RowFault>,
+    definitions: &Definitions<'_>,
+    text: &[u8],
+    entries: &[Entry],
+) -> Result<(), AllocError>
+    ensures { OnOk result (row_faults_view faults.new.items ≡ row_faults_view faults.old.items ++ flat_map (ball_device_faults definitions.now.machine text.now) (map ball_device_of (map entry_view entries.now))) }
+{
+    for entry in entries {
+        add_ball_device(alloc, faults, definitions, text, as_ball_device(entry))?;
+    }
+    Ok(())
+}
+
+/// Adds the faults of the names in a ball device.
+fn add_ball_device(
+    alloc: Global,
+    faults: &mut Vec<RowFault>,
+    definitions: &Definitions<'_>,
+    text: &[u8],
+    device: BallDevice<'_>,
+) -> Result<(), AllocError>
+    ensures { OnOk result (row_faults_view faults.new.items ≡ row_faults_view faults.old.items ++ ball_device_faults definitions.now.machine text.now (ball_device_view device.entry)) }
+{
+    add_switches(alloc, faults, definitions, text, device.switches)?;
+    add_eject_coil(alloc, faults, definitions, text, device.eject_coil)?;
+    let unknown = !is_place(definitions, device.target.text);
+    add_if(
+        alloc,
+        faults,
+        unknown,
+        RowFaultKind::Name,
+        text,
+        device.target,
+    )
+}
+
+/// Adds a fault for each of these ball switches that no entry defines.
+fn add_switches(
+    alloc: Global,
+    faults: &mut Vec<RowFault>,
+    definitions: &Definitions<'_>,
+    text: &[u8],
+    switches: &[Name],
+) -> Result<(), AllocError>
+    ensures { OnOk result (row_faults_view faults.new.items ≡ row_faults_view faults.old.items ++ flat_map (switch_name_faults definitions.now.machine text.now) (map name_view switches.now)) }
+{
+    for switch in switches {
+        add_switch_name(alloc, faults, definitions, text, at(switch))?;
+    }
+    Ok(())
+}
+
+/// Adds a fault where a ball device has an eject coil that no entry defines.
+fn add_eject_coil(
+    alloc: Global,
+    faults: &mut Vec<RowFault>,
+    definitions: &Definitions<'_>,
+    text: &[u8],
+    coil: Option<NameAt<'_>>,
+) -> Result<(), AllocError>
+    ensures { OnOk result (row_faults_view faults.new.items ≡ row_faults_view faults.old.items ++ eject_coil_faults definitions.now.machine text.now (option_map name_at_view coil.entry)) }
+{
+    match coil {
+        Some(name) => add_coil_name(alloc, faults, definitions, text, name),
+        None => Ok(()),
+    }
+}
+
+/// Whether balls can be ejected to a place of this name.
+fn is_place(definitions: &Definitions<'_>, name: &[u8]) -> bool
+    ensures { result ≡ is_place definitions.now.machine name.now }
+{
+    name == PLAYFIELD || definitions.ball_device(name).is_some()
+}

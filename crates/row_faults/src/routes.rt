@@ -1,0 +1,113 @@
+//! What is wrong with the ways of balls.
+
+ghost use Rattle.std.specs.Prelude.{◌≡◌, ◌++◌, ◌||◌, not, List, map, IfOk, OnOk};
+ghost use Rattle.std.specs.List.{flat_map};
+ghost use Rattle.mpf_sections.specs.TypedBalls.{ball_device_of};
+ghost use Rattle.mpf_sections.specs.View.{name_view, entry_view, section_view, ball_device_view};
+ghost use Rattle.machine_definitions.specs.Definitions.{ball_devices_of};
+ghost use Rattle.machine_definitions.specs.Found.{is_found};
+ghost use Rattle.row_faults.specs.Routes.{leads_to_playfield, lacks_coil, switch_names, all_taken, is_one_taken};
+ghost use Rattle.row_faults.specs.BallFaults.{rest_faults, route_faults};
+ghost use Rattle.row_faults.specs.View.{devices_view, row_faults_view};
+
+use crate::adding::{add_if, at};
+use crate::fault::{RowFault, RowFaultKind};
+use crate::targets::leads_of;
+use mpf_config::{Entry, Name, Section};
+use mpf_sections::{BallDevice, as_ball_device};
+use std::alloc::{AllocError, Global};
+use std::collections::BTreeSet;
+
+/// Names of ball switches, which lie where they are written.
+type Switches<'a> = BTreeSet<&'a [u8]>;
+
+/// Adds the faults of the ways of balls through the ball devices of these sections.
+pub(crate) fn add_route_faults(
+    alloc: Global,
+    faults: &mut Vec<RowFault>,
+    text: &[u8],
+    sections: &[Section],
+) -> Result<(), AllocError>
+    ensures { OnOk result (row_faults_view faults.new.items ≡ row_faults_view faults.old.items ++ route_faults text.now (ball_devices_of (map section_view sections.now))) }
+{
+    let devices = ball_devices_of(alloc, sections)?;
+    let leads = leads_of(alloc, &devices)?;
+    add_faults(alloc, faults, text, &devices, &leads)
+}
+
+/// The ball devices of sections, in plan order.
+fn ball_devices_of<'a>(
+    alloc: Global,
+    sections: &'a [Section],
+) -> Result<Vec<BallDevice<'a>>, AllocError>
+    ensures { IfOk result (λ devices. devices_view devices.items ≡ ball_devices_of (map section_view sections.now)) }
+{
+    let mut devices = Vec::new(alloc);
+    for section in sections {
+        add_entries(&mut devices, section.ball_devices())?;
+    }
+    Ok(devices)
+}
+
+fn add_entries<'a>(
+    devices: &mut Vec<BallDevice<'a>>,
+    entries: &'a [Entry],
+) -> Result<(), AllocError>
+    ensures { OnOk result (devices_view devices.new.items ≡ devices_view devices.old.items ++ map ball_device_of (map entry_view entries.now)) }
+{
+    for entry in entries {
+        devices.push(as_ball_device(entry))?;
+    }
+    Ok(())
+}
+
+/// Adds the faults of all these ball devices, where `leads` says for each whether its balls come to
+/// the playfield.
+fn add_faults(
+    alloc: Global,
+    faults: &mut Vec<RowFault>,
+    text: &[u8],
+    devices: &[BallDevice<'_>],
+    leads: &[bool],
+) -> Result<(), AllocError>
+    requires { leads.now ≡ map (leads_to_playfield (devices_view devices.now)) (devices_view devices.now) }
+    ensures { OnOk result (row_faults_view faults.new.items ≡ row_faults_view faults.old.items ++ route_faults text.now (devices_view devices.now)) }
+{
+    let mut taken = BTreeSet::new(alloc);
+    for (number, device) in devices.iter().enumerate() {
+        let again = take_switches(&mut taken, device.switches)?;
+        let wrong = is_wrong(leads[number], again, *device);
+        let name = at(device.name);
+        add_if(alloc, faults, wrong, RowFaultKind::BallRoute, text, name)?;
+    }
+    Ok(())
+}
+
+/// Whether something is wrong with the way of balls through a ball device, whose balls come to the
+/// playfield or not, and of which a ball switch was taken or not.
+fn is_wrong(leads: bool, again: bool, device: BallDevice<'_>) -> bool
+    ensures { result ≡ (not leads || again || lacks_coil (ball_device_view device.entry)) }
+{
+    !leads || again || lacks_coil(device)
+}
+
+/// Takes the ball switches of a ball device, and says whether one was taken, or stands twice among
+/// them. Where memory runs out, some may be taken.
+fn take_switches<'a>(taken: &mut Switches<'a>, switches: &'a [Name]) -> Result<bool, AllocError>
+    ensures again { IfOk result (λ again. again ≡ is_one_taken (map (λ w. w.text) (map name_view switches.now)) (is_found taken.old)) }
+    ensures taken { IfOk result (λ _. is_found taken.new ≡ all_taken (map (λ w. w.text) (map name_view switches.now)) (is_found taken.old)) }
+{
+    let mut again = false;
+    for switch in switches {
+        let fresh = taken.insert(&switch.text)?;
+        again = again || !fresh;
+    }
+    Ok(again)
+}
+
+/// Whether a ball device lacks a coil that ejects its balls.
+fn lacks_coil(device: BallDevice<'_>) -> bool
+    ensures { result ≡ lacks_coil (ball_device_view device.entry) }
+{
+    device.eject_coil.is_none() && (!device.mechanical || device.is_trough())
+}
