@@ -5,6 +5,8 @@
 #![tactic(auto)]
 
 #[cfg(test)]
+mod ball_fault_rows;
+#[cfg(test)]
 mod cascade_rows;
 #[cfg(test)]
 mod certificate_rows;

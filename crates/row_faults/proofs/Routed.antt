@@ -1,4 +1,4 @@
--- Where nothing is wrong with the ways of balls, they lead to the playfield, and each ball switch is of one ball device.
+-- Where nothing is wrong with the ways of balls, they lead to the playfield, and each ball switch is of one device.
 use Rattle.std.proofs.Common.{◌≡◌, ◌≢◌, ℕ, suc, ◌≤◌, Bool, true, false, not, ◌&&◌, ◌||◌, List, [], ◌∷◌, ◌++◌, Option, Some, None, is_some, refl, sym, ◌∙◌, true≢false, arith}
 use Rattle.std.specs.Option.{is_none}
 use Rattle.std.specs.List.{All, AllPairs, flat_map}

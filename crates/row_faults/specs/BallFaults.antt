@@ -1,4 +1,5 @@
--- What is wrong with ball devices. Here `machine` is the sections of the machine text, and `text` is the name of the text.
+-- What is wrong with ball devices. Here `machine` is the sections of the machine text, and `text` is the name of the
+-- text.
 use Rattle.std.specs.Prelude.{ℕ, Bool, false, not, ◌||◌, List, [], ◌∷◌, ◌++◌, Option, Some, None, is_some}
 use Rattle.std.specs.List.{flat_map}
 use Rattle.std.specs.Str.{bytes_eq}
@@ -29,8 +30,8 @@ ball_device_faults machine text d =
 
 -- ---- the ways of balls
 
--- Whether something is wrong with the way of balls through a ball device: its balls do not come to the playfield, it has
--- a ball switch that is taken or has one twice, or it lacks a coil.
+-- Whether something is wrong with the way of balls through a ball device: its balls do not come to the playfield, it
+-- has a ball switch that is taken or has one twice, or it lacks a coil.
 abbrev pub is_route_wrong : List BallDevice → (is_taken : List ℕ → Bool) → BallDevice → Bool
 is_route_wrong devices is_taken d = not (leads_to_playfield devices d) || is_one_taken (switch_names d) is_taken || lacks_coil d
 

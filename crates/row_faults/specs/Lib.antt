@@ -6,7 +6,8 @@ pub mod ShotFaults
 pub mod VariableFaults
 pub mod Routes
 pub mod BallFaults
-pub mod Numbers
 pub mod RowFaults
 pub mod Sound
 pub mod View
+-- what contracts of the functions inside this crate see
+pub mod Numbers

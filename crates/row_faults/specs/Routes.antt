@@ -1,5 +1,5 @@
--- Where ball devices send their balls and by what, and which ball switches they have. Here `devices` are the ball devices of the
--- machine text, in plan order.
+-- Where ball devices send their balls and by what, and which ball switches they have. Here `devices` are the ball
+-- devices of the machine text, in plan order.
 use Rattle.std.specs.Prelude.{ℕ, zero, suc, Bool, false, not, ◌&&◌, ◌||◌, List, [], ◌∷◌, length, map, Option, None, Some}
 use Rattle.std.specs.Option.{is_none}
 use Rattle.std.specs.Str.{bytes_eq}
@@ -15,7 +15,8 @@ abbrev pub target_leads : (leads : List ℕ → Bool) → Option BallDevice → 
 target_leads leads None = false
 target_leads leads (Some d) = leads d.target.text
 
--- whether a ball that is ejected to the place of this name comes to the playfield, by way of at most so many ball devices
+-- whether a ball that is ejected to the place of this name comes to the playfield, by way of at most so many ball
+-- devices
 abbrev pub leads_by : List BallDevice → ℕ → List ℕ → Bool
 leads_by devices zero name = bytes_eq name playfield
 leads_by devices (suc n) name = bytes_eq name playfield || target_leads (leads_by devices n) (ball_device_among devices name)
@@ -27,8 +28,8 @@ leads_to_playfield devices d = leads_by devices (length devices) d.target.text
 
 -- ---- eject coils
 
--- whether a ball device lacks a coil that ejects its balls: a trough needs one, and so does a ball device whose balls do
--- not leave by themselves
+-- whether a ball device lacks a coil that ejects its balls: a trough needs one, and so does a ball device whose balls
+-- do not leave by themselves
 abbrev pub lacks_coil : BallDevice → Bool
 lacks_coil d = is_none d.eject_coil && (not d.mechanical || is_trough d)
 

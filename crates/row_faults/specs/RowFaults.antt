@@ -49,8 +49,8 @@ coil_faults_in machine text s =
     ++ flat_map (autofire_faults machine text) (autofires_in s)
 
 -- The faults of a section of a text, as written: its posts of reserved events, those of what it says of variables, of
--- coils, of ball devices and of shots, the shots that its groups may not list, and its timers that start at their end. A
--- section is of one kind, so at most one of these lists has any.
+-- coils, of ball devices and of shots, the shots that its groups may not list, and its timers that start at their end.
+-- A section is of one kind, so at most one of these lists has any.
 abbrev pub section_faults : List (List ℕ) → Rows → (is_own is_taken : List ℕ → Bool) → List ℕ → SectionRows → List RowFaultView
 section_faults modes rows is_own is_taken text s =
     map (name_fault text) (reserved_among modes (posts_in s))

@@ -1,5 +1,6 @@
 -- What holds of rows without faults: nothing that they say of a coil goes past its limits; the coils, switches, shots,
--- profiles and ball devices of which they speak are defined; and each ball switch is of one ball device, once. Here `machine` is the sections of the machine text.
+-- profiles and ball devices of which they speak are defined; the balls of each ball device come to the playfield; and
+-- each ball switch is of one ball device, once. Here `machine` is the sections of the machine text.
 use Rattle.std.specs.Prelude.{◌≡◌, ◌≢◌, ℕ, ◌≤◌, true, false, ◌||◌, Some, IfSome, IsSome, is_some, List, unwrap_or}
 use Rattle.std.specs.List.{All, AllPairs, flat_map}
 use Rattle.mpf_sections.specs.declared.words.CoilAction.{CoilAction}
@@ -93,8 +94,8 @@ pub record IsSectionSound (rows : Rows) (s : SectionRows) : Type 0 where
 
 -- ---- the ways of balls
 
--- The balls that a ball device ejects come to the playfield. It has a coil that ejects them, or they leave by themselves;
--- a trough has a coil.
+-- The balls that a ball device ejects come to the playfield. It has a coil that ejects them, or they leave by
+-- themselves; a trough has a coil.
 pub record IsRouted (devices : List BallDevice) (d : BallDevice) : Type 0 where
   pub leads : leads_to_playfield devices d ≡ true
   pub ejects : (is_some d.eject_coil || d.mechanical) ≡ true

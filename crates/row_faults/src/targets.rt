@@ -1,7 +1,7 @@
 //! Where ball devices send their balls.
 //!
-//! Here a ball device goes by its place among them. The number after the last place is that of the
-//! playfield, and the one after that stands for names that no entry defines.
+//! Here a ball device goes by its place among them, from 0. The number after the last place is that
+//! of the playfield, and one more stands for names that no entry defines.
 
 ghost use Rattle.std.specs.Prelude.{◌≡◌, ◌<◌, ◌==◌, length, map, get_or, IfOk};
 ghost use Rattle.row_faults.specs.Routes.{leads_to_playfield};
@@ -16,8 +16,8 @@ use std::collections::BTreeMap;
 /// The places of ball devices, by their names.
 type Numbers<'a> = BTreeMap<&'a [u8], usize>;
 
-/// Whether the balls that each of these ball devices ejects come to the playfield. This takes time
-/// in proportion to their number, but for its logarithm.
+/// Whether the balls that each of these ball devices ejects come to the playfield. The time grows
+/// with their number times its logarithm.
 pub(crate) fn leads_of(alloc: Global, devices: &[BallDevice<'_>]) -> Result<Vec<bool>, AllocError>
     ensures { IfOk result (λ leads. leads.items ≡ map (leads_to_playfield (devices_view devices.now)) (devices_view devices.now)) }
 {
@@ -83,8 +83,8 @@ fn ends_of(alloc: Global, targets: &[usize], times: usize) -> Result<Vec<usize>,
     }
 }
 
-/// Where balls come to that go to each of the first numbers, and on from there by the others. From
-/// the playfield, and from where no entry is, they go nowhere else.
+/// Where balls come to that go to each of the first numbers, and on from there by the others. A
+/// number beyond these, such as that of the playfield, leads nowhere else.
 fn one_after_other(alloc: Global, first: &[usize], then: &[usize]) -> Result<Vec<usize>, AllocError>
     ensures { IfOk result (λ ends. ends.items ≡ map (λ n. get_or then.now n n) first.now) }
 {
