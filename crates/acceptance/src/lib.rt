@@ -7,6 +7,10 @@
 #[cfg(test)]
 mod ball_fault_rows;
 #[cfg(test)]
+mod ball_games;
+#[cfg(test)]
+mod ball_rows;
+#[cfg(test)]
 mod cascade_rows;
 #[cfg(test)]
 mod certificate_rows;

@@ -16,6 +16,7 @@
 //! commands a board took that may fault.
 
 use crate::ends::{Sink, Source, Wires};
+use ball_devices::BallDevice;
 use coil_guard::{Board, FuseBoard, MemoryBoard};
 use coil_rules::{Autofire, Flipper};
 use config_checker::Checked;
@@ -37,6 +38,17 @@ pub(crate) fn assert_rows<R: Abort + AllocGlobal>(rt: &R, table: &str) -> Result
         assert_eq!(rt; found.as_str(), wanted, "{title}");
     }
     Ok(())
+}
+
+/// The answer to the play of a log on a bundle, and what is printed.
+pub(crate) fn played(alloc: Global, bundle: &str, log: &str) -> Result<String, Fail> {
+    let ends = Ends {
+        bundle: Source::of(bundle),
+        other: Source::of(log),
+        wires: Wires::of(alloc, "")?,
+        sink: Sink::of(alloc, ""),
+    };
+    Ok(shown(alloc, "play", ends)?)
 }
 
 /// The title of a row, what is given, and the answer with what is printed.
@@ -163,6 +175,8 @@ fn play_log(
             devices.push(Box::new(alloc, flipper)?)?;
         } else if let Some(autofire) = Autofire::new(row) {
             devices.push(Box::new(alloc, autofire)?)?;
+        } else if let Some(device) = BallDevice::new(row) {
+            devices.push(Box::new(alloc, device)?)?;
         }
     }
     play_on_board(alloc, checked, devices, log, wires, writer)

@@ -22,7 +22,7 @@ use Rattle.ball_devices.proofs.Ledgers.{Says, origin-says, new-is, call-is, call
 -- ---- one number more, and one less
 
 -- 1 where this holds
-abbrev one : Bool → ℕ
+abbrev pub one : Bool → ℕ
 one b = cond b 1 0
 
 one-same : (i j : ℕ) → i ≡ j → one (i == j) ≡ 1
@@ -67,14 +67,14 @@ read-less xs i j within some =
 -- ---- one booking more
 
 -- what a booking says of a call that leads from one ledger to another
-record Tells (b : Booking) (old new : Ledger) : Type 0 where
-  rows : length new.counted ≡ length old.counted
-  known : new.known ≡ old.known + one (is_new_entry b)
-  counted : (d : RowId) → d.0 < length old.counted
+pub record Tells (b : Booking) (old new : Ledger) : Type 0 where
+  pub rows : length new.counted ≡ length old.counted
+  pub known : new.known ≡ old.known + one (is_new_entry b)
+  pub counted : (d : RowId) → d.0 < length old.counted
       → counted_in new d + one (is_exit_from d b) ≡ counted_in old d + one (is_entry_into d b)
-  transit : (target : BallTarget) → IsTargetThere (length old.counted) target
+  pub transit : (target : BallTarget) → IsTargetThere (length old.counted) target
       → transit_to new target + one (is_end_for target b) ≡ transit_to old target + one (is_start_for target b)
-  playfield : new.playfield + one (is_found_entry b) ≡ old.playfield + one (is_loose b)
+  pub playfield : new.playfield + one (is_found_entry b) ≡ old.playfield + one (is_loose b)
 
 count-more : (p : Booking → Bool) (bs : List Booking) (b : Booking) → count_by p (bs ++ b ∷ []) ≡ count_by p bs + one (p b)
 count-more p bs b = sum_by_push (λ x. cond (p x) 1 0) bs b
@@ -220,7 +220,7 @@ module _ (l : Ledger) (rows : length l.to_devices ≡ length l.counted) where
       on_way Playfield = refl
       on_way (Device e) = omega (arith, read-less l.to_devices e.0 to.0 (omega (arith, there)) some)
 
-  call-told : (c : LedgerCall) → MayBook c l → Tells (booked c l) l (after_call c l)
+  pub call-told : (c : LedgerCall) → MayBook c l → Tells (booked c l) l (after_call c l)
   call-told (Enter d) may = entered-told d may.0 (origin_of d l) (origin-says d l)
   call-told (Leave d to) may = left-told d may.0 may.2 to may.1
   call-told (Lose d) may = lost-told d may.0 may.1

@@ -1,6 +1,7 @@
 //! The program `pinball`: words, files and the exit status. All else is in the libraries.
 #![tactic(auto)]
 
+use ball_devices::BallDevice;
 use coil_guard::MemoryBoard;
 use coil_rules::{Autofire, Flipper};
 use command_line::{Ask, AskFault, command};
@@ -143,6 +144,8 @@ fn play_log<L: Read, W: Write>(
             devices.push(Box::new(alloc, flipper)?)?;
         } else if let Some(autofire) = Autofire::new(row) {
             devices.push(Box::new(alloc, autofire)?)?;
+        } else if let Some(device) = BallDevice::new(row) {
+            devices.push(Box::new(alloc, device)?)?;
         }
     }
     let board = MemoryBoard::new(alloc)?;

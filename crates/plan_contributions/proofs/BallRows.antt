@@ -1,7 +1,7 @@
 -- What the contributions of every configuration say of balls: the rows of ball devices are as they are to be, they alone
 -- have to do with balls, and no event acts on them.
-use Rattle.std.proofs.Common.{◌≡◌, ℕ, zero, suc, ◌+◌, ◌<◌, ◌≤◌, ◌==◌, ◌||◌, Bool, true, false, if◌then◌else◌, List, [], ◌∷◌, ◌++◌, length, map, min, get_or, true≢false, refl, sym, ◌∙◌, ap, subst, arith, codes}
-use Rattle.std.specs.Prelude.{Option, None, Some, option_map, IfSome, slice_get, ◌&&◌, ◌≢◌}
+use Rattle.std.proofs.Common.{◌≡◌, ℕ, suc, ◌+◌, ◌<◌, ◌≤◌, ◌==◌, Bool, true, false, if◌then◌else◌, List, [], ◌∷◌, ◌++◌, length, map, get_or, true≢false, refl, sym, ◌∙◌, ap, subst, arith, codes}
+use Rattle.std.specs.Prelude.{Option, None, Some, option_map, IfSome, slice_get, ◌≢◌}
 use Rattle.std.specs.Str.{bytes_eq}
 use Rattle.std.specs.List.{All, AllPairs, flat_map, list_any}
 use Rattle.std.proofs.lemmas.Bool.{or_left}
@@ -31,10 +31,10 @@ use Rattle.plan_rows.specs.Rows.{alone, rows_from, rows_in, modes_rows, rows_of}
 use Rattle.plan_contributions.specs.declared.contribution.Aim.{Aim}
 use Rattle.plan_contributions.specs.declared.contribution.Aim.TheVariants.{Run, Start, Stop, Do, On}
 use Rattle.plan_contributions.specs.CoilEntries.{defaults_called, own_pulse}
-use Rattle.plan_contributions.specs.DeviceEntries.{texts, Effect, posts, works, changes, enters, leaves, loses, arrives}
-use Rattle.plan_contributions.specs.BallEntries.{is_entry, is_game, has_game, drains, ball_event, eject_pulse, attempt_effects, ball_lists, target_of, ball_settings, ball_device_from}
+use Rattle.plan_contributions.specs.DeviceEntries.{texts, Effect, posts, works, enters, leaves, loses, arrives}
+use Rattle.plan_contributions.specs.BallEntries.{is_entry, is_game, has_game, drains, ball_event, eject_pulse, ball_lists, target_of, ball_settings, ball_device_from}
 use Rattle.plan_contributions.specs.Contributions.{Contribution, binds, does, device, does_in, listens, mentions, under, Device, act_binding, effects_from, listens_from, device_contributions, game_contributions, alone_contributions, row_contributions, given_by, contributions_of}
-use Rattle.plan_contributions.specs.BallFacts.{BooksNothing, IsNoBallDevice, IsSwitchOf, AreBallLists, IsRightRow, LastRow, first_row, last_after, IsRight, IsFitting, AreFitting, row_settings, settings_given, IsTargetAmong, HasTarget, IsOffBalls, is_plays, DrainsIn, DrainsInGame, AllDrainInGame, heard_after, AreHeardOnce}
+use Rattle.plan_contributions.specs.BallFacts.{BooksNothing, IsNoBallDevice, IsSwitchOf, IsRightRow, LastRow, last_after, IsRight, IsFitting, AreFitting, row_settings, IsTargetAmong, HasTarget, IsOffBalls, is_plays, DrainsIn, DrainsInGame, AllDrainInGame, AreHeardOnce}
 use Rattle.plan_contributions.specs.Doing.{IsBallDeviceDoing, IsMachineDoing, AreDoing}
 use Rattle.plan_contributions.proofs.Before.{each_before, all_before, under_before, All-bound, each_some}
 use Rattle.plan_contributions.proofs.RowFacts.{All-each, All-made, All-listens, All-lists, one, attempts, seven}
@@ -79,18 +79,24 @@ module _ (place : Place) (settings : Settings) (off : IsNoBallDevice settings) w
       by (kinds.BallDevice d) is = absurd is
       by _ is = each
 
-  fitting-effects : (k heard : ℕ) (lists : List (List Effect)) (done : ℕ → List Effect) → ((j : ℕ) → All BooksNothing (done j)) → All (All BooksNothing) lists → AreFitting (at place settings heard done) (effects_from k lists)
-  fitting-effects k heard [] done each h = right_plain done each
-  fitting-effects k heard (es ∷ rest) done each h = in_list es done each (All-head (All BooksNothing) es rest h)
-    where
-      more : (done : ℕ → List Effect) (e : Effect) (j : ℕ) → All BooksNothing (done j) → BooksNothing e → (b : Bool) → All BooksNothing (if b then done j ++ e ∷ [] else done j)
-      more done e j before is true = All-append BooksNothing (done j) (e ∷ []) before (All-cons BooksNothing e [] is (All-nil BooksNothing))
-      more done e j before is false = before
+  more : (done : ℕ → List Effect) (e : Effect) (j : ℕ) → All BooksNothing (done j) → BooksNothing e → (b : Bool) → All BooksNothing (if b then done j ++ e ∷ [] else done j)
+  more done e j before is true = All-append BooksNothing (done j) (e ∷ []) before (All-cons BooksNothing e [] is (All-nil BooksNothing))
+  more done e j before is false = before
 
-      in_list : (es : List Effect) (done : ℕ → List Effect) → ((j : ℕ) → All BooksNothing (done j)) → All BooksNothing es → AreFitting (at place settings heard done) (map (does_in k) es ++ effects_from (suc k) rest)
-      in_list [] done each own = fitting-effects (suc k) heard rest done each (All-tail (All BooksNothing) es rest h)
-      in_list (e ∷ es) done each own =
-          (tt, in_list es (λ j. if j == k then done j ++ e ∷ [] else done j) (λ j. more done e j (each j) (All-head BooksNothing e es own) (j == k)) (All-tail BooksNothing e es own))
+  -- lists that have nothing to do with balls
+  abbrev AreIdle : (ℕ → List Effect) → Type 0
+  AreIdle done = (j : ℕ) → All BooksNothing (done j)
+
+  fitting-list : (k heard : ℕ) (rest : List Contribution) → ((done : ℕ → List Effect) → AreIdle done → AreFitting (at place settings heard done) rest)
+      → (es : List Effect) (done : ℕ → List Effect) → AreIdle done → All BooksNothing es → AreFitting (at place settings heard done) (map (does_in k) es ++ rest)
+  fitting-list k heard rest then_ [] done idle own = then_ done idle
+  fitting-list k heard rest then_ (e ∷ es) done idle own =
+      (tt, fitting-list k heard rest then_ es (λ j. if j == k then done j ++ e ∷ [] else done j) (λ j. more done e j (idle j) (All-head BooksNothing e es own) (j == k)) (All-tail BooksNothing e es own))
+
+  fitting-effects : (k heard : ℕ) (lists : List (List Effect)) (done : ℕ → List Effect) → AreIdle done → All (All BooksNothing) lists → AreFitting (at place settings heard done) (effects_from k lists)
+  fitting-effects k heard [] done idle h = right_plain done idle
+  fitting-effects k heard (es ∷ rest) done idle h =
+      fitting-list k heard (effects_from (suc k) rest) (λ f own. fitting-effects (suc k) heard rest f own (All-tail (All BooksNothing) es rest h)) es done idle (All-head (All BooksNothing) es rest h)
 
 fitting_device : (place : Place) (d : Device) → IsPlainDevice d → (o : Option LastRow) → IsRight o → AreFitting o (device_contributions place d)
 unfolding device_contributions
@@ -132,8 +138,8 @@ fitting_ball_device machine d to o right =
     nothing : (n : List ℕ) → All BooksNothing (posts n ∷ [])
     nothing n = All-cons BooksNothing (posts n) [] tt (All-nil BooksNothing)
 
-    lists : (heard : ℕ) (coil : Option Written)
-        → AreFitting (at Machine (ball_settings d to) heard (λ k. [])) (effects_from 0 ((enters enter (drains machine d) ∷ []) ∷ (posts attempted ∷ posts ejecting ∷ eject_pulse machine coil) ∷ (leaves ∷ []) ∷ (loses ∷ []) ∷ (posts success ∷ []) ∷ (arrives ∷ []) ∷ (posts failure ∷ []) ∷ []))
+    lists : (heard : ℕ) (o : Option Written)
+        → AreFitting (at Machine (ball_settings d to) heard (λ k. [])) (effects_from 0 ((enters enter (drains machine d) ∷ []) ∷ (posts attempted ∷ posts ejecting ∷ eject_pulse machine o) ∷ (leaves ∷ []) ∷ (loses ∷ []) ∷ (posts success ∷ []) ∷ (arrives ∷ []) ∷ (posts failure ∷ []) ∷ []))
     lists heard None = (
       tt,
       (
@@ -294,54 +300,69 @@ kinds_are rows = sym (rows_tell row_given silent rows.machine (rows_of rows)) �
         first (device place settings) rest = ap (λ l. is_ball settings ∷ l) rest
         first _ rest = rest
 
--- where a ball device ejects its balls to is a row, or the playfield
-pub targets_are_rows : (rows : Rows) → All (HasTarget (row_settings (contributions_of rows))) (contributions_of rows)
-targets_are_rows rows =
-    each_kept rows (HasTarget (row_settings (contributions_of rows))) plain
-    (λ place d is. device_each (HasTarget (row_settings (contributions_of rows))) (λ e. Unit {0}) place d (no_target d.settings is.settings) (λ k n. tt) (acting_any (HasTarget (row_settings (contributions_of rows))) (λ e p act. tt) (λ c. tt) place) (λ n. tt) (λ k e m. tt) (any_lists d.lists))
-    (λ d to is. device_each (HasTarget (row_settings (contributions_of rows))) (λ e. Unit {0}) Machine (ball_device_from rows.machine d to) (target to is) (λ k n. tt) (acting_any (HasTarget (row_settings (contributions_of rows))) (λ e p act. tt) (λ c. tt) Machine) (λ n. tt) (λ k e m. tt) (any_lists (ball_lists rows.machine d)))
-  where
-    plain : (c : Contribution) → IsPlain (row_kinds rows) c → HasTarget (row_settings (contributions_of rows)) c
-    plain (device place s) is = absurd is
-    plain _ is = tt
+module _ (rows : Rows) where
+  abbrev all_settings : List Settings
+  all_settings = row_settings (contributions_of rows)
 
-    no_target : (s : Settings) → IsNoBallDevice s → IsTargetAmong (row_settings (contributions_of rows)) s
-    no_target (kinds.BallDevice d) is = absurd is
-    no_target _ is = tt
+  -- ---- targets
 
-    target : (to : Destination) → IsBallRow (row_kinds rows) to → IsTargetThere (length (row_settings (contributions_of rows))) (target_of to)
-    target destinations.Playfield is = tt
-    target (destinations.Device r) is =
-        let within : r < length (row_kinds rows) = slice_get_within (row_kinds rows) r true is in
-        let same : length (row_kinds rows) ≡ length (row_settings (contributions_of rows)) = ap (λ (l : List Bool). length l) (kinds_are rows) ∙ length-map (row_settings (contributions_of rows)) is_ball in
-        omega (arith, within, same)
-    target destinations.Unknown is = tt
+  abbrev Q : Contribution → Type 0
+  Q c = HasTarget all_settings c
 
--- what acts on a row by its number acts on no ball device
-pub acts_are_off_balls : (rows : Rows) → All (IsOffBalls (row_settings (contributions_of rows))) (contributions_of rows)
-acts_are_off_balls rows =
-    each_kept rows (IsOffBalls (row_settings (contributions_of rows))) plain
-    (λ place d is. device_each (IsOffBalls (row_settings (contributions_of rows))) (λ e. Unit {0}) place d tt (λ k n. tt) (acting_any (IsOffBalls (row_settings (contributions_of rows))) (λ e p act. tt) (λ c. tt) place) (λ n. tt) (λ k e m. tt) (any_lists d.lists))
-    (λ d to is. device_each (IsOffBalls (row_settings (contributions_of rows))) (λ e. Unit {0}) Machine (ball_device_from rows.machine d to) tt (λ k n. tt) (acting_any (IsOffBalls (row_settings (contributions_of rows))) (λ e p act. tt) (λ c. tt) Machine) (λ n. tt) (λ k e m. tt) (any_lists (ball_lists rows.machine d)))
-  where
-    no_ball : (s : Settings) → is_ball s ≡ false → IsNoBallDevice s
-    no_ball (kinds.BallDevice d) is = absurd (true≢false is)
-    no_ball _ is = tt
+  no_target : (s : Settings) → IsNoBallDevice s → IsTargetAmong all_settings s
+  no_target (kinds.BallDevice d) is = absurd is
+  no_target _ is = tt
 
-    off : (o : Option Settings) → option_map is_ball o ≡ Some false → IfSome o IsNoBallDevice
-    off None is = tt
-    off (Some s) is = no_ball s (same_Some (is_ball s) false is)
+  target : (to : Destination) → IsBallRow (row_kinds rows) to → IsTargetThere (length all_settings) (target_of to)
+  target destinations.Playfield is = tt
+  target (destinations.Device r) is =
+      let within : r < length (row_kinds rows) = slice_get_within (row_kinds rows) r true is in
+      let same : length (row_kinds rows) ≡ length all_settings = ap (λ (l : List Bool). length l) (kinds_are rows) ∙ length-map all_settings is_ball in
+      omega (arith, within, same)
+  target destinations.Unknown is = tt
 
-    aimed : (e : List ℕ) (place : Place) (aim : Aim) → IsPlainAim (row_kinds rows) aim → IsOffBalls (row_settings (contributions_of rows)) (binds e place aim)
-    aimed e place (On r act) is = off (slice_get (row_settings (contributions_of rows)) r) (sym (slice_get-map is_ball (row_settings (contributions_of rows)) r) ∙ ap (λ l. slice_get l r) (sym (kinds_are rows)) ∙ is)
-    aimed e place Run is = tt
-    aimed e place Start is = tt
-    aimed e place Stop is = tt
-    aimed e place (Do act) is = tt
+  plain_target : (c : Contribution) → IsPlain (row_kinds rows) c → Q c
+  plain_target (device place s) is = absurd is
+  plain_target _ is = tt
 
-    plain : (c : Contribution) → IsPlain (row_kinds rows) c → IsOffBalls (row_settings (contributions_of rows)) c
-    plain (binds e place aim) is = aimed e place aim is
-    plain _ is = tt
+  of_device : (place : Place) (d : Device) → IsTargetAmong all_settings d.settings → All Q (device_contributions place d)
+  of_device place d is = device_each Q (λ e. Unit {0}) place d is (λ k n. tt) (acting_any Q (λ e p act. tt) (λ c. tt) place) (λ n. tt) (λ k e m. tt) (any_lists d.lists)
+
+  -- where a ball device ejects its balls to is a row, or the playfield
+  pub targets_are_rows : All (HasTarget all_settings) (contributions_of rows)
+  targets_are_rows =
+      each_kept rows Q plain_target (λ place d is. of_device place d (no_target d.settings is.settings)) (λ d to is. of_device Machine (ball_device_from rows.machine d to) (target to is))
+
+  -- ---- acts
+
+  abbrev W : Contribution → Type 0
+  W c = IsOffBalls all_settings c
+
+  no_ball : (s : Settings) → is_ball s ≡ false → IsNoBallDevice s
+  no_ball (kinds.BallDevice d) is = absurd (true≢false is)
+  no_ball _ is = tt
+
+  off : (o : Option Settings) → option_map is_ball o ≡ Some false → IfSome o IsNoBallDevice
+  off None is = tt
+  off (Some s) is = no_ball s (same_Some (is_ball s) false is)
+
+  aimed_off : (e : List ℕ) (place : Place) (aim : Aim) → IsPlainAim (row_kinds rows) aim → W (binds e place aim)
+  aimed_off e place (On r act) is = off (slice_get all_settings r) (sym (slice_get-map is_ball all_settings r) ∙ ap (λ l. slice_get l r) (sym (kinds_are rows)) ∙ is)
+  aimed_off e place Run is = tt
+  aimed_off e place Start is = tt
+  aimed_off e place Stop is = tt
+  aimed_off e place (Do act) is = tt
+
+  plain_off : (c : Contribution) → IsPlain (row_kinds rows) c → W c
+  plain_off (binds e place aim) is = aimed_off e place aim is
+  plain_off _ is = tt
+
+  off_device : (place : Place) (d : Device) → All W (device_contributions place d)
+  off_device place d = device_each W (λ e. Unit {0}) place d tt (λ k n. tt) (acting_any W (λ e p act. tt) (λ c. tt) place) (λ n. tt) (λ k e m. tt) (any_lists d.lists)
+
+  -- what acts on a row by its number acts on no ball device
+  pub acts_are_off_balls : All (IsOffBalls all_settings) (contributions_of rows)
+  acts_are_off_balls = each_kept rows W plain_off (λ place d is. off_device place d) (λ d to is. off_device Machine (ball_device_from rows.machine d to))
 
 -- ---- the game
 
@@ -383,29 +404,39 @@ module _ (rows : Rows) where
       ∙ list_any-append is_plays (given_by rows.machine first) (given_by rows.machine rest)
       ∙ or_left (plays_in (given_by rows.machine first)) (plays_in (given_by rows.machine rest)) (in_sections seat to rows.machine is)
 
--- a ball may have drained only where there is a game
-pub drains_are_in_games : (rows : Rows) → AllDrainInGame (contributions_of rows)
-drains_are_in_games rows =
-    each_kept rows (DrainsInGame (list_any is_plays (contributions_of rows))) plain
-    (λ place d is. device_each (DrainsInGame (list_any is_plays (contributions_of rows))) (DrainsIn (list_any is_plays (contributions_of rows))) place d tt (λ k n. tt) (acting_any (DrainsInGame (list_any is_plays (contributions_of rows))) (λ e p act. tt) (λ c. tt) place) (λ n. tt) (λ k e m. m) (λ i l within j e inside. nothing _ (is.lists i l within j e inside)))
-    (λ d to is. device_each (DrainsInGame (list_any is_plays (contributions_of rows))) (DrainsIn (list_any is_plays (contributions_of rows))) Machine (ball_device_from rows.machine d to) tt (λ k n. tt) (acting_any (DrainsInGame (list_any is_plays (contributions_of rows))) (λ e p act. tt) (λ c. tt) Machine) (λ n. tt) (λ k e m. m)
-    (seven (All (DrainsIn (list_any is_plays (contributions_of rows)))) _ _ _ _ _ _ _ (one (DrainsIn (list_any is_plays (contributions_of rows))) _ (drained d)) (attempts (DrainsIn (list_any is_plays (contributions_of rows))) tt tt d.eject_coil (any d.eject_coil)) (one (DrainsIn (list_any is_plays (contributions_of rows))) leaves tt) (one (DrainsIn (list_any is_plays (contributions_of rows))) loses tt)
-    (one (DrainsIn (list_any is_plays (contributions_of rows))) _ tt) (one (DrainsIn (list_any is_plays (contributions_of rows))) arrives tt) (one (DrainsIn (list_any is_plays (contributions_of rows))) _ tt)))
-  where
-    plain : (c : Contribution) → IsPlain (row_kinds rows) c → DrainsInGame (list_any is_plays (contributions_of rows)) c
-    plain (does_in k e) is = absurd is
-    plain _ is = tt
+  abbrev is_on : Bool
+  is_on = list_any is_plays (contributions_of rows)
 
-    nothing : (e : Effect) → BooksNothing e → DrainsIn (list_any is_plays (contributions_of rows)) e
-    nothing (enters e drain) is = absurd is
-    nothing _ is = tt
+  abbrev V : Contribution → Type 0
+  V c = DrainsInGame is_on c
 
-    drained : (d : BallDevice) → drains rows.machine d ≡ true → list_any is_plays (contributions_of rows) ≡ true
-    drained d is = game_is_given rows (both (is_drain d) (has_game rows.machine) is).1
+  plain_drain : (c : Contribution) → IsPlain (row_kinds rows) c → V c
+  plain_drain (does_in k e) is = absurd is
+  plain_drain _ is = tt
 
-    any : (o : Option Written) → IfSome o (λ w. Unit {0})
-    any None = tt
-    any (Some w) = tt
+  no_drain : (e : Effect) → BooksNothing e → DrainsIn is_on e
+  no_drain (enters e drain) is = absurd is
+  no_drain _ is = tt
+
+  ball_drains : (d : BallDevice) → All (All (DrainsIn is_on)) (ball_lists rows.machine d)
+  ball_drains d =
+      let D : Effect → Type 0 = DrainsIn is_on in
+      seven (All D) _ _ _ _ _ _ _ (one D _ (λ is. game_is_given (both (is_drain d) (has_game rows.machine) is).1)) (attempts rows.machine d.name.text D tt tt d.eject_coil (any d.eject_coil)) (one D leaves tt) (one D loses tt)
+      (one D _ tt) (one D arrives tt) (one D _ tt)
+    where
+      any : (o : Option Written) → IfSome o (λ w. Unit {0})
+      any None = tt
+      any (Some w) = tt
+
+  drain_device : (place : Place) (d : Device) → All (All (DrainsIn is_on)) d.lists → All V (device_contributions place d)
+  drain_device place d h = device_each V (DrainsIn is_on) place d tt (λ k n. tt) (acting_any V (λ e p act. tt) (λ c. tt) place) (λ n. tt) (λ k e m. m) h
+
+  -- a ball may have drained only where there is a game
+  pub drains_are_in_games : AllDrainInGame (contributions_of rows)
+  drains_are_in_games =
+      each_kept rows V plain_drain
+      (λ place d is. drain_device place d (All-weaker (All BooksNothing) (All (DrainsIn is_on)) (λ es k. All-weaker BooksNothing (DrainsIn is_on) no_drain es k) d.lists is.lists))
+      (λ d to is. drain_device Machine (ball_device_from rows.machine d to) (ball_drains d))
 
 -- ---- each switch once
 

@@ -17,9 +17,11 @@ use Rattle.plan_contributions.specs.declared.contribution.Contribution as contri
 use Rattle.plan_contributions.specs.declared.contribution.Contribution.TheVariants as contribution
 use Rattle.plan_contributions.specs.declared.contribution.Parts.{Parts}
 use Rattle.plan_rows.specs.declared.place.Place.{Place}
-use Rattle.plan_contributions.specs.DeviceEntries.{device_of, step_settings, step_device, timer_device, acts, step_acts, controlled, Effect, posts}
+use Rattle.section_tables.specs.declared.rows.Name.{Name}
+use Rattle.mpf_sections.specs.View.{name_view}
+use Rattle.plan_contributions.specs.DeviceEntries.{texts, device_of, step_settings, step_device, timer_device, acts, step_acts, controlled, Effect, posts}
 use Rattle.plan_contributions.specs.declared.contribution.Effect.TheVariants as effect
-use Rattle.plan_contributions.specs.Contributions.{Contribution, device, does_in, mentions, Device, act_binding, effects_from, listens_from, device_contributions}
+use Rattle.plan_contributions.specs.Contributions.{Contribution, device, does_in, listens, mentions, Device, act_binding, effects_from, listens_from, device_contributions}
 use Rattle.plan_contributions.specs.View.{parts_text, contribution_view, contributions_view}
 
 -- what is made of some things, and then of others
@@ -74,6 +76,17 @@ steps_next f view steps i d within =
     ap (λ k. flat_map f here ++ flat_map f (step_acts k later)) next
     ∙ sym (flat_map-append f here (step_acts (suc i) later))
     ∙ ap (λ l. flat_map f (step_acts i (map view l))) (sym (drop_more steps i d within))
+
+-- one ball switch, and then the others
+pub listens_next : (now : List Contribution) (switches : List Name) (i : ℕ) (d : Name) → i < length switches
+    → (now ++ listens i (name_view (get_or switches i d)).text ∷ []) ++ listens_from (i + 1) (texts (map name_view (drop (i + 1) switches))) ≡ now ++ listens_from i (texts (map name_view (drop i switches)))
+listens_next now switches i d within =
+    let here = listens i (name_view (get_or switches i d)).text in
+    let later = texts (map name_view (drop (i + 1) switches)) in
+    let next : i + 1 ≡ suc i = omega arith in
+    append_assoc now (here ∷ []) (listens_from (i + 1) later)
+    ∙ ap (λ k. now ++ here ∷ listens_from k later) next
+    ∙ ap (λ l. now ++ listens_from i (texts (map name_view l))) (sym (drop_more switches i d within))
 
 -- one control, and then the others
 pub control_next : (f : Event × Act → List Contribution) (o : Option Control) (cs : List Control) → flat_map f (map controlled (with_control o [])) ++ flat_map f (map controlled cs) ≡ flat_map f (map controlled (with_control o cs))

@@ -12,7 +12,7 @@ use Rattle.mpf_sections.specs.Rows.{Written, Entry, Player, Switch, EventPlayer,
 use Rattle.mpf_sections.specs.Rows as sections
 use Rattle.mpf_sections.specs.Typed.{switches_name, event_player_name, counters_name, accruals_name, sequences_name, timers_name, switch_of, event_player_of, counter_of, step_block_of, timer_of, mode_settings}
 use Rattle.mpf_sections.specs.TypedCoils.{coils_name, coil_player_name, flippers_name, autofire_coils_name, coil_of, coil_player_of, flipper_of, autofire_of}
-use Rattle.mpf_sections.specs.TypedShots.{shot_of, shot_group_of}
+use Rattle.mpf_sections.specs.TypedShots.{shot_of}
 use Rattle.mpf_sections.specs.TypedBalls.{ball_devices_name, playfield, ball_device_of, ball_devices_in}
 use Rattle.mpf_sections.specs.TypedGame.{variable_player_name, game_name, variable_player_of, game_of, min_balls_of}
 use Rattle.mpf_config.specs.Rows.{ModeRows, Rows}
@@ -35,7 +35,7 @@ use Rattle.plan_contributions.specs.declared.contribution.Aim.{Aim}
 use Rattle.plan_contributions.specs.declared.contribution.Aim.TheVariants.{Run, Start, Stop, Do, On}
 use Rattle.plan_contributions.specs.VariableEntries.{item_change}
 use Rattle.plan_contributions.specs.CoilEntries.{limits_of_coil, defaults_called, own_pulse, item_effect, flipper_on, flipper_off, flipper_device, autofire_device}
-use Rattle.plan_contributions.specs.DeviceEntries.{Effect, posts, works, texts, events, device_of, step_settings, step_device, counter_device, timer_event, timer_endings, timer_device, always}
+use Rattle.plan_contributions.specs.DeviceEntries.{posts, works, texts, events, device_of, step_settings, step_device, counter_device, timer_event, timer_endings, timer_device, always}
 use Rattle.plan_contributions.specs.ShotEntries.{shot_acts, lone_device, group_device}
 use Rattle.plan_contributions.specs.BallEntries.{is_known, ball_device_from}
 use Rattle.plan_contributions.specs.Contributions.{Contribution, gives, reads, active, inactive, mode, mode_event, binds, does, device, does_in, listens, mentions, unknown, coil, under, plays, under_where, bound, kind_of, confirms, active_posts, inactive_posts, switch_contributions, player_contributions, coil_contributions, coil_player_contributions, item_contributions, variable_player_contributions, game_contributions, starter, stopper, stopper_where, later_events, controls, mode_contributions, Device, device_contributions, where_device, machine_device, unknown_unless, shot_switch, act_at, seated, shot_contributions, group_contributions, ball_device_contributions, machine_entry_contributions, entry_contributions, alone_contributions, player_entry_contributions, row_contributions, given_by, contributions_of}
@@ -425,8 +425,11 @@ module _ (rows : Rows) where
         flat_map-append (told row_given silent rows.machine) (text_rows rows Machine 0 rows.machine) (modes_rows rows after rows.modes) ∙ ap (λ l. l ++ later) (rows_told_are Machine 0 rows.machine rows) in
         All-append R (text_rows rows Machine 0 rows.machine) (modes_rows rows after rows.modes)
         (text_is Machine 0 rows.machine [] later refl split (λ name is. ball_row split name) (λ i d within is. h i d within))
-        (modes_are after rows.modes own (rows_counted Machine 0 rows.machine) split)
+        (modes_are after rows.modes own (counted own after (rows_counted Machine 0 rows.machine)) split)
       where
+        counted : (own : List Bool) (after : ℕ) → 0 + length own ≡ after → length own ≡ after
+        counted own after same = omega (arith, same)
+
         ball_row : row_kinds ≡ rows_of_text Machine rows.machine ++ rows_told rows.machine (modes_rows rows (rows_after_text Machine 0 rows.machine) rows.modes) → (name : List ℕ) → IsBallRow row_kinds (destination_of Machine 0 rows.machine name)
         ball_row split name = by (bytes_eq name playfield) (ball_row_of Machine 0 rows.machine name) (ball_row_at 0 rows.machine name)
           where

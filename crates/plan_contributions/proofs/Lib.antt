@@ -1,6 +1,7 @@
 pub mod Before
 pub mod DeviceParts
 pub mod ShotParts
+pub mod BallParts
 pub mod Placed
 pub mod Short
 pub mod Opened

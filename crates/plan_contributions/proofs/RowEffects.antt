@@ -1,6 +1,6 @@
 -- What holds of each effect of the rows, of each event that their switches post, and of each switch to which their devices
 -- listen, holds of those of their contributions.
-use Rattle.std.proofs.Common.{◌≡◌, ℕ, Bool, true, false, if◌then◌else◌, List, [], ◌∷◌, ◌++◌, map, get_or, zero, suc, sym, true≢false, arith, codes}
+use Rattle.std.proofs.Common.{◌≡◌, ℕ, Bool, true, false, if◌then◌else◌, List, [], ◌∷◌, ◌++◌, map, get_or, zero, suc, refl, sym, true≢false, arith, codes}
 use Rattle.std.specs.Prelude.{Option, None, Some, IfSome, is_some}
 use Rattle.std.specs.Str.{bytes_eq}
 use Rattle.std.specs.List.{All, flat_map}

@@ -41,7 +41,7 @@ use Rattle.machine_definitions.specs.Shots.{Profile}
 use Rattle.plan_contributions.specs.VariableEntries.{item_change}
 use Rattle.plan_contributions.specs.CoilEntries.{limits_of_coil, defaults_called, own_pulse, own_hold, item_effect, flipper_on, flipper_off, flipper_device, autofire_device}
 use Rattle.plan_contributions.specs.DeviceEntries.{disable, Effect, posts, works, changes, enters, leaves, loses, arrives, events, device_of, acts, block_acts, block_mentions, block_event, or_own, block_lists, counter_device, step_acts, step_settings, step_device, controlled, timer_event, timer_endings, timer_device, always}
-use Rattle.plan_contributions.specs.BallEntries.{drains, ball_event, ball_endings, eject_pulse, attempt_effects, attempts_of, ball_device_from, is_known}
+use Rattle.plan_contributions.specs.BallEntries.{drains, ball_event, ball_endings, eject_pulse, attempt_effects, drain_mentions, attempts_of, ball_device_from, is_known}
 use Rattle.plan_contributions.specs.ShotEntries.{shot_events, group_events, shot_acts, lone_device, group_device}
 use Rattle.plan_rows.specs.declared.destination.Destination.{Destination}
 use Rattle.plan_rows.specs.Seats.{Seat, seat_of, destination_of, rows_after_text}
@@ -286,12 +286,13 @@ short_group place g m h = record {
 pub one : (Q : Effect → Type 0) (e : Effect) → Q e → All Q (e ∷ [])
 one Q e is = All-cons Q e [] is (All-nil Q)
 
-pub attempts : {machine : List SectionRows} {name : List ℕ} (Q : Effect → Type 0) → Q (posts (ball_event name (codes "_ball_eject_attempt"))) → Q (posts (ball_event name (codes "_ejecting_ball")))
-    → (coil : Option Written) → IfSome coil (λ w. Q (works w.text (own_pulse (defaults_called machine w.text)))) → All Q (attempt_effects machine name coil)
-attempts {machine} {name} Q first other coil is =
-    All-cons Q (posts (ball_event name (codes "_ball_eject_attempt"))) _ first (All-cons Q (posts (ball_event name (codes "_ejecting_ball"))) (eject_pulse machine coil) other (by coil is))
+pub attempts : (machine : List SectionRows) (name : List ℕ) (Q : Effect → Type 0) → Q (posts (ball_event name (codes "_ball_eject_attempt"))) → Q (posts (ball_event name (codes "_ejecting_ball")))
+    → (o : Option Written) → IfSome o (λ w. Q (works w.text (own_pulse (defaults_called machine w.text)))) → All Q (attempt_effects machine name o)
+attempts machine name Q first other o is =
+    let ejecting = posts (ball_event name (codes "_ejecting_ball")) in
+    All-cons Q (posts (ball_event name (codes "_ball_eject_attempt"))) (ejecting ∷ eject_pulse machine o) first (All-cons Q ejecting (eject_pulse machine o) other (by o is))
   where
-    by : (coil : Option Written) → IfSome coil (λ w. Q (works w.text (own_pulse (defaults_called machine w.text)))) → All Q (eject_pulse machine coil)
+    by : (o : Option Written) → IfSome o (λ w. Q (works w.text (own_pulse (defaults_called machine w.text)))) → All Q (eject_pulse machine o)
     by None is = All-nil Q
     by (Some w) is = one Q (works w.text (own_pulse (defaults_called machine w.text))) is
 
@@ -305,16 +306,16 @@ short_ball_device : (machine : List SectionRows) (d : BallDevice) (to : Destinat
 short_ball_device machine d to h = record {
   lists = seven IsFew _ _ _ _ _ _ _ (omega arith) (few d.eject_coil) (omega arith) (omega arith) (omega arith) (omega arith) (omega arith);
   limits = record { switches = h.switches; entrance = h.entrance_delay.0; exit = h.exit_delay.0; timeout = h.timeout.0; attempts = attempts_few d.max_attempts h.max_attempts };
-  effects = seven (All IsEffectInRange) _ _ _ _ _ _ _ (one IsEffectInRange _ tt) (attempts IsEffectInRange tt tt d.eject_coil (ranged d.eject_coil)) (one IsEffectInRange leaves tt) (one IsEffectInRange loses tt)
+  effects = seven (All IsEffectInRange) _ _ _ _ _ _ _ (one IsEffectInRange _ tt) (attempts machine d.name.text IsEffectInRange tt tt d.eject_coil (ranged d.eject_coil)) (one IsEffectInRange leaves tt) (one IsEffectInRange loses tt)
       (one IsEffectInRange _ tt) (one IsEffectInRange arrives tt) (one IsEffectInRange _ tt);
   place_of = refl;
 }
   where
-    few : (coil : Option Written) → IsFew (attempt_effects machine d.name.text coil)
+    few : (o : Option Written) → IsFew (attempt_effects machine d.name.text o)
     few None = omega arith
     few (Some w) = omega arith
 
-    ranged : (coil : Option Written) → IfSome coil (λ w. IsEffectInRange (works w.text (own_pulse (defaults_called machine w.text))))
+    ranged : (o : Option Written) → IfSome o (λ w. IsEffectInRange (works w.text (own_pulse (defaults_called machine w.text))))
     ranged None = tt
     ranged (Some w) = pulse_ranged machine w.text
 
@@ -885,11 +886,11 @@ module _ (machine : List SectionRows) (P : List ℕ → Type 0) (of : IsOfNames 
         listens = All-map IsName (λ (w : Written). w.text) d.switches h.switches;
         handled = All-nil (λ (x : Event × Act). IsFitEvent P x.0);
         mentioned = All-cons P (ball_event name (codes "_ball_enter")) _ (event 0 (omega arith)) (drained (drains machine d));
-        lists = seven (All Q) _ _ _ _ _ _ _ (one Q _ (event 0 (omega arith))) (attempts Q (event 1 (omega arith)) (event 2 (omega arith)) d.eject_coil h.eject_coil) (one Q leaves tt) (one Q loses tt)
+        lists = seven (All Q) _ _ _ _ _ _ _ (one Q _ (event 0 (omega arith))) (attempts machine name Q (event 1 (omega arith)) (event 2 (omega arith)) d.eject_coil h.eject_coil) (one Q leaves tt) (one Q loses tt)
             (one Q _ (event 3 (omega arith))) (one Q arrives tt) (one Q _ (event 4 (omega arith)));
       }
     where
-      drained : (b : Bool) → All P (if b then codes "ball_drain" ∷ [] else [])
+      drained : (b : Bool) → All P (drain_mentions b)
       drained true = All-cons P (codes "ball_drain") [] (of.game_events 11 [] (omega arith)) (All-nil P)
       drained false = All-nil P
 

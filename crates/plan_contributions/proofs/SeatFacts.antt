@@ -1,10 +1,10 @@
 -- The rows of devices that a text gives, as they are counted before it is read, and which of them the seats of its shots
 -- are in, and which are those of its ball devices.
-use Rattle.std.proofs.Common.{◌≡◌, ℕ, suc, ◌+◌, ◌-◌, ◌<◌, ◌≤◌, Bool, true, false, ◌||◌, not, if◌then◌else◌, List, [], ◌∷◌, ◌++◌, length, map, refl, sym, ◌∙◌, ap, subst, arith, length-append}
+use Rattle.std.proofs.Common.{◌≡◌, ℕ, suc, ◌+◌, ◌-◌, ◌≤◌, Bool, true, false, ◌||◌, not, if◌then◌else◌, List, [], ◌∷◌, ◌++◌, length, map, refl, sym, ◌∙◌, ap, subst, arith}
 use Rattle.std.specs.Prelude.{Option, None, Some, IfSome, is_some, fold, slice_get}
 use Rattle.std.specs.Str.{bytes_eq}
 use Rattle.std.specs.List.{All, flat_map, list_any}
-use Rattle.std.proofs.lemmas.Grind.{flat_map-append, fold-append}
+use Rattle.std.proofs.lemmas.Grind.{flat_map-append}
 use Rattle.std.proofs.lemmas.List.Elements.{All-nil, All-cons, All-head, All-tail, All-append, All-weaker}
 use Rattle.std.proofs.lemmas.List.Folds.{list_any-append}
 use Rattle.std.proofs.lemmas.Cmp.{nat_list_eq_equiv}
@@ -31,7 +31,7 @@ use Rattle.plan_rows.specs.Seats.{section_entries, text_entries, lists_shot, is_
 use Rattle.plan_contributions.specs.Contributions.{Contribution, device, coil_contributions, machine_device}
 use Rattle.plan_contributions.specs.Doing.{has_target}
 use Rattle.plan_rows.specs.Rows.{Row, entry, player, shot_row, group_row, ball_device_row, other_row, entry_row, rows_from, rows_in, text_rows}
-use Rattle.plan_contributions.proofs.Silent.{IsSilent, told_shot, told_where, told_machine, told, row_tells, rows_tell}
+use Rattle.plan_contributions.proofs.Silent.{IsSilent, told_shot, told_where, told_machine, told}
 
 -- ---- the rows that contributions give
 

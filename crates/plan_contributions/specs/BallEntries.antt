@@ -1,6 +1,6 @@
 -- What the entries of ball devices say. Here `machine` is the sections of the machine text, which have the coils and the
 -- game.
-use Rattle.std.specs.Prelude.{ℕ, zero, suc, Bool, true, false, ◌&&◌, if◌then◌else◌, List, [], ◌∷◌, ◌++◌, length, min, Option, None, Some, is_some, codes}
+use Rattle.std.specs.Prelude.{ℕ, zero, suc, Bool, true, false, ◌&&◌, List, [], ◌∷◌, ◌++◌, length, min, Option, None, Some, is_some, codes}
 use Rattle.std.specs.List.{list_any}
 use Rattle.std.specs.Str.{bytes_eq}
 use Rattle.mpf_sections.specs.Rows.{Written, BallDevice, Content, entry, SectionRows}
@@ -54,22 +54,32 @@ abbrev pub attempt_effects : List SectionRows → List ℕ → Option Written �
 attempt_effects machine name coil =
     posts (ball_event name (codes "_ball_eject_attempt")) ∷ posts (ball_event name (codes "_ejecting_ball")) ∷ eject_pulse machine coil
 
--- What is done when a ball enters it, when it attempts to eject one, when that one leaves, and when another is lost, when
--- the ball that it has ejected is where it should be, when one on its way is on the playfield, and when an attempt fails.
+-- what it does after that: when the ball leaves, and when another is lost, when the ball that it has ejected is where it
+-- should be, when one on its way is on the playfield, and when an attempt fails
+abbrev pub later_lists : List ℕ → List (List Effect)
+later_lists name =
+    (leaves ∷ [])
+    ∷ (loses ∷ [])
+    ∷ (posts (ball_event name (codes "_ball_eject_success")) ∷ [])
+    ∷ (arrives ∷ [])
+    ∷ (posts (ball_event name (codes "_ball_eject_failed")) ∷ [])
+    ∷ []
+
+-- its effect lists; the first is of a ball that enters it
 abbrev pub ball_lists : List SectionRows → BallDevice → List (List Effect)
 ball_lists machine d =
     (enters (ball_event d.name.text (codes "_ball_enter")) (drains machine d) ∷ [])
     ∷ attempt_effects machine d.name.text d.eject_coil
-    ∷ (leaves ∷ [])
-    ∷ (loses ∷ [])
-    ∷ (posts (ball_event d.name.text (codes "_ball_eject_success")) ∷ [])
-    ∷ (arrives ∷ [])
-    ∷ (posts (ball_event d.name.text (codes "_ball_eject_failed")) ∷ [])
-    ∷ []
+    ∷ later_lists d.name.text
 
--- the events of its first list, in their order: that a ball has entered, and where it may have drained, that it has
+-- that a ball has drained, where it may have
+abbrev pub drain_mentions : Bool → List (List ℕ)
+drain_mentions true = codes "ball_drain" ∷ []
+drain_mentions false = []
+
+-- the events of its first list, in their order: that a ball has entered, and that it has drained
 abbrev pub entry_mentions : List ℕ → Bool → List (List ℕ)
-entry_mentions name drain = ball_event name (codes "_ball_enter") ∷ (if drain then codes "ball_drain" ∷ [] else [])
+entry_mentions name drain = ball_event name (codes "_ball_enter") ∷ drain_mentions drain
 
 -- ---- settings
 

@@ -7,13 +7,13 @@ use Rattle.mpf_sections.specs.declared.words.Contact.TheVariants as written
 use Rattle.mpf_sections.specs.declared.words.Debounce.{Debounce}
 use Rattle.mpf_sections.specs.declared.words.Debounce.TheVariants.{Auto, Quick, Normal}
 use Rattle.mpf_values.specs.Events.{Condition, Event}
-use Rattle.mpf_sections.specs.Rows.{Written, Entry, Player, Switch, EventPlayer, ModeSettings, VariablePlayer, VariableItem, GameSettings, Content, entries, players, entry as single, listed, SectionRows}
+use Rattle.mpf_sections.specs.Rows.{Written, Entry, Player, Switch, EventPlayer, ModeSettings, VariablePlayer, VariableItem, GameSettings, SectionRows}
 use Rattle.mpf_sections.specs.TypedGame.{variable_player_name, game_name, variable_player_of, game_of, min_balls_of}
 use Rattle.machine_definitions.specs.GameEvents.{game_event_names}
 use Rattle.machine_definitions.specs.Players.{player_event}
 use Rattle.plan_contributions.specs.VariableEntries.{item_change}
-use Rattle.mpf_config.specs.Rows.{ModeRows, Rows}
-use Rattle.mpf_sections.specs.Typed.{switches_name, event_player_name, switch_of, event_player_of, mode_settings}
+use Rattle.mpf_config.specs.Rows.{Rows}
+use Rattle.mpf_sections.specs.Typed.{switches_name, event_player_name, switch_of, event_player_of}
 use Rattle.plan_tables.specs.declared.entries.Contact.{Contact}
 use Rattle.plan_tables.specs.declared.entries.Contact.TheVariants.{NormallyOpen, NormallyClosed}
 use Rattle.plan_tables.specs.declared.entries.SwitchKind.{SwitchKind}
@@ -31,13 +31,12 @@ pub use Rattle.plan_contributions.specs.DeviceEntries.{texts, events, Effect, po
 use Rattle.machine_definitions.specs.Definitions.{makes_quick}
 use Rattle.plan_contributions.specs.CoilEntries.{limits_of_coil, item_effect, flipper_device, autofire_device}
 use Rattle.mpf_sections.specs.Rows.{Coil, CoilPlayer, Shot, ShotGroup, BallDevice}
-use Rattle.mpf_sections.specs.TypedShots.{shots_name, shot_groups_name, shot_of, shot_group_of}
-use Rattle.machine_definitions.specs.Shots.{Profile, has_profile, profile_of_name}
+use Rattle.machine_definitions.specs.Shots.{Profile}
 use Rattle.plan_contributions.specs.ShotEntries.{shot_acts, lone_device, group_device}
 use Rattle.plan_contributions.specs.BallEntries.{is_known, ball_device_from}
 use Rattle.plan_rows.specs.declared.destination.Destination.{Destination}
-use Rattle.plan_rows.specs.Seats.{Seat, seat_of, rows_after_text}
-use Rattle.plan_rows.specs.Members.{Members, members_of}
+use Rattle.plan_rows.specs.Seats.{Seat}
+use Rattle.plan_rows.specs.Members.{Members}
 use Rattle.mpf_sections.specs.TypedCoils.{coils_name, coil_player_name, flippers_name, autofire_coils_name, coil_of, coil_player_of, flipper_of, autofire_of}
 use Rattle.plan_tables.specs.declared.entries.CoilLimits.{CoilLimits}
 use Rattle.plan_rows.specs.Rows.{Row, entry, alone, shot, group, ball_device, player, of_mode, rows_of}

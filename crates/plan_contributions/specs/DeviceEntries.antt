@@ -1,5 +1,5 @@
 -- What the entries of devices say: of counters, accruals, sequences and timers.
-use Rattle.std.specs.Prelude.{ℕ, suc, ℤ, Bool, true, false, if◌then◌else◌, List, [], ◌∷◌, ◌++◌, length, map, Option, None, Some, codes}
+use Rattle.std.specs.Prelude.{ℕ, suc, ℤ, Bool, if◌then◌else◌, List, [], ◌∷◌, ◌++◌, length, map, Option, None, Some, codes}
 use Rattle.std.specs.Str.{bytes_eq}
 use Rattle.mpf_sections.specs.declared.words.Direction.{Direction as WrittenDirection}
 use Rattle.mpf_sections.specs.declared.words.Direction.TheVariants as written

@@ -1,23 +1,14 @@
 -- What the entries of shots and of their groups say, and which row of the plan each shot is in.
-use Rattle.std.specs.Prelude.{ℕ, suc, ◌-◌, Bool, true, false, not, if◌then◌else◌, List, [], ◌∷◌, ◌++◌, length, map, take, replicate, fold, Option, None, Some, is_some, codes}
-use Rattle.std.specs.List.{flat_map, list_any, list_all}
-use Rattle.std.specs.Str.{bytes_eq}
-use Rattle.yaml_subset.specs.Keys.{is_among}
+use Rattle.std.specs.Prelude.{ℕ, ◌-◌, Bool, true, false, List, [], ◌∷◌, ◌++◌, length, map, Option, None, Some, codes}
+use Rattle.std.specs.List.{flat_map}
 use Rattle.mpf_values.specs.Events.{Event}
-use Rattle.mpf_sections.specs.Rows.{Written, Entry, Shot, ShotGroup, SectionRows}
-use Rattle.mpf_sections.specs.Typed.{entries_in, counters_name, accruals_name, sequences_name, timers_name}
-use Rattle.mpf_sections.specs.TypedCoils.{flippers_name, autofire_coils_name}
-use Rattle.mpf_sections.specs.TypedShots.{shots_name, shot_groups_name, default_profile, shot_group_of, shot_groups_in}
-use Rattle.mpf_config.specs.Rows.{Rows}
-use Rattle.machine_definitions.specs.Shots.{Profile, shot_called, profile_of_name}
+use Rattle.mpf_sections.specs.Rows.{Written, Shot, ShotGroup}
+use Rattle.machine_definitions.specs.Shots.{Profile}
 use Rattle.plan_tables.specs.declared.devices.Act.{Act}
 use Rattle.plan_tables.specs.declared.devices.Act.TheVariants.{Reset, Hit, Advance, ResetShot, EnableShot, DisableShot, RotateRight, RotateLeft}
 use Rattle.plan_tables.specs.declared.devices.Settings.{Settings}
 use Rattle.plan_tables.specs.declared.devices.Settings.TheVariants as kinds
-use Rattle.plan_rows.specs.declared.place.Place.{Place}
-use Rattle.plan_rows.specs.declared.place.Place.TheVariants.{Machine, Control, Mode}
 use Rattle.plan_contributions.specs.DeviceEntries.{Effect, posts, Device, always, acts, texts}
-use Rattle.plan_rows.specs.Members.{is_none}
 use Rattle.plan_rows.specs.Members.{is_enabled, flags, Members}
 
 -- ---- effect lists

@@ -1,14 +1,6 @@
 -- What rows and contributions hold.
-use Rattle.std.specs.Prelude.{ℕ, ◌++◌, List, map, Option, option_map}
-use Rattle.std.specs.Borrow.{Bor}
-use Rattle.std.specs.BTreeMap.{BTreeMap}
-use Rattle.std.specs.Map.{lookup}
-use Rattle.mpf_sections.specs.View.{entry_view, player_view, mode_settings_view}
+use Rattle.std.specs.Prelude.{ℕ, ◌++◌, List, map}
 use Rattle.plan_tables.specs.declared.table.Table.{Table}
-use Rattle.mpf_sections.specs.TypedShots.{shot_of, shot_group_of}
-use Rattle.machine_definitions.specs.Found.{has_bytes, profile_view}
-use Rattle.plan_rows.specs.declared.rows.Row as rows
-use Rattle.plan_rows.specs.declared.rows.Row.TheVariants as row
 use Rattle.plan_contributions.specs.declared.contribution.Parts.{Parts}
 use Rattle.plan_contributions.specs.declared.contribution.Deed as deeds
 use Rattle.plan_contributions.specs.declared.contribution.Deed.TheVariants as deed
@@ -16,15 +8,10 @@ use Rattle.plan_contributions.specs.declared.contribution.Effect as effects
 use Rattle.plan_contributions.specs.declared.contribution.Effect.TheVariants as effect
 use Rattle.plan_contributions.specs.declared.collect_coils.Defaults as defaults
 use Rattle.plan_contributions.specs.CoilEntries.{Defaults}
-use Rattle.plan_rows.specs.declared.seats.Seat as seats
-use Rattle.plan_rows.specs.declared.members.Members as members
-use Rattle.plan_rows.specs.Seats.{Seat}
-use Rattle.plan_rows.specs.Members.{Members}
 use Rattle.plan_contributions.specs.DeviceEntries.{Deed, pulse, enable, disable, Effect, posts, works, changes, enters, leaves, loses, arrives}
 use Rattle.plan_contributions.specs.declared.contribution.Contribution as contributions
 use Rattle.plan_contributions.specs.declared.contribution.Contribution.TheVariants as contribution
 use Rattle.plan_contributions.specs.Contributions.{Contribution, gives, reads, active, inactive, mode, mode_event, binds, does, device, does_in, listens, mentions, unknown, coil, under, plays}
-use Rattle.plan_rows.specs.Rows.{Row, entry, alone, shot, group, player, of_mode}
 
 -- the name that the parts make: their pieces, one after the other
 abbrev pub parts_text : Parts → List ℕ

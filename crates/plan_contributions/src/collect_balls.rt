@@ -2,19 +2,19 @@
 
 ghost use Rattle.std.specs.Prelude.{◌≡◌, ◌≤◌, ◌++◌, [], ◌∷◌, length, map, option_map, OnOk};
 ghost use Rattle.mpf_sections.specs.View.{name_view, name_at_view, section_view, ball_device_view};
-ghost use Rattle.plan_contributions.specs.BallEntries.{is_game, has_game, drains, ball_event, attempt_effects, ball_lists, entry_mentions, target_of, attempts_of, ball_settings, is_known};
-ghost use Rattle.plan_contributions.specs.Contributions.{mentions, does_in, effects_from, texts, listens_from, unknown_unless, ball_device_contributions};
+ghost use Rattle.plan_contributions.specs.BallEntries.{is_game, has_game, drains, ball_event, eject_pulse, attempt_effects, later_lists, ball_lists, drain_mentions, entry_mentions, target_of, attempts_of, ball_settings, is_known};
+ghost use Rattle.plan_contributions.specs.Contributions.{mentions, listens, does_in, effects_from, texts, listens_from, unknown_unless, ball_device_contributions};
 ghost use Rattle.plan_contributions.specs.View.{parts_text, contributions_view};
 ghost use Rattle.plan_tables.specs.declared.table.Table.TheVariants.{Events};
 
 use crate::collect_coils::{defaults_of, own_pulse};
-use crate::collect_shots::{collect_post, collect_unknown};
+use crate::collect_effects::{collect_effect, collect_event, collect_post};
+use crate::collect_shots::collect_unknown;
 use crate::contribution::{Contribution, Effect, Parts, joined, whole};
 use machine_definitions::Definitions;
 use mpf_config::{BallDevice, Content, GAME_NAME, Name, NameAt, Section};
 use plan_rows::{Destination, Place};
 use plan_tables::devices::{BallSettings, BallTarget, RowId, Settings};
-use plan_tables::table::Table;
 use std::alloc::AllocError;
 
 /// A ball device, which is the machine's, with where it ejects its balls to.
@@ -33,7 +33,8 @@ pub(crate) fn collect_ball_device<'a>(
     contributions.push(Contribution::Device(Place::Machine, ball_settings(row, to)))?;
     collect_switches(contributions, row.switches)?;
     collect_mentions(contributions, &row.name.text, drain)?;
-    collect_lists(contributions, definitions, row, drain)
+    collect_lists(contributions, definitions, row, drain)?;
+    Ok(())
 }
 
 /// Whether a ball device ejects its balls to what there is.
@@ -54,8 +55,20 @@ fn collect_switches<'a>(
     ensures { OnOk result (contributions_view contributions.new.items ≡ contributions_view contributions.old.items ++ listens_from 0 (texts (map name_view switches.now))) }
 {
     for number in 0..switches.len() {
-        contributions.push(Contribution::Listens(number, &switches[number].text))?;
+        collect_switch(contributions, number, &switches[number].text)?;
     }
+    Ok(())
+}
+
+/// A ball switch, by its number.
+fn collect_switch<'a>(
+    contributions: &mut Vec<Contribution<'a>>,
+    number: usize,
+    name: &'a [u8],
+) -> Result<(), AllocError>
+    ensures { OnOk result (contributions_view contributions.new.items ≡ contributions_view contributions.old.items ++ listens number name.now ∷ []) }
+{
+    contributions.push(Contribution::Listens(number, name))?;
     Ok(())
 }
 
@@ -73,12 +86,7 @@ fn drains(definitions: &Definitions<'_>, row: BallDevice<'_>) -> bool
 fn has_game(sections: &[Section]) -> bool
     ensures { result ≡ has_game (map section_view sections.now) }
 {
-    for section in sections {
-        if is_game(section) {
-            return true;
-        }
-    }
-    false
+    sections.iter().any(|section| is_game(section))
 }
 
 fn is_game(section: &Section) -> bool
@@ -148,11 +156,17 @@ fn collect_mentions<'a>(
 ) -> Result<(), AllocError>
     ensures { OnOk result (contributions_view contributions.new.items ≡ contributions_view contributions.old.items ++ map (mentions Events) (entry_mentions name.now drain)) }
 {
-    let enter = ball_event(name, b"_ball_enter");
-    contributions.push(Contribution::Mentions(Table::Events, enter))?;
+    collect_event(contributions, ball_event(name, b"_ball_enter"))?;
+    collect_drain(contributions, drain)?;
+    Ok(())
+}
+
+/// The event that a ball has drained, where it may have.
+fn collect_drain(contributions: &mut Vec<Contribution<'_>>, drain: bool) -> Result<(), AllocError>
+    ensures { OnOk result (contributions_view contributions.new.items ≡ contributions_view contributions.old.items ++ map (mentions Events) (drain_mentions drain)) }
+{
     if drain {
-        let drained = whole(b"ball_drain");
-        contributions.push(Contribution::Mentions(Table::Events, drained))?;
+        collect_event(contributions, whole(b"ball_drain"))?;
     }
     Ok(())
 }
@@ -167,15 +181,10 @@ fn collect_lists<'a>(
     requires drains { drain ≡ drains definitions.now.machine (ball_device_view row) }
     ensures { OnOk result (contributions_view contributions.new.items ≡ contributions_view contributions.old.items ++ effects_from 0 (ball_lists definitions.now.machine (ball_device_view row.entry))) }
 {
-    let name: &'a [u8] = &row.name.text;
-    let enter = Effect::Enter(ball_event(name, b"_ball_enter"), drain);
-    contributions.push(Contribution::DoesIn(0, enter))?;
-    collect_attempt(contributions, definitions, name, row.eject_coil)?;
-    contributions.push(Contribution::DoesIn(2, Effect::Leave))?;
-    contributions.push(Contribution::DoesIn(3, Effect::Lose))?;
-    collect_post(contributions, 4, ball_event(name, b"_ball_eject_success"))?;
-    contributions.push(Contribution::DoesIn(5, Effect::Arrive))?;
-    collect_post(contributions, 6, ball_event(name, b"_ball_eject_failed"))?;
+    let enter = Effect::Enter(ball_event(&row.name.text, b"_ball_enter"), drain);
+    collect_effect(contributions, 0, enter)?;
+    collect_attempt(contributions, definitions, &row.name.text, row.eject_coil)?;
+    collect_later(contributions, &row.name.text)?;
     Ok(())
 }
 
@@ -190,9 +199,38 @@ fn collect_attempt<'a>(
 {
     collect_post(contributions, 1, ball_event(name, b"_ball_eject_attempt"))?;
     collect_post(contributions, 1, ball_event(name, b"_ejecting_ball"))?;
-    if let Some(coil) = coil {
-        let pulse = own_pulse(defaults_of(definitions, coil.text));
-        contributions.push(Contribution::DoesIn(1, Effect::Coil(coil.text, pulse)))?;
+    collect_pulse(contributions, definitions, coil)?;
+    Ok(())
+}
+
+/// The coil that ejects a ball is pulsed, if there is one.
+fn collect_pulse<'a>(
+    contributions: &mut Vec<Contribution<'a>>,
+    definitions: &Definitions<'_>,
+    coil: Option<NameAt<'a>>,
+) -> Result<(), AllocError>
+    ensures { OnOk result (contributions_view contributions.new.items ≡ contributions_view contributions.old.items ++ map (does_in 1) (eject_pulse definitions.now.machine (option_map name_at_view coil.entry))) }
+{
+    match coil {
+        Some(name) => {
+            let pulse = own_pulse(defaults_of(definitions, name.text));
+            collect_effect(contributions, 1, Effect::Coil(name.text, pulse))
+        }
+        None => Ok(()),
     }
+}
+
+/// What it does after an attempt to eject a ball.
+fn collect_later<'a>(
+    contributions: &mut Vec<Contribution<'a>>,
+    name: &'a [u8],
+) -> Result<(), AllocError>
+    ensures { OnOk result (contributions_view contributions.new.items ≡ contributions_view contributions.old.items ++ effects_from 2 (later_lists name.now)) }
+{
+    collect_effect(contributions, 2, Effect::Leave)?;
+    collect_effect(contributions, 3, Effect::Lose)?;
+    collect_post(contributions, 4, ball_event(name, b"_ball_eject_success"))?;
+    collect_effect(contributions, 5, Effect::Arrive)?;
+    collect_post(contributions, 6, ball_event(name, b"_ball_eject_failed"))?;
     Ok(())
 }

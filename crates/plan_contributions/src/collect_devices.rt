@@ -11,6 +11,7 @@ ghost use Rattle.plan_contributions.specs.View.{parts_text, contributions_view};
 ghost use Rattle.plan_tables.specs.declared.table.Table.TheVariants.{Events};
 
 use crate::collect_bound::{collect_bound, collect_each};
+use crate::collect_effects::collect_post;
 use crate::contribution::{Aim, Contribution, Effect, Parts, joined, whole};
 use mpf_config::config::{ControlAction, Direction as WrittenDirection};
 use mpf_config::{
@@ -352,10 +353,10 @@ fn collect_timer_lists<'a>(
 ) -> Result<(), AllocError>
     ensures { OnOk result (contributions_view contributions.new.items ≡ contributions_view contributions.old.items ++ effects_from 0 (timer_lists name.now)) }
 {
-    contributions.push(Contribution::DoesIn(0, Effect::Post(timer_event(name, b"_started"))))?;
-    contributions.push(Contribution::DoesIn(1, Effect::Post(timer_event(name, b"_stopped"))))?;
-    contributions.push(Contribution::DoesIn(2, Effect::Post(timer_event(name, b"_paused"))))?;
-    contributions.push(Contribution::DoesIn(3, Effect::Post(timer_event(name, b"_tick"))))?;
-    contributions.push(Contribution::DoesIn(4, Effect::Post(timer_event(name, b"_complete"))))?;
+    collect_post(contributions, 0, timer_event(name, b"_started"))?;
+    collect_post(contributions, 1, timer_event(name, b"_stopped"))?;
+    collect_post(contributions, 2, timer_event(name, b"_paused"))?;
+    collect_post(contributions, 3, timer_event(name, b"_tick"))?;
+    collect_post(contributions, 4, timer_event(name, b"_complete"))?;
     Ok(())
 }

@@ -13,7 +13,8 @@ ghost use Rattle.plan_rows.specs.View.{seat_view, members_view};
 
 use crate::collect_bound::collect_each;
 use crate::collect_devices::collect_acts;
-use crate::contribution::{Aim, Contribution, Effect, Parts, joined, whole};
+use crate::collect_effects::collect_post;
+use crate::contribution::{Aim, Contribution, Parts, joined, whole};
 use machine_definitions::Profile;
 use mpf_config::{Handler, Name, NameAt, Shot, ShotGroup};
 use plan_rows::{Members, Place, Seat, is_enabled};
@@ -325,18 +326,6 @@ fn collect_group_list<'a>(
 {
     collect_post(contributions, number, joined(name, b"", end))?;
     collect_post(contributions, number, ending(name, state, end))?;
-    Ok(())
-}
-
-/// An effect list of the row posts the event.
-pub(crate) fn collect_post<'a>(
-    contributions: &mut Vec<Contribution<'a>>,
-    number: u16,
-    event: Parts<'a>,
-) -> Result<(), AllocError>
-    ensures { OnOk result (contributions_view contributions.new.items ≡ contributions_view contributions.old.items ++ does_in number (posts (parts_text event.entry)) ∷ []) }
-{
-    contributions.push(Contribution::DoesIn(number, Effect::Post(event)))?;
     Ok(())
 }
 

@@ -10,6 +10,7 @@ mod collect_balls;
 mod collect_bound;
 mod collect_coils;
 mod collect_devices;
+mod collect_effects;
 mod collect_game;
 mod collect_shots;
 mod collect_variables;

@@ -1,7 +1,5 @@
-use Rattle.std.proofs.Common.{◌++◌, ℕ, List, Option, map, ap, ◌∙◌}
+use Rattle.std.proofs.Common.{◌++◌, map, ◌∙◌}
 use Rattle.mpf_sections.specs.View.{section_view}
-use Rattle.plan_rows.specs.declared.destination.Destination.{Destination}
-use Rattle.plan_rows.specs.Seats.{Seat}
 use Rattle.plan_rows.specs.Rows.{rows_in}
 use Rattle.plan_rows.specs.View.{row_list_view}
 use Rattle.plan_rows.proofs.rows.add_text.Goals as goal

@@ -1,5 +1,4 @@
-use Rattle.std.proofs.Common.{◌≡◌, ◌+◌, ℕ, List, drop, Option, ap, ◌∙◌}
-use Rattle.mpf_sections.specs.Rows.{Entry}
+use Rattle.std.proofs.Common.{◌+◌, ℕ, drop, Option, ap, ◌∙◌}
 use Rattle.mpf_sections.specs.View.{entry_view, section_view}
 use Rattle.machine_definitions.specs.Found.{is_found}
 use Rattle.plan_rows.specs.Seats.{rows_after, rows_after_all, given_from, entry_seats, entry_ball_row}

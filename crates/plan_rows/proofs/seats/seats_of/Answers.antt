@@ -1,12 +1,9 @@
 use Rattle.std.proofs.Common.{◌≡◌, ◌+◌, ℕ, Bool, List, map, drop, None, Option, ap, ◌∙◌}
-use Rattle.std.specs.Prelude.{if◌then◌else◌, option_map}
+use Rattle.std.specs.Prelude.{option_map}
 use Rattle.std.specs.Map.{lookup}
-use Rattle.std.specs.Str.{bytes_eq}
 use Rattle.mpf_sections.specs.View.{section_view}
-use Rattle.mpf_sections.specs.TypedBalls.{playfield}
 use Rattle.machine_definitions.specs.Found.{has_bytes, is_found}
-use Rattle.plan_rows.specs.declared.destination.Destination.TheVariants.{Playfield}
-use Rattle.plan_rows.specs.Seats.{Seat, is_grouped, section_entries, text_entries, rows_after_all, given_from, entry_seats, entry_ball_row, row_or_unknown}
+use Rattle.plan_rows.specs.Seats.{Seat, is_grouped, section_entries, text_entries, rows_after_all, given_from, entry_seats, entry_ball_row}
 use Rattle.plan_rows.specs.View.{seat_view, found_seat, found_row}
 use Rattle.plan_rows.proofs.SeatParts.{found_after, section_next, section_rows_next}
 use Rattle.plan_rows.proofs.seats.seats_of.Goals as goal

@@ -1,0 +1,44 @@
+//! What the effect lists of a row do, and the events that its settings name.
+
+ghost use Rattle.std.specs.Prelude.{◌≡◌, ◌++◌, [], ◌∷◌, OnOk};
+ghost use Rattle.plan_contributions.specs.Contributions.{does_in, mentions, posts};
+ghost use Rattle.plan_tables.specs.declared.table.Table.TheVariants.{Events};
+ghost use Rattle.plan_contributions.specs.View.{parts_text, effect_view, contributions_view};
+
+use crate::contribution::{Contribution, Effect, Parts};
+use plan_tables::table::Table;
+use std::alloc::AllocError;
+
+/// An effect list of the row that came last does this.
+pub(crate) fn collect_effect<'a>(
+    contributions: &mut Vec<Contribution<'a>>,
+    number: u16,
+    effect: Effect<'a>,
+) -> Result<(), AllocError>
+    ensures { OnOk result (contributions_view contributions.new.items ≡ contributions_view contributions.old.items ++ does_in number (effect_view effect.entry) ∷ []) }
+{
+    contributions.push(Contribution::DoesIn(number, effect))?;
+    Ok(())
+}
+
+/// An effect list of the row that came last posts the event.
+pub(crate) fn collect_post<'a>(
+    contributions: &mut Vec<Contribution<'a>>,
+    number: u16,
+    event: Parts<'a>,
+) -> Result<(), AllocError>
+    ensures { OnOk result (contributions_view contributions.new.items ≡ contributions_view contributions.old.items ++ does_in number (posts (parts_text event.entry)) ∷ []) }
+{
+    collect_effect(contributions, number, Effect::Post(event))
+}
+
+/// A setting names the event.
+pub(crate) fn collect_event<'a>(
+    contributions: &mut Vec<Contribution<'a>>,
+    event: Parts<'a>,
+) -> Result<(), AllocError>
+    ensures { OnOk result (contributions_view contributions.new.items ≡ contributions_view contributions.old.items ++ mentions Events (parts_text event.entry) ∷ []) }
+{
+    contributions.push(Contribution::Mentions(Table::Events, event))?;
+    Ok(())
+}

@@ -1,0 +1,314 @@
+-- A whole call of a ball device books what it answers, and leaves the ledger in step with the devices.
+use Rattle.std.proofs.Common.{◌≡◌, ℕ, ◌+◌, ◌<◌, ◌≤◌, ◌==◌, ◌&&◌, inl, inr, if◌then◌else◌, Bool, true, false, Option, Some, None, List, [], ◌∷◌, length, refl, sym, ap, ap₂, ◌∙◌, subst, arith}
+use Rattle.std.specs.Prelude.{unwrap_or}
+use Rattle.std.specs.List.{All, count_by}
+use Rattle.std.proofs.lemmas.Bool.{eq-eqb, ne_eqb}
+use Rattle.std.proofs.lemmas.List.Elements.{All-filter, filter_passes}
+use Rattle.plan_tables.specs.declared.entries.GameEvent.TheVariants.{BallDrain}
+use Rattle.plan_tables.specs.PlanView.{PlanView, feeders_of, feeds, game_event, is_target, list_of_row, row_at, row_numbers, target_in, target_of}
+use Rattle.plan_tables.specs.Valid.{IsTargetThere, IsValid}
+use Rattle.plan_tables.specs.declared.devices.Act.TheVariants as acts
+use Rattle.plan_tables.specs.declared.devices.BallSettings.{BallSettings}
+use Rattle.plan_tables.specs.declared.devices.BallTarget.{BallTarget}
+use Rattle.plan_tables.specs.declared.devices.BallTarget.TheVariants.{Playfield, Device}
+use Rattle.plan_tables.specs.declared.devices.RowId.{RowId}
+use Rattle.plan_tables.specs.declared.devices.Settings.{Settings}
+use Rattle.plan_tables.specs.declared.devices.Settings.TheVariants as kinds
+use Rattle.plan_tables.specs.declared.entries.Action.{Action}
+use Rattle.plan_tables.specs.declared.entries.Action.TheVariants.{Enter, Leave, Lose, Arrive}
+use Rattle.plan_tables.specs.declared.entries.Owner.{Owner}
+use Rattle.ball_devices.specs.declared.booking.Booking.TheVariants.{Entered}
+use Rattle.ball_devices.specs.declared.booking.Origin.{Origin}
+use Rattle.ball_devices.specs.declared.booking.Origin.TheVariants.{Awaited, Found as OfPlayfield, New}
+use Rattle.ball_devices.specs.Ledger.{counted_in, transit_to, origin_of}
+use Rattle.ball_devices.specs.Bookings.{LedgerCall, MayBook, after_call, booked, is_new_entry, is_entry_into, is_exit_from, is_start_for, is_end_for}
+use Rattle.ball_devices.specs.Bookings as ledger_calls
+use Rattle.ball_devices.proofs.Ledgers.{origin-says, call-is}
+use Rattle.ball_devices.proofs.Booked.{one, call-told}
+use Rattle.cascade_rank.proofs.Rows.{rows-within}
+use Rattle.device_objects.specs.declared.device.Call.{Call}
+use Rattle.device_objects.specs.declared.device.Call.TheVariants as calls
+use Rattle.device_objects.specs.declared.state.BallState.{BallState}
+use Rattle.device_objects.specs.declared.state.DeviceState.{DeviceState}
+use Rattle.device_objects.specs.declared.state.DeviceState.TheVariants as states
+use Rattle.device_objects.specs.BallDevice.{is_away, ball_step}
+use Rattle.device_objects.specs.BallDevice as lists
+use Rattle.device_objects.specs.DeviceStep.{device_step}
+use Rattle.device_objects.specs.Laws.{HasBallShape}
+use Rattle.device_objects.proofs.BallShapes.{ball_step-shape}
+use Rattle.player_game.specs.GameStep.{is_ball_on}
+use Rattle.written_machine.specs.BallRows.{BooksNothing, actions_in, IsBallRow, BooksRightly, BookingsAreRight}
+use Rattle.written_machine.specs.Machine.{Machine, post, set_device, all_do, book, drain_if, after_entry, do_action_by, do_list_by, world_of, device_at, do_answer_by, call_device_by, is_device_away, first_away, no_confirm, confirm_of, confirm_first_away, confirm_entry, call_device}
+use Rattle.written_machine.proofs.BallSteps.{balls_in, IsQuiet, AreQuiet, Answer, nothing, enters, leaves, loses, arrives, IsAnswer, IsUsual, step-answer, confirm-answer, step-confirmed}
+use Rattle.written_machine.proofs.BallFeeders.{Found, find-found, row-counts}
+use Rattle.written_machine.proofs.BallPlays.{IsOther, nothing-other, then-other, post-other, list-other, Plays, still, ball, arrival, both}
+use Rattle.written_machine.proofs.BallCalm.{balls_at, no_lag, lag_at, limit, IsCalm, feeder, one-no, one-yes, surely_booked, other-calm, room, turned-calm}
+
+is_target-itself : (a : BallTarget) → is_target a a ≡ true
+is_target-itself Playfield = refl
+is_target-itself (Device r) = eq-eqb r.0 r.0 refl
+
+module _ (plan : PlanView) (valid : IsValid plan) (right : BookingsAreRight plan) where
+  -- ---- a ball device, and what it is called
+
+  module _ (r : RowId) (d : BallSettings) (within : r.0 < length plan.rows) (is : (row_at plan r).settings ≡ kinds.BallDevice d) where
+    ball_row : IsBallRow plan r
+    ball_row = subst (BooksRightly plan r) is (right.rows r within)
+
+    target_is : target_of plan r ≡ d.target
+    target_is = ap (λ (settings : Settings). unwrap_or (target_in settings) Playfield) is
+
+    feeds_its : feeds (target_of plan r) (row_at plan r).settings ≡ true
+    feeds_its =
+        ap₂ (λ (target : BallTarget) (settings : Settings). feeds target settings) target_is is ∙ is_target-itself d.target
+
+    -- a list of its own that has just one action
+    one_action : (P : Machine → Type 0) (confirm : RowId → Machine → Machine) (k : ℕ) (a : Action) (u : Machine) → actions_in plan r k ≡ a ∷ []
+        → P (do_action_by plan confirm (row_at plan r).owner a u) → P (do_list_by plan confirm (row_at plan r).owner (list_of_row plan r k) u)
+    one_action P confirm k a u only done =
+        subst (λ (actions : List Action). P (all_do (do_action_by plan confirm (row_at plan r).owner) actions u)) (sym only) done
+
+    -- its lists that book nothing
+    quiet_list : (k : ℕ) → IsQuiet k → All BooksNothing (actions_in plan r k)
+    quiet_list k (inl one) = subst (λ (j : ℕ). All BooksNothing (actions_in plan r j)) (sym one) ball_row.attempted
+    quiet_list k (inr (inl one)) = subst (λ (j : ℕ). All BooksNothing (actions_in plan r j)) (sym one) ball_row.succeeded
+    quiet_list k (inr (inr one)) = subst (λ (j : ℕ). All BooksNothing (actions_in plan r j)) (sym one) ball_row.failed
+
+    quiet-other : (confirm : RowId → Machine → Machine) (ks : List ℕ) (u : Machine) → AreQuiet ks
+        → IsOther plan u (do_answer_by plan confirm r ks u)
+    quiet-other confirm [] u quiet = nothing-other plan u
+    quiet-other confirm (k ∷ ks) u quiet =
+        then-other plan (list-other plan confirm (row_at plan r).owner (list_of_row plan r k) (quiet_list k quiet.0) u)
+        (quiet-other confirm ks (do_list_by plan confirm (row_at plan r).owner (list_of_row plan r k) u) quiet.1)
+
+    -- ---- what is answered
+
+    module _ (s : Machine) (h : IsCalm plan no_lag s) (b : BallState) (was : device_at s r ≡ states.BallDevice b) where
+      held_here : counted_in s.ledger r ≡ balls_in b
+      held_here = h.held r d within is ∙ ap balls_at was
+
+      row_counted : r.0 < length s.ledger.counted
+      row_counted = let rows = h.rows in omega (arith, within, rows)
+
+      there_in : (target : BallTarget) → IsTargetThere (length plan.rows) target → IsTargetThere (length s.ledger.counted) target
+      there_in target there = subst (λ (k : ℕ). IsTargetThere k target) (sym h.rows) there
+
+      target_there : IsTargetThere (length plan.rows) (target_of plan r)
+      target_there = (valid.entries.rows r within).target
+
+      -- the device goes on to its next state, and the ledger books
+      booked-calm : (t : BallState) → HasBallShape d t → (c : LedgerCall) → MayBook c s.ledger
+          → s.ledger.known + one (is_new_entry (booked c s.ledger)) ≤ limit
+          → balls_in t + one (is_exit_from r (booked c s.ledger)) ≡ balls_in b + one (is_entry_into r (booked c s.ledger))
+          → ((e : RowId) → (e.0 ≡ r.0 → ⊥) → (is_exit_from e (booked c s.ledger) ≡ false) × (is_entry_into e (booked c s.ledger) ≡ false))
+          → (later : BallTarget → ℕ)
+          → ((target : BallTarget) → one (is_start_for target (booked c s.ledger)) + later target + one (is_target target d.target && is_away b.eject)
+          ≡ one (is_end_for target (booked c s.ledger)) + one (is_target target d.target && is_away t.eject))
+          → (owner : Owner) → IsCalm plan later (book owner c (set_device r (states.BallDevice t) s))
+      booked-calm t shape c may fits balls about later moves owner =
+          let tells = call-told s.ledger h.ledger.rows c may in
+          surely_booked (IsCalm plan later) owner c (set_device r (states.BallDevice t) s) may
+          (turned-calm plan s r d within is b t was shape _ refl h tells.rows (call-is c s.ledger h.ledger may)
+          (let known = tells.known in omega (arith, known, fits))
+          (let here = tells.counted r row_counted in omega (arith, here, balls, held_here))
+          (λ e inside other.
+          let sides = about e other in
+          let exit : one (is_exit_from e (booked c s.ledger)) ≡ 0 = ap one sides.0 in
+          let entry : one (is_entry_into e (booked c s.ledger)) ≡ 0 = ap one sides.1 in
+          let rows = h.rows in
+          let there = tells.counted e (omega (arith, inside, rows)) in
+          omega (arith, exit, entry, there))
+          (λ target there.
+          let transit = tells.transit target (there_in target there) in
+          omega (arith, transit, moves target)))
+
+      other_row : (e : RowId) → (e.0 ≡ r.0 → ⊥) → (e.0 == r.0) ≡ false
+      other_row e other = ne_eqb e.0 r.0 other
+
+      this_row : one (r.0 == r.0) ≡ 1
+      this_row = ap one (eq-eqb r.0 r.0 refl)
+
+      -- where the ledger books nothing
+      nothing-calm : (t : BallState) → HasBallShape d t → balls_in t ≡ balls_in b → is_away t.eject ≡ is_away b.eject
+          → IsCalm plan no_lag (set_device r (states.BallDevice t) s)
+      nothing-calm t shape balls away =
+          turned-calm plan s r d within is b t was shape (set_device r (states.BallDevice t) s) refl h refl h.ledger h.most
+          (held_here ∙ sym balls) (λ e inside other. refl)
+          (λ target there. ap (λ (x : Bool). transit_to s.ledger target + 0 + one (is_target target d.target && x)) (sym away))
+
+      -- a ball has entered: it is booked, and if it was on its way here, that is confirmed
+      entered-calm : (t : BallState) → HasBallShape d t → balls_in t ≡ balls_in b + 1 → is_away t.eject ≡ is_away b.eject → (owner : Owner)
+          → IsCalm plan (λ target. one (is_end_for target (Entered r (origin_of r s.ledger)))) (book owner (ledger_calls.Enter r) (set_device r (states.BallDevice t) s))
+      entered-calm t shape balls away owner =
+          let most = h.most in
+          booked-calm t shape (ledger_calls.Enter r) (row_counted, omega (arith, most)) (room plan valid s h (origin_of r s.ledger) r (origin-says r s.ledger))
+          (omega (arith, balls, this_row)) (λ e other. (refl, other_row e other))
+          (λ target. one (is_end_for target (Entered r (origin_of r s.ledger))))
+          (λ target.
+          let same : one (is_target target d.target && is_away t.eject) ≡ one (is_target target d.target && is_away b.eject) =
+          ap (λ (x : Bool). one (is_target target d.target && x)) away in
+          omega (arith, same)) owner
+
+      left-calm : (t : BallState) → HasBallShape d t → balls_in t + 1 ≡ balls_in b → is_away b.eject ≡ false → is_away t.eject ≡ true → (owner : Owner)
+          → IsCalm plan no_lag (book owner (ledger_calls.Leave r (target_of plan r)) (set_device r (states.BallDevice t) s))
+      left-calm t shape balls before after owner =
+          booked-calm t shape (ledger_calls.Leave r (target_of plan r)) (row_counted, there_in (target_of plan r) target_there, omega (arith, held_here, balls))
+          (let most = h.most in omega (arith, most)) (omega (arith, balls, this_row)) (λ e other. (other_row e other, refl)) no_lag
+          (λ target.
+          let start : one (is_target target (target_of plan r)) ≡ one (is_target target d.target) = ap (λ (x : BallTarget). one (is_target target x)) target_is in
+          omega (arith, start, one-no (is_target target d.target) (is_away b.eject) before, one-yes (is_target target d.target) (is_away t.eject) after)) owner
+
+      lost-calm : (t : BallState) → HasBallShape d t → balls_in t + 1 ≡ balls_in b → is_away t.eject ≡ is_away b.eject → (owner : Owner)
+          → IsCalm plan no_lag (book owner (ledger_calls.Lose r) (set_device r (states.BallDevice t) s))
+      lost-calm t shape balls away owner =
+          booked-calm t shape (ledger_calls.Lose r) (row_counted, omega (arith, held_here, balls))
+          (let most = h.most in omega (arith, most)) (omega (arith, balls, this_row)) (λ e other. (other_row e other, refl)) no_lag
+          (λ target.
+          let same : one (is_target target d.target && is_away t.eject) ≡ one (is_target target d.target && is_away b.eject) =
+          ap (λ (x : Bool). one (is_target target d.target && x)) away in
+          omega (arith, same)) owner
+
+      -- it is Away to its target itself, so that a ball is on its way there
+      one_on_way : is_away b.eject ≡ true → 0 < transit_to s.ledger (target_of plan r)
+      one_on_way away =
+          let some = row-counts (λ q. feeds (target_of plan r) (row_at plan q).settings) (λ q. is_device_away (device_at s q)) r.0 (length plan.rows) within
+          feeds_its (ap is_device_away was ∙ away) in
+          omega (arith, some, h.away (target_of plan r) target_there)
+
+      arrived-calm : (t : BallState) → HasBallShape d t → balls_in t ≡ balls_in b → is_away b.eject ≡ true → is_away t.eject ≡ false → (owner : Owner)
+          → IsCalm plan no_lag (book owner (ledger_calls.Arrive (target_of plan r)) (set_device r (states.BallDevice t) s))
+      arrived-calm t shape balls before after owner =
+          booked-calm t shape (ledger_calls.Arrive (target_of plan r)) (there_in (target_of plan r) target_there, one_on_way before)
+          (let most = h.most in omega (arith, most)) (omega (arith, balls)) (λ e other. (refl, refl)) no_lag
+          (λ target.
+          let end : one (is_target target (target_of plan r)) ≡ one (is_target target d.target) = ap (λ (x : BallTarget). one (is_target target x)) target_is in
+          omega (arith, end, one-yes (is_target target d.target) (is_away b.eject) before, one-no (is_target target d.target) (is_away t.eject) after)) owner
+
+      -- ---- the whole call
+
+      drain-calm : (owner : Owner) (drain : Bool) (v : Machine) → IsCalm plan no_lag v → IsCalm plan no_lag (drain_if plan owner drain v)
+      drain-calm owner drain v calm = by (drain && is_ball_on v.game.phase)
+        where
+          by : (b : Bool) → IsCalm plan no_lag (if b then post owner (game_event plan BallDrain) v else v)
+          by true = other-calm plan (post-other plan owner (game_event plan BallDrain) v) calm
+          by false = calm
+
+      module _ (enter : Type 0) (confirm : RowId → Machine → Machine)
+          (confirms : enter → (v : Machine) → IsCalm plan (lag_at (Device r)) v → IsCalm plan no_lag (confirm r v)) where
+        origin-calm : enter → (owner : Owner) (drain : Bool) (o : Origin) (v : Machine) → IsCalm plan (λ target. one (is_end_for target (Entered r o))) v
+            → IsCalm plan no_lag (after_entry plan confirm owner r drain o v)
+        origin-calm may owner drain Awaited v calm = confirms may v calm
+        origin-calm may owner drain OfPlayfield v calm = drain-calm owner drain v calm
+        origin-calm may owner drain New v calm = drain-calm owner drain v calm
+
+        answer-calm : {t : BallState} {ks : List ℕ} → HasBallShape d t → Answer enter b t ks
+            → IsCalm plan no_lag (do_answer_by plan confirm r ks (set_device r (states.BallDevice t) s))
+        answer-calm shape (nothing t ks balls away quiet) =
+            other-calm plan (quiet-other confirm ks (set_device r (states.BallDevice t) s) quiet) (nothing-calm t shape balls away)
+        answer-calm shape (enters may t rest balls away quiet) =
+            let owner = (row_at plan r).owner in
+            let u = set_device r (states.BallDevice t) s in
+            let event = ball_row.event in
+            let drain = ball_row.drain in
+            let in_it = book owner (ledger_calls.Enter r) u in
+            other-calm plan (quiet-other confirm rest (do_list_by plan confirm owner (list_of_row plan r lists.entered) u) quiet)
+            (one_action (IsCalm plan no_lag) confirm lists.entered (Enter r event drain) u ball_row.entered
+            (origin-calm may owner drain (origin_of r s.ledger) (post owner event in_it)
+            (other-calm plan (post-other plan owner event in_it) (entered-calm t shape balls away owner))))
+        answer-calm shape (leaves t balls before after) =
+            one_action (IsCalm plan no_lag) confirm lists.left (Leave r) (set_device r (states.BallDevice t) s) ball_row.left
+            (left-calm t shape balls before after (row_at plan r).owner)
+        answer-calm shape (loses t balls away) =
+            one_action (IsCalm plan no_lag) confirm lists.lost (Lose r) (set_device r (states.BallDevice t) s) ball_row.lost
+            (lost-calm t shape balls away (row_at plan r).owner)
+        answer-calm shape (arrives t rest balls before after quiet) =
+            let u = set_device r (states.BallDevice t) s in
+            other-calm plan (quiet-other confirm rest (do_list_by plan confirm (row_at plan r).owner (list_of_row plan r lists.arrived) u) quiet)
+            (one_action (IsCalm plan no_lag) confirm lists.arrived (Arrive r) u ball_row.arrived
+            (arrived-calm t shape balls before after (row_at plan r).owner))
+
+        answered-calm : (call : Call) → HasBallShape d b → IsAnswer enter b (ball_step d call s.moment b)
+            → IsCalm plan no_lag (call_device_by plan confirm call r s)
+        answered-calm call shape answer =
+            subst (λ (a : DeviceState × List ℕ). IsCalm plan no_lag (do_answer_by plan confirm r a.1 (set_device r a.0 s)))
+            (sym (ap₂ (λ (x : Settings) (y : DeviceState). device_step x call s.moment (world_of s) y) is was))
+            (answer-calm (ball_step-shape d call s.moment b shape) answer)
+
+    -- ---- a device that is Away to another is told that its ball has arrived there
+
+    module _ (to : RowId) (s : Machine) (h : IsCalm plan (lag_at (Device to)) s) (b : BallState) (was : device_at s r ≡ states.BallDevice b)
+        (shape : HasBallShape d b) (away : is_away b.eject ≡ true) (target : d.target ≡ Device to) where
+      told-calm : IsCalm plan no_lag (call_device_by plan no_confirm (calls.Act acts.Confirm) r s)
+      told-calm =
+          let a = ball_step d (calls.Act acts.Confirm) s.moment b in
+          let done = step-confirmed d s.moment b to away target in
+          let balls : balls_in a.0 ≡ balls_in b = ap (λ (bs : _). count_by (λ x. x.counted) bs) done.switches in
+          let u = set_device r (states.BallDevice a.0) s in
+          subst (λ (x : DeviceState × List ℕ). IsCalm plan no_lag (do_answer_by plan no_confirm r x.1 (set_device r x.0 s)))
+          (sym (ap₂ (λ (x : Settings) (y : DeviceState). device_step x (calls.Act acts.Confirm) s.moment (world_of s) y) is was))
+          (other-calm plan (quiet-other no_confirm a.1 u done.quiet)
+          (turned-calm plan s r d within is b a.0 was (ball_step-shape d (calls.Act acts.Confirm) s.moment b shape) u refl h refl h.ledger h.most
+          (h.held r d within is ∙ (ap balls_at was ∙ sym balls)) (λ e inside other. refl)
+          (λ x there.
+          let same : one (is_target x d.target) ≡ one (is_target x (Device to)) = ap (λ (y : BallTarget). one (is_target x y)) target in
+          omega (arith, same, one-yes (is_target x d.target) (is_away b.eject) away, one-no (is_target x d.target) (is_away a.0.eject) done.away))))
+
+  -- ---- the first device Away to a target
+
+  -- what is known of a row that is found
+  record IsFeedingRow (target : BallTarget) (q : RowId) : Type 0 where
+    within : q.0 < length plan.rows
+    feeds_it : feeds target (row_at plan q).settings ≡ true
+
+  feeding_rows : (target : BallTarget) → All (IsFeedingRow target) (feeders_of plan target)
+  feeding_rows target =
+      let f : RowId → Bool = λ q. feeds target (row_at plan q).settings in
+      let inside = All-filter f (λ q. q.0 < length plan.rows) (row_numbers plan) (rows-within plan) in
+      let passes = filter_passes f (row_numbers plan) in
+      (λ k e there. record { within = inside k e there; feeds_it = passes k e there })
+
+  entry-calm : (to : RowId) → to.0 < length plan.rows → (s : Machine) → IsCalm plan (lag_at (Device to)) s
+      → IsCalm plan no_lag (confirm_entry plan to s)
+  entry-calm to inside s h = by (first_away plan (Device to) s) (find-found p (IsFeedingRow (Device to)) (feeders_of plan (Device to)) (feeding_rows (Device to)) (first_away plan (Device to) s) refl)
+    where
+      p : RowId → Bool
+      p q = is_device_away (device_at s q)
+
+      by : (o : Option RowId) → Found p (IsFeedingRow (Device to)) (feeders_of plan (Device to)) o → IsCalm plan no_lag (confirm_of plan o s)
+      by None none =
+          let late : one (to.0 == to.0) ≡ 1 = ap one (eq-eqb to.0 to.0 refl) in
+          absurd (omega (arith, none, late, h.away (Device to) inside))
+      by (Some q) (away, row) =
+          let of = feeder (Device to) (row_at plan q).settings row.feeds_it in
+          let state = h.shapes q of.d row.within of.is in
+          told-calm q of.d row.within of.is to s h state.ball state.is state.shape (sym (ap is_device_away state.is) ∙ away) of.to
+
+  pub arrival-calm : (s : Machine) → IsCalm plan no_lag s → IsCalm plan no_lag (confirm_first_away plan Playfield s)
+  arrival-calm s h = by (first_away plan Playfield s) (find-found p (IsFeedingRow Playfield) (feeders_of plan Playfield) (feeding_rows Playfield) (first_away plan Playfield s) refl)
+    where
+      p : RowId → Bool
+      p q = is_device_away (device_at s q)
+
+      by : (o : Option RowId) → Found p (IsFeedingRow Playfield) (feeders_of plan Playfield) o → IsCalm plan no_lag (confirm_of plan o s)
+      by None none = h
+      by (Some q) (away, row) =
+          let of = feeder Playfield (row_at plan q).settings row.feeds_it in
+          let state = h.shapes q of.d row.within of.is in
+          answered-calm q of.d row.within of.is s h state.ball state.is ⊥ no_confirm (λ none. absurd none) (calls.Act acts.Confirm) state.shape
+          (confirm-answer of.d ⊥ s.moment state.ball of.to)
+
+  pub call-calm : (call : Call) (r : RowId) (d : BallSettings) → r.0 < length plan.rows → (row_at plan r).settings ≡ kinds.BallDevice d
+      → IsUsual call → (s : Machine) → IsCalm plan no_lag s → IsCalm plan no_lag (call_device plan call r s)
+  call-calm call r d within is usual s h =
+      let state = h.shapes r d within is in
+      answered-calm r d within is s h state.ball state.is (Unit {0}) (confirm_entry plan) (λ may v calm. entry-calm r within v calm) call state.shape
+      (step-answer d (Unit {0}) tt call s.moment state.ball usual)
+
+  -- ---- all together
+
+  pub plays-calm : {may : Call → Type 0} → ((call : Call) → may call → IsUsual call) → {s t : Machine} → Plays plan may s t
+      → IsCalm plan no_lag s → IsCalm plan no_lag t
+  plays-calm usual (still other) h = other-calm plan other h
+  plays-calm usual (ball call r d s within is may) h = call-calm call r d within is (usual call may) s h
+  plays-calm usual (arrival s) h = arrival-calm s h
+  plays-calm usual (both a b) h = plays-calm usual b (plays-calm usual a h)

@@ -1,0 +1,200 @@
+-- As many balls count in a device as count at the switches that its ball switches are.
+use Rattle.std.proofs.Common.{◌≡◌, ℕ, suc, ◌+◌, ◌==◌, inl, inr, Bool, true, false, cond, ◌&&◌, ◌||◌, List, [], ◌∷◌, length, map, get_or, set, refl, ap, ap₂, sym, ◌∙◌, arith}
+use Rattle.std.specs.List.{All, AllPairs, count_by, filter, flat_map, list_any, range_with_len, sum_by}
+use Rattle.std.proofs.lemmas.Bool.{and_parts, cases_Bool, cases_eq, cases_lt, eqb-true, false≢true, ne_eqb, or_cases}
+use Rattle.std.proofs.lemmas.List.{get_or_past, get_or-set_same, get_or-set_other, set_past}
+use Rattle.std.proofs.lemmas.List.Elements.{All-head, All-tail}
+use Rattle.std.proofs.lemmas.List.Folds.{flat_map-map}
+use Rattle.std.proofs.lemmas.List.FromFn.{fill_by_all}
+use Rattle.std.proofs.lemmas.List.Sums.{sum_by-append, sum_by-cons, sum_by-set}
+use Rattle.plan_tables.specs.PlanView.{PlanView, PlanSwitch, listeners_of, no_switch, switch_at}
+use Rattle.plan_tables.specs.declared.devices.RowId.{RowId}
+use Rattle.plan_tables.specs.declared.entries.Listener.{Listener}
+use Rattle.plan_tables.specs.declared.entries.SwitchId.{SwitchId}
+use Rattle.ball_devices.proofs.Booked.{one}
+use Rattle.cascade_rank.specs.Cost.{switches_of}
+use Rattle.device_objects.specs.declared.state.BallSwitch.{BallSwitch}
+use Rattle.device_objects.specs.BallDevice.{empty}
+use Rattle.written_machine.specs.BallRows.{AreApart, AreOfTwoRows}
+use Rattle.written_machine.specs.Counted.{ball_switches}
+use Rattle.written_machine.proofs.BallFeeders.{filter-count}
+
+-- ---- pairs
+
+module _ {X : Type 0} (R : X → X → Type 0) where
+  pub pairs-head : (x : X) (xs : List X) → AllPairs R (x ∷ xs) → All (R x) xs
+  pairs-head x xs h k d within = h 0 (suc k) d (omega arith) (omega arith)
+
+  pub pairs-tail : (x : X) (xs : List X) → AllPairs R (x ∷ xs) → AllPairs R xs
+  pairs-tail x xs h i j d before within = h (suc i) (suc j) d (omega arith) (omega arith)
+
+sum-same : {X : Type 0} (f g : X → ℕ) (xs : List X) → All (λ x. f x ≡ g x) xs → sum_by f xs ≡ sum_by g xs
+sum-same f g [] same = refl
+sum-same f g (x ∷ xs) same =
+    omega (arith, sum_by-cons f x xs, sum_by-cons g x xs, All-head (λ y. f y ≡ g y) x xs same, sum-same f g xs (All-tail (λ y. f y ≡ g y) x xs same))
+
+-- ---- who listens for a ball switch
+
+-- whether it is this ball switch of this row
+abbrev pub is_for : RowId → ℕ → Listener → Bool
+is_for r i l = l.row.0 == r.0 && l.switch == i
+
+abbrev pub is_heard : RowId → ℕ → List Listener → Bool
+is_heard r i ls = list_any (is_for r i) ls
+
+module _ (r : RowId) where
+  abbrev counts : List BallSwitch → ℕ → Bool
+  counts bs i = (get_or bs i empty).counted
+
+  -- 1 where a ball counts at the listener's ball switch, and that is one of the row
+  abbrev counts_at : List BallSwitch → Listener → ℕ
+  counts_at bs l = one (l.row.0 == r.0 && counts bs l.switch)
+
+  -- none counts
+  none-counts : (bs : List BallSwitch) → ((i : ℕ) → counts bs i ≡ true → ⊥) → count_by (λ b. b.counted) bs ≡ 0
+  none-counts [] none = refl
+  none-counts (b ∷ bs) none =
+      elim (cases_Bool b.counted) [
+        | inl is ↦ absurd (none 0 is)
+        | inr is ↦
+            let zero_is : one b.counted ≡ 0 = ap one is in
+            omega (arith, zero_is, sum_by-cons (λ (x : BallSwitch). cond x.counted 1 0) b bs, none-counts bs (λ i. none (suc i)))
+      ]
+
+  -- where one is emptied, one fewer counts if it did
+  emptied : (bs : List BallSwitch) (i : ℕ) → count_by (λ b. b.counted) (set bs i empty) + one (counts bs i) ≡ count_by (λ b. b.counted) bs
+  emptied bs i =
+      elim (cases_lt i (length bs)) [
+        | inl within ↦ omega (arith, sum_by-set (λ (b : BallSwitch). cond b.counted 1 0) bs i empty empty within)
+        | inr past ↦
+            let same : count_by (λ b. b.counted) (set bs i empty) ≡ count_by (λ b. b.counted) bs = ap (count_by (λ b. b.counted)) (set_past bs i empty past) in
+            let none : one (counts bs i) ≡ 0 = ap (λ (b : BallSwitch). one b.counted) (get_or_past bs i empty past) in
+            omega (arith, same, none)
+      ]
+
+  emptied-other : (bs : List BallSwitch) (i j : ℕ) → (j ≡ i → ⊥) → counts (set bs i empty) j ≡ counts bs j
+  emptied-other bs i j other = ap (λ (b : BallSwitch). b.counted) (get_or-set_other bs i j empty empty other)
+
+  emptied-none : (bs : List BallSwitch) (i : ℕ) → counts (set bs i empty) i ≡ false
+  emptied-none bs i =
+      elim (cases_lt i (length bs)) [
+        | inl within ↦ ap (λ (b : BallSwitch). b.counted) (get_or-set_same bs i empty empty within)
+        | inr past ↦
+            ap (λ (xs : List BallSwitch). counts xs i) (set_past bs i empty past) ∙ ap (λ (b : BallSwitch). b.counted) (get_or_past bs i empty past)
+      ]
+
+  -- the listeners count each ball once, where each ball that counts has one, and no two are for one ball switch
+  pub listeners-count : (ls : List Listener) (bs : List BallSwitch) → AllPairs AreApart ls → ((i : ℕ) → counts bs i ≡ true → is_heard r i ls ≡ true)
+      → sum_by (counts_at bs) ls ≡ count_by (λ b. b.counted) bs
+  listeners-count [] bs apart heard = sym (none-counts bs (λ i is. false≢true (heard i is)))
+  listeners-count (l ∷ ls) bs apart heard =
+      elim (cases_Bool (l.row.0 == r.0)) [
+        | inl its ↦
+            let fewer = set bs l.switch empty in
+            let row : l.row.0 ≡ r.0 = eqb-true l.row.0 r.0 its in
+            let rest = listeners-count ls fewer (pairs-tail AreApart l ls apart) (λ i is. still i is) in
+            let same = sum-same (counts_at fewer) (counts_at bs) ls (λ k e within. unchanged row (get_or ls k e) (pairs-head AreApart l ls apart k e within)) in
+            let here : counts_at bs l ≡ one (counts bs l.switch) = ap (λ (b : Bool). one (b && counts bs l.switch)) its in
+            omega (arith, sum_by-cons (counts_at bs) l ls, rest, same, here, emptied bs l.switch)
+        | inr not ↦
+            let here : counts_at bs l ≡ 0 = ap (λ (b : Bool). one (b && counts bs l.switch)) not in
+            let rest = listeners-count ls bs (pairs-tail AreApart l ls apart) (λ i is. later not i (heard i is)) in
+            omega (arith, sum_by-cons (counts_at bs) l ls, rest, here)
+      ]
+    where
+      later : (l.row.0 == r.0) ≡ false → (i : ℕ) → is_heard r i (l ∷ ls) ≡ true → is_heard r i ls ≡ true
+      later not i is =
+          elim (or_cases (is_for r i l) (is_heard r i ls) is) [
+            | inl first ↦ absurd (false≢true (sym not ∙ (and_parts (l.row.0 == r.0) (l.switch == i) first).0))
+            | inr more ↦ more
+          ]
+
+      still : (i : ℕ) → counts (set bs l.switch empty) i ≡ true → is_heard r i ls ≡ true
+      still i is =
+          elim (cases_eq i l.switch) [
+            | inl same ↦ absurd (false≢true (sym (ap (counts (set bs l.switch empty)) same ∙ emptied-none bs l.switch) ∙ is))
+            | inr other ↦
+                elim (or_cases (is_for r i l) (is_heard r i ls) (heard i (sym (emptied-other bs l.switch i other) ∙ is))) [
+                  | inl first ↦ absurd (other (sym (eqb-true l.switch i (and_parts (l.row.0 == r.0) (l.switch == i) first).1)))
+                  | inr more ↦ more
+                ]
+          ]
+
+      unchanged : l.row.0 ≡ r.0 → (m : Listener) → AreApart l m → counts_at (set bs l.switch empty) m ≡ counts_at bs m
+      unchanged row m are =
+          elim (cases_Bool (m.row.0 == r.0)) [
+            | inl its ↦
+                let same_row : l.row ≡ m.row = ap (λ (k : ℕ). record { 0 = k }) (row ∙ sym (eqb-true m.row.0 r.0 its)) in
+                ap (λ (b : Bool). one (m.row.0 == r.0 && b)) (emptied-other bs l.switch m.switch (λ same. are same_row (sym same)))
+            | inr not ↦
+                ap (λ (b : Bool). one (b && counts (set bs l.switch empty) m.switch)) not
+                ∙ sym (ap (λ (b : Bool). one (b && counts bs m.switch)) not)
+          ]
+
+  -- ---- the switches of a row
+
+  abbrev of_row : Listener → Bool
+  of_row l = l.row.0 == r.0
+
+  -- no listener of the row
+  none-of_row : (bs : List BallSwitch) (ls : List Listener) → All (λ (l : Listener). l.row.0 ≡ r.0 → ⊥) ls → sum_by (counts_at bs) ls ≡ 0
+  none-of_row bs [] none = refl
+  none-of_row bs (l ∷ ls) none =
+      let here : counts_at bs l ≡ 0 = ap (λ (b : Bool). one (b && counts bs l.switch)) (ne_eqb l.row.0 r.0 (All-head (λ (m : Listener). m.row.0 ≡ r.0 → ⊥) l ls none)) in
+      omega (arith, sum_by-cons (counts_at bs) l ls, here, none-of_row bs ls (All-tail (λ (m : Listener). m.row.0 ≡ r.0 → ⊥) l ls none))
+
+  -- the one listener of the row that a switch has, if it has one, says whether a ball counts at it
+  switch-count : (bs : List BallSwitch) (c : Bool) (ls : List Listener) → AllPairs AreOfTwoRows ls
+      → All (λ (l : Listener). l.row.0 ≡ r.0 → counts bs l.switch ≡ c) ls → one (list_any of_row ls && c) ≡ sum_by (counts_at bs) ls
+  switch-count bs c [] apart says = refl
+  switch-count bs c (l ∷ ls) apart says =
+      elim (cases_Bool (l.row.0 == r.0)) [
+        | inl its ↦
+            let row : l.row.0 ≡ r.0 = eqb-true l.row.0 r.0 its in
+            let whole : one (list_any of_row (l ∷ ls) && c) ≡ one c = ap (λ (b : Bool). one ((b || list_any of_row ls) && c)) its in
+            let here : counts_at bs l ≡ one c =
+            ap₂ (λ (x y : Bool). one (x && y)) its (All-head (λ (m : Listener). m.row.0 ≡ r.0 → counts bs m.switch ≡ c) l ls says row) in
+            let none = none-of_row bs ls (λ k e within also.
+            pairs-head AreOfTwoRows l ls apart k e within (ap (λ (j : ℕ). record { 0 = j }) (row ∙ sym also))) in
+            omega (arith, whole, here, none, sum_by-cons (counts_at bs) l ls)
+        | inr not ↦
+            let whole : one (list_any of_row (l ∷ ls) && c) ≡ one (list_any of_row ls && c) = ap (λ (b : Bool). one ((b || list_any of_row ls) && c)) not in
+            let here : counts_at bs l ≡ 0 = ap (λ (b : Bool). one (b && counts bs l.switch)) not in
+            let rest = switch-count bs c ls (pairs-tail AreOfTwoRows l ls apart) (All-tail (λ (m : Listener). m.row.0 ≡ r.0 → counts bs m.switch ≡ c) l ls says) in
+            omega (arith, whole, here, rest, sum_by-cons (counts_at bs) l ls)
+      ]
+
+module _ (plan : PlanView) (r : RowId) (bs : List BallSwitch) (test : SwitchId → Bool) where
+  -- what the listeners of a switch say
+  pub record IsSaid (n : SwitchId) : Type 0 where
+    pub once : AllPairs AreOfTwoRows (listeners_of plan n)
+    pub says : All (λ (l : Listener). l.row.0 ≡ r.0 → (get_or bs l.switch empty).counted ≡ test n) (listeners_of plan n)
+
+  switches-count : (ns : List SwitchId) → All IsSaid ns
+      → count_by test (filter (λ n. list_any (λ l. l.row.0 == r.0) (listeners_of plan n)) ns) ≡ sum_by (counts_at r bs) (flat_map (listeners_of plan) ns)
+  switches-count [] all = refl
+  switches-count (n ∷ ns) all =
+      let said = All-head IsSaid n ns all in
+      omega (
+        arith,
+        filter-count test (λ n. list_any (λ l. l.row.0 == r.0) (listeners_of plan n)) n ns,
+        switch-count r bs (test n) (listeners_of plan n) said.once said.says,
+        sum_by-append (counts_at r bs) (listeners_of plan n) (flat_map (listeners_of plan) ns),
+        switches-count ns (All-tail IsSaid n ns all),
+      )
+
+  all_listeners : flat_map (listeners_of plan) (switches_of plan) ≡ flat_map (λ s. s.listeners) plan.switches
+  all_listeners =
+      let number : ℕ → SwitchId = λ k. record { 0 = k } in
+      let all : plan.switches ≡ map (λ k. switch_at plan (number k)) (range_with_len 0 (length plan.switches)) =
+      fill_by_all (λ k. switch_at plan (number k)) plan.switches (length plan.switches) no_switch refl (λ k within. refl) in
+      flat_map-map (listeners_of plan) number (range_with_len 0 (length plan.switches))
+      ∙ (sym (flat_map-map (λ (s : PlanSwitch). s.listeners) (λ k. switch_at plan (number k)) (range_with_len 0 (length plan.switches)))
+      ∙ ap (flat_map (λ (s : PlanSwitch). s.listeners)) (sym all))
+
+  pub row-count : AllPairs AreApart (flat_map (λ s. s.listeners) plan.switches) → All IsSaid (switches_of plan)
+      → ((i : ℕ) → (get_or bs i empty).counted ≡ true → is_heard r i (flat_map (λ s. s.listeners) plan.switches) ≡ true)
+      → count_by (λ b. b.counted) bs ≡ count_by test (ball_switches plan r)
+  row-count apart said heard =
+      sym (switches-count (switches_of plan) said ∙ (ap (sum_by (counts_at r bs)) all_listeners
+      ∙ listeners-count r (flat_map (λ s. s.listeners) plan.switches) bs apart heard))

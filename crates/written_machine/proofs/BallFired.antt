@@ -1,0 +1,69 @@
+-- What the alarm of a ball device does with its ball switches.
+use Rattle.std.proofs.Common.{◌≡◌, ℕ, suc, ◌+◌, ◌≤◌, min, inl, inr, ◌⊎◌, false, Option, Some, None, List, [], ◌∷◌, slice_set, get_or, option_map, refl, ap, ◌∙◌, subst, arith}
+use Rattle.std.proofs.lemmas.Bool.{cond_both, ltb-false}
+use Rattle.std.proofs.lemmas.Option.{same_Some}
+use Rattle.plan_tables.specs.declared.devices.BallSettings.{BallSettings}
+use Rattle.device_objects.specs.declared.state.BallState.{BallState}
+use Rattle.device_objects.specs.declared.state.Eject.{Eject}
+use Rattle.device_objects.specs.declared.state.Eject.TheVariants.{Idle, Pulsing, Away}
+use Rattle.device_objects.specs.BallDevice.{empty, switch_at, set_switch, first_due, timeout_of, earlier, is_timeout_first, entered, left, lost, failed, attempt, begin, after, ended, may_try_again, time_out, turned, gone, count, count_due, fire, due_of}
+use Rattle.device_objects.proofs.BallDue.{first_due-is_due}
+use Rattle.written_machine.proofs.BallSteps.{begin-begun}
+
+-- one ball switch, which was due at this moment, has turned
+pub record HasTurned (b t : BallState) (at : ℕ) : Type 0 where
+  pub place : ℕ
+  pub due : (get_or b.switches place empty).due ≡ Some at
+  pub switches : t.switches ≡ slice_set b.switches place (turned (get_or b.switches place empty))
+
+-- or all are the same
+abbrev pub IsFired : BallState → ℕ → BallState → Type 0
+IsFired b at t = (t.switches ≡ b.switches) ⊎ HasTurned b t at
+
+module _ (d : BallSettings) where
+  gone-switches : (now : ℕ) (eject : Eject) (b : BallState) → (gone d now eject b).0.switches ≡ b.switches
+  gone-switches now Idle b =
+      cond_both {A = BallState × List ℕ} d.mechanical (record b { eject = Away (record { number = 1; timeout = now + d.timeout }) }, left ∷ []) (b, lost ∷ [])
+      (λ a. a.0.switches ≡ b.switches) (λ hand. refl) (λ none. refl)
+  gone-switches now (Pulsing a) b = refl
+  gone-switches now (Away a) b = refl
+
+  time_out-switches : (now : ℕ) (eject : Eject) (b : BallState) → (time_out d now eject b).0.switches ≡ b.switches
+  time_out-switches now Idle b = refl
+  time_out-switches now (Pulsing a) b =
+      cond_both {A = BallState × List ℕ} (may_try_again d.max_attempts a.number) (after (failed ∷ []) (attempt d (min (suc a.number) 1000) now b))
+      (record b { eject = Idle; wanted = 0 }, failed ∷ []) (λ x. x.0.switches ≡ b.switches) (λ may. refl) (λ not. refl)
+  time_out-switches now (Away a) b = let begun = begin-begun d now (ended b) in begun.same.switches
+
+  count-switches : (now i : ℕ) (b : BallState) → (count d now i b).0.switches ≡ slice_set b.switches i (turned (switch_at b i))
+  count-switches now i b =
+      let t : BallState = set_switch i (turned (switch_at b i)) b in
+      let begun = begin-begun d now t in
+      cond_both {A = BallState × List ℕ} (switch_at b i).counted (gone d now b.eject t) (after (entered ∷ []) (begin d now t)) (λ x. x.0.switches ≡ t.switches)
+      (λ was. gone-switches now b.eject t) (λ was_not. begun.same.switches)
+
+  -- the ball switch that is due first is due at the device's moment
+  first-moment : (at : ℕ) (a : ℕ × ℕ) (timeout : Option ℕ) → is_timeout_first (Some a) timeout ≡ false → earlier (Some a.0) timeout ≡ Some at → a.0 ≡ at
+  first-moment at a None not is = same_Some a.0 at is
+  first-moment at a (Some t) not is =
+      let before : a.0 ≤ t = ltb-false t a.0 not in
+      let same : min a.0 t ≡ at = same_Some (min a.0 t) at is in
+      omega arith
+
+  counted-fired : (now at : ℕ) (b : BallState) (first : Option (ℕ × ℕ)) → first_due b ≡ first → is_timeout_first first (timeout_of b.eject) ≡ false
+      → earlier (option_map (λ a. a.0) first) (timeout_of b.eject) ≡ Some at → IsFired b at (count_due d now first b).0
+  counted-fired now at b None is not due = inl refl
+  counted-fired now at b (Some a) is not due =
+      let its = first_due-is_due 0 b.switches a is in
+      let moment = first-moment at a (timeout_of b.eject) not due in
+      let place : its.0 ≡ a.1 = omega (arith, its.1) in
+      inr (record {
+        place = a.1;
+        due = subst (λ (k : ℕ). (get_or b.switches k empty).due ≡ Some at) place (its.2 ∙ ap (λ (k : ℕ). Some k) moment);
+        switches = count-switches now a.1 b;
+      })
+
+  pub fire-fired : (now at : ℕ) (b : BallState) → due_of b ≡ Some at → IsFired b at (fire d now b).0
+  fire-fired now at b due =
+      cond_both {A = BallState × List ℕ} (is_timeout_first (first_due b) (timeout_of b.eject)) (time_out d now b.eject b) (count_due d now (first_due b) b)
+      (λ a. IsFired b at a.0) (λ is. inl (time_out-switches now b.eject b)) (λ not. counted-fired now at b (first_due b) refl not due)

@@ -1,0 +1,152 @@
+-- Whether a ball counts at a ball switch follows from its changes alone.
+use Rattle.std.proofs.Common.{◌≡◌, ℕ, zero, suc, ◌+◌, ◌<◌, ◌≤◌, inl, inr, Bool, true, false, not, cond, ◌&&◌, Option, Some, None, List, [], ◌∷◌, ◌++◌, if◌then◌else◌, nat_le, nat_lt, refl, ap, sym, ◌∙◌, append-nil, arith}
+use Rattle.std.specs.List.{filter, list_all, last_or}
+use Rattle.std.proofs.lemmas.Bool.{false≢true, le-leb, lt-leb, leb-true, ltb-true, cases_lt, lt-ltb, le-ltb, cond-true, cond-false}
+use Rattle.std.proofs.lemmas.List.Elements.{filter_agree}
+use Rattle.std.proofs.lemmas.List.Folds.{list_all-append}
+use Rattle.plan_tables.specs.declared.devices.BallSettings.{BallSettings}
+use Rattle.device_objects.specs.declared.state.BallSwitch.{BallSwitch}
+use Rattle.device_objects.specs.BallDevice.{delay, empty, noted, turned}
+use Rattle.written_machine.specs.Counted.{LevelChange, counts_from, is_late, standing, level_after, counted_level}
+
+-- ---- one change more
+
+and-true : (b : Bool) → (b && true) ≡ b
+and-true true = refl
+and-true false = refl
+
+filter-cond : (f : LevelChange → Bool) (b : Bool) (xs ys : List LevelChange) → filter f (cond b xs ys) ≡ cond b (filter f xs) (filter f ys)
+filter-cond f true xs ys = refl
+filter-cond f false xs ys = refl
+
+-- An older change stays among those that stand (b) just where the later one is late (n), and then it counts (o).
+kept : (p : LevelChange) (fs gs end : List LevelChange) (b n o : Bool) → fs ≡ gs ++ end → (n ≡ true → o ≡ true)
+    → cond (b && n) (cond o (p ∷ fs) fs) fs ≡ cond b (cond n (p ∷ gs) gs) gs ++ end
+kept p fs gs end false n o is over = is
+kept p fs gs end true false o is over = is
+kept p fs gs end true true true is over = ap (λ xs. p ∷ xs) is
+kept p fs gs end true true false is over = absurd (false≢true (over refl))
+
+last-push : (o : Option LevelChange) (xs : List LevelChange) (x : LevelChange) → last_or o (xs ++ x ∷ []) ≡ Some x
+last-push o [] x = refl
+last-push o (y ∷ ys) x = last-push (Some y) ys x
+
+level-push : (xs : List LevelChange) (c : LevelChange) (b : Bool)
+    → level_after (last_or None (xs ++ cond b (c ∷ []) [])) ≡ cond b c.active (level_after (last_or None xs))
+level-push xs c true = ap level_after (last-push None xs c)
+level-push xs c false = ap (λ (ys : List LevelChange). level_after (last_or None ys)) (append-nil xs)
+
+module _ (d : BallSettings) where
+  late-over : (quick : Bool) (moment from : ℕ) (c : LevelChange) → c.at ≤ moment → is_late quick from c ≡ true → nat_le from moment ≡ true
+  late-over true moment from c before late = le-leb from moment (let le = leb-true from c.at late in omega arith)
+  late-over false moment from c before late = le-leb from moment (let lt = ltb-true from c.at late in omega arith)
+
+  -- Of those that stood, the ones for which the later change is late stand on, and it stands itself.
+  standing-push : (quick : Bool) (moment : ℕ) (past : List LevelChange) (c : LevelChange) → c.at ≤ moment
+      → filter (λ x. nat_le (counts_from d x) moment) (standing d quick (past ++ c ∷ []))
+      ≡ filter (λ x. is_late quick (counts_from d x) c) (standing d quick past) ++ filter (λ x. nat_le (counts_from d x) moment) (c ∷ [])
+  standing-push quick moment [] c before = refl
+  standing-push quick moment (p ∷ later) c before =
+      let near : LevelChange → Bool = is_late quick (counts_from d p) in
+      let f : LevelChange → Bool = λ x. nat_le (counts_from d x) moment in
+      let g : LevelChange → Bool = λ x. is_late quick (counts_from d x) c in
+      let old = standing d quick later in
+      let new = standing d quick (later ++ c ∷ []) in
+      let rest : filter f new ≡ filter g old ++ filter f (c ∷ []) = standing-push quick moment later c before in
+      let stays : list_all near (later ++ c ∷ []) ≡ (list_all near later && g p) = list_all-append near later (c ∷ []) ∙ ap (λ b. list_all near later && b) (and-true (near c)) in
+      let over : g p ≡ true → f p ≡ true = λ is. late-over quick moment (counts_from d p) c before is in
+      filter-cond f (list_all near (later ++ c ∷ [])) (p ∷ new) new ∙ ap (λ b. cond b (cond (f p) (p ∷ filter f new) (filter f new)) (filter f new)) stays
+      ∙ kept p (filter f new) (filter g old) (filter f (c ∷ [])) (list_all near later) (g p) (f p) rest over
+      ∙ ap (λ xs. xs ++ filter f (c ∷ [])) (sym (filter-cond g (list_all near later) (p ∷ old) old))
+
+  -- what counted when the later change came
+  abbrev level_before : Bool → LevelChange → List LevelChange → Bool
+  level_before quick c past = level_after (last_or None (filter (λ x. is_late quick (counts_from d x) c) (standing d quick past)))
+
+  counted-push : (quick : Bool) (moment : ℕ) (past : List LevelChange) (c : LevelChange) → c.at ≤ moment
+      → counted_level d quick moment (past ++ c ∷ []) ≡ cond (nat_le (counts_from d c) moment) c.active (level_before quick c past)
+  counted-push quick moment past c before =
+      let changes = filter (λ x. is_late quick (counts_from d x) c) (standing d quick past) in
+      ap (λ (cs : List LevelChange). level_after (last_or None cs)) (standing-push quick moment past c before)
+      ∙ level-push changes c (nat_le (counts_from d c) moment)
+
+  -- at a normal switch that is what counted just before it
+  less-le : (from at before : ℕ) → at ≡ before + 1 → nat_lt from at ≡ nat_le from before
+  less-le from at before is =
+      elim (cases_lt from at) [
+        | inl less ↦ lt-ltb from at less ∙ sym (le-leb from before (omega arith))
+        | inr more ↦ le-ltb from at more ∙ sym (lt-leb from before (omega arith))
+      ]
+
+  before-normal : (c : LevelChange) (past : List LevelChange) (before : ℕ) → c.at ≡ before + 1 → level_before false c past ≡ counted_level d false before past
+  before-normal c past before is =
+      ap (λ (cs : List LevelChange). level_after (last_or None cs))
+      (filter_agree (λ x. is_late false (counts_from d x) c) (λ x. nat_le (counts_from d x) before) (λ x. less-le (counts_from d x) c.at before is) (standing d false past))
+
+  -- ---- a ball switch follows its changes
+
+  -- whether a ball will count at a moment, if the level stays
+  abbrev pub level_then : Bool → Option ℕ → ℕ → Bool
+  level_then counted None moment = counted
+  level_then counted (Some due) moment = if nat_le due moment then not counted else counted
+
+  abbrev pub level_by : BallSwitch → ℕ → Bool
+  level_by b moment = level_then b.counted b.due moment
+
+  -- from this moment on it counts as its changes say
+  pub record Follows (quick : Bool) (since : ℕ) (b : BallSwitch) (changes : List LevelChange) : Type 0 where
+    pub level : (moment : ℕ) → since ≤ moment → counted_level d quick moment changes ≡ level_by b moment
+
+  pub first-follows : (quick : Bool) → Follows quick 0 empty []
+  first-follows quick = record { level = λ moment after. refl }
+
+  -- it counts until it is due
+  pub not_yet : (b : BallSwitch) (moment : ℕ) → ((due : ℕ) → b.due ≡ Some due → moment < due) → level_by b moment ≡ b.counted
+  not_yet b moment quiet = by b.due quiet
+    where
+      by : (o : Option ℕ) → ((due : ℕ) → o ≡ Some due → moment < due) → level_then b.counted o moment ≡ b.counted
+      by None none = refl
+      by (Some due) later = cond-false (nat_le due moment) (not b.counted) b.counted (lt-leb due moment (later due refl))
+
+  -- when it is due, the opposite counts
+  pub turned-follows : (quick : Bool) (since due : ℕ) (b : BallSwitch) (changes : List LevelChange) → b.due ≡ Some due → since ≤ due
+      → Follows quick since b changes → Follows quick due (turned b) changes
+  turned-follows quick since due b changes is later h = record {
+    level = λ moment after.
+        h.level moment (omega arith)
+        ∙ (ap (λ (o : Option ℕ). level_then b.counted o moment) is ∙ cond-true (nat_le due moment) (not b.counted) b.counted (le-leb due moment after));
+  }
+
+  -- a change more
+  same-both : (x k : Bool) → cond x k k ≡ k
+  same-both true k = refl
+  same-both false k = refl
+
+  noted-level : (active counted : Bool) (from moment : ℕ)
+      → cond (nat_le from moment) active counted ≡ level_then counted (if (if active then not counted else counted) then Some from else None) moment
+  noted-level true true from moment = same-both (nat_le from moment) true
+  noted-level true false from moment = refl
+  noted-level false true from moment = refl
+  noted-level false false from moment = same-both (nat_le from moment) false
+
+  -- where a change comes in time: a quick switch changes when all that is due has come, a normal one before devices
+  abbrev pub IsInTime : Bool → ℕ → ℕ → BallSwitch → Type 0
+  IsInTime true since at b = (since ≤ at) × ((due : ℕ) → b.due ≡ Some due → at < due)
+  IsInTime false since at b = (since < at) × ((due : ℕ) → b.due ≡ Some due → at ≤ due)
+
+  counted-before : (quick : Bool) (since at : ℕ) (active : Bool) (b : BallSwitch) (past : List LevelChange) → IsInTime quick since at b
+      → Follows quick since b past → level_before quick (record { at = at; active = active }) past ≡ b.counted
+  counted-before true since at active b past in_time h = h.level at in_time.0 ∙ not_yet b at in_time.1
+  counted-before false since zero active b past in_time h = absurd (let none = in_time.0 in omega arith)
+  counted-before false since (suc before) active b past in_time h =
+      before-normal (record { at = suc before; active = active }) past before (omega arith)
+      ∙ (h.level before (let low = in_time.0 in omega arith) ∙ not_yet b before (λ due is. let later = in_time.1 due is in omega arith))
+
+  pub noted-follows : (quick : Bool) (since at : ℕ) (active : Bool) (b : BallSwitch) (past : List LevelChange) → IsInTime quick since at b
+      → Follows quick since b past → Follows quick at (noted d active at b) (past ++ record { at = at; active = active } ∷ [])
+  noted-follows quick since at active b past in_time h = record {
+    level = λ moment after.
+        counted-push quick moment past (record { at = at; active = active }) after
+        ∙ (ap (λ (k : Bool). cond (nat_le (at + delay d active) moment) active k) (counted-before quick since at active b past in_time h)
+        ∙ noted-level active b.counted (at + delay d active) moment);
+  }

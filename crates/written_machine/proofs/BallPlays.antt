@@ -1,0 +1,443 @@
+-- What the parts of the machine do with balls: a ball device is called, a ball has arrived on the playfield, or nothing
+-- that concerns balls happens.
+use Rattle.std.proofs.Common.{◌≡◌, ℕ, ℤ, ◌<◌, ◌==◌, ◌&&◌, inl, inr, ◌⊎◌, if◌then◌else◌, Bool, true, false, Option, Some, None, List, [], ◌∷◌, ◌++◌, length, refl, sym, ap, ◌∙◌, subst, arith}
+use Rattle.std.specs.List.{All, filter, range_with_len}
+use Rattle.std.proofs.lemmas.Bool.{cases_lt, false≢true}
+use Rattle.std.proofs.lemmas.List.{append-nil, get_or_past, length-set, get_or-set_other}
+use Rattle.std.proofs.lemmas.List.Concat.{flat_map-append}
+use Rattle.std.proofs.lemmas.List.Elements.{All-head, All-tail, All-get_or, All-nil, All-map, All-filter, All-from_get_or, filter_passes}
+use Rattle.std.proofs.lemmas.List.FromFn.{length-range_with_len, get_or-range_with_len}
+use Rattle.std.proofs.lemmas.List.Sorted.{All-permutation}
+use Rattle.plan_tables.specs.PlanView.{PlanView, act_of_listener, actions_at, binding_at, coil_numbers, first_trough, game_event, is_owner, is_trough, list_of_row, listeners_of, mode_event, no_binding, no_row, no_switch, places_of, posts_of, row_at, row_numbers, rows_of, switch_at, work_of}
+use Rattle.plan_tables.specs.Valid.{HasEntries, IsBindingWithin, IsListenerWithin, IsTargetWithin}
+use Rattle.plan_tables.specs.Devices.{list_count}
+use Rattle.plan_tables.specs.declared.devices.Act.TheVariants as acts
+use Rattle.plan_tables.specs.declared.devices.BallSettings.{BallSettings}
+use Rattle.plan_tables.specs.declared.devices.BallTarget.TheVariants.{Playfield}
+use Rattle.plan_tables.specs.declared.devices.RowId.{RowId}
+use Rattle.plan_tables.specs.declared.devices.Settings.{Settings}
+use Rattle.plan_tables.specs.declared.devices.Settings.TheVariants as kinds
+use Rattle.plan_tables.specs.declared.entries.Action.{Action}
+use Rattle.plan_tables.specs.declared.entries.Action.TheVariants.{Post, Pulse, Enable, Disable, Change as ChangeVariable, Enter, Leave, Lose, Arrive}
+use Rattle.plan_tables.specs.declared.entries.BindingId.{BindingId}
+use Rattle.plan_tables.specs.declared.entries.CoilId.{CoilId}
+use Rattle.plan_tables.specs.declared.entries.EventId.{EventId}
+use Rattle.plan_tables.specs.declared.entries.ListId.{ListId}
+use Rattle.plan_tables.specs.declared.entries.Listener.{Listener}
+use Rattle.plan_tables.specs.declared.entries.ModeEvent.TheVariants.{WillStart, Starting, Started, Stopping, Stopped}
+use Rattle.plan_tables.specs.declared.entries.ModeId.{ModeId}
+use Rattle.plan_tables.specs.declared.entries.Owner.{Owner}
+use Rattle.plan_tables.specs.declared.entries.Owner.TheVariants as owners
+use Rattle.plan_tables.specs.declared.entries.SwitchId.{SwitchId}
+use Rattle.plan_tables.specs.declared.entries.Target.{Target}
+use Rattle.plan_tables.specs.declared.entries.Target.TheVariants.{Run, Start, Stop, Act as ActOn}
+use Rattle.plan_tables.specs.declared.entries.VariableId.{VariableId}
+use Rattle.plan_tables.specs.declared.entries.Work.{Work}
+use Rattle.plan_tables.specs.declared.entries.Work.TheVariants.{Nothing, Mode, Game}
+use Rattle.cascade_rank.proofs.Rows.{rows-within}
+use Rattle.coil_guard.specs.declared.command.Answer.{Answer}
+use Rattle.coil_guard.specs.declared.command.Answer.TheVariants as answers
+use Rattle.coil_guard.specs.declared.command.Command.{Command}
+use Rattle.coil_guard.specs.declared.command.Command.TheVariants as commands
+use Rattle.coil_guard.specs.Asked.{after_asking, answer_asking}
+use Rattle.coil_guard.specs.CoilStep.{is_held_by}
+use Rattle.coil_guard.specs.Coils.{coil_at}
+use Rattle.device_objects.proofs.Lists.{lists_are_of_the_row}
+use Rattle.device_objects.specs.declared.device.Call.{Call}
+use Rattle.device_objects.specs.declared.device.Call.TheVariants as calls
+use Rattle.device_objects.specs.declared.state.DeviceState.{DeviceState}
+use Rattle.device_objects.specs.DeviceStep.{first_state}
+use Rattle.event_queue.specs.declared.queue.Posted.{Posted}
+use Rattle.event_queue.specs.Handlers.{runs_at, handlers, IsHandlerOrder}
+use Rattle.mode_stack.specs.ModeStep.{starts, started, stopped, stop_answer, entered, ended}
+use Rattle.mode_stack.specs.Modes.{needs_game, mode_state, running_of}
+use Rattle.player_game.specs.Players.{is_met, changed_to, after_change, score_of}
+use Rattle.player_game.specs.GameStep.{GameStep, game_step}
+use Rattle.switch_core.specs.declared.change.Change.{Change as Acceptance}
+use Rattle.written_machine.specs.declared.line.Happening.{Happening}
+use Rattle.written_machine.specs.declared.line.Happening.TheVariants as lines
+use Rattle.written_machine.specs.BallRows.{BooksNothing, actions_in, IsBallRow, BooksRightly, IsNoBallDevice, IsOffBalls, BookingsAreRight}
+use Rattle.written_machine.specs.Counted.{change_at, changes_of}
+use Rattle.written_machine.specs.EventStep.{taken, do_before, do_after, is_kept, before_handlers, after_event, handlers_in}
+use Rattle.written_machine.specs.Machine.{Machine, write, post, set_mode, set_device, set_coils, set_players, set_game, all_do, has_game, post_if, start_mode, is_post, stop_mode, told, ask_coil, release_coil, release_coils, tell_change, do_action_by, do_list_by, world_of, device_state, device_at, called, call_device_by, confirm_first_away, confirm_entry, call_device, call_devices, do_target, do_handler, home_of, write_final, write_finals, ask_trough, ask_ball, do_step, tell_listener, tell_listeners, confirm_on_playfield}
+use Rattle.written_machine.proofs.BallFeeders.{find-found}
+
+-- ---- what does not concern balls
+
+-- The ledger, the moment and each ball device are the same, and no line of a switch is written.
+pub record IsOther (plan : PlanView) (s t : Machine) : Type 0 where
+  pub ledger : t.ledger ≡ s.ledger
+  pub moment : t.moment ≡ s.moment
+  pub count : length t.devices ≡ length s.devices
+  pub balls : (r : RowId) (d : BallSettings) → (row_at plan r).settings ≡ kinds.BallDevice d → device_at t r ≡ device_at s r
+  pub changes : (n : SwitchId) → changes_of n t.lines ≡ changes_of n s.lines
+
+-- The machine goes on by what does not concern balls, by such calls of ball devices, and by arrivals on the playfield.
+pub data Plays (plan : PlanView) (may : Call → Type 0) : Machine → Machine → Type 0 where
+  still : {s t : Machine} → IsOther plan s t → Plays plan may s t
+  ball : (call : Call) (r : RowId) (d : BallSettings) (s : Machine) → r.0 < length plan.rows
+      → (row_at plan r).settings ≡ kinds.BallDevice d → may call → Plays plan may s (call_device plan call r s)
+  arrival : (s : Machine) → Plays plan may s (confirm_first_away plan Playfield s)
+  both : {s m t : Machine} → Plays plan may s m → Plays plan may m t → Plays plan may s t
+
+-- the line is not that of a switch
+abbrev pub IsNoChange : Happening → Type 0
+IsNoChange (lines.Switch n active) = ⊥
+IsNoChange _ = Unit {0}
+
+no_change : (n : SwitchId) (moment : ℕ) (what : Happening) → IsNoChange what → change_at n moment what ++ [] ≡ []
+no_change n moment (lines.Switch m active) none = absurd none
+no_change n moment (lines.Event e) none = refl
+no_change n moment (lines.Coil command) none = refl
+no_change n moment (lines.Skip command) none = refl
+no_change n moment (lines.Player player v value) none = refl
+no_change n moment (lines.Balls booking counts) none = refl
+no_change n moment (lines.Final player score) none = refl
+
+told-no_change : (command : Command) (answer : Answer) → IsNoChange (told command answer)
+told-no_change command (answers.Sent sent) = tt
+told-no_change command answers.Skipped = tt
+
+-- whether a row is a ball device
+pub is_ball : (settings : Settings) → ((d : BallSettings) × (settings ≡ kinds.BallDevice d)) ⊎ IsNoBallDevice settings
+is_ball (kinds.BallDevice d) = inl (d, refl)
+is_ball (kinds.Counter c) = inr tt
+is_ball (kinds.Accrual a) = inr tt
+is_ball (kinds.Sequence q) = inr tt
+is_ball (kinds.Timer t) = inr tt
+is_ball (kinds.Bank b) = inr tt
+is_ball kinds.Flipper = inr tt
+is_ball kinds.Autofire = inr tt
+
+pub not_both : (settings : Settings) (d : BallSettings) → settings ≡ kinds.BallDevice d → IsNoBallDevice settings → ⊥
+not_both settings d is not = subst IsNoBallDevice is not
+
+module _ (plan : PlanView) where
+  -- two rows of one number are one
+  pub one_row : (q r : RowId) → q.0 ≡ r.0 → (row_at plan q).settings ≡ (row_at plan r).settings
+  one_row q r is = ap (λ (k : ℕ). (row_at plan (record { 0 = k })).settings) is
+
+  pub nothing-other : (s : Machine) → IsOther plan s s
+  nothing-other s = record { ledger = refl; moment = refl; count = refl; balls = λ r d is. refl; changes = λ n. refl }
+
+  pub then-other : {s m t : Machine} → IsOther plan s m → IsOther plan m t → IsOther plan s t
+  then-other a b = record {
+    ledger = b.ledger ∙ a.ledger;
+    moment = b.moment ∙ a.moment;
+    count = b.count ∙ a.count;
+    balls = λ r d is. b.balls r d is ∙ a.balls r d is;
+    changes = λ n. b.changes n ∙ a.changes n;
+  }
+
+  pub same-other : (s t : Machine) → t.ledger ≡ s.ledger → t.moment ≡ s.moment → t.devices ≡ s.devices → t.lines ≡ s.lines
+      → IsOther plan s t
+  same-other s t ledger moment devices lines_are = record {
+    ledger = ledger;
+    moment = moment;
+    count = ap (λ (ds : List DeviceState). length ds) devices;
+    balls = λ r d is. ap (λ (ds : List DeviceState). device_state ds r) devices;
+    changes = λ n. ap (changes_of n) lines_are;
+  }
+
+  pub write-other : (owner : Owner) (what : Happening) (s : Machine) → IsNoChange what → IsOther plan s (write owner what s)
+  write-other owner what s none = record {
+    ledger = refl;
+    moment = refl;
+    count = refl;
+    balls = λ r d is. refl;
+    changes = λ n.
+        flat_map-append (λ l. change_at n l.moment l.happening) s.lines (record { moment = s.moment; owner = owner; happening = what } ∷ [])
+        ∙ (ap (λ xs. changes_of n s.lines ++ xs) (no_change n s.moment what none) ∙ append-nil (changes_of n s.lines));
+  }
+
+  pub post-other : (owner : Owner) (e : EventId) (s : Machine) → IsOther plan s (post owner e s)
+  post-other owner e s = same-other s (post owner e s) refl refl refl refl
+
+  -- one after another
+  pub all-other : {X : Type 0} (f : X → Machine → Machine) (Q : X → Type 0) → ((x : X) (s : Machine) → Q x → IsOther plan s (f x s))
+      → (xs : List X) → All Q xs → (s : Machine) → IsOther plan s (all_do f xs s)
+  all-other f Q each [] all s = nothing-other s
+  all-other f Q each (x ∷ xs) all s =
+      then-other (each x s (All-head Q x xs all)) (all-other f Q each xs (All-tail Q x xs all) (f x s))
+
+  -- ---- actions
+
+  ask-other : (owner : Owner) (command : Command) (s : Machine) → IsOther plan s (ask_coil owner command s)
+  ask-other owner command s =
+      let after = set_coils (after_asking command owner s.moment s.coils) s in
+      then-other (same-other s after refl refl refl refl)
+      (write-other owner (told command (answer_asking command owner s.moment s.coils)) after
+      (told-no_change command (answer_asking command owner s.moment s.coils)))
+
+  change-other : (owner : Owner) (player : ℕ) (v : VariableId) (e : EventId) (value : Option ℤ) (s : Machine)
+      → IsOther plan s (tell_change owner player v e value s)
+  change-other owner player v e None s = nothing-other s
+  change-other owner player v e (Some value) s =
+      then-other (write-other owner (lines.Player player v value) s tt) (post-other owner e (write owner (lines.Player player v value) s))
+
+  pub action-other : (confirm : RowId → Machine → Machine) (owner : Owner) (a : Action) (s : Machine) → BooksNothing a
+      → IsOther plan s (do_action_by plan confirm owner a s)
+  action-other confirm owner (Post e) s none = post-other owner e s
+  action-other confirm owner (Pulse coil ms power) s none = ask-other owner (commands.Pulse coil ms power) s
+  action-other confirm owner (Enable coil power) s none = ask-other owner (commands.Enable coil power) s
+  action-other confirm owner (Disable coil) s none = ask-other owner (commands.Disable coil) s
+  action-other confirm owner (ChangeVariable v action n e) s none =
+      let value = changed_to plan v action n s.players in
+      let changed = set_players (after_change plan v value s.players) s in
+      then-other (same-other s changed refl refl refl refl) (change-other owner s.players.current v e value changed)
+  action-other confirm owner (Enter r e drain) s none = absurd none
+  action-other confirm owner (Leave r) s none = absurd none
+  action-other confirm owner (Lose r) s none = absurd none
+  action-other confirm owner (Arrive r) s none = absurd none
+
+  pub list-other : (confirm : RowId → Machine → Machine) (owner : Owner) (l : ListId) → All BooksNothing (actions_at plan l)
+      → (s : Machine) → IsOther plan s (do_list_by plan confirm owner l s)
+  list-other confirm owner l none s =
+      all-other (do_action_by plan confirm owner) BooksNothing (action-other confirm owner) (actions_at plan l) none s
+
+  -- ---- devices
+
+  -- a device that is no ball device goes on to another state
+  turned-other : (r : RowId) (state : DeviceState) (s : Machine) → IsNoBallDevice (row_at plan r).settings
+      → IsOther plan s (set_device r state s)
+  turned-other r state s not = record {
+    ledger = refl;
+    moment = refl;
+    count = length-set s.devices r.0 state;
+    balls = λ q d is.
+        get_or-set_other s.devices r.0 q.0 state (first_state no_row.settings)
+        (λ same. not_both (row_at plan q).settings d is (subst IsNoBallDevice (sym (one_row q r same)) not));
+    changes = λ n. refl;
+  }
+
+  -- what such a row books
+  books-nothing : (r : RowId) (settings : Settings) → IsNoBallDevice settings → BooksRightly plan r settings → (k : ℕ) → k < list_count settings
+      → All BooksNothing (actions_in plan r k)
+  books-nothing r (kinds.BallDevice d) not books k below = absurd not
+  books-nothing r (kinds.Counter c) not books k below = books k below
+  books-nothing r (kinds.Accrual a) not books k below = books k below
+  books-nothing r (kinds.Sequence q) not books k below = books k below
+  books-nothing r (kinds.Timer t) not books k below = books k below
+  books-nothing r (kinds.Bank b) not books k below = books k below
+  books-nothing r kinds.Flipper not books k below = books k below
+  books-nothing r kinds.Autofire not books k below = books k below
+
+  module _ (entries : HasEntries plan) (right : BookingsAreRight plan) where
+    pub call-other : (confirm : RowId → Machine → Machine) (call : Call) (r : RowId) (s : Machine) → r.0 < length plan.rows
+        → IsNoBallDevice (row_at plan r).settings → IsOther plan s (call_device_by plan confirm call r s)
+    call-other confirm call r s within not =
+        let next = called plan call r s in
+        then-other (turned-other r next.0 s not)
+        (all-other (λ k. do_list_by plan confirm (row_at plan r).owner (list_of_row plan r k)) (λ k. k < list_count (row_at plan r).settings)
+        (λ k t below. list-other confirm (row_at plan r).owner (list_of_row plan r k)
+        (books-nothing r (row_at plan r).settings not (right.rows r within) k below) t) next.1
+        (lists_are_of_the_row (row_at plan r).settings call s.moment (world_of s) (device_at s r)) (set_device r next.0 s))
+
+    -- a ball device is the machine's
+    no_mode_has_balls : (m : ModeId) (r : RowId) → r.0 < length plan.rows → is_owner (owners.Mode m) (row_at plan r).owner ≡ true
+        → IsNoBallDevice (row_at plan r).settings
+    no_mode_has_balls m r within its =
+        elim (is_ball (row_at plan r).settings) [
+          | inl is ↦
+              let books : IsBallRow plan r = subst (BooksRightly plan r) is.1 (right.rows r within) in
+              let not : is_owner (owners.Mode m) (row_at plan r).owner ≡ false = ap (is_owner (owners.Mode m)) books.owner in
+              absurd (false≢true (sym not ∙ its))
+          | inr not ↦ not
+        ]
+
+    -- what a row of a mode is
+    record IsOfMode (m : ModeId) (r : RowId) : Type 0 where
+      its : is_owner (owners.Mode m) (row_at plan r).owner ≡ true
+      within : r.0 < length plan.rows
+
+    devices-other : (call : Call) (m : ModeId) (s : Machine) → IsOther plan s (call_devices plan call m s)
+    devices-other call m s =
+        let test : RowId → Bool = λ r. is_owner (owners.Mode m) (row_at plan r).owner in
+        let passes = filter_passes test (row_numbers plan) in
+        let within = All-filter test (λ r. r.0 < length plan.rows) (row_numbers plan) (rows-within plan) in
+        all-other (call_device plan call) (IsOfMode m)
+        (λ r t of. call-other (confirm_entry plan) call r t of.within (no_mode_has_balls m r of.within of.its))
+        (rows_of plan (owners.Mode m)) (λ k d there. record { its = passes k d there; within = within k d there }) s
+
+    -- ---- targets
+
+    post_if-other : (b : Bool) (e : EventId) (s : Machine) → IsOther plan s (post_if b e s)
+    post_if-other true e s = post-other owners.Machine e s
+    post_if-other false e s = nothing-other s
+
+    start-other : (m : ModeId) (s : Machine) → IsOther plan s (start_mode plan m s)
+    start-other m s =
+        let old = mode_state s.modes m in
+        let begun = set_mode m (started (needs_game plan m) (has_game s) old) s in
+        then-other (same-other s begun refl refl refl refl)
+        (post_if-other (starts (needs_game plan m) (has_game s) old.phase) (mode_event plan m WillStart) begun)
+
+    stop-other : (m : ModeId) (s : Machine) → IsOther plan s (stop_mode plan m s)
+    stop-other m s =
+        let old = mode_state s.modes m in
+        let over = set_mode m (stopped old) s in
+        then-other (same-other s over refl refl refl refl)
+        (post_if-other (is_post (stop_answer old.phase)) (mode_event plan m Stopping) over)
+
+    target-other : (owner : Owner) (t : Target) (s : Machine) → IsOffBalls plan t → IsTargetWithin plan t
+        → IsOther plan s (do_target plan owner t s)
+    target-other owner (Run l) s off within = list-other (confirm_entry plan) owner l off s
+    target-other owner (Start m) s off within = start-other m s
+    target-other owner (Stop m) s off within = stop-other m s
+    target-other owner (ActOn r act) s off within = call-other (confirm_entry plan) (calls.Act act) r s within off
+
+    handler-other : (place : BindingId) (s : Machine) → place.0 < length plan.bindings → IsOther plan s (do_handler plan place s)
+    handler-other place s within = by (is_met plan s.players (binding_at plan place).condition)
+      where
+        by : (met : Bool) → IsOther plan s (if met then do_target plan (binding_at plan place).owner (binding_at plan place).target s else s)
+        by true =
+            target-other (binding_at plan place).owner (binding_at plan place).target s
+            (All-get_or (λ b. IsOffBalls plan b.target) plan.bindings place.0 no_binding within right.bindings)
+            (All-get_or (IsBindingWithin plan) plan.bindings place.0 no_binding within entries.bindings).2
+        by false = nothing-other s
+
+    -- the places of handlers are those of bindings
+    numbers-below : (n : ℕ) → All (λ k. k < n) (range_with_len 0 n)
+    numbers-below n =
+        All-from_get_or (λ k. k < n) (range_with_len 0 n) 0
+        (λ i l. let inside : i < n = omega (arith, l, length-range_with_len 0 n) in omega (arith, get_or-range_with_len 0 n i 0 inside))
+
+    places-within : (e : EventId) → All (λ (p : BindingId). p.0 < length plan.bindings) (places_of plan e)
+    places-within e =
+        let test : ℕ → Bool = λ n. (binding_at plan (record { 0 = n })).event.0 == e.0 in
+        All-map (λ (p : BindingId). p.0 < length plan.bindings) (λ n. record { 0 = n }) (filter test (range_with_len 0 (length plan.bindings)))
+        (All-filter test (λ n. n < length plan.bindings) (range_with_len 0 (length plan.bindings)) (numbers-below (length plan.bindings)))
+
+    handlers-other : (s : Machine) (e : EventId) (order : List BindingId) → IsHandlerOrder plan (handlers_in plan s e) order
+        → IsOther plan s (all_do (do_handler plan) order s)
+    handlers-other s e order h =
+        let within : BindingId → Type 0 = λ p. p.0 < length plan.bindings in
+        all-other (do_handler plan) within handler-other order
+        (All-permutation within (handlers plan (running_of s.modes) e) order h.permutation
+        (All-filter (runs_at plan (running_of s.modes)) within (places_of plan e) (places-within e))) s
+
+    -- ---- the machine's work
+
+    releases-other : (owner : Owner) (s : Machine) → IsOther plan s (release_coils plan owner s)
+    releases-other owner s =
+        all-other (release_coil owner) (λ coil. Unit {0}) (λ coil t h. one coil t (is_held_by owner (coil_at t.coils coil)))
+        (coil_numbers plan) (λ k d there. tt) s
+      where
+        one : (coil : CoilId) (t : Machine) (held : Bool) → IsOther plan t (if held then ask_coil owner (commands.Disable coil) t else t)
+        one coil t true = ask-other owner (commands.Disable coil) t
+        one coil t false = nothing-other t
+
+    before-other : (w : Work) (s : Machine) → IsOther plan s (do_before plan w s)
+    before-other Nothing s = nothing-other s
+    before-other (Mode m WillStart) s = nothing-other s
+    before-other (Mode m Starting) s = nothing-other s
+    before-other (Mode m Started) s =
+        let active = set_mode m (entered (mode_state s.modes m)) s in
+        then-other (same-other s active refl refl refl refl) (devices-other calls.ModeStart m active)
+    before-other (Mode m Stopping) s = nothing-other s
+    before-other (Mode m Stopped) s = nothing-other s
+    before-other (Game which) s = nothing-other s
+
+    finals-other : (b : Bool) (s : Machine) → IsOther plan s (write_finals plan b s)
+    finals-other true s =
+        all-other (write_final plan) (λ player. Unit {0})
+        (λ player t h. write-other owners.Machine (lines.Final player (score_of plan t.players player)) t tt)
+        (range_with_len 1 (length s.players.players)) (λ k d there. tt) s
+    finals-other false s = nothing-other s
+
+    posts-other : {X : Type 0} (f : X → EventId) (xs : List X) (s : Machine) → IsOther plan s (all_do (λ x. post owners.Machine (f x)) xs s)
+    posts-other f xs s =
+        all-other (λ x. post owners.Machine (f x)) (λ x. Unit {0}) (λ x t h. post-other owners.Machine (f x) t) xs (λ k d there. tt) s
+
+    module _ (may : Call → Type 0) where
+      -- a device of the plan
+      pub call-plays : (call : Call) (r : RowId) (s : Machine) → r.0 < length plan.rows → may call
+          → Plays plan may s (call_device plan call r s)
+      call-plays call r s within allowed =
+          elim (is_ball (row_at plan r).settings) [
+            | inl is ↦ ball call r is.0 s within is.1 allowed
+            | inr not ↦ still (call-other (confirm_entry plan) call r s within not)
+          ]
+
+      pub all-play : {X : Type 0} (f : X → Machine → Machine) (Q : X → Type 0) → ((x : X) (s : Machine) → Q x → Plays plan may s (f x s))
+          → (xs : List X) → All Q xs → (s : Machine) → Plays plan may s (all_do f xs s)
+      all-play f Q each [] all s = still (nothing-other s)
+      all-play f Q each (x ∷ xs) all s =
+          both (each x s (All-head Q x xs all)) (all-play f Q each xs (All-tail Q x xs all) (f x s))
+
+      -- ---- switches
+
+      listeners-within : (n : SwitchId) → All (IsListenerWithin (length plan.rows)) (listeners_of plan n)
+      listeners-within n =
+          elim (cases_lt n.0 (length plan.switches)) [
+            | inl there ↦ All-get_or (λ s. All (IsListenerWithin (length plan.rows)) s.listeners) plan.switches n.0 no_switch there entries.listeners
+            | inr past ↦ subst (λ s. All (IsListenerWithin (length plan.rows)) s.listeners) (sym (get_or_past plan.switches n.0 no_switch past)) (All-nil (IsListenerWithin (length plan.rows)))
+          ]
+
+      pub listeners-play : (a : Acceptance) (s : Machine) → ((l : Listener) → may (calls.Act (act_of_listener a.active l)))
+          → Plays plan may s (tell_listeners plan a s)
+      listeners-play a s allowed =
+          all-play (tell_listener plan a.active) (IsListenerWithin (length plan.rows))
+          (λ l t within. call-plays (calls.Act (act_of_listener a.active l)) l.row t within (allowed l))
+          (listeners_of plan a.switch) (listeners-within a.switch) s
+
+      -- what follows when the devices that listen have been told
+      pub accepted-plays : (a : Acceptance) (s : Machine)
+          → Plays plan may s (all_do (post owners.Machine) (posts_of plan a.switch a.active) (confirm_on_playfield plan a s))
+      accepted-plays a s =
+          both (confirms (a.active && (switch_at plan a.switch).confirms_playfield))
+          (still (posts-other (λ e. e) (posts_of plan a.switch a.active) (confirm_on_playfield plan a s)))
+        where
+          confirms : (b : Bool) → Plays plan may s (if b then confirm_first_away plan Playfield s else s)
+          confirms true = arrival s
+          confirms false = still (nothing-other s)
+
+      -- ---- the game, and events
+
+      module _ (asks : may (calls.Act (acts.Request 1))) where
+        trough-plays : (o : Option RowId) → first_trough plan ≡ o → (s : Machine) → Plays plan may s (ask_trough plan o s)
+        trough-plays None is s = still (nothing-other s)
+        trough-plays (Some r) is s =
+            let there = find-found (λ r. is_trough (row_at plan r).settings) (λ r. r.0 < length plan.rows) (row_numbers plan) (rows-within plan) (Some r) is in
+            call-plays (calls.Act (acts.Request 1)) r s there.1 asks
+
+        ask-plays : (b : Bool) (s : Machine) → Plays plan may s (ask_ball plan b s)
+        ask-plays true s = trough-plays (first_trough plan) refl s
+        ask-plays false s = still (nothing-other s)
+
+        game-plays : (step : GameStep) (s : Machine) → Plays plan may s (do_step plan step s)
+        game-plays step s =
+            let stepped = set_players step.players (set_game step.game s) in
+            let finals = write_finals plan step.finals stepped in
+            both (still (then-other (same-other s stepped refl refl refl refl) (finals-other step.finals stepped)))
+            (both (ask-plays step.requests finals)
+            (still (posts-other (game_event plan) step.posts (ask_ball plan step.requests finals))))
+
+        after-plays : (kept : Bool) (w : Work) (s : Machine) → Plays plan may s (do_after plan kept w s)
+        after-plays kept Nothing s = still (nothing-other s)
+        after-plays kept (Mode m WillStart) s = still (post-other owners.Machine (mode_event plan m Starting) s)
+        after-plays kept (Mode m Starting) s = still (post-other owners.Machine (mode_event plan m Started) s)
+        after-plays true (Mode m Started) s = still (stop-other m s)
+        after-plays false (Mode m Started) s = still (nothing-other s)
+        after-plays kept (Mode m Stopping) s =
+            let over = call_devices plan calls.ModeStop m s in
+            let released = release_coils plan (owners.Mode m) over in
+            let idle = set_mode m (ended (mode_state s.modes m)) released in
+            still (then-other (devices-other calls.ModeStop m s) (then-other (releases-other (owners.Mode m) over)
+            (then-other (same-other released idle refl refl refl refl) (post-other owners.Machine (mode_event plan m Stopped) idle))))
+        after-plays kept (Mode m Stopped) s = still (nothing-other s)
+        after-plays kept (Game which) s = game-plays (game_step plan.game plan which (home_of plan s) s.game s.players) s
+
+        -- an event step
+        pub event-plays : (first : Posted) (rest : List Posted) (order : List BindingId) (s : Machine)
+            → IsHandlerOrder plan (handlers_in plan (before_handlers plan first rest s) first.event) order
+            → Plays plan may s (after_event plan first rest order s)
+        event-plays first rest order s in_order =
+            let fewer : Machine = record s { waiting = rest } in
+            let begun = taken first rest s in
+            let ready = before_handlers plan first rest s in
+            let done = all_do (do_handler plan) order ready in
+            both (still (then-other (same-other s fewer refl refl refl refl)
+            (then-other (write-other first.owner (lines.Event first.event) fewer tt)
+            (then-other (before-other (work_of plan first.event) begun) (handlers-other ready first.event order in_order)))))
+            (after-plays (is_kept (work_of plan first.event) s) (work_of plan first.event) done)

@@ -1,0 +1,155 @@
+-- In every run the ledger is in step with the devices.
+use Rattle.std.proofs.Common.{◌≡◌, ℕ, ◌<◌, inl, inr, cond, Bool, true, false, Option, Some, None, List, [], ◌∷◌, length, map, refl, sym, ap, ◌∙◌, subst, arith}
+use Rattle.std.specs.List.{count_by}
+use Rattle.std.proofs.lemmas.Bool.{cases_lt}
+use Rattle.std.proofs.lemmas.Option.{none-some}
+use Rattle.std.proofs.lemmas.List.{get_or_past, length-map, length-replicate, get_or-map, get_or-replicate}
+use Rattle.std.proofs.lemmas.List.Sums.{sum_by-cons}
+use Rattle.plan_tables.specs.PlanView.{PlanView, act_of_listener, feeders_of, feeds, no_row, row_at, row_numbers}
+use Rattle.plan_tables.specs.Valid.{IsValid}
+use Rattle.plan_tables.specs.declared.devices.Act.TheVariants as acts
+use Rattle.plan_tables.specs.declared.devices.BallSettings.{BallSettings}
+use Rattle.plan_tables.specs.declared.devices.BallTarget.{BallTarget}
+use Rattle.plan_tables.specs.declared.devices.BallTarget.TheVariants.{Playfield, Device}
+use Rattle.plan_tables.specs.declared.devices.RowId.{RowId}
+use Rattle.plan_tables.specs.declared.devices.Settings.TheVariants as kinds
+use Rattle.plan_tables.specs.declared.entries.Listener.{Listener}
+use Rattle.plan_tables.specs.declared.entries.Owner.TheVariants as owners
+use Rattle.ball_devices.specs.Ledger.{no_balls, counted_in, transit_to}
+use Rattle.ball_devices.proofs.Ledgers.{new-is}
+use Rattle.device_objects.specs.declared.device.Call.{Call}
+use Rattle.device_objects.specs.declared.device.Call.TheVariants as calls
+use Rattle.device_objects.specs.declared.state.DeviceState.{DeviceState}
+use Rattle.device_objects.specs.BallDevice as balls
+use Rattle.device_objects.specs.DeviceStep.{due_of, first_state}
+use Rattle.device_objects.proofs.BallShapes.{first_ball-shape}
+use Rattle.switch_core.specs.declared.change.Change.{Change as Acceptance}
+use Rattle.switch_core.specs.Switches.{after_change, reported_by_change, accept, reported}
+use Rattle.written_machine.specs.declared.line.Happening.TheVariants as lines
+use Rattle.written_machine.specs.BallRows.{BookingsAreRight}
+use Rattle.written_machine.specs.EventStep.{EventStep}
+use Rattle.written_machine.specs.Machine.{Machine, initial, write, set_switches, device_state, device_at, is_device_away, tell_listeners, do_accepted, do_if_accepted}
+use Rattle.written_machine.specs.Run.{switch, device, Stimulus, Change, Alarm, Wait, IsAllowed, arrived, begin, InEveryRun}
+use Rattle.written_machine.proofs.Keeps.{run-keeps}
+use Rattle.written_machine.proofs.BallSteps.{IsUsual}
+use Rattle.written_machine.proofs.BallFeeders.{filter-same}
+use Rattle.written_machine.proofs.BallPlays.{call-plays, listeners-play, accepted-plays, event-plays}
+use Rattle.written_machine.proofs.BallCalm.{balls_at, no_lag, IsCalm, feeder, calm-other}
+use Rattle.written_machine.proofs.BallCalls.{plays-calm}
+
+-- only requests come with events
+abbrev pub IsRequest : Call → Type 0
+IsRequest calls.ModeStart = ⊥
+IsRequest calls.ModeStop = ⊥
+IsRequest calls.Fire = ⊥
+IsRequest (calls.Act (acts.Request n)) = Unit {0}
+IsRequest (calls.Act _) = ⊥
+
+pub request-usual : (call : Call) → IsRequest call → IsUsual call
+request-usual calls.ModeStart may = absurd may
+request-usual calls.ModeStop may = absurd may
+request-usual calls.Fire may = absurd may
+request-usual (calls.Act (acts.Request n)) may = tt
+request-usual (calls.Act _) may = absurd may
+
+pub usual-listener : (active : Bool) (l : Listener) → IsUsual (calls.Act (act_of_listener active l))
+usual-listener true l = tt
+usual-listener false l = tt
+
+count-none : {X : Type 0} (xs : List X) → count_by (λ (x : X). false) xs ≡ 0
+count-none [] = refl
+count-none (x ∷ xs) = omega (arith, sum_by-cons (λ y. cond false 1 0) x xs, count-none xs)
+
+module _ (plan : PlanView) where
+  -- ---- at first
+
+  first-device : (r : RowId) → device_at (initial plan) r ≡ first_state (row_at plan r).settings
+  first-device r =
+      elim (cases_lt r.0 (length plan.rows)) [
+        | inl within ↦ get_or-map (λ row. first_state row.settings) plan.rows r.0 no_row (first_state no_row.settings) within
+        | inr past ↦
+            let size = length-map plan.rows (λ row. first_state row.settings) in
+            get_or_past (map (λ row. first_state row.settings) plan.rows) r.0 (first_state no_row.settings) (omega (arith, past, size))
+            ∙ ap (λ row. first_state row.settings) (sym (get_or_past plan.rows r.0 no_row past))
+      ]
+
+  pub first-ball : (r : RowId) (d : BallSettings) → (row_at plan r).settings ≡ kinds.BallDevice d → device_at (initial plan) r ≡ first_state (kinds.BallDevice d)
+  first-ball r d is = first-device r ∙ ap first_state is
+
+  none_counted : (k : ℕ) → counted_in (no_balls plan) (record { 0 = k }) ≡ 0
+  none_counted k =
+      elim (cases_lt k (length plan.rows)) [
+        | inl within ↦ get_or-replicate (length plan.rows) k 0 0 within
+        | inr past ↦ get_or_past (no_balls plan).counted k 0 (omega (arith, length-replicate {A = ℕ} (length plan.rows) 0))
+      ]
+
+  none_on_way : (target : BallTarget) → transit_to (no_balls plan) target ≡ 0
+  none_on_way Playfield = refl
+  none_on_way (Device r) = none_counted r.0
+
+  pub calm-initial : IsCalm plan no_lag (initial plan)
+  calm-initial = record {
+    count = length-map plan.rows (λ row. first_state row.settings);
+    shapes = λ r d within is. record { ball = balls.first_state; is = first-ball r d is; shape = first_ball-shape d };
+    rows = length-replicate (length plan.rows) 0;
+    ledger = new-is plan;
+    most = omega arith;
+    few = λ r within. omega (arith, none_counted r.0);
+    held = λ r d within is. none_counted r.0 ∙ sym (ap balls_at (first-ball r d is));
+    away = λ target there.
+        let none = none_on_way target in
+        let same = filter-same (λ (r : RowId). is_device_away (device_at (initial plan) r)) (λ r. false) (λ r. feeds target (row_at plan r).settings) (row_numbers plan)
+        (λ r feeding. let of = feeder target (row_at plan r).settings feeding in ap is_device_away (first-ball r of.d of.is)) in
+        omega (arith, none, same, count-none (feeders_of plan target));
+  }
+
+  module _ (valid : IsValid plan) (right : BookingsAreRight plan) where
+    -- ---- event steps
+
+    pub step-calm : (s t : Machine) → EventStep plan s t → IsCalm plan no_lag s → IsCalm plan no_lag t
+    step-calm s t st h =
+        subst (IsCalm plan no_lag) (sym st.new_is)
+        (plays-calm plan valid right request-usual (event-plays plan valid.entries right IsRequest tt st.first st.rest st.order s st.in_order) h)
+
+    -- ---- stimuli
+
+    same-calm : (s t : Machine) → t.ledger ≡ s.ledger → t.devices ≡ s.devices → IsCalm plan no_lag s → IsCalm plan no_lag t
+    same-calm s t ledger devices h =
+        calm-other plan s t ledger (ap (λ (ds : List DeviceState). length ds) devices)
+        (λ r d is. ap (λ (ds : List DeviceState). device_state ds r) devices) h
+
+    accepted-calm : (a : Acceptance) (s : Machine) → IsCalm plan no_lag s → IsCalm plan no_lag (do_accepted plan a s)
+    accepted-calm a s h =
+        let written = write owners.Machine (lines.Switch a.switch a.active) s in
+        let heard = plays-calm plan valid right {may = IsUsual} (λ call may. may) (listeners-play plan valid.entries right IsUsual a written (usual-listener a.active)) (same-calm s written refl refl h) in
+        plays-calm plan valid right request-usual (accepted-plays plan valid.entries right IsRequest a (tell_listeners plan a written)) heard
+
+    if_accepted-calm : (o : Option Acceptance) (s : Machine) → IsCalm plan no_lag s → IsCalm plan no_lag (do_if_accepted plan o s)
+    if_accepted-calm None s h = h
+    if_accepted-calm (Some a) s h = accepted-calm a s h
+
+    -- a device that is due is one of the plan
+    pub due-within : (s : Machine) (r : RowId) (due : ℕ) → IsCalm plan no_lag s → due_of (device_at s r) ≡ Some due → r.0 < length plan.rows
+    due-within s r due h is =
+        elim (cases_lt r.0 (length s.devices)) [
+          | inl there ↦ let count = h.count in omega (arith, there, count)
+          | inr past ↦ absurd (none-some due (sym (ap due_of (get_or_past s.devices r.0 (first_state no_row.settings) past)) ∙ is))
+        ]
+
+    pub begin-calm : (stimulus : Stimulus) (s : Machine) → IsAllowed plan s stimulus → IsCalm plan no_lag s → IsCalm plan no_lag (begin plan stimulus s)
+    begin-calm (Change at n level) s allowed h =
+        let changed = set_switches (after_change n level at s.switches) (arrived at s) in
+        if_accepted-calm (reported_by_change n level at s.switches) changed (same-calm s changed refl refl h)
+    begin-calm (Alarm at (switch n)) s allowed h =
+        let fired = set_switches (accept n s.switches) (arrived at s) in
+        accepted-calm (reported (accept n s.switches) n) fired (same-calm s fired refl refl h)
+    begin-calm (Alarm at (device r)) s allowed h =
+        plays-calm plan valid right {may = IsUsual} (λ call may. may)
+        (call-plays plan valid.entries right IsUsual calls.Fire r (arrived at s) (due-within s r at h allowed.0.due) tt)
+        (same-calm s (arrived at s) refl refl h)
+    begin-calm (Wait at) s allowed h = same-calm s (arrived at s) refl refl h
+
+    pub calm-run : InEveryRun plan (λ stimuli trace s. IsCalm plan no_lag s)
+    calm-run stimuli trace s run =
+        (run-keeps plan (λ before. IsCalm plan no_lag) (λ before. step-calm) (λ before stimulus u allowed empty h. begin-calm stimulus u allowed h) [] stimuli
+        (initial plan) trace s run calm-initial).1

@@ -1,0 +1,224 @@
+-- Only the calls of switches, and alarms, concern the ball switches of a device.
+use Rattle.std.proofs.Common.{◌≡◌, ℕ, ◌+◌, ◌&&◌, inl, inr, if◌then◌else◌, nat_le, Bool, true, false, Option, Some, None, List, [], ◌∷◌, length, refl, sym, ap, ◌∙◌, subst}
+use Rattle.std.proofs.lemmas.Bool.{cases_eq, cases_lt, cond_both}
+use Rattle.std.proofs.lemmas.List.{append-nil, length-set, get_or-set_same, get_or-set_other, set_past}
+use Rattle.std.proofs.lemmas.List.Concat.{flat_map-append}
+use Rattle.plan_tables.specs.PlanView.{PlanView, actions_at, game_event, list_of_row, no_row, row_at, target_of}
+use Rattle.plan_tables.specs.declared.devices.Act.TheVariants as acts
+use Rattle.plan_tables.specs.declared.devices.BallSettings.{BallSettings}
+use Rattle.plan_tables.specs.declared.devices.BallTarget.{BallTarget}
+use Rattle.plan_tables.specs.declared.devices.BallTarget.TheVariants.{Playfield, Device}
+use Rattle.plan_tables.specs.declared.devices.RowId.{RowId}
+use Rattle.plan_tables.specs.declared.devices.Settings.{Settings}
+use Rattle.plan_tables.specs.declared.devices.Settings.TheVariants as kinds
+use Rattle.plan_tables.specs.declared.entries.Action.{Action}
+use Rattle.plan_tables.specs.declared.entries.Action.TheVariants.{Post, Pulse, Enable, Disable, Change as ChangeVariable, Enter, Leave, Lose, Arrive}
+use Rattle.plan_tables.specs.declared.entries.GameEvent.TheVariants.{BallDrain}
+use Rattle.plan_tables.specs.declared.entries.Owner.{Owner}
+use Rattle.plan_tables.specs.declared.entries.SwitchId.{SwitchId}
+use Rattle.ball_devices.specs.declared.booking.Origin.{Origin}
+use Rattle.ball_devices.specs.declared.booking.Origin.TheVariants.{Awaited, Found as OfPlayfield, New}
+use Rattle.ball_devices.specs.Ledger.{origin_of}
+use Rattle.ball_devices.specs.Bookings.{LedgerCall, after_call, booked, can_book}
+use Rattle.ball_devices.specs.Bookings as ledger_calls
+use Rattle.device_objects.specs.declared.device.Call.{Call}
+use Rattle.device_objects.specs.declared.device.Call.TheVariants as calls
+use Rattle.device_objects.specs.declared.state.BallState.{BallState}
+use Rattle.device_objects.specs.declared.state.BallSwitch.{BallSwitch}
+use Rattle.device_objects.specs.declared.state.DeviceState.{DeviceState}
+use Rattle.device_objects.specs.declared.state.DeviceState.TheVariants as states
+use Rattle.device_objects.specs.declared.state.Eject.{Eject}
+use Rattle.device_objects.specs.declared.state.Eject.TheVariants.{Idle, Pulsing, Away}
+use Rattle.device_objects.specs.declared.state.World.{World}
+use Rattle.device_objects.specs.BallDevice.{begin, confirm, ended, requested, ball_step}
+use Rattle.device_objects.specs.BallDevice as balls
+use Rattle.device_objects.specs.DeviceStep.{device_step, first_state}
+use Rattle.player_game.specs.GameStep.{is_ball_on}
+use Rattle.written_machine.specs.declared.line.Happening.TheVariants as lines
+use Rattle.written_machine.specs.declared.line.Line.{Line}
+use Rattle.written_machine.specs.Counted.{change_at, changes_of}
+use Rattle.written_machine.specs.Machine.{Machine, post, set_device, set_ledger, all_do, counts_of, book, drain_if, after_entry, do_action_by, do_list_by, world_of, device_state, device_at, called, do_answer_by, call_device_by, first_away, no_confirm, confirm_of, confirm_first_away, confirm_entry}
+use Rattle.written_machine.proofs.Does.{book-by}
+use Rattle.written_machine.proofs.BallSteps.{begin-begun}
+use Rattle.written_machine.proofs.BallPlays.{IsOther, one_row, post-other, action-other, Plays, still, ball, arrival, both}
+
+-- the state of a ball device
+abbrev pub ball_of : DeviceState → BallState
+ball_of (states.BallDevice b) = b
+ball_of _ = balls.first_state
+
+-- the ball switches of a row
+abbrev pub switches_at : Machine → RowId → List BallSwitch
+switches_at s r = (ball_of (device_at s r)).switches
+
+-- The ball switches are the same, and no switch has changed.
+pub record IsSteady (plan : PlanView) (s t : Machine) : Type 0 where
+  pub moment : t.moment ≡ s.moment
+  pub count : length t.devices ≡ length s.devices
+  pub switches : (r : RowId) (d : BallSettings) → (row_at plan r).settings ≡ kinds.BallDevice d → switches_at t r ≡ switches_at s r
+  pub changes : (n : SwitchId) → changes_of n t.lines ≡ changes_of n s.lines
+
+-- calls that keep the ball switches
+abbrev pub IsKeeping : Call → Type 0
+IsKeeping calls.ModeStart = ⊥
+IsKeeping calls.ModeStop = ⊥
+IsKeeping calls.Fire = ⊥
+IsKeeping (calls.Act acts.Confirm) = Unit {0}
+IsKeeping (calls.Act (acts.Request n)) = Unit {0}
+IsKeeping (calls.Act _) = ⊥
+
+module _ (d : BallSettings) where
+  confirm-switches : (now : ℕ) (eject : Eject) (b : BallState) → (confirm d now eject b).0.switches ≡ b.switches
+  confirm-switches now Idle b = refl
+  confirm-switches now (Pulsing a) b = refl
+  confirm-switches now (Away a) b = let begun = begin-begun d now (ended b) in begun.same.switches
+
+  request-switches : (n now : ℕ) (b : BallState) → (requested d n now b).0.switches ≡ b.switches
+  request-switches n now b =
+      let more : BallState = record b { wanted = b.wanted + n } in
+      cond_both (d.trough && nat_le (b.wanted + n) 255) (begin d now more) (b, []) (λ a. a.0.switches ≡ b.switches)
+      (λ asked. let begun = begin-begun d now more in begun.same.switches) (λ not. refl)
+
+  step-switches : (call : Call) (now : ℕ) (b : BallState) → IsKeeping call → (ball_step d call now b).0.switches ≡ b.switches
+  step-switches calls.ModeStart now b keeps = absurd keeps
+  step-switches calls.ModeStop now b keeps = absurd keeps
+  step-switches calls.Fire now b keeps = absurd keeps
+  step-switches (calls.Act acts.Confirm) now b keeps = confirm-switches now b.eject b
+  step-switches (calls.Act (acts.Request n)) now b keeps = request-switches n now b
+  step-switches (calls.Act _) now b keeps = absurd keeps
+
+  state-switches : (call : Call) (now : ℕ) (world : World) (state : DeviceState) → IsKeeping call
+      → (ball_of (device_step (kinds.BallDevice d) call now world state).0).switches ≡ (ball_of state).switches
+  state-switches call now world (states.BallDevice b) keeps = step-switches call now b keeps
+  state-switches call now world (states.Counter x) keeps = refl
+  state-switches call now world (states.Accrual x) keeps = refl
+  state-switches call now world (states.Sequence x) keeps = refl
+  state-switches call now world (states.Timer x) keeps = refl
+  state-switches call now world (states.Bank x) keeps = refl
+  state-switches call now world (states.Flipper x) keeps = refl
+  state-switches call now world (states.Autofire x) keeps = refl
+
+module _ (plan : PlanView) where
+  pub other-steady : {s t : Machine} → IsOther plan s t → IsSteady plan s t
+  other-steady other = record {
+    moment = other.moment;
+    count = other.count;
+    switches = λ r d is. ap (λ (state : DeviceState). (ball_of state).switches) (other.balls r d is);
+    changes = other.changes;
+  }
+
+  pub nothing-steady : (s : Machine) → IsSteady plan s s
+  nothing-steady s = record { moment = refl; count = refl; switches = λ r d is. refl; changes = λ n. refl }
+
+  pub then-steady : {s m t : Machine} → IsSteady plan s m → IsSteady plan m t → IsSteady plan s t
+  then-steady a b = record {
+    moment = b.moment ∙ a.moment;
+    count = b.count ∙ a.count;
+    switches = λ r d is. b.switches r d is ∙ a.switches r d is;
+    changes = λ n. b.changes n ∙ a.changes n;
+  }
+
+  all-steady : {X : Type 0} (f : X → Machine → Machine) → ((x : X) (s : Machine) → IsSteady plan s (f x s)) → (xs : List X) (s : Machine)
+      → IsSteady plan s (all_do f xs s)
+  all-steady f each [] s = nothing-steady s
+  all-steady f each (x ∷ xs) s = then-steady (each x s) (all-steady f each xs (f x s))
+
+  -- the ledger books, or not
+  book-steady : (owner : Owner) (c : LedgerCall) (s : Machine) → IsSteady plan s (book owner c s)
+  book-steady owner c s =
+      let after = set_ledger (after_call c s.ledger) s in
+      let line : Line = record { moment = s.moment; owner = owner; happening = lines.Balls (booked c s.ledger) (counts_of (after_call c s.ledger)) } in
+      book-by owner c s (IsSteady plan s)
+      (λ can. record {
+        moment = refl;
+        count = refl;
+        switches = λ r d is. refl;
+        changes = λ n. flat_map-append (λ l. change_at n l.moment l.happening) s.lines (line ∷ []) ∙ append-nil (changes_of n s.lines);
+      }) (nothing-steady s)
+
+  module _ (confirm_it : RowId → Machine → Machine) (confirms : (r : RowId) (s : Machine) → IsSteady plan s (confirm_it r s)) where
+    drain-steady : (owner : Owner) (drain : Bool) (s : Machine) → IsSteady plan s (drain_if plan owner drain s)
+    drain-steady owner drain s = by (drain && is_ball_on s.game.phase)
+      where
+        by : (b : Bool) → IsSteady plan s (if b then post owner (game_event plan BallDrain) s else s)
+        by true = other-steady (post-other plan owner (game_event plan BallDrain) s)
+        by false = nothing-steady s
+
+    entry-steady : (owner : Owner) (r : RowId) (drain : Bool) (o : Origin) (s : Machine) → IsSteady plan s (after_entry plan confirm_it owner r drain o s)
+    entry-steady owner r drain Awaited s = confirms r s
+    entry-steady owner r drain OfPlayfield s = drain-steady owner drain s
+    entry-steady owner r drain New s = drain-steady owner drain s
+
+    action-steady : (owner : Owner) (a : Action) (s : Machine) → IsSteady plan s (do_action_by plan confirm_it owner a s)
+    action-steady owner (Post e) s = other-steady (action-other plan confirm_it owner (Post e) s tt)
+    action-steady owner (Pulse coil ms power) s = other-steady (action-other plan confirm_it owner (Pulse coil ms power) s tt)
+    action-steady owner (Enable coil power) s = other-steady (action-other plan confirm_it owner (Enable coil power) s tt)
+    action-steady owner (Disable coil) s = other-steady (action-other plan confirm_it owner (Disable coil) s tt)
+    action-steady owner (ChangeVariable v action n e) s = other-steady (action-other plan confirm_it owner (ChangeVariable v action n e) s tt)
+    action-steady owner (Enter r e drain) s =
+        let in_it = book owner (ledger_calls.Enter r) s in
+        then-steady (book-steady owner (ledger_calls.Enter r) s)
+        (then-steady (other-steady (post-other plan owner e in_it)) (entry-steady owner r drain (origin_of r s.ledger) (post owner e in_it)))
+    action-steady owner (Leave r) s = book-steady owner (ledger_calls.Leave r (target_of plan r)) s
+    action-steady owner (Lose r) s = book-steady owner (ledger_calls.Lose r) s
+    action-steady owner (Arrive r) s = book-steady owner (ledger_calls.Arrive (target_of plan r)) s
+
+    pub answer-steady : (r : RowId) (ks : List ℕ) (s : Machine) → IsSteady plan s (do_answer_by plan confirm_it r ks s)
+    answer-steady r ks s =
+        all-steady (λ k. do_list_by plan confirm_it (row_at plan r).owner (list_of_row plan r k))
+        (λ k t. all-steady (do_action_by plan confirm_it (row_at plan r).owner) (action-steady (row_at plan r).owner) (actions_at plan (list_of_row plan r k)) t) ks s
+
+    -- a call that keeps the ball switches
+    turned-steady : (call : Call) → IsKeeping call → (r : RowId) (s : Machine) → IsSteady plan s (set_device r (called plan call r s).0 s)
+    turned-steady call keeps r s = record {
+      moment = refl;
+      count = length-set s.devices r.0 next;
+      switches = λ q d is. switches q d is;
+      changes = λ n. refl;
+    }
+      where
+        next : DeviceState
+        next = (called plan call r s).0
+
+        here : (d : BallSettings) → (row_at plan r).settings ≡ kinds.BallDevice d → (ball_of next).switches ≡ switches_at s r
+        here d is =
+            ap (λ (x : Settings). (ball_of (device_step x call s.moment (world_of s) (device_at s r)).0).switches) is
+            ∙ state-switches d call s.moment (world_of s) (device_at s r) keeps
+
+        at_row : (d : BallSettings) → (row_at plan r).settings ≡ kinds.BallDevice d → switches_at (set_device r next s) r ≡ switches_at s r
+        at_row d is =
+            elim (cases_lt r.0 (length s.devices)) [
+              | inl within ↦ ap (λ (state : DeviceState). (ball_of state).switches) (get_or-set_same s.devices r.0 next (first_state no_row.settings) within) ∙ here d is
+              | inr past ↦ ap (λ (ds : List DeviceState). (ball_of (device_state ds r)).switches) (set_past s.devices r.0 next past)
+            ]
+
+        switches : (q : RowId) (d : BallSettings) → (row_at plan q).settings ≡ kinds.BallDevice d → switches_at (set_device r next s) q ≡ switches_at s q
+        switches q d is =
+            elim (cases_eq q.0 r.0) [
+              | inl same ↦
+                  let row : r ≡ q = ap (λ (k : ℕ). record { 0 = k }) (sym same) in
+                  subst (λ (k : RowId). switches_at (set_device r next s) k ≡ switches_at s k) row (at_row d (sym (one_row plan q r same) ∙ is))
+              | inr other ↦ ap (λ (state : DeviceState). (ball_of state).switches) (get_or-set_other s.devices r.0 q.0 next (first_state no_row.settings) other)
+            ]
+
+    call-steady : (call : Call) → IsKeeping call → (r : RowId) (s : Machine) → IsSteady plan s (call_device_by plan confirm_it call r s)
+    call-steady call keeps r s =
+        then-steady (turned-steady call keeps r s) (answer-steady r (called plan call r s).1 (set_device r (called plan call r s).0 s))
+
+  -- ---- arrivals
+
+  told-steady : (o : Option RowId) (s : Machine) → IsSteady plan s (confirm_of plan o s)
+  told-steady None s = nothing-steady s
+  told-steady (Some q) s = call-steady no_confirm (λ r t. nothing-steady t) (calls.Act acts.Confirm) tt q s
+
+  pub arrival-steady : (target : BallTarget) (s : Machine) → IsSteady plan s (confirm_first_away plan target s)
+  arrival-steady target s = told-steady (first_away plan target s) s
+
+  pub entered-steady : (r : RowId) (s : Machine) → IsSteady plan s (confirm_entry plan r s)
+  entered-steady r s = arrival-steady (Device r) s
+
+  pub plays-steady : {may : Call → Type 0} → ((call : Call) → may call → IsKeeping call) → {s t : Machine} → Plays plan may s t → IsSteady plan s t
+  plays-steady keeps (still other) = other-steady other
+  plays-steady keeps (ball call r d s within is may) = call-steady (confirm_entry plan) entered-steady call (keeps call may) r s
+  plays-steady keeps (arrival s) = arrival-steady Playfield s
+  plays-steady keeps (both a b) = then-steady (plays-steady keeps a) (plays-steady keeps b)

@@ -1,0 +1,251 @@
+-- What each call of a ball device leads to: how many balls count in it then, whether it is Away, and what its lists book.
+use Rattle.std.proofs.Common.{◌≡◌, ℕ, suc, ◌+◌, ◌<◌, ◌≤◌, min, inl, inr, ◌⊎◌, Bool, true, false, not, cond, Option, None, Some, List, [], ◌∷◌, ◌&&◌, length, nat_lt, nat_le, refl, sym, ap, ◌∙◌, arith}
+use Rattle.std.specs.List.{count_by}
+use Rattle.std.proofs.lemmas.Bool.{and_parts, cases_lt, cond_both, false≢true}
+use Rattle.std.proofs.lemmas.List.{get_or_past, set_past}
+use Rattle.std.proofs.lemmas.List.Sums.{sum_by-set}
+use Rattle.std.proofs.lemmas.Option.{none-some}
+use Rattle.plan_tables.specs.declared.devices.Act.{Act}
+use Rattle.plan_tables.specs.declared.devices.Act.TheVariants as acts
+use Rattle.plan_tables.specs.declared.devices.BallTarget.{BallTarget}
+use Rattle.plan_tables.specs.declared.devices.BallTarget.TheVariants.{Playfield, Device}
+use Rattle.plan_tables.specs.declared.devices.BallSettings.{BallSettings}
+use Rattle.plan_tables.specs.declared.devices.RowId.{RowId}
+use Rattle.device_objects.specs.declared.device.Call.{Call}
+use Rattle.device_objects.specs.declared.device.Call.TheVariants as calls
+use Rattle.device_objects.specs.declared.state.Attempt.{Attempt}
+use Rattle.device_objects.specs.declared.state.BallSwitch.{BallSwitch}
+use Rattle.device_objects.specs.declared.state.BallState.{BallState}
+use Rattle.device_objects.specs.declared.state.Eject.{Eject}
+use Rattle.device_objects.specs.declared.state.Eject.TheVariants.{Idle, Pulsing, Away}
+use Rattle.device_objects.specs.BallDevice.{empty, switch_at, set_switch, first_due, timeout_of, is_timeout_first, entered, attempted, left, lost, succeeded, arrived, failed, attempt, can_begin, is_idle, is_away, begin, after, ended, stuck, may_try_again, overdue, confirmed, time_out, confirm, noted, switched, turned, gone, count, count_due, fire, requested, act_step, ball_step}
+use Rattle.device_objects.proofs.BallDue.{first_due-is_due}
+use Rattle.ball_devices.proofs.Booked.{one}
+
+-- how many balls count in it
+abbrev pub balls_in : BallState → ℕ
+balls_in s = count_by (λ b. b.counted) s.switches
+
+-- ---- lists that book nothing
+
+abbrev pub IsQuiet : ℕ → Type 0
+IsQuiet k = (k ≡ attempted) ⊎ ((k ≡ succeeded) ⊎ (k ≡ failed))
+
+abbrev pub AreQuiet : List ℕ → Type 0
+AreQuiet [] = Unit {0}
+AreQuiet (k ∷ ks) = IsQuiet k × AreQuiet ks
+
+-- ---- what a call leads to
+
+-- the ball switches are the same, and it is Away where it was
+pub record IsSame (s t : BallState) : Type 0 where
+  pub switches : t.switches ≡ s.switches
+  pub away : is_away t.eject ≡ is_away s.eject
+
+same-balls : (s t : BallState) → t.switches ≡ s.switches → balls_in t ≡ balls_in s
+same-balls s t is = ap (count_by (λ b. b.counted)) is
+
+-- What an answer is: nothing is booked; a ball has entered, where one may; the one that was ejected has left; one is
+-- lost; or the one that was on its way is on the playfield.
+pub data Answer (enter : Type 0) (s : BallState) : BallState → List ℕ → Type 0 where
+  nothing : (t : BallState) (lists : List ℕ) → balls_in t ≡ balls_in s → is_away t.eject ≡ is_away s.eject → AreQuiet lists
+      → Answer enter s t lists
+  enters : enter → (t : BallState) (rest : List ℕ) → balls_in t ≡ balls_in s + 1 → is_away t.eject ≡ is_away s.eject → AreQuiet rest
+      → Answer enter s t (entered ∷ rest)
+  leaves : (t : BallState) → balls_in t + 1 ≡ balls_in s → is_away s.eject ≡ false → is_away t.eject ≡ true → Answer enter s t (left ∷ [])
+  loses : (t : BallState) → balls_in t + 1 ≡ balls_in s → is_away t.eject ≡ is_away s.eject → Answer enter s t (lost ∷ [])
+  arrives : (t : BallState) (rest : List ℕ) → balls_in t ≡ balls_in s → is_away s.eject ≡ true → is_away t.eject ≡ false
+      → AreQuiet rest → Answer enter s t (arrived ∷ rest)
+
+abbrev pub IsAnswer : Type 0 → BallState → BallState × List ℕ → Type 0
+IsAnswer enter s a = Answer enter s a.0 a.1
+
+-- the ball that was ejected is in its target device: it is Away no more, and nothing is booked
+pub record IsConfirmed (s : BallState) (a : BallState × List ℕ) : Type 0 where
+  pub switches : a.0.switches ≡ s.switches
+  pub away : is_away a.0.eject ≡ false
+  pub quiet : AreQuiet a.1
+
+-- calls that come on their own; no mode stops that has one, and only the machine confirms
+abbrev pub IsUsual : Call → Type 0
+IsUsual calls.ModeStart = Unit {0}
+IsUsual calls.ModeStop = ⊥
+IsUsual calls.Fire = Unit {0}
+IsUsual (calls.Act acts.Confirm) = ⊥
+IsUsual (calls.Act _) = Unit {0}
+
+-- ---- ejecting
+
+-- it begins to eject a ball or not
+pub record IsBegun (s : BallState) (a : BallState × List ℕ) : Type 0 where
+  pub same : IsSame s a.0
+  pub quiet : AreQuiet a.1
+
+not_away : (e : Eject) → is_idle e ≡ true → is_away e ≡ false
+not_away Idle is = refl
+not_away (Pulsing a) is = refl
+not_away (Away a) is = sym is
+
+module _ (d : BallSettings) where
+  pub begin-begun : (now : ℕ) (s : BallState) → IsBegun s (begin d now s)
+  begin-begun now s =
+      cond_both (can_begin d s) (attempt d 1 now s) (s, []) (IsBegun s)
+      (λ can. record {
+        same = record { switches = refl; away = sym (not_away s.eject (and_parts (is_idle s.eject) _ can).0) };
+        quiet = (inl refl, tt);
+      })
+      (λ not. record { same = record { switches = refl; away = refl }; quiet = tt })
+
+module _ (d : BallSettings) (enter : Type 0) where
+  -- ---- an attempt is over
+
+  stuck-answer : (now : ℕ) (a : Attempt) (s : BallState) → is_away s.eject ≡ false → IsAnswer enter s (stuck d now a s)
+  stuck-answer now a s not_yet =
+      cond_both (may_try_again d.max_attempts a.number)
+      (after (failed ∷ []) (attempt d (min (suc a.number) 1000) now s))
+      (record s { eject = Idle; wanted = 0 }, failed ∷ []) (IsAnswer enter s)
+      (λ may. nothing (record s { eject = Pulsing (record { number = min (suc a.number) 1000; timeout = now + d.timeout }) })
+      (failed ∷ attempted ∷ []) refl (sym not_yet) (inr (inr refl), (inl refl, tt)))
+      (λ not. nothing (record s { eject = Idle; wanted = 0 }) (failed ∷ []) refl (sym not_yet) (inr (inr refl), tt))
+
+  -- lists of a ball that has arrived on the playfield, and then it may begin to eject the next
+  on_playfield : (now : ℕ) (s : BallState) (k : ℕ) → IsQuiet k → is_away s.eject ≡ true
+      → IsAnswer enter s (after (arrived ∷ k ∷ []) (begin d now (ended s)))
+  on_playfield now s k quiet away =
+      let begun = begin-begun d now (ended s) in
+      arrives (begin d now (ended s)).0 (k ∷ (begin d now (ended s)).1) (same-balls s (begin d now (ended s)).0 begun.same.switches) away
+      begun.same.away (quiet, begun.quiet)
+
+  overdue-answer : (target : BallTarget) (now : ℕ) (s : BallState) → is_away s.eject ≡ true
+      → IsAnswer enter s (after (overdue target) (begin d now (ended s)))
+  overdue-answer Playfield now s away = on_playfield now s succeeded (inr (inl refl)) away
+  overdue-answer (Device r) now s away = on_playfield now s failed (inr (inr refl)) away
+
+  time_out-answer : (now : ℕ) (eject : Eject) (s : BallState) → s.eject ≡ eject → IsAnswer enter s (time_out d now eject s)
+  time_out-answer now Idle s is = nothing s [] refl refl tt
+  time_out-answer now (Pulsing a) s is = stuck-answer now a s (ap is_away is)
+  time_out-answer now (Away a) s is = overdue-answer d.target now s (ap is_away is)
+
+  -- ---- a ball switch counts
+
+  gone-answer : (now : ℕ) (eject : Eject) (s t : BallState) → s.eject ≡ eject → t.eject ≡ s.eject → balls_in t + 1 ≡ balls_in s
+      → IsAnswer enter s (gone d now eject t)
+  gone-answer now Idle s t is same fewer =
+      cond_both d.mechanical
+      (record t { eject = Away (record { number = 1; timeout = now + d.timeout }) }, left ∷ []) (t, lost ∷ []) (IsAnswer enter s)
+      (λ hand. leaves (record t { eject = Away (record { number = 1; timeout = now + d.timeout }) }) fewer (ap is_away is) refl)
+      (λ none. loses t fewer (ap is_away same))
+  gone-answer now (Pulsing a) s t is same fewer = leaves (record t { eject = Away a }) fewer (ap is_away is) refl
+  gone-answer now (Away a) s t is same fewer = loses t fewer (ap is_away same)
+
+  count-answer : enter → (now i : ℕ) (s : BallState) → i < length s.switches → IsAnswer enter s (count d now i s)
+  count-answer may now i s within =
+      let t : BallState = set_switch i (turned (switch_at s i)) s in
+      let sums = sum_by-set (λ (b : BallSwitch). cond b.counted 1 0) s.switches i (turned (switch_at s i)) empty within in
+      cond_both (switch_at s i).counted (gone d now s.eject t) (after (entered ∷ []) (begin d now t)) (IsAnswer enter s)
+      (λ was.
+      let before : one (switch_at s i).counted ≡ 1 = ap one was in
+      let later : one (not (switch_at s i).counted) ≡ 0 = ap (λ (b : Bool). one (not b)) was in
+      gone-answer now s.eject s t refl refl (omega (arith, sums, before, later)))
+      (λ was_not.
+      let before : one (switch_at s i).counted ≡ 0 = ap one was_not in
+      let later : one (not (switch_at s i).counted) ≡ 1 = ap (λ (b : Bool). one (not b)) was_not in
+      let begun = begin-begun d now t in
+      let more : balls_in t ≡ balls_in s + 1 = omega (arith, sums, before, later) in
+      enters may (begin d now t).0 (begin d now t).1 (same-balls t (begin d now t).0 begun.same.switches ∙ more) begun.same.away begun.quiet)
+
+  -- one that is due is there
+  there : (s : BallState) (i due : ℕ) → (switch_at s i).due ≡ Some due → i < length s.switches
+  there s i due is =
+      elim (cases_lt i (length s.switches)) [
+        | inl within ↦ within
+        | inr past ↦ absurd (none-some due (sym (ap (λ (b : BallSwitch). b.due) (get_or_past s.switches i empty past)) ∙ is))
+      ]
+
+  count_due-answer : enter → (now : ℕ) (first : Option (ℕ × ℕ)) (s : BallState) → first_due s ≡ first → IsAnswer enter s (count_due d now first s)
+  count_due-answer may now None s is = nothing s [] refl refl tt
+  count_due-answer may now (Some a) s is =
+      let at = first_due-is_due 0 s.switches a is in
+      let within = there s at.0 a.0 at.2 in
+      count-answer may now a.1 s (omega (arith, within, at.1))
+
+  fire-answer : enter → (now : ℕ) (s : BallState) → IsAnswer enter s (fire d now s)
+  fire-answer may now s =
+      cond_both (is_timeout_first (first_due s) (timeout_of s.eject)) (time_out d now s.eject s) (count_due d now (first_due s) s)
+      (IsAnswer enter s) (λ is. time_out-answer now s.eject s refl) (λ not. count_due-answer may now (first_due s) s refl)
+
+  -- ---- acts
+
+  -- it is told that the ball that it has ejected has arrived
+  confirmed-answer : (now : ℕ) (s : BallState) (target : BallTarget) → target ≡ Playfield → is_away s.eject ≡ true
+      → IsAnswer enter s (after (confirmed target) (begin d now (ended s)))
+  confirmed-answer now s Playfield is away = on_playfield now s succeeded (inr (inl refl)) away
+  confirmed-answer now s (Device r) is away = absurd (device-not r is)
+    where
+      device-not : (r : _) → Device r ≡ Playfield → ⊥
+      device-not r is = cc
+
+  to_playfield : (now : ℕ) (eject : Eject) (s : BallState) → s.eject ≡ eject → d.target ≡ Playfield → IsAnswer enter s (confirm d now eject s)
+  to_playfield now Idle s is target = nothing s [] refl refl tt
+  to_playfield now (Pulsing a) s is target = nothing s [] refl refl tt
+  to_playfield now (Away a) s is target = confirmed-answer now s d.target target (ap is_away is)
+
+  -- where it ejects balls to the playfield
+  pub confirm-answer : (now : ℕ) (s : BallState) → d.target ≡ Playfield → IsAnswer enter s (ball_step d (calls.Act acts.Confirm) now s)
+  confirm-answer now s target = to_playfield now s.eject s refl target
+
+  requested-answer : (n now : ℕ) (s : BallState) → IsAnswer enter s (requested d n now s)
+  requested-answer n now s =
+      cond_both (d.trough && nat_le (s.wanted + n) 255) (begin d now (record s { wanted = s.wanted + n })) (s, []) (IsAnswer enter s)
+      (λ asked.
+      let begun = begin-begun d now (record s { wanted = s.wanted + n }) in
+      let next = begin d now (record s { wanted = s.wanted + n }) in
+      nothing next.0 next.1 (same-balls s next.0 begun.same.switches) begun.same.away begun.quiet)
+      (λ not. nothing s [] refl refl tt)
+
+  noted-answer : (i : ℕ) (active : Bool) (now : ℕ) (s : BallState) → IsAnswer enter s (switched d i active now s, [])
+  noted-answer i active now s =
+      cond_both (nat_lt i d.switches) (set_switch i (noted d active now (switch_at s i)) s) s (λ t. IsAnswer enter s (t, []))
+      (λ has. nothing (set_switch i (noted d active now (switch_at s i)) s) [] (same_count (cases_lt i (length s.switches))) refl tt)
+      (λ not. nothing s [] refl refl tt)
+    where
+      same_count : (i < length s.switches) ⊎ (length s.switches ≤ i) → balls_in (set_switch i (noted d active now (switch_at s i)) s) ≡ balls_in s
+      same_count (inl within) =
+          let sums = sum_by-set (λ (b : BallSwitch). cond b.counted 1 0) s.switches i (noted d active now (switch_at s i)) empty within in
+          omega (arith, sums)
+      same_count (inr past) = ap (count_by (λ b. b.counted)) (set_past s.switches i (noted d active now (switch_at s i)) past)
+
+  -- ---- steps
+
+  act-answer : (act : Act) (now : ℕ) (s : BallState) → IsUsual (calls.Act act) → IsAnswer enter s (act_step d act now s)
+  act-answer (acts.SwitchOn i) now s usual = noted-answer i true now s
+  act-answer (acts.SwitchOff i) now s usual = noted-answer i false now s
+  act-answer acts.Confirm now s usual = absurd usual
+  act-answer (acts.Request n) now s usual = requested-answer n now s
+  act-answer _ now s usual = nothing s [] refl refl tt
+
+  pub step-answer : enter → (call : Call) (now : ℕ) (s : BallState) → IsUsual call → IsAnswer enter s (ball_step d call now s)
+  step-answer may calls.ModeStart now s usual = nothing s [] refl refl tt
+  step-answer may calls.ModeStop now s usual = absurd usual
+  step-answer may calls.Fire now s usual = fire-answer may now s
+  step-answer may (calls.Act act) now s usual = act-answer act now s usual
+
+module _ (d : BallSettings) where
+  -- ---- confirmed in a device
+
+  into_device : (now : ℕ) (s : BallState) (target : BallTarget) (r : RowId) → target ≡ Device r
+      → IsConfirmed s (after (confirmed target) (begin d now (ended s)))
+  into_device now s Playfield r is = absurd (cc)
+  into_device now s (Device q) r is =
+      let begun = begin-begun d now (ended s) in
+      record { switches = begun.same.switches; away = begun.same.away; quiet = (inr (inl refl), begun.quiet) }
+
+  by_eject : (now : ℕ) (eject : Eject) (s : BallState) (r : RowId) → s.eject ≡ eject → is_away s.eject ≡ true → d.target ≡ Device r
+      → IsConfirmed s (confirm d now eject s)
+  by_eject now Idle s r is away target = absurd (false≢true (sym (ap is_away is) ∙ away))
+  by_eject now (Pulsing a) s r is away target = absurd (false≢true (sym (ap is_away is) ∙ away))
+  by_eject now (Away a) s r is away target = into_device now s d.target r target
+
+  pub step-confirmed : (now : ℕ) (s : BallState) (r : RowId) → is_away s.eject ≡ true → d.target ≡ Device r
+      → IsConfirmed s (ball_step d (calls.Act acts.Confirm) now s)
+  step-confirmed now s r away target = by_eject now s.eject s r refl away target

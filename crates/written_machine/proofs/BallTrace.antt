@@ -1,0 +1,333 @@
+-- In every run all that the ledger books stands in the trace, with the counts that follow from it.
+use Rattle.std.proofs.Common.{◌≡◌, ℕ, ◌+◌, ◌^◌, ◌<◌, ◌⊎◌, inl, inr, nat_lt, true, ◌&&◌, List, [], ◌∷◌, ◌++◌, length, length-append, get_or, drop, refl, sym, ap, ◌∙◌, subst, append_assoc, arith}
+use Rattle.std.proofs.lemmas.Bool.{and_parts, ltb-true}
+use Rattle.std.proofs.lemmas.List.{append-nil, ext_get_or, length-replicate}
+use Rattle.std.proofs.lemmas.List.Concat.{flat_map-append}
+use Rattle.plan_tables.specs.PlanView.{PlanView, work_of}
+use Rattle.plan_tables.specs.Valid.{IsTargetThere}
+use Rattle.plan_tables.specs.declared.devices.BallTarget.{BallTarget}
+use Rattle.plan_tables.specs.declared.devices.BallTarget.TheVariants.{Playfield, Device}
+use Rattle.plan_tables.specs.declared.devices.RowId.{RowId}
+use Rattle.plan_tables.specs.declared.entries.Owner.{Owner}
+use Rattle.ball_devices.specs.declared.booking.Booking.{Booking}
+use Rattle.ball_devices.specs.declared.booking.Booking.TheVariants.{Entered}
+use Rattle.ball_devices.specs.declared.booking.Origin.{Origin}
+use Rattle.ball_devices.specs.Ledger.{Ledger, no_balls, counted_in, transit_to, all_counted, all_in_transit, total, origin_of, IsBalanced, IsLedger}
+use Rattle.ball_devices.specs.Bookings.{LedgerCall, Enter, Leave, Lose, Arrive, MayBook, MayBookAll, after_call, after_calls, booked, booked_by, can_book, is_target_there, HasBooked, origin_after}
+use Rattle.ball_devices.proofs.Ledgers.{new-is, calls-are, call-is}
+use Rattle.ball_devices.proofs.Booked.{call-told, balls_are_somewhere, ledgers_follow_bookings, origins_are_by_bookings}
+use Rattle.cascade_rank.specs.Cost.{Cost}
+use Rattle.written_machine.specs.declared.line.BallCounts.{BallCounts}
+use Rattle.written_machine.specs.declared.line.Happening.{Happening}
+use Rattle.written_machine.specs.declared.line.Happening.TheVariants as lines
+use Rattle.written_machine.specs.declared.line.Line.{Line}
+use Rattle.written_machine.specs.Counted.{booked_at, bookings, AreOriginsRight, AreCountsRight}
+use Rattle.written_machine.specs.EventStep.{taken, EventStep}
+use Rattle.written_machine.specs.Machine.{Machine, initial, write, told, counts_of}
+use Rattle.written_machine.specs.Moves.{Move, Wrote, Sent, Switched, Began, Ended, Marked, Turned, Asked, Booked as Books, Varied, Stepped, do_move, Licence, MayDo, Does, IsNoBooking, TakesPart, Begins, ordinary, working}
+use Rattle.written_machine.specs.Run.{Stimulus, IsAllowed, begin, IsRun, InEveryRun}
+use Rattle.written_machine.proofs.Does.{start-by, stop-by, book-by, does-keeps}
+use Rattle.written_machine.proofs.Parts.{does-before, does-after, does-begin}
+use Rattle.written_machine.proofs.Keeps.{step-keeps, run-keeps}
+use Rattle.coil_guard.specs.declared.command.Answer.{Answer}
+use Rattle.coil_guard.specs.declared.command.Answer.TheVariants as answers
+use Rattle.coil_guard.specs.declared.command.Command.{Command}
+use Rattle.coil_guard.specs.Asked.{after_asking, answer_asking}
+
+-- ---- one call more
+
+calls-more : (cs : List LedgerCall) (c : LedgerCall) (l : Ledger) → after_calls (cs ++ c ∷ []) l ≡ after_call c (after_calls cs l)
+calls-more [] c l = refl
+calls-more (b ∷ cs) c l = calls-more cs c (after_call b l)
+
+may-more : (cs : List LedgerCall) (c : LedgerCall) (l : Ledger) → MayBookAll cs l → MayBook c (after_calls cs l) → MayBookAll (cs ++ c ∷ []) l
+may-more [] c l may one = (one, tt)
+may-more (b ∷ cs) c l may one = (may.0, may-more cs c (after_call b l) may.1 one)
+
+booked-more : (cs : List LedgerCall) (c : LedgerCall) (l : Ledger) → booked_by (cs ++ c ∷ []) l ≡ booked_by cs l ++ booked c (after_calls cs l) ∷ []
+booked-more [] c l = refl
+booked-more (b ∷ cs) c l = ap (λ bs. booked b l ∷ bs) (booked-more cs c (after_call b l))
+
+-- what can be booked may be
+there-can : (n : ℕ) (target : BallTarget) → is_target_there n target ≡ true → IsTargetThere n target
+there-can n Playfield is = tt
+there-can n (Device r) is = ltb-true r.0 n is
+
+may-can : (c : LedgerCall) (l : Ledger) → can_book c l ≡ true → MayBook c l
+may-can (Enter r) l is =
+    let parts = and_parts (nat_lt r.0 (length l.counted)) (nat_lt l.known (2 ^ 32)) is in
+    (ltb-true r.0 (length l.counted) parts.0, ltb-true l.known (2 ^ 32) parts.1)
+may-can (Leave r target) l is =
+    let parts = and_parts (nat_lt r.0 (length l.counted)) (is_target_there (length l.counted) target && nat_lt 0 (counted_in l r)) is in
+    let rest = and_parts (is_target_there (length l.counted) target) (nat_lt 0 (counted_in l r)) parts.1 in
+    (ltb-true r.0 (length l.counted) parts.0, there-can (length l.counted) target rest.0, ltb-true 0 (counted_in l r) rest.1)
+may-can (Lose r) l is =
+    let parts = and_parts (nat_lt r.0 (length l.counted)) (nat_lt 0 (counted_in l r)) is in
+    (ltb-true r.0 (length l.counted) parts.0, ltb-true 0 (counted_in l r) parts.1)
+may-can (Arrive target) l is =
+    let parts = and_parts (is_target_there (length l.counted) target) (nat_lt 0 (transit_to l target)) is in
+    (there-can (length l.counted) target parts.0, ltb-true 0 (transit_to l target) parts.1)
+
+-- ---- a ledger is told by its bookings
+
+module _ (bs : List Booking) (l m : Ledger) (rows : length l.counted ≡ length m.counted) (targets : length l.to_devices ≡ length m.to_devices)
+    (whole : length l.to_devices ≡ length l.counted) (has : HasBooked bs l) (also : HasBooked bs m) where
+  same-counted : l.counted ≡ m.counted
+  same-counted = ext_get_or 0 l.counted m.counted rows (λ i within.
+      let one = has.counted (record { 0 = i }) within in
+      let other = also.counted (record { 0 = i }) (omega (arith, within, rows)) in
+      omega (arith, one, other))
+
+  same-to_devices : l.to_devices ≡ m.to_devices
+  same-to_devices = ext_get_or 0 l.to_devices m.to_devices targets (λ i within.
+      let one = has.transit (Device (record { 0 = i })) (omega (arith, within, whole)) in
+      let other = also.transit (Device (record { 0 = i })) (omega (arith, within, whole, rows)) in
+      omega (arith, one, other))
+
+  same-to_playfield : l.to_playfield ≡ m.to_playfield
+  same-to_playfield = let one = has.transit Playfield tt in let other = also.transit Playfield tt in omega (arith, one, other)
+
+  same-playfield : l.playfield ≡ m.playfield
+  same-playfield = let one = has.playfield in let other = also.playfield in omega (arith, one, other)
+
+  same-known : l.known ≡ m.known
+  same-known = has.known ∙ sym also.known
+
+  same-counts : counts_of l ≡ counts_of m
+  same-counts =
+      ap (λ (k : ℕ). record { known = k; counted = all_counted l; transit = all_in_transit l; playfield = l.playfield }) same-known
+      ∙ (ap (λ (xs : List ℕ). record { known = m.known; counted = total xs; transit = all_in_transit l; playfield = l.playfield }) same-counted
+      ∙ (ap (λ (xs : List ℕ). record { known = m.known; counted = all_counted m; transit = total xs + l.to_playfield; playfield = l.playfield }) same-to_devices
+      ∙ (ap (λ (k : ℕ). record { known = m.known; counted = all_counted m; transit = total m.to_devices + k; playfield = l.playfield }) same-to_playfield
+      ∙ ap (λ (k : ℕ). record { known = m.known; counted = all_counted m; transit = all_in_transit m; playfield = k }) same-playfield)))
+
+-- ---- one line more
+
+-- where a list with one more is parted, that is its last line, or a line of the list
+parted : (ls : List Line) (l : Line) (before : List Line) (line : Line) (after : List Line) → ls ++ l ∷ [] ≡ before ++ line ∷ after
+    → ((before ≡ ls) × (line ≡ l)) ⊎ ((rest : List Line) × (ls ≡ before ++ line ∷ rest))
+parted [] l [] line after is = inl (refl, ap (λ (xs : List Line). get_or xs 0 l) (sym is))
+parted [] l (b ∷ bs) line after is =
+    let size : length (bs ++ line ∷ after) ≡ 0 = ap (λ (xs : List Line). length (drop 1 xs)) (sym is) in
+    absurd (omega (arith, size, length-append bs (line ∷ after)))
+parted (x ∷ xs) l [] line after is =
+    let head : x ≡ line = ap (λ (ys : List Line). get_or ys 0 x) is in
+    inr (xs, ap (λ (y : Line). y ∷ xs) head)
+parted (x ∷ xs) l (b ∷ bs) line after is =
+    let head : x ≡ b = ap (λ (ys : List Line). get_or ys 0 x) is in
+    let tail : xs ++ l ∷ [] ≡ bs ++ line ∷ after = ap (λ (ys : List Line). drop 1 ys) is in
+    elim (parted xs l bs line after tail) [
+      | inl last ↦ inl (ap (λ (ys : List Line). b ∷ ys) last.0 ∙ ap (λ (y : Line). y ∷ xs) (sym head), last.1)
+      | inr more ↦ inr (more.0, ap (λ (y : Line). y ∷ xs) head ∙ ap (λ (ys : List Line). b ∷ ys) more.1)
+    ]
+
+bookings-push : (ls : List Line) (l : Line) → bookings (ls ++ l ∷ []) ≡ bookings ls ++ booked_at l.happening
+bookings-push ls l =
+    flat_map-append (λ x. booked_at x.happening) ls (l ∷ []) ∙ ap (λ bs. bookings ls ++ bs) (append-nil (booked_at l.happening))
+
+origins-push : (ls : List Line) (l : Line) → AreOriginsRight ls
+    → ((r : RowId) (origin : Origin) (told : BallCounts) → l.happening ≡ lines.Balls (Entered r origin) told → origin ≡ origin_after (bookings ls) r)
+    → AreOriginsRight (ls ++ l ∷ [])
+origins-push ls l h here before line after r origin told parts is =
+    elim (parted ls l before line after parts) [
+      | inl last ↦
+          let its : l.happening ≡ lines.Balls (Entered r origin) told = ap (λ (x : Line). x.happening) (sym last.1) ∙ is in
+          here r origin told its ∙ ap (λ (xs : List Line). origin_after (bookings xs) r) (sym last.0)
+      | inr more ↦ h before line more.0 r origin told more.1 is
+    ]
+
+told-push : (plan : PlanView) (ls : List Line) (l : Line) → AreCountsRight plan ls
+    → ((booking : Booking) (told : BallCounts) → l.happening ≡ lines.Balls booking told → (m : Ledger) → length m.counted ≡ length plan.rows
+    → length m.to_devices ≡ length plan.rows → HasBooked (bookings ls ++ booking ∷ []) m → told ≡ counts_of m)
+    → AreCountsRight plan (ls ++ l ∷ [])
+told-push plan ls l h here before line after booking told parts is m rows targets has =
+    elim (parted ls l before line after parts) [
+      | inl last ↦
+          here booking told (ap (λ (x : Line). x.happening) (sym last.1) ∙ is) m rows targets
+          (subst (λ (xs : List Line). HasBooked (bookings xs ++ booking ∷ []) m) last.0 has)
+      | inr more ↦ h before line more.0 booking told more.1 is m rows targets has
+    ]
+
+-- ---- what a trace and a ledger have booked
+
+module _ (plan : PlanView) where
+  -- The ledger is what these calls made of the first one, and the trace has what they booked.
+  pub record IsTold (ls : List Line) (l : Ledger) : Type 0 where
+    pub calls : List LedgerCall
+    pub may : MayBookAll calls (no_balls plan)
+    pub is : after_calls calls (no_balls plan) ≡ l
+    pub booked_is : booked_by calls (no_balls plan) ≡ bookings ls
+    pub rows : length l.counted ≡ length plan.rows
+    pub origins : AreOriginsRight ls
+    pub told : AreCountsRight plan ls
+
+  first-told : IsTold [] (no_balls plan)
+  first-told = record {
+    calls = [];
+    may = tt;
+    is = refl;
+    booked_is = refl;
+    rows = length-replicate (length plan.rows) 0;
+    origins = λ before line after r origin counts parts is.
+        let size : 0 ≡ length (before ++ line ∷ after) = ap (λ (xs : List Line). length xs) parts in
+        absurd (omega (arith, size, length-append before (line ∷ after)));
+    told = λ before line after booking counts parts is.
+        let size : 0 ≡ length (before ++ line ∷ after) = ap (λ (xs : List Line). length xs) parts in
+        absurd (omega (arith, size, length-append before (line ∷ after)));
+  }
+
+  -- a line that tells of no booking
+  nothing_at : (what : Happening) → IsNoBooking what → booked_at what ≡ []
+  nothing_at (lines.Balls booking counts) none = absurd none
+  nothing_at (lines.Switch n active) none = refl
+  nothing_at (lines.Event e) none = refl
+  nothing_at (lines.Coil command) none = refl
+  nothing_at (lines.Skip command) none = refl
+  nothing_at (lines.Player player v value) none = refl
+  nothing_at (lines.Final player score) none = refl
+
+  not_balls : (what : Happening) (booking : Booking) (told : BallCounts) → IsNoBooking what → what ≡ lines.Balls booking told → ⊥
+  not_balls what booking told none is = subst IsNoBooking is none
+
+  quiet-told : (ls : List Line) (x : Line) (l : Ledger) → IsNoBooking x.happening → IsTold ls l → IsTold (ls ++ x ∷ []) l
+  quiet-told ls x l none h = record {
+    calls = h.calls;
+    may = h.may;
+    is = h.is;
+    booked_is = h.booked_is ∙ sym (bookings-push ls x ∙ (ap (λ bs. bookings ls ++ bs) (nothing_at x.happening none) ∙ append-nil (bookings ls)));
+    rows = h.rows;
+    origins = origins-push ls x h.origins (λ r origin told is. absurd (not_balls x.happening (Entered r origin) told none is));
+    told = told-push plan ls x h.told (λ booking told is m rows targets has. absurd (not_balls x.happening booking told none is));
+  }
+
+  -- a line of a booking, with its counts
+  module _ (ls : List Line) (x : Line) (l : Ledger) (c : LedgerCall) (can : can_book c l ≡ true)
+      (is : x.happening ≡ lines.Balls (booked c l) (counts_of (after_call c l))) (h : IsTold ls l) where
+    may_now : MayBook c (after_calls h.calls (no_balls plan))
+    may_now = subst (MayBook c) (sym h.is) (may-can c l can)
+
+    next_may : MayBookAll (h.calls ++ c ∷ []) (no_balls plan)
+    next_may = may-more h.calls c (no_balls plan) h.may may_now
+
+    next_is : after_calls (h.calls ++ c ∷ []) (no_balls plan) ≡ after_call c l
+    next_is = calls-more h.calls c (no_balls plan) ∙ ap (after_call c) h.is
+
+    next_booked : booked_by (h.calls ++ c ∷ []) (no_balls plan) ≡ bookings ls ++ booked c l ∷ []
+    next_booked =
+        booked-more h.calls c (no_balls plan)
+        ∙ (ap (λ bs. bs ++ booked c (after_calls h.calls (no_balls plan)) ∷ []) h.booked_is
+        ∙ ap (λ (m : Ledger). bookings ls ++ booked c m ∷ []) h.is)
+
+    ledger-is : IsLedger l
+    ledger-is = subst IsLedger h.is (calls-are h.calls (no_balls plan) (new-is plan) h.may)
+
+    next_rows : length (after_call c l).counted ≡ length plan.rows
+    next_rows = let tells = call-told l ledger-is.rows c (may-can c l can) in tells.rows ∙ h.rows
+
+    -- the line tells of this booking
+    its_booking : (booking : Booking) (told : BallCounts) → x.happening ≡ lines.Balls booking told → booked c l ≡ booking
+    its_booking booking told other = cc
+
+    its_counts : (booking : Booking) (told : BallCounts) → x.happening ≡ lines.Balls booking told → counts_of (after_call c l) ≡ told
+    its_counts booking told other = cc
+
+    origin_now : (d : LedgerCall) → d ≡ c → (r : RowId) (origin : Origin) → booked d l ≡ Entered r origin → origin ≡ origin_after (bookings ls) r
+    origin_now (Enter e) same r origin entered =
+        let from : origin_of e l ≡ origin = cc in
+        let row : e ≡ r = cc in
+        let may : MayBook (Enter e) l = subst (λ (d : LedgerCall). MayBook d l) (sym same) (may-can c l can) in
+        let within : e.0 < length plan.rows = let rows = h.rows in omega (arith, may.0, rows) in
+        sym from ∙ (ap (origin_of e) (sym h.is) ∙ (origins_are_by_bookings plan h.calls e h.may within
+        ∙ (ap (λ bs. origin_after bs e) h.booked_is ∙ ap (λ (q : RowId). origin_after (bookings ls) q) row)))
+    origin_now (Leave e target) same r origin entered = absurd (cc)
+    origin_now (Lose e) same r origin entered = absurd (cc)
+    origin_now (Arrive target) same r origin entered = absurd (cc)
+
+    booking-told : IsTold (ls ++ x ∷ []) (after_call c l)
+    booking-told = record {
+      calls = h.calls ++ c ∷ [];
+      may = next_may;
+      is = next_is;
+      booked_is = next_booked ∙ sym (bookings-push ls x ∙ ap (λ (what : Happening). bookings ls ++ booked_at what) is);
+      rows = next_rows;
+      origins = origins-push ls x h.origins (λ r origin told other. origin_now c refl r origin (its_booking (Entered r origin) told other));
+      told = told-push plan ls x h.told (λ booking told other m rows targets has.
+          let follows : HasBooked (bookings ls ++ booking ∷ []) (after_call c l) =
+          subst (λ (b : Booking). HasBooked (bookings ls ++ b ∷ []) (after_call c l)) (its_booking booking told other)
+          (subst (λ bs. HasBooked bs (after_call c l)) next_booked
+          (subst (HasBooked (booked_by (h.calls ++ c ∷ []) (no_balls plan))) next_is (ledgers_follow_bookings plan (h.calls ++ c ∷ []) next_may))) in
+          let still = call-is c l ledger-is (may-can c l can) in
+          sym (its_counts booking told other)
+          ∙ same-counts (bookings ls ++ booking ∷ []) (after_call c l) m (next_rows ∙ sym rows) (still.rows ∙ (next_rows ∙ sym targets)) still.rows follows has);
+    }
+
+  -- ---- moves
+
+  abbrev pub IsToldSoFar : List Line → Machine → Type 0
+  IsToldSoFar before s = IsTold (before ++ s.lines) s.ledger
+
+  write-told : (before : List Line) (owner : Owner) (what : Happening) (s : Machine) → IsNoBooking what → IsToldSoFar before s → IsToldSoFar before (write owner what s)
+  write-told before owner what s none h =
+      let x : Line = record { moment = s.moment; owner = owner; happening = what } in
+      subst (λ (ls : List Line). IsTold ls s.ledger) (append_assoc before s.lines (x ∷ [])) (quiet-told (before ++ s.lines) x s.ledger none h)
+
+  no_booking : (command : Command) (answer : Answer) → IsNoBooking (told command answer)
+  no_booking command (answers.Sent sent) = tt
+  no_booking command answers.Skipped = tt
+
+  told-move : (licence : Licence) (before : List Line) (x : Move) (s : Machine) → MayDo plan licence x → IsToldSoFar before s → IsToldSoFar before (do_move plan x s)
+  told-move licence before (Wrote owner what) s may h = write-told before owner what s may.3 h
+  told-move licence before (Sent owner e) s may h = h
+  told-move licence before (Switched n state) s may h = h
+  told-move licence before (Began m) s may h = start-by plan m s (IsToldSoFar before) h h
+  told-move licence before (Ended m) s may h = stop-by plan m s (IsToldSoFar before) h h
+  told-move licence before (Marked m state) s may h = h
+  told-move licence before (Turned call r) s may h = h
+  told-move licence before (Asked owner command) s may h =
+      write-told before owner (told command (answer_asking command owner s.moment s.coils)) (record s { coils = after_asking command owner s.moment s.coils })
+      (no_booking command (answer_asking command owner s.moment s.coils)) h
+  told-move licence before (Books owner call) s may h =
+      let x : Line = record { moment = s.moment; owner = owner; happening = lines.Balls (booked call s.ledger) (counts_of (after_call call s.ledger)) } in
+      book-by owner call s (IsToldSoFar before)
+      (λ can. subst (λ (ls : List Line). IsTold ls (after_call call s.ledger)) (append_assoc before s.lines (x ∷ []))
+      (booking-told (before ++ s.lines) x s.ledger call can refl h)) h
+  told-move licence before (Varied v value) s may h = h
+  told-move licence before (Stepped which) s may h = h
+
+  told-does : (licence : Licence) (before : List Line) {c : Cost} {s t : Machine} → Does plan (MayDo plan licence) c s t → IsToldSoFar before s → IsToldSoFar before t
+  told-does licence before d h = does-keeps plan (MayDo plan licence) (IsToldSoFar before) (told-move licence before) d h
+
+  -- ---- every run
+
+  step-told : (before : List Line) (s t : Machine) → EventStep plan s t → IsToldSoFar before s → IsToldSoFar before t
+  step-told before =
+      step-keeps plan IsToldSoFar (λ first. IsToldSoFar)
+      (λ earlier first rest s is h.
+      told-does working earlier (does-before plan (work_of plan first.event) (taken first rest s))
+      (write-told earlier first.owner (lines.Event first.event) (record s { waiting = rest }) tt h))
+      (λ earlier first c s t d h. told-does (ordinary plan (TakesPart s) ⊥) earlier d h)
+      (λ earlier first kept s h. told-does working earlier (does-after plan kept first.event s) h) before
+
+  begin-told : (before : List Line) (stimulus : Stimulus) (s : Machine) → IsAllowed plan s stimulus → s.waiting ≡ [] → IsToldSoFar before s
+      → IsToldSoFar (before ++ s.lines) (begin plan stimulus s)
+  begin-told before stimulus s may empty h =
+      told-does (ordinary plan (Begins plan stimulus) (Unit {0})) (before ++ s.lines) (does-begin plan stimulus s)
+      (subst (λ (ls : List Line). IsTold ls s.ledger) (sym (append-nil (before ++ s.lines))) h)
+
+  pub told-run : InEveryRun plan (λ stimuli trace s. IsTold trace s.ledger)
+  told-run stimuli trace s run =
+      let end = run-keeps plan IsToldSoFar step-told begin-told [] stimuli (initial plan) trace s run first-told in
+      subst (λ (ls : List Line). IsTold ls s.ledger) end.2 end.1
+
+  -- what follows of every run
+  module _ (stimuli : List (Stimulus × ℕ)) (trace : List Line) (s : Machine) (run : IsRun plan stimuli (initial plan) trace s) where
+    now : IsTold trace s.ledger
+    now = told-run stimuli trace s run
+
+    pub booked-run : HasBooked (bookings trace) s.ledger
+    booked-run =
+        subst (λ bs. HasBooked bs s.ledger) now.booked_is
+        (subst (HasBooked (booked_by now.calls (no_balls plan))) now.is (ledgers_follow_bookings plan now.calls now.may))
+
+    pub somewhere-run : IsBalanced s.ledger
+    somewhere-run = subst IsBalanced now.is (balls_are_somewhere plan now.calls now.may)
