@@ -116,10 +116,16 @@ ball-words : (name : List ℕ) → IsName name → All (λ ending. IsEventWord (
 ball-words name h =
     All-from_recursion (λ ending. IsEventWord (ball_event name ending)) ball_endings (
       of_ball (codes "_ball_enter") (omega arith) (AllPass-from_list_all is_in_word (codes "_ball_enter") refl),
-      (of_ball (codes "_ball_eject_attempt") (omega arith) (AllPass-from_list_all is_in_word (codes "_ball_eject_attempt") refl),
-      (of_ball (codes "_ejecting_ball") (omega arith) (AllPass-from_list_all is_in_word (codes "_ejecting_ball") refl),
-      (of_ball (codes "_ball_eject_success") (omega arith) (AllPass-from_list_all is_in_word (codes "_ball_eject_success") refl),
-      (of_ball (codes "_ball_eject_failed") (omega arith) (AllPass-from_list_all is_in_word (codes "_ball_eject_failed") refl), tt)))),
+      (
+        of_ball (codes "_ball_eject_attempt") (omega arith) (AllPass-from_list_all is_in_word (codes "_ball_eject_attempt") refl),
+        (
+          of_ball (codes "_ejecting_ball") (omega arith) (AllPass-from_list_all is_in_word (codes "_ejecting_ball") refl),
+          (
+            of_ball (codes "_ball_eject_success") (omega arith) (AllPass-from_list_all is_in_word (codes "_ball_eject_success") refl),
+            (of_ball (codes "_ball_eject_failed") (omega arith) (AllPass-from_list_all is_in_word (codes "_ball_eject_failed") refl), tt),
+          ),
+        ),
+      ),
     )
   where
     of_ball : (ending : List ℕ) → length ending ≤ 19 → AllInWord ending → IsEventWord (ball_event name ending)

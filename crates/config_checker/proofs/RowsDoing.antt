@@ -215,11 +215,17 @@ module _ (rows : Rows) where
       let pulse = eject_pulse rows.machine d.eject_coil in
       All-from_recursion (All IsFine) (ball_lists rows.machine d) (
         one (enters enter (drains rows.machine d)) (ball-free name (codes "_ball_enter") rows),
-        (All-cons IsFine (posts attempt) (posts ejecting ∷ pulse) (ball-free name (codes "_ball_eject_attempt") rows)
-        (All-cons IsFine (posts ejecting) pulse (ball-free name (codes "_ejecting_ball") rows) (eject-doing d.eject_coil h.eject_coil)),
-        (one leaves tt,
-        (one loses tt,
-        (one (posts success) (ball-free name (codes "_ball_eject_success") rows), (one arrives tt, (one (posts failed) (ball-free name (codes "_ball_eject_failed") rows), tt)))))),
+        (
+          All-cons IsFine (posts attempt) (posts ejecting ∷ pulse) (ball-free name (codes "_ball_eject_attempt") rows)
+              (All-cons IsFine (posts ejecting) pulse (ball-free name (codes "_ejecting_ball") rows) (eject-doing d.eject_coil h.eject_coil)),
+          (
+            one leaves tt,
+            (
+              one loses tt,
+              (one (posts success) (ball-free name (codes "_ball_eject_success") rows), (one arrives tt, (one (posts failed) (ball-free name (codes "_ball_eject_failed") rows), tt))),
+            ),
+          ),
+        ),
       )
 
   -- no two of its ball switches have one name
