@@ -78,7 +78,10 @@ impl Story {
         let score = score.saturating_add(100);
         self.press("s_hit")?;
         let moment = self.moment.saturating_sub(50);
-        write!(self.wanted, "{moment} machine player {player} score {score}\n")?;
+        write!(
+            self.wanted,
+            "{moment} machine player {player} score {score}\n"
+        )?;
         Ok(score)
     }
 
@@ -148,7 +151,9 @@ fn on_players(alloc: Global, out: &str) -> Result<String, AllocError> {
 fn count(out: &str, what: &str) -> u32 {
     let mut found = 0u32;
     for line in out.split("\n") {
-        if let Some((_, said)) = line.split_once(" ") && said == what {
+        if let Some((_, said)) = line.split_once(" ")
+            && said == what
+        {
             found = found.saturating_add(1);
         }
     }

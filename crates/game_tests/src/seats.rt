@@ -35,7 +35,7 @@ impl<'p> Seats<'p> {
 
     /// What follows from an event of a game with these players.
     pub(crate) fn work(&mut self, game: &mut Game, event: GameEvent, home: u32) -> GameWork {
-        game.work(event, &mut self.players, home)
+        game.work(event, &mut self.players, u64::from(home))
     }
 
     /// The value of a variable; 0 if there is no such variable.

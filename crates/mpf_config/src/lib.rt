@@ -23,8 +23,7 @@ pub use config::{
 };
 pub use escape::{escaped_makes_no_line, write_escaped};
 pub use fault::{ConfigFault, Fault, FaultKind, write_fault};
-// The sections: their names, and their entries by the names of their settings. Ball devices are in
-// `mpf_sections` alone.
+// The sections: their names, and their entries by the names of their settings.
 pub use mpf_sections::tables::{
     ACCRUALS_NAME, AUTOFIRE_COILS_NAME, BALL_DEVICES_NAME, COIL_PLAYER_NAME, COILS_NAME,
     COUNTERS_NAME, DEFAULT_PROFILE, EVENT_PLAYER_NAME, FLIPPERS_NAME, GAME_NAME,

@@ -5,18 +5,18 @@ use Rattle.std.specs.List.{All, list_any}
 use Rattle.std.proofs.lemmas.List.{length_push}
 use Rattle.std.proofs.lemmas.List.Elements.{All-nil, All-cons, All-push, All-append, All-replicate, All-head, All-tail, All-weaker}
 use Rattle.plan_tables.specs.declared.entries.Action.{Action}
-use Rattle.plan_tables.specs.declared.entries.Action.TheVariants.{Post, Pulse, Enable, Disable, Change, Enter, Leave, Lose, Arrive}
+use Rattle.plan_tables.specs.declared.entries.Action.TheVariants.{Enter, Leave, Lose, Arrive}
 use Rattle.plan_tables.specs.declared.devices.RowId.{RowId}
 use Rattle.plan_tables.specs.Devices.{list_count}
 use Rattle.plan_tables.specs.PlanView.{PlanView}
 use Rattle.plan_tables.specs.Valid.{HasGame}
 use Rattle.plan_contributions.specs.declared.contribution.Aim.{Aim}
 use Rattle.plan_contributions.specs.declared.contribution.Aim.TheVariants.{Run}
-use Rattle.plan_contributions.specs.DeviceEntries.{Deed, pulse, enable, disable, Effect, posts, works, changes, enters, leaves, loses, arrives}
-use Rattle.plan_contributions.specs.Contributions.{Contribution, gives, reads, active, inactive, mode, mode_event, binds, does, device, does_in, listens, mentions, unknown, coil, under, plays}
+use Rattle.plan_contributions.specs.DeviceEntries.{pulse, enable, disable, Effect, posts, works, changes, enters}
+use Rattle.plan_contributions.specs.Contributions.{Contribution, gives, binds, does, device, does_in, listens}
 use Rattle.plan_contributions.specs.BallFacts.{BooksNothing, LastRow, last_after, IsFitting, AreFitting, is_plays, DrainsIn, DrainsInGame, AllDrainInGame}
 use Rattle.mpf_plan.specs.Uses.{Names, number_among}
-use Rattle.mpf_plan.specs.PlanOf.{DraftView, action_with, action_of, last_row, lists_for, with_one_more, next_row, first_of_last, with_contribution, blank, drafted}
+use Rattle.mpf_plan.specs.PlanOf.{DraftView, action_of, last_row, lists_for, with_one_more, next_row, first_of_last, with_contribution, blank, drafted}
 use Rattle.mpf_plan.proofs.Drafted.{given_plan}
 use Rattle.mpf_plan.proofs.Steps.{All-changed}
 

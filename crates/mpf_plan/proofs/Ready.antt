@@ -310,8 +310,10 @@ steady_ball : (machine : List SectionRows) (d : BallDevice) → All (All IsStead
 steady_ball machine d =
     All-from_recursion (All IsSteady) (ball_lists machine d) (
       steady_list (enters _ _) tt,
-      (All-cons IsSteady (posts _) (posts _ ∷ eject_pulse machine d.eject_coil) tt (All-cons IsSteady (posts _) (eject_pulse machine d.eject_coil) tt (steady_pulse machine d.eject_coil)),
-      (steady_list leaves tt, (steady_list loses tt, (steady_list (posts _) tt, (steady_list arrives tt, (steady_list (posts _) tt, tt)))))),
+      (
+        All-cons IsSteady (posts _) (posts _ ∷ eject_pulse machine d.eject_coil) tt (All-cons IsSteady (posts _) (eject_pulse machine d.eject_coil) tt (steady_pulse machine d.eject_coil)),
+        (steady_list leaves tt, (steady_list loses tt, (steady_list (posts _) tt, (steady_list arrives tt, (steady_list (posts _) tt, tt))))),
+      ),
     )
 
 ready_ball_device : (machine : List SectionRows) (d : BallDevice) (to : Destination) → AreReady (ball_device_contributions machine d to)

@@ -1,11 +1,11 @@
 -- The effect lists of ball devices alone have to do with balls, each as it has to. Here `lists` are those of a plan that is
 -- being made, and `firsts` are the first lists of its rows.
 use Rattle.std.proofs.Common.{◌≡◌, ℕ, suc, ◌+◌, ◌-◌, ◌<◌, ◌≤◌, ◌==◌, ◌⊎◌, inl, inr, if◌then◌else◌, Bool, true, false, List, [], ◌∷◌, ◌++◌, length, map, set, get_or, replicate, refl, sym, ◌∙◌, ap, subst, arith, length-append}
-use Rattle.std.specs.Prelude.{Option, None, Some, IfSome, option_map}
+use Rattle.std.specs.Prelude.{Option, None, Some}
 use Rattle.std.specs.List.{All}
 use Rattle.std.proofs.lemmas.Bool.{cases_lt, eqb-true, eqb-false}
-use Rattle.std.proofs.lemmas.List.{get_or_append_left, get_or_push, get_or-set_same, get_or-set_other, length_push, length-set, map-append, get_or_past, set_past}
-use Rattle.std.proofs.lemmas.List.Elements.{All-nil, All-push, All-map, All-weaker, All-replicate, All-get_or}
+use Rattle.std.proofs.lemmas.List.{get_or_append_left, get_or_push, get_or-set_same, get_or-set_other, length_push, length-set, map-append, get_or_past}
+use Rattle.std.proofs.lemmas.List.Elements.{All-nil, All-push, All-map, All-weaker, All-replicate}
 use Rattle.plan_tables.specs.Devices.{list_count}
 use Rattle.plan_tables.specs.declared.devices.DeviceRow.{DeviceRow}
 use Rattle.plan_tables.specs.declared.devices.RowId.{RowId}
@@ -18,10 +18,10 @@ use Rattle.plan_tables.specs.declared.entries.Target.{Target}
 use Rattle.plan_tables.specs.declared.entries.Target.TheVariants.{Run, Start, Stop, Act}
 use Rattle.plan_tables.specs.declared.table.Table.TheVariants.{Events}
 use Rattle.plan_tables.specs.PlanView.{no_row}
-use Rattle.plan_contributions.specs.DeviceEntries.{Deed, pulse, enable, disable, Effect, posts, works, changes, enters, leaves, loses, arrives}
-use Rattle.plan_contributions.specs.BallFacts.{BooksNothing, AreBallLists, IsRightRow, LastRow, first_row, with_switch, with_effect, IsRight}
+use Rattle.plan_contributions.specs.DeviceEntries.{pulse, enable, disable, Effect, posts, works, changes}
+use Rattle.plan_contributions.specs.BallFacts.{BooksNothing, IsRightRow, LastRow, first_row, with_switch, with_effect, IsRight}
 use Rattle.plan_rows.specs.declared.place.Place.{Place}
-use Rattle.mpf_plan.specs.Balls.{IsOfNoBall, AreBallActions, AreRightActions}
+use Rattle.mpf_plan.specs.Balls.{IsOfNoBall, AreRightActions}
 use Rattle.mpf_plan.specs.Uses.{Names}
 use Rattle.mpf_plan.specs.PlanOf.{event_of, action_of, first_of_last, with_one_more}
 use Rattle.mpf_plan.proofs.Steps.{All-changed, blank_end}

@@ -9,16 +9,16 @@ use Rattle.device_objects.specs.declared.state.DeviceState.{DeviceState}
 use Rattle.device_objects.specs.DeviceStep.{due_of}
 use Rattle.device_objects.specs.Laws.{MayCome}
 use Rattle.switch_core.specs.declared.change.Change.{Change as Acceptance}
-use Rattle.switch_core.specs.Switches.{SwitchesView, next_due, IsNextDue, IsNothingDue, reported, after_fire, reported_by_fire}
+use Rattle.switch_core.specs.Switches.{SwitchesView, next_due, IsNextDue, IsNothingDue, accept, accept_due, reported, after_fire, reported_by_fire}
 use Rattle.switch_core.proofs.NextDue.{next_due-is, next_due-is_due}
 use Rattle.switch_core.proofs.Lists.{due-within}
-use Rattle.written_machine.specs.Machine.{Machine, device_at}
+use Rattle.written_machine.specs.Machine.{Machine, set_switches, device_at, do_accepted}
 use Rattle.written_machine.specs.Devices.{HasDevices}
-use Rattle.written_machine.specs.Run.{Source, switch, device}
+use Rattle.written_machine.specs.Run.{Source, switch, device, fire}
 use Rattle.written_machine.specs.NextAlarm.{next_alarm}
 use Rattle.written_machine.proofs.Does.{due-row}
 use Rattle.written_machine.proofs.NextAlarms.{found-is_next, next_alarm-due}
-use Rattle.pin_rig.specs.Core.{CoreView, IsCoreOf}
+use Rattle.pin_rig.specs.Core.{CoreView, IsCoreOf, HasRoom, after}
 
 same_Some : (a b : Acceptance) → Some a ≡ Some b → a ≡ b
 same_Some a b h = cc
@@ -63,3 +63,34 @@ next-of s source is = by (next_alarm s) refl is
     by : (o : Option (ℕ × Source)) → next_alarm s ≡ o → option_map (λ a. a.1) o ≡ Some source → (at : ℕ) × (next_alarm s ≡ Some (at, source))
     by None e h = cc
     by (Some a) e h = let same : a.1 ≡ source = cc in (a.0, e ∙ ap (λ x. Some (a.0, x)) same)
+
+-- ---- the raw level of a switch is accepted
+
+module _ (plan : PlanView) (core : CoreView) (source : Source) (next : option_map (λ a. a.1) (next_alarm core.machine) ≡ Some source) (n : SwitchId) (source_is : source ≡ switch n)
+    (a : Acceptance) (reported_is : reported_by_fire core.machine.switches ≡ Some a) (now : CoreView) (now_is : now ≡ after (set_switches (after_fire core.machine.switches)) core) where
+  abbrev switches : SwitchesView
+  switches = core.machine.switches
+
+  due : (at : ℕ) × (next_due switches ≡ Some (at, n))
+  due =
+      let found = next-of core.machine source next in
+      (found.0, next-switch core.machine found.0 n (found.1 ∙ ap (λ x. Some (found.0, x)) source_is))
+
+  accepted-is : after_fire switches ≡ accept n switches
+  accepted-is = ap (λ o. accept_due o switches) due.1
+
+  acceptance-is : a ≡ reported (accept n switches) n
+  acceptance-is =
+      same_Some a (reported (accept n switches) n)
+      (sym reported_is ∙ ap (option_map (λ d. reported (after_fire switches) d.1)) due.1 ∙ ap (λ s. Some (reported s n)) accepted-is)
+
+  fired-is : fire plan source core.machine ≡ do_accepted plan a (set_switches (after_fire switches) core.machine)
+  fired-is = ap (λ x. fire plan x core.machine) source_is ∙ (λ i. do_accepted plan (sym acceptance-is i) (set_switches (sym accepted-is i) core.machine))
+
+  pub fired-room : HasRoom core.room (fire plan source core.machine) → HasRoom now.room (do_accepted plan a now.machine)
+  fired-room room =
+      subst (λ (c : CoreView). HasRoom c.room (do_accepted plan a c.machine)) (sym now_is)
+      (subst (HasRoom core.room) fired-is room)
+
+  pub fired-done : (last : CoreView) → last ≡ after (do_accepted plan a) now → last ≡ after (fire plan source) core
+  fired-done last last_is = last_is ∙ ap (after (do_accepted plan a)) now_is ∙ ap (λ (s : Machine). after (λ t. s) core) (sym fired-is)

@@ -63,7 +63,7 @@ entered-follows c m is =
 
 -- while the devices of a mode are called, the same modes run
 pub calls-still : (plan : PlanView) (call : Call) (m : ModeId) (s : Machine) → running_of (call_devices plan call m s).modes ≡ running_of s.modes
-calls-still plan call m s = still-does plan (λ owner. Unit {0}) ⊥ (does-calls plan (λ owner. Unit {0}) call m tt s)
+calls-still plan call m s = still-does plan (λ owner. Unit {0}) ⊥ (does-calls plan (λ owner. Unit {0}) tt call m tt s)
 
 -- the core after the whole work at `started`
 pub started-follows : (plan : PlanView) (c entered_core new : CoreView) (m : ModeId) → entered_core ≡ follow (λ s. set_mode m (entered (mode_state s.modes m)) s) c → new ≡ after (call_devices plan calls.ModeStart m) entered_core

@@ -1,9 +1,9 @@
--- Effect lists and calls of devices only add to lines and waiting events.
+-- The rows of a plan, one after another, and what their devices answer.
 use Rattle.std.proofs.Common.{◌≡◌, ℕ, ◌+◌, ◌<◌, ◌≤◌, Bool, true, false, cond, List, [], ◌∷◌, length, filter, drop, ap, sym, ◌∙◌, subst, arith}
 use Rattle.std.specs.List.{All}
 use Rattle.std.proofs.lemmas.List.{drop_all, drop_more}
 use Rattle.std.proofs.lemmas.List.Elements.{All-get_or}
-use Rattle.plan_tables.specs.PlanView.{PlanView, actions_at, is_owner, list_of_row, row_at, row_numbers}
+use Rattle.plan_tables.specs.PlanView.{PlanView, is_owner, row_at, row_numbers}
 use Rattle.plan_tables.specs.Devices.{list_count}
 use Rattle.plan_tables.specs.declared.entries.ModeId.{ModeId}
 use Rattle.plan_tables.specs.declared.entries.Owner.TheVariants as owners
@@ -15,29 +15,21 @@ use Rattle.device_objects.proofs.Answered.{answers_are_outcomes}
 use Rattle.device_objects.proofs.Lists.{outcomes_of_row}
 use Rattle.cascade_rank.proofs.Rows.{length-rows, row_of}
 use Rattle.written_machine.specs.Devices.{HasDevices}
-use Rattle.written_machine.specs.Machine.{Machine, all_do, do_action, do_list, world_of, device_at, called, call_device}
-use Rattle.written_machine.proofs.Does.{grows-does}
-use Rattle.written_machine.proofs.Growth.{all_do-grows, action-grows}
-use Rattle.written_machine.proofs.Parts.{does-call}
+use Rattle.written_machine.specs.Machine.{Machine, all_do, world_of, device_at, called, call_device}
 use Rattle.pin_rig.specs.Core.{CoreView, CanCall, after}
 use Rattle.pin_rig.proofs.Room.{Grows}
-use Rattle.pin_rig.proofs.Callable.{can-does}
+use Rattle.pin_rig.proofs.Going.{Goes, goes-can, goes-call}
+
+-- as much as before, and more
+pub grown : (plan : PlanView) (s t : Machine) → Goes plan s t → Grows s t
+grown plan s t g = (g.lines, g.waiting)
 
 module _ (plan : PlanView) where
-  pub list-grows : (r : RowId) (k : ℕ) (s : Machine) → Grows s (do_list plan (row_at plan r).owner (list_of_row plan r k) s)
-  list-grows r k s = all_do-grows (do_action plan (row_at plan r).owner) (action-grows plan (row_at plan r).owner) (actions_at plan (list_of_row plan r k)) s
-
-  pub call-grows : (call : Call) (r : RowId) (s : Machine) → Grows s (call_device plan call r s)
-  call-grows call r s = grows-does plan (does-call plan (λ owner. Unit {0}) ⊥ call r (λ own. tt) s)
-
   -- of these rows the devices of a mode are called
   abbrev pub call_rows : Call → ModeId → List RowId → Machine → Machine
   call_rows call m rs s = all_do (call_device plan call) (filter (λ r. is_owner (owners.Mode m) (row_at plan r).owner) rs) s
 
   -- ---- rows, one after another
-
-  abbrev is_own : ModeId → RowId → Bool
-  is_own m r = is_owner (owners.Mode m) (row_at plan r).owner
 
   -- those from a number on: the row of the number, and those after it
   rows-more : (i : ℕ) → i < length plan.rows → drop i (row_numbers plan) ≡ record { 0 = i } ∷ drop (i + 1) (row_numbers plan)
@@ -45,15 +37,16 @@ module _ (plan : PlanView) where
       let first : RowId = record { 0 = i } in
       drop_more (row_numbers plan) i first (omega (arith, there, length-rows plan)) ∙ ap (λ (r : RowId). r ∷ drop (i + 1) (row_numbers plan)) (row_of plan i first there)
 
-  pub own-first : (m : ModeId) (i : ℕ) → i < length plan.rows → is_own m (record { 0 = i }) ≡ true
-      → filter (is_own m) (drop i (row_numbers plan)) ≡ record { 0 = i } ∷ filter (is_own m) (drop (i + 1) (row_numbers plan))
-  own-first m i there own =
-      ap (filter (is_own m)) (rows-more i there) ∙ ap (λ (b : Bool). cond b (record { 0 = i } ∷ filter (is_own m) (drop (i + 1) (row_numbers plan))) (filter (is_own m) (drop (i + 1) (row_numbers plan)))) own
+  -- those of them that are meant
+  pub row-first : (test : RowId → Bool) (i : ℕ) → i < length plan.rows → test (record { 0 = i }) ≡ true
+      → filter test (drop i (row_numbers plan)) ≡ record { 0 = i } ∷ filter test (drop (i + 1) (row_numbers plan))
+  row-first test i there meant =
+      ap (filter test) (rows-more i there) ∙ ap (λ (b : Bool). cond b (record { 0 = i } ∷ filter test (drop (i + 1) (row_numbers plan))) (filter test (drop (i + 1) (row_numbers plan)))) meant
 
-  pub other-first : (m : ModeId) (i : ℕ) → i < length plan.rows → is_own m (record { 0 = i }) ≡ false
-      → filter (is_own m) (drop i (row_numbers plan)) ≡ filter (is_own m) (drop (i + 1) (row_numbers plan))
-  other-first m i there other =
-      ap (filter (is_own m)) (rows-more i there) ∙ ap (λ (b : Bool). cond b (record { 0 = i } ∷ filter (is_own m) (drop (i + 1) (row_numbers plan))) (filter (is_own m) (drop (i + 1) (row_numbers plan)))) other
+  pub row-other : (test : RowId → Bool) (i : ℕ) → i < length plan.rows → test (record { 0 = i }) ≡ false
+      → filter test (drop i (row_numbers plan)) ≡ filter test (drop (i + 1) (row_numbers plan))
+  row-other test i there other =
+      ap (filter test) (rows-more i there) ∙ ap (λ (b : Bool). cond b (record { 0 = i } ∷ filter test (drop (i + 1) (row_numbers plan))) (filter test (drop (i + 1) (row_numbers plan)))) other
 
   pub rows-end : (i : ℕ) → length plan.rows ≤ i → drop i (row_numbers plan) ≡ []
   rows-end i past = drop_all i (row_numbers plan) (omega (arith, past, length-rows plan))
@@ -67,6 +60,4 @@ module _ (plan : PlanView) where
       subst (All (λ k. k < list_count settings)) is (All-get_or (All (λ k. k < list_count settings)) (outcomes settings call) i answer within (outcomes_of_row settings call))
 
   pub call-calls : (call : Call) (r : RowId) (now next : CoreView) → next ≡ after (call_device plan call r) now → CanCall plan now → CanCall plan next
-  call-calls call r now next is h =
-      let does = does-call plan (λ owner. Unit {0}) ⊥ call r (λ own. tt) now.machine in
-      subst (CanCall plan) (sym is) (can-does plan now (after (call_device plan call r) now) does h)
+  call-calls call r now next is h = subst (CanCall plan) (sym is) (goes-can plan now (after (call_device plan call r) now) (goes-call plan call r now.machine) h)

@@ -252,5 +252,5 @@ stopped-room plan kept m work room s is h =
 -- and there are all coils after it
 pub stopped-coils : (plan : PlanView) (m : ModeId) (old stopped : CoreView) → stopped ≡ after (call_devices plan calls.ModeStop m) old → CanCall plan old → length stopped.machine.coils ≡ length plan.coils
 stopped-coils plan m old stopped is h =
-    let can = can-does plan old (after (call_devices plan calls.ModeStop m) old) (does-calls plan (λ owner. Unit {0}) calls.ModeStop m tt old.machine) h in
+    let can = can-does plan old (after (call_devices plan calls.ModeStop m) old) (does-calls plan (λ owner. Unit {0}) tt calls.ModeStop m tt old.machine) h in
     ap (λ (v : CoreView). length v.machine.coils) is ∙ can.coils

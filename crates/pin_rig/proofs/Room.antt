@@ -4,16 +4,14 @@ use Rattle.std.specs.Prelude.{slice_get}
 use Rattle.plan_tables.specs.declared.entries.EventId.{EventId}
 use Rattle.plan_tables.specs.declared.entries.Owner.{Owner}
 use Rattle.plan_tables.specs.declared.entries.Owner.TheVariants as owners
-use Rattle.plan_tables.specs.declared.entries.Listener.{Listener}
 use Rattle.plan_tables.specs.declared.entries.GameEvent.{GameEvent}
 use Rattle.plan_tables.specs.declared.entries.VariableId.{VariableId}
 use Rattle.plan_tables.specs.declared.entries.VariableAction.{VariableAction}
-use Rattle.plan_tables.specs.PlanView.{PlanView, game_event, listeners_of, posts_of}
+use Rattle.plan_tables.specs.PlanView.{PlanView, game_event}
 use Rattle.player_game.specs.Players.{changed_to, after_change as players_after_change, score_of}
 use Rattle.written_machine.specs.declared.line.Happening.TheVariants as lines
-use Rattle.switch_core.specs.declared.change.Change.{Change as Acceptance}
-use Rattle.written_machine.specs.Machine.{Machine, write, post, set_players, all_do, tell_change, change_variable, tell_listener, do_accepted, post_game, write_final}
-use Rattle.written_machine.proofs.Growth.{all_do-grows, post-grows, accepted-grows}
+use Rattle.written_machine.specs.Machine.{Machine, post, set_players, all_do, tell_change, change_variable, post_game, write_final}
+use Rattle.written_machine.proofs.Growth.{all_do-grows, post-grows}
 use Rattle.event_queue.specs.declared.queue.Posted.{Posted}
 use Rattle.event_queue.specs.Queue.{QueueView, IsTaken}
 use Rattle.pin_rig.specs.Core.{CoreView, TakesFirst, HasRoom, after}
@@ -74,22 +72,6 @@ post-room owner now all e es left is whole h =
     let room = room-first (post owner) (post-grows owner) now all e es left is whole h in
     let fits = room.waiting in
     omega (arith, fits, length-append now.machine.waiting (record { event = e; owner = owner } ∷ []))
-
--- where the acceptance of a switch leaves room, there is room for its line
-pub accepted-room : (plan : PlanView) (a : Acceptance) (room : ℕ) (s : Machine) → HasRoom room (do_accepted plan a s) → length s.lines < room
-accepted-room plan a room s h = omega (arith, (accepted-grows plan a s).0, h.lines)
-
--- and for what the devices that listen to it are told
-pub told-room : (plan : PlanView) (a : Acceptance) (now written : CoreView) (listeners : List Listener) → HasRoom now.room (do_accepted plan a now.machine)
-    → written ≡ after (write owners.Machine (lines.Switch a.switch a.active)) now → listeners ≡ listeners_of plan a.switch
-    → HasRoom written.room (all_do (tell_listener plan a.active) listeners written.machine)
-told-room plan a now written listeners h written_is listeners_are =
-    let begun = write owners.Machine (lines.Switch a.switch a.active) now.machine in
-    let told = all_do (tell_listener plan a.active) (listeners_of plan a.switch) begun in
-    let posted = all_do-grows (post owners.Machine) (post-grows owners.Machine) (posts_of plan a.switch a.active) told in
-    subst (λ (v : CoreView). HasRoom v.room (all_do (tell_listener plan a.active) listeners v.machine)) (sym written_is)
-    (subst (λ (ls : List Listener). HasRoom now.room (all_do (tell_listener plan a.active) ls begun)) (sym listeners_are)
-    (room-before now.room told (do_accepted plan a now.machine) posted h))
 
 -- a score that is told adds a line
 pub final-grows : (plan : PlanView) (player : ℕ) (s : Machine) → Grows s (write_final plan player s)

@@ -125,6 +125,7 @@ module _ (limits : List CoilLimits) where
   line-follows sent s owner now (lines.Coil command) is h = command-follows sent s owner now command is h
   line-follows sent s owner now (lines.Skip command) is h = quiet-follows sent s now h
   line-follows sent s owner now (lines.Player player v value) is h = quiet-follows sent s now h
+  line-follows sent s owner now (lines.Balls booking counts) is h = quiet-follows sent s now h
   line-follows sent s owner now (lines.Final player score) is h = quiet-follows sent s now h
 
   -- the first of the lines that are sent

@@ -1,5 +1,5 @@
 -- The lines of a cascade have just the commands that its guard has sent.
-use Rattle.std.proofs.Common.{◌≡◌, ℕ, ◌<◌, ◌^◌, inl, inr, Bool, true, false, cond, List, [], ◌∷◌, ◌++◌, length, refl, sym, ap, ◌∙◌, subst, arith}
+use Rattle.std.proofs.Common.{◌≡◌, ℕ, ◌<◌, ◌^◌, inl, inr, Bool, true, false, cond, if◌then◌else◌, List, [], ◌∷◌, ◌++◌, length, refl, sym, ap, ◌∙◌, subst, arith}
 use Rattle.std.specs.Prelude.{◌&&◌, nat_le, nat_lt, ◌||◌}
 use Rattle.std.specs.List.{All}
 use Rattle.std.proofs.lemmas.Bool.{cases_lt, and_parts, cond_both, leb-true, ltb-true, false≢true}
@@ -18,14 +18,15 @@ use Rattle.coil_guard.specs.CoilStep.{off, is_on_at, takes_pulse, pulsed, takes_
 use Rattle.coil_guard.specs.Coils.{coil_at, set_coil}
 use Rattle.coil_guard.specs.SentCommands.{coil_of}
 use Rattle.coil_guard.specs.Asked.{after_asking, answer_asking}
+use Rattle.ball_devices.specs.Bookings.{LedgerCall, after_call, booked, can_book}
 use Rattle.cascade_rank.specs.Cost.{Cost}
 use Rattle.written_machine.specs.declared.line.Line.{Line}
 use Rattle.written_machine.specs.declared.line.Happening.{Happening}
 use Rattle.written_machine.specs.declared.line.Happening.TheVariants as lines
-use Rattle.written_machine.specs.Machine.{Machine, write, told, ask_coil}
+use Rattle.written_machine.specs.Machine.{Machine, write, set_ledger, told, ask_coil, book, counts_of}
 use Rattle.written_machine.specs.EventStep.{taken, EventStep, EventSteps}
 use Rattle.written_machine.specs.Run.{Stimulus, begin}
-use Rattle.written_machine.specs.Moves.{Move, Wrote, Sent, Switched, Began, Ended, Marked, Turned, Asked, Varied, Stepped, do_move, Licence, MayDo, Does, IsNoCommand, TakesPart, Begins, ordinary, working}
+use Rattle.written_machine.specs.Moves.{Move, Wrote, Sent, Switched, Began, Ended, Marked, Turned, Asked, Booked, Varied, Stepped, do_move, Licence, MayDo, Does, IsNoCommand, TakesPart, Begins, ordinary, working}
 use Rattle.written_machine.proofs.Does.{start-by, stop-by, does-keeps}
 use Rattle.written_machine.proofs.Parts.{does-before, does-after, does-begin}
 use Rattle.written_machine.proofs.Held.{asked-count}
@@ -118,6 +119,7 @@ count-happening owner now (lines.Event e) s = refl
 count-happening owner now (lines.Coil command) s = asked-count owner command now s
 count-happening owner now (lines.Skip command) s = refl
 count-happening owner now (lines.Player player v value) s = refl
+count-happening owner now (lines.Balls booking counts) s = refl
 count-happening owner now (lines.Final player score) s = refl
 
 sendable-one : (s : List CoilState) (owner : Owner) (now : ℕ) (what : Happening) → IsSent s owner now what → IsToCoil (length s) what
@@ -126,6 +128,7 @@ sendable-one s owner now (lines.Event e) h = tt
 sendable-one s owner now (lines.Coil command) h = to-coil s owner now command h
 sendable-one s owner now (lines.Skip command) h = tt
 sendable-one s owner now (lines.Player player v value) h = tt
+sendable-one s owner now (lines.Balls booking counts) h = tt
 sendable-one s owner now (lines.Final player score) h = tt
 
 pub sent-sendable : (moment : ℕ) (s : List CoilState) (count : ℕ) (ls : List Line) → moment < 2 ^ 40 → length s ≡ count → AreSent moment s ls → All (IsSendable count) ls
@@ -157,6 +160,7 @@ module _ (plan : PlanView) (start : List CoilState) where
       same (lines.Coil command) is cs = absurd is
       same (lines.Skip command) is cs = absurd is
       same (lines.Player player v value) is cs = refl
+      same (lines.Balls booking counts) is cs = refl
       same (lines.Final player score) is cs = refl
 
       quiet : (w : Happening) → IsNoCommand w → IsSent (after_lines s.lines start) owner s.moment w
@@ -165,6 +169,7 @@ module _ (plan : PlanView) (start : List CoilState) where
       quiet (lines.Coil command) is = absurd is
       quiet (lines.Skip command) is = absurd is
       quiet (lines.Player player v value) is = tt
+      quiet (lines.Balls booking counts) is = tt
       quiet (lines.Final player score) is = tt
 
   asked-agrees : (owner : Owner) (command : Command) (s : Machine) → Agrees start s → Agrees start (ask_coil owner command s)
@@ -177,6 +182,16 @@ module _ (plan : PlanView) (start : List CoilState) where
         sent = sent-push s.moment start s.lines l h.sent refl (subst (λ cs. IsSent cs owner s.moment what) h.coils asked.sent);
       }
 
+  -- a booking is no command
+  booked-agrees : (owner : Owner) (call : LedgerCall) (s : Machine) → Agrees start s → Agrees start (book owner call s)
+  booked-agrees owner call s h = by (can_book call s.ledger)
+    where
+      by : (b : Bool) → Agrees start (if b then write owner (lines.Balls (booked call s.ledger) (counts_of (after_call call s.ledger))) (set_ledger (after_call call s.ledger) s) else s)
+      by true =
+          wrote-agrees owner (lines.Balls (booked call s.ledger) (counts_of (after_call call s.ledger))) (set_ledger (after_call call s.ledger) s) tt
+          (record { coils = h.coils; sent = h.sent })
+      by false = h
+
   agrees-move : (licence : Licence) (x : Move) (s : Machine) → MayDo plan licence x → Agrees start s → Agrees start (do_move plan x s)
   agrees-move licence (Wrote owner what) s may h = wrote-agrees owner what s may.2 h
   agrees-move licence (Sent owner e) s may h = record { coils = h.coils; sent = h.sent }
@@ -186,6 +201,7 @@ module _ (plan : PlanView) (start : List CoilState) where
   agrees-move licence (Marked m state) s may h = record { coils = h.coils; sent = h.sent }
   agrees-move licence (Turned call r) s may h = record { coils = h.coils; sent = h.sent }
   agrees-move licence (Asked owner command) s may h = asked-agrees owner command s h
+  agrees-move licence (Booked owner call) s may h = booked-agrees owner call s h
   agrees-move licence (Varied v value) s may h = record { coils = h.coils; sent = h.sent }
   agrees-move licence (Stepped which) s may h = record { coils = h.coils; sent = h.sent }
 

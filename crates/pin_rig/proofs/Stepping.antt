@@ -31,7 +31,7 @@ module _ (plan : PlanView) where
 
   pub handled-calls : (order : List BindingId) (old then : CoreView) → then ≡ after (all_do (do_handler plan) order) old → CanCall plan old → CanCall plan then
   handled-calls order old then is h =
-      let does = does-handlers plan (λ owner. Unit {0}) ⊥ order (λ i d there. tt) old.machine in
+      let does = does-handlers plan (λ owner. Unit {0}) ⊥ tt order (λ i d there. tt) old.machine in
       subst (CanCall plan) (sym is) (can-does plan old (after (all_do (do_handler plan) order) old) does h)
 
   pub taken-calls : (event : EventId) (old last : CoreView) → last ≡ follow (after_taken plan event) old → CanCall plan old → CanCall plan last

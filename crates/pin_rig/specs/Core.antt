@@ -64,7 +64,7 @@ after_taken plan e s =
 
 -- the game and its players go on as an event of the game says
 abbrev pub step_at : PlanView → GameEvent → Machine → GameStep
-step_at plan which s = game_step plan.game plan which (home_of s) s.game s.players
+step_at plan which s = game_step plan.game plan which (home_of plan s) s.game s.players
 
 abbrev pub played : PlanView → GameEvent → Machine → Machine
 played plan which s = set_players (step_at plan which s).players (set_game (step_at plan which s).game s)
@@ -72,6 +72,7 @@ played plan which s = set_players (step_at plan which s).players (set_game (step
 -- what else the event leads to
 pub record IsWorkOfGame (plan : PlanView) (which : GameEvent) (s : Machine) (work : GameWork) : Type 0 where
   pub posts : work.posts.items ≡ (step_at plan which s).posts
+  pub requests : work.requests ≡ (step_at plan which s).requests
   pub finals : work.finals ≡ (step_at plan which s).finals
 
 -- the machine of the plan is kept: it has its modes, devices and coils, the handlers of the modes that run, and all its switches

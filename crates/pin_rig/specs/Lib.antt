@@ -7,5 +7,6 @@ pub mod ShutDown
 -- What the contracts of private functions cite; `step` cites Lending, for the lines that it lends.
 pub mod Lending
 pub mod Core
+pub mod Balls
 pub mod Driver
 pub mod Inside

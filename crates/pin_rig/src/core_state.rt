@@ -9,27 +9,33 @@ ghost use Rattle.switch_core.specs.Switches.{after_change, reported_by_change, n
 ghost use Rattle.coil_guard.specs.Coils.{after_release, answer_release};
 ghost use Rattle.coil_guard.specs.SentCommands.{coil_of};
 ghost use Rattle.device_objects.specs.Laws.{MayCome};
-ghost use Rattle.written_machine.specs.Machine.{initial, write, post, set_switches, set_mode, set_device, set_coils, ask_coil, device_at, called, change_variable, has_game, is_post, write_final};
+ghost use Rattle.written_machine.specs.Machine.{initial, write, post, set_switches, set_mode, set_device, set_coils, ask_coil, book, device_at, called, change_variable, has_game, is_post, write_final};
 ghost use Rattle.written_machine.specs.Run.{arrived};
 ghost use Rattle.device_objects.specs.DeviceStep.{device_step};
 ghost use Rattle.plan_tables.specs.Valid.{IsConditionWithin};
+ghost use Rattle.player_game.specs.GameStep.{is_ball_on};
 ghost use Rattle.player_game.specs.Players.{is_met};
+ghost use Rattle.ball_devices.specs.Bookings.{is_awaited};
+ghost use Rattle.ball_devices.specs.Ledger.{origin_of};
+ghost use Rattle.pin_rig.specs.Balls.{IsThere, ledger_call};
 ghost use Rattle.pin_rig.specs.Core.{played, IsWorkOfGame};
 ghost use Rattle.written_machine.specs.NextAlarm.{next_alarm, is_due_by, first_of};
 ghost use Rattle.written_machine.specs.Run.{switch as of_switch, device as of_device};
 ghost use Rattle.pin_rig.specs.Core.{HasRoom, IsCoreOf, TakesFirst, after};
 ghost use Rattle.pin_rig.specs.Inside.{alarm_view};
 
+use crate::balls::{BallCall, book, can_book, counts_of, home};
 use crate::fit::first_wrong;
 use crate::input::RigFault;
 use crate::stimulus::Source;
+use ball_devices::BallLedger;
 use coil_guard::{Answer, Coils, Command};
 use device_objects::{Call, Device, DeviceState, Outcome, World};
 use event_queue::{Alarms, Handlers, Posted, Queue};
 use mode_stack::{Modes, StopAnswer};
 use plan_tables::{
-    BindingId, Condition, EventId, GameEvent, ModeId, Owner, Plan, RowId, SwitchId, VariableAction,
-    VariableId,
+    BallTarget, BindingId, Condition, EventId, GameEvent, ModeId, Owner, Plan, RowId, SwitchId,
+    VariableAction, VariableId,
 };
 use player_game::{Game, GamePhase, GameWork, Players};
 use std::alloc::Global;
@@ -38,8 +44,8 @@ use switch_core::{Change, Switches};
 use written_machine::{Happening, Line};
 
 /// The moment of the latest stimulus, the switches, the modes, the devices and their alarms, the
-/// coils, the players and the game, the events that wait and what handles them, and the lines of the
-/// latest stimulus. Only `new` takes memory.
+/// coils, the ledger of balls, the players and the game, the events that wait and what handles them,
+/// and the lines of the latest stimulus. Only `new` takes memory.
 #[derive(Drop)]
 pub(crate) struct Core<'p, D: Device> {
     moment: u64,
@@ -49,6 +55,7 @@ pub(crate) struct Core<'p, D: Device> {
     devices: Vec<D>,
     alarms: Alarms,
     coils: Coils,
+    ledger: BallLedger,
     players: Players<'p>,
     game: Game,
     queue: Queue,
@@ -57,7 +64,7 @@ pub(crate) struct Core<'p, D: Device> {
 }
 
 impl<'p, D: Device> Model for Core<'p, D> {
-    ghost use Rattle.std.specs.Prelude.{◌≡◌, ◌≤◌, map, vec_capacity};
+    ghost use Rattle.std.specs.Prelude.{◌≡◌, ◌≤◌, length, map, vec_capacity};
     ghost use Rattle.device_objects.specs.DeviceStep.{due_of};
     ghost use Rattle.pin_rig.specs.Core.{CoreView};
 
@@ -65,19 +72,19 @@ impl<'p, D: Device> Model for Core<'p, D> {
 
     ghost view = { λ c. record {
       handlers = c.handlers;
-      machine = record { moment = c.moment; switches = c.switches; modes = c.modes.modes; devices = map D.state_of c.devices.items; coils = c.coils; players = c.players.state; game = c.game.state; waiting = c.queue.waiting; lines = c.lines.items };
+      machine = record { moment = c.moment; switches = c.switches; modes = c.modes.modes; devices = map D.state_of c.devices.items; coils = c.coils; ledger = c.ledger; players = c.players.state; game = c.game.state; waiting = c.queue.waiting; lines = c.lines.items };
       room = c.queue.size;
     } };
 
-    ghost invariant = { λ c. (c.queue.size ≤ vec_capacity c.lines) × (c.modes.plan ≡ c.handlers.plan) × (c.players.plan ≡ c.handlers.plan) × (c.game.rules ≡ c.handlers.plan.game) × (map D.row_of c.devices.items ≡ c.handlers.plan.rows) × (c.alarms ≡ map (λ d. due_of (D.state_of d)) c.devices.items) };
+    ghost invariant = { λ c. (c.queue.size ≤ vec_capacity c.lines) × (c.modes.plan ≡ c.handlers.plan) × (c.players.plan ≡ c.handlers.plan) × (c.game.rules ≡ c.handlers.plan.game) × (map D.row_of c.devices.items ≡ c.handlers.plan.rows) × (c.alarms ≡ map (λ d. due_of (D.state_of d)) c.devices.items) × (length c.ledger.counted ≡ length c.handlers.plan.rows) };
 }
 
 impl<'p, D: Device> Core<'p, D> {
     ghost use Rattle.std.specs.Prelude.{map};
     ghost use Rattle.pin_rig.specs.Fit.{IsFit, IsFirstWrong};
 
-    /// The plan's machine at moment 0, with all switches inactive, all modes idle, all coils off and
-    /// no game, with these devices, and with room for so many events that wait and so many lines.
+    /// The plan's machine at moment 0, with all switches inactive, all modes idle, all coils off, no
+    /// ball known and no game, with these devices, and with room for so many events that wait and so many lines.
     ///
     /// # Errors
     ///
@@ -99,6 +106,7 @@ impl<'p, D: Device> Core<'p, D> {
         let modes = Modes::new(alloc, plan)?;
         let alarms = Alarms::new(alloc, plan.rows().len() as u16)?;
         let coils = Coils::new(alloc, plan)?;
+        let ledger = BallLedger::new(alloc, plan)?;
         let players = Players::new(alloc, plan)?;
         let game = Game::new(plan);
         let queue = Queue::new(alloc, room)?;
@@ -114,6 +122,7 @@ impl<'p, D: Device> Core<'p, D> {
             devices,
             alarms,
             coils,
+            ledger,
             players,
             game,
             queue,
@@ -212,6 +221,16 @@ impl<'p, D: Device> Core<'p, D> {
         self.modes.start(mode, game)
     }
 
+    /// Whether a ball of the game is on.
+    pub(crate) fn is_ball_on(&self) -> bool
+        ensures { result ≡ is_ball_on self.now.machine.game.phase }
+    {
+        match self.game.phase() {
+            GamePhase::Ball => true,
+            GamePhase::None | GamePhase::Between => false,
+        }
+    }
+
     /// Whether a game goes on.
     fn has_game(&self) -> bool
         ensures { result ≡ has_game self.now.machine }
@@ -307,12 +326,36 @@ impl<'p, D: Device> Core<'p, D> {
         }
     }
 
+    /// The ledger is told this. Where it books it, its line is written.
+    pub(crate) fn book(&mut self, owner: Owner, call: BallCall)
+        requires there { IsThere (length self.old.handlers.plan.rows) (ledger_call call) }
+        requires room { HasRoom self.old.room (book owner (ledger_call call) self.old.machine) }
+        ensures { self.new ≡ after (book owner (ledger_call call)) self.old }
+    {
+        if !can_book(&self.ledger, call) {
+            return;
+        }
+        let booking = book(&mut self.ledger, call);
+        let counts = counts_of(&self.ledger);
+        self.write(owner, Happening::Balls(booking, counts));
+    }
+
+    /// Whether a ball that enters a device now was on its way there.
+    pub(crate) fn awaits(&self, device: RowId) -> bool
+        requires { device.0 < length self.now.handlers.plan.rows }
+        ensures { result ≡ is_awaited (origin_of device self.now.machine.ledger) }
+    {
+        self.ledger.transit(BallTarget::Device(device)) > 0
+    }
+
     /// The game and its players go on as an event of the game says. Reports what else it leads to.
-    pub(crate) fn play(&mut self, event: GameEvent) -> GameWork
+    pub(crate) fn play(&mut self, plan: &Plan, event: GameEvent) -> GameWork
+        requires { self.old.handlers.plan ≡ plan.now }
         ensures played { self.new ≡ after (played self.old.handlers.plan event) self.old }
         ensures work { IsWorkOfGame self.old.handlers.plan event self.old.machine result }
     {
-        self.game.work(event, &mut self.players, 0)
+        let home = home(plan, &self.ledger);
+        self.game.work(event, &mut self.players, home)
     }
 
     /// How many players there are.
@@ -377,6 +420,7 @@ impl<'p, D: Device> Core<'p, D> {
             mut devices,
             alarms: _,
             coils: _,
+            ledger: _,
             players,
             game,
             queue: _,

@@ -1,6 +1,10 @@
 //! The controller: the machine of a configuration that was accepted, one input at a time.
 #![tactic(auto)]
 
+mod actions;
+mod arrivals;
+mod balls;
+mod calls;
 mod core_state;
 mod driver;
 mod fit;

@@ -2,30 +2,28 @@
 //! leaves, and so takes no memory.
 
 ghost use Rattle.std.specs.Prelude.{◌≡◌, ◌^◌, ◌<◌, Some, length, option_map};
-ghost use Rattle.plan_tables.specs.Valid.{HasGame, IsActionWithin, IsBindingWithin, IsListenerWithin, IsTargetWithin};
+ghost use Rattle.plan_tables.specs.Valid.{HasGame, IsBindingWithin, IsListenerWithin, IsTargetWithin};
 ghost use Rattle.plan_tables.specs.declared.entries.Work.TheVariants as works;
-ghost use Rattle.plan_tables.specs.declared.entries.Owner.TheVariants as owners;
-ghost use Rattle.plan_tables.specs.PlanView.{game_event, is_owner, row_at, work_of};
+ghost use Rattle.plan_tables.specs.PlanView.{work_of};
 ghost use Rattle.mode_stack.specs.Modes.{running_of};
 ghost use Rattle.event_queue.specs.PlanOrder.{in_order};
 ghost use Rattle.std.specs.List.{All};
-ghost use Rattle.plan_tables.specs.Devices.{list_count};
-ghost use Rattle.device_objects.specs.declared.state.DeviceState.{DeviceState as DeviceStateValue};
-ghost use Rattle.device_objects.specs.Laws.{MayCome};
-ghost use Rattle.written_machine.specs.Machine.{all_do, post, post_if, start_mode, stop_mode, device_at, do_action, do_answer, call_device, call_devices, release_coils, tell_listener, do_target, do_binding, do_game, do_handler, post_game, write_finals, do_accepted, change_switch};
+ghost use Rattle.written_machine.specs.Machine.{all_do, post, post_if, start_mode, stop_mode, release_coils, tell_listener, do_target, do_binding, do_game, do_handler, post_game, write_finals, ask_ball, confirm_on_playfield, do_accepted, change_switch};
 ghost use Rattle.written_machine.specs.EventStep.{is_kept, do_before, do_after};
 ghost use Rattle.written_machine.specs.Run.{begin as begun, fire as fired};
 ghost use Rattle.written_machine.specs.NextAlarm.{next_alarm};
 ghost use Rattle.pin_rig.specs.Core.{IsCoreOf, CanCall, HandlesFor, IsWorkOf, IsPlayable, HasRoom, StaysWithin, HasSettled, after, follow, after_taken};
 ghost use Rattle.pin_rig.specs.Inside.{source_view, stimulus_view};
 
+use crate::actions::game_event;
+use crate::arrivals::confirm;
+use crate::calls::{call_device, call_devices, run_actions};
 use crate::core_state::Core;
 use crate::stimulus::{Source, Stimulus};
-use coil_guard::Command;
 use device_objects::{Call, Device};
 use plan_tables::{
-    Action, Binding, EventId, GameEvent, Listener, ModeEvent, ModeId, Owner, Plan, RowId, SwitchId,
-    Target, Work,
+    Act, BallTarget, Binding, EventId, GameEvent, Listener, ModeEvent, ModeId, Owner, Plan,
+    SwitchId, Target, Work,
 };
 use switch_core::Change;
 use written_machine::Happening;
@@ -77,7 +75,7 @@ fn fire<D: Device>(plan: &Plan, core: &mut Core<'_, D>, source: Source)
 }
 
 /// A switch was accepted as active or inactive: its line is written, the devices that listen to it
-/// are told, and then its events are posted.
+/// are told, a ball may have arrived on the playfield, and then its events are posted.
 fn run_accepted<D: Device>(plan: &Plan, core: &mut Core<'_, D>, change: Change)
     requires switch { change.switch.0 < length plan.now.switches }
     requires plan { core.old.handlers.plan ≡ plan.now }
@@ -88,6 +86,7 @@ fn run_accepted<D: Device>(plan: &Plan, core: &mut Core<'_, D>, change: Change)
     let Change { switch, active } = change;
     core.write(Owner::Machine, Happening::Switch(switch, active));
     tell_listeners(plan, core, active, plan.listeners(switch));
+    confirm_on_playfield(plan, core, change);
     post_each(core, Owner::Machine, plan.posts(switch, active));
 }
 
@@ -106,6 +105,19 @@ fn tell_listeners<D: Device>(
 {
     for listener in listeners {
         call_device(plan, core, listener.row, Call::Act(listener.act(active)));
+    }
+}
+
+/// A ball that presses the switch may have arrived on the playfield.
+fn confirm_on_playfield<D: Device>(plan: &Plan, core: &mut Core<'_, D>, change: Change)
+    requires switch { change.switch.0 < length plan.now.switches }
+    requires plan { core.old.handlers.plan ≡ plan.now }
+    requires calls { CanCall plan.now core.old }
+    requires room { HasRoom core.old.room (confirm_on_playfield plan.now change core.old.machine) }
+    ensures { core.new ≡ after (confirm_on_playfield plan.now change) core.old }
+{
+    if change.active && plan.confirms_playfield(change.switch) {
+        confirm(plan, core, BallTarget::Playfield);
     }
 }
 
@@ -232,12 +244,29 @@ fn mode_after<D: Device>(
 fn play<D: Device>(plan: &Plan, core: &mut Core<'_, D>, event: GameEvent)
     requires game { HasGame plan.now }
     requires plan { core.old.handlers.plan ≡ plan.now }
+    requires calls { CanCall plan.now core.old }
     requires room { HasRoom core.old.room (do_game plan.now event core.old.machine) }
     ensures { core.new ≡ after (do_game plan.now event) core.old }
 {
-    let work = core.play(event);
+    let work = core.play(plan, event);
     tell_scores(core, work.finals);
+    ask_ball(plan, core, work.requests);
     post_game(plan, core, work.posts.as_slice());
+}
+
+/// The first trough is asked for one ball more, where that is so.
+fn ask_ball<D: Device>(plan: &Plan, core: &mut Core<'_, D>, asks: bool)
+    requires plan { core.old.handlers.plan ≡ plan.now }
+    requires calls { CanCall plan.now core.old }
+    requires room { HasRoom core.old.room (ask_ball plan.now asks core.old.machine) }
+    ensures { core.new ≡ after (ask_ball plan.now asks) core.old }
+{
+    if !asks {
+        return;
+    }
+    if let Some(row) = plan.first_trough() {
+        call_device(plan, core, row, Call::Act(Act::Request(1)));
+    }
 }
 
 /// The scores of all players are told, where that is so.
@@ -262,14 +291,6 @@ fn post_game<D: Device>(plan: &Plan, core: &mut Core<'_, D>, events: &[GameEvent
     for event in events {
         core.post(Owner::Machine, game_event(plan, *event));
     }
-}
-
-/// This one of the game's events.
-fn game_event(plan: &Plan, event: GameEvent) -> EventId
-    requires { HasGame plan.now }
-    ensures { result ≡ game_event plan.now event }
-{
-    plan.game().unwrap().events[event.index()]
 }
 
 /// Runs the handlers of an event, in plan order. The condition of each is judged when its turn
@@ -315,50 +336,6 @@ fn run_target<D: Device>(plan: &Plan, core: &mut Core<'_, D>, owner: Owner, targ
     }
 }
 
-/// The devices of a mode are called, in the order of their rows.
-fn call_devices<D: Device>(plan: &Plan, core: &mut Core<'_, D>, mode: ModeId, call: Call)
-    requires call { (state : DeviceStateValue) → MayCome call state }
-    requires plan { core.old.handlers.plan ≡ plan.now }
-    requires calls { CanCall plan.now core.old }
-    requires room { HasRoom core.old.room (call_devices plan.now call mode core.old.machine) }
-    ensures { core.new ≡ after (call_devices plan.now call mode) core.old }
-{
-    for number in 0..plan.rows().len() {
-        let row = RowId(number as u16);
-        if is_of(plan.row(row).owner, mode) {
-            call_device(plan, core, row, call);
-        }
-    }
-}
-
-/// A device is called, and the effect lists that it answers are run for its owner.
-fn call_device<D: Device>(plan: &Plan, core: &mut Core<'_, D>, row: RowId, call: Call)
-    requires row { row.0 < length plan.now.rows }
-    requires may { MayCome call (device_at core.old.machine row) }
-    requires plan { core.old.handlers.plan ≡ plan.now }
-    requires calls { CanCall plan.now core.old }
-    requires room { HasRoom core.old.room (call_device plan.now call row core.old.machine) }
-    ensures { core.new ≡ after (call_device plan.now call row) core.old }
-{
-    let lists = core.call(row, call);
-    run_lists(plan, core, row, &lists);
-}
-
-/// Effect lists of a row run, one after another, for the row's owner.
-fn run_lists<D: Device>(plan: &Plan, core: &mut Core<'_, D>, row: RowId, lists: &[u16])
-    requires row { row.0 < length plan.now.rows }
-    requires lists { All (λ list. list < list_count (row_at plan.now row).settings) lists.now }
-    requires plan { core.old.handlers.plan ≡ plan.now }
-    requires calls { CanCall plan.now core.old }
-    requires room { HasRoom core.old.room (do_answer plan.now row lists.now core.old.machine) }
-    ensures { core.new ≡ after (do_answer plan.now row lists.now) core.old }
-{
-    let owner = plan.row(row).owner;
-    for list in lists {
-        run_actions(plan, core, owner, plan.list(plan.list_of_row(row, *list)));
-    }
-}
-
 /// A mode is told to start.
 fn start<D: Device>(plan: &Plan, core: &mut Core<'_, D>, mode: ModeId)
     requires mode { mode.0 < length plan.now.modes }
@@ -399,48 +376,5 @@ fn release_coils<D: Device>(plan: &Plan, core: &mut Core<'_, D>, owner: Owner)
 {
     while let Some(command) = core.release(owner) {
         core.write(owner, Happening::Coil(command));
-    }
-}
-
-fn run_actions<D: Device>(plan: &Plan, core: &mut Core<'_, D>, owner: Owner, actions: &[Action])
-    requires actions { All (IsActionWithin plan.now) actions.now }
-    requires plan { core.old.handlers.plan ≡ plan.now }
-    requires calls { CanCall plan.now core.old }
-    requires room { HasRoom core.old.room (all_do (do_action plan.now owner) actions.now core.old.machine) }
-    ensures { core.new ≡ after (all_do (do_action plan.now owner) actions.now) core.old }
-{
-    for action in actions {
-        run_action(plan, core, owner, *action);
-    }
-}
-
-fn run_action<D: Device>(plan: &Plan, core: &mut Core<'_, D>, owner: Owner, action: Action)
-    requires action { IsActionWithin plan.now action }
-    requires plan { core.old.handlers.plan ≡ plan.now }
-    requires calls { CanCall plan.now core.old }
-    requires room { HasRoom core.old.room (do_action plan.now owner action core.old.machine) }
-    ensures { core.new ≡ after (do_action plan.now owner action) core.old }
-{
-    match action {
-        Action::Post(event) => core.post(owner, event),
-        Action::Pulse { coil, ms, power } => core.ask(owner, Command::Pulse { coil, ms, power }),
-        Action::Enable { coil, power } => core.ask(owner, Command::Enable { coil, power }),
-        Action::Disable { coil } => core.ask(owner, Command::Disable { coil }),
-        Action::Change {
-            variable,
-            action,
-            number,
-            event,
-        } => core.change_variable(owner, variable, action, number, event),
-    }
-}
-
-/// Whether the owner is this mode.
-fn is_of(owner: Owner, mode: ModeId) -> bool
-    ensures { result ≡ is_owner (owners.Mode mode) owner }
-{
-    match owner {
-        Owner::Machine => false,
-        Owner::Mode(other) => mode.0 == other.0,
     }
 }

@@ -83,10 +83,10 @@ impl<'c, D: Device, B: Board> Rig<'c, D, B> {
     ghost use Rattle.pin_rig.specs.Lending.{IsStepped};
 
     /// The machine of an accepted configuration, as it begins: at moment 0, with all switches
-    /// inactive, all coils off, no game and no event waiting. It has a device for each row of the
-    /// plan, in the order of the rows, and a board for its coils, to which nothing is sent yet. Only
-    /// this call takes memory: room for as many players as the game allows, and for as many waiting
-    /// events and lines as the bound says.
+    /// inactive, all coils off, no ball known, no game and no event waiting. It has a device for each
+    /// row of the plan, in the order of the rows, and a board for its coils, to which nothing is sent
+    /// yet. Only this call takes memory: room for as many players as the game allows, and for as many
+    /// waiting events and lines as the bound says.
     ///
     /// # Errors
     ///

@@ -9,6 +9,7 @@ use Rattle.plan_tables.specs.declared.entries.Owner.TheVariants as owners
 use Rattle.coil_guard.specs.declared.command.Command.{Command}
 use Rattle.coil_guard.specs.declared.command.Command.TheVariants.{Pulse, Enable, Disable}
 use Rattle.coil_guard.specs.SentCommands.{coil_of}
+use Rattle.written_machine.specs.declared.line.BallCounts.{BallCounts}
 use Rattle.written_machine.specs.declared.line.Line.{Line}
 use Rattle.written_machine.specs.declared.line.Happening.{Happening}
 use Rattle.written_machine.specs.declared.line.Happening.TheVariants as happenings
@@ -54,6 +55,13 @@ skip_text name command = codes "skip " ++ name ++ codes " " ++ action_name comma
 abbrev pub player_text : ℕ → List ℕ → ℤ → List ℕ
 player_text player name value = codes "player " ++ decimal player ++ codes " " ++ name ++ codes " " ++ signed_decimal value ++ 10 ∷ []
 
+-- `balls KNOWN COUNTED TRANSIT PLAYFIELD`, and LF: how many balls are known, lie in devices, are on their way, and are on
+-- the playfield
+abbrev pub balls_text : BallCounts → List ℕ
+balls_text counts =
+    codes "balls " ++ decimal counts.known ++ codes " " ++ decimal counts.counted ++ codes " " ++ decimal counts.transit ++ codes " "
+    ++ decimal counts.playfield ++ 10 ∷ []
+
 -- `final NUMBER SCORE`, and LF
 abbrev pub final_text : ℕ → ℤ → List ℕ
 final_text player score = codes "final " ++ decimal player ++ codes " " ++ signed_decimal score ++ 10 ∷ []
@@ -64,6 +72,7 @@ happening_text plan (happenings.Event e) = event_text (name_of_event plan e)
 happening_text plan (happenings.Coil command) = sent_text (coil_at plan (coil_of command)).name command
 happening_text plan (happenings.Skip command) = skip_text (coil_at plan (coil_of command)).name command
 happening_text plan (happenings.Player player v value) = player_text player (name_of_variable plan v) value
+happening_text plan (happenings.Balls booking counts) = balls_text counts
 happening_text plan (happenings.Final player score) = final_text player score
 
 -- the moment, the owner, and what happened

@@ -5,12 +5,13 @@ ghost use Rattle.std.specs.List.{flat_map};
 ghost use Rattle.std.specs.Io.KnownBytes.{Appends};
 ghost use Rattle.plan_tables.specs.PlanView.{mode_at, name_of_event, name_of_variable, switch_at, coil_at};
 ghost use Rattle.coil_guard.specs.SentCommands.{coil_of};
-ghost use Rattle.pinball_shell.specs.TraceText.{owner_text, level_text, switch_text, event_text, sent_text, action_name, skip_text, player_text, happening_text, line_text, off_text, off_texts, refused_text};
+ghost use Rattle.pinball_shell.specs.TraceText.{owner_text, level_text, switch_text, event_text, sent_text, action_name, skip_text, player_text, balls_text, happening_text, line_text, off_text, off_texts, refused_text};
 
 use crate::refusal::Refusal;
 use coil_guard::Command;
 use plan_tables::{CoilId, EventId, ModeId, Owner, Plan, SwitchId, VariableId};
 use std::io::{self, Write};
+use written_machine::line::BallCounts;
 use written_machine::{Happening, Line};
 
 /// Writes the lines of a stimulus.
@@ -85,6 +86,7 @@ fn write_happening<W: Write>(plan: &Plan, happening: Happening, writer: &mut W) 
         Happening::Player(player, variable, value) => {
             write_player(player, variable_name(plan, variable), value, writer)
         }
+        Happening::Balls(_, counts) => write_balls(counts, writer),
         Happening::Final(player, score) => writeln!(writer, "final {player} {score}"),
     }
 }
@@ -131,6 +133,16 @@ fn write_player<W: Write>(player: usize, name: &[u8], value: i64, writer: &mut W
     write!(writer, "player {player} ")?;
     writer.write_all(name)?;
     writeln!(writer, " {value}")
+}
+
+fn write_balls<W: Write>(counts: BallCounts, writer: &mut W) -> io::Result<()>
+    ensures { OnOk result (Appends (W.contents writer.old) (W.contents writer.new) (balls_text counts)) }
+{
+    writeln!(
+        writer,
+        "balls {} {} {} {}",
+        counts.known, counts.counted, counts.transit, counts.playfield
+    )
 }
 
 /// The action that was asked for.

@@ -157,7 +157,7 @@ impl Game {
     /// Does what the machine itself does when it takes this event of the game, while so many balls
     /// are at home. Reports what follows. Without a game nothing changes, and nothing follows.
     #[tactic(auto, unfolding(crate::specs::GameStep::game_step))]
-    pub fn work(&mut self, event: GameEvent, players: &mut Players<'_>, home: u32) -> GameWork
+    pub fn work(&mut self, event: GameEvent, players: &mut Players<'_>, home: u64) -> GameWork
         ensures game { self.new ≡ record self.old { state = (game_step self.old.rules players.old.plan event home self.old.state players.old.state).game } }
         ensures players { players.new ≡ record players.old { state = (game_step self.old.rules players.old.plan event home self.old.state players.old.state).players } }
         ensures posts { result.posts.items ≡ (game_step self.old.rules players.old.plan event home self.old.state players.old.state).posts }
@@ -196,7 +196,7 @@ impl Game {
     }
 
     /// The start button: a game begins, or a player joins, or nothing happens.
-    fn start(&mut self, rules: GameRules, players: &mut Players<'_>, home: u32) -> GameWork
+    fn start(&mut self, rules: GameRules, players: &mut Players<'_>, home: u64) -> GameWork
         ensures game { self.new ≡ record self.old { state = (started rules players.old.plan home self.old.state players.old.state).game } }
         ensures players { players.new ≡ record players.old { state = (started rules players.old.plan home self.old.state players.old.state).players } }
         ensures posts { result.posts.items ≡ (started rules players.old.plan home self.old.state players.old.state).posts }
@@ -216,10 +216,10 @@ impl Game {
     }
 
     /// Whether a game begins: none goes on, fewer than 2^32 have begun, and enough balls are at home.
-    fn can_begin(&self, rules: GameRules, home: u32) -> bool
+    fn can_begin(&self, rules: GameRules, home: u64) -> bool
         ensures { result ≡ can_begin rules home self.now.state }
     {
-        self.phase.is_none() && self.begun < MOST_GAMES && rules.min_balls <= home
+        self.phase.is_none() && self.begun < MOST_GAMES && u64::from(rules.min_balls) <= home
     }
 
     /// Whether a player joins: a ball is on, the current player is at their first, and there can be

@@ -5,9 +5,9 @@ use Rattle.plan_tables.specs.declared.devices.Act.{Act}
 use Rattle.plan_tables.specs.declared.entries.Listener.{Listener}
 use Rattle.device_objects.specs.declared.device.Call.TheVariants as calls
 use Rattle.written_machine.specs.Machine.{Machine, all_do, call_device, tell_listener}
-use Rattle.written_machine.proofs.Growth.{call-grows}
 use Rattle.pin_rig.specs.Core.{CoreView, HasRoom, after}
-use Rattle.pin_rig.proofs.Listing.{call-calls}
+use Rattle.pin_rig.proofs.Going.{goes-call}
+use Rattle.pin_rig.proofs.Listing.{call-calls, grown}
 use Rattle.pin_rig.proofs.Room.{room-first, all_do-first}
 use Rattle.pin_rig.proofs.parts.tell_listeners.Goals as goal
 
@@ -30,7 +30,7 @@ call_device-requires-clause-room g c =
     let l = get_or listeners i none in
     let core = c.loop-listener.core in
     subst (λ (a : Act). HasRoom core.room (call_device plan (calls.Act a) l.row core.machine)) (sym c.act.ensures)
-    (room-first (tell_listener plan active) (λ (x : Listener) (s : Machine). call-grows plan (calls.Act (act_of_listener active x)) x.row s) core (after (all_do (tell_listener plan active) listeners) c.args.core.now)
+    (room-first (tell_listener plan active) (λ (x : Listener) (s : Machine). grown plan s (tell_listener plan active x s) (goes-call plan (calls.Act (act_of_listener active x)) x.row s)) core (after (all_do (tell_listener plan active) listeners) c.args.core.now)
     l (drop (i + 1) listeners) (drop i listeners) (drop_more listeners i none c.loop-listener-test.true) c.loop-listener.invariant.0 c.requires.room)
 
 pub loop-listener-preserved : goal.loop-listener-preserved

@@ -16,6 +16,7 @@ invariant_of-self g c =
       c.self.invariant.3,
       rows-kept g.D.Device.row_of g.D.Device.state_of c.self.inside.handlers.plan items c.args.row c.index_mut-device.result.now c.call_one-lists.new.device c.self.invariant.4 c.index_mut-device.ensures.value within c.call_one-lists.ensures.row,
       c.set.ensures ∙ (λ i. slice_set (c.self.invariant.5 i) c.args.row.0 (c.due-due.ensures i)) ∙ sym (map-set (λ d. due_of (g.D.Device.state_of d)) items c.args.row.0 c.call_one-lists.new.device),
+      c.self.invariant.6,
     )
 
 pub returns-clause-called : goal.returns-clause-called
@@ -28,6 +29,6 @@ returns-clause-called g c =
     c.args.call c.self.inside.moment world (c.call_one-lists.ensures.state ∙ (λ i. (device_step (g.D.Device.row_of c.index_mut-device.result.now).settings c.args.call c.self.inside.moment (world_is i) (g.D.Device.state_of c.index_mut-device.result.now)).0)) in
     rw (← c.self.view_is) (λ i. record {
       handlers = c.self.inside.handlers;
-      machine = record { moment = c.self.inside.moment; switches = c.self.inside.switches; modes = c.self.inside.modes.modes; devices = turned i; coils = c.self.inside.coils; players = c.self.inside.players.state; game = c.self.inside.game.state; waiting = c.self.inside.queue.waiting; lines = c.self.inside.lines.items };
+      machine = record { moment = c.self.inside.moment; switches = c.self.inside.switches; modes = c.self.inside.modes.modes; devices = turned i; coils = c.self.inside.coils; ledger = c.self.inside.ledger; players = c.self.inside.players.state; game = c.self.inside.game.state; waiting = c.self.inside.queue.waiting; lines = c.self.inside.lines.items };
       room = c.self.inside.queue.size;
     })

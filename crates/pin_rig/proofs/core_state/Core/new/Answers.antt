@@ -35,4 +35,5 @@ invariant_of-result g c =
       search rules,
       ap (map g.D.Device.row_of) (sym c.deref.ensures.value) ∙ fit.rows_are ∙ sym (ap (λ h. h.plan.rows) c.in_ok-handlers.ensures),
       c.in_ok-alarms.ensures ∙ ap (λ (rs : List DeviceRow). replicate (length rs) None) c.rows.ensures.rows ∙ sym (dues-are g.D.Device.state_of c.args.devices.items ∙ ap (map due_of) states ∙ first-dues rows),
+      ap (λ l. length l.counted) c.in_ok-ledger.ensures.empty ∙ length-replicate (length rows) 0 ∙ sym (ap (λ h. length h.plan.rows) c.in_ok-handlers.ensures),
     )

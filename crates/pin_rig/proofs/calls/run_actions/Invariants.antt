@@ -1,7 +1,7 @@
 use Rattle.std.proofs.Common.{◌≡◌, drop}
 use Rattle.written_machine.specs.Machine.{all_do, do_action}
 use Rattle.pin_rig.specs.Core.{CanCall, after}
-use Rattle.pin_rig.proofs.parts.run_actions.Given as goal
+use Rattle.pin_rig.proofs.calls.run_actions.Given as goal
 
 -- what is left to do, done now, is all, done at the start
 abbrev pub invariant-loop-action : goal.invariant-loop-action

@@ -1,7 +1,7 @@
 use Rattle.std.proofs.Common.{◌≡◌, drop}
 use Rattle.written_machine.specs.Machine.{do_answer}
 use Rattle.pin_rig.specs.Core.{CanCall, after}
-use Rattle.pin_rig.proofs.parts.run_lists.Given as goal
+use Rattle.pin_rig.proofs.calls.run_lists.Given as goal
 
 -- what is left to run, run now, is all, run at the start
 abbrev pub invariant-loop-list : goal.invariant-loop-list

@@ -8,10 +8,11 @@ use Rattle.written_machine.specs.Machine.{all_do, do_action, do_answer, do_list}
 use Rattle.std.specs.List.{All}
 use Rattle.plan_tables.specs.Valid.{IsActionWithin}
 use Rattle.pin_rig.specs.Core.{CoreView, CanCall, HasRoom, after}
-use Rattle.pin_rig.proofs.Callable.{actions-within, can-act_all}
+use Rattle.pin_rig.proofs.Callable.{actions-within}
+use Rattle.pin_rig.proofs.Going.{goes-can, goes-list}
 use Rattle.pin_rig.proofs.Room.{room-first, all_do-first}
-use Rattle.pin_rig.proofs.Listing.{list-grows}
-use Rattle.pin_rig.proofs.parts.run_lists.Goals as goal
+use Rattle.pin_rig.proofs.Listing.{grown}
+use Rattle.pin_rig.proofs.calls.run_lists.Goals as goal
 
 pub run_actions-requires-clause-room : goal.run_actions-requires-clause-room
 run_actions-requires-clause-room g c =
@@ -24,7 +25,7 @@ run_actions-requires-clause-room g c =
     let core = c.loop-list.core in
     subst (λ (actions : List Action). HasRoom core.room (all_do (do_action plan c.row-owner.result.owner) actions core.machine)) (sym list_is)
     (subst (λ (o : Owner). HasRoom core.room (all_do (do_action plan o) (actions_at plan (list_of_row plan r (get_or lists i 0))) core.machine)) (sym owner_is)
-    (room-first (λ k. do_list plan (row_at plan r).owner (list_of_row plan r k)) (list-grows plan r) c.loop-list.core (after (do_answer plan r lists) c.args.core.now)
+    (room-first (λ k. do_list plan (row_at plan r).owner (list_of_row plan r k)) (λ k s. grown plan s (do_list plan (row_at plan r).owner (list_of_row plan r k) s) (goes-list plan r k s)) c.loop-list.core (after (do_answer plan r lists) c.args.core.now)
     (get_or lists i 0) (drop (i + 1) lists) (drop i lists) (drop_more lists i 0 c.loop-list-test.true) c.loop-list.invariant.0 c.requires.room))
 
 pub run_actions-requires-clause-actions : goal.run_actions-requires-clause-actions
@@ -46,7 +47,7 @@ loop-list-preserved g c =
     c.run_actions.ensures ∙ (λ j. after (all_do (do_action plan (owner_is j)) (list_is j)) core) in (
       all_do-first (λ k. do_list plan (row_at plan r).owner (list_of_row plan r k)) core c.run_actions.new.core (after (do_answer plan r lists) c.args.core.now)
           k (drop (i + 1) lists) (drop i lists) (drop_more lists i 0 c.loop-list-test.true) c.loop-list.invariant.0 done,
-      subst (CanCall plan) (sym done) (can-act_all plan (row_at plan r).owner (actions_at plan (list_of_row plan r k)) core c.loop-list.invariant.1),
+      subst (CanCall plan) (sym done) (goes-can plan core (after (do_list plan (row_at plan r).owner (list_of_row plan r k)) core) (goes-list plan r k core.machine) c.loop-list.invariant.1),
     )
 
 pub run_actions-requires-clause-plan : goal.run_actions-requires-clause-plan

@@ -4,9 +4,9 @@ use Rattle.plan_tables.specs.PlanView.{PlanView}
 use Rattle.plan_tables.specs.Valid.{IsActionWithin}
 use Rattle.plan_tables.specs.declared.entries.Action.{Action}
 use Rattle.plan_tables.specs.declared.entries.Action.TheVariants.{Change}
-use Rattle.written_machine.specs.Machine.{change_variable, do_action}
+use Rattle.written_machine.specs.Machine.{change_variable, do_action_by, no_confirm}
 use Rattle.pin_rig.specs.Core.{HasRoom, after}
-use Rattle.pin_rig.proofs.parts.run_action.Goals as goal
+use Rattle.pin_rig.proofs.actions.run_alone.Goals as goal
 
 pub change_variable-requires-clause-variable : goal.change_variable-requires-clause-variable
 change_variable-requires-clause-variable g c =
@@ -22,7 +22,7 @@ change_variable-requires-clause-room g c =
     let x = c.in-Change in
     let fits : FitsSigned w64 x.number = search rules in
     let same : to_z w64 (of_z w64 x.number) ≡ x.number = to_z-of_z w64 x.number fits in
-    let whole : HasRoom core.room (change_variable plan owner x.variable x.action x.number x.event core.machine) = subst (λ (a : Action). HasRoom core.room (do_action plan owner a core.machine)) x.is c.requires.room in
+    let whole : HasRoom core.room (change_variable plan owner x.variable x.action x.number x.event core.machine) = subst (λ (a : Action). HasRoom core.room (do_action_by plan no_confirm owner a core.machine)) x.is c.requires.room in
     subst (λ (n : ℤ). HasRoom core.room (change_variable core.handlers.plan owner x.variable x.action n x.event core.machine)) (sym same)
     (subst (λ (p : PlanView). HasRoom core.room (change_variable p owner x.variable x.action x.number x.event core.machine)) (sym c.requires.plan) whole)
 
@@ -35,4 +35,4 @@ returns-in-Change g c =
     let same : to_z w64 (of_z w64 x.number) ≡ x.number = to_z-of_z w64 x.number fits in
     c.change_variable.ensures
     ∙ (λ i. after (change_variable (c.requires.plan i) owner x.variable x.action (same i) x.event) core)
-    ∙ ap (λ (a : Action). after (do_action c.args.plan.now owner a) core) (sym x.is)
+    ∙ ap (λ (a : Action). after (do_action_by c.args.plan.now no_confirm owner a) core) (sym x.is)

@@ -3,10 +3,10 @@ use Rattle.std.specs.List.{All}
 use Rattle.plan_tables.specs.PlanView.{row_at}
 use Rattle.plan_tables.specs.Devices.{list_count}
 use Rattle.written_machine.specs.Machine.{called, set_device}
-use Rattle.pin_rig.specs.Core.{CoreView, after}
-use Rattle.pin_rig.proofs.Callable.{can-turn}
+use Rattle.pin_rig.specs.Core.{CoreView, CanCall, after}
+use Rattle.pin_rig.proofs.Going.{goes-can, goes-turn}
 use Rattle.pin_rig.proofs.Listing.{answer-lists}
-use Rattle.pin_rig.proofs.parts.call_device.Goals as goal
+use Rattle.pin_rig.proofs.calls.call_device.Goals as goal
 
 pub run_lists-requires-clause-lists : goal.run_lists-requires-clause-lists
 run_lists-requires-clause-lists g c =
@@ -19,8 +19,9 @@ pub run_lists-requires-clause-calls : goal.run_lists-requires-clause-calls
 run_lists-requires-clause-calls g c =
     let plan = c.args.plan.now in
     let r = c.args.row in
-    can-turn plan c.args.call r c.args.core.now c.call-lists.new.self
-    (c.call-lists.ensures.called ∙ (λ i. after (set_device r (called (c.requires.plan i) c.args.call r c.args.core.now.machine).0) c.args.core.now)) c.requires.calls
+    let core = c.args.core.now in
+    subst (CanCall plan) (sym (c.call-lists.ensures.called ∙ (λ i. after (set_device r (called (c.requires.plan i) c.args.call r core.machine).0) core)))
+    (goes-can plan core (after (set_device r (called plan c.args.call r core.machine).0) core) (goes-turn plan c.args.call r core.machine) c.requires.calls)
 
 pub run_lists-requires-clause-plan : goal.run_lists-requires-clause-plan
 run_lists-requires-clause-plan g c = ap (λ (v : CoreView). v.handlers.plan) c.call-lists.ensures.called ∙ c.requires.plan

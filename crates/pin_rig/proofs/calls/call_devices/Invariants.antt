@@ -3,7 +3,7 @@ use Rattle.plan_tables.specs.PlanView.{row_numbers}
 use Rattle.written_machine.specs.Machine.{call_devices}
 use Rattle.pin_rig.specs.Core.{CanCall, after}
 use Rattle.pin_rig.proofs.Listing.{call_rows}
-use Rattle.pin_rig.proofs.parts.call_devices.Given as goal
+use Rattle.pin_rig.proofs.calls.call_devices.Given as goal
 
 -- the calls that are left, made now, are all, made at the start
 abbrev pub invariant-loop-number : goal.invariant-loop-number
