@@ -1,5 +1,6 @@
--- The plan of rows without faults of their own: nothing posts an event at which the machine itself does something, acts are
--- on rows of their own owner, each command to a coil is within the limits of the coil, and what is done with balls is right.
+-- The plan of rows without faults of their own: nothing posts an event at which the machine itself does something, acts
+-- are on rows of their own owner, each command to a coil is within the limits of the coil, and what is done with balls is
+-- right.
 use Rattle.std.proofs.Common.{◌≡◌, ◌≢◌, ℕ, zero, suc, ◌<◌, Bool, true, false, ◌||◌, if◌then◌else◌, List, [], ◌∷◌, length, map, fold, get_or, Contains, ◌⊎◌, inl, inr, refl, sym, ap, ◌∙◌, subst, true≢false, arith}
 use Rattle.std.specs.Prelude.{Ok, Option, Some, None, option_map}
 use Rattle.std.specs.Str.{bytes_eq}
@@ -298,7 +299,8 @@ plan_bookings rows short none plan is =
 
 -- ---- what is accepted
 
--- where no list in the rows is too long, and there are not too many modes, their plan is accepted with weights that serve
+-- where no list in the rows is too long, and there are not too many modes, their plan is accepted with weights that
+-- serve
 pub plan_accepted : (rows : Rows) → AreListsShort rows → AreFewModes rows.modes → faults_of_rows rows ≡ [] → (c : CheckedView) → plan_at rows ≡ Ok c.plan → IsVerified c.plan c.weights c.bound → IsAccepted c
 plan_accepted rows short few none c is verified = record {
   valid = IsValid-plan_at rows short few c.plan is;

@@ -13,7 +13,7 @@ use Rattle.plan_tables.specs.declared.entries.EventId.{EventId}
 use Rattle.mpf_plan.specs.PlanOf.{plan_at, plan_of, PlanRefusal, no_such_name, above_limit}
 use Rattle.mpf_plan.proofs.Judged.{plan_at-Ok}
 use Rattle.plan_tables.specs.Valid.{HasEntries}
-use Rattle.mpf_plan.proofs.ValidPlan.{HasEntries-plan_at, IsValid-plan_at}
+use Rattle.mpf_plan.proofs.ValidPlan.{HasEntries-plan_at}
 use Rattle.cascade_rank.specs.Events.{weight_of}
 use Rattle.cascade_rank.specs.Weights.{IsLeastFitting, bound_of, greatest}
 use Rattle.cascade_rank.specs.LeadsTo.{grounded, is_open}

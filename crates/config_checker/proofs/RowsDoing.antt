@@ -1,7 +1,7 @@
 -- What sound rows do: they post nothing reserved, by a variable neither, each deed is within the limits of its coil,
 -- each switch to which a device listens or which a shot has is defined, and so is each profile, each shot that a group
 -- lists, and each target of a ball device; and no ball device has a ball switch twice.
-use Rattle.std.proofs.Common.{◌≡◌, ◌≢◌, ℕ, suc, ◌<◌, Bool, true, false, ◌||◌, if◌then◌else◌, List, [], ◌∷◌, ◌++◌, length, map, fold, get_or, codes, refl, sym, ◌∙◌, ap, subst, true≢false, arith, length-append}
+use Rattle.std.proofs.Common.{◌≡◌, ◌≢◌, ℕ, suc, Bool, true, false, ◌||◌, if◌then◌else◌, List, [], ◌∷◌, ◌++◌, map, fold, get_or, codes, refl, sym, ◌∙◌, ap, subst, true≢false, arith, length-append}
 use Rattle.std.specs.Prelude.{Option, Some, None, IfSome, is_some}
 use Rattle.std.specs.Str.{bytes_eq}
 use Rattle.std.specs.List.{All, AllPairs, flat_map, list_any}
