@@ -38,7 +38,6 @@ use Rattle.coil_guard.specs.Limits.{no_limits, limits_at}
 use Rattle.machine_definitions.specs.Definitions.{latest_coil, coil_called}
 use Rattle.plan_contributions.specs.CoilEntries.{limits_of_coil}
 use Rattle.plan_contributions.specs.Contributions.{mode_event_name, contributions_of}
-use Rattle.plan_contributions.specs.BallFacts as balls
 use Rattle.plan_contributions.proofs.BallRows.{doing_heard_once}
 use Rattle.plan_contributions.proofs.CoilsGiven.{coils_given}
 use Rattle.plan_contributions.proofs.RowEffects.{all_do}
@@ -46,14 +45,13 @@ use Rattle.mpf_plan.specs.PlanOf.{plan_at}
 use Rattle.mpf_plan.specs.ByName.{IsByVariable, IsDone, effect_of, latest_limits, limits_called}
 use Rattle.mpf_plan.proofs.DoneNames.{by_variable, done-named}
 use Rattle.mpf_plan.proofs.ModeEventNames.{free-by_name}
-use Rattle.mpf_plan.specs.Balls.{IsOfNoBall, AreRightActions, row_actions, IsTargetOfNoBall, IsOwnerOf}
 use Rattle.mpf_plan.proofs.ValidPlan.{HasEntries-plan_at, own-plan_at, listeners-plan_at, limits-plan_at, IsValid-plan_at}
 use Rattle.mpf_plan.proofs.WithBalls.{ball_devices_own-plan_at, right_with_balls-plan_at}
 use Rattle.written_machine.specs.Allowed.{IsAllowed, ActionsAreAllowed}
 use Rattle.written_machine.specs.Accepted.{IsAccepted}
-use Rattle.written_machine.specs.BallRows.{BooksNothing, BooksRightly, IsNoBallDevice, IsOffBalls, IsSwitchOf, BookingsAreRight}
+use Rattle.plan_tables.specs.BallRows.{BookingsAreRight}
 use Rattle.written_machine.specs.CheckedView.{CheckedView}
-use Rattle.written_machine.specs.Devices.{ActsAreOwn, IsOwnAct, IsOwnBallDevice}
+use Rattle.written_machine.specs.Devices.{ActsAreOwn, IsOwnAct}
 use Rattle.written_machine.specs.FreePosts.{IsFree, IsFreeWork, IsFreeAction, IsFreeSwitch, PostsAreFree}
 use Rattle.row_faults.specs.Reserved.{mode_events, events_of_modes, mode_names, is_reserved}
 use Rattle.machine_definitions.specs.GameEvents.{reserved_game_events}
@@ -228,7 +226,7 @@ plan_own rows short plan is = record {
   bindings = All-weaker (λ b. (r : RowId) (act : ActOfDevice) → b.target ≡ Act r act → (row_at plan r).owner ≡ b.owner) (λ b. IsOwnAct plan b.owner b.target) (λ b h. own b.owner b.target h) plan.bindings
       (own-plan_at rows plan is);
   listeners = listeners-plan_at rows plan is;
-  balls = All-weaker (λ row. IsOwnerOf row.settings row.owner) (λ row. IsOwnBallDevice row.settings row.owner) (λ row. ball_device row.settings row.owner) plan.rows (ball_devices_own-plan_at rows short plan is);
+  balls = ball_devices_own-plan_at rows short plan is;
 }
   where
     own : (owner : Owner) (t : Target) → ((r : RowId) (act : ActOfDevice) → t ≡ Act r act → (row_at plan r).owner ≡ owner) → IsOwnAct plan owner t
@@ -237,65 +235,12 @@ plan_own rows short plan is = record {
     own owner (Stop m) h = tt
     own owner (Act r act) h = h r act refl
 
-    ball_device : (settings : Settings) (owner : Owner) → IsOwnerOf settings owner → IsOwnBallDevice settings owner
-    ball_device (kinds.BallDevice d) owner is = is
-    ball_device _ owner is = tt
-
 -- ---- balls
-
-nothing-booked : (a : Action) → IsOfNoBall a → BooksNothing a
-nothing-booked (Enter r e drain) is = is
-nothing-booked (Leave r) is = is
-nothing-booked (Lose r) is = is
-nothing-booked (Arrive r) is = is
-nothing-booked _ is = tt
-
-all-booked : (actions : List Action) → All IsOfNoBall actions → All BooksNothing actions
-all-booked actions all = All-weaker IsOfNoBall BooksNothing nothing-booked actions all
-
-module _ (plan : PlanView) where
-  books-rightly : (r : RowId) (settings : Settings) → IsOwnerOf settings (row_at plan r).owner → AreRightActions r settings (row_actions plan r) → BooksRightly plan r settings
-  books-rightly r (kinds.BallDevice d) own h = record {
-    owner = own;
-    event = h.event;
-    drain = h.drain;
-    entered = h.entered;
-    attempted = all-booked (row_actions plan r 1) h.attempted;
-    left = h.left;
-    lost = h.lost;
-    succeeded = all-booked (row_actions plan r 4) h.succeeded;
-    arrived = h.arrived;
-    failed = all-booked (row_actions plan r 6) h.failed;
-  }
-  books-rightly r _ own h = λ k within. all-booked (row_actions plan r k) (h k within)
-
-  no_ball_device : (settings : Settings) → balls.IsNoBallDevice settings → IsNoBallDevice settings
-  no_ball_device (kinds.BallDevice d) is = is
-  no_ball_device _ is = tt
-
-  off-balls : (t : Target) → IsTargetOfNoBall plan t → IsOffBalls plan t
-  off-balls (Run l) h = all-booked (actions_at plan l) h
-  off-balls (Start m) h = tt
-  off-balls (Stop m) h = tt
-  off-balls (Act r act) h = no_ball_device (row_at plan r).settings h
-
-  switch-of : (settings : Settings) (i : ℕ) → balls.IsSwitchOf settings i → IsSwitchOf settings i
-  switch-of (kinds.BallDevice d) i is = is
-  switch-of _ i is = tt
 
 plan_bookings : (rows : Rows) → AreListsShort rows → faults_of_rows rows ≡ [] → (plan : PlanView) → plan_at rows ≡ Ok plan → BookingsAreRight plan
 plan_bookings rows short none plan is =
     let once = doing_heard_once (IsFine rows) (IsUnreserved rows) (IsThere rows) rows (rows_doing rows (rows_sound rows none)) in
-    let right = right_with_balls-plan_at rows short once plan is in
-    let own = ball_devices_own-plan_at rows short plan is in
-    record {
-      rows = λ r within. books-rightly plan r (row_at plan r).settings (own r.0 no_row within) (right.rows r within);
-      bindings = All-weaker (λ b. IsTargetOfNoBall plan b.target) (λ b. IsOffBalls plan b.target) (λ b. off-balls plan b.target) plan.bindings right.bindings;
-      switches = All-weaker (λ s. All (λ l. balls.IsSwitchOf (row_at plan l.row).settings l.switch) s.listeners) (λ s. All (λ l. IsSwitchOf (row_at plan l.row).settings l.switch) s.listeners)
-          (λ s. All-weaker (λ l. balls.IsSwitchOf (row_at plan l.row).settings l.switch) (λ l. IsSwitchOf (row_at plan l.row).settings l.switch) (λ l. switch-of plan (row_at plan l.row).settings l.switch) s.listeners) plan.switches right.switches;
-      once = right.once;
-      apart = right.apart;
-    }
+    right_with_balls-plan_at rows short once plan is
 
 -- ---- what is accepted
 

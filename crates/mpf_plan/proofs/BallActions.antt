@@ -14,7 +14,7 @@ use Rattle.plan_contributions.specs.declared.contribution.Aim.{Aim}
 use Rattle.plan_contributions.specs.declared.contribution.Aim.TheVariants.{Run}
 use Rattle.plan_contributions.specs.DeviceEntries.{pulse, enable, disable, Effect, posts, works, changes, enters}
 use Rattle.plan_contributions.specs.Contributions.{Contribution, gives, binds, does, device, does_in, listens}
-use Rattle.plan_contributions.specs.BallFacts.{BooksNothing, LastRow, last_after, IsFitting, AreFitting, is_plays, DrainsIn, DrainsInGame, AllDrainInGame}
+use Rattle.plan_contributions.specs.BallFacts.{IsOfNoBall, LastRow, last_after, IsFitting, AreFitting, is_plays, DrainsIn, DrainsInGame, AllDrainInGame}
 use Rattle.mpf_plan.specs.Uses.{Names, number_among}
 use Rattle.mpf_plan.specs.PlanOf.{DraftView, action_of, last_row, lists_for, with_one_more, next_row, first_of_last, with_contribution, blank, drafted}
 use Rattle.mpf_plan.proofs.Drafted.{given_plan}
@@ -28,7 +28,7 @@ DrainsWell game (does e) = DrainsIn game e
 DrainsWell game (does_in k e) = DrainsIn game e
 DrainsWell game _ = Unit {0}
 
-nothing_drains : (game : Bool) (e : Effect) → BooksNothing e → DrainsIn game e
+nothing_drains : (game : Bool) (e : Effect) → IsOfNoBall e → DrainsIn game e
 nothing_drains game (enters e drain) is = absurd is
 nothing_drains game _ is = tt
 
@@ -72,7 +72,7 @@ module _ (names : Names) where
   there n r within (changes v action m) = tt
   there n r within _ = within
 
-  of_none : (n : ℕ) (r : RowId) (e : Effect) → BooksNothing e → IsOfRows n (action_of names r e)
+  of_none : (n : ℕ) (r : RowId) (e : Effect) → IsOfNoBall e → IsOfRows n (action_of names r e)
   of_none n r (works x (pulse ms power)) is = tt
   of_none n r (works x (enable power)) is = tt
   of_none n r (works x disable) is = tt

@@ -11,8 +11,7 @@ use Rattle.plan_tables.specs.declared.devices.RowId.{RowId}
 use Rattle.plan_tables.specs.declared.devices.Settings.{Settings}
 use Rattle.plan_tables.specs.declared.entries.Listener.{Listener}
 use Rattle.plan_tables.specs.PlanView.{no_row}
-use Rattle.plan_contributions.specs.BallFacts.{IsSwitchOf}
-use Rattle.mpf_plan.specs.Balls.{AreApart, AreOfTwoRows}
+use Rattle.plan_tables.specs.BallRows.{IsSwitchOf, AreApart, AreOfTwoRows}
 use Rattle.mpf_plan.specs.Uses.{number_among}
 use Rattle.mpf_plan.proofs.Numbers.{at_number}
 use Rattle.mpf_plan.proofs.Steps.{All-changed}

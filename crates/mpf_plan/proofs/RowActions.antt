@@ -19,9 +19,9 @@ use Rattle.plan_tables.specs.declared.entries.Target.TheVariants.{Run, Start, St
 use Rattle.plan_tables.specs.declared.table.Table.TheVariants.{Events}
 use Rattle.plan_tables.specs.PlanView.{no_row}
 use Rattle.plan_contributions.specs.DeviceEntries.{pulse, enable, disable, Effect, posts, works, changes}
-use Rattle.plan_contributions.specs.BallFacts.{BooksNothing, IsRightRow, LastRow, first_row, with_switch, with_effect, IsRight}
+use Rattle.plan_contributions.specs.BallFacts.{IsOfNoBall, IsRightRow, LastRow, first_row, with_switch, with_effect, IsRight}
 use Rattle.plan_rows.specs.declared.place.Place.{Place}
-use Rattle.mpf_plan.specs.Balls.{IsOfNoBall, AreRightActions}
+use Rattle.plan_tables.specs.BallRows.{BooksNothing, BooksRightly}
 use Rattle.mpf_plan.specs.Uses.{Names}
 use Rattle.mpf_plan.specs.PlanOf.{event_of, action_of, first_of_last, with_one_more}
 use Rattle.mpf_plan.proofs.Steps.{All-changed, blank_end}
@@ -29,7 +29,7 @@ use Rattle.mpf_plan.proofs.Drafted.{lists_begun}
 
 -- ---- actions
 
-pub no_ball : (names : Names) (r : RowId) (e : Effect) → BooksNothing e → IsOfNoBall (action_of names r e)
+pub no_ball : (names : Names) (r : RowId) (e : Effect) → IsOfNoBall e → BooksNothing (action_of names r e)
 no_ball names r (works x (pulse ms power)) is = tt
 no_ball names r (works x (enable power)) is = tt
 no_ball names r (works x disable) is = tt
@@ -37,11 +37,11 @@ no_ball names r (posts x) is = tt
 no_ball names r (changes v action m) is = tt
 no_ball names r _ is = absurd is
 
-no_balls : (names : Names) (r : RowId) (es : List Effect) → All BooksNothing es → All IsOfNoBall (map (action_of names r) es)
-no_balls names r es none = All-map IsOfNoBall (action_of names r) es (All-weaker BooksNothing (λ e. IsOfNoBall (action_of names r e)) (no_ball names r) es none)
+no_balls : (names : Names) (r : RowId) (es : List Effect) → All IsOfNoBall es → All BooksNothing (map (action_of names r) es)
+no_balls names r es none = All-map BooksNothing (action_of names r) es (All-weaker IsOfNoBall (λ e. BooksNothing (action_of names r e)) (no_ball names r) es none)
 
 -- what a row does that is right is right by number
-right_made : (names : Names) (r : RowId) (place : Place) (settings : Settings) (done : ℕ → List Effect) → IsRightRow place settings done → AreRightActions r settings (λ k. map (action_of names r) (done k))
+right_made : (names : Names) (r : RowId) (place : Place) (settings : Settings) (done : ℕ → List Effect) → IsRightRow place settings done → BooksRightly r settings (λ k. map (action_of names r) (done k))
 right_made names r place (kinds.BallDevice d) done is =
     let h = is.1 in
     record {
@@ -58,19 +58,19 @@ right_made names r place (kinds.BallDevice d) done is =
 right_made names r place _ done is = λ k within. no_balls names r (done k) (is k)
 
 -- the same lists are right
-same_right : (r : RowId) (settings : Settings) (old new : ℕ → List Action) → ((k : ℕ) → k < list_count settings → new k ≡ old k) → AreRightActions r settings old → AreRightActions r settings new
+same_right : (r : RowId) (settings : Settings) (old new : ℕ → List Action) → ((k : ℕ) → k < list_count settings → new k ≡ old k) → BooksRightly r settings old → BooksRightly r settings new
 same_right r (kinds.BallDevice d) old new same h = record {
   event = h.event;
   drain = h.drain;
   entered = same 0 (omega arith) ∙ h.entered;
-  attempted = subst (All IsOfNoBall) (sym (same 1 (omega arith))) h.attempted;
+  attempted = subst (All BooksNothing) (sym (same 1 (omega arith))) h.attempted;
   left = same 2 (omega arith) ∙ h.left;
   lost = same 3 (omega arith) ∙ h.lost;
-  succeeded = subst (All IsOfNoBall) (sym (same 4 (omega arith))) h.succeeded;
+  succeeded = subst (All BooksNothing) (sym (same 4 (omega arith))) h.succeeded;
   arrived = same 5 (omega arith) ∙ h.arrived;
-  failed = subst (All IsOfNoBall) (sym (same 6 (omega arith))) h.failed;
+  failed = subst (All BooksNothing) (sym (same 6 (omega arith))) h.failed;
 }
-same_right r _ old new same h = λ k within. subst (All IsOfNoBall) (sym (same k within)) (h k within)
+same_right r _ old new same h = λ k within. subst (All BooksNothing) (sym (same k within)) (h k within)
 
 -- ---- the lists of a plan that is being made
 
@@ -83,13 +83,13 @@ settings_at rows r = (get_or rows r no_row).settings
 
 -- what a binding runs is none of the lists from one to before another, and has nothing to do with balls
 abbrev pub IsRunOfNone : ℕ → ℕ → List (List Action) → Target → Type 0
-IsRunOfNone first end lists (Run l) = (l.0 < length lists) × ((l.0 < first) ⊎ (end ≤ l.0)) × All IsOfNoBall (get_or lists l.0 [])
+IsRunOfNone first end lists (Run l) = (l.0 < length lists) × ((l.0 < first) ⊎ (end ≤ l.0)) × All BooksNothing (get_or lists l.0 [])
 IsRunOfNone first end lists _ = Unit {0}
 
 -- a row whose lists come before this one, and are right
 pub record IsMadeRow (rows : List DeviceRow) (firsts : List ListId) (lists : List (List Action)) (first r : ℕ) : Type 0 where
   pub before : first_at firsts r + list_count (settings_at rows r) ≤ first
-  pub right : AreRightActions (record { 0 = r }) (settings_at rows r) (λ k. get_or lists (first_at firsts r + k) [])
+  pub right : BooksRightly (record { 0 = r }) (settings_at rows r) (λ k. get_or lists (first_at firsts r + k) [])
 
 -- how many lists the row has that came last
 abbrev pub count_of : Option LastRow → ℕ
@@ -134,7 +134,7 @@ module _ (names : Names) where
 
     -- ---- lists that change, but for those of rows
 
-    run_kept : (new : List (List Action)) → length lists ≤ length new → ((i : ℕ) → i < length lists → (i < first) ⊎ (end ≤ i) → All IsOfNoBall (get_or lists i []) → All IsOfNoBall (get_or new i []))
+    run_kept : (new : List (List Action)) → length lists ≤ length new → ((i : ℕ) → i < length lists → (i < first) ⊎ (end ≤ i) → All BooksNothing (get_or lists i []) → All BooksNothing (get_or new i []))
         → (t : Target) → IsRunOfNone first end lists t → IsRunOfNone first end new t
     run_kept new more keeps (Run l) h = let within = h.0 in (omega (arith, within, more), h.1, keeps l.0 within h.1 h.2)
     run_kept new more keeps (Start m) h = tt
@@ -156,7 +156,7 @@ module _ (names : Names) where
     done_kept r new (Some x) same h = λ k below. same (first + k) (omega (arith, below)) ∙ h k below
 
     kept : (m : ℕ) (new : List (List Action)) → length lists ≤ length new → ((i : ℕ) → i < end → get_or new i [] ≡ get_or lists i []) → (m < 1024 → end < length new)
-        → ((i : ℕ) → i < length lists → All IsOfNoBall (get_or lists i []) → All IsOfNoBall (get_or new i [])) → AreMade m o rows firsts new bindings
+        → ((i : ℕ) → i < length lists → All BooksNothing (get_or lists i []) → All BooksNothing (get_or new i [])) → AreMade m o rows firsts new bindings
     kept m new more same opened keeps = record {
       count = made.count;
       last = made.last;
@@ -169,19 +169,19 @@ module _ (names : Names) where
     }
 
     -- an action more that has nothing to do with balls, in a list that is of no row
-    pub made_outside : (m at : ℕ) (a : Action) → end ≤ at → (m < 1024 → n < 1024) → IsOfNoBall a → AreMade m o rows firsts (with_one_more at a lists) bindings
+    pub made_outside : (m at : ℕ) (a : Action) → end ≤ at → (m < 1024 → n < 1024) → BooksNothing a → AreMade m o rows firsts (with_one_more at a lists) bindings
     made_outside m at a from fewer none =
         let more : List Action = get_or lists at [] ++ a ∷ [] in
         let count = length-set lists at more in
         kept m (with_one_more at a lists) (omega (arith, count)) (λ i below. get_or-set_other lists at i more [] (λ e. omega (arith, e, below, from)))
         (λ few. let before = made.opened (fewer few) in omega (arith, before, count)) (λ i within all. by i within all (i == at) refl)
       where
-        by : (i : ℕ) → i < length lists → All IsOfNoBall (get_or lists i []) → (b : Bool) → (i == at) ≡ b → All IsOfNoBall (get_or (with_one_more at a lists) i [])
+        by : (i : ℕ) → i < length lists → All BooksNothing (get_or lists i []) → (b : Bool) → (i == at) ≡ b → All BooksNothing (get_or (with_one_more at a lists) i [])
         by i within all true is =
             let e : i ≡ at = eqb-true i at is in
-            subst (All IsOfNoBall) (sym (ap (λ j. get_or (with_one_more at a lists) j []) e ∙ get_or-set_same lists at (get_or lists at [] ++ a ∷ []) [] (omega (arith, e, within))))
-            (All-push IsOfNoBall (get_or lists at []) a (subst (λ j. All IsOfNoBall (get_or lists j [])) e all) none)
-        by i within all false is = subst (All IsOfNoBall) (sym (get_or-set_other lists at i (get_or lists at [] ++ a ∷ []) [] (eqb-false i at is))) all
+            subst (All BooksNothing) (sym (ap (λ j. get_or (with_one_more at a lists) j []) e ∙ get_or-set_same lists at (get_or lists at [] ++ a ∷ []) [] (omega (arith, e, within))))
+            (All-push BooksNothing (get_or lists at []) a (subst (λ j. All BooksNothing (get_or lists j [])) e all) none)
+        by i within all false is = subst (All BooksNothing) (sym (get_or-set_other lists at i (get_or lists at [] ++ a ∷ []) [] (eqb-false i at is))) all
 
     -- ---- bindings
 
@@ -215,7 +215,7 @@ module _ (names : Names) where
         let none : List Action = [] in
         let longer = length_push lists none in
         kept 0 (lists ++ none ∷ []) (omega (arith, longer)) (λ i below. get_or_append_left lists (none ∷ []) [] i (omega (arith, below, made.ends)))
-        (λ few. omega (arith, longer, made.ends)) (λ i within all. subst (All IsOfNoBall) (sym (get_or_append_left lists (none ∷ []) [] i within)) all)
+        (λ few. omega (arith, longer, made.ends)) (λ i within all. subst (All BooksNothing) (sym (get_or_append_left lists (none ∷ []) [] i within)) all)
 
     -- ---- a row more
 
@@ -229,7 +229,7 @@ module _ (names : Names) where
         let number : last_of rows ≡ row_id r = ap row_id (sym here) in
         record {
           before = omega (arith, begin, ap list_count its);
-          right = subst (λ s. AreRightActions (record { 0 = r }) s (λ k. get_or lists (first_at firsts r + k) [])) (sym its)
+          right = subst (λ s. BooksRightly (record { 0 = r }) s (λ k. get_or lists (first_at firsts r + k) [])) (sym its)
               (same_right (record { 0 = r }) x.settings (λ k. map (action_of names (record { 0 = r })) (x.done k)) (λ k. get_or lists (first_at firsts r + k) [])
               (λ k below. ap (λ i. get_or lists (i + k) []) begin ∙ done k below ∙ ap (λ (q : RowId). map (action_of names q) (x.done k)) number)
               (right_made names (record { 0 = r }) x.place x.settings x.done right));
@@ -252,7 +252,7 @@ module _ (names : Names) where
           let its : settings_at rows_then r ≡ settings_at rows r = ap (λ (x : DeviceRow). x.settings) (get_or_append_left rows (row ∷ []) no_row r within) in
           record {
             before = omega (arith, own, few, begin, ap list_count its);
-            right = subst (λ s. AreRightActions (record { 0 = r }) s (λ k. get_or lists_then (first_at firsts_then r + k) [])) (sym its)
+            right = subst (λ s. BooksRightly (record { 0 = r }) s (λ k. get_or lists_then (first_at firsts_then r + k) [])) (sym its)
                 (same_right (record { 0 = r }) (settings_at rows r) (λ k. get_or lists (first_at firsts r + k) []) (λ k. get_or lists_then (first_at firsts_then r + k) [])
                 (λ k below. ap (λ i. get_or lists_then (i + k) []) begin ∙ get_or_append_left lists (replicate (list_count settings) []) [] (first_at firsts r + k) (omega (arith, own, below, few)))
                 h.right);
@@ -261,7 +261,7 @@ module _ (names : Names) where
       run_then : (t : Target) → IsRunOfNone first end lists t → IsRunOfNone (length lists) (length lists + list_count settings) lists_then t
       run_then (Run l) h =
           let within = h.0 in
-          (omega (arith, within, length-append lists (replicate (list_count settings) [])), inl within, subst (All IsOfNoBall) (sym (get_or_append_left lists (replicate (list_count settings) []) [] l.0 within)) h.2)
+          (omega (arith, within, length-append lists (replicate (list_count settings) [])), inl within, subst (All BooksNothing) (sym (get_or_append_left lists (replicate (list_count settings) []) [] l.0 within)) h.2)
       run_then (Start m) h = tt
       run_then (Stop m) h = tt
       run_then (Act r act) h = tt
@@ -304,10 +304,10 @@ module _ (names : Names) where
 
     -- ---- all rows, in the end
 
-    pub made_right : IsRight o → (r : ℕ) → r < length rows → AreRightActions (record { 0 = r }) (settings_at rows r) (λ k. get_or lists (first_at firsts r + k) [])
+    pub made_right : IsRight o → (r : ℕ) → r < length rows → BooksRightly (record { 0 = r }) (settings_at rows r) (λ k. get_or lists (first_at firsts r + k) [])
     made_right right r within = by (cases_lt (suc r) (length rows))
       where
-        by : (suc r < length rows) ⊎ (length rows ≤ suc r) → AreRightActions (record { 0 = r }) (settings_at rows r) (λ k. get_or lists (first_at firsts r + k) [])
+        by : (suc r < length rows) ⊎ (length rows ≤ suc r) → BooksRightly (record { 0 = r }) (settings_at rows r) (λ k. get_or lists (first_at firsts r + k) [])
         by (inl more) = (made.earlier r more).right
         by (inr no_more) = (last_made o made.last right made.done r (omega (arith, within, no_more))).right
 
@@ -325,7 +325,7 @@ module _ (names : Names) where
       ends = omega (arith, made.ends, count);
       opened = λ few. absurd (omega (arith, few));
       runs = All-weaker (λ b. IsRunOfNone begin (begin + list_count x.settings) lists b.target) (λ b. IsRunOfNone begin (begin + list_count x.settings) new b.target)
-          (λ b. run_kept n (Some x) rows firsts lists bindings made new (omega (arith, count)) (λ i within out all. subst (All IsOfNoBall) (sym (get_or-set_other lists at i more [] (apart i out))) all) b.target) bindings made.runs;
+          (λ b. run_kept n (Some x) rows firsts lists bindings made new (omega (arith, count)) (λ i within out all. subst (All BooksNothing) (sym (get_or-set_other lists at i more [] (apart i out))) all) b.target) bindings made.runs;
       earlier = earlier_kept n (Some x) rows firsts lists bindings made new (λ i before. get_or-set_other lists at i more [] (λ same. omega (arith, same, before)));
       done = λ j within. by j within (j == k) refl;
     }

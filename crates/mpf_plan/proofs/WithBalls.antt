@@ -24,11 +24,11 @@ use Rattle.plan_tables.specs.declared.entries.Target.TheVariants.{Run, Start, St
 use Rattle.plan_tables.specs.declared.table.Table.TheVariants.{Events, Switches}
 use Rattle.plan_contributions.specs.DeviceEntries.{Effect, posts, works, changes, enters, leaves, loses, arrives}
 use Rattle.plan_contributions.specs.Contributions.{Contribution, gives, reads, active, inactive, mode, mode_event, binds, does, device, does_in, listens, mentions, unknown, coil, under, plays, contributions_of}
-use Rattle.plan_contributions.specs.BallFacts.{BooksNothing, IsNoBallDevice, IsSwitchOf, IsRightRow, LastRow, with_switch, with_effect, last_after, IsRight, IfRow, IsOffBallsAt, IsFitting, AreFitting, row_settings, IsOffBalls, heard_after, IsHeardOnce, AreHeardOnce}
+use Rattle.plan_contributions.specs.BallFacts.{IsOfNoBall, IsRightRow, LastRow, with_switch, with_effect, last_after, IsRight, IfRow, IsOffBallsAt, IsFitting, AreFitting, row_settings, ActsOffBalls, heard_after, IsHeardOnce, AreHeardOnce}
 use Rattle.plan_contributions.specs.Facts.{effects_after, effects_in_after, full, IsRoomy, AreShort, IsPlaceOf, IsOfMachine}
 use Rattle.plan_contributions.proofs.RowFacts.{rows_are_short, rows_are_of_machine}
 use Rattle.plan_contributions.proofs.BallRows.{rows_are_fitting, acts_are_off_balls}
-use Rattle.mpf_plan.specs.Balls.{IsOfNoBall, IsTargetOfNoBall, AreOfTwoRows, AreApart, IsOwnerOf, BallDevicesAreOwn, IsRightWithBalls}
+use Rattle.plan_tables.specs.BallRows.{IsNoBallDevice, IsSwitchOf, BooksNothing, IsOffBalls, AreOfTwoRows, AreApart, IsOwnBallDevice, BallDevicesAreOwn, BookingsAreRight}
 use Rattle.mpf_plan.specs.Uses.{Names, names_from, number_among}
 use Rattle.mpf_plan.specs.PlanOf.{DraftView, event_of, action_of, last_row, target_at, next_binding, next_row, next_listener, heard_by, first_of_last, lists_for, with_one_more, condition_of, conditioned, with_contribution, named_switch, blank, drafted, plan_of, plan_at, owner_at, last_mode}
 use Rattle.mpf_plan.proofs.Among.{IsKnown, all_known}
@@ -42,7 +42,7 @@ use Rattle.mpf_plan.proofs.Steps.{All-changed}
 
 -- ---- what comes into the lists of a row
 
-low_nothing : (k : ℕ) (e : Effect) → 7 ≤ k → IsLow k e → BooksNothing e
+low_nothing : (k : ℕ) (e : Effect) → 7 ≤ k → IsLow k e → IsOfNoBall e
 low_nothing k (posts n) from low = tt
 low_nothing k (works n deed) from low = tt
 low_nothing k (changes v action n) from low = tt
@@ -51,37 +51,37 @@ low_nothing k leaves from low = absurd (omega (arith, from, low))
 low_nothing k loses from low = absurd (omega (arith, from, low))
 low_nothing k arrives from low = absurd (omega (arith, from, low))
 
-right_nothing : (place : Place) (settings : Settings) (done : ℕ → List Effect) → IsNoBallDevice settings → IsRightRow place settings done → (k : ℕ) → All BooksNothing (done k)
+right_nothing : (place : Place) (settings : Settings) (done : ℕ → List Effect) → IsNoBallDevice settings → IsRightRow place settings done → (k : ℕ) → All IsOfNoBall (done k)
 right_nothing place (kinds.BallDevice d) done none right = absurd none
 right_nothing place _ done none right = right
 
 -- what a row that is no ball device does so far has nothing to do with balls, where that fits what comes after it
-nothing_so_far : (cs : List Contribution) (x : LastRow) → IsNoBallDevice x.settings → AreFitting (Some x) cs → (k : ℕ) → All BooksNothing (x.done k)
+nothing_so_far : (cs : List Contribution) (x : LastRow) → IsNoBallDevice x.settings → AreFitting (Some x) cs → (k : ℕ) → All IsOfNoBall (x.done k)
 nothing_so_far [] x none fits k = right_nothing x.place x.settings x.done none fits k
 nothing_so_far (device place settings ∷ cs) x none fits k = right_nothing x.place x.settings x.done none fits.0 k
 nothing_so_far (does_in j e ∷ cs) x none fits k = by (k == j) (nothing_so_far cs (with_effect j e x) none fits.1 k)
   where
-    by : (b : Bool) → All BooksNothing (if b then x.done k ++ e ∷ [] else x.done k) → All BooksNothing (x.done k)
-    by true all = all_of_first BooksNothing (x.done k) (e ∷ []) all
+    by : (b : Bool) → All IsOfNoBall (if b then x.done k ++ e ∷ [] else x.done k) → All IsOfNoBall (x.done k)
+    by true all = all_of_first IsOfNoBall (x.done k) (e ∷ []) all
     by false all = all
 nothing_so_far (listens j n ∷ cs) x none fits k = nothing_so_far cs (with_switch x) none fits.1 k
 nothing_so_far (c ∷ cs) x none fits k = nothing_so_far cs x none fits.1 k
 
 -- an effect comes into a list of the row, or has nothing to do with balls
-part_of : (cs : List Contribution) (x : LastRow) (k : ℕ) (e : Effect) → IsLow k e → AreFitting (Some (with_effect k e x)) cs → (k < list_count x.settings) ⊎ BooksNothing e
+part_of : (cs : List Contribution) (x : LastRow) (k : ℕ) (e : Effect) → IsLow k e → AreFitting (Some (with_effect k e x)) cs → (k < list_count x.settings) ⊎ IsOfNoBall e
 part_of cs x k e low fits = by x.settings refl
   where
-    here : (b : Bool) → b ≡ true → All BooksNothing (if b then x.done k ++ e ∷ [] else x.done k) → BooksNothing e
-    here true is all = All-head BooksNothing e [] (all_of_second BooksNothing (x.done k) (e ∷ []) all)
+    here : (b : Bool) → b ≡ true → All IsOfNoBall (if b then x.done k ++ e ∷ [] else x.done k) → IsOfNoBall e
+    here true is all = All-head IsOfNoBall e [] (all_of_second IsOfNoBall (x.done k) (e ∷ []) all)
     here false is all = absurd (false_true is)
       where
         false_true : false ≡ true → ⊥
         false_true e = cc
 
-    by : (s : Settings) → x.settings ≡ s → (k < list_count x.settings) ⊎ BooksNothing e
+    by : (s : Settings) → x.settings ≡ s → (k < list_count x.settings) ⊎ IsOfNoBall e
     by (kinds.BallDevice d) same = seven (cases_lt k 7)
       where
-        seven : (k < 7) ⊎ (7 ≤ k) → (k < list_count x.settings) ⊎ BooksNothing e
+        seven : (k < 7) ⊎ (7 ≤ k) → (k < list_count x.settings) ⊎ IsOfNoBall e
         seven (inl below) = inl (omega (arith, below, ap list_count same))
         seven (inr from) = inr (low_nothing k e from low)
     by _ same = inr (here (k == k) (eq-eqb k k refl) (nothing_so_far cs (with_effect k e x) (subst IsNoBallDevice (sym same) tt) fits k))
@@ -169,7 +169,7 @@ module _ (names : Names) where
           ∙ last.1 in
           subst IsNoBallDevice (sym at) off
 
-      act_off : (rest : List DeviceRow) → final ≡ d.plan.rows ++ rest → (m : List ℕ) (place : Place) (aim : Aim) → IsOffBallsAt o aim → IsOffBalls (settings_of final) (binds m place aim) → IsActOfNone final (target_at d.plan aim)
+      act_off : (rest : List DeviceRow) → final ≡ d.plan.rows ++ rest → (m : List ℕ) (place : Place) (aim : Aim) → IsOffBallsAt o aim → ActsOffBalls (settings_of final) (binds m place aim) → IsActOfNone final (target_at d.plan aim)
       act_off rest all m place aims.Run at off = tt
       act_off rest all m place aims.Start at off = tt
       act_off rest all m place aims.Stop at off = tt
@@ -187,24 +187,24 @@ module _ (names : Names) where
           let none : List Action = [] in
           let lists = d.plan.lists ++ none ∷ [] in
           let begun = made_begun names n o d.plan.rows d.plan.row_lists d.plan.lists d.plan.bindings own.made in
-          made_bound names 0 o d.plan.rows d.plan.row_lists lists d.plan.bindings begun (next_binding d.plan (event_of (names Events) e) place aims.Run) (omega (arith, length_push d.plan.lists none), inr own.made.ends, subst (All IsOfNoBall) (sym (get_or_push d.plan.lists none [] (length d.plan.lists) refl)) (All-nil IsOfNoBall))
+          made_bound names 0 o d.plan.rows d.plan.row_lists lists d.plan.bindings begun (next_binding d.plan (event_of (names Events) e) place aims.Run) (omega (arith, length_push d.plan.lists none), inr own.made.ends, subst (All BooksNothing) (sym (get_or_push d.plan.lists none [] (length d.plan.lists) refl)) (All-nil BooksNothing))
       bound_made e place aims.Start = made_bound names n o d.plan.rows d.plan.row_lists d.plan.lists d.plan.bindings own.made (next_binding d.plan (event_of (names Events) e) place aims.Start) tt
       bound_made e place aims.Stop = made_bound names n o d.plan.rows d.plan.row_lists d.plan.lists d.plan.bindings own.made (next_binding d.plan (event_of (names Events) e) place aims.Stop) tt
       bound_made e place (aims.Do act) = made_bound names n o d.plan.rows d.plan.row_lists d.plan.lists d.plan.bindings own.made (next_binding d.plan (event_of (names Events) e) place (aims.Do act)) tt
       bound_made e place (aims.On r act) = made_bound names n o d.plan.rows d.plan.row_lists d.plan.lists d.plan.bindings own.made (next_binding d.plan (event_of (names Events) e) place (aims.On r act)) tt
 
       -- the lists of the row that came last, and those of none
-      does_made : (e : Effect) → IsRoomy n full (does e) → BooksNothing e → AreMade names (suc n) o d.plan.rows d.plan.row_lists (with_one_more (length d.plan.lists - 1) (action_of names (last_row d.plan) e) d.plan.lists) d.plan.bindings
+      does_made : (e : Effect) → IsRoomy n full (does e) → IsOfNoBall e → AreMade names (suc n) o d.plan.rows d.plan.row_lists (with_one_more (length d.plan.lists - 1) (action_of names (last_row d.plan) e) d.plan.lists) d.plan.bindings
       does_made e room none =
           let opened = own.made.opened room in
           made_outside names n o d.plan.rows d.plan.row_lists d.plan.lists d.plan.bindings own.made (suc n) (length d.plan.lists - 1) (action_of names (last_row d.plan) e) (omega (arith, opened)) (λ few. omega (arith, few)) (no_ball names (last_row d.plan) e none)
 
     -- an effect in a list of the row that came last
-    does_in_made : (n : ℕ) (x : LastRow) (plan : PlanView) (k : ℕ) (e : Effect) → (k < list_count x.settings) ⊎ BooksNothing e → AreMade names n (Some x) plan.rows plan.row_lists plan.lists plan.bindings
+    does_in_made : (n : ℕ) (x : LastRow) (plan : PlanView) (k : ℕ) (e : Effect) → (k < list_count x.settings) ⊎ IsOfNoBall e → AreMade names n (Some x) plan.rows plan.row_lists plan.lists plan.bindings
         → AreMade names 1024 (Some (with_effect k e x)) plan.rows plan.row_lists (with_one_more ((first_of_last plan.row_lists).0 + k) (action_of names (last_row plan) e) plan.lists) plan.bindings
     does_in_made n x plan k e part made = by (cases_lt k (list_count x.settings)) part
       where
-        by : (k < list_count x.settings) ⊎ (list_count x.settings ≤ k) → (k < list_count x.settings) ⊎ BooksNothing e
+        by : (k < list_count x.settings) ⊎ (list_count x.settings ≤ k) → (k < list_count x.settings) ⊎ IsOfNoBall e
             → AreMade names 1024 (Some (with_effect k e x)) plan.rows plan.row_lists (with_one_more ((first_of_last plan.row_lists).0 + k) (action_of names (last_row plan) e) plan.lists) plan.bindings
         by (inl below) part = made_inside names n x plan.rows plan.row_lists plan.lists plan.bindings made k e below
         by (inr from) (inl below) = absurd (omega (arith, from, below))
@@ -238,7 +238,7 @@ module _ (names : Names) where
         }
 
     module _ (Q : List ℕ → Type 0) (cs : List Contribution) (n : ℕ) (f : ℕ → ℕ) (o : Option LastRow) (ns : List (List ℕ)) (d : DraftView) (own : IsSoFar n o ns d.plan) (rest : List DeviceRow) (all : final ≡ d.plan.rows ++ rest) where
-      so_far_one : (c : Contribution) → IsRoomy n f c → AreFitting o (c ∷ cs) → IsHeardOnce ns c → IsOffBalls (settings_of final) c → IsKnown names c → IsReady Q c
+      so_far_one : (c : Contribution) → IsRoomy n f c → AreFitting o (c ∷ cs) → IsHeardOnce ns c → ActsOffBalls (settings_of final) c → IsKnown names c → IsReady Q c
           → IsSoFar (effects_after n c) (last_after o c) (heard_after ns c) (with_contribution names d c).plan
       so_far_one (gives t m) room fits once off known ready = subst (IsSoFar n o ns) (sym (given_plan t (number_among (names t) m) d)) own
       so_far_one (reads kind confirms) room fits once off known ready =
@@ -274,7 +274,7 @@ module _ (names : Names) where
 
     -- ---- all contributions
 
-    so_right : (n : ℕ) (o : Option LastRow) (ns : List (List ℕ)) (plan : PlanView) → IsRight o → plan.rows ≡ final → IsSoFar n o ns plan → IsRightWithBalls plan
+    so_right : (n : ℕ) (o : Option LastRow) (ns : List (List ℕ)) (plan : PlanView) → IsRight o → plan.rows ≡ final → IsSoFar n o ns plan → BookingsAreRight plan
     so_right n o ns plan right same own =
         let made = own.made in
         let listening = own.listening in
@@ -286,27 +286,27 @@ module _ (names : Names) where
           apart = subst (AllPairs AreApart) (sym (heard_flat plan.switches)) listening.apart;
         }
       where
-        by : (t : Target) → IsRunOfNone (first_of_last plan.row_lists).0 ((first_of_last plan.row_lists).0 + count_of o) plan.lists t → IsActOfNone final t → IsTargetOfNoBall plan t
+        by : (t : Target) → IsRunOfNone (first_of_last plan.row_lists).0 ((first_of_last plan.row_lists).0 + count_of o) plan.lists t → IsActOfNone final t → IsOffBalls plan t
         by (Run l) run act = run.2
         by (Start m) run act = tt
         by (Stop m) run act = tt
         by (Act r act_) run act = subst (λ rows. IsNoBallDevice (settings_at rows r.0)) (sym same) act
 
     so_far_fold : (Q : List ℕ → Type 0) (cs : List Contribution) (n : ℕ) (f : ℕ → ℕ) (o : Option LastRow) (ns : List (List ℕ)) (d : DraftView) → (fold (with_contribution names) d cs).plan.rows ≡ final
-        → AreShort n f cs → AreFitting o cs → AreHeardOnce ns cs → All (IsOffBalls (settings_of final)) cs → All (IsKnown names) cs → All (IsReady Q) cs → IsSoFar n o ns d.plan → IsRightWithBalls (fold (with_contribution names) d cs).plan
+        → AreShort n f cs → AreFitting o cs → AreHeardOnce ns cs → All (ActsOffBalls (settings_of final)) cs → All (IsKnown names) cs → All (IsReady Q) cs → IsSoFar n o ns d.plan → BookingsAreRight (fold (with_contribution names) d cs).plan
     so_far_fold Q [] n f o ns d made short fits once off known ready own = so_right n o ns d.plan fits made own
     so_far_fold Q (c ∷ cs) n f o ns d made short fits once off known ready own =
         let kept = rows_kept names (c ∷ cs) d in
         so_far_fold Q cs (effects_after n c) (effects_in_after f c) (last_after o c) (heard_after ns c) (with_contribution names d c) made short.1 fits.1 once.1
-        (All-tail (IsOffBalls (settings_of final)) c cs off) (All-tail (IsKnown names) c cs known) (All-tail (IsReady Q) c cs ready)
-        (so_far_one Q cs n f o ns d own kept.0 (sym made ∙ kept.1) c short.0 fits once.0 (All-head (IsOffBalls (settings_of final)) c cs off) (All-head (IsKnown names) c cs known) (All-head (IsReady Q) c cs ready))
+        (All-tail (ActsOffBalls (settings_of final)) c cs off) (All-tail (IsKnown names) c cs known) (All-tail (IsReady Q) c cs ready)
+        (so_far_one Q cs n f o ns d own kept.0 (sym made ∙ kept.1) c short.0 fits once.0 (All-head (ActsOffBalls (settings_of final)) c cs off) (All-head (IsKnown names) c cs known) (All-head (IsReady Q) c cs ready))
 
 -- what the plan of contributions does with balls is right
-pub right_drafted : (Q : List ℕ → Type 0) (names : Names) (cs : List Contribution) → AreShort 1024 full cs → AreFitting None cs → AreHeardOnce [] cs → All (IsOffBalls (row_settings cs)) cs → All (IsKnown names) cs → All (IsReady Q) cs
-    → IsRightWithBalls (drafted names cs).plan
+pub right_drafted : (Q : List ℕ → Type 0) (names : Names) (cs : List Contribution) → AreShort 1024 full cs → AreFitting None cs → AreHeardOnce [] cs → All (ActsOffBalls (row_settings cs)) cs → All (IsKnown names) cs → All (IsReady Q) cs
+    → BookingsAreRight (drafted names cs).plan
 right_drafted Q names cs short fits once off known ready =
     let final = (drafted names cs).plan.rows in
-    so_far_fold names final Q cs 1024 full None [] (blank names) refl short fits once (subst (λ s. All (IsOffBalls s) cs) (sym (settings_fold names cs (blank names))) off) known ready
+    so_far_fold names final Q cs 1024 full None [] (blank names) refl short fits once (subst (λ s. All (ActsOffBalls s) cs) (sym (settings_fold names cs (blank names))) off) known ready
     (record {
       made = made_none names;
       acts = All-nil (λ b. IsActOfNone final b.target);
@@ -316,7 +316,7 @@ right_drafted Q names cs short fits once off known ready =
 -- ---- the rows of ball devices are the machine's
 
 abbrev IsOwnRow : DeviceRow → Type 0
-IsOwnRow row = IsOwnerOf row.settings row.owner
+IsOwnRow row = IsOwnBallDevice row.settings row.owner
 
 module _ (names : Names) where
   own_row : (d : DraftView) (place : Place) (settings : Settings) → IsPlaceOf settings place → IsOwnRow (next_row d.plan place settings)
@@ -342,12 +342,12 @@ own-plan_of rows short = own_fold (names_from (contributions_of rows)) (contribu
 pub ball_devices_own-plan_at : (rows : Rows) → AreListsShort rows → (plan : PlanView) → plan_at rows ≡ Ok plan → BallDevicesAreOwn plan
 ball_devices_own-plan_at rows short plan is = subst BallDevicesAreOwn (sym (plan_at-Ok rows plan is).0) (own-plan_of rows short)
 
-right-plan_of : (rows : Rows) → AreListsShort rows → AreHeardOnce [] (contributions_of rows) → IsRightWithBalls (plan_of rows)
+right-plan_of : (rows : Rows) → AreListsShort rows → AreHeardOnce [] (contributions_of rows) → BookingsAreRight (plan_of rows)
 unfolding plan_of
 right-plan_of rows short once =
     let cs = contributions_of rows in
     right_drafted (IsNumberedIn (names_from cs Events)) (names_from cs) cs (rows_are_short rows short) (rows_are_fitting rows) once (acts_are_off_balls rows) (all_known cs) (rows_are_ready rows)
 
 -- what the plan does with balls is right, where no row listens twice to one switch
-pub right_with_balls-plan_at : (rows : Rows) → AreListsShort rows → AreHeardOnce [] (contributions_of rows) → (plan : PlanView) → plan_at rows ≡ Ok plan → IsRightWithBalls plan
-right_with_balls-plan_at rows short once plan is = subst IsRightWithBalls (sym (plan_at-Ok rows plan is).0) (right-plan_of rows short once)
+pub right_with_balls-plan_at : (rows : Rows) → AreListsShort rows → AreHeardOnce [] (contributions_of rows) → (plan : PlanView) → plan_at rows ≡ Ok plan → BookingsAreRight plan
+right_with_balls-plan_at rows short once plan is = subst BookingsAreRight (sym (plan_at-Ok rows plan is).0) (right-plan_of rows short once)

@@ -1,7 +1,6 @@
 pub mod Uses
 pub mod PlanOf
 pub mod ByName
-pub mod Balls
 -- scaffolding: what contracts of the functions inside this crate see
 pub mod Inside
 pub mod Numbering

@@ -34,7 +34,8 @@ use Rattle.plan_contributions.specs.CoilEntries.{defaults_called, own_pulse}
 use Rattle.plan_contributions.specs.DeviceEntries.{texts, Effect, posts, works, enters, leaves, loses, arrives}
 use Rattle.plan_contributions.specs.BallEntries.{is_entry, is_game, has_game, drains, ball_event, eject_pulse, ball_lists, target_of, ball_settings, ball_device_from}
 use Rattle.plan_contributions.specs.Contributions.{Contribution, binds, does, device, does_in, listens, mentions, under, Device, act_binding, effects_from, listens_from, device_contributions, game_contributions, alone_contributions, row_contributions, given_by, contributions_of}
-use Rattle.plan_contributions.specs.BallFacts.{BooksNothing, IsNoBallDevice, IsSwitchOf, IsRightRow, LastRow, last_after, IsRight, IsFitting, AreFitting, row_settings, IsTargetAmong, HasTarget, IsOffBalls, is_plays, DrainsIn, DrainsInGame, AllDrainInGame, AreHeardOnce}
+use Rattle.plan_tables.specs.BallRows.{IsNoBallDevice, IsSwitchOf}
+use Rattle.plan_contributions.specs.BallFacts.{IsOfNoBall, IsRightRow, LastRow, last_after, IsRight, IsFitting, AreFitting, row_settings, IsTargetAmong, HasTarget, ActsOffBalls, is_plays, DrainsIn, DrainsInGame, AllDrainInGame, AreHeardOnce}
 use Rattle.plan_contributions.specs.Doing.{IsBallDeviceDoing, IsMachineDoing, AreDoing}
 use Rattle.plan_contributions.proofs.Before.{each_before, all_before, under_before, All-bound, each_some}
 use Rattle.plan_contributions.proofs.RowFacts.{All-each, All-made, All-listens, All-lists, one, attempts, seven}
@@ -72,31 +73,31 @@ module _ (place : Place) (settings : Settings) (off : IsNoBallDevice settings) w
       by (kinds.BallDevice d) is = absurd is
       by _ is = tt
 
-  right_plain : (done : ℕ → List Effect) → ((k : ℕ) → All BooksNothing (done k)) → IsRightRow place settings done
+  right_plain : (done : ℕ → List Effect) → ((k : ℕ) → All IsOfNoBall (done k)) → IsRightRow place settings done
   right_plain done each = by settings off
     where
       by : (s : Settings) → IsNoBallDevice s → IsRightRow place s done
       by (kinds.BallDevice d) is = absurd is
       by _ is = each
 
-  more : (done : ℕ → List Effect) (e : Effect) (j : ℕ) → All BooksNothing (done j) → BooksNothing e → (b : Bool) → All BooksNothing (if b then done j ++ e ∷ [] else done j)
-  more done e j before is true = All-append BooksNothing (done j) (e ∷ []) before (All-cons BooksNothing e [] is (All-nil BooksNothing))
+  more : (done : ℕ → List Effect) (e : Effect) (j : ℕ) → All IsOfNoBall (done j) → IsOfNoBall e → (b : Bool) → All IsOfNoBall (if b then done j ++ e ∷ [] else done j)
+  more done e j before is true = All-append IsOfNoBall (done j) (e ∷ []) before (All-cons IsOfNoBall e [] is (All-nil IsOfNoBall))
   more done e j before is false = before
 
   -- lists that have nothing to do with balls
   abbrev AreIdle : (ℕ → List Effect) → Type 0
-  AreIdle done = (j : ℕ) → All BooksNothing (done j)
+  AreIdle done = (j : ℕ) → All IsOfNoBall (done j)
 
   fitting-list : (k heard : ℕ) (rest : List Contribution) → ((done : ℕ → List Effect) → AreIdle done → AreFitting (at place settings heard done) rest)
-      → (es : List Effect) (done : ℕ → List Effect) → AreIdle done → All BooksNothing es → AreFitting (at place settings heard done) (map (does_in k) es ++ rest)
+      → (es : List Effect) (done : ℕ → List Effect) → AreIdle done → All IsOfNoBall es → AreFitting (at place settings heard done) (map (does_in k) es ++ rest)
   fitting-list k heard rest then_ [] done idle own = then_ done idle
   fitting-list k heard rest then_ (e ∷ es) done idle own =
-      (tt, fitting-list k heard rest then_ es (λ j. if j == k then done j ++ e ∷ [] else done j) (λ j. more done e j (idle j) (All-head BooksNothing e es own) (j == k)) (All-tail BooksNothing e es own))
+      (tt, fitting-list k heard rest then_ es (λ j. if j == k then done j ++ e ∷ [] else done j) (λ j. more done e j (idle j) (All-head IsOfNoBall e es own) (j == k)) (All-tail IsOfNoBall e es own))
 
-  fitting-effects : (k heard : ℕ) (lists : List (List Effect)) (done : ℕ → List Effect) → AreIdle done → All (All BooksNothing) lists → AreFitting (at place settings heard done) (effects_from k lists)
+  fitting-effects : (k heard : ℕ) (lists : List (List Effect)) (done : ℕ → List Effect) → AreIdle done → All (All IsOfNoBall) lists → AreFitting (at place settings heard done) (effects_from k lists)
   fitting-effects k heard [] done idle h = right_plain done idle
   fitting-effects k heard (es ∷ rest) done idle h =
-      fitting-list k heard (effects_from (suc k) rest) (λ f own. fitting-effects (suc k) heard rest f own (All-tail (All BooksNothing) es rest h)) es done idle (All-head (All BooksNothing) es rest h)
+      fitting-list k heard (effects_from (suc k) rest) (λ f own. fitting-effects (suc k) heard rest f own (All-tail (All IsOfNoBall) es rest h)) es done idle (All-head (All IsOfNoBall) es rest h)
 
 fitting_device : (place : Place) (d : Device) → IsPlainDevice d → (o : Option LastRow) → IsRight o → AreFitting o (device_contributions place d)
 unfolding device_contributions
@@ -111,7 +112,7 @@ fitting_device place d plain o right =
         let Q = AreFitting (at place d.settings heard (λ k. [])) in
         all_before Q (act_binding place) (λ (x : Event × Act) cs h. (plain.settings, under_before Q (λ c ds k. (tt, k)) x.0.condition cs h)) d.handled (map (mentions Events) d.mentioned ++ effects_from 0 d.lists)
         (each_before Q (mentions Events) (λ n cs h. (tt, h)) d.mentioned (effects_from 0 d.lists)
-        (fitting-effects place d.settings plain.settings 0 heard d.lists (λ k. []) (λ k. All-nil BooksNothing) plain.lists))
+        (fitting-effects place d.settings plain.settings 0 heard d.lists (λ k. []) (λ k. All-nil IsOfNoBall) plain.lists))
 
 fitting_ball_device : (machine : List SectionRows) (d : BallDevice) (to : Destination) (o : Option LastRow) → IsRight o → AreFitting o (device_contributions Machine (ball_device_from machine d to))
 unfolding device_contributions
@@ -135,8 +136,8 @@ fitting_ball_device machine d to o right =
     failure : List ℕ
     failure = ball_event d.name.text (codes "_ball_eject_failed")
 
-    nothing : (n : List ℕ) → All BooksNothing (posts n ∷ [])
-    nothing n = All-cons BooksNothing (posts n) [] tt (All-nil BooksNothing)
+    nothing : (n : List ℕ) → All IsOfNoBall (posts n ∷ [])
+    nothing n = All-cons IsOfNoBall (posts n) [] tt (All-nil IsOfNoBall)
 
     lists : (heard : ℕ) (o : Option Written)
         → AreFitting (at Machine (ball_settings d to) heard (λ k. [])) (effects_from 0 ((enters enter (drains machine d) ∷ []) ∷ (posts attempted ∷ posts ejecting ∷ eject_pulse machine o) ∷ (leaves ∷ []) ∷ (loses ∷ []) ∷ (posts success ∷ []) ∷ (arrives ∷ []) ∷ (posts failure ∷ []) ∷ []))
@@ -162,7 +163,7 @@ fitting_ball_device machine d to o right =
                         event = enter;
                         drain = drains machine d;
                         entered = refl;
-                        attempted = All-cons BooksNothing (posts attempted) (posts ejecting ∷ []) tt (nothing ejecting);
+                        attempted = All-cons IsOfNoBall (posts attempted) (posts ejecting ∷ []) tt (nothing ejecting);
                         left = refl;
                         lost = refl;
                         succeeded = nothing success;
@@ -203,7 +204,7 @@ fitting_ball_device machine d to o right =
                               event = enter;
                               drain = drains machine d;
                               entered = refl;
-                              attempted = All-cons BooksNothing (posts attempted) (posts ejecting ∷ pulsed ∷ []) tt (All-cons BooksNothing (posts ejecting) (pulsed ∷ []) tt (All-cons BooksNothing pulsed [] tt (All-nil BooksNothing)));
+                              attempted = All-cons IsOfNoBall (posts attempted) (posts ejecting ∷ pulsed ∷ []) tt (All-cons IsOfNoBall (posts ejecting) (pulsed ∷ []) tt (All-cons IsOfNoBall pulsed [] tt (All-nil IsOfNoBall)));
                               left = refl;
                               lost = refl;
                               succeeded = nothing success;
@@ -336,7 +337,7 @@ module _ (rows : Rows) where
   -- ---- acts
 
   abbrev W : Contribution → Type 0
-  W c = IsOffBalls all_settings c
+  W c = ActsOffBalls all_settings c
 
   no_ball : (s : Settings) → is_ball s ≡ false → IsNoBallDevice s
   no_ball (kinds.BallDevice d) is = absurd (true≢false is)
@@ -361,7 +362,7 @@ module _ (rows : Rows) where
   off_device place d = device_each W (λ e. Unit {0}) place d tt (λ k n. tt) (acting_any W (λ e p act. tt) (λ c. tt) place) (λ n. tt) (λ k e m. tt) (any_lists d.lists)
 
   -- what acts on a row by its number acts on no ball device
-  pub acts_are_off_balls : All (IsOffBalls all_settings) (contributions_of rows)
+  pub acts_are_off_balls : All (ActsOffBalls all_settings) (contributions_of rows)
   acts_are_off_balls = each_kept rows W plain_off (λ place d is. off_device place d) (λ d to is. off_device Machine (ball_device_from rows.machine d to))
 
 -- ---- the game
@@ -414,7 +415,7 @@ module _ (rows : Rows) where
   plain_drain (does_in k e) is = absurd is
   plain_drain _ is = tt
 
-  no_drain : (e : Effect) → BooksNothing e → DrainsIn is_on e
+  no_drain : (e : Effect) → IsOfNoBall e → DrainsIn is_on e
   no_drain (enters e drain) is = absurd is
   no_drain _ is = tt
 
@@ -435,7 +436,7 @@ module _ (rows : Rows) where
   pub drains_are_in_games : AllDrainInGame (contributions_of rows)
   drains_are_in_games =
       each_kept rows V plain_drain
-      (λ place d is. drain_device place d (All-weaker (All BooksNothing) (All (DrainsIn is_on)) (λ es k. All-weaker BooksNothing (DrainsIn is_on) no_drain es k) d.lists is.lists))
+      (λ place d is. drain_device place d (All-weaker (All IsOfNoBall) (All (DrainsIn is_on)) (λ es k. All-weaker IsOfNoBall (DrainsIn is_on) no_drain es k) d.lists is.lists))
       (λ d to is. drain_device Machine (ball_device_from rows.machine d to) (ball_drains d))
 
 -- ---- each switch once

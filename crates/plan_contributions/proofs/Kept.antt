@@ -39,7 +39,8 @@ use Rattle.plan_contributions.specs.DeviceEntries.{posts, works, texts, events, 
 use Rattle.plan_contributions.specs.ShotEntries.{shot_acts, lone_device, group_device}
 use Rattle.plan_contributions.specs.BallEntries.{is_known, ball_device_from}
 use Rattle.plan_contributions.specs.Contributions.{Contribution, gives, reads, active, inactive, mode, mode_event, binds, does, device, does_in, listens, mentions, unknown, coil, under, plays, under_where, bound, kind_of, confirms, active_posts, inactive_posts, switch_contributions, player_contributions, coil_contributions, coil_player_contributions, item_contributions, variable_player_contributions, game_contributions, starter, stopper, stopper_where, later_events, controls, mode_contributions, Device, device_contributions, where_device, machine_device, unknown_unless, shot_switch, act_at, seated, shot_contributions, group_contributions, ball_device_contributions, machine_entry_contributions, entry_contributions, alone_contributions, player_entry_contributions, row_contributions, given_by, contributions_of}
-use Rattle.plan_contributions.specs.BallFacts.{BooksNothing, IsNoBallDevice}
+use Rattle.plan_tables.specs.BallRows.{IsNoBallDevice}
+use Rattle.plan_contributions.specs.BallFacts.{IsOfNoBall}
 use Rattle.plan_contributions.proofs.CoilFacts.{flips_on, flips_off}
 use Rattle.plan_contributions.proofs.ShotFacts.{posts_of_shot, posts_of_group}
 use Rattle.plan_contributions.proofs.RowFacts.{all_block, entry_such, sections_each}
@@ -66,7 +67,7 @@ module _ (kinds : List Bool) where
   IsPlain (device place settings) = ⊥
   IsPlain (does_in k e) = ⊥
   IsPlain (listens k n) = ⊥
-  IsPlain (does e) = BooksNothing e
+  IsPlain (does e) = IsOfNoBall e
   IsPlain (binds e place aim) = IsPlainAim aim
   IsPlain _ = Unit {0}
 
@@ -78,7 +79,7 @@ module _ (kinds : List Bool) where
 -- a device that is no ball device: it has nothing to do with balls, and has one switch at most
 pub record IsPlainDevice (d : Device) : Type 0 where
   pub settings : IsNoBallDevice d.settings
-  pub lists : All (All BooksNothing) d.lists
+  pub lists : All (All IsOfNoBall) d.lists
   pub listens : length d.listens ≤ 1
 
 -- What is kept where plain contributions, a plain device, or a ball device of which B holds come first.
@@ -96,20 +97,20 @@ IsSuch kinds B _ = Unit {0}
 -- ---- plain devices
 
 module _ (machine : List SectionRows) where
-  posts_nothing : (n : List ℕ) → BooksNothing (posts n)
+  posts_nothing : (n : List ℕ) → IsOfNoBall (posts n)
   posts_nothing n = tt
 
   plain_counter : (c : Counter) → IsPlainDevice (counter_device c)
-  plain_counter c = record { settings = tt; lists = all_block BooksNothing posts_nothing c.name.text c.block; listens = omega arith }
+  plain_counter c = record { settings = tt; lists = all_block IsOfNoBall posts_nothing c.name.text c.block; listens = omega arith }
 
   plain_steps : (settings : Settings) (b : StepBlock) → IsNoBallDevice settings → IsPlainDevice (step_device settings b)
-  plain_steps settings b is = record { settings = is; lists = all_block BooksNothing posts_nothing b.name.text b.block; listens = omega arith }
+  plain_steps settings b is = record { settings = is; lists = all_block IsOfNoBall posts_nothing b.name.text b.block; listens = omega arith }
 
   plain_timer : (t : Timer) → IsPlainDevice (timer_device t)
   plain_timer t = record {
     settings = tt;
-    lists = All-map (All BooksNothing) (λ ending. posts (timer_event t.name.text ending) ∷ []) timer_endings
-        (λ i d within. All-cons BooksNothing (posts (timer_event t.name.text (get_or timer_endings i d))) [] tt (All-nil BooksNothing));
+    lists = All-map (All IsOfNoBall) (λ ending. posts (timer_event t.name.text ending) ∷ []) timer_endings
+        (λ i d within. All-cons IsOfNoBall (posts (timer_event t.name.text (get_or timer_endings i d))) [] tt (All-nil IsOfNoBall));
     listens = omega arith;
   }
 
@@ -119,8 +120,8 @@ module _ (machine : List SectionRows) where
       let off = flipper_off machine f.main_coil f.hold_coil in
       record {
         settings = tt;
-        lists = All-cons (All BooksNothing) on (off ∷ []) (flips_on BooksNothing machine f.main_coil f.hold_coil tt tt (any f.hold_coil))
-            (All-cons (All BooksNothing) off [] (flips_off BooksNothing machine f.main_coil f.hold_coil tt (any f.hold_coil)) (All-nil (All BooksNothing)));
+        lists = All-cons (All IsOfNoBall) on (off ∷ []) (flips_on IsOfNoBall machine f.main_coil f.hold_coil tt tt (any f.hold_coil))
+            (All-cons (All IsOfNoBall) off [] (flips_off IsOfNoBall machine f.main_coil f.hold_coil tt (any f.hold_coil)) (All-nil (All IsOfNoBall)));
         listens = omega arith;
       }
     where
@@ -131,13 +132,13 @@ module _ (machine : List SectionRows) where
   plain_autofire : (a : Autofire) → IsPlainDevice (autofire_device machine a)
   plain_autofire a =
       let own = works a.coil.text (own_pulse (defaults_called machine a.coil.text)) in
-      record { settings = tt; lists = All-cons (All BooksNothing) (own ∷ []) [] (All-cons BooksNothing own [] tt (All-nil BooksNothing)) (All-nil (All BooksNothing)); listens = omega arith }
+      record { settings = tt; lists = All-cons (All IsOfNoBall) (own ∷ []) [] (All-cons IsOfNoBall own [] tt (All-nil IsOfNoBall)) (All-nil (All IsOfNoBall)); listens = omega arith }
 
   plain_lone : (p : Profile) (s : Shot) → IsPlainDevice (lone_device p s)
-  plain_lone p s = record { settings = tt; lists = posts_of_shot BooksNothing posts_nothing p s.name.text; listens = omega arith }
+  plain_lone p s = record { settings = tt; lists = posts_of_shot IsOfNoBall posts_nothing p s.name.text; listens = omega arith }
 
   plain_group : (g : ShotGroup) (m : Members) → IsPlainDevice (group_device g m)
-  plain_group g m = record { settings = tt; lists = posts_of_group BooksNothing posts_nothing m.profile g.name.text (texts g.shots); listens = omega arith }
+  plain_group g m = record { settings = tt; lists = posts_of_group IsOfNoBall posts_nothing m.profile g.name.text (texts g.shots); listens = omega arith }
 
   -- where there is one
   abbrev IsPlainWhere : Option Device → Type 0

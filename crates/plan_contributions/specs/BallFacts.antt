@@ -9,27 +9,19 @@ use Rattle.plan_rows.specs.declared.place.Place.TheVariants.{Machine}
 use Rattle.plan_tables.specs.declared.devices.Settings.{Settings}
 use Rattle.plan_tables.specs.declared.devices.Settings.TheVariants.{BallDevice}
 use Rattle.plan_tables.specs.Valid.{IsTargetThere}
+use Rattle.plan_tables.specs.BallRows.{IsNoBallDevice, IsSwitchOf}
 use Rattle.plan_contributions.specs.DeviceEntries.{Effect, enters, leaves, loses, arrives}
 use Rattle.plan_contributions.specs.Contributions.{Contribution, binds, does, device, does_in, listens, plays}
 
 -- ---- one row
 
 -- what has nothing to do with balls
-abbrev pub BooksNothing : Effect → Type 0
-BooksNothing (enters e drain) = ⊥
-BooksNothing leaves = ⊥
-BooksNothing loses = ⊥
-BooksNothing arrives = ⊥
-BooksNothing _ = Unit {0}
-
-abbrev pub IsNoBallDevice : Settings → Type 0
-IsNoBallDevice (BallDevice d) = ⊥
-IsNoBallDevice _ = Unit {0}
-
--- a ball switch is one that its device has
-abbrev pub IsSwitchOf : Settings → ℕ → Type 0
-IsSwitchOf (BallDevice d) k = k < d.switches
-IsSwitchOf _ k = Unit {0}
+abbrev pub IsOfNoBall : Effect → Type 0
+IsOfNoBall (enters e drain) = ⊥
+IsOfNoBall leaves = ⊥
+IsOfNoBall loses = ⊥
+IsOfNoBall arrives = ⊥
+IsOfNoBall _ = Unit {0}
 
 -- What the effect lists of a ball device do, by their numbers: a ball enters it in list 0, leaves it in list 2, is lost in
 -- list 3 and arrives in list 5. The other lists have nothing to do with balls.
@@ -37,17 +29,17 @@ pub record AreBallLists (done : ℕ → List Effect) : Type 0 where
   pub event : List ℕ
   pub drain : Bool
   pub entered : done 0 ≡ enters event drain ∷ []
-  pub attempted : All BooksNothing (done 1)
+  pub attempted : All IsOfNoBall (done 1)
   pub left : done 2 ≡ leaves ∷ []
   pub lost : done 3 ≡ loses ∷ []
-  pub succeeded : All BooksNothing (done 4)
+  pub succeeded : All IsOfNoBall (done 4)
   pub arrived : done 5 ≡ arrives ∷ []
-  pub failed : All BooksNothing (done 6)
+  pub failed : All IsOfNoBall (done 6)
 
 -- a row of this place and with these settings, whose effect lists do this
 abbrev pub IsRightRow : Place → Settings → (ℕ → List Effect) → Type 0
 IsRightRow place (BallDevice d) done = (place ≡ Machine) × AreBallLists done
-IsRightRow place settings done = (k : ℕ) → All BooksNothing (done k)
+IsRightRow place settings done = (k : ℕ) → All IsOfNoBall (done k)
 
 -- ---- the row that came last
 
@@ -99,7 +91,7 @@ IsOffBallsAt o _ = Unit {0}
 abbrev pub IsFitting : Option LastRow → Contribution → Type 0
 IsFitting o (device place settings) = IsRight o
 IsFitting o (does_in k e) = IfRow (λ r. Unit {0}) o
-IsFitting o (does e) = BooksNothing e
+IsFitting o (does e) = IsOfNoBall e
 IsFitting o (listens k n) = IfRow (IsNext k) o
 IsFitting o (binds e place aim) = IsOffBallsAt o aim
 IsFitting o _ = Unit {0}
@@ -129,9 +121,9 @@ HasTarget rows (device place settings) = IsTargetAmong rows settings
 HasTarget rows _ = Unit {0}
 
 -- what acts on a row by its number acts on no ball device
-abbrev pub IsOffBalls : List Settings → Contribution → Type 0
-IsOffBalls rows (binds e place (On r act)) = IfSome (slice_get rows r) IsNoBallDevice
-IsOffBalls rows _ = Unit {0}
+abbrev pub ActsOffBalls : List Settings → Contribution → Type 0
+ActsOffBalls rows (binds e place (On r act)) = IfSome (slice_get rows r) IsNoBallDevice
+ActsOffBalls rows _ = Unit {0}
 
 -- ---- the game
 

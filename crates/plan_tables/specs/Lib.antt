@@ -3,6 +3,7 @@ pub mod GameEvents
 pub mod PlanView
 pub mod Limits
 pub mod Valid
+pub mod BallRows
 -- what a plan's fields hold, of which no caller but the maker of plans speaks
 pub mod NamesKept
 pub mod Inside

@@ -3,3 +3,4 @@ pub mod NextDue
 pub mod DueMoments
 pub mod Following
 pub mod Lists
+pub mod Reading

@@ -37,7 +37,7 @@ use Rattle.device_objects.specs.DeviceStep.{device_step}
 use Rattle.device_objects.specs.Laws.{HasBallShape}
 use Rattle.device_objects.proofs.BallShapes.{ball_step-shape}
 use Rattle.player_game.specs.GameStep.{is_ball_on}
-use Rattle.written_machine.specs.BallRows.{BooksNothing, actions_in, IsBallRow, BooksRightly, BookingsAreRight}
+use Rattle.plan_tables.specs.BallRows.{BooksNothing, actions_in, BooksBalls, BooksRightly, BookingsAreRight}
 use Rattle.written_machine.specs.Machine.{Machine, post, set_device, all_do, book, drain_if, after_entry, do_action_by, do_list_by, world_of, device_at, do_answer_by, call_device_by, is_device_away, first_away, no_confirm, confirm_of, confirm_first_away, confirm_entry, call_device}
 use Rattle.written_machine.proofs.BallSteps.{balls_in, IsQuiet, AreQuiet, Answer, nothing, enters, leaves, loses, arrives, IsAnswer, IsUsual, step-answer, confirm-answer, step-confirmed}
 use Rattle.written_machine.proofs.BallFeeders.{Found, find-found, row-counts}
@@ -52,8 +52,8 @@ module _ (plan : PlanView) (valid : IsValid plan) (right : BookingsAreRight plan
   -- ---- a ball device, and what it is called
 
   module _ (r : RowId) (d : BallSettings) (within : r.0 < length plan.rows) (is : (row_at plan r).settings ≡ kinds.BallDevice d) where
-    ball_row : IsBallRow plan r
-    ball_row = subst (BooksRightly plan r) is (right.rows r within)
+    ball_row : BooksBalls r (actions_in plan r)
+    ball_row = subst (λ (settings : Settings). BooksRightly r settings (actions_in plan r)) is (right.rows r within)
 
     target_is : target_of plan r ≡ d.target
     target_is = ap (λ (settings : Settings). unwrap_or (target_in settings) Playfield) is

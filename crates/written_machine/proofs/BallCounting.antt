@@ -15,7 +15,7 @@ use Rattle.ball_devices.proofs.Booked.{one}
 use Rattle.cascade_rank.specs.Cost.{switches_of}
 use Rattle.device_objects.specs.declared.state.BallSwitch.{BallSwitch}
 use Rattle.device_objects.specs.BallDevice.{empty}
-use Rattle.written_machine.specs.BallRows.{AreApart, AreOfTwoRows}
+use Rattle.plan_tables.specs.BallRows.{AreApart, AreOfTwoRows}
 use Rattle.written_machine.specs.Counted.{ball_switches}
 use Rattle.written_machine.proofs.BallFeeders.{filter-count}
 

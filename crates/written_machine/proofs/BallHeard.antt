@@ -32,13 +32,18 @@ use Rattle.device_objects.specs.DeviceStep as devices
 use Rattle.device_objects.proofs.BallMoments.{ball-parts_none, ball-parts_first}
 use Rattle.switch_core.specs.declared.change.Change.{Change as Acceptance}
 use Rattle.switch_core.specs.SwitchStep.{SwitchState, changed, accepted, awaited, is_taken, same_level}
-use Rattle.switch_core.specs.Switches.{SwitchesView, no_kind, kind_at, state_at, due_of, after_change, accept, reported}
+use Rattle.switch_core.specs.SwitchStep as switch_steps
+use Rattle.switch_core.specs.Switches.{SwitchesView, no_kind, kind_at, state_at, active_at, due_of, after_change, accept, reported}
+use Rattle.switch_core.proofs.Lists as switch_lists
+use Rattle.switch_core.proofs.Reading.{AreRead, idle-all_read, idle-inactive, active-other, change-read, accept-read, change-other_level, accept-other_level, change-same_levels}
 use Rattle.switch_core.proofs.DueMoments.{due-set, idle-kind, idle-nothing_due, changes_arm_later, accept-due, accept-done}
 use Rattle.written_machine.specs.declared.line.Happening.TheVariants as lines
 use Rattle.written_machine.specs.declared.line.Line.{Line}
-use Rattle.written_machine.specs.BallRows.{AreOfTwoRows, BookingsAreRight, IsSwitchOf}
-use Rattle.written_machine.specs.Counted.{LevelChange, change_at, changes_of, ball_switches, is_counted}
+use Rattle.plan_tables.specs.BallRows.{AreOfTwoRows, BookingsAreRight, IsSwitchOf}
+use Rattle.written_machine.specs.SwitchLines.{LevelChange, change_at, changes_of, LeadTo}
+use Rattle.written_machine.specs.Counted.{ball_switches, is_counted}
 use Rattle.written_machine.specs.EventStep.{EventStep}
+use Rattle.written_machine.specs.Devices.{ActsAreOwn}
 use Rattle.written_machine.specs.Machine.{Machine, initial, write, set_switches, set_device, world_of, device_at, called, confirm_entry, tell_listeners, do_accepted, do_if_accepted, call_device}
 use Rattle.written_machine.specs.Run.{Source, switch, device, source_due, IsNoAlarmDueBy, IsNothingLate, Stimulus, Change, Alarm, Wait, IsAllowed, arrived, begin, InEveryRun}
 use Rattle.written_machine.proofs.Does.{HasStates}
@@ -121,6 +126,12 @@ module _ (d : BallSettings) (quick : Bool) (moment later : ℕ) (after : moment 
       in_time true of_q of_n fresh = (let early = h.early in omega (arith, early, after), of_q refl)
       in_time false of_q of_n fresh = (fresh refl later (of_n refl).0, (of_n refl).1)
 
+-- one change more
+leads-on : (before : Bool) (cs : List LevelChange) (level : Bool) (c : LevelChange) (now : Bool) → LeadTo before cs level → c.active ≡ not level → now ≡ c.active
+    → LeadTo before (cs ++ c ∷ []) now
+leads-on before [] level c now h other is = (other ∙ ap not h, is)
+leads-on before (b ∷ cs) level c now h other is = (h.0, leads-on b.active cs level c now h.1 other is)
+
 none-from : (o : Option ℕ) → ((at : ℕ) → o ≡ Some at → ⊥) → o ≡ None
 none-from None h = refl
 none-from (Some at) h = absurd (h at refl)
@@ -141,19 +152,27 @@ module _ (plan : PlanView) where
     pub unheard : (r : RowId) (d : BallSettings) (i : ℕ) → (row_at plan r).settings ≡ kinds.BallDevice d → is_heard r i all_listeners ≡ false
         → ball_switch s r i ≡ empty
     pub quick : (n : SwitchId) → quick_at n ≡ true → due_of s.switches n ≡ None
+    -- the lines of a switch are the changes of its level
+    pub changes : (n : SwitchId) → LeadTo false (changes_of n ls) (active_at s.switches n)
+    pub reads : AreRead s.switches
 
   -- where no ball switch and no change is new
   on-heard : (ls ms : List Line) (s t : Machine) → s.moment ≤ t.moment
       → ((n : SwitchId) (at : ℕ) → due_of t.switches n ≡ Some at → (due_of s.switches n ≡ Some at) ⊎ (t.moment < at))
       → ((n : SwitchId) → quick_at n ≡ true → due_of t.switches n ≡ None)
       → ((r : RowId) (d : BallSettings) → (row_at plan r).settings ≡ kinds.BallDevice d → switches_at t r ≡ switches_at s r)
-      → ((n : SwitchId) → changes_of n ms ≡ changes_of n ls) → AreHeard ls s → AreHeard ms t
-  on-heard ls ms s t after dues quick same changes h = record {
+      → ((n : SwitchId) → changes_of n ms ≡ changes_of n ls) → ((n : SwitchId) → active_at t.switches n ≡ active_at s.switches n) → AreRead t.switches
+      → AreHeard ls s → AreHeard ms t
+  on-heard ls ms s t after dues quick same changes levels reads h = record {
     heard = λ n r d i is told.
         heard-on d (quick_at n) s.moment t.moment after (due_of s.switches n) (ball_switch s r i) (changes_of n ls) (h.heard n r d i is told)
         (due_of t.switches n) (ball_switch t r i) (changes_of n ms) (dues n) (ap (λ (bs : List BallSwitch). get_or bs i empty) (same r d is)) (changes n);
     unheard = λ r d i is none. ap (λ (bs : List BallSwitch). get_or bs i empty) (same r d is) ∙ h.unheard r d i is none;
     quick = quick;
+    changes = λ n.
+        subst (LeadTo false (changes_of n ms)) (sym (levels n))
+        (subst (λ (cs : List LevelChange). LeadTo false cs (active_at s.switches n)) (sym (changes n)) (h.changes n));
+    reads = reads;
   }
 
   changes-after : (before ls ms : List Line) (n : SwitchId) → changes_of n ls ≡ changes_of n ms → changes_of n (before ++ ls) ≡ changes_of n (before ++ ms)
@@ -166,7 +185,8 @@ module _ (plan : PlanView) where
       on-heard (before ++ s.lines) (before ++ t.lines) s t (let same = steady.moment in omega (arith, same))
       (λ n at is. inl (ap (λ (v : SwitchesView). due_of v n) (sym switches) ∙ is))
       (λ n is. ap (λ (v : SwitchesView). due_of v n) switches ∙ h.quick n is)
-      steady.switches (λ n. changes-after before t.lines s.lines n (steady.changes n)) h
+      steady.switches (λ n. changes-after before t.lines s.lines n (steady.changes n)) (λ n. ap (λ (v : SwitchesView). active_at v n) switches)
+      (subst AreRead (sym switches) h.reads) h
 
   -- ---- what is due of a ball switch is due of its device
 
@@ -219,9 +239,11 @@ module _ (plan : PlanView) where
     };
     unheard = λ r d i is none. first-switch r d i is;
     quick = λ n is. idle-nothing_due plan n;
+    changes = idle-inactive plan;
+    reads = idle-all_read plan;
   }
 
-  module _ (valid : IsValid plan) (right : BookingsAreRight plan) where
+  module _ (valid : IsValid plan) (own : ActsAreOwn plan) (right : BookingsAreRight plan) where
     -- what holds between stimuli and event steps
     pub record IsFollowed (before : List Line) (s : Machine) : Type 0 where
       pub heard : AreHeard (before ++ s.lines) s
@@ -232,16 +254,16 @@ module _ (plan : PlanView) where
     step-followed : (before : List Line) (s t : Machine) → EventStep plan s t → IsFollowed before s → IsFollowed before t
     step-followed before s t st h = record {
       heard =
-          let steady = subst (IsSteady plan s) (sym st.new_is) (plays-steady plan {may = IsRequest} request-keeping (event-plays plan valid.entries right IsRequest tt st.first st.rest st.order s st.in_order)) in
+          let steady = subst (IsSteady plan s) (sym st.new_is) (plays-steady plan {may = IsRequest} request-keeping (event-plays plan valid.entries own right IsRequest tt st.first st.rest st.order s st.in_order)) in
           steady-heard before s t steady (switches-steps plan 1 s t (t, st, refl)) h.heard;
-      calm = step-calm plan valid right s t st h.calm;
+      calm = step-calm plan valid own right s t st h.calm;
       states = has_states-step plan s t st h.states;
       late = not_late-steps plan valid 1 s t (t, st, refl) h.late;
     }
 
     -- ---- an acceptance
 
-    all_listen : (active : Bool) (n : SwitchId) → All (IsListener plan valid right active) (listeners_of plan n)
+    all_listen : (active : Bool) (n : SwitchId) → All (IsListener plan valid own right active) (listeners_of plan n)
     all_listen active n =
         elim (cases_lt n.0 (length plan.switches)) [
           | inl there ↦
@@ -249,7 +271,7 @@ module _ (plan : PlanView) where
               let its = All-get_or (λ s. All (λ l. IsSwitchOf (row_at plan l.row).settings l.switch) s.listeners) plan.switches n.0 no_switch there right.switches in
               (λ k e within. record { within = inside k e within; its = its k e within })
           | inr past ↦
-              subst (λ (s : PlanSwitch). All (IsListener plan valid right active) s.listeners) (sym (get_or_past plan.switches n.0 no_switch past)) (λ k e within. absurd (omega arith))
+              subst (λ (s : PlanSwitch). All (IsListener plan valid own right active) s.listeners) (sym (get_or_past plan.switches n.0 no_switch past)) (λ k e within. absurd (omega arith))
         ]
 
     -- who listens for a ball switch, if the ball switch is another switch's
@@ -271,7 +293,9 @@ module _ (plan : PlanView) where
         (later : s.moment ≤ at) (dues : (m : SwitchId) (t : ℕ) → due_of v m ≡ Some t → (due_of s.switches m ≡ Some t) ⊎ (at < t)) (done : due_of v n ≡ None)
         (quick : (m : SwitchId) → quick_at m ≡ true → due_of v m ≡ None)
         (of_quick : quick_at n ≡ true → (source : Source) (t : ℕ) → source_due s source ≡ Some t → at < t)
-        (of_normal : quick_at n ≡ false → (due_of s.switches n ≡ Some at) × ((source : Source) (t : ℕ) → source_due s source ≡ Some t → at ≤ t)) where
+        (of_normal : quick_at n ≡ false → (due_of s.switches n ≡ Some at) × ((source : Source) (t : ℕ) → source_due s source ≡ Some t → at ≤ t))
+        (its : active_at v n ≡ active) (turns : active_at v n ≡ not (active_at s.switches n))
+        (others : (m : SwitchId) → (m.0 ≡ n.0 → ⊥) → active_at v m ≡ active_at s.switches m) (reads : AreRead v) where
       abbrev acceptance : Acceptance
       acceptance = record { switch = n; active = active }
 
@@ -281,15 +305,15 @@ module _ (plan : PlanView) where
       written-calm : IsCalm plan no_lag (write owners.Machine (lines.Switch n active) (set_switches v (arrived at s)))
       written-calm = calm-other plan s (write owners.Machine (lines.Switch n active) (set_switches v (arrived at s))) refl refl (λ r d is. refl) calm
 
-      told : IsNotedBy plan valid right active (listeners_of plan n) (write owners.Machine (lines.Switch n active) (set_switches v (arrived at s)))
+      told : IsNotedBy plan valid own right active (listeners_of plan n) (write owners.Machine (lines.Switch n active) (set_switches v (arrived at s)))
           (tell_listeners plan acceptance (write owners.Machine (lines.Switch n active) (set_switches v (arrived at s))))
-      told = listeners-noted plan valid right active (listeners_of plan n) (all_listen active n) written written-calm
+      told = listeners-noted plan valid own right active (listeners_of plan n) (all_listen active n) written written-calm
 
       abbrev finished : Machine
       finished = do_accepted plan acceptance (set_switches v (arrived at s))
 
       rest : IsSteady plan (tell_listeners plan acceptance written) finished
-      rest = plays-steady plan {may = IsRequest} request-keeping (accepted-plays plan valid.entries right IsRequest acceptance (tell_listeners plan acceptance written))
+      rest = plays-steady plan {may = IsRequest} request-keeping (accepted-plays plan valid.entries own right IsRequest acceptance (tell_listeners plan acceptance written))
 
       final_moment : finished.moment ≡ at
       final_moment = rest.moment ∙ told.moment
@@ -312,8 +336,26 @@ module _ (plan : PlanView) where
             final_switch r d i is
             ∙ (ap (λ (b : Bool). cond b (noted d active at (ball_switch s r i)) (ball_switch s r i)) (never_heard r i n none) ∙ h.unheard r d i is none);
         quick = λ m is. ap (λ (w : SwitchesView). due_of w m) switches ∙ quick m is;
+        changes = λ m. subst (λ (w : SwitchesView). LeadTo false (changes_of m (ls ++ finished.lines)) (active_at w m)) (sym switches) (led m);
+        reads = subst AreRead (sym switches) reads;
       }
         where
+          led : (m : SwitchId) → LeadTo false (changes_of m (ls ++ finished.lines)) (active_at v m)
+          led m =
+              elim (cases_eq m.0 n.0) [
+                | inl same ↦
+                    let id : n ≡ m = ap (λ (k : ℕ). record { 0 = k }) (sym same) in
+                    subst (λ (k : SwitchId). LeadTo false (changes_of k (ls ++ finished.lines)) (active_at v k)) id
+                    (subst (λ (cs : List LevelChange). LeadTo false cs (active_at v n))
+                    (sym (final_changes n ∙ ap (λ (b : Bool). changes_of n ls ++ (cond b (record { at = at; active = active } ∷ []) [] ++ [])) (eq-eqb n.0 n.0 refl)))
+                    (leads-on false (changes_of n ls) (active_at s.switches n) (record { at = at; active = active }) (active_at v n) (h.changes n) (sym its ∙ turns) its))
+                | inr other ↦
+                    subst (λ (cs : List LevelChange). LeadTo false cs (active_at v m))
+                    (sym (final_changes m
+                    ∙ (ap (λ (b : Bool). changes_of m ls ++ (cond b (record { at = at; active = active } ∷ []) [] ++ [])) (ne_eqb n.0 m.0 (λ same. other (sym same))) ∙ append-nil (changes_of m ls))))
+                    (subst (LeadTo false (changes_of m ls)) (sym (others m other)) (h.changes m))
+              ]
+
           one : (m : SwitchId) (r : RowId) (d : BallSettings) (i : ℕ) → (row_at plan r).settings ≡ kinds.BallDevice d → is_heard r i (listeners_of plan m) ≡ true
               → IsHeard d (quick_at m) at (due_of v m) (ball_switch finished r i) (changes_of m (ls ++ finished.lines))
           one m r d i is its =
@@ -390,13 +432,13 @@ module _ (plan : PlanView) where
           elim (cases_eq q.0 r.0) [
             | inl same ↦
                 let row : r ≡ q = ap (λ (k : ℕ). record { 0 = k }) (sym same) in
-                subst (λ (k : RowId). (ball_switch after_alarm k i ≡ ball_switch s k i) ⊎ (((ball_switch s k i).due ≡ Some at) × (ball_switch after_alarm k i ≡ turned (ball_switch s k i)))) row (own all_fired)
+                subst (λ (k : RowId). (ball_switch after_alarm k i ≡ ball_switch s k i) ⊎ (((ball_switch s k i).due ≡ Some at) × (ball_switch after_alarm k i ≡ turned (ball_switch s k i)))) row (itself all_fired)
             | inr other ↦ inl (ap (λ (bs : List BallSwitch). get_or bs i empty) (there q e of other))
           ]
         where
-          own : IsFired ball at fired → (ball_switch after_alarm r i ≡ ball_switch s r i) ⊎ (((ball_switch s r i).due ≡ Some at) × (ball_switch after_alarm r i ≡ turned (ball_switch s r i)))
-          own (inl all_same) = inl (ap (λ (bs : List BallSwitch). get_or bs i empty) (here ∙ all_same) ∙ was i)
-          own (inr turn) =
+          itself : IsFired ball at fired → (ball_switch after_alarm r i ≡ ball_switch s r i) ⊎ (((ball_switch s r i).due ≡ Some at) × (ball_switch after_alarm r i ≡ turned (ball_switch s r i)))
+          itself (inl all_same) = inl (ap (λ (bs : List BallSwitch). get_or bs i empty) (here ∙ all_same) ∙ was i)
+          itself (inr turn) =
               let read : ball_switch after_alarm r i ≡ get_or (slice_set ball.switches turn.place (turned (get_or ball.switches turn.place empty))) i empty =
               ap (λ (bs : List BallSwitch). get_or bs i empty) (here ∙ turn.switches) in
               elim (cases_eq i turn.place) [
@@ -443,6 +485,10 @@ module _ (plan : PlanView) where
               | inr turn ↦ absurd (none-some at (sym (ap (λ (b : BallSwitch). b.due) (h.unheard q e i of none)) ∙ turn.0))
             ];
         quick = λ n fast. ap (λ (w : SwitchesView). due_of w n) switches ∙ h.quick n fast;
+        changes = λ n.
+            subst (λ (w : SwitchesView). LeadTo false (changes_of n (ls ++ after_alarm.lines)) (active_at w n)) (sym switches)
+            (subst (λ (cs : List LevelChange). LeadTo false cs (active_at s.switches n)) (sym (fired_changes n)) (h.changes n));
+        reads = subst AreRead (sym switches) h.reads;
       }
 
     -- ---- a stimulus
@@ -472,7 +518,7 @@ module _ (plan : PlanView) where
         → AreHeard ((before ++ s.lines) ++ (begin plan stimulus s).lines) (begin plan stimulus s)
     begin-heard before (Wait at) s allowed h =
         let ls = before ++ s.lines in
-        on-heard ls (ls ++ []) s (arrived at s) allowed.forward (λ n t is. inl is) h.heard.quick (λ r d is. refl) (λ n. ap (changes_of n) (append-nil ls)) h.heard
+        on-heard ls (ls ++ []) s (arrived at s) allowed.forward (λ n t is. inl is) h.heard.quick (λ r d is. refl) (λ n. ap (changes_of n) (append-nil ls)) (λ n. refl) h.heard.reads h.heard
     begin-heard before (Alarm at (device r)) s allowed h =
         let ls = before ++ s.lines in
         let later = forward plan valid (Alarm at (device r)) s h.late allowed in
@@ -482,7 +528,7 @@ module _ (plan : PlanView) where
               fired-heard ls s r is.0 at h.heard h.calm is.1 later allowed.0.due
               (λ n t due. elim (allowed.0.least (switch n) t due) [ inl past ↦ past | inr never ↦ absurd never.1 ]) still
           | inr not ↦
-              let other = call-other plan valid.entries right (confirm_entry plan) calls.Fire r (arrived at s) (due-within plan valid right s r at h.calm allowed.0.due) not in
+              let other = call-other plan valid.entries own right (confirm_entry plan) calls.Fire r (arrived at s) (due-within plan valid own right s r at h.calm allowed.0.due) not in
               let steady = other-steady plan other in
               let now = other.moment in
               on-heard ls (ls ++ (begin plan (Alarm at (device r)) s).lines) s (begin plan (Alarm at (device r)) s) (omega (arith, later, now))
@@ -490,7 +536,8 @@ module _ (plan : PlanView) where
               (λ n fast. ap (λ (v : SwitchesView). due_of v n) still ∙ h.heard.quick n fast)
               steady.switches
               (λ n. flat_map-append (λ l. change_at n l.moment l.happening) ls (begin plan (Alarm at (device r)) s).lines
-              ∙ (ap (λ xs. changes_of n ls ++ xs) (other.changes n) ∙ append-nil (changes_of n ls))) h.heard
+              ∙ (ap (λ xs. changes_of n ls ++ xs) (other.changes n) ∙ append-nil (changes_of n ls)))
+              (λ n. ap (λ (v : SwitchesView). active_at v n) still) (subst AreRead (sym still) h.heard.reads) h.heard
         ]
     begin-heard before (Alarm at (switch n)) s allowed h =
         let ls = before ++ s.lines in
@@ -500,6 +547,8 @@ module _ (plan : PlanView) where
         (λ m fast. none-from (due_of v m) (λ t due. none-some t (sym (h.heard.quick m fast) ∙ accept-due n s.switches m t due)))
         (λ fast. absurd (none-some at (sym (h.heard.quick n fast) ∙ allowed.0.due)))
         (λ normal. (allowed.0.due, λ source t due. allowed-first plan valid (Alarm at (switch n)) s allowed source t due))
+        refl (accept-other_level s.switches n at h.heard.reads (switch_lists.due-within s.switches n at allowed.0.due) allowed.0.due)
+        (active-other s.switches n (switch_steps.fired (kind_at s.switches n) (state_at s.switches n))) (accept-read s.switches n h.heard.reads)
         (switches-begin plan (Alarm at (switch n)) s)
     begin-heard before (Change at n level) s allowed h = by (is_taken (kind_at s.switches n) level (state_at s.switches n)) refl (switches-begin plan (Change at n level) s)
       where
@@ -517,12 +566,14 @@ module _ (plan : PlanView) where
             → AreHeard (ls ++ (do_if_accepted plan (if taken then Some (reported v n) else None) u).lines) (do_if_accepted plan (if taken then Some (reported v n) else None) u)
         by false is switches =
             on-heard ls (ls ++ []) s u allowed.0.forward (λ m t due. changes_arm_later n level at s.switches m t due) (quick-after s h.states h.heard.quick n level at)
-            (λ r d ball. refl) (λ m. ap (changes_of m) (append-nil ls)) h.heard
+            (λ r d ball. refl) (λ m. ap (changes_of m) (append-nil ls)) (change-same_levels s.switches n level at is) (change-read s.switches n level at h.heard.reads) h.heard
         by true is switches =
             let fast : quick_at n ≡ true = ap (λ (k : SwitchKind). k.quick) (sym (kind-is s h.states n)) ∙ (and_parts (kind_at s.switches n).quick _ is).0 in
             accepted-heard ls s v n (reported v n).active at h.heard h.calm allowed.0.forward (λ m t due. changes_arm_later n level at s.switches m t due)
             (quick-after s h.states h.heard.quick n level at n fast) (quick-after s h.states h.heard.quick n level at)
-            (λ yes source t due. allowed.0.quiet source t due) (λ normal. absurd (true≢false (sym fast ∙ normal))) switches
+            (λ yes source t due. allowed.0.quiet source t due) (λ normal. absurd (true≢false (sym fast ∙ normal)))
+            refl (change-other_level s.switches n level at h.heard.reads (let states = h.states.switches in omega (arith, allowed.1, states)) is)
+            (active-other s.switches n (changed (kind_at s.switches n) at level (state_at s.switches n))) (change-read s.switches n level at h.heard.reads) switches
 
     -- ---- every run
 
@@ -530,7 +581,7 @@ module _ (plan : PlanView) where
         → IsFollowed (before ++ s.lines) (begin plan stimulus s)
     begin-followed before stimulus s allowed empty_queue h = record {
       heard = begin-heard before stimulus s allowed h;
-      calm = begin-calm plan valid right stimulus s allowed h.calm;
+      calm = begin-calm plan valid own right stimulus s allowed h.calm;
       states = has_states-begin plan stimulus s h.states;
       late = not_late-begin plan valid stimulus s (allowed-first plan valid stimulus s allowed);
     }
@@ -563,6 +614,12 @@ module _ (plan : PlanView) where
           | inr past ↦
               subst (λ (s : PlanSwitch). AllPairs AreOfTwoRows s.listeners) (sym (get_or_past plan.switches n.0 no_switch past)) (λ i j e before within. absurd (omega arith))
         ]
+
+    pub changes-run : InEveryRun plan (λ stimuli trace s. (n : SwitchId) → n.0 < length plan.switches → LeadTo false (changes_of n trace) (active_at s.switches n))
+    changes-run stimuli trace s run n within =
+        let end = run-keeps plan IsFollowed step-followed begin-followed [] stimuli (initial plan) trace s run
+        (record { heard = initial-heard; calm = calm-initial plan; states = has_states-initial plan; late = not_late-initial plan valid }) in
+        (subst (λ (ls : List Line). AreHeard ls s) end.2 end.1.heard).changes n
 
     pub counted-run : InEveryRun plan (λ stimuli trace s.
         (at : ℕ) → s.moment ≤ at → IsNoAlarmDueBy s at → (r : RowId) (d : BallSettings) → r.0 < length plan.rows →

@@ -7,7 +7,8 @@ use Rattle.std.proofs.lemmas.List.Folds.{list_all-append}
 use Rattle.plan_tables.specs.declared.devices.BallSettings.{BallSettings}
 use Rattle.device_objects.specs.declared.state.BallSwitch.{BallSwitch}
 use Rattle.device_objects.specs.BallDevice.{delay, empty, noted, turned}
-use Rattle.written_machine.specs.Counted.{LevelChange, counts_from, is_late, standing, level_after, counted_level}
+use Rattle.written_machine.specs.SwitchLines.{LevelChange}
+use Rattle.written_machine.specs.Counted.{counts_from, is_late, standing, level_after, counted_level}
 
 -- ---- one change more
 

@@ -21,8 +21,9 @@ use Rattle.device_objects.specs.declared.state.DeviceState.TheVariants as states
 use Rattle.device_objects.specs.BallDevice.{empty, noted, set_switch, switched, ball_step}
 use Rattle.device_objects.specs.BallDevice as balls
 use Rattle.device_objects.specs.DeviceStep.{ball_answer, device_step, first_state}
-use Rattle.written_machine.specs.BallRows.{AreApart, BookingsAreRight, IsNoBallDevice, IsSwitchOf}
-use Rattle.written_machine.specs.Counted.{changes_of}
+use Rattle.plan_tables.specs.BallRows.{AreApart, BookingsAreRight, IsNoBallDevice, IsSwitchOf}
+use Rattle.written_machine.specs.SwitchLines.{changes_of}
+use Rattle.written_machine.specs.Devices.{ActsAreOwn}
 use Rattle.written_machine.specs.Machine.{Machine, set_device, all_do, world_of, device_at, do_answer_by, confirm_entry, tell_listener}
 use Rattle.written_machine.proofs.BallPlays.{is_ball, not_both, one_row, call-other}
 use Rattle.written_machine.proofs.BallCalm.{no_lag, IsCalm, other-calm}
@@ -103,7 +104,7 @@ module _ (r : RowId) (i : ℕ) where
 
 -- ---- what the listeners of a switch are told
 
-module _ (plan : PlanView) (valid : IsValid plan) (right : BookingsAreRight plan) (active : Bool) where
+module _ (plan : PlanView) (valid : IsValid plan) (own : ActsAreOwn plan) (right : BookingsAreRight plan) (active : Bool) where
   -- all ball switches that listen have noted the level, and nothing else has changed
   pub record IsNotedBy (ls : List Listener) (s t : Machine) : Type 0 where
     pub moment : t.moment ≡ s.moment
@@ -219,7 +220,7 @@ module _ (plan : PlanView) (valid : IsValid plan) (right : BookingsAreRight plan
                   ∙ ap (λ (b : Bool). cond b (noted e active s.moment (ball_switch s r j)) (ball_switch s r j)) (sym (or_none (is_for r j l))));
             }
         | inr not ↦
-            let other = call-other plan valid.entries right (confirm_entry plan) (calls.Act (act_of_listener active l)) l.row s fit.within not in
+            let other = call-other plan valid.entries own right (confirm_entry plan) (calls.Act (act_of_listener active l)) l.row s fit.within not in
             record {
               moment = other.moment;
               changes = other.changes;

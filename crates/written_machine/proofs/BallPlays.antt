@@ -56,9 +56,10 @@ use Rattle.player_game.specs.GameStep.{GameStep, game_step}
 use Rattle.switch_core.specs.declared.change.Change.{Change as Acceptance}
 use Rattle.written_machine.specs.declared.line.Happening.{Happening}
 use Rattle.written_machine.specs.declared.line.Happening.TheVariants as lines
-use Rattle.written_machine.specs.BallRows.{BooksNothing, actions_in, IsBallRow, BooksRightly, IsNoBallDevice, IsOffBalls, BookingsAreRight}
-use Rattle.written_machine.specs.Counted.{change_at, changes_of}
+use Rattle.plan_tables.specs.BallRows.{BooksNothing, actions_in, BooksRightly, IsNoBallDevice, IsOwnBallDevice, IsOffBalls, BookingsAreRight}
+use Rattle.written_machine.specs.SwitchLines.{change_at, changes_of}
 use Rattle.written_machine.specs.EventStep.{taken, do_before, do_after, is_kept, before_handlers, after_event, handlers_in}
+use Rattle.written_machine.specs.Devices.{ActsAreOwn}
 use Rattle.written_machine.specs.Machine.{Machine, write, post, set_mode, set_device, set_coils, set_players, set_game, all_do, has_game, post_if, start_mode, is_post, stop_mode, told, ask_coil, release_coil, release_coils, tell_change, do_action_by, do_list_by, world_of, device_state, device_at, called, call_device_by, confirm_first_away, confirm_entry, call_device, call_devices, do_target, do_handler, home_of, write_final, write_finals, ask_trough, ask_ball, do_step, tell_listener, tell_listeners, confirm_on_playfield}
 use Rattle.written_machine.proofs.BallFeeders.{find-found}
 
@@ -211,7 +212,7 @@ module _ (plan : PlanView) where
   }
 
   -- what such a row books
-  books-nothing : (r : RowId) (settings : Settings) → IsNoBallDevice settings → BooksRightly plan r settings → (k : ℕ) → k < list_count settings
+  books-nothing : (r : RowId) (settings : Settings) → IsNoBallDevice settings → BooksRightly r settings (actions_in plan r) → (k : ℕ) → k < list_count settings
       → All BooksNothing (actions_in plan r k)
   books-nothing r (kinds.BallDevice d) not books k below = absurd not
   books-nothing r (kinds.Counter c) not books k below = books k below
@@ -222,7 +223,7 @@ module _ (plan : PlanView) where
   books-nothing r kinds.Flipper not books k below = books k below
   books-nothing r kinds.Autofire not books k below = books k below
 
-  module _ (entries : HasEntries plan) (right : BookingsAreRight plan) where
+  module _ (entries : HasEntries plan) (own : ActsAreOwn plan) (right : BookingsAreRight plan) where
     pub call-other : (confirm : RowId → Machine → Machine) (call : Call) (r : RowId) (s : Machine) → r.0 < length plan.rows
         → IsNoBallDevice (row_at plan r).settings → IsOther plan s (call_device_by plan confirm call r s)
     call-other confirm call r s within not =
@@ -239,8 +240,9 @@ module _ (plan : PlanView) where
     no_mode_has_balls m r within its =
         elim (is_ball (row_at plan r).settings) [
           | inl is ↦
-              let books : IsBallRow plan r = subst (BooksRightly plan r) is.1 (right.rows r within) in
-              let not : is_owner (owners.Mode m) (row_at plan r).owner ≡ false = ap (is_owner (owners.Mode m)) books.owner in
+              let machines : IsOwnBallDevice (row_at plan r).settings (row_at plan r).owner = own.balls r.0 no_row within in
+              let not : is_owner (owners.Mode m) (row_at plan r).owner ≡ false =
+              ap (is_owner (owners.Mode m)) (subst (λ (settings : Settings). IsOwnBallDevice settings (row_at plan r).owner) is.1 machines) in
               absurd (false≢true (sym not ∙ its))
           | inr not ↦ not
         ]

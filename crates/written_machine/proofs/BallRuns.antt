@@ -26,8 +26,9 @@ use Rattle.device_objects.proofs.BallShapes.{first_ball-shape}
 use Rattle.switch_core.specs.declared.change.Change.{Change as Acceptance}
 use Rattle.switch_core.specs.Switches.{after_change, reported_by_change, accept, reported}
 use Rattle.written_machine.specs.declared.line.Happening.TheVariants as lines
-use Rattle.written_machine.specs.BallRows.{BookingsAreRight}
+use Rattle.plan_tables.specs.BallRows.{BookingsAreRight}
 use Rattle.written_machine.specs.EventStep.{EventStep}
+use Rattle.written_machine.specs.Devices.{ActsAreOwn}
 use Rattle.written_machine.specs.Machine.{Machine, initial, write, set_switches, device_state, device_at, is_device_away, tell_listeners, do_accepted, do_if_accepted}
 use Rattle.written_machine.specs.Run.{switch, device, Stimulus, Change, Alarm, Wait, IsAllowed, arrived, begin, InEveryRun}
 use Rattle.written_machine.proofs.Keeps.{run-keeps}
@@ -103,13 +104,13 @@ module _ (plan : PlanView) where
         omega (arith, none, same, count-none (feeders_of plan target));
   }
 
-  module _ (valid : IsValid plan) (right : BookingsAreRight plan) where
+  module _ (valid : IsValid plan) (own : ActsAreOwn plan) (right : BookingsAreRight plan) where
     -- ---- event steps
 
     pub step-calm : (s t : Machine) → EventStep plan s t → IsCalm plan no_lag s → IsCalm plan no_lag t
     step-calm s t st h =
         subst (IsCalm plan no_lag) (sym st.new_is)
-        (plays-calm plan valid right request-usual (event-plays plan valid.entries right IsRequest tt st.first st.rest st.order s st.in_order) h)
+        (plays-calm plan valid right request-usual (event-plays plan valid.entries own right IsRequest tt st.first st.rest st.order s st.in_order) h)
 
     -- ---- stimuli
 
@@ -121,8 +122,8 @@ module _ (plan : PlanView) where
     accepted-calm : (a : Acceptance) (s : Machine) → IsCalm plan no_lag s → IsCalm plan no_lag (do_accepted plan a s)
     accepted-calm a s h =
         let written = write owners.Machine (lines.Switch a.switch a.active) s in
-        let heard = plays-calm plan valid right {may = IsUsual} (λ call may. may) (listeners-play plan valid.entries right IsUsual a written (usual-listener a.active)) (same-calm s written refl refl h) in
-        plays-calm plan valid right request-usual (accepted-plays plan valid.entries right IsRequest a (tell_listeners plan a written)) heard
+        let heard = plays-calm plan valid right {may = IsUsual} (λ call may. may) (listeners-play plan valid.entries own right IsUsual a written (usual-listener a.active)) (same-calm s written refl refl h) in
+        plays-calm plan valid right request-usual (accepted-plays plan valid.entries own right IsRequest a (tell_listeners plan a written)) heard
 
     if_accepted-calm : (o : Option Acceptance) (s : Machine) → IsCalm plan no_lag s → IsCalm plan no_lag (do_if_accepted plan o s)
     if_accepted-calm None s h = h
@@ -145,7 +146,7 @@ module _ (plan : PlanView) where
         accepted-calm (reported (accept n s.switches) n) fired (same-calm s fired refl refl h)
     begin-calm (Alarm at (device r)) s allowed h =
         plays-calm plan valid right {may = IsUsual} (λ call may. may)
-        (call-plays plan valid.entries right IsUsual calls.Fire r (arrived at s) (due-within s r at h allowed.0.due) tt)
+        (call-plays plan valid.entries own right IsUsual calls.Fire r (arrived at s) (due-within s r at h allowed.0.due) tt)
         (same-calm s (arrived at s) refl refl h)
     begin-calm (Wait at) s allowed h = same-calm s (arrived at s) refl refl h
 

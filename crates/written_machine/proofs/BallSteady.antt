@@ -36,7 +36,7 @@ use Rattle.device_objects.specs.DeviceStep.{device_step, first_state}
 use Rattle.player_game.specs.GameStep.{is_ball_on}
 use Rattle.written_machine.specs.declared.line.Happening.TheVariants as lines
 use Rattle.written_machine.specs.declared.line.Line.{Line}
-use Rattle.written_machine.specs.Counted.{change_at, changes_of}
+use Rattle.written_machine.specs.SwitchLines.{change_at, changes_of}
 use Rattle.written_machine.specs.Machine.{Machine, post, set_device, set_ledger, all_do, counts_of, book, drain_if, after_entry, do_action_by, do_list_by, world_of, device_state, device_at, called, do_answer_by, call_device_by, first_away, no_confirm, confirm_of, confirm_first_away, confirm_entry}
 use Rattle.written_machine.proofs.Does.{book-by}
 use Rattle.written_machine.proofs.BallSteps.{begin-begun}

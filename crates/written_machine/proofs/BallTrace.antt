@@ -21,7 +21,7 @@ use Rattle.written_machine.specs.declared.line.BallCounts.{BallCounts}
 use Rattle.written_machine.specs.declared.line.Happening.{Happening}
 use Rattle.written_machine.specs.declared.line.Happening.TheVariants as lines
 use Rattle.written_machine.specs.declared.line.Line.{Line}
-use Rattle.written_machine.specs.Counted.{booked_at, bookings, AreOriginsRight, AreCountsRight}
+use Rattle.written_machine.specs.Counted.{booked_at, bookings, IsLedgerOf, AreOriginsRight, AreCountsRight}
 use Rattle.written_machine.specs.EventStep.{taken, EventStep}
 use Rattle.written_machine.specs.Machine.{Machine, initial, write, told, counts_of}
 use Rattle.written_machine.specs.Moves.{Move, Wrote, Sent, Switched, Began, Ended, Marked, Turned, Asked, Booked as Books, Varied, Stepped, do_move, Licence, MayDo, Does, IsNoBooking, TakesPart, Begins, ordinary, working}
@@ -68,39 +68,6 @@ may-can (Arrive target) l is =
     let parts = and_parts (is_target_there (length l.counted) target) (nat_lt 0 (transit_to l target)) is in
     (there-can (length l.counted) target parts.0, ltb-true 0 (transit_to l target) parts.1)
 
--- ---- a ledger is told by its bookings
-
-module _ (bs : List Booking) (l m : Ledger) (rows : length l.counted ≡ length m.counted) (targets : length l.to_devices ≡ length m.to_devices)
-    (whole : length l.to_devices ≡ length l.counted) (has : HasBooked bs l) (also : HasBooked bs m) where
-  same-counted : l.counted ≡ m.counted
-  same-counted = ext_get_or 0 l.counted m.counted rows (λ i within.
-      let one = has.counted (record { 0 = i }) within in
-      let other = also.counted (record { 0 = i }) (omega (arith, within, rows)) in
-      omega (arith, one, other))
-
-  same-to_devices : l.to_devices ≡ m.to_devices
-  same-to_devices = ext_get_or 0 l.to_devices m.to_devices targets (λ i within.
-      let one = has.transit (Device (record { 0 = i })) (omega (arith, within, whole)) in
-      let other = also.transit (Device (record { 0 = i })) (omega (arith, within, whole, rows)) in
-      omega (arith, one, other))
-
-  same-to_playfield : l.to_playfield ≡ m.to_playfield
-  same-to_playfield = let one = has.transit Playfield tt in let other = also.transit Playfield tt in omega (arith, one, other)
-
-  same-playfield : l.playfield ≡ m.playfield
-  same-playfield = let one = has.playfield in let other = also.playfield in omega (arith, one, other)
-
-  same-known : l.known ≡ m.known
-  same-known = has.known ∙ sym also.known
-
-  same-counts : counts_of l ≡ counts_of m
-  same-counts =
-      ap (λ (k : ℕ). record { known = k; counted = all_counted l; transit = all_in_transit l; playfield = l.playfield }) same-known
-      ∙ (ap (λ (xs : List ℕ). record { known = m.known; counted = total xs; transit = all_in_transit l; playfield = l.playfield }) same-counted
-      ∙ (ap (λ (xs : List ℕ). record { known = m.known; counted = all_counted m; transit = total xs + l.to_playfield; playfield = l.playfield }) same-to_devices
-      ∙ (ap (λ (k : ℕ). record { known = m.known; counted = all_counted m; transit = total m.to_devices + k; playfield = l.playfield }) same-to_playfield
-      ∙ ap (λ (k : ℕ). record { known = m.known; counted = all_counted m; transit = all_in_transit m; playfield = k }) same-playfield)))
-
 -- ---- one line more
 
 -- where a list with one more is parted, that is its last line, or a line of the list
@@ -136,16 +103,20 @@ origins-push ls l h here before line after r origin told parts is =
       | inr more ↦ h before line more.0 r origin told more.1 is
     ]
 
+-- these are the counts of a ledger that has booked this
+abbrev IsCounted : PlanView → List Booking → BallCounts → Type 0
+IsCounted plan bs counts =
+    (l : Ledger) × IsLedgerOf plan bs l × (counts ≡ counts_of l)
+
 told-push : (plan : PlanView) (ls : List Line) (l : Line) → AreCountsRight plan ls
-    → ((booking : Booking) (told : BallCounts) → l.happening ≡ lines.Balls booking told → (m : Ledger) → length m.counted ≡ length plan.rows
-    → length m.to_devices ≡ length plan.rows → HasBooked (bookings ls ++ booking ∷ []) m → told ≡ counts_of m)
+    → ((booking : Booking) (told : BallCounts) → l.happening ≡ lines.Balls booking told → IsCounted plan (bookings ls ++ booking ∷ []) told)
     → AreCountsRight plan (ls ++ l ∷ [])
-told-push plan ls l h here before line after booking told parts is m rows targets has =
+told-push plan ls l h here before line after booking told parts is =
     elim (parted ls l before line after parts) [
       | inl last ↦
-          here booking told (ap (λ (x : Line). x.happening) (sym last.1) ∙ is) m rows targets
-          (subst (λ (xs : List Line). HasBooked (bookings xs ++ booking ∷ []) m) last.0 has)
-      | inr more ↦ h before line more.0 booking told more.1 is m rows targets has
+          subst (λ (xs : List Line). IsCounted plan (bookings xs ++ booking ∷ []) told) (sym last.0)
+          (here booking told (ap (λ (x : Line). x.happening) (sym last.1) ∙ is))
+      | inr more ↦ h before line more.0 booking told more.1 is
     ]
 
 -- ---- what a trace and a ledger have booked
@@ -197,7 +168,7 @@ module _ (plan : PlanView) where
     booked_is = h.booked_is ∙ sym (bookings-push ls x ∙ (ap (λ bs. bookings ls ++ bs) (nothing_at x.happening none) ∙ append-nil (bookings ls)));
     rows = h.rows;
     origins = origins-push ls x h.origins (λ r origin told is. absurd (not_balls x.happening (Entered r origin) told none is));
-    told = told-push plan ls x h.told (λ booking told is m rows targets has. absurd (not_balls x.happening booking told none is));
+    told = told-push plan ls x h.told (λ booking told is. absurd (not_balls x.happening booking told none is));
   }
 
   -- a line of a booking, with its counts
@@ -251,14 +222,13 @@ module _ (plan : PlanView) where
       booked_is = next_booked ∙ sym (bookings-push ls x ∙ ap (λ (what : Happening). bookings ls ++ booked_at what) is);
       rows = next_rows;
       origins = origins-push ls x h.origins (λ r origin told other. origin_now c refl r origin (its_booking (Entered r origin) told other));
-      told = told-push plan ls x h.told (λ booking told other m rows targets has.
+      told = told-push plan ls x h.told (λ booking told other.
           let follows : HasBooked (bookings ls ++ booking ∷ []) (after_call c l) =
           subst (λ (b : Booking). HasBooked (bookings ls ++ b ∷ []) (after_call c l)) (its_booking booking told other)
           (subst (λ bs. HasBooked bs (after_call c l)) next_booked
           (subst (HasBooked (booked_by (h.calls ++ c ∷ []) (no_balls plan))) next_is (ledgers_follow_bookings plan (h.calls ++ c ∷ []) next_may))) in
           let still = call-is c l ledger-is (may-can c l can) in
-          sym (its_counts booking told other)
-          ∙ same-counts (bookings ls ++ booking ∷ []) (after_call c l) m (next_rows ∙ sym rows) (still.rows ∙ (next_rows ∙ sym targets)) still.rows follows has);
+          (after_call c l, record { rows = next_rows; targets = still.rows ∙ next_rows; booked = follows }, sym (its_counts booking told other)));
     }
 
   -- ---- moves
@@ -324,10 +294,16 @@ module _ (plan : PlanView) where
     now : IsTold trace s.ledger
     now = told-run stimuli trace s run
 
-    pub booked-run : HasBooked (bookings trace) s.ledger
+    pub booked-run : IsLedgerOf plan (bookings trace) s.ledger
     booked-run =
-        subst (λ bs. HasBooked bs s.ledger) now.booked_is
-        (subst (HasBooked (booked_by now.calls (no_balls plan))) now.is (ledgers_follow_bookings plan now.calls now.may))
+        let rows = now.rows in
+        let ledger = subst IsLedger now.is (calls-are now.calls (no_balls plan) (new-is plan) now.may) in
+        record {
+          rows = rows;
+          targets = ledger.rows ∙ rows;
+          booked = subst (λ bs. HasBooked bs s.ledger) now.booked_is
+              (subst (HasBooked (booked_by now.calls (no_balls plan))) now.is (ledgers_follow_bookings plan now.calls now.may));
+        }
 
     pub somewhere-run : IsBalanced s.ledger
     somewhere-run = subst IsBalanced now.is (balls_are_somewhere plan now.calls now.may)

@@ -10,12 +10,11 @@ use Rattle.written_machine.proofs.BallHeard.{counted-run}
 pub balls-known : (c : CheckedView) → IsAccepted c → AreBallsKnown c
 balls-known c accepted = record {
   booked = booked-run c.plan;
-  rows = λ stimuli trace s run. (told-run c.plan stimuli trace s run).rows;
   origins = λ stimuli trace s run. (told-run c.plan stimuli trace s run).origins;
   somewhere = somewhere-run c.plan;
   told = λ stimuli trace s run. (told-run c.plan stimuli trace s run).told;
   away = λ stimuli trace s run target there.
-      let calm = calm-run c.plan accepted.valid accepted.bookings stimuli trace s run in
+      let calm = calm-run c.plan accepted.valid accepted.own accepted.bookings stimuli trace s run in
       omega (arith, calm.away target there);
-  counted = counted-run c.plan accepted.valid accepted.bookings;
+  counted = counted-run c.plan accepted.valid accepted.own accepted.bookings;
 }

@@ -14,7 +14,8 @@ use Rattle.plan_tables.specs.declared.devices.Settings.TheVariants.{Counter, Acc
 use Rattle.plan_tables.specs.declared.entries.Owner.{Owner}
 use Rattle.plan_tables.specs.declared.entries.Owner.TheVariants as owners
 use Rattle.plan_tables.proofs.Owners.{row_numbers-within}
-use Rattle.written_machine.specs.Devices.{ActsAreOwn, IsOwnBallDevice}
+use Rattle.plan_tables.specs.BallRows.{IsOwnBallDevice}
+use Rattle.written_machine.specs.Devices.{ActsAreOwn}
 use Rattle.written_machine.specs.Machine.{Machine, device_at, first_away, is_device_away}
 
 -- ---- what is found in a list

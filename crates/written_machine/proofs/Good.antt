@@ -6,11 +6,15 @@ use Rattle.plan_tables.specs.declared.entries.Owner.TheVariants as owners
 use Rattle.written_machine.proofs.Cascade.{verified-is_bounded}
 use Rattle.written_machine.proofs.Guarded.{follows-run, skips-run, stretches-run, holder-run}
 use Rattle.written_machine.proofs.BallsKnown.{balls-known}
+use Rattle.written_machine.proofs.BallHeard.{changes-run}
+use Rattle.written_machine.proofs.Moments.{timed-run}
 use Rattle.written_machine.proofs.Silence.{stopped_is_silent, stopped_is_resting, stopped_holds_nothing}
 
 pub every_run_is_good : (c : CheckedView) → IsAccepted c → IsGood c
 every_run_is_good c accepted = record {
   bounded = verified-is_bounded c accepted.valid accepted.verified;
+  moments = timed-run c.plan;
+  changes = changes-run c.plan accepted.valid accepted.own accepted.bookings;
   silent = stopped_is_silent c.plan accepted.valid accepted.free accepted.own;
   limits = λ stimuli trace s run. (follows-run c.plan accepted.allowed accepted.valid stimuli trace s run).within;
   stretches = stretches-run c.plan accepted.allowed accepted.valid;

@@ -5,6 +5,7 @@ pub mod Pricing
 pub mod Growth
 pub mod Order
 pub mod Keeps
+pub mod Moments
 pub mod Cascade
 pub mod PlanSteps
 pub mod Alarms

@@ -5,7 +5,7 @@ use Rattle.written_machine.specs.CheckedView.{CheckedView}
 use Rattle.written_machine.specs.FreePosts.{PostsAreFree}
 use Rattle.written_machine.specs.Devices.{ActsAreOwn}
 use Rattle.written_machine.specs.Allowed.{ActionsAreAllowed}
-use Rattle.written_machine.specs.BallRows.{BookingsAreRight}
+use Rattle.plan_tables.specs.BallRows.{BookingsAreRight}
 
 -- The plan is valid, nothing posts an event at which the machine itself does something, but that of the start button,
 -- bindings act on devices of their own owner alone, only the machine's devices listen to switches, and ball devices are

@@ -17,6 +17,7 @@ use Rattle.written_machine.specs.declared.line.Line.{Line}
 use Rattle.written_machine.specs.declared.line.Happening.{Happening}
 use Rattle.written_machine.specs.declared.line.Happening.TheVariants as lines
 use Rattle.written_machine.specs.Machine.{counts_of}
+use Rattle.written_machine.specs.SwitchLines.{LevelChange, changes_of}
 
 -- ---- bookings
 
@@ -34,28 +35,21 @@ AreOriginsRight trace =
     (before : List Line) (line : Line) (after : List Line) (r : RowId) (origin : Origin) (counts : BallCounts)
     → trace ≡ before ++ line ∷ after → line.happening ≡ lines.Balls (Entered r origin) counts → origin ≡ origin_after (bookings before) r
 
--- Wherever a line tells of all balls, its counts are those of the bookings up to it.
+-- a ledger of the plan that has booked just this
+pub record IsLedgerOf (plan : PlanView) (bs : List Booking) (l : Ledger) : Type 0 where
+  pub rows : length l.counted ≡ length plan.rows
+  pub targets : length l.to_devices ≡ length plan.rows
+  pub booked : HasBooked bs l
+
+-- Wherever a line tells of a booking, its counts are those of a ledger that has booked just what the trace has up to it,
+-- this booking with it.
 abbrev pub AreCountsRight : PlanView → List Line → Type 0
 AreCountsRight plan trace =
     (before : List Line) (line : Line) (after : List Line) (booking : Booking) (counts : BallCounts)
     → trace ≡ before ++ line ∷ after → line.happening ≡ lines.Balls booking counts
-    → (l : Ledger) → length l.counted ≡ length plan.rows → length l.to_devices ≡ length plan.rows
-    → HasBooked (bookings before ++ booking ∷ []) l → counts ≡ counts_of l
+    → (l : Ledger) × IsLedgerOf plan (bookings before ++ booking ∷ []) l × (counts ≡ counts_of l)
 
 -- ---- ball switches
-
--- that a switch was accepted as active or inactive, and when
-pub record LevelChange : Type 0 where
-  pub at : ℕ
-  pub active : Bool
-
-abbrev pub change_at : SwitchId → ℕ → Happening → List LevelChange
-change_at n moment (lines.Switch m active) = if m.0 == n.0 then record { at = moment; active = active } ∷ [] else []
-change_at n moment _ = []
-
--- the changes of a switch that a trace has, in order
-abbrev pub changes_of : SwitchId → List Line → List LevelChange
-changes_of n trace = flat_map (λ l. change_at n l.moment l.happening) trace
 
 -- when a change of a ball switch counts, if the switch stays as it is
 abbrev pub counts_from : BallSettings → LevelChange → ℕ

@@ -8,8 +8,7 @@ use Rattle.plan_tables.specs.declared.entries.Listener.{Listener}
 use Rattle.plan_tables.specs.declared.entries.Target.{Target}
 use Rattle.plan_tables.specs.declared.entries.Target.TheVariants.{Run, Start, Stop, Act}
 use Rattle.plan_tables.specs.declared.devices.RowId.{RowId}
-use Rattle.plan_tables.specs.declared.devices.Settings.{Settings}
-use Rattle.plan_tables.specs.declared.devices.Settings.TheVariants.{BallDevice}
+use Rattle.plan_tables.specs.BallRows.{BallDevicesAreOwn}
 use Rattle.device_objects.specs.Laws.{HasShape}
 use Rattle.device_objects.specs.declared.state.DeviceState.{DeviceState}
 use Rattle.written_machine.specs.Machine.{device_state}
@@ -35,14 +34,9 @@ IsOwnAct plan owner (Act r act) = (row_at plan r).owner ≡ owner
 abbrev pub IsOwnListener : PlanView → Listener → Type 0
 IsOwnListener plan l = (row_at plan l.row).owner ≡ Machine
 
--- a ball device is the machine's
-abbrev pub IsOwnBallDevice : Settings → Owner → Type 0
-IsOwnBallDevice (BallDevice d) owner = owner ≡ Machine
-IsOwnBallDevice _ owner = Unit {0}
-
 -- Bindings act on devices of their own owner alone, and what the machine tells of its switches and of balls it tells to
 -- its own.
 pub record ActsAreOwn (plan : PlanView) : Type 0 where
   pub bindings : All (λ b. IsOwnAct plan b.owner b.target) plan.bindings
   pub listeners : All (λ s. All (IsOwnListener plan) s.listeners) plan.switches
-  pub balls : All (λ row. IsOwnBallDevice row.settings row.owner) plan.rows
+  pub balls : BallDevicesAreOwn plan

@@ -11,7 +11,6 @@ use Rattle.plan_tables.specs.declared.devices.BallTarget.{BallTarget}
 use Rattle.plan_tables.specs.declared.devices.BallSettings.{BallSettings}
 use Rattle.plan_tables.specs.declared.devices.Settings.TheVariants.{BallDevice}
 use Rattle.ball_devices.specs.Ledger.{IsBalanced, counted_in, transit_to}
-use Rattle.ball_devices.specs.Bookings.{HasBooked}
 use Rattle.device_objects.specs.declared.device.Call.TheVariants as calls
 use Rattle.switch_core.specs.declared.change.Change.{Change as Acceptance}
 use Rattle.switch_core.specs.SwitchStep.{raw_at_rest}
@@ -27,7 +26,8 @@ use Rattle.written_machine.specs.Run.{Source, switch, device, source_due, Stimul
 use Rattle.written_machine.specs.SwitchCalls.{switch_calls}
 use Rattle.written_machine.specs.Silent.{HasStarted, IsSilent}
 use Rattle.written_machine.specs.Sent.{sendings, AreSkippedIdle}
-use Rattle.written_machine.specs.Counted.{bookings, AreOriginsRight, AreCountsRight, ball_switches, is_counted}
+use Rattle.written_machine.specs.SwitchLines.{changes_of, LeadTo}
+use Rattle.written_machine.specs.Counted.{bookings, IsLedgerOf, AreOriginsRight, AreCountsRight, ball_switches, is_counted}
 use Rattle.coil_guard.specs.Limits.{limits_at, IsWithin}
 use Rattle.coil_guard.specs.SentCommands.{is_held_for, IsOnThroughout}
 use Rattle.coil_guard.specs.Asked.{limits_of}
@@ -78,11 +78,10 @@ pub record IsBounded (c : CheckedView) : Type 0 where
 pub record AreBallsKnown (c : CheckedView) : Type 0 where
   -- Each of its numbers follows from what it has booked, and where each ball came from that entered a device follows from
   -- what was booked before. Each known ball is in a device, on its way, or on the playfield.
-  pub booked : InEveryRun c.plan (λ stimuli trace s. HasBooked (bookings trace) s.ledger)
-  pub rows : InEveryRun c.plan (λ stimuli trace s. length s.ledger.counted ≡ length c.plan.rows)
+  pub booked : InEveryRun c.plan (λ stimuli trace s. IsLedgerOf c.plan (bookings trace) s.ledger)
   pub origins : InEveryRun c.plan (λ stimuli trace s. AreOriginsRight trace)
   pub somewhere : InEveryRun c.plan (λ stimuli trace s. IsBalanced s.ledger)
-  -- What a line says of all balls is what the ledger says when it has booked what the line tells.
+  -- What a line says of all balls is what the ledger says once it has booked what the line tells.
   pub told : InEveryRun c.plan (λ stimuli trace s. AreCountsRight c.plan trace)
   -- As many balls are in transit to a target as devices are Away to it.
   pub away : InEveryRun c.plan (λ stimuli trace s.
@@ -97,6 +96,11 @@ pub record AreBallsKnown (c : CheckedView) : Type 0 where
 -- Every run of the plan is good.
 pub record IsGood (c : CheckedView) : Type 0 where
   pub bounded : IsBounded c
+  -- Each line since the latest stimulus has its moment.
+  pub moments : InEveryRun c.plan (λ stimuli trace s. All (λ l. l.moment ≡ s.moment) s.lines)
+  -- The lines of a switch are the changes of its level, from inactive on.
+  pub changes : InEveryRun c.plan (λ stimuli trace s.
+      (n : SwitchId) → n.0 < length c.plan.switches → LeadTo false (changes_of n trace) (active_at s.switches n))
   -- Nothing comes from a stopped mode.
   pub silent : InEveryRun c.plan (λ stimuli trace s. IsSilent c.plan trace)
   -- Each command that was sent to a coil is within the coil's limits.

@@ -10,11 +10,11 @@ pub mod AlarmsEnd
 pub mod CheckedView
 pub mod Silent
 pub mod Sent
+pub mod SwitchLines
 pub mod Counted
 pub mod Allowed
 pub mod GoodRun
 pub mod FreePosts
-pub mod BallRows
 pub mod Accepted
 pub mod AcceptedRuns
 -- what lemmas say of steps: only proofs cite it

@@ -1,0 +1,152 @@
+-- What the state of a switch says of its raw level: it was accepted, or is due and says the other level than that which
+-- was accepted last. So each level that is accepted is another one than before.
+use Rattle.std.proofs.Common.{◌≡◌, ◌≢◌, ℕ, ◌+◌, ◌<◌, Bool, true, false, not, ◌&&◌, cond, if◌then◌else◌, Option, Some, None, List, length, refl, sym, ap, subst, ◌∙◌, true≢false, inl, inr}
+use Rattle.std.proofs.lemmas.Bool.{and_parts, cases_lt, cases_eq, cond_both}
+use Rattle.plan_tables.specs.declared.entries.Contact.{Contact}
+use Rattle.plan_tables.specs.declared.entries.Contact.TheVariants.{NormallyOpen, NormallyClosed}
+use Rattle.plan_tables.specs.declared.entries.SwitchId.{SwitchId}
+use Rattle.plan_tables.specs.declared.entries.SwitchKind.{SwitchKind}
+use Rattle.plan_tables.specs.PlanView.{PlanView, switch_at}
+use Rattle.switch_core.specs.SwitchStep.{SwitchState, same_level, is_active, raw_at_rest, idle, accepted, awaited, changed, is_taken, fired}
+use Rattle.switch_core.specs.Switches.{SwitchesView, kind_at, state_at, active_at, set_state, due_of, all_idle, after_change, accept}
+use Rattle.switch_core.proofs.DueMoments.{state-other, state-same, set-past, idle-kind, idle-state}
+
+-- ---- one switch
+
+-- a raw level that is not due was accepted, and only a switch that is not quick has one that is due
+abbrev pub IsReadBy : SwitchKind → SwitchState → Option ℕ → Type 0
+IsReadBy kind x None = x.active ≡ is_active kind.contact x.raw
+IsReadBy kind x (Some at) = (kind.quick ≡ false) × (x.active ≡ not (is_active kind.contact x.raw))
+
+abbrev pub IsRead : SwitchKind → SwitchState → Type 0
+IsRead kind x = IsReadBy kind x x.due
+
+same-true : (a b : Bool) → same_level a b ≡ true → b ≡ a
+same-true true b is = is
+same-true false true is = absurd (true≢false (sym is))
+same-true false false is = refl
+
+same-false : (a b : Bool) → same_level a b ≡ false → b ≡ not a
+same-false true b is = is
+same-false false true is = refl
+same-false false false is = absurd (true≢false is)
+
+twice : (a : Bool) → not (not a) ≡ a
+twice true = refl
+twice false = refl
+
+other-active : (contact : Contact) (level : Bool) → is_active contact (not level) ≡ not (is_active contact level)
+other-active NormallyOpen level = refl
+other-active NormallyClosed level = refl
+
+rest-inactive : (contact : Contact) → false ≡ is_active contact (raw_at_rest contact)
+rest-inactive NormallyOpen = refl
+rest-inactive NormallyClosed = refl
+
+pub idle-read : (kind : SwitchKind) → IsRead kind (idle kind)
+idle-read kind = rest-inactive kind.contact
+
+awaited-read : (kind : SwitchKind) (now : ℕ) (level : Bool) (x : SwitchState) → kind.quick ≡ false → IsRead kind (awaited kind now level x)
+awaited-read kind now level x normal =
+    cond_both (same_level (is_active kind.contact level) x.active) None (Some (now + 5)) (λ due. IsReadBy kind (awaited kind now level x) due)
+    (λ same. same-true (is_active kind.contact level) x.active same) (λ other. (normal, same-false (is_active kind.contact level) x.active other))
+
+changed-read : (kind : SwitchKind) (now : ℕ) (level : Bool) (x : SwitchState) → IsRead kind x → IsRead kind (changed kind now level x)
+changed-read kind now level x h =
+    cond_both (same_level level x.raw) x (if kind.quick then accepted kind level else awaited kind now level x) (IsRead kind) (λ same. h)
+    (λ new. cond_both kind.quick (accepted kind level) (awaited kind now level x) (IsRead kind) (λ quick. refl) (λ normal. awaited-read kind now level x normal))
+
+-- what is accepted is another level than before
+taken-other : (kind : SwitchKind) (now : ℕ) (level : Bool) (x : SwitchState) → IsRead kind x → is_taken kind level x ≡ true → (changed kind now level x).active ≡ not x.active
+taken-other kind now level x h is =
+    let parts = and_parts kind.quick (not (same_level level x.raw)) is in
+    let new : same_level level x.raw ≡ false = sym (twice (same_level level x.raw)) ∙ ap not parts.1 in
+    ap (λ (b : Bool). (cond b x (cond kind.quick (accepted kind level) (awaited kind now level x))).active) new
+    ∙ (ap (λ (b : Bool). (cond b (accepted kind level) (awaited kind now level x)).active) parts.0
+    ∙ by x.due h parts.0 (same-false level x.raw new))
+  where
+    by : (due : Option ℕ) → IsReadBy kind x due → kind.quick ≡ true → x.raw ≡ not level → is_active kind.contact level ≡ not x.active
+    by None read quick raw =
+        sym (twice (is_active kind.contact level))
+        ∙ ap not (sym (other-active kind.contact level) ∙ (ap (is_active kind.contact) (sym raw) ∙ sym read))
+    by (Some at) read quick raw = absurd (true≢false (sym quick ∙ read.0))
+
+-- a change that is not accepted at once changes no level
+untaken-same : (kind : SwitchKind) (now : ℕ) (level : Bool) (x : SwitchState) → is_taken kind level x ≡ false → (changed kind now level x).active ≡ x.active
+untaken-same kind now level x is =
+    cond_both (same_level level x.raw) x (if kind.quick then accepted kind level else awaited kind now level x) (λ y. y.active ≡ x.active) (λ same. refl)
+    (λ new. cond_both kind.quick (accepted kind level) (awaited kind now level x) (λ y. y.active ≡ x.active)
+    (λ quick. absurd (true≢false (sym (ap (λ (b : Bool). b && not (same_level level x.raw)) quick ∙ ap not new) ∙ is)))
+    (λ normal. refl))
+
+fired-other : (kind : SwitchKind) (at : ℕ) (x : SwitchState) → IsRead kind x → x.due ≡ Some at → (fired kind x).active ≡ not x.active
+fired-other kind at x h due =
+    let read : IsReadBy kind x (Some at) = subst (IsReadBy kind x) due h in
+    sym (twice (is_active kind.contact x.raw)) ∙ ap not (sym read.1)
+
+-- ---- all switches
+
+abbrev pub AreRead : SwitchesView → Type 0
+AreRead s = (n : SwitchId) → IsRead (kind_at s n) (state_at s n)
+
+pub idle-all_read : (plan : PlanView) → AreRead (all_idle plan)
+idle-all_read plan n =
+    subst (λ (kind : SwitchKind). IsRead kind (state_at (all_idle plan) n)) (sym (idle-kind plan n))
+    (subst (IsRead (switch_at plan n).kind) (sym (idle-state plan n)) (idle-read (switch_at plan n).kind))
+
+pub idle-inactive : (plan : PlanView) (n : SwitchId) → active_at (all_idle plan) n ≡ false
+idle-inactive plan n = ap (λ (x : SwitchState). x.active) (idle-state plan n)
+
+module _ (s : SwitchesView) (set : SwitchId) (x : SwitchState) where
+  set-read : IsRead (kind_at s set) x → AreRead s → AreRead (set_state set x s)
+  set-read new h n =
+      elim (cases_eq n.0 set.0) [
+        | inr other ↦ subst (IsRead (kind_at s n)) (sym (state-other s set x n other)) (h n)
+        | inl same ↦
+            let id : set ≡ n = ap (λ (k : ℕ). record { 0 = k }) (sym same) in
+            subst (λ (m : SwitchId). IsRead (kind_at s m) (state_at (set_state set x s) m)) id
+            (elim (cases_lt set.0 (length s.states)) [
+              | inl there ↦ subst (IsRead (kind_at s set)) (sym (state-same s set x there)) new
+              | inr past ↦ subst (λ (v : SwitchesView). IsRead (kind_at s set) (state_at v set)) (sym (set-past s set x past)) (h set)
+            ])
+      ]
+
+  pub active-other : (n : SwitchId) → n.0 ≢ set.0 → active_at (set_state set x s) n ≡ active_at s n
+  active-other n other = ap (λ (y : SwitchState). y.active) (state-other s set x n other)
+
+module _ (s : SwitchesView) (n : SwitchId) where
+  pub change-read : (level : Bool) (now : ℕ) → AreRead s → AreRead (after_change n level now s)
+  change-read level now h =
+      set-read s n (changed (kind_at s n) now level (state_at s n)) (changed-read (kind_at s n) now level (state_at s n) (h n)) h
+
+  pub accept-read : AreRead s → AreRead (accept n s)
+  accept-read h = set-read s n (fired (kind_at s n) (state_at s n)) refl h
+
+  -- a level that is accepted at once, or that was due, is another one than before
+  pub change-other_level : (level : Bool) (now : ℕ) → AreRead s → n.0 < length s.states → is_taken (kind_at s n) level (state_at s n) ≡ true
+      → active_at (after_change n level now s) n ≡ not (active_at s n)
+  change-other_level level now h within is =
+      ap (λ (y : SwitchState). y.active) (state-same s n (changed (kind_at s n) now level (state_at s n)) within)
+      ∙ taken-other (kind_at s n) now level (state_at s n) (h n) is
+
+  pub accept-other_level : (at : ℕ) → AreRead s → n.0 < length s.states → due_of s n ≡ Some at → active_at (accept n s) n ≡ not (active_at s n)
+  accept-other_level at h within due =
+      ap (λ (y : SwitchState). y.active) (state-same s n (fired (kind_at s n) (state_at s n)) within)
+      ∙ fired-other (kind_at s n) at (state_at s n) (h n) due
+
+  -- where a change is not accepted at once, all levels are as before
+  pub change-same_levels : (level : Bool) (now : ℕ) → is_taken (kind_at s n) level (state_at s n) ≡ false → (m : SwitchId)
+      → active_at (after_change n level now s) m ≡ active_at s m
+  change-same_levels level now is m =
+      elim (cases_eq m.0 n.0) [
+        | inr other ↦ active-other s n (changed (kind_at s n) now level (state_at s n)) m other
+        | inl same ↦
+            let id : n ≡ m = ap (λ (k : ℕ). record { 0 = k }) (sym same) in
+            subst (λ (k : SwitchId). active_at (after_change n level now s) k ≡ active_at s k) id
+            (elim (cases_lt n.0 (length s.states)) [
+              | inl there ↦
+                  ap (λ (y : SwitchState). y.active) (state-same s n (changed (kind_at s n) now level (state_at s n)) there)
+                  ∙ untaken-same (kind_at s n) now level (state_at s n) is
+              | inr past ↦ ap (λ (v : SwitchesView). active_at v n) (set-past s n (changed (kind_at s n) now level (state_at s n)) past)
+            ])
+      ]
