@@ -23,9 +23,10 @@ board_view told fault_count answers board = record { told = told board; fault_co
 
 -- ---- one command
 
--- The board has taken a command.
+-- The board has taken a command: that is no fault, whatever its count of faults is.
 pub record HasTaken (command : Command) (old new : BoardView) : Type 0 where
   pub count : new.fault_count ≡ old.fault_count
+  pub no_fault : HasFaulted old.fault_count new.fault_count → ⊥
   pub list : IsToldAfter command (Ok tt) old.told new.told
   pub answer : IsAnswered true old.answers new.answers
 
