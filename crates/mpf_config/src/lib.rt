@@ -24,7 +24,7 @@ pub use config::{
 pub use escape::{escaped_makes_no_line, write_escaped};
 pub use fault::{ConfigFault, Fault, FaultKind, write_fault};
 // The sections: their names, and their entries by the names of their settings.
-pub use mpf_sections::tables::{
+pub use mpf_tables::tables::{
     ACCRUALS_NAME, AUTOFIRE_COILS_NAME, BALL_DEVICES_NAME, COIL_PLAYER_NAME, COILS_NAME,
     COUNTERS_NAME, DEFAULT_PROFILE, EVENT_PLAYER_NAME, FLIPPERS_NAME, GAME_NAME,
     MACHINE_SECTION_NAME, MODE_NAME, MODES_NAME, PLAYFIELD, SEQUENCES_NAME, SHOT_GROUPS_NAME,

@@ -1,7 +1,7 @@
 //! Entries and players that are read by tables.
 
 use crate::cases::{Subject, assert_rows, utf8};
-use mpf_sections::tables::{TextKind, shape_of};
+use mpf_tables::{TextKind, shape_of};
 use mpf_sections::{HandledAt, as_handled};
 use section_tables::fault::ConfigFault;
 use section_tables::rows::{Entry, Fields, Handler, Keyed, Name, Plain, Player, Value};

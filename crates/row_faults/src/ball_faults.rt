@@ -13,7 +13,7 @@ use crate::coil_faults::{add_coil_name, add_switch_name};
 use crate::fault::{RowFault, RowFaultKind};
 use machine_definitions::Definitions;
 use mpf_config::{Entry, Name, NameAt};
-use mpf_sections::tables::PLAYFIELD;
+use mpf_tables::tables::PLAYFIELD;
 use mpf_sections::{BallDevice, as_ball_device};
 use std::alloc::{AllocError, Global};
 

@@ -3,16 +3,16 @@ use Rattle.std.proofs.Common.{◌≡◌, ℕ, ◌≤◌, Bool, true, false, cond
 use Rattle.std.specs.List.{AllByRecursion}
 use Rattle.std.specs.Str.{bytes_eq}
 use Rattle.std.proofs.lemmas.Option.{same_Some, none-some}
-use Rattle.mpf_sections.specs.declared.tables.TextKind.{TextKind}
-use Rattle.mpf_sections.specs.declared.tables.TextKind.TheVariants.{Machine, Mode}
+use Rattle.mpf_tables.specs.declared.tables.TextKind.{TextKind}
+use Rattle.mpf_tables.specs.declared.tables.TextKind.TheVariants.{Machine, Mode}
 use Rattle.mpf_values.specs.Names.{IsName}
 use Rattle.mpf_values.proofs.NameTexts.{IsName-from_is_name}
 use Rattle.section_tables.specs.Rows.{Handled}
 use Rattle.section_tables.specs.Kinds.{Shape}
 use Rattle.section_tables.specs.Entries.{handled_at}
 use Rattle.section_tables.specs.Named.{IsNamedHandled, IsNamedKinds, IsNamedTable, IsNamedShape, IsShortTable, IsShortShape}
-use Rattle.mpf_sections.specs.SectionTables.{switches, coils, rule_events, flippers, autofire_coils, playfield, ball_devices, block, counters, step_blocks, timers, default_profile, shots, shot_groups, shot_profiles, shot_shapes, mode, machine, game, event_player, coil_player, variable_player, shared_shapes, device_shapes, machine_shapes, mode_shapes, named_in, shape_of}
-use Rattle.mpf_sections.specs.TableRules.{IsRight}
+use Rattle.mpf_tables.specs.SectionTables.{switches, coils, rule_events, flippers, autofire_coils, playfield, ball_devices, block, counters, step_blocks, timers, default_profile, shots, shot_groups, shot_profiles, shot_shapes, mode, machine, game, event_player, coil_player, variable_player, shared_shapes, device_shapes, machine_shapes, mode_shapes, named_in, shape_of}
+use Rattle.mpf_tables.specs.TableRules.{IsRight}
 use Rattle.section_tables.proofs.RowNames.{no_items, few_items}
 use Rattle.section_tables.proofs.Steps.{word_is}
 

@@ -1,7 +1,7 @@
 use Rattle.std.proofs.Common.{◌≡◌, Bool, true, false, if◌then◌else◌, Option, Some, refl, sym, ◌∙◌}
 use Rattle.std.specs.Str.{bytes_eq}
-use Rattle.mpf_sections.specs.SectionTables.{flippers_name, autofire_coils_name, ball_devices_name}
-use Rattle.mpf_sections.proofs.tables.device_shape.Goals as goal
+use Rattle.mpf_tables.specs.SectionTables.{flippers_name, autofire_coils_name, ball_devices_name}
+use Rattle.mpf_tables.proofs.tables.device_shape.Goals as goal
 
 -- the third of three, where neither of the others is meant
 third : {A : Type 0} (x y z : A) (rest : Option A) (a b d : Bool) → a ≡ false → b ≡ false → d ≡ true

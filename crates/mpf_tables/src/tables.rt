@@ -2,11 +2,11 @@
 //! settings is reported.
 
 ghost use Rattle.std.specs.Prelude.{◌≡◌, ℕ, List, Some};
-ghost use Rattle.mpf_sections.specs.declared.tables.TextKind.{TextKind as Text};
-ghost use Rattle.mpf_sections.specs.declared.tables.TextKind.TheVariants.{Machine, Mode};
+ghost use Rattle.mpf_tables.specs.declared.tables.TextKind.{TextKind as Text};
+ghost use Rattle.mpf_tables.specs.declared.tables.TextKind.TheVariants.{Machine, Mode};
 ghost use Rattle.section_tables.specs.Kinds.{Shape as SectionShape};
-ghost use Rattle.mpf_sections.specs.SectionTables.{shot_shapes, block_shapes, shared_shapes, device_shapes, named_in, shape_of};
-ghost use Rattle.mpf_sections.specs.TableRules.{IsRight};
+ghost use Rattle.mpf_tables.specs.SectionTables.{shot_shapes, block_shapes, shared_shapes, device_shapes, named_in, shape_of};
+ghost use Rattle.mpf_tables.specs.TableRules.{IsRight};
 ghost use Rattle.section_tables.specs.Reading.{give};
 ghost use Rattle.section_tables.specs.TableView.{shape_view};
 
@@ -457,7 +457,7 @@ pub const MACHINE_SECTION_NAME: &[u8] = b"machine";
 pub const GAME_NAME: &[u8] = b"game";
 
 /// The two kinds of texts.
-#[derive(Clone, Copy, Debug)]
+#[derive(Clone, Copy)]
 pub enum TextKind {
     /// The text of the machine.
     Machine,
