@@ -3,7 +3,7 @@
 use plan_tables::CoilId;
 
 /// What a board is told to do with a coil. Powers are in thousandths of full power.
-#[derive(Clone, Copy, PartialEq, Eq)]
+#[derive(Clone, Copy, Debug, PartialEq, Eq)]
 pub enum Command {
     /// The coil is on for so many milliseconds, with this power.
     Pulse { coil: CoilId, ms: u32, power: u16 },
