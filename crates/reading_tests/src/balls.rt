@@ -1,13 +1,9 @@
 //! Ball devices: by their table, and in bundles by the names of their settings.
 
 use crate::cases::{Subject, assert_rows};
-use crate::coils::show_at;
-use crate::devices::show_name;
-use crate::tables::show_names;
+use crate::pen::Pen;
 use mpf_config::Section;
 use mpf_sections::{BallDevice, as_ball_device};
-use std::alloc::AllocError;
-use std::test::Fail;
 
 // Texts with one section, and its entries or their fault.
 const SECTIONS: &str = "\
@@ -72,48 +68,39 @@ const BALLS: &str = "\
 @¶modes: m¶@m¶ball_devices:¶ => error 4 UnknownSection modes/m/config/m.yaml 2 ball_devices¶
 ";
 
-fn show_ball_device(out: &mut String, device: BallDevice<'_>) -> Result<(), AllocError> {
-    show_name(out, device.name)?;
-    show_names(out, device.switches)?;
-    out.push_str(";")?;
-    match device.eject_coil {
-        Some(coil) => show_at(out, coil)?,
-        None => out.push_str(" -")?,
-    }
-    show_at(out, device.target)?;
-    write!(
-        out,
-        "; {} {} {}; {} {};",
-        device.timeout,
-        device.entrance_delay,
-        device.exit_delay,
-        device.mechanical,
-        device.max_attempts
-    )?;
-    show_names(out, device.tags)?;
-    writeln!(
-        out,
-        "; {} {} {}",
-        device.is_trough(),
-        device.is_home(),
-        device.is_drain()
-    )
+fn show_ball_device(pen: &mut Pen, device: BallDevice<'_>) {
+    pen.entry(device.name);
+    pen.listed(device.switches);
+    pen.name_at(device.eject_coil);
+    pen.name_at(Some(device.target));
+    pen.put(";");
+    pen.also(device.timeout);
+    pen.also(device.entrance_delay);
+    pen.also(device.exit_delay);
+    pen.put(";");
+    pen.also(device.mechanical);
+    pen.also(device.max_attempts);
+    pen.put(";");
+    pen.listed(device.tags);
+    pen.also(device.is_trough());
+    pen.also(device.is_home());
+    pen.also(device.is_drain());
+    pen.put("\n");
 }
 
 /// Adds the ball devices of a section.
-pub(crate) fn show_balls(out: &mut String, section: &Section) -> Result<(), AllocError> {
+pub(crate) fn show_ball_devices(pen: &mut Pen, section: &Section) {
     for entry in section.ball_devices() {
-        show_ball_device(out, as_ball_device(entry))?;
+        show_ball_device(pen, as_ball_device(entry));
     }
-    Ok(())
 }
 
 #[test]
-fn ball_devices_by_their_table(rt: HostRuntime) -> Result<(), Fail> {
-    assert_rows(&rt, Subject::Section, SECTIONS)
+fn ball_devices_by_their_table(rt: HostRuntime) {
+    assert_rows(&rt, &Subject::Section, SECTIONS);
 }
 
 #[test]
-fn ball_devices_of_bundles(rt: HostRuntime) -> Result<(), Fail> {
-    assert_rows(&rt, Subject::Texts, BALLS)
+fn ball_devices_of_bundles(rt: HostRuntime) {
+    assert_rows(&rt, &Subject::Texts, BALLS);
 }

@@ -1,19 +1,18 @@
 //! Tables of cases. A row is `TEXT => ANSWER`. In both `¶` stands for LF, and `«N PART»` for the part N
 //! times: `№` in it for the numbers from 1 to N, and `␣` for as many blanks as there are parts before.
 //!
-//! With an allocation refused, by `rt try --test --fail-alloc N`, a test ends with the error of the allocation. An
-//! assertion that fails then shows an answer that came in its place.
+//! With an allocation refused, by `rt try --test --fail-alloc N`, a test fails with `no memory`. If it shows a row,
+//! an answer came in place of the error.
 
-use crate::bundles::{show_bundle, show_mode_names, show_texts};
+use crate::bundles::{show_bundle, show_machine_text, show_mode_names, show_texts};
+use crate::pen::Pen;
 use crate::tables::show_pair;
 use crate::values::{Kind, show_nodes, show_value};
 use crate::yaml::{show_bytes, show_length, show_yaml};
-use std::alloc::{AllocError, Global};
+use std::alloc::Global;
 use std::process::Abort;
-use std::test::Fail;
 
 /// What the texts of a table are.
-#[derive(Clone, Copy)]
 pub(crate) enum Subject {
     /// YAML, of which the tree or the fault is shown.
     Yaml,
@@ -48,80 +47,104 @@ pub(crate) enum Subject {
     ModeSection,
 }
 
-/// The text that these bytes are.
-pub(crate) fn utf8(text: &[u8]) -> &str {
-    std::str::from_utf8(text).unwrap_or("no UTF-8")
+fn add_blanks(pen: &mut Pen, count: usize) {
+    for _ in 0..count {
+        pen.put(" ");
+    }
 }
 
-// Adds a part so many times.
-fn repeat(alloc: Global, out: &mut String, count: usize, part: &str) -> Result<(), AllocError> {
-    if !part.contains('№') && !part.contains('␣') {
-        return out.push_str(&part.repeat(alloc, count)?);
+// Adds the part of this number, counted from 1.
+fn add_part(pen: &mut Pen, part: &str, number: usize) {
+    for c in part.chars() {
+        match c {
+            '¶' => pen.push('\n'),
+            '№' => pen.value(number),
+            '␣' => add_blanks(pen, number.saturating_sub(1)),
+            _ => pen.push(c),
+        }
     }
-    let mut blanks = String::new(alloc);
-    for number in 1..=count {
-        let digits = format!(in alloc; "{number}")?;
-        let numbered = part.replace(alloc, '№', &digits)?;
-        out.push_str(&numbered.replace(alloc, '␣', &blanks)?)?;
-        blanks.push(' ')?;
-    }
-    Ok(())
 }
 
-// Adds a text, and what it repeats behind `«`.
-fn add_part(alloc: Global, out: &mut String, part: &str) -> Result<(), Fail> {
-    let (once, rest) = part.split_once('«').unwrap_or((part, "0 "));
-    let (count, again) = rest.split_once(' ').ok_or("a count")?;
-    out.push_str(once)?;
-    Ok(repeat(alloc, out, count.parse::<usize>()?, again)?)
+// Adds what stands behind `«`.
+fn add_parts(pen: &mut Pen, again: &str) {
+    let Some((count, part)) = again.split_once(' ') else {
+        return pen.put("no count");
+    };
+    for number in 1..=count.parse::<usize>().unwrap_or(0) {
+        add_part(pen, part, number);
+    }
 }
 
 // What stands in a cell.
-fn whole(alloc: Global, cell: &str) -> Result<String, Fail> {
-    let lines = cell.replace(alloc, '¶', "\n")?;
-    let mut out = String::new(alloc);
-    for part in lines.split('»') {
-        add_part(alloc, &mut out, part)?;
+fn whole(alloc: Global, cell: &str) -> Pen {
+    let mut pen = Pen::new(alloc);
+    for part in cell.split('»') {
+        let (once, again) = part.split_once('«').unwrap_or((part, "0 "));
+        add_part(&mut pen, once, 1);
+        add_parts(&mut pen, again);
     }
-    Ok(out)
+    pen
 }
 
 // Adds the answer to a text.
-fn answer(alloc: Global, out: &mut String, subject: Subject, text: &str) -> Result<(), Fail> {
+fn answer(pen: &mut Pen, subject: &Subject, text: &str) {
     match subject {
-        Subject::Yaml => Ok(show_yaml(alloc, out, text.as_bytes())?),
-        Subject::Bytes => show_bytes(alloc, out, text),
-        Subject::Length => show_length(alloc, out, text),
-        Subject::Value(kind) => show_value(alloc, out, kind, text),
-        Subject::Nodes => show_nodes(alloc, out, text),
-        Subject::Bundle => show_bundle(alloc, out, text.as_bytes()),
-        Subject::Machine => {
-            let bundle = format!(in alloc; "@ config/config.yaml\n#config_version=6\n{text}")?;
-            show_bundle(alloc, out, bundle.as_bytes())
-        }
-        Subject::Texts => show_texts(alloc, out, text),
-        Subject::ModeNames => show_mode_names(alloc, out, text.as_bytes()),
-        _ => show_pair(alloc, out, subject, text),
+        Subject::Yaml => show_yaml(pen, text.as_bytes()),
+        Subject::Bytes => show_bytes(pen, text),
+        Subject::Length => show_length(pen, text),
+        Subject::Value(kind) => show_value(pen, kind, text),
+        Subject::Nodes => show_nodes(pen, text),
+        Subject::Bundle => show_bundle(pen, text.as_bytes()),
+        Subject::Machine => show_machine_text(pen, text),
+        Subject::Texts => show_texts(pen, text),
+        Subject::ModeNames => show_mode_names(pen, text.as_bytes()),
+        _ => show_pair(pen, subject, text),
     }
 }
 
-// The answer to the text of a row, and the one that stands there.
-fn answered(alloc: Global, subject: Subject, row: &str) -> Result<(String, String), Fail> {
-    let (text, wanted) = row.split_once(" => ").ok_or("a row")?;
-    let mut found = String::new(alloc);
-    answer(alloc, &mut found, subject, &whole(alloc, text)?)?;
-    Ok((found, whole(alloc, wanted)?))
+// The answer to what stands in a cell.
+fn answered(alloc: Global, subject: &Subject, cell: &str) -> Pen {
+    let mut found = Pen::new(alloc);
+    match whole(alloc, cell).text() {
+        Ok(text) => answer(&mut found, subject, text),
+        Err(_) => found.lose(),
+    }
+    found
+}
+
+// Adds a row and what is found, if that is not what is wanted.
+fn compare(wrong: &mut Pen, row: &str, found: &Pen, wanted: &Pen) {
+    let (Ok(found), Ok(wanted)) = (found.text(), wanted.text()) else {
+        return wrong.lose();
+    };
+    if found != wanted {
+        wrong.put(row);
+        wrong.put("\nhas the answer ");
+        wrong.put(found);
+        wrong.put("\n");
+    }
+}
+
+// Adds a row and its answer, if that is not the one that stands there.
+fn check_row(wrong: &mut Pen, subject: &Subject, row: &str) {
+    let Some((text, wanted)) = row.split_once(" => ") else {
+        return wrong.put("a row has no answer");
+    };
+    let found = answered(wrong.alloc, subject, text);
+    compare(wrong, row, &found, &whole(wrong.alloc, wanted));
+}
+
+// The rows of which the text has another answer than the one that stands there.
+fn wrong_rows(alloc: Global, subject: &Subject, table: &str) -> Pen {
+    let mut wrong = Pen::new(alloc);
+    for row in table.lines() {
+        check_row(&mut wrong, subject, row);
+    }
+    wrong
 }
 
 /// The text of each row has the answer that stands there.
-pub(crate) fn assert_rows<R: Abort + AllocGlobal>(
-    rt: &R,
-    subject: Subject,
-    table: &str,
-) -> Result<(), Fail> {
-    for row in table.lines() {
-        let (found, wanted) = answered(rt.alloc(), subject, row)?;
-        assert_eq!(rt; found.as_str(), wanted.as_str(), "{row}");
-    }
-    Ok(())
+pub(crate) fn assert_rows<R: Abort + AllocGlobal>(rt: &R, subject: &Subject, table: &str) {
+    let wrong = wrong_rows(rt.alloc(), subject, table);
+    assert_eq!(rt; wrong.text().unwrap_or("no memory"), "");
 }

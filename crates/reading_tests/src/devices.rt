@@ -1,13 +1,8 @@
 //! Logic blocks and timers of bundles, by the names of their settings.
 
-use crate::cases::{Subject, assert_rows, utf8};
-use crate::tables::{show_handled, show_handlers, show_names, show_steps};
-use mpf_config::{
-    Block, Control, Counter, Name, Section, StepBlock, Timer, as_control, as_counter,
-    as_step_block, as_timer,
-};
-use std::alloc::AllocError;
-use std::test::Fail;
+use crate::cases::{Subject, assert_rows};
+use crate::pen::Pen;
+use mpf_config::{Block, Entry, Fields, Section, as_control, as_counter, as_step_block, as_timer};
 
 // Texts, and what is read of them. A counter is shown by its name, the events that it counts, its value
 // at first, its interval, its end, its direction and its window; an accrual or a sequence by its name and
@@ -41,94 +36,91 @@ const SAME_NAMES: &str = "\
 @¶modes: a¶@a¶timers:¶  t:¶@b¶timers:¶  t:¶ => modes¶ a@2¶a: 100 true true;;;¶timers¶ t@3; 0 None Up 1000 false false;¶note modes/b/config/b.yaml 0 unlisted modes/b/config/b.yaml¶
 ";
 
-pub(crate) fn show_name(out: &mut String, name: &Name) -> Result<(), AllocError> {
-    write!(out, " {}@{};", utf8(&name.text), name.line)
+fn show_block(pen: &mut Pen, block: Block<'_>) {
+    pen.also(block.reset_on_complete);
+    pen.also(block.disable_on_complete);
+    pen.also(block.persist);
+    pen.events(block.enables);
+    pen.events(block.disables);
+    pen.events(block.resets);
+    pen.events(block.restarts);
+    pen.put(";");
+    pen.listed(block.hit);
+    pen.listed(block.complete);
+    pen.put("\n");
 }
 
-fn show_block(out: &mut String, block: Block<'_>) -> Result<(), AllocError> {
-    write!(
-        out,
-        " {} {} {};",
-        block.reset_on_complete, block.disable_on_complete, block.persist
-    )?;
-    let first = [block.enables, block.disables];
-    let second = [block.resets, block.restarts];
-    for handlers in first.into_iter().chain(second) {
-        show_handlers(out, handlers)?;
-        out.push_str(";")?;
+fn show_counters(pen: &mut Pen, section: &Section) {
+    for entry in section.counters() {
+        let counter = as_counter(entry);
+        pen.entry(counter.name);
+        pen.handlers(counter.counts);
+        pen.put(";");
+        pen.also(counter.start);
+        pen.also(counter.interval);
+        pen.shown(counter.end);
+        pen.shown(counter.direction);
+        pen.also(counter.window);
+        pen.put(";");
+        show_block(pen, counter.block);
     }
-    for posts in [block.hit, block.complete] {
-        show_names(out, posts)?;
-        out.push_str(";")?;
+}
+
+fn show_step_blocks(pen: &mut Pen, entries: &[Entry]) {
+    for entry in entries {
+        let block = as_step_block(entry);
+        pen.entry(block.name);
+        if !block.steps.is_empty() {
+            pen.put(" ");
+        }
+        pen.steps(block.steps);
+        pen.put(";");
+        show_block(pen, block.block);
     }
-    out.push_str("\n")
 }
 
-fn show_counter(out: &mut String, counter: Counter<'_>) -> Result<(), AllocError> {
-    show_name(out, counter.name)?;
-    show_handlers(out, counter.counts)?;
-    write!(
-        out,
-        "; {} {} {:?} {:?} {};",
-        counter.start, counter.interval, counter.end, counter.direction, counter.window
-    )?;
-    show_block(out, counter.block)
-}
-
-fn show_step_block(out: &mut String, block: StepBlock<'_>) -> Result<(), AllocError> {
-    show_name(out, block.name)?;
-    if !block.steps.is_empty() {
-        out.push_str(" ")?;
-    }
-    show_steps(out, block.steps)?;
-    out.push_str(";")?;
-    show_block(out, block.block)
-}
-
-fn show_control(out: &mut String, control: Control<'_>) -> Result<(), AllocError> {
-    out.push_str(" ")?;
-    show_handled(out, control.event)?;
-    write!(out, " {:?} {};", control.action, control.value)
-}
-
-fn show_timer(out: &mut String, timer: Timer<'_>) -> Result<(), AllocError> {
-    show_name(out, timer.name)?;
-    write!(
-        out,
-        " {} {:?} {:?} {} {} {};",
-        timer.start, timer.end, timer.direction, timer.interval, timer.start_running, timer.restart
-    )?;
-    for map in timer.controls {
+fn show_controls(pen: &mut Pen, controls: &[Fields]) {
+    for map in controls {
         if let Some(control) = as_control(map) {
-            show_control(out, control)?;
+            pen.put(" ");
+            pen.handled(control.event);
+            pen.shown(control.action);
+            pen.also(control.value);
+            pen.put(";");
         }
     }
-    out.push_str("\n")
+}
+
+fn show_timers(pen: &mut Pen, section: &Section) {
+    for entry in section.timers() {
+        let timer = as_timer(entry);
+        pen.entry(timer.name);
+        pen.also(timer.start);
+        pen.shown(timer.end);
+        pen.shown(timer.direction);
+        pen.also(timer.interval);
+        pen.also(timer.start_running);
+        pen.also(timer.restart);
+        pen.put(";");
+        show_controls(pen, timer.controls);
+        pen.put("\n");
+    }
 }
 
 /// Adds the logic blocks and the timers of a section.
-pub(crate) fn show_devices(out: &mut String, section: &Section) -> Result<(), AllocError> {
-    for entry in section.counters() {
-        show_counter(out, as_counter(entry))?;
-    }
-    for entry in section.accruals() {
-        show_step_block(out, as_step_block(entry))?;
-    }
-    for entry in section.sequences() {
-        show_step_block(out, as_step_block(entry))?;
-    }
-    for entry in section.timers() {
-        show_timer(out, as_timer(entry))?;
-    }
-    Ok(())
+pub(crate) fn show_device_sections(pen: &mut Pen, section: &Section) {
+    show_counters(pen, section);
+    show_step_blocks(pen, section.accruals());
+    show_step_blocks(pen, section.sequences());
+    show_timers(pen, section);
 }
 
 #[test]
-fn logic_blocks_and_timers(rt: HostRuntime) -> Result<(), Fail> {
-    assert_rows(&rt, Subject::Texts, DEVICES)
+fn logic_blocks_and_timers(rt: HostRuntime) {
+    assert_rows(&rt, &Subject::Texts, DEVICES);
 }
 
 #[test]
-fn entries_of_one_name(rt: HostRuntime) -> Result<(), Fail> {
-    assert_rows(&rt, Subject::Texts, SAME_NAMES)
+fn entries_of_one_name(rt: HostRuntime) {
+    assert_rows(&rt, &Subject::Texts, SAME_NAMES);
 }

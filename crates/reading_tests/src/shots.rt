@@ -1,14 +1,8 @@
 //! Shots, groups of them and their profiles: by their tables, and in bundles by the names of their settings.
 
 use crate::cases::{Subject, assert_rows};
-use crate::coils::show_at;
-use crate::devices::show_name;
-use crate::tables::{show_handlers, show_names};
-use mpf_config::{
-    Section, Shot, ShotGroup, ShotProfile, as_shot, as_shot_group, as_shot_profile, as_state,
-};
-use std::alloc::AllocError;
-use std::test::Fail;
+use crate::pen::Pen;
+use mpf_config::{Fields, Section, as_shot, as_shot_group, as_shot_profile, as_state};
 
 // Texts with one section, which a machine and a mode have, and its entries or their fault.
 const SECTIONS: &str = "\
@@ -124,65 +118,67 @@ const SHOTS: &str = "\
 @¶modes: a, b¶@a¶shots:¶  s:¶@b¶shot_groups:¶  s: {shots: s}¶ => modes¶ a@2 b@2¶a: 100 true true;;;¶shots¶ s@3; - default@0;;;;;;¶b: 100 true true;;;¶shot_groups¶ s@3; s@3;;;;;¶
 ";
 
-fn show_shot(out: &mut String, shot: Shot<'_>) -> Result<(), AllocError> {
-    show_name(out, shot.name)?;
-    match shot.switch {
-        Some(switch) => show_at(out, switch)?,
-        None => out.push_str(" -")?,
+fn show_shots(pen: &mut Pen, section: &Section) {
+    for entry in section.shots() {
+        let shot = as_shot(entry);
+        pen.entry(shot.name);
+        pen.name_at(shot.switch);
+        pen.name_at(Some(shot.profile));
+        pen.events(shot.hits);
+        pen.events(shot.advances);
+        pen.events(shot.resets);
+        pen.events(shot.enables);
+        pen.events(shot.disables);
+        pen.put(";\n");
     }
-    show_at(out, shot.profile)?;
-    let moves = [shot.hits, shot.advances, shot.resets];
-    for handlers in moves.into_iter().chain([shot.enables, shot.disables]) {
-        out.push_str(";")?;
-        show_handlers(out, handlers)?;
-    }
-    out.push_str(";\n")
 }
 
-fn show_group(out: &mut String, group: ShotGroup<'_>) -> Result<(), AllocError> {
-    show_name(out, group.name)?;
-    show_names(out, group.shots)?;
-    let turns = [group.rotates, group.rotates_right, group.rotates_left];
-    for handlers in turns.into_iter().chain([group.resets]) {
-        out.push_str(";")?;
-        show_handlers(out, handlers)?;
+fn show_groups(pen: &mut Pen, section: &Section) {
+    for entry in section.shot_groups() {
+        let group = as_shot_group(entry);
+        pen.entry(group.name);
+        pen.names(group.shots);
+        pen.events(group.rotates);
+        pen.events(group.rotates_right);
+        pen.events(group.rotates_left);
+        pen.events(group.resets);
+        pen.put(";\n");
     }
-    out.push_str(";\n")
 }
 
-fn show_profile(out: &mut String, profile: ShotProfile<'_>) -> Result<(), AllocError> {
-    show_name(out, profile.name)?;
-    write!(out, " {} {};", profile.advance_on_hit, profile.loops)?;
-    for map in profile.states {
-        if let Some(state) = as_state(map) {
-            show_at(out, state)?;
-            out.push_str(";")?;
-        }
+fn show_states(pen: &mut Pen, states: &[Fields]) {
+    for map in states {
+        pen.name_at(as_state(map));
+        pen.put(";");
     }
-    out.push_str("\n")
+}
+
+fn show_profiles(pen: &mut Pen, section: &Section) {
+    for entry in section.shot_profiles() {
+        let profile = as_shot_profile(entry);
+        pen.entry(profile.name);
+        pen.also(profile.advance_on_hit);
+        pen.also(profile.loops);
+        pen.put(";");
+        show_states(pen, profile.states);
+        pen.put("\n");
+    }
 }
 
 /// Adds the shots, the groups and the profiles of a section.
-pub(crate) fn show_shots(out: &mut String, section: &Section) -> Result<(), AllocError> {
-    for entry in section.shots() {
-        show_shot(out, as_shot(entry))?;
-    }
-    for entry in section.shot_groups() {
-        show_group(out, as_shot_group(entry))?;
-    }
-    for entry in section.shot_profiles() {
-        show_profile(out, as_shot_profile(entry))?;
-    }
-    Ok(())
+pub(crate) fn show_shot_sections(pen: &mut Pen, section: &Section) {
+    show_shots(pen, section);
+    show_groups(pen, section);
+    show_profiles(pen, section);
 }
 
 #[test]
-fn shots_by_tables(rt: HostRuntime) -> Result<(), Fail> {
-    assert_rows(&rt, Subject::Section, SECTIONS)?;
-    assert_rows(&rt, Subject::ModeSection, SECTIONS)
+fn shots_by_tables(rt: HostRuntime) {
+    assert_rows(&rt, &Subject::Section, SECTIONS);
+    assert_rows(&rt, &Subject::ModeSection, SECTIONS);
 }
 
 #[test]
-fn shots_of_bundles(rt: HostRuntime) -> Result<(), Fail> {
-    assert_rows(&rt, Subject::Texts, SHOTS)
+fn shots_of_bundles(rt: HostRuntime) {
+    assert_rows(&rt, &Subject::Texts, SHOTS);
 }
