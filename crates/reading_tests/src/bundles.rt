@@ -1,12 +1,12 @@
 //! Bundles and their rows, faults and notes.
 
-use crate::balls::show_ball_devices;
+use crate::balls::{BALLS, show_ball_devices};
 use crate::cases::{Subject, assert_rows};
-use crate::coils::show_coil_sections;
-use crate::devices::show_device_sections;
-use crate::game::{show_game, show_variables};
+use crate::coils::{COILS, show_coil_sections};
+use crate::devices::{DEVICES, SAME_NAMES, show_device_sections};
+use crate::game::{GAMES, show_game, show_variables};
 use crate::pen::Pen;
-use crate::shots::show_shot_sections;
+use crate::shots::{SHOTS, show_shot_sections};
 use mpf_config::{
     Config, ConfigFault, MODES_NAME, ModeText, Note, Section, as_event_player, as_switch,
     listed_modes, mode_names, mode_settings, read_bundle, write_fault, write_note,
@@ -276,13 +276,8 @@ pub(crate) fn show_bundle(pen: &mut Pen, bundle: &[u8]) {
     }
 }
 
-// Adds the line of a text of a bundle with its version, where the line is `@M` or `@`, or the line.
-fn add_line(bundle: &mut Pen, line: &str) {
-    let mode = line.strip_prefix("@").unwrap_or(" ");
-    if mode.starts_with(" ") {
-        bundle.put(line);
-        return bundle.put("\n");
-    }
+// Adds the name of a text, and the line with the version.
+fn add_head(bundle: &mut Pen, mode: &str) {
     if mode.is_empty() {
         bundle.put("@ config/config.yaml");
     } else {
@@ -295,27 +290,42 @@ fn add_line(bundle: &mut Pen, line: &str) {
     bundle.put("\n#config_version=6\n");
 }
 
+// Adds a line, or the head of a text, where the line is `@M` or `@`.
+fn add_line(bundle: &mut Pen, line: &str) {
+    let mode = line.strip_prefix("@").unwrap_or(" ");
+    if mode.starts_with(" ") {
+        bundle.put(line);
+        bundle.put("\n");
+    } else {
+        add_head(bundle, mode);
+    }
+}
+
+fn add_lines(bundle: &mut Pen, lines: &str) {
+    for line in lines.lines() {
+        add_line(bundle, line);
+    }
+}
+
 // Adds what is read of the bundle that is written.
 fn show_written(pen: &mut Pen, bundle: &Pen) {
-    match bundle.text() {
-        Ok(text) => show_bundle(pen, text.as_bytes()),
-        Err(_) => pen.lose(),
+    show_bundle(pen, bundle.text.as_bytes());
+    if bundle.is_lost {
+        pen.lose();
     }
 }
 
 /// Adds the sections, modes and notes of texts that `Subject::Texts` tells, or their fault.
 pub(crate) fn show_texts(pen: &mut Pen, texts: &str) {
     let mut bundle = Pen::new(pen.alloc);
-    for line in texts.lines() {
-        add_line(&mut bundle, line);
-    }
+    add_lines(&mut bundle, texts);
     show_written(pen, &bundle);
 }
 
 /// The same of a machine text behind its version line.
 pub(crate) fn show_machine_text(pen: &mut Pen, text: &str) {
     let mut bundle = Pen::new(pen.alloc);
-    add_line(&mut bundle, "@");
+    add_head(&mut bundle, "");
     bundle.put(text);
     show_written(pen, &bundle);
 }
@@ -339,12 +349,14 @@ pub(crate) fn show_mode_names(pen: &mut Pen, text: &[u8]) {
 fn bundles(rt: HostRuntime) {
     assert_rows(&rt, &Subject::Machine, MACHINES);
     assert_rows(&rt, &Subject::Bundle, BUNDLES);
-}
-
-#[test]
-fn texts_of_modes(rt: HostRuntime) {
     assert_rows(&rt, &Subject::Texts, MODES);
     assert_rows(&rt, &Subject::ModeNames, MODE_NAMES);
+    assert_rows(&rt, &Subject::Texts, COILS);
+    assert_rows(&rt, &Subject::Texts, DEVICES);
+    assert_rows(&rt, &Subject::Texts, SAME_NAMES);
+    assert_rows(&rt, &Subject::Texts, GAMES);
+    assert_rows(&rt, &Subject::Texts, SHOTS);
+    assert_rows(&rt, &Subject::Texts, BALLS);
 }
 
 #[test]

@@ -9,7 +9,6 @@ use crate::pen::Pen;
 use crate::tables::show_pair;
 use crate::values::{Kind, show_nodes, show_value};
 use crate::yaml::{show_bytes, show_length, show_yaml};
-use std::alloc::Global;
 use std::process::Abort;
 
 /// What the texts of a table are.
@@ -75,15 +74,13 @@ fn add_parts(pen: &mut Pen, again: &str) {
     }
 }
 
-// What stands in a cell.
-fn whole(alloc: Global, cell: &str) -> Pen {
-    let mut pen = Pen::new(alloc);
+// Adds what stands in a cell.
+fn add_cell(pen: &mut Pen, cell: &str) {
     for part in cell.split('»') {
         let (once, again) = part.split_once('«').unwrap_or((part, "0 "));
-        add_part(&mut pen, once, 1);
-        add_parts(&mut pen, again);
+        add_part(pen, once, 1);
+        add_parts(pen, again);
     }
-    pen
 }
 
 // Adds the answer to a text.
@@ -102,49 +99,48 @@ fn answer(pen: &mut Pen, subject: &Subject, text: &str) {
     }
 }
 
-// The answer to what stands in a cell.
-fn answered(alloc: Global, subject: &Subject, cell: &str) -> Pen {
-    let mut found = Pen::new(alloc);
-    match whole(alloc, cell).text() {
-        Ok(text) => answer(&mut found, subject, text),
-        Err(_) => found.lose(),
-    }
-    found
-}
-
 // Adds a row and what is found, if that is not what is wanted.
 fn compare(wrong: &mut Pen, row: &str, found: &Pen, wanted: &Pen) {
-    let (Ok(found), Ok(wanted)) = (found.text(), wanted.text()) else {
+    if found.is_lost || wanted.is_lost {
         return wrong.lose();
-    };
-    if found != wanted {
+    }
+    if found.text.as_str() != wanted.text.as_str() {
         wrong.put(row);
         wrong.put("\nhas the answer ");
-        wrong.put(found);
+        wrong.put(&found.text);
         wrong.put("\n");
+    }
+}
+
+// Adds the answer to what stands in a cell.
+fn answer_cell(found: &mut Pen, subject: &Subject, cell: &str) {
+    let mut text = Pen::new(found.alloc);
+    add_cell(&mut text, cell);
+    answer(found, subject, &text.text);
+    if text.is_lost {
+        found.lose();
     }
 }
 
 // Adds a row and its answer, if that is not the one that stands there.
 fn check_row(wrong: &mut Pen, subject: &Subject, row: &str) {
-    let Some((text, wanted)) = row.split_once(" => ") else {
-        return wrong.put("a row has no answer");
-    };
-    let found = answered(wrong.alloc, subject, text);
-    compare(wrong, row, &found, &whole(wrong.alloc, wanted));
+    let (text, answer) = row.split_once(" => ").unwrap_or((row, "none"));
+    let mut found = Pen::new(wrong.alloc);
+    answer_cell(&mut found, subject, text);
+    let mut wanted = Pen::new(wrong.alloc);
+    add_cell(&mut wanted, answer);
+    compare(wrong, row, &found, &wanted);
 }
 
-// The rows of which the text has another answer than the one that stands there.
-fn wrong_rows(alloc: Global, subject: &Subject, table: &str) -> Pen {
-    let mut wrong = Pen::new(alloc);
+fn check_rows(wrong: &mut Pen, subject: &Subject, table: &str) {
     for row in table.lines() {
-        check_row(&mut wrong, subject, row);
+        check_row(wrong, subject, row);
     }
-    wrong
 }
 
 /// The text of each row has the answer that stands there.
 pub(crate) fn assert_rows<R: Abort + AllocGlobal>(rt: &R, subject: &Subject, table: &str) {
-    let wrong = wrong_rows(rt.alloc(), subject, table);
-    assert_eq!(rt; wrong.text().unwrap_or("no memory"), "");
+    let mut wrong = Pen::new(rt.alloc());
+    check_rows(&mut wrong, subject, table);
+    assert_eq!(rt; wrong.end(), "");
 }

@@ -1,14 +1,13 @@
 //! Coils, coil players, flippers and autofire coils of bundles, by the names of their settings.
 
-use crate::cases::{Subject, assert_rows};
 use crate::pen::Pen;
 use mpf_config::{Keyed, Section, as_autofire, as_coil, as_coil_item, as_coil_player, as_flipper};
 
-// Texts, and what is read of them. A coil is shown by its name, the length of its pulse and the greatest
-// one, the power of its pulse and the greatest one, whether it may be held, the power with which it is held
-// and the greatest one. A coil player is shown by its event, and then what each coil does; a flipper and an
-// autofire coil by its name, its coils and its switch, and its events.
-const COILS: &str = "\
+/// Texts, and what is read of them. A coil is shown by its name, the length of its pulse and the greatest
+/// one, the power of its pulse and the greatest one, whether it may be held, the power with which it is held
+/// and the greatest one. A coil player is shown by its event, and then what each coil does; a flipper and an
+/// autofire coil by its name, its coils and its switch, and its events.
+pub(crate) const COILS: &str = "\
 @¶coils:¶  a:¶ => coils¶ a@3; 10 10 1000 1000 false 0 0;¶
 @¶coils:¶  b:¶    default_pulse_ms: 30¶    allow_enable: yes¶  c:¶    default_hold_power: 0.25¶  d: {default_hold_power: 0.25, allow_enable: yes, max_pulse_ms: 5}¶  e: {default_hold_power: 0, max_hold_power: 0.5}¶  f: {max_hold_power: 30%, allow_enable: on}¶ => coils¶ b@3; 30 30 1000 1000 true 1000 1000;¶ c@6; 10 10 1000 1000 true 250 250;¶ d@8; 10 5 1000 1000 true 250 1000;¶ e@9; 10 10 1000 1000 false 0 500;¶ f@10; 10 10 1000 1000 true 300 300;¶
 @¶coils:¶  g:¶    default_pulse_power: 0.5¶    max_pulse_power: 25%¶    max_pulse_ms: 1s¶    default_hold_power: 100%¶    max_hold_power: 0¶ => coils¶ g@3; 10 1000 500 250 true 1000 0;¶
@@ -89,9 +88,4 @@ pub(crate) fn show_coil_sections(pen: &mut Pen, section: &Section) {
     show_coil_players(pen, section);
     show_flippers(pen, section);
     show_autofires(pen, section);
-}
-
-#[test]
-fn coils_and_their_rules(rt: HostRuntime) {
-    assert_rows(&rt, &Subject::Texts, COILS);
 }

@@ -1,15 +1,14 @@
 //! Logic blocks and timers of bundles, by the names of their settings.
 
-use crate::cases::{Subject, assert_rows};
 use crate::pen::Pen;
 use mpf_config::{Block, Entry, Fields, Section, as_control, as_counter, as_step_block, as_timer};
 
-// Texts, and what is read of them. A counter is shown by its name, the events that it counts, its value
-// at first, its interval, its end, its direction and its window; an accrual or a sequence by its name and
-// steps. Then come whether completing resets and disables it, whether it is kept for each player, and its
-// lists. A timer is shown by its name, its value at first, its end, its direction, its interval, whether
-// it runs at first and whether it starts again; and then what controls it.
-const DEVICES: &str = "\
+/// Texts, and what is read of them. A counter is shown by its name, the events that it counts, its value
+/// at first, its interval, its end, its direction and its window; an accrual or a sequence by its name and
+/// steps. Then come whether completing resets and disables it, whether it is kept for each player, and its
+/// lists. A timer is shown by its name, its value at first, its end, its direction, its interval, whether
+/// it runs at first and whether it starts again; and then what controls it.
+pub(crate) const DEVICES: &str = "\
 @¶counters:¶  c:¶    count_events: a, b¶  d:¶    count_events:¶    starting_count: 9¶    count_interval: 2¶    count_complete_value: -1¶    direction: down¶    multiple_hit_window: 1s¶    enable_events: e¶    disable_events: f¶    reset_events: g¶    restart_events: h¶    events_when_hit: i¶    events_when_complete: j k¶ => counters¶ c@3; a@4 b@4; 0 1 None Up 0; true true false;;;;;;;¶ d@5;; 9 2 Some(-1) Down 1000; true true false; e@12; f@13; g@14; h@15; i@16; j@17 k@17;¶
 @¶accruals:¶  q:¶    reset_on_complete: no¶    events:¶      - a, b¶      - c¶sequences:¶  r:¶    events:¶    disable_on_complete: no¶    persist_state: yes¶ => accruals¶ q@3; [ a@6 b@6][ c@7]; false true false;;;;;;;¶sequences¶ r@9;; true false true;;;;;;;¶
 @¶modes: m¶@m¶timers:¶  t:¶  u:¶    direction: down¶  v:¶    direction: down¶    start_value: 3¶    end_value: -2¶    tick_interval: 5¶    start_running: yes¶    restart_on_complete: yes¶ => modes¶ m@2¶m: 100 true true;;;¶timers¶ t@3; 0 None Up 1000 false false;¶ u@4; 0 Some(0) Down 1000 false false;¶ v@6; 3 Some(-2) Down 5 true true;¶
@@ -22,8 +21,8 @@ const DEVICES: &str = "\
 @¶modes: m¶@m¶timers:¶  playfield:¶ => error 6 BadValue modes/m/config/m.yaml 3 playfield¶
 ";
 
-// Texts that have entries of one section and name, or of two sections and one name, and what is read of them.
-const SAME_NAMES: &str = "\
+/// Texts that have entries of one section and name, or of two sections and one name, and what is read of them.
+pub(crate) const SAME_NAMES: &str = "\
 @¶modes: m¶counters:¶  c:¶    count_events: a¶@m¶counters:¶  b:¶    count_events: a¶  c:¶    count_events: d¶ => error 8 Duplicate modes/m/config/m.yaml 5 c¶
 @m¶accruals:¶  c:¶    events:¶@¶modes: m¶accruals:¶  c:¶    events:¶ => error 8 Duplicate modes/m/config/m.yaml 3 c¶
 @¶modes: a, b¶@b¶timers:¶  t:¶@a¶timers:¶  s:¶  t:¶ => error 8 Duplicate modes/a/config/a.yaml 4 t¶
@@ -113,14 +112,4 @@ pub(crate) fn show_device_sections(pen: &mut Pen, section: &Section) {
     show_step_blocks(pen, section.accruals());
     show_step_blocks(pen, section.sequences());
     show_timers(pen, section);
-}
-
-#[test]
-fn logic_blocks_and_timers(rt: HostRuntime) {
-    assert_rows(&rt, &Subject::Texts, DEVICES);
-}
-
-#[test]
-fn entries_of_one_name(rt: HostRuntime) {
-    assert_rows(&rt, &Subject::Texts, SAME_NAMES);
 }

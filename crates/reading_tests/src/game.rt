@@ -1,16 +1,15 @@
 //! The sections `machine`, `game` and `variable_player` of bundles, by the names of their settings.
 
-use crate::cases::{Subject, assert_rows};
 use crate::pen::Pen;
 use mpf_config::{
     Content, GAME_NAME, Keyed, MACHINE_SECTION_NAME, Section, as_game, as_variable_item,
     as_variable_player, min_balls,
 };
 
-// Texts, and what is read of them. The section `machine` is shown by how many balls a game needs, and `game` by
-// how many balls each player has and how many players there may be; an entry of `variable_player` by its event,
-// and then what is done with each variable.
-const GAMES: &str = "\
+/// Texts, and what is read of them. The section `machine` is shown by how many balls a game needs, and `game` by
+/// how many balls each player has and how many players there may be; an entry of `variable_player` by its event,
+/// and then what is done with each variable.
+pub(crate) const GAMES: &str = "\
 @¶machine:¶  min_balls: 3¶game:¶  balls_per_game: 5¶  max_players: 2¶ => machine¶ 3¶game¶ 5 2¶
 @¶game:¶machine:¶ => game¶ 3 4¶machine¶ 1¶
 @¶machine: {min_balls: 0}¶game: {max_players: 1, balls_per_game: 99}¶ => machine¶ 0¶game¶ 99 1¶
@@ -63,9 +62,4 @@ pub(crate) fn show_game(pen: &mut Pen, section: &Section, sections: &[Section]) 
         pen.also(game.max_players);
         pen.put("\n");
     }
-}
-
-#[test]
-fn games_and_variables(rt: HostRuntime) {
-    assert_rows(&rt, &Subject::Texts, GAMES);
 }

@@ -2,17 +2,17 @@
 
 use mpf_sections::{HandledAt, NameAt, as_handled};
 use section_tables::rows::{Handler, Name};
-use std::alloc::{AllocError, Global};
+use std::alloc::Global;
 use std::fmt::{Debug, Display};
 
 /// A text that is written piece by piece. Where an allocation is refused a piece is missing, and the
-/// text is lost: [`Pen::text`] says so at the end. So what writes needs no `?`, and no `write!` of
-/// many parts, which are both slow to prove.
+/// text is lost. So what writes needs no `?`, and no `write!` of many parts, which are both slow to
+/// prove.
 #[derive(Drop)]
 pub(crate) struct Pen {
     pub(crate) alloc: Global,
-    written: String,
-    is_lost: bool,
+    pub(crate) text: String,
+    pub(crate) is_lost: bool,
 }
 
 /// The text that these bytes are.
@@ -24,7 +24,7 @@ impl Pen {
     pub(crate) fn new(alloc: Global) -> Self {
         Pen {
             alloc,
-            written: String::new(alloc),
+            text: String::new(alloc),
             is_lost: false,
         }
     }
@@ -34,22 +34,22 @@ impl Pen {
         self.is_lost = true;
     }
 
-    /// What is written, if no allocation was refused.
-    pub(crate) fn text(&self) -> Result<&str, AllocError> {
+    /// What is written in the end.
+    pub(crate) fn end(&self) -> &str {
         if self.is_lost {
-            return Err(AllocError);
+            return "no memory";
         }
-        Ok(self.written.as_str())
+        &self.text
     }
 
     pub(crate) fn put(&mut self, part: &str) {
-        if self.written.push_str(part).is_err() {
+        if self.text.push_str(part).is_err() {
             self.is_lost = true;
         }
     }
 
     pub(crate) fn push(&mut self, c: char) {
-        if self.written.push(c).is_err() {
+        if self.text.push(c).is_err() {
             self.is_lost = true;
         }
     }
@@ -59,20 +59,21 @@ impl Pen {
     }
 
     pub(crate) fn value<V: Display + Drop>(&mut self, value: V) {
-        if write!(&mut self.written, "{value}").is_err() {
+        if write!(&mut self.text, "{value}").is_err() {
             self.is_lost = true;
         }
     }
 
     /// Adds a blank and a value.
     pub(crate) fn also<V: Display + Drop>(&mut self, value: V) {
-        self.put(" ");
-        self.value(value);
+        if write!(&mut self.text, " {value}").is_err() {
+            self.is_lost = true;
+        }
     }
 
     /// Adds a blank and a value as `Debug` shows it.
     pub(crate) fn shown<V: Debug + Drop>(&mut self, value: V) {
-        if write!(&mut self.written, " {value:?}").is_err() {
+        if write!(&mut self.text, " {value:?}").is_err() {
             self.is_lost = true;
         }
     }

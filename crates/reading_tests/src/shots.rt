@@ -1,11 +1,10 @@
 //! Shots, groups of them and their profiles: by their tables, and in bundles by the names of their settings.
 
-use crate::cases::{Subject, assert_rows};
 use crate::pen::Pen;
 use mpf_config::{Fields, Section, as_shot, as_shot_group, as_shot_profile, as_state};
 
-// Texts with one section, which a machine and a mode have, and its entries or their fault.
-const SECTIONS: &str = "\
+/// Texts with one section, which a machine and a mode have, and its entries or their fault.
+pub(crate) const SECTIONS: &str = "\
 shots:¶ => ;
 shots:¶  s:¶ => s@2: - |  | default@0 |  |  |  | ;
 shots:¶  s:¶    switch: a¶    hit_events: b, c¶    profile: p¶    advance_events: d¶    reset_events: e¶    enable_events: f¶    disable_events: g h¶ => s@2: a@3 |  b@4 c@4 | p@5 |  d@6 |  e@7 |  f@8 |  g@9 h@9;
@@ -87,11 +86,11 @@ shot_group:¶ => no section
 shot_profile:¶ => no section
 ";
 
-// Texts, and what is read of them. A shot is shown by its name, its switch and its profile, and the events that hit,
-// advance, reset, enable and disable it; a group by its name and its shots, and the events that rotate it, rotate it
-// right, rotate it left and reset it; a profile by its name, whether a hit advances a shot, whether the first state
-// comes after the last, and its states.
-const SHOTS: &str = "\
+/// Texts, and what is read of them. A shot is shown by its name, its switch and its profile, and the events that hit,
+/// advance, reset, enable and disable it; a group by its name and its shots, and the events that rotate it, rotate it
+/// right, rotate it left and reset it; a profile by its name, whether a hit advances a shot, whether the first state
+/// comes after the last, and its states.
+pub(crate) const SHOTS: &str = "\
 @¶shots:¶  s:¶  t:¶    switch: a¶    hit_events: b, c{current_player.x==1}¶    profile: p¶    advance_events: d¶    reset_events: e¶    enable_events: f¶    disable_events: g, h¶ => shots¶ s@3; - default@0;;;;;;¶ t@4; a@5 p@7; b@6 c{x Equal 1}@6; d@8; e@9; f@10; g@11 h@11;¶
 @¶shot_groups:¶  g: {shots: x}¶  h:¶    shots: y, x¶    rotate_events: a¶    rotate_right_events: b¶    rotate_left_events: c¶    reset_events: d, e{ current_player.x < 0 }¶ => shot_groups¶ g@3; x@3;;;;;¶ h@4; y@5 x@5; a@6; b@7; c@8; d@9 e{x Less 0}@9;¶
 @¶shot_groups:¶  g: {shots: «16 x№ »}¶ => shot_groups¶ g@3;«16  x№@3»;;;;;¶
@@ -170,15 +169,4 @@ pub(crate) fn show_shot_sections(pen: &mut Pen, section: &Section) {
     show_shots(pen, section);
     show_groups(pen, section);
     show_profiles(pen, section);
-}
-
-#[test]
-fn shots_by_tables(rt: HostRuntime) {
-    assert_rows(&rt, &Subject::Section, SECTIONS);
-    assert_rows(&rt, &Subject::ModeSection, SECTIONS);
-}
-
-#[test]
-fn shots_of_bundles(rt: HostRuntime) {
-    assert_rows(&rt, &Subject::Texts, SHOTS);
 }

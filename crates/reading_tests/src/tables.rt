@@ -3,6 +3,7 @@
 use crate::cases::{Subject, assert_rows};
 use crate::pen::Pen;
 use crate::yaml::tree_of;
+use crate::{balls, shots};
 use mpf_sections::as_handled;
 use mpf_sections::tables::{TextKind, shape_of};
 use section_tables::fault::ConfigFault;
@@ -645,4 +646,7 @@ fn entries_by_tables(rt: HostRuntime) {
     assert_rows(&rt, &Subject::Players, PLAYERS);
     assert_rows(&rt, &Subject::Section, SECTIONS);
     assert_rows(&rt, &Subject::ModeSection, MODE_SECTIONS);
+    assert_rows(&rt, &Subject::Section, shots::SECTIONS);
+    assert_rows(&rt, &Subject::ModeSection, shots::SECTIONS);
+    assert_rows(&rt, &Subject::Section, balls::SECTIONS);
 }
