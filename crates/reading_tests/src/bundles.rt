@@ -11,6 +11,7 @@ use mpf_config::{
     Config, ConfigFault, MODES_NAME, ModeText, Note, Section, as_event_player, as_switch,
     listed_modes, mode_names, mode_settings, read_bundle, write_fault, write_note,
 };
+use std::test::Fail;
 
 // Lines of a machine text behind its version line, and their rows: a switch's name, its contact and
 // debounce, its tags and what is posted as it becomes active and inactive, an event's name and what it
@@ -360,7 +361,11 @@ fn bundles(rt: HostRuntime) {
 }
 
 #[test]
-fn longest_bundle(rt: HostRuntime) {
-    let rows = "«8388609 a» => error 9 Limit - 1 -¶\n«8388608 a» => error 1 Bundle - 1 -¶";
-    assert_rows(&rt, &Subject::Bundle, rows);
+fn longest_bundle(rt: HostRuntime) -> Result<(), Fail> {
+    let bundle = vec![in rt.alloc(); b'a'; 8_388_609]?;
+    let mut found = Pen::new(rt.alloc());
+    show_bundle(&mut found, &bundle);
+    show_bundle(&mut found, &bundle[1..]);
+    assert_eq!(rt; found.end(), "error 9 Limit - 1 -\nerror 1 Bundle - 1 -\n");
+    Ok(())
 }

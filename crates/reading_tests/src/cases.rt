@@ -66,10 +66,11 @@ fn add_part(pen: &mut Pen, part: &str, number: usize) {
 
 // Adds what stands behind `«`.
 fn add_parts(pen: &mut Pen, again: &str) {
-    let Some((count, part)) = again.split_once(' ') else {
-        return pen.put("no count");
+    let (count, part) = again.split_once(' ').unwrap_or((again, ""));
+    let Ok(count) = count.parse::<usize>() else {
+        return pen.put("this is no count");
     };
-    for number in 1..=count.parse::<usize>().unwrap_or(0) {
+    for number in 1..=count {
         add_part(pen, part, number);
     }
 }
@@ -124,7 +125,9 @@ fn answer_cell(found: &mut Pen, subject: &Subject, cell: &str) {
 
 // Adds a row and its answer, if that is not the one that stands there.
 fn check_row(wrong: &mut Pen, subject: &Subject, row: &str) {
-    let (text, answer) = row.split_once(" => ").unwrap_or((row, "none"));
+    let (text, answer) = row
+        .split_once(" => ")
+        .unwrap_or((row, "a row has no answer"));
     let mut found = Pen::new(wrong.alloc);
     answer_cell(&mut found, subject, text);
     let mut wanted = Pen::new(wrong.alloc);

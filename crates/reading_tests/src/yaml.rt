@@ -84,7 +84,10 @@ pub(crate) fn show_yaml(pen: &mut Pen, text: &[u8]) {
 pub(crate) fn show_bytes(pen: &mut Pen, text: &str) {
     let mut bytes = Vec::new(pen.alloc);
     for c in text.chars() {
-        if bytes.push(u8::try_from(c).unwrap_or(b'?')).is_err() {
+        let Ok(byte) = u8::try_from(c) else {
+            return pen.put("this is no byte");
+        };
+        if bytes.push(byte).is_err() {
             return pen.lose();
         }
     }
