@@ -29,8 +29,8 @@ impl<'p> Seats<'p> {
         self.players.add()
     }
 
-    pub(crate) fn turn(&mut self, player: usize) {
-        self.players.turn(player);
+    pub(crate) fn turn(&mut self, player: u32) {
+        self.players.turn(player as usize);
     }
 
     /// What follows from an event of a game with these players.
@@ -72,7 +72,8 @@ impl<'p> Seats<'p> {
     }
 
     /// The score of a player; 0 if there is no such player.
-    pub(crate) fn score(&self, player: usize) -> i64 {
+    pub(crate) fn score(&self, player: u32) -> i64 {
+        let player = player as usize;
         if 1 <= player && player <= self.players.count() {
             self.players.score(player)
         } else {
@@ -81,8 +82,10 @@ impl<'p> Seats<'p> {
     }
 }
 
-/// The number of the variable of this name; none if there is none.
-pub(crate) fn variable(plan: &Plan, name: &[u8]) -> Option<u16> {
-    let variable = plan.find_variable(name)?;
-    Some(variable.0)
+/// The number of the variable of this name; 9,999 if there is none.
+pub(crate) fn variable(plan: &Plan, name: &[u8]) -> u16 {
+    match plan.find_variable(name) {
+        Some(variable) => variable.0,
+        None => 9_999,
+    }
 }

@@ -1,18 +1,8 @@
-//! A plain model of the game: its events in their order, and a book of the players.
+//! A plain model of the game: its events in their order, and the players.
 
-use crate::book::Book;
+use crate::plain_players::Book;
 use crate::plans::Rules;
 use plan_tables::{GAME_EVENTS, GameEvent};
-use std::alloc::AllocError;
-
-/// What follows from an event.
-#[derive(Clone, Copy, Debug, PartialEq, Eq)]
-pub(crate) struct Told {
-    pub(crate) first: Option<GameEvent>,
-    pub(crate) second: Option<GameEvent>,
-    pub(crate) requests: bool,
-    pub(crate) finals: bool,
-}
 
 /// A game, as its events have made it.
 #[derive(Drop)]
@@ -23,6 +13,24 @@ pub(crate) struct Plain {
     /// How many balls are in play; none where no ball is on.
     pub(crate) balls: Option<u32>,
     pub(crate) begun: u64,
+}
+
+/// What follows, as one number: posts are digits to the base 100, each one more than the event's place.
+pub(crate) fn and(number: u32, event: Option<GameEvent>) -> u32 {
+    match event {
+        None => number,
+        Some(event) => {
+            let place = u32::try_from(event.index()).unwrap_or(98);
+            number.wrapping_mul(100).wrapping_add(place).wrapping_add(1)
+        }
+    }
+}
+
+/// Besides the posts, whether a ball is requested, and whether the scores are told.
+pub(crate) fn with_flags(posts: u32, requests: bool, finals: bool) -> u32 {
+    posts
+        .wrapping_add(u32::from(requests).wrapping_mul(10_000))
+        .wrapping_add(u32::from(finals).wrapping_mul(20_000))
 }
 
 impl Plain {
@@ -37,13 +45,13 @@ impl Plain {
     }
 
     /// The event is followed by the next one in the order of all events, by another one, or by none.
-    fn follower(&self, event: GameEvent) -> Option<GameEvent> {
-        let next = GAME_EVENTS.get(event.index().saturating_add(1)).copied();
+    fn follower(&mut self, event: GameEvent, home: u32) -> Option<GameEvent> {
         match event {
-            GameEvent::SwStart | GameEvent::BallDrain => None,
+            GameEvent::SwStart => self.start(home),
+            GameEvent::BallDrain => self.drain(),
             GameEvent::PlayerAdded | GameEvent::BallStarted => None,
             GameEvent::PlayerTurnEnded if !self.is_over() => Some(GameEvent::PlayerTurnWillStart),
-            _ => next,
+            _ => GAME_EVENTS.get(event.index().saturating_add(1)).copied(),
         }
     }
 
@@ -76,49 +84,40 @@ impl Plain {
         Some(GameEvent::BallWillEnd)
     }
 
-    /// What an event does to the players.
-    fn seat(&mut self, event: GameEvent) -> Result<(), AllocError> {
+    /// The next player's turn, unless the game is over.
+    fn next_turn(&mut self) {
+        let next = self.book.current.saturating_add(1);
+        if self.is_over() {
+            return;
+        }
+        let last = self.book.current == self.book.count;
+        self.book.turn(if last { 1 } else { next });
+    }
+
+    /// What follows from an event, while so many balls are at home.
+    pub(crate) fn work(&mut self, event: GameEvent, home: u32) -> u32 {
+        let posts = and(0, self.follower(event, home));
         match event {
             GameEvent::PlayerAdded => {
                 let _ = self.book.add();
             }
+            GameEvent::GameStarting => return and(posts, Some(GameEvent::GameStarted)),
             GameEvent::GameStarted => self.book.turn(1),
-            GameEvent::PlayerTurnStarted => self.book.next_ball()?,
-            GameEvent::PlayerTurnEnded if !self.is_over() => {
-                let next = self.book.current.saturating_add(1);
-                let last = self.book.current == self.book.count;
-                self.book.turn(if last { 1 } else { next });
-            }
-            GameEvent::GameEnded => self.book.turn(0),
-            _ => {}
-        }
-        Ok(())
-    }
-
-    /// What follows from an event, while so many balls are at home.
-    pub(crate) fn work(&mut self, event: GameEvent, home: u32) -> Result<Told, AllocError> {
-        let first = match event {
-            GameEvent::SwStart => self.start(home),
-            GameEvent::BallDrain => self.drain(),
-            event => self.follower(event),
-        };
-        self.seat(event)?;
-        match event {
+            GameEvent::PlayerTurnStarted => self.book.next_ball(),
+            GameEvent::PlayerTurnEnded => self.next_turn(),
             GameEvent::BallStarting => {
                 self.going = true;
                 self.balls = Some(1);
+                return with_flags(posts, true, false);
             }
             GameEvent::GameEnded => {
+                self.book.turn(0);
                 self.going = false;
                 self.balls = None;
+                return with_flags(posts, false, true);
             }
             _ => {}
         }
-        Ok(Told {
-            first,
-            second: (event == GameEvent::GameStarting).then_some(GameEvent::GameStarted),
-            requests: event == GameEvent::BallStarting,
-            finals: event == GameEvent::GameEnded,
-        })
+        posts
     }
 }
