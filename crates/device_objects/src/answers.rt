@@ -109,7 +109,6 @@ fn of_counter(counter: &CounterSettings, act: Act) -> Outcomes
     }
 }
 
-#[tactic(none)]
 fn of_accrual(accrual: &StepSettings, act: Act) -> Outcomes
     ensures { map (λ o. o.items) result.items ≡ of_accrual accrual.now act }
 {
@@ -302,7 +301,6 @@ fn with_ending(all: Outcomes, device: &BallSettings, lists: &[u16]) -> Outcomes
 }
 
 /// A ball switch counts: a ball has entered, has left, or is lost.
-#[tactic(none)]
 fn of_count(device: &BallSettings) -> Outcomes
     ensures answers { map (λ o. o.items) result.items ≡ of_count device.now }
     ensures count { array_vec_len result ≤ 4 }

@@ -10,7 +10,6 @@ use crate::device::Outcome;
 use plan_tables::BankSettings;
 
 /// The next state: after the last comes the first where the profile loops, and else it stays.
-#[tactic(none)]
 pub fn next_state(bank: &BankSettings, state: u8) -> u8
     ensures { result ≡ next_state bank.now state }
 {
@@ -41,7 +40,6 @@ fn group_hit(bank: &BankSettings, state: u8) -> u16
 }
 
 /// The list of a group whose shots have all come to this state.
-#[tactic(none)]
 pub fn group_complete(bank: &BankSettings, state: u8) -> u16
     requires { IsWithinLimits (kinds.Bank bank.now) }
     ensures { result ≡ group_complete bank.now state }
@@ -50,7 +48,6 @@ pub fn group_complete(bank: &BankSettings, state: u8) -> u16
 }
 
 /// What a hit runs: the list of the shot, and that of the group, for the state before it.
-#[tactic(none)]
 pub fn hit_lists(bank: &BankSettings, shot: usize, state: u8) -> Outcome
     requires limits { IsWithinLimits (kinds.Bank bank.now) }
     requires shot { shot < bank.now.shots }

@@ -10,7 +10,6 @@ use crate::state::{
 use plan_tables::Settings;
 
 /// The state that a device of these settings has at first.
-#[tactic(none)]
 pub fn first_state(settings: &Settings) -> DeviceState
     ensures { result ≡ first_state settings.now }
 {

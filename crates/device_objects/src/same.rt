@@ -12,7 +12,6 @@ use plan_tables::{
 };
 
 /// Whether two rows are the same.
-#[tactic(none)]
 pub fn is_same_row(a: &DeviceRow, b: &DeviceRow) -> bool
     ensures { IsTrue result ↔ (a.now ≡ b.now) }
 {
@@ -245,7 +244,6 @@ fn is_same_ball_state(a: &BallState, b: &BallState) -> bool
         && a.wanted == b.wanted
 }
 
-#[tactic(none)]
 fn are_same_counters(a: &[CounterSlot; 4], b: &[CounterSlot; 4]) -> bool
     ensures { IsTrue result ↔ (a.now ≡ b.now) }
 {

@@ -23,7 +23,6 @@ pub fn clamped(n: i128) -> i64
 }
 
 /// A value that moves by so much.
-#[tactic(none)]
 pub fn moved(direction: Direction, by: i64, value: i64) -> i64
     ensures { result ≡ moved direction by value }
 {
@@ -34,7 +33,6 @@ pub fn moved(direction: Direction, by: i64, value: i64) -> i64
 }
 
 /// Whether a value has reached or passed its end, if it has one.
-#[tactic(none)]
 pub fn is_at_end(direction: Direction, end: Option<i64>, value: i64) -> bool
     ensures { result ≡ is_at_end direction end value }
 {
