@@ -3,7 +3,7 @@
 use plan_tables::{BallTarget, RowId};
 
 /// Where a ball that enters a device comes from.
-#[derive(Clone, Copy)]
+#[derive(Clone, Copy, Debug)]
 pub enum Origin {
     /// It was on its way to the device.
     Awaited,
@@ -14,7 +14,7 @@ pub enum Origin {
 }
 
 /// A change in where the known balls are.
-#[derive(Clone, Copy)]
+#[derive(Clone, Copy, Debug)]
 pub enum Booking {
     /// A ball has entered the device.
     Entered(RowId, Origin),
