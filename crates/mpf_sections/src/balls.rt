@@ -77,7 +77,7 @@ fn attempts(row: &[Value], at: usize) -> u16
 }
 
 /// An entry of `ball_devices`, by the names of its settings.
-#[tactic(none)]
+#[tactic(auto, unfolding(crate::specs::TypedBalls::ball_device_of))]
 pub fn as_ball_device(entry: &Entry) -> BallDevice<'_>
     ensures { ball_device_view result ≡ ball_device_of (entry_view entry.now) }
 {
@@ -104,7 +104,6 @@ impl BallDevice<'_> {
     }
 
     /// Whether it ejects balls only on request: it is tagged `trough`.
-    #[tactic(none)]
     pub fn is_trough(&self) -> bool
         ensures { result ≡ is_trough (ball_device_view self.now) }
     {
@@ -112,7 +111,6 @@ impl BallDevice<'_> {
     }
 
     /// Whether the balls in it are at home when a game is to begin: it is tagged `trough` or `home`.
-    #[tactic(none)]
     pub fn is_home(&self) -> bool
         ensures { result ≡ is_home (ball_device_view self.now) }
     {
@@ -120,7 +118,6 @@ impl BallDevice<'_> {
     }
 
     /// Whether a ball that comes into it from the playfield has drained: it is tagged `drain`.
-    #[tactic(none)]
     pub fn is_drain(&self) -> bool
         ensures { result ≡ is_drain (ball_device_view self.now) }
     {
@@ -131,7 +128,7 @@ impl BallDevice<'_> {
 impl Section {
     /// The entries of `ball_devices`, each to be read with [`as_ball_device`]; none of any other
     /// section.
-    #[tactic(none)]
+    #[tactic(auto, unfolding(crate::specs::TypedBalls::ball_devices_in))]
     pub fn ball_devices(&self) -> &[Entry]
         ensures { map ball_device_of (map entry_view result.now) ≡ ball_devices_in (section_view self.now) }
     {

@@ -102,7 +102,7 @@ fn as_block(row: &[Value], first: usize) -> Block<'_>
 }
 
 /// An entry of `counters`, by the names of its settings.
-#[tactic(none)]
+#[tactic(auto, unfolding(crate::specs::Typed::counter_of))]
 pub fn as_counter(entry: &Entry) -> Counter<'_>
     ensures { counter_view result ≡ counter_of (entry_view entry.now) }
 {
@@ -120,7 +120,7 @@ pub fn as_counter(entry: &Entry) -> Counter<'_>
 }
 
 /// An entry of `accruals` or `sequences`, by the names of its settings.
-#[tactic(none)]
+#[tactic(auto, unfolding(crate::specs::Typed::step_block_of))]
 pub fn as_step_block(entry: &Entry) -> StepBlock<'_>
     ensures { step_block_view result ≡ step_block_of (entry_view entry.now) }
 {
@@ -134,7 +134,7 @@ pub fn as_step_block(entry: &Entry) -> StepBlock<'_>
 
 impl Section {
     /// The entries of `counters`, each to be read with [`as_counter`]; none of any other section.
-    #[tactic(none)]
+    #[tactic(auto, unfolding(crate::specs::Typed::counters_in))]
     pub fn counters(&self) -> &[Entry]
         ensures { map counter_of (map entry_view result.now) ≡ counters_in (section_view self.now) }
     {
@@ -143,7 +143,7 @@ impl Section {
 
     /// The entries of `accruals`, each to be read with [`as_step_block`]; none of any other
     /// section.
-    #[tactic(none)]
+    #[tactic(auto, unfolding(crate::specs::Typed::accruals_in))]
     pub fn accruals(&self) -> &[Entry]
         ensures { map step_block_of (map entry_view result.now) ≡ accruals_in (section_view self.now) }
     {
@@ -152,7 +152,7 @@ impl Section {
 
     /// The entries of `sequences`, each to be read with [`as_step_block`]; none of any other
     /// section.
-    #[tactic(none)]
+    #[tactic(auto, unfolding(crate::specs::Typed::sequences_in))]
     pub fn sequences(&self) -> &[Entry]
         ensures { map step_block_of (map entry_view result.now) ≡ sequences_in (section_view self.now) }
     {

@@ -75,7 +75,7 @@ fn needed_name(entry: &Entry, at: usize) -> NameAt<'_>
 }
 
 /// An entry of `flippers`, by the names of its settings.
-#[tactic(none)]
+#[tactic(auto, unfolding(crate::specs::TypedCoils::flipper_of))]
 pub fn as_flipper(entry: &Entry) -> Flipper<'_>
     ensures { flipper_view result ≡ flipper_of (entry_view entry.now) }
 {
@@ -91,7 +91,7 @@ pub fn as_flipper(entry: &Entry) -> Flipper<'_>
 }
 
 /// An entry of `autofire_coils`, by the names of its settings.
-#[tactic(none)]
+#[tactic(auto, unfolding(crate::specs::TypedCoils::autofire_of))]
 pub fn as_autofire(entry: &Entry) -> Autofire<'_>
     ensures { autofire_view result ≡ autofire_of (entry_view entry.now) }
 {
@@ -107,7 +107,7 @@ pub fn as_autofire(entry: &Entry) -> Autofire<'_>
 
 impl Section {
     /// The entries of `flippers`, each to be read with [`as_flipper`]; none of any other section.
-    #[tactic(none)]
+    #[tactic(auto, unfolding(crate::specs::TypedCoils::flippers_in))]
     pub fn flippers(&self) -> &[Entry]
         ensures { map flipper_of (map entry_view result.now) ≡ flippers_in (section_view self.now) }
     {
@@ -116,7 +116,7 @@ impl Section {
 
     /// The entries of `autofire_coils`, each to be read with [`as_autofire`]; none of any other
     /// section.
-    #[tactic(none)]
+    #[tactic(auto, unfolding(crate::specs::TypedCoils::autofires_in))]
     pub fn autofires(&self) -> &[Entry]
         ensures { map autofire_of (map entry_view result.now) ≡ autofires_in (section_view self.now) }
     {

@@ -96,7 +96,6 @@ fn action_of(word: &[u8]) -> CoilAction
 }
 
 // Whether a coil may be held: where that is allowed, or it has a power above 0 to be held with.
-#[tactic(none)]
 fn may_hold(allowed: bool, power: Option<u16>) -> bool
     ensures { result ≡ may_hold allowed power }
 {
@@ -115,7 +114,7 @@ fn max_hold_power(written: Option<u16>, allowed: bool, power: Option<u16>) -> u1
 }
 
 /// An entry of `coils`, by the names of its settings.
-#[tactic(none)]
+#[tactic(auto, unfolding(crate::specs::TypedCoils::coil_of))]
 pub fn as_coil(entry: &Entry) -> Coil<'_>
     ensures { coil_view result ≡ coil_of (entry_view entry.now) }
 {
@@ -137,7 +136,7 @@ pub fn as_coil(entry: &Entry) -> Coil<'_>
 }
 
 /// What belongs to a coil in an entry of `coil_player`, by the names of its fields.
-#[tactic(none)]
+#[tactic(auto, unfolding(crate::specs::TypedCoils::coil_item_of))]
 pub fn as_coil_item(keyed: &Keyed) -> CoilItem<'_>
     ensures { coil_item_view result ≡ coil_item_of (keyed_view keyed.now) }
 {
@@ -152,7 +151,7 @@ pub fn as_coil_item(keyed: &Keyed) -> CoilItem<'_>
 }
 
 /// An entry of `coil_player`, by the names of what it has.
-#[tactic(none)]
+#[tactic(auto, unfolding(crate::specs::TypedCoils::coil_player_of))]
 pub fn as_coil_player(player: &Player) -> CoilPlayer<'_>
     ensures { coil_player_view result ≡ coil_player_of (player_view player.now) }
 {
@@ -164,7 +163,7 @@ pub fn as_coil_player(player: &Player) -> CoilPlayer<'_>
 
 impl Section {
     /// The entries of `coils`, each to be read with [`as_coil`]; none of any other section.
-    #[tactic(none)]
+    #[tactic(auto, unfolding(crate::specs::TypedCoils::coils_in))]
     pub fn coils(&self) -> &[Entry]
         ensures { map coil_of (map entry_view result.now) ≡ coils_in (section_view self.now) }
     {
@@ -173,7 +172,7 @@ impl Section {
 
     /// The entries of `coil_player`, each to be read with [`as_coil_player`]; none of any other
     /// section.
-    #[tactic(none)]
+    #[tactic(auto, unfolding(crate::specs::TypedCoils::coil_players_in))]
     pub fn coil_players(&self) -> &[Player]
         ensures { map coil_player_of (map player_view result.now) ≡ coil_players_in (section_view self.now) }
     {

@@ -54,7 +54,6 @@ const MIN_BALLS: usize = 0;
 const SET: &[u8] = b"set";
 
 // What a word does with a variable.
-#[tactic(none)]
 fn action_of(word: &[u8]) -> VariableAction
     ensures { result ≡ variable_action_of word.now }
 {
@@ -78,7 +77,7 @@ pub fn as_variable_item(keyed: &Keyed) -> VariableItem<'_>
 }
 
 /// An entry of `variable_player`, by the names of what it has.
-#[tactic(none)]
+#[tactic(auto, unfolding(crate::specs::TypedGame::variable_player_of))]
 pub fn as_variable_player(player: &Player) -> VariablePlayer<'_>
     ensures { variable_player_view result ≡ variable_player_of (player_view player.now) }
 {
@@ -89,7 +88,7 @@ pub fn as_variable_player(player: &Player) -> VariablePlayer<'_>
 }
 
 /// The entry that the section `game` is, by the names of its settings.
-#[tactic(none)]
+#[tactic(auto, unfolding(crate::specs::TypedGame::game_of))]
 pub fn as_game(entry: &Entry) -> GameSettings
     ensures { game_view result ≡ game_of (entry_view entry.now) }
 {
@@ -102,7 +101,6 @@ pub fn as_game(entry: &Entry) -> GameSettings
 
 /// How many balls have to be there for a game to begin: what the section `machine` says, up to 99;
 /// 1 where it says nothing, and where there is no such section.
-#[tactic(none)]
 pub fn min_balls(sections: &[Section]) -> u32
     ensures { result ≡ min_balls_of (map section_view sections.now) }
 {
@@ -115,7 +113,7 @@ pub fn min_balls(sections: &[Section]) -> u32
 impl Section {
     /// The entries of `variable_player`, each to be read with [`as_variable_player`]; none of any
     /// other section.
-    #[tactic(none)]
+    #[tactic(auto, unfolding(crate::specs::TypedGame::variable_players_in))]
     pub fn variable_players(&self) -> &[Player]
         ensures { map variable_player_of (map player_view result.now) ≡ variable_players_in (section_view self.now) }
     {

@@ -107,7 +107,7 @@ fn few_maps(row: &[Value], at: usize) -> &[Fields]
 }
 
 /// An entry of `shots`, by the names of its settings.
-#[tactic(none)]
+#[tactic(auto, unfolding(crate::specs::TypedShots::shot_of))]
 pub fn as_shot(entry: &Entry) -> Shot<'_>
     ensures { shot_view result ≡ shot_of (entry_view entry.now) }
 {
@@ -125,7 +125,7 @@ pub fn as_shot(entry: &Entry) -> Shot<'_>
 }
 
 /// An entry of `shot_groups`, by the names of its settings.
-#[tactic(none)]
+#[tactic(auto, unfolding(crate::specs::TypedShots::shot_group_of))]
 pub fn as_shot_group(entry: &Entry) -> ShotGroup<'_>
     ensures { shot_group_view result ≡ shot_group_of (entry_view entry.now) }
 {
@@ -141,7 +141,7 @@ pub fn as_shot_group(entry: &Entry) -> ShotGroup<'_>
 }
 
 /// A map of `states`: the name of the state; none if it has none, as no map has that is read.
-#[tactic(none)]
+#[tactic(auto, unfolding(crate::specs::TypedShots::state_of))]
 pub fn as_state(map: &Fields) -> Option<NameAt<'_>>
     ensures { option_map name_at_view result ≡ state_of (fields_view map.now) }
 {
@@ -149,7 +149,7 @@ pub fn as_state(map: &Fields) -> Option<NameAt<'_>>
 }
 
 /// An entry of `shot_profiles`, by the names of its settings.
-#[tactic(none)]
+#[tactic(auto, unfolding(crate::specs::TypedShots::shot_profile_of))]
 pub fn as_shot_profile(entry: &Entry) -> ShotProfile<'_>
     ensures { shot_profile_view result ≡ shot_profile_of (entry_view entry.now) }
 {
@@ -164,7 +164,7 @@ pub fn as_shot_profile(entry: &Entry) -> ShotProfile<'_>
 
 impl Section {
     /// The entries of `shots`, each to be read with [`as_shot`]; none of any other section.
-    #[tactic(none)]
+    #[tactic(auto, unfolding(crate::specs::TypedShots::shots_in))]
     pub fn shots(&self) -> &[Entry]
         ensures { map shot_of (map entry_view result.now) ≡ shots_in (section_view self.now) }
     {
@@ -173,7 +173,7 @@ impl Section {
 
     /// The entries of `shot_groups`, each to be read with [`as_shot_group`]; none of any other
     /// section.
-    #[tactic(none)]
+    #[tactic(auto, unfolding(crate::specs::TypedShots::shot_groups_in))]
     pub fn shot_groups(&self) -> &[Entry]
         ensures { map shot_group_of (map entry_view result.now) ≡ shot_groups_in (section_view self.now) }
     {
@@ -182,7 +182,7 @@ impl Section {
 
     /// The entries of `shot_profiles`, each to be read with [`as_shot_profile`]; none of any other
     /// section.
-    #[tactic(none)]
+    #[tactic(auto, unfolding(crate::specs::TypedShots::shot_profiles_in))]
     pub fn shot_profiles(&self) -> &[Entry]
         ensures { map shot_profile_of (map entry_view result.now) ≡ shot_profiles_in (section_view self.now) }
     {

@@ -130,7 +130,7 @@ fn interval_from(ms: u32) -> u32
 
 /// A map of `control_events`, by the names of its fields; none if it has no event, as no map has
 /// that is read.
-#[tactic(none)]
+#[tactic(auto, unfolding(crate::specs::Typed::control_of))]
 pub fn as_control(map: &Fields) -> Option<Control<'_>>
     ensures { option_map control_view result ≡ control_of (fields_view map.now) }
 {
@@ -144,7 +144,7 @@ pub fn as_control(map: &Fields) -> Option<Control<'_>>
 }
 
 /// An entry of `timers`, by the names of its settings.
-#[tactic(none)]
+#[tactic(auto, unfolding(crate::specs::Typed::timer_of))]
 pub fn as_timer(entry: &Entry) -> Timer<'_>
     ensures { timer_view result ≡ timer_of (entry_view entry.now) }
 {
@@ -164,7 +164,7 @@ pub fn as_timer(entry: &Entry) -> Timer<'_>
 
 impl Section {
     /// The entries of `timers`, each to be read with [`as_timer`]; none of any other section.
-    #[tactic(none)]
+    #[tactic(auto, unfolding(crate::specs::Typed::timers_in))]
     pub fn timers(&self) -> &[Entry]
         ensures { map timer_of (map entry_view result.now) ≡ timers_in (section_view self.now) }
     {

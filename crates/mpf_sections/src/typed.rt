@@ -67,7 +67,6 @@ pub struct ModeSettings<'a> {
 // ---- handled events
 
 /// An event of a list, where it is written.
-#[tactic(none)]
 pub fn as_handled(handler: &Handler) -> HandledAt<'_>
     ensures { handled_at_view result ≡ handler_view handler.now }
 {
@@ -98,7 +97,6 @@ const QUICK: &[u8] = b"quick";
 const NORMAL: &[u8] = b"normal";
 
 // The contact of a word.
-#[tactic(none)]
 fn contact_of(word: &[u8]) -> Contact
     ensures { result ≡ contact_of word.now }
 {
@@ -164,7 +162,7 @@ const GAME_MODE: usize = 3;
 const STOP_ON_BALL_END: usize = 4;
 
 // What holds where no setting is written.
-#[tactic(none)]
+#[tactic(auto, unfolding(crate::specs::Typed::mode_settings_of))]
 fn default_settings<'a>() -> ModeSettings<'a>
     ensures { mode_settings_view result ≡ mode_settings_of (mode_row None) }
 {
@@ -206,7 +204,6 @@ pub fn mode_settings(sections: &[Section]) -> ModeSettings<'_>
 
 /// The names that the section `modes` lists, each with its line; none where there is no such
 /// section.
-#[tactic(none)]
 pub fn listed_modes(sections: &[Section]) -> &[Name]
     ensures { map name_view result.now ≡ listed_modes (map section_view sections.now) }
 {
@@ -232,7 +229,6 @@ pub fn section_named<'a>(sections: &'a [Section], name: &[u8]) -> Option<&'a Con
 
 impl Content {
     /// The entries of a section that is written as entries; none of any other.
-    #[tactic(none)]
     pub fn entries(&self) -> &[Entry]
         ensures { map entry_view result.now ≡ entries_in (content_view self.now) }
     {
@@ -254,7 +250,6 @@ impl Content {
 
 impl Section {
     /// The entries of the section, where it has this name; none otherwise.
-    #[tactic(none)]
     pub fn entries_of(&self, name: &[u8]) -> &[Entry]
         ensures { map entry_view result.now ≡ entries_of name.now (section_view self.now) }
     {
@@ -265,7 +260,6 @@ impl Section {
     }
 
     /// The entries of the player, where the section has this name; none otherwise.
-    #[tactic(none)]
     pub fn players_of(&self, name: &[u8]) -> &[Player]
         ensures { map player_view result.now ≡ players_of name.now (section_view self.now) }
     {
@@ -276,7 +270,7 @@ impl Section {
     }
 
     /// The entries of `switches`, each to be read with [`as_switch`]; none of any other section.
-    #[tactic(none)]
+    #[tactic(auto, unfolding(crate::specs::Typed::switches_in))]
     pub fn switches(&self) -> &[Entry]
         ensures { map switch_of (map entry_view result.now) ≡ switches_in (section_view self.now) }
     {
@@ -285,7 +279,7 @@ impl Section {
 
     /// The entries of `event_player`, each to be read with [`as_event_player`]; none of any other
     /// section.
-    #[tactic(none)]
+    #[tactic(auto, unfolding(crate::specs::Typed::event_players_in))]
     pub fn event_players(&self) -> &[Player]
         ensures { map event_player_of (map player_view result.now) ≡ event_players_in (section_view self.now) }
     {
