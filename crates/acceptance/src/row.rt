@@ -161,23 +161,26 @@ fn play_log(
 ) -> Result<Verdict, ShellFault> {
     let mut devices: Vec<Box<dyn Device>> = Vec::new(alloc);
     for row in checked.plan().rows() {
-        if let Some(counter) = Counter::new(row) {
-            devices.push(Box::new(alloc, counter)?)?;
+        let device: Box<dyn Device> = if let Some(counter) = Counter::new(row) {
+            Box::new(alloc, counter)?
         } else if let Some(accrual) = Accrual::new(row) {
-            devices.push(Box::new(alloc, accrual)?)?;
+            Box::new(alloc, accrual)?
         } else if let Some(sequence) = Sequence::new(row) {
-            devices.push(Box::new(alloc, sequence)?)?;
+            Box::new(alloc, sequence)?
         } else if let Some(timer) = Timer::new(row) {
-            devices.push(Box::new(alloc, timer)?)?;
+            Box::new(alloc, timer)?
         } else if let Some(bank) = ShotBank::new(row) {
-            devices.push(Box::new(alloc, bank)?)?;
+            Box::new(alloc, bank)?
         } else if let Some(flipper) = Flipper::new(row) {
-            devices.push(Box::new(alloc, flipper)?)?;
+            Box::new(alloc, flipper)?
         } else if let Some(autofire) = Autofire::new(row) {
-            devices.push(Box::new(alloc, autofire)?)?;
+            Box::new(alloc, autofire)?
         } else if let Some(device) = BallDevice::new(row) {
-            devices.push(Box::new(alloc, device)?)?;
-        }
+            Box::new(alloc, device)?
+        } else {
+            continue;
+        };
+        devices.push(device)?;
     }
     play_on_board(alloc, checked, devices, log, wires, writer)
 }

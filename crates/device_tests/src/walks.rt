@@ -70,21 +70,25 @@ struct Kind {
     list: &'static [u8],
     /// The greatest answer of a call that completes nothing, or moves no coil.
     usual: i64,
+    /// More calls than this complete a device, or move its coil.
+    least: u32,
 }
 
 /// Counters, accruals, sequences, timers, flippers, autofire coils, and banks.
 fn kind_of(kind: u32) -> Kind {
-    let (devices, calls, list, usual) = match kind {
-        0 | 1 | 2 => (500, 40, OF_BLOCKS, 1_000_000),
-        3 => (500, 40, OF_BLOCKS, 1_000),
-        4 | 5 => (500, 40, OF_COILS, 0),
-        _ => (2_048, 80, OF_BANKS, 1_000_000),
+    let (devices, calls, list, usual, least) = match kind {
+        0 => (500, 40, OF_BLOCKS, 1_000_000, 700),
+        1 | 2 => (500, 40, OF_BLOCKS, 1_000_000, 100),
+        3 => (500, 40, OF_BLOCKS, 1_000, 350),
+        4 | 5 => (500, 40, OF_COILS, 0, 800),
+        _ => (2_048, 80, OF_BANKS, 1_000_000, 800),
     };
     Kind {
         devices,
         calls,
         list,
         usual,
+        least,
     }
 }
 
@@ -167,7 +171,7 @@ fn random_devices(rt: HostRuntime) {
     for kind in 0..7u32 {
         let (completed, wrong) = walked(kind);
         assert!(rt;
-            wrong.is_none() && completed > 100,
+            wrong.is_none() && completed > kind_of(kind).least,
             "{wrong:?} of kind {kind}"
         );
     }
