@@ -1,30 +1,26 @@
 //! Texts joined to a bundle.
 
 use pinball_shell::{BUNDLE_LIMIT, ShellFault, join};
+use std::alloc::Global;
 use std::test::Fail;
 
-// A bundle, a name and a text, and the bundle of both, where `¶` stands for LF.
-const ROWS: &str = "\
-@ a¶x: y¶ | b |  => @ a¶x: y¶@ b¶
- | config/config.yaml | #config_version=6¶ => @ config/config.yaml¶#config_version=6¶
- | config/config.yaml | #config_version=6 => @ config/config.yaml¶#config_version=6¶
-@ a¶ | b | ¶ => @ a¶@ b¶¶
-@ a | b | x¶y => @ a@ b¶x¶y¶
- |  |  => @ ¶";
+fn joins(alloc: Global, parts: (&str, &str, &str), wanted: &str) -> Result<bool, Fail> {
+    let (bundle, name, text) = parts;
+    let joined = join(alloc, bundle.as_bytes(), name.as_bytes(), text.as_bytes())?;
+    Ok(joined.as_slice() == wanted.as_bytes())
+}
 
 #[test]
 fn texts_are_joined(rt: HostRuntime) -> Result<(), Fail> {
     let alloc = rt.alloc();
-    for row in ROWS.split("\n") {
-        let (given, wanted) = row.split_once(" => ").ok_or("no row")?;
-        let (bundle, more) = given.split_once(" | ").ok_or("no bundle")?;
-        let (name, text) = more.split_once(" | ").ok_or("no name")?;
-        let bundle = bundle.replace(alloc, "¶", "\n")?;
-        let text = text.replace(alloc, "¶", "\n")?;
-        let wanted = wanted.replace(alloc, "¶", "\n")?;
-        let joined = join(alloc, bundle.as_bytes(), name.as_bytes(), text.as_bytes())?;
-        assert!(rt; joined.as_slice() == wanted.as_bytes(), "{row}");
-    }
+    let machine = "@ config/config.yaml\n#config_version=6\n";
+    let name = "config/config.yaml";
+    assert!(rt; joins(alloc, ("@ a\nx: y\n", "b", ""), "@ a\nx: y\n@ b\n")?);
+    assert!(rt; joins(alloc, ("", name, "#config_version=6\n"), machine)?);
+    assert!(rt; joins(alloc, ("", name, "#config_version=6"), machine)?);
+    assert!(rt; joins(alloc, ("@ a\n", "b", "\n"), "@ a\n@ b\n\n")?);
+    assert!(rt; joins(alloc, ("@ a", "b", "x\ny"), "@ a@ b\nx\ny\n")?);
+    assert!(rt; joins(alloc, ("", "", ""), "@ \n")?);
     Ok(())
 }
 

@@ -28,6 +28,7 @@ mod faulty;
 mod game_rows;
 #[cfg(test)]
 mod hostile;
+#[cfg(test)]
 mod joined;
 #[cfg(test)]
 mod limits;

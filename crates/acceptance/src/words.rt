@@ -43,10 +43,9 @@ check -h => usage
 fn words_of(alloc: Global, texts: &str) -> Result<Vec<String>, AllocError> {
     let mut words = Vec::new(alloc);
     for text in texts.split(" ") {
-        match text {
-            "" => {}
-            "''" => words.push(String::new(alloc))?,
-            _ => words.push(String::from_str(alloc, text)?)?,
+        let word = if text == "''" { "" } else { text };
+        if !text.is_empty() {
+            words.push(String::from_str(alloc, word)?)?;
         }
     }
     Ok(words)
@@ -64,9 +63,9 @@ fn asked(alloc: Global, texts: &str) -> Result<String, AllocError> {
 #[test]
 fn words_ask(rt: HostRuntime) -> Result<(), Fail> {
     for row in ROWS.split("\n") {
-        let (words, wanted) = row.split_once(" => ").ok_or("no row")?;
+        let (words, wanted) = row.split_once(" => ").unwrap_or(("", "a row"));
         let found = asked(rt.alloc(), words)?;
-        assert_eq!(rt; found.as_str(), wanted, "{row}");
+        assert!(rt; found.as_str() == wanted, "{row}: {found}");
     }
     Ok(())
 }
@@ -76,7 +75,10 @@ fn usage_names_what_is_wrong(rt: HostRuntime) -> Result<(), Fail> {
     let Err(AskFault::Usage(text)) = command(rt.alloc(), words_of(rt.alloc(), "prove")?) else {
         return Err(Fail::from("prove is understood"));
     };
-    assert!(rt; text.contains("unrecognized subcommand 'prove'"), "{text}");
-    assert!(rt; text.contains("Usage: pinball <COMMAND>"), "{text}");
+    let named = text.contains("unrecognized subcommand 'prove'");
+    assert!(rt;
+        named && text.contains("Usage: pinball <COMMAND>"),
+        "{text}"
+    );
     Ok(())
 }

@@ -14,7 +14,7 @@ pub enum Command {
 }
 
 /// What became of an action.
-#[derive(Clone, Copy, Debug, PartialEq, Eq)]
+#[derive(Clone, Copy, PartialEq, Eq)]
 pub enum Answer {
     /// This command is sent.
     Sent(Command),

@@ -7,7 +7,7 @@ use crate::limits::{is_hold_within, is_pulse_within};
 use plan_tables::{CoilLimits, Owner};
 
 /// A coil with what its guard remembers of it. Moments are milliseconds.
-#[derive(Clone, Copy, Debug)]
+#[derive(Clone, Copy)]
 pub struct CoilState {
     /// What it may be sent.
     pub limits: CoilLimits,

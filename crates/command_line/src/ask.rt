@@ -1,8 +1,9 @@
 //! What the words after the program's name ask for.
 
 ghost use Rattle.std.specs.Prelude.{◌≡◌, ℕ, List, [], ◌∷◌, Some, true, false, IfOk, IfErr, IsSome, map, option_map, None, codes, string_bytes};
-ghost use Rattle.clap.specs.Words.{app_of, kind_of, rule_of, subcommand_rows_of};
-ghost use Rattle.command_line.specs.CommandLine.{path_rule, folder_rule, pinball_app, check, verify, play, ask_view, asked_by, asked_of, asked_at, begins_with_hyphen, Asks};
+ghost use Rattle.clap.specs.declared.builder.command.Command.{out-Command};
+ghost use Rattle.clap.specs.Words.{app_of, kind_of, new_app, rule_of, subcommand_rows_of};
+ghost use Rattle.command_line.specs.CommandLine.{path_rule, folder_rule, check_app, path_app, program_app, pinball_app, check, verify, play, ask_view, asked_by, asked_of, asked_at, begins_with_hyphen, Asks};
 ghost use Rattle.command_line.specs.declared.ask.AskFault.TheVariants.{NoMemory};
 
 use clap::error::ErrorKind;
@@ -89,25 +90,59 @@ fn read_words(alloc: Global, words: &[String]) -> Result<Ask, AskFault>
 fn pinball<'a>(alloc: Global) -> Result<Command<'a>, AllocError>
     ensures { IfOk result (λ command. app_of command ≡ pinball_app) }
 {
-    let check = Command::new(alloc, "check")
-        .about("Checks a configuration")
-        .arg(folder_argument(alloc))?;
-    let verify = Command::new(alloc, "verify")
-        .about("Verifies a certificate of a configuration")
-        .arg(path_argument(alloc, "CERT", "The file with the certificate"))?
-        .arg(folder_argument(alloc))?;
-    let play = Command::new(alloc, "play")
-        .about("Plays a log on a configuration")
-        .arg(path_argument(alloc, "LOG", "The file with the log of the switches"))?
-        .arg(folder_argument(alloc))?;
-    let program = Command::new(alloc, "pinball")
-        .about("Checks and plays configurations of pinball machines")
-        .no_binary_name(true)
-        .subcommand_required(true);
-    program
+    let check = check_command(alloc)?;
+    let verify = path_command(
+        alloc,
+        "verify",
+        "Verifies a certificate of a configuration",
+        path_argument(alloc, "CERT", "The file with the certificate"),
+    )?;
+    let play = path_command(
+        alloc,
+        "play",
+        "Plays a log on a configuration",
+        path_argument(alloc, "LOG", "The file with the log of the switches"),
+    )?;
+    program(alloc)
         .subcommand(check)?
         .subcommand(verify)?
         .subcommand(play)
+}
+
+fn program<'a>(alloc: Global) -> Command<'a>
+    ensures { app_of result ≡ program_app }
+{
+    Command::new(alloc, "pinball")
+        .about("Checks and plays configurations of pinball machines")
+        .no_binary_name(true)
+        .subcommand_required(true)
+}
+
+fn check_command<'a>(alloc: Global) -> Result<Command<'a>, AllocError>
+    ensures shape { IfOk result (λ command. app_of command ≡ check_app) }
+    ensures local { IfOk result (λ command. (out-Command command).has_globals ≡ false) }
+{
+    Command::new(alloc, "check")
+        .about("Checks a configuration")
+        .arg(folder_argument(alloc))
+}
+
+/// A subcommand with a path, and then a folder.
+fn path_command<'a>(
+    alloc: Global,
+    name: &'a str,
+    about: &'a str,
+    path: Arg<'a>,
+) -> Result<Command<'a>, AllocError>
+    requires rule { rule_of path ≡ path_rule }
+    requires local { path.global ≡ false }
+    ensures shape { IfOk result (λ command. app_of command ≡ path_app (new_app name.now)) }
+    ensures local { IfOk result (λ command. (out-Command command).has_globals ≡ false) }
+{
+    Command::new(alloc, name)
+        .about(about)
+        .arg(path)?
+        .arg(folder_argument(alloc))
 }
 
 fn folder_argument<'a>(alloc: Global) -> Arg<'a>

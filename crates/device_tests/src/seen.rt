@@ -1,46 +1,18 @@
-//! Whether the state of a device is that of its model.
+//! Whether the state of a device is that of its plain model.
 
-use crate::model::{Block, Slot, Ticker, first_slot};
-use device_objects::{AccrualSlot, CounterSlot, DeviceState, SequenceSlot, World};
+ghost use Rattle.std.specs.Prelude.{◌<◌};
 
-fn is_same(a: Slot, b: Slot) -> bool {
-    a.enabled == b.enabled && a.value == b.value
-}
+use crate::banks::with_state;
+use crate::plain::{Plain, Slot, first_slot, has_players};
+use device_objects::{DeviceState, World};
+use plan_tables::Settings;
 
-/// A slot as it counts: of another game it is a first one. Slots that are not of players are of no
-/// game.
-fn is_seen(block: &Block, world: World, game: u64, slot: Slot, wanted: Slot) -> bool {
-    if !block.rules.persist {
-        return game == 0 && is_same(slot, wanted);
-    }
-    if game == world.games {
-        return is_same(slot, wanted);
-    }
-    is_same(first_slot(&block.rules), wanted)
-}
-
-fn are_counters(block: &Block, world: World, slots: &[CounterSlot; 4]) -> bool {
-    let mut same = true;
-    for (slot, wanted) in slots.iter().zip(block.slots.iter()) {
-        let found = Slot {
-            enabled: slot.enabled,
-            value: slot.value,
-            last: slot.last_hit,
-        };
-        same = same && is_seen(block, world, slot.game, found, *wanted);
-        if slot.game == world.games || !block.rules.persist {
-            same = same && slot.last_hit == wanted.last;
-        }
-    }
-    same
-}
-
-/// The marks as bits.
-pub(crate) fn bits(marks: &[bool; 16]) -> i64 {
+/// The flags as bits.
+pub(crate) fn bits(flags: &[bool; 16]) -> i64 {
     let mut bits = 0i64;
     let mut bit = 1i64;
-    for mark in marks.iter() {
-        if *mark {
+    for flag in flags.iter() {
+        if *flag {
             bits |= bit;
         }
         bit = bit.wrapping_shl(1);
@@ -48,46 +20,98 @@ pub(crate) fn bits(marks: &[bool; 16]) -> i64 {
     bits
 }
 
-fn are_accruals(block: &Block, world: World, slots: &[AccrualSlot; 4]) -> bool {
+/// 4 bits for each state.
+fn packed(states: &[u8; 16]) -> i64 {
+    let mut value = 0i64;
+    let mut shot = 0i64;
+    for state in states.iter() {
+        value = with_state(value, shot, i64::from(*state & 15));
+        shot = shot.wrapping_add(1);
+    }
+    value
+}
+
+fn slot_of(enabled: i64, value: i64, moment: Option<u64>) -> Slot {
+    Slot {
+        enabled,
+        value,
+        moment,
+    }
+}
+
+/// The value of the first player.
+pub(crate) fn value_of(state: &DeviceState) -> i64 {
+    seen(state, 0).1.value
+}
+
+/// The game and the slot of a player. A device that has one slot shows it for each player.
+fn seen(state: &DeviceState, player: usize) -> (u64, Slot)
+    requires { player < 4 }
+{
+    match state {
+        DeviceState::Counter(slots) => {
+            let it = &slots[player];
+            (
+                it.game,
+                slot_of(i64::from(it.enabled), it.value, it.last_hit),
+            )
+        }
+        DeviceState::Accrual(slots) => {
+            let it = &slots[player];
+            (
+                it.game,
+                slot_of(i64::from(it.enabled), bits(&it.done), None),
+            )
+        }
+        DeviceState::Sequence(slots) => {
+            let it = &slots[player];
+            let next = i64::try_from(it.next).unwrap_or(-1);
+            (it.game, slot_of(i64::from(it.enabled), next, None))
+        }
+        DeviceState::Bank(slots) => {
+            let it = &slots[player];
+            (
+                it.game,
+                slot_of(bits(&it.enabled), packed(&it.states), None),
+            )
+        }
+        DeviceState::Timer(it) => (0, slot_of(0, it.value, it.due)),
+        DeviceState::Flipper(it) => (0, slot_of(i64::from(it.enabled), i64::from(it.on), None)),
+        DeviceState::Autofire(it) => (0, slot_of(i64::from(it.enabled), 0, None)),
+        _ => (u64::MAX, slot_of(0, 0, None)),
+    }
+}
+
+fn is_same(a: Slot, b: Slot) -> bool {
+    a.enabled == b.enabled && a.value == b.value && a.moment == b.moment
+}
+
+/// Whether a slot, as it counts, is that of the player: of another game it is a first one. Slots that
+/// are not of players are of no game.
+fn counts_as(plain: &Plain, world: World, game: u64, slot: Slot, wanted: Slot) -> bool {
+    if !has_players(plain.settings) {
+        return game == 0 && is_same(slot, wanted);
+    }
+    if game == world.games {
+        return is_same(slot, wanted);
+    }
+    is_same(first_slot(plain.settings), wanted)
+}
+
+/// Whether the state is that of the model in this world.
+pub(crate) fn agrees(plain: &Plain, world: World, state: &DeviceState) -> bool {
+    let count = if has_one_slot(plain.settings) { 1 } else { 4 };
     let mut same = true;
-    for (slot, wanted) in slots.iter().zip(block.slots.iter()) {
-        let found = Slot {
-            enabled: slot.enabled,
-            value: bits(&slot.done),
-            last: None,
-        };
-        same = same && is_seen(block, world, slot.game, found, *wanted);
+    for player in 0..count {
+        let (game, slot) = seen(state, player);
+        same = same && counts_as(plain, world, game, slot, plain.slots[player]);
     }
     same
 }
 
-fn are_sequences(block: &Block, world: World, slots: &[SequenceSlot; 4]) -> bool {
-    let mut same = true;
-    for (slot, wanted) in slots.iter().zip(block.slots.iter()) {
-        let found = Slot {
-            enabled: slot.enabled,
-            value: i64::try_from(slot.next).unwrap_or(-1),
-            last: None,
-        };
-        same = same && is_seen(block, world, slot.game, found, *wanted);
-    }
-    same
-}
-
-/// Whether the state is that of the block in this world.
-pub(crate) fn is_block(block: &Block, world: World, state: &DeviceState) -> bool {
-    match state {
-        DeviceState::Counter(slots) => are_counters(block, world, slots),
-        DeviceState::Accrual(slots) => are_accruals(block, world, slots),
-        DeviceState::Sequence(slots) => are_sequences(block, world, slots),
-        _ => false,
-    }
-}
-
-/// Whether the state is that of the timer.
-pub(crate) fn is_timer(timer: &Ticker, state: &DeviceState) -> bool {
-    match state {
-        DeviceState::Timer(found) => found.value == timer.value && found.due == timer.due,
-        _ => false,
-    }
+fn has_one_slot(settings: Settings) -> bool {
+    matches!(
+        settings,
+        Settings::Timer(_) | Settings::Flipper | Settings::Autofire
+    )
 }

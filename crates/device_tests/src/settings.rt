@@ -1,130 +1,153 @@
-//! Settings of devices, drawn at random, and the rules that they give.
+//! Settings of devices, by bits and numbers, and drawn at random.
 
-use crate::drawing::{draw, draw_value, one_in};
-use crate::model::{Kind, Rules};
-use plan_tables::{BlockSettings, CounterSettings, Direction, StepSettings, TimerSettings};
+use plan_tables::{
+    BankSettings, BlockSettings, CounterSettings, Direction, Settings, StepSettings, TimerSettings,
+};
 
-pub(crate) fn draw_block(state: &mut u64) -> BlockSettings {
+/// A number below the limit. Numbers look random, and are the same in each run.
+pub(crate) fn draw(state: &mut u64, limit: u32) -> u32 {
+    *state = state
+        .wrapping_mul(6_364_136_223_846_793_005)
+        .wrapping_add(1_442_695_040_888_963_407);
+    let number = (*state >> 33) as u32;
+    number.checked_rem(limit).unwrap_or(0)
+}
+
+/// Bit 0: completing resets it; bit 1: and disables it; bit 2: it persists; bit 3: it is disabled at
+/// first.
+fn block_of(bits: u32) -> BlockSettings {
     BlockSettings {
-        enabled: !one_in(state, 4),
-        reset_on_complete: one_in(state, 2),
-        disable_on_complete: one_in(state, 3),
-        persist: one_in(state, 2),
+        enabled: bits & 8 == 0,
+        reset_on_complete: bits & 1 != 0,
+        disable_on_complete: bits & 2 != 0,
+        persist: bits & 4 != 0,
     }
 }
 
-fn draw_direction(state: &mut u64) -> Direction {
-    if one_in(state, 2) {
-        Direction::Up
-    } else {
-        Direction::Down
-    }
-}
-
-/// An end, a few steps from the start.
-fn draw_end(state: &mut u64, direction: Direction, start: i64) -> Option<i64> {
-    let far = i64::from(draw(state, 6));
-    match direction {
-        _ if one_in(state, 5) => None,
-        Direction::Up => Some(start.saturating_add(far)),
-        Direction::Down => Some(start.saturating_sub(far)),
-    }
-}
-
-pub(crate) fn draw_counter(state: &mut u64) -> CounterSettings {
-    let start = draw_value(state);
-    let direction = draw_direction(state);
-    CounterSettings {
-        block: draw_block(state),
+/// A counter, up, or down where the interval is below 0.
+pub(crate) fn counter_of(
+    bits: u32,
+    start: i64,
+    interval: i64,
+    complete: Option<i64>,
+    window: u32,
+) -> Settings {
+    Settings::Counter(CounterSettings {
+        block: block_of(bits),
         start,
-        interval: if one_in(state, 5) {
-            1_000_000
+        interval: interval.saturating_abs(),
+        direction: if interval < 0 {
+            Direction::Down
         } else {
-            i64::from(draw(state, 3)).wrapping_add(1)
+            Direction::Up
         },
-        direction,
-        complete: draw_end(state, direction, start),
-        window: if one_in(state, 2) { 0 } else { draw(state, 9) },
-    }
+        complete,
+        window,
+    })
 }
 
-pub(crate) fn draw_steps(state: &mut u64) -> StepSettings {
-    let most = if one_in(state, 4) { 17 } else { 4 };
+pub(crate) fn steps_of(bits: u32, steps: u32) -> StepSettings {
     StepSettings {
-        block: draw_block(state),
-        steps: draw(state, most) as usize,
+        block: block_of(bits),
+        steps: steps as usize,
     }
 }
 
-pub(crate) fn draw_timer(state: &mut u64) -> TimerSettings {
-    let start = draw_value(state);
-    let direction = draw_direction(state);
-    TimerSettings {
+/// Bit 0: it begins anew when it completes; bit 1: down; bit 2: it runs when its mode starts.
+pub(crate) fn timer_of(bits: u32, start: i64, end: Option<i64>, interval: u32) -> Settings {
+    Settings::Timer(TimerSettings {
         start,
-        end: draw_end(state, direction, start),
-        direction,
-        interval: draw(state, 9).wrapping_add(1),
-        start_running: one_in(state, 2),
-        restart: one_in(state, 2),
+        end,
+        direction: if bits & 2 != 0 {
+            Direction::Down
+        } else {
+            Direction::Up
+        },
+        interval,
+        start_running: bits & 4 != 0,
+        restart: bits & 1 != 0,
+    })
+}
+
+/// So many shots, or states.
+fn size_of(bits: u32) -> u8 {
+    match bits & 3 {
+        0 => 1,
+        1 => 2,
+        2 => 3,
+        _ => 16,
     }
 }
 
-/// So much up or down.
-fn by(direction: Direction, interval: i64) -> i64 {
-    match direction {
-        Direction::Up => interval,
-        Direction::Down => interval.wrapping_neg(),
+/// A bank of its own kind for each number below 128. Few of its shots are disabled at first.
+fn draw_bank(state: &mut u64, bits: u32) -> Settings {
+    let mut enabled = [true; 16];
+    for flag in enabled.iter_mut() {
+        *flag = draw(state, 40) != 0;
+    }
+    Settings::Bank(BankSettings {
+        shots: size_of(bits),
+        enabled,
+        last_state: size_of(bits >> 2).wrapping_sub(1),
+        advance_on_hit: bits & 16 != 0,
+        loops: bits & 32 != 0,
+        group: bits & 64 != 0,
+    })
+}
+
+/// A value, most often near 0, else near one of the ends.
+fn draw_value(state: &mut u64) -> i64 {
+    let small = i64::from(draw(state, 12));
+    match draw(state, 8) {
+        0 => 999_999_999_999_999i64.wrapping_sub(small),
+        1 => small.wrapping_sub(999_999_999_999_999),
+        _ => small.wrapping_sub(4),
     }
 }
 
-pub(crate) fn counter_rules(counter: &CounterSettings) -> Rules {
-    Rules {
-        kind: Kind::Counter,
-        begins: counter.block.enabled,
-        again: counter.block.reset_on_complete,
-        disable: counter.block.disable_on_complete,
-        persist: counter.block.persist,
-        start: counter.start,
-        by: by(counter.direction, counter.interval),
-        end: counter.complete,
-        wait: u64::from(counter.window),
-        steps: 0,
-    }
+/// An end a few steps from the start, most often.
+fn draw_end(state: &mut u64, start: i64, step: i64) -> Option<i64> {
+    let far = i64::from(draw(state, 6)).wrapping_mul(step);
+    (draw(state, 5) != 0).then_some(start.saturating_add(far))
 }
 
-/// An accrual ends with all its bits, and a sequence with all its steps.
-pub(crate) fn step_rules(settings: &StepSettings, kind: Kind) -> Rules {
-    let end = match kind {
-        Kind::Accrual => 1i64
-            .wrapping_shl(u32::try_from(settings.steps).unwrap_or(0))
-            .wrapping_sub(1),
-        _ => i64::try_from(settings.steps).unwrap_or(0),
+/// A counter by ones to threes, or by a million.
+fn draw_counter(state: &mut u64) -> Settings {
+    let bits = draw(state, 8).wrapping_add(8 - draw(state, 4).min(1) * 8);
+    let start = draw_value(state);
+    let step = if draw(state, 2) == 0 { 1 } else { -1 };
+    let end = draw_end(state, start, step);
+    let interval = match draw(state, 5) {
+        0 => 1_000_000,
+        _ => i64::from(draw(state, 3)).wrapping_add(1),
     };
-    Rules {
-        kind,
-        begins: settings.block.enabled,
-        again: settings.block.reset_on_complete,
-        disable: settings.block.disable_on_complete,
-        persist: settings.block.persist,
-        start: 0,
-        by: 1,
-        end: Some(end),
-        wait: 0,
-        steps: settings.steps,
-    }
+    let window = draw(state, 2).wrapping_mul(draw(state, 9));
+    counter_of(bits, start, interval.wrapping_mul(step), end, window)
 }
 
-pub(crate) fn timer_rules(timer: &TimerSettings) -> Rules {
-    Rules {
-        kind: Kind::Counter,
-        begins: timer.start_running,
-        again: timer.restart,
-        disable: false,
-        persist: false,
-        start: timer.start,
-        by: by(timer.direction, 1),
-        end: timer.end,
-        wait: u64::from(timer.interval),
-        steps: 0,
+fn draw_steps(state: &mut u64) -> StepSettings {
+    let bits = draw(state, 8).wrapping_add(8 - draw(state, 4).min(1) * 8);
+    let most = if draw(state, 4) == 0 { 17 } else { 4 };
+    steps_of(bits, draw(state, most))
+}
+
+fn draw_timer(state: &mut u64) -> Settings {
+    let bits = draw(state, 8);
+    let start = draw_value(state);
+    let step = if bits & 2 != 0 { -1 } else { 1 };
+    let end = draw_end(state, start, step);
+    timer_of(bits, start, end, draw(state, 9).wrapping_add(1))
+}
+
+/// A device of this kind; of a bank the number says which one.
+pub(crate) fn draw_device(state: &mut u64, kind: u32, number: u32) -> Settings {
+    match kind {
+        0 => draw_counter(state),
+        1 => Settings::Accrual(draw_steps(state)),
+        2 => Settings::Sequence(draw_steps(state)),
+        3 => draw_timer(state),
+        4 => Settings::Flipper,
+        5 => Settings::Autofire,
+        _ => draw_bank(state, number),
     }
 }

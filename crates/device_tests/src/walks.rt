@@ -1,150 +1,174 @@
-//! Random calls of random devices, each beside its model.
+//! Random calls of random devices, each beside its plain model.
 
-use crate::calls::{row_of, told};
-use crate::drawing::{change_world, draw, draw_call};
-use crate::model::{Block, Kind, Rules, Ticker, call_block, call_timer, first_slot};
-use crate::seen::{is_block, is_timer};
-use crate::settings::{
-    counter_rules, draw_counter, draw_steps, draw_timer, step_rules, timer_rules,
-};
-use device_objects::{Call, Device, World};
-use logic_blocks::{Accrual, Counter, Sequence, Timer};
-use plan_tables::Settings;
+use crate::calls::{Job, NOT_DUE, call_of, do_with, told};
+use crate::plain::{Plain, call, plain_of};
+use crate::seen::agrees;
+use crate::settings::{draw, draw_device};
+use device_objects::{Device, World};
 
-/// How a walk went: whether all was as in the model, and how many calls completed the device.
+/// What is called how often: blocks and timers, coils, and banks.
+const OF_BLOCKS: &[u8] = b"BEFFFFFFeeddraahiwugggqpmmlljccccccccccssssssssssssss";
+
+const OF_COILS: &[u8] = b"BEFeeedaiiiiooih";
+
+const OF_BANKS: &[u8] = b"BEnbyxrtusehhhhhhhhhh";
+
+/// The world changes now and then. Without a game there is no player.
+fn change_world(state: &mut u64, world: &mut World) {
+    if draw(state, 6) == 0 {
+        world.player = draw(state, 5) as usize;
+    }
+    if draw(state, 12) == 0 && world.games < 3 {
+        world.games = world.games.wrapping_add(1);
+    }
+    if world.games == 0 {
+        world.player = 0;
+    }
+}
+
+/// A step, a shot or a switch, and now and then one that the device does not have.
+fn draw_place(state: &mut u64) -> i64 {
+    match draw(state, 20) {
+        0 => -1,
+        1 | 2 => i64::from(draw(state, 18)),
+        3 | 4 => i64::from(draw(state, 2)),
+        5 | 6 => i64::from(draw(state, 16)),
+        _ => i64::from(draw(state, 4)),
+    }
+}
+
+/// What is added to a value, or what it becomes: now and then more than there is.
+fn draw_change(state: &mut u64) -> i64 {
+    match draw(state, 12) {
+        0 => i64::MAX,
+        1 => i64::MIN,
+        2 => 1_999_999_999_999_998,
+        3 => -1_999_999_999_999_998,
+        _ => i64::from(draw(state, 9)).wrapping_sub(3),
+    }
+}
+
+/// The letter and the number of a call. In an orderly walk it is most often a hit of this shot.
+fn draw_call(state: &mut u64, list: &[u8], orderly: bool, shot: i64) -> (u8, i64) {
+    if orderly && draw(state, 40) != 0 {
+        return (b'h', shot);
+    }
+    let count = u32::try_from(list.len()).unwrap_or(0);
+    let letter = list.get(draw(state, count) as usize).copied().unwrap_or(0);
+    match letter {
+        b'm' | b'l' | b'j' => (letter, draw_change(state)),
+        _ => (letter, draw_place(state)),
+    }
+}
+
+/// A walk of devices of a kind.
 #[derive(Clone, Copy)]
-struct Walk {
-    agrees: bool,
-    completed: u32,
+struct Kind {
+    devices: u32,
+    /// How many calls each device has.
+    calls: i64,
+    list: &'static [u8],
+    /// The greatest answer of a call that completes nothing, or moves no coil.
+    usual: i64,
 }
 
-/// Another call: whether it was as in the model, and completed the device.
-fn note(walk: &mut Walk, agrees: bool, answer: u32) {
-    walk.agrees = walk.agrees && agrees;
-    if let 123 | 5 | 45 | 51 | 451 = answer {
-        walk.completed = walk.completed.saturating_add(1);
-    }
-}
-
-/// A moment a little later; where the device fires, most often the one at which it is due.
-fn next_moment(state: &mut u64, now: u32, call: Call, due: Option<u64>) -> u32 {
-    let later = now.saturating_add(draw(state, 5));
-    match (call, due) {
-        (Call::Fire, Some(due)) => later.max(u32::try_from(due).unwrap_or(later)),
-        _ => later,
-    }
-}
-
-fn walk_block<D: Device>(device: &mut D, rules: Rules, state: &mut u64) -> Walk {
-    let mut world = World {
-        games: 0,
-        player: 0,
+/// Counters, accruals, sequences, timers, flippers, autofire coils, and banks.
+fn kind_of(kind: u32) -> Kind {
+    let (devices, calls, list, usual) = match kind {
+        0 | 1 | 2 => (500, 40, OF_BLOCKS, 1_000_000),
+        3 => (500, 40, OF_BLOCKS, 1_000),
+        4 | 5 => (500, 40, OF_COILS, 0),
+        _ => (2_048, 80, OF_BANKS, 1_000_000),
     };
-    let mut now = 0u32;
-    let mut block = Block {
-        rules,
-        slots: [first_slot(&rules); 4],
-        games: 0,
-    };
-    let mut walk = Walk {
-        agrees: is_block(&block, world, &device.state()),
-        completed: 0,
-    };
-    for _ in 0..40u32 {
-        change_world(state, &mut world);
-        let call = draw_call(state);
-        now = next_moment(state, now, call, None);
-        let wanted = call_block(&mut block, call, u64::from(now), world);
-        let answer = told(device, call, now, world);
-        let agrees = is_block(&block, world, &device.state()) && device.due().is_none();
-        note(&mut walk, agrees && answer == wanted, answer);
-    }
-    walk
-}
-
-fn walk_timer<D: Device>(device: &mut D, rules: Rules, state: &mut u64) -> Walk {
-    let mut world = World {
-        games: 0,
-        player: 0,
-    };
-    let mut now = 0u32;
-    let mut timer = Ticker {
-        rules,
-        value: rules.start,
-        due: None,
-    };
-    let mut walk = Walk {
-        agrees: is_timer(&timer, &device.state()),
-        completed: 0,
-    };
-    for _ in 0..40u32 {
-        change_world(state, &mut world);
-        let call = draw_call(state);
-        now = next_moment(state, now, call, timer.due);
-        let wanted = call_timer(&mut timer, call, u64::from(now));
-        let answer = told(device, call, now, world);
-        let agrees = is_timer(&timer, &device.state()) && device.due() == timer.due;
-        note(&mut walk, agrees && answer == wanted, answer);
-    }
-    walk
-}
-
-const NONE: Walk = Walk {
-    agrees: false,
-    completed: 0,
-};
-
-fn counter(state: &mut u64) -> Walk {
-    let settings = draw_counter(state);
-    match Counter::new(&row_of(Settings::Counter(settings))) {
-        Some(mut device) => walk_block(&mut device, counter_rules(&settings), state),
-        None => NONE,
+    Kind {
+        devices,
+        calls,
+        list,
+        usual,
     }
 }
 
-fn accrual(state: &mut u64) -> Walk {
-    let settings = draw_steps(state);
-    match Accrual::new(&row_of(Settings::Accrual(settings))) {
-        Some(mut device) => walk_block(&mut device, step_rules(&settings, Kind::Accrual), state),
-        None => NONE,
+/// Random calls of a device, beside its plain model.
+#[derive(Drop)]
+struct Walk<'s> {
+    plain: Plain,
+    kind: Kind,
+    state: &'s mut u64,
+    /// Whether it is the walk of one player who most often hits.
+    orderly: bool,
+    /// How many calls completed the device, or moved its coil; none where something was not as in the model.
+    completed: Option<u32>,
+}
+
+impl Walk<'_> {
+    /// A call at a moment a little later. Where the device fires, this is most often the one at which it is due.
+    fn step<D: Device>(&mut self, device: &mut D, world: World, now: &mut u32, shot: i64) {
+        let (letter, number) = draw_call(self.state, self.kind.list, self.orderly, shot);
+        let due = u32::try_from(device.due().unwrap_or(0)).unwrap_or(0);
+        let least = if letter == b'F' { due } else { 0 };
+        *now = now.saturating_add(draw(self.state, 5)).max(least);
+        let wanted = call(&mut self.plain, letter, number, u64::from(*now), world);
+        let answer = told(device, call_of(letter, number), *now, world);
+        let completes = answer != NOT_DUE && answer > self.kind.usual;
+        if answer != wanted || !agrees(&self.plain, world, &device.state()) {
+            self.completed = None;
+        } else if let Some(completed) = self.completed {
+            self.completed = Some(completed.saturating_add(u32::from(completes)));
+        }
     }
 }
 
-fn sequence(state: &mut u64) -> Walk {
-    let settings = draw_steps(state);
-    match Sequence::new(&row_of(Settings::Sequence(settings))) {
-        Some(mut device) => walk_block(&mut device, step_rules(&settings, Kind::Sequence), state),
-        None => NONE,
+impl Job for Walk<'_> {
+    fn run<D: Device>(&mut self, device: &mut D) {
+        let one = draw(self.state, 4) as usize;
+        let mut world = World {
+            games: u64::from(self.orderly),
+            player: if self.orderly { one + 1 } else { 0 },
+        };
+        let mut now = 0u32;
+        self.completed = Some(0);
+        for step in 0..self.kind.calls {
+            if !self.orderly {
+                change_world(self.state, &mut world);
+            }
+            self.step(device, world, &mut now, step & 15);
+        }
     }
 }
 
-fn timer(state: &mut u64) -> Walk {
-    let settings = draw_timer(state);
-    match Timer::new(&row_of(Settings::Timer(settings))) {
-        Some(mut device) => walk_timer(&mut device, timer_rules(&settings), state),
-        None => NONE,
-    }
-}
-
-fn walked(kind: u32, state: &mut u64) -> Walk {
-    match kind {
-        0 => counter(state),
-        1 => accrual(state),
-        2 => sequence(state),
-        _ => timer(state),
-    }
-}
-
-/// 500 devices of each kind, and 40 calls of each.
-#[test]
-fn random_calls(rt: HostRuntime) {
+/// Walks with new devices of this kind, half of the banks in an orderly way. Gives what `Walk::completed` says of all
+/// together, and the number of a device that is not as in the model.
+fn walked(kind: u32) -> (u32, Option<u32>) {
     let mut state = 1u64;
     let mut completed = 0u32;
-    for machine in 0..2_000u32 {
-        let kind = machine & 3;
-        let walk = walked(kind, &mut state);
-        assert!(rt; walk.agrees, "machine {machine} of kind {kind}");
-        completed = completed.saturating_add(walk.completed);
+    let mut wrong = None;
+    for number in 0..kind_of(kind).devices {
+        let settings = draw_device(&mut state, kind, number);
+        let mut walk = Walk {
+            plain: plain_of(settings),
+            kind: kind_of(kind),
+            state: &mut state,
+            orderly: number & 128 != 0 && kind == 6,
+            completed: None,
+        };
+        do_with(settings, &mut walk);
+        match walk.completed {
+            Some(more) => completed = completed.saturating_add(more),
+            None => wrong = Some(number),
+        }
     }
-    assert!(rt; completed > 1_500, "{completed} completed");
+    (completed, wrong)
+}
+
+/// 500 devices of each kind, with 40 calls of each. And 8 walks of banks of each kind, and 8 orderly ones, with 80 calls
+/// in each.
+#[test]
+fn random_devices(rt: HostRuntime) {
+    for kind in 0..7u32 {
+        let (completed, wrong) = walked(kind);
+        assert!(rt;
+            wrong.is_none() && completed > 100,
+            "{wrong:?} of kind {kind}"
+        );
+    }
 }

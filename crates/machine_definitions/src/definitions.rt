@@ -19,8 +19,8 @@ use mpf_config::config::Config;
 use mpf_config::{
     Coil, Entry, Section, Shot, as_autofire, as_coil, as_flipper, as_switch, min_balls,
 };
-use mpf_sections::tables::DEFAULT_PROFILE;
 use mpf_sections::{BallDevice, as_ball_device};
+use mpf_tables::tables::DEFAULT_PROFILE;
 use std::alloc::{AllocError, Global};
 use std::collections::{BTreeMap, BTreeSet};
 use std::marker::Model;

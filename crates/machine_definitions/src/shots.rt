@@ -11,7 +11,7 @@ ghost use Rattle.machine_definitions.specs.Found.{names_view, profile_view, foun
 use crate::profile::Profile;
 use mpf_config::config::{Config, ModeText};
 use mpf_config::{Entry, Fields, Section, Shot, as_shot, as_shot_profile, as_state};
-use mpf_sections::tables::DEFAULT_PROFILE;
+use mpf_tables::tables::DEFAULT_PROFILE;
 use std::alloc::{AllocError, Global};
 use std::collections::BTreeMap;
 

@@ -4,7 +4,7 @@ ghost use Rattle.std.specs.Prelude.{◌≡◌};
 ghost use Rattle.mode_stack.specs.ModeStep.{in_phase, starts, started, stopped, stop_answer};
 
 /// How far a mode has come.
-#[derive(Clone, Copy, Debug)]
+#[derive(Clone, Copy)]
 pub enum Phase {
     /// It has not been started, or has stopped.
     Idle,
@@ -17,14 +17,14 @@ pub enum Phase {
 }
 
 /// The phase of a mode, and whether a stop is kept for it, to come when it is active.
-#[derive(Clone, Copy, Debug)]
+#[derive(Clone, Copy)]
 pub struct ModeState {
     pub phase: Phase,
     pub kept: bool,
 }
 
 /// What a call of `stop` did.
-#[derive(Clone, Copy, Debug)]
+#[derive(Clone, Copy)]
 pub enum StopAnswer {
     /// The mode is stopping now. The caller posts its event `stopping`.
     Post,

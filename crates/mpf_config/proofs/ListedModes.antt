@@ -5,7 +5,7 @@ use Rattle.std.specs.Str.{bytes_eq}
 use Rattle.std.proofs.lemmas.List.Elements.{All-nil, All-from_recursion}
 use Rattle.yaml_subset.specs.Node.{Pair}
 use Rattle.mpf_values.specs.Names.{IsName}
-use Rattle.mpf_sections.specs.declared.tables.TextKind.{TextKind}
+use Rattle.mpf_tables.specs.declared.tables.TextKind.{TextKind}
 use Rattle.section_tables.proofs.RowNames.{names_named, names_short}
 use Rattle.mpf_sections.specs.Rows.{Written, Content, entries, players, entry, listed, SectionRows}
 use Rattle.mpf_sections.specs.Named.{AllNames}

@@ -1,6 +1,6 @@
 -- The names of modes that are read from a machine text are those that it lists.
 use Rattle.std.proofs.Common.{◌≡◌, ℕ, List, map, Ok, sym, inl, ap}
-use Rattle.mpf_sections.specs.declared.tables.TextKind.TheVariants.{Machine}
+use Rattle.mpf_tables.specs.declared.tables.TextKind.TheVariants.{Machine}
 use Rattle.section_tables.specs.Reading.{IsReadOr}
 use Rattle.section_tables.proofs.Steps.{bind_ok, ok_is}
 use Rattle.section_tables.proofs.Outcomes.{then_or}

@@ -11,7 +11,7 @@ use Rattle.std.proofs.lemmas.List.Elements.{All-head, All-tail}
 use Rattle.std.proofs.lemmas.Slice.Eq.{bytes_eq-Decides}
 use Rattle.yaml_subset.specs.Keys.{is_among}
 use Rattle.section_tables.specs.declared.fault.FaultKind.TheVariants.{Duplicate}
-use Rattle.mpf_sections.specs.declared.tables.TextKind.TheVariants.{Mode}
+use Rattle.mpf_tables.specs.declared.tables.TextKind.TheVariants.{Mode}
 use Rattle.section_tables.specs.Rows.{RowsFault}
 use Rattle.section_tables.specs.Tables.{behind_one, found_in}
 use Rattle.section_tables.specs.Reading.{IsReadOr, ◌>>=◌, rows_fault_at}

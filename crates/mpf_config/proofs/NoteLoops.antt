@@ -5,7 +5,7 @@ use Rattle.std.specs.Str.{bytes_eq}
 use Rattle.std.proofs.lemmas.List.{map_push}
 use Rattle.yaml_subset.specs.Node.{Pair}
 use Rattle.yaml_subset.specs.Keys.{is_among}
-use Rattle.mpf_sections.specs.SectionTables.{modes_name}
+use Rattle.mpf_tables.specs.SectionTables.{modes_name}
 use Rattle.mpf_config.specs.declared.config.Note as notes
 use Rattle.mpf_config.specs.Rows.{Written, Note}
 use Rattle.mpf_config.specs.View.{note_view}

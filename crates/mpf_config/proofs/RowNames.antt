@@ -8,12 +8,12 @@ use Rattle.section_tables.specs.Named.{IsNamedEntry, IsNamedPlayer}
 use Rattle.section_tables.specs.Kinds.{by_entries, by_players, by_entry}
 use Rattle.section_tables.proofs.RowNames.{entry_named, entries_named, players_named}
 use Rattle.section_tables.proofs.RowNames as lists
-use Rattle.mpf_sections.specs.declared.tables.TextKind.{TextKind}
-use Rattle.mpf_sections.specs.declared.tables.TextKind.TheVariants.{Machine, Mode}
+use Rattle.mpf_tables.specs.declared.tables.TextKind.{TextKind}
+use Rattle.mpf_tables.specs.declared.tables.TextKind.TheVariants.{Machine, Mode}
 use Rattle.mpf_sections.specs.Rows.{Content, entries, players, entry, listed, SectionRows}
 use Rattle.mpf_sections.specs.Typed.{listed_modes}
 use Rattle.mpf_sections.specs.Named.{AllNames, IsNamedContent, IsNamed}
-use Rattle.mpf_sections.proofs.TableNames.{shape_named}
+use Rattle.mpf_tables.proofs.TableNames.{shape_named}
 use Rattle.mpf_config.specs.Rows.{Written, Rows}
 use Rattle.mpf_config.specs.BundleText.{Text}
 use Rattle.mpf_config.specs.Unread.{read_of, is_present, present_of}

@@ -9,12 +9,12 @@ use Rattle.section_tables.specs.Kinds.{by_entries, by_entry}
 use Rattle.section_tables.specs.Named.{IsShortEntry, IsShortPlayer}
 use Rattle.section_tables.proofs.RowNames.{entry_short, entries_short, players_short}
 use Rattle.section_tables.proofs.RowNames as lists
-use Rattle.mpf_sections.specs.declared.tables.TextKind.{TextKind}
-use Rattle.mpf_sections.specs.declared.tables.TextKind.TheVariants.{Machine, Mode}
+use Rattle.mpf_tables.specs.declared.tables.TextKind.{TextKind}
+use Rattle.mpf_tables.specs.declared.tables.TextKind.TheVariants.{Machine, Mode}
 use Rattle.mpf_sections.specs.Rows.{Content, entries, players, entry, listed, SectionRows}
 use Rattle.mpf_sections.specs.Typed.{listed_modes}
 use Rattle.mpf_sections.specs.Short.{IsShortContent, IsShortSection}
-use Rattle.mpf_sections.proofs.TableNames.{shape_short}
+use Rattle.mpf_tables.proofs.TableNames.{shape_short}
 use Rattle.mpf_sections.proofs.ShortRows.{none_short, one_short}
 use Rattle.mpf_config.specs.Rows.{Written, Rows}
 use Rattle.mpf_config.specs.BundleText.{Text}

@@ -7,10 +7,10 @@ use Rattle.yaml_bytes.specs.Lines.{ends_line}
 use Rattle.yaml_subset.specs.Node.{Node, Pair}
 use Rattle.yaml_subset.specs.View.{pairs_in}
 use Rattle.yaml_subset.specs.TreeOf.{IsTreeOf, IsTextAbove}
-use Rattle.mpf_sections.specs.declared.tables.TextKind.{TextKind}
-use Rattle.mpf_sections.specs.declared.tables.TextKind.TheVariants.{Machine, Mode}
+use Rattle.mpf_tables.specs.declared.tables.TextKind.{TextKind}
+use Rattle.mpf_tables.specs.declared.tables.TextKind.TheVariants.{Machine, Mode}
 use Rattle.section_tables.specs.Kinds.{Setting, PlayerKinds, by_entries, by_players, by_entry, by_names}
-use Rattle.mpf_sections.specs.SectionTables.{shape_of}
+use Rattle.mpf_tables.specs.SectionTables.{shape_of}
 use Rattle.section_tables.specs.EntryOf.{IsEntry, AreEntries, ArePlayers, AreNamesListed}
 use Rattle.mpf_sections.specs.Rows.{Written, Content, entries, players, entry, listed, SectionRows}
 use Rattle.mpf_config.specs.Rows.{Rows}

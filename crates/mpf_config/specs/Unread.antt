@@ -4,7 +4,7 @@ use Rattle.std.specs.List.{list_any, flat_map}
 use Rattle.std.specs.Str.{bytes_eq}
 use Rattle.yaml_subset.specs.Node.{Pair}
 use Rattle.yaml_subset.specs.Keys.{is_among}
-use Rattle.mpf_sections.specs.SectionTables.{modes_name}
+use Rattle.mpf_tables.specs.SectionTables.{modes_name}
 use Rattle.mpf_config.specs.declared.config.NoteKind.TheVariants.{Skipped, Absent, Unlisted}
 use Rattle.mpf_config.specs.Rows.{Written, Note}
 use Rattle.mpf_config.specs.BundleText.{Text, machine_name, mode_text_name}

@@ -20,7 +20,7 @@ use crate::texts::{MACHINE_NAME, Text, machine_text, texts};
 use crate::unread::{add_unlisted, machine_notes};
 use crate::version::tree_of;
 use mpf_sections::listed_modes as modes_in;
-use mpf_sections::tables::TextKind;
+use mpf_tables::TextKind;
 use section_tables::rows::Name;
 use std::alloc::{AllocError, Global};
 use std::collections::BTreeSet;

@@ -20,7 +20,7 @@ use crate::taken::take_entries;
 use crate::texts::{Text, take_name};
 use crate::unread::mode_notes;
 use crate::version::tree_of;
-use mpf_sections::tables::TextKind;
+use mpf_tables::TextKind;
 use section_tables::rows::Name;
 use std::alloc::{AllocError, Global};
 use std::collections::BTreeSet;

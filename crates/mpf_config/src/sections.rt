@@ -14,7 +14,7 @@ use crate::fault::{ConfigFault, FaultKind};
 use crate::spot::line_of;
 use crate::texts::take_name;
 use crate::unread::is_skipped;
-use mpf_sections::tables::{TextKind, shape_of};
+use mpf_tables::{TextKind, shape_of};
 use section_tables::rows::Name;
 use section_tables::spot::{Spot, spot_of};
 use section_tables::table::Shape;

@@ -14,7 +14,7 @@ use crate::fault::ConfigFault;
 use crate::listed::mode_of;
 use crate::listed_mode::ListedMode;
 use crate::texts::{MACHINE_NAME, Text};
-use mpf_sections::tables::MODES_NAME;
+use mpf_tables::tables::MODES_NAME;
 use section_tables::is_one_of;
 use section_tables::rows::Name;
 use std::alloc::{AllocError, Global};

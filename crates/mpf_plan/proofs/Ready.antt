@@ -14,7 +14,7 @@ use Rattle.mpf_sections.specs.Rows.{Entry, Player, Block, Flipper, VariableItem,
 use Rattle.mpf_config.specs.Rows.{Rows}
 use Rattle.mpf_sections.specs.Typed.{switches_name, event_player_name, counters_name, accruals_name, sequences_name, timers_name, switch_of, event_player_of, counter_of, step_block_of, timer_of, setting_of, row_or, content_named, natural_within}
 use Rattle.mpf_sections.specs.TypedCoils.{coils_name, coil_player_name, flippers_name, autofire_coils_name, coil_of, coil_player_of, flipper_of}
-use Rattle.mpf_sections.specs.SectionTables as tables
+use Rattle.mpf_tables.specs.SectionTables as tables
 use Rattle.mpf_sections.specs.TypedGame.{variable_player_name, machine_section_name, game_name, variable_player_of, game_of, min_balls_of}
 use Rattle.machine_definitions.specs.GameEvents.{game_event_names}
 use Rattle.machine_definitions.specs.Players.{player_event}

@@ -10,7 +10,7 @@ use Rattle.mpf_sections.specs.Typed.{text_of, listed_names, name_in, entries_of}
 use Rattle.mpf_sections.specs.TypedBalls.{ball_devices_name, playfield, some_time_of, ball_device_of, ball_devices_in}
 use Rattle.mpf_sections.specs.Named.{IsNamedBallDevice, IsNamed}
 use Rattle.mpf_sections.specs.Short.{IsSomeTime, IsShortBallDevice, IsShortSection}
-use Rattle.mpf_sections.proofs.TableNames.{playfield_named}
+use Rattle.mpf_tables.proofs.TableNames.{playfield_named}
 use Rattle.mpf_sections.proofs.RowNames.{is_name, value_at_named, names_named, entries_of_named}
 use Rattle.mpf_sections.proofs.ShortRows.{value_at_short, names_short, entries_of_short}
 use Rattle.mpf_sections.proofs.CoilRows.{written_named, some_named, either_named}

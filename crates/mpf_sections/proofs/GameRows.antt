@@ -9,7 +9,7 @@ use Rattle.section_tables.specs.Rows.{Plain, nothing, flag, number, time, power,
 use Rattle.section_tables.specs.Named.{IsNamedKeyed, IsNamedValue, IsNamedPlayer, IsShortPlayer}
 use Rattle.section_tables.specs.EntryOf.{within}
 use Rattle.mpf_sections.specs.Rows.{VariableItem, SectionRows}
-use Rattle.mpf_sections.specs.SectionTables as tables
+use Rattle.mpf_tables.specs.SectionTables as tables
 use Rattle.mpf_sections.specs.Typed.{natural_within, listed_keyed, players_of, content_named, row_or}
 use Rattle.mpf_sections.specs.TypedGame.{variable_player_name, machine_section_name, change_in, variable_item_of, variable_player_of, variable_players_in, game_of, min_balls_of}
 use Rattle.mpf_sections.specs.Named.{IsNamedVariablePlayer, IsNamed}

@@ -1,4 +1,3 @@
-pub mod TableNames
 pub mod Each
 pub mod RowNames
 pub mod ShortRows

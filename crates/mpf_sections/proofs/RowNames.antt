@@ -9,8 +9,8 @@ use Rattle.section_tables.specs.Rows.{Plain, nothing, flag, number, time, power,
 use Rattle.section_tables.specs.Named.{IsNamedHandled, IsNamedValue, IsNamedEvent, IsNamedEntry, IsNamedPlayer}
 use Rattle.section_tables.specs.Tables.{setting_default}
 use Rattle.mpf_sections.specs.Rows.{Written, Content, entries, players, entry, listed, SectionRows}
-use Rattle.mpf_sections.specs.SectionTables as tables
-use Rattle.mpf_sections.specs.SectionTables.{switches_name, event_player_name}
+use Rattle.mpf_tables.specs.SectionTables as tables
+use Rattle.mpf_tables.specs.SectionTables.{switches_name, event_player_name}
 use Rattle.mpf_sections.specs.Typed.{content_named, mode_row, mode_name, mode_settings_of, mode_settings, listed_names, listed_events, listed_posts, handled_in, switch_of, event_player_of, entries_in, players_in, entries_of, players_of, switches_in, event_players_in}
 use Rattle.mpf_sections.specs.Named.{AllNames, AllNamedEvents, IsNamedSwitch, IsNamedEventPlayer, AreNamedSettings, IsNamedContent, IsNamed}
 use Rattle.mpf_sections.proofs.Each.{all_where}

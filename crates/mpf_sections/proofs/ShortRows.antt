@@ -6,7 +6,7 @@ use Rattle.std.proofs.lemmas.List.Elements.{All-head, All-tail, All-map, All-wea
 use Rattle.section_tables.specs.Rows.{Value, one, names, posts, events, steps, maps, keyed, Entry, Player}
 use Rattle.section_tables.specs.Named.{IsShortValue, IsShortEntry, IsShortPlayer}
 use Rattle.mpf_sections.specs.Rows.{SectionRows}
-use Rattle.mpf_sections.specs.SectionTables.{switches_name, event_player_name}
+use Rattle.mpf_tables.specs.SectionTables.{switches_name, event_player_name}
 use Rattle.mpf_sections.specs.Typed.{listed_names, listed_events, listed_posts, switch_of, event_player_of, entries_in, players_in, entries_of, players_of, switches_in, event_players_in}
 use Rattle.mpf_sections.specs.Short.{IsShortSection, IsShortSwitch, IsShortEventPlayer}
 use Rattle.mpf_sections.proofs.Each.{all_where}

@@ -12,7 +12,7 @@ use Rattle.mpf_sections.specs.TypedShots.{few, shots_name, shot_groups_name, sho
 use Rattle.mpf_sections.specs.Named.{AllNames, AllNamedEvents, IsNamedShot, IsNamedShotGroup, IsNamedShotProfile, IsNamed}
 use Rattle.mpf_sections.specs.Short.{IsShortShot, IsShortShotGroup, IsShortShotProfile, IsShortSection}
 use Rattle.mpf_sections.proofs.Each.{all_where, all_mapped}
-use Rattle.mpf_sections.proofs.TableNames.{default_profile_named}
+use Rattle.mpf_tables.proofs.TableNames.{default_profile_named}
 use Rattle.mpf_sections.proofs.RowNames.{IsNamedOption, is_name, value_at_named, names_named, events_named, entries_of_named}
 use Rattle.mpf_sections.proofs.ShortRows.{value_at_short, events_short, entries_of_short}
 use Rattle.mpf_sections.proofs.DeviceRows.{IsNamedWritten, text_at_named, name_in_named}

@@ -1,5 +1,3 @@
-pub mod SectionTables
-pub mod TableRules
 pub mod Rows
 pub mod Typed
 pub mod TypedCoils

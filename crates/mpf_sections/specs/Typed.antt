@@ -12,8 +12,8 @@ use Rattle.mpf_sections.specs.declared.words.ControlAction.TheVariants.{Start, S
 use Rattle.section_tables.specs.Rows.{Written, Handled, Plain, flag, number, time, power, word, name, event, Fields, Keyed, Value, one, names, posts, events, steps, maps, keyed, Entry, Player}
 use Rattle.section_tables.specs.Kinds.{Field, Setting}
 use Rattle.section_tables.specs.Tables.{found_in, field_key, setting_key, setting_default}
-use Rattle.mpf_sections.specs.SectionTables as tables
-pub use Rattle.mpf_sections.specs.SectionTables.{switches_name, event_player_name, counters_name, accruals_name, sequences_name, timers_name, modes_name, mode_name}
+use Rattle.mpf_tables.specs.SectionTables as tables
+pub use Rattle.mpf_tables.specs.SectionTables.{switches_name, event_player_name, counters_name, accruals_name, sequences_name, timers_name, modes_name, mode_name}
 use Rattle.section_tables.specs.Entries.{handled_at}
 use Rattle.section_tables.specs.EntryOf.{within}
 use Rattle.mpf_sections.specs.Rows.{Switch, EventPlayer, Block, Counter, StepBlock, Control, Timer, ModeSettings, Content, entries, players, entry, listed, SectionRows}

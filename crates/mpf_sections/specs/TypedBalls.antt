@@ -4,8 +4,8 @@ use Rattle.std.specs.List.{list_any}
 use Rattle.std.specs.Str.{bytes_eq}
 use Rattle.section_tables.specs.Rows.{time, Value, one, Entry}
 use Rattle.section_tables.specs.Entries.{written_at}
-use Rattle.mpf_sections.specs.SectionTables as tables
-pub use Rattle.mpf_sections.specs.SectionTables.{ball_devices_name, playfield}
+use Rattle.mpf_tables.specs.SectionTables as tables
+pub use Rattle.mpf_tables.specs.SectionTables.{ball_devices_name, playfield}
 use Rattle.mpf_sections.specs.Typed.{setting_of, text_of, flag_of, natural_within, listed_names, name_in, entries_of}
 use Rattle.mpf_sections.specs.TypedShots.{few}
 use Rattle.mpf_sections.specs.Rows.{BallDevice, SectionRows}

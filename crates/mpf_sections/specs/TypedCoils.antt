@@ -5,8 +5,8 @@ use Rattle.mpf_sections.specs.declared.words.CoilAction.{CoilAction}
 use Rattle.mpf_sections.specs.declared.words.CoilAction.TheVariants.{Pulse, Enable, Disable}
 use Rattle.section_tables.specs.Rows.{Written, Plain, Keyed, Entry, Player}
 use Rattle.section_tables.specs.Kinds.{Setting}
-use Rattle.mpf_sections.specs.SectionTables as tables
-pub use Rattle.mpf_sections.specs.SectionTables.{coils_name, coil_player_name, flippers_name, autofire_coils_name}
+use Rattle.mpf_tables.specs.SectionTables as tables
+pub use Rattle.mpf_tables.specs.SectionTables.{coils_name, coil_player_name, flippers_name, autofire_coils_name}
 use Rattle.mpf_sections.specs.Typed.{setting_of, field_of, text_of, flag_of, listed_events, listed_keyed, handled_in, name_in, word_in, pulse_in, power_in, entries_of, players_of}
 use Rattle.mpf_sections.specs.Rows.{Coil, CoilItem, CoilPlayer, Flipper, Autofire, SectionRows}
 

@@ -5,8 +5,8 @@ use Rattle.mpf_sections.specs.declared.words.VariableAction.{VariableAction}
 use Rattle.mpf_sections.specs.declared.words.VariableAction.TheVariants.{Add, Set}
 use Rattle.section_tables.specs.Rows.{Plain, number, Keyed, Entry, Player}
 use Rattle.section_tables.specs.EntryOf.{within}
-use Rattle.mpf_sections.specs.SectionTables as tables
-pub use Rattle.mpf_sections.specs.SectionTables.{variable_player_name, machine_section_name, game_name}
+use Rattle.mpf_tables.specs.SectionTables as tables
+pub use Rattle.mpf_tables.specs.SectionTables.{variable_player_name, machine_section_name, game_name}
 use Rattle.mpf_sections.specs.Typed.{setting_of, field_of, natural_within, listed_keyed, handled_in, word_in, players_of, content_named, row_or}
 use Rattle.mpf_sections.specs.Rows.{VariableItem, VariablePlayer, GameSettings, SectionRows}
 

@@ -7,9 +7,9 @@ ghost use Rattle.mpf_sections.specs.TypedBalls.{ball_device_of, is_tagged, is_tr
 ghost use Rattle.mpf_sections.specs.View.{entry_view, section_view, ball_device_view};
 
 use crate::section::Section;
-use crate::tables::{BALL_DEVICES_NAME, PLAYFIELD};
 use crate::typed::NameAt;
 use crate::values::{few_names, flag, name, name_or, names, some_time, text};
+use mpf_tables::tables::{BALL_DEVICES_NAME, PLAYFIELD};
 use section_tables::rows::{Entry, Name, Plain, Value};
 
 /// An entry of `ball_devices`.

@@ -7,9 +7,9 @@ ghost use Rattle.mpf_sections.specs.View.{entry_view, section_view, block_view, 
 ghost use Rattle.mpf_sections.specs.Inside.{block_at};
 
 use crate::section::Section;
-use crate::tables::{ACCRUALS_NAME, COUNTERS_NAME, SEQUENCES_NAME};
 use crate::values::{direction, flag, handlers, limit, milliseconds, number, posts_at, steps};
 use crate::words::Direction;
+use mpf_tables::tables::{ACCRUALS_NAME, COUNTERS_NAME, SEQUENCES_NAME};
 use section_tables::rows::{Entry, Handler, Name, Value};
 
 /// The settings that all logic blocks have.

@@ -6,9 +6,9 @@ ghost use Rattle.mpf_sections.specs.TypedCoils.{flipper_of, autofire_of, flipper
 ghost use Rattle.mpf_sections.specs.View.{entry_view, section_view, name_at_view, flipper_view, autofire_view};
 
 use crate::section::Section;
-use crate::tables::{AUTOFIRE_COILS_NAME, FLIPPERS_NAME};
 use crate::typed::NameAt;
 use crate::values::{handlers, name, text};
+use mpf_tables::tables::{AUTOFIRE_COILS_NAME, FLIPPERS_NAME};
 use section_tables::rows::{Entry, Handler, Name};
 
 /// An entry of `flippers`.

@@ -5,10 +5,10 @@ ghost use Rattle.mpf_sections.specs.TypedCoils.{may_hold, max_hold_power, coil_a
 ghost use Rattle.mpf_sections.specs.View.{keyed_view, entry_view, player_view, section_view, coil_view, coil_item_view, coil_player_view};
 
 use crate::section::Section;
-use crate::tables::{COIL_PLAYER_NAME, COILS_NAME};
 use crate::typed::HandledAt;
 use crate::values::{field, flag, handled, keyed, power, pulse, text, word_field};
 use crate::words::CoilAction;
+use mpf_tables::tables::{COIL_PLAYER_NAME, COILS_NAME};
 use section_tables::rows::{Entry, Keyed, Name, Player};
 
 /// An entry of `coils`. Powers are in thousandths of full power.

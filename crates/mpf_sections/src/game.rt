@@ -5,10 +5,10 @@ ghost use Rattle.mpf_sections.specs.TypedGame.{variable_action_of, variable_item
 ghost use Rattle.mpf_sections.specs.View.{keyed_view, entry_view, player_view, section_view, variable_item_view, variable_player_view, game_view};
 
 use crate::section::{Content, Section};
-use crate::tables::{MACHINE_SECTION_NAME, VARIABLE_PLAYER_NAME};
 use crate::typed::{HandledAt, section_named};
 use crate::values::{change, handled, keyed, natural_within, word_field};
 use crate::words::VariableAction;
+use mpf_tables::tables::{MACHINE_SECTION_NAME, VARIABLE_PLAYER_NAME};
 use section_tables::rows::{Entry, Keyed, Name, Player};
 
 /// What is done with a variable where an event is handled.

@@ -1,9 +1,7 @@
-//! What the sections of a text are: which there are, how each is written, and its entries by the
-//! names of their settings.
+//! The sections of a text: the entries of each by the names of their settings.
 //!
-//! [`tables::shape_of`] gives the table of a section in a text of the machine or of a mode. A
-//! [`Section`] has the entries that were read by it. They are rows of values in the order of the
-//! table: [`as_switch`], [`as_event_player`], [`as_coil`], [`as_coil_player`],
+//! A [`Section`] has the entries that were read by its table. They are rows of values in the order
+//! of the table: [`as_switch`], [`as_event_player`], [`as_coil`], [`as_coil_player`],
 //! [`as_variable_player`], [`as_flipper`], [`as_autofire`], [`as_counter`], [`as_step_block`],
 //! [`as_timer`], [`as_shot`], [`as_shot_group`], [`as_shot_profile`], [`as_ball_device`],
 //! [`as_game`], [`min_balls`] and [`mode_settings`] give each setting by its name.
@@ -16,7 +14,6 @@ pub mod coils;
 pub mod game;
 pub mod section;
 pub mod shots;
-pub mod tables;
 pub mod timers;
 pub mod typed;
 mod values;

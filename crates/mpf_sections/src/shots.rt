@@ -7,9 +7,9 @@ ghost use Rattle.mpf_sections.specs.TypedShots.{few, shot_of, shot_group_of, sta
 ghost use Rattle.mpf_sections.specs.View.{fields_view, entry_view, section_view, name_at_view, shot_view, shot_group_view, shot_profile_view};
 
 use crate::section::Section;
-use crate::tables::{DEFAULT_PROFILE, SHOT_GROUPS_NAME, SHOT_PROFILES_NAME, SHOTS_NAME};
 use crate::typed::NameAt;
 use crate::values::{few_names, field, flag, handlers, maps, name, name_or, text};
+use mpf_tables::tables::{DEFAULT_PROFILE, SHOT_GROUPS_NAME, SHOT_PROFILES_NAME, SHOTS_NAME};
 use section_tables::rows::{Entry, Fields, Handler, Name, Value};
 
 /// An entry of `shots`.

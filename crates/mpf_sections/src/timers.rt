@@ -5,12 +5,12 @@ ghost use Rattle.mpf_sections.specs.Typed.{action_of, end_from, interval_from, c
 ghost use Rattle.mpf_sections.specs.View.{fields_view, entry_view, section_view, control_view, timer_view};
 
 use crate::section::Section;
-use crate::tables::TIMERS_NAME;
 use crate::typed::HandledAt;
 use crate::values::{
     direction, event, field, flag, limit, maps, milliseconds, number, number_field, word_field,
 };
 use crate::words::{ControlAction, Direction};
+use mpf_tables::tables::TIMERS_NAME;
 use section_tables::rows::{Entry, Fields, Name};
 
 /// An event that controls a timer.

@@ -6,9 +6,9 @@ ghost use Rattle.mpf_sections.specs.Typed.{mode_settings_of, mode_row, mode_sett
 ghost use Rattle.mpf_sections.specs.View.{content_view, section_view, handled_at_view, switch_view, event_player_view, mode_settings_view};
 
 use crate::section::{Content, Section};
-use crate::tables::{EVENT_PLAYER_NAME, MODE_NAME, MODES_NAME, SWITCHES_NAME};
 use crate::values::{flag, handled, handlers, names, natural, posts, posts_at, word};
 use crate::words::{Contact, Debounce};
+use mpf_tables::tables::{EVENT_PLAYER_NAME, MODE_NAME, MODES_NAME, SWITCHES_NAME};
 use section_tables::rows::{Entry, Guard, Handler, Name, Player, Value};
 
 /// A name where it is written.

@@ -1,7 +1,7 @@
 //! What the words in settings say.
 
 /// The state of a switch's contact while nothing presses it.
-#[derive(Clone, Copy, Debug)]
+#[derive(Clone, Copy)]
 pub enum Contact {
     /// Open: raw level 1 is active.
     NormallyOpen,
@@ -10,7 +10,7 @@ pub enum Contact {
 }
 
 /// How long a raw level has to last before it is accepted.
-#[derive(Clone, Copy, Debug)]
+#[derive(Clone, Copy)]
 pub enum Debounce {
     /// As long as the use of the switch needs: as `Normal` for all that can be configured.
     Auto,
@@ -21,14 +21,14 @@ pub enum Debounce {
 }
 
 /// Which way a value goes.
-#[derive(Clone, Copy, Debug)]
+#[derive(Clone, Copy)]
 pub enum Direction {
     Up,
     Down,
 }
 
 /// What an event that controls a timer does with it.
-#[derive(Clone, Copy, Debug)]
+#[derive(Clone, Copy)]
 pub enum ControlAction {
     /// The timer runs.
     Start,
@@ -49,7 +49,7 @@ pub enum ControlAction {
 }
 
 /// What a coil does.
-#[derive(Clone, Copy, Debug)]
+#[derive(Clone, Copy)]
 pub enum CoilAction {
     /// It is on for the length of a pulse.
     Pulse,
@@ -60,7 +60,7 @@ pub enum CoilAction {
 }
 
 /// What is done with a variable.
-#[derive(Clone, Copy, Debug)]
+#[derive(Clone, Copy)]
 pub enum VariableAction {
     /// The number is added to it.
     Add,

@@ -11,7 +11,7 @@ use Rattle.mpf_values.proofs.NameTexts.{IsName-from_is_name}
 use Rattle.mpf_sections.specs.Rows.{Written, Handled, Shot, ShotGroup, ShotProfile, SectionRows}
 use Rattle.mpf_sections.specs.Named.{IsName, IsNamedShotProfile, IsNamed}
 use Rattle.mpf_sections.specs.TypedShots.{default_profile, shot_profiles_in}
-use Rattle.mpf_sections.proofs.TableNames.{default_profile_named}
+use Rattle.mpf_tables.proofs.TableNames.{default_profile_named}
 use Rattle.mpf_sections.proofs.ShotRows.{shot_profiles_named, shot_profiles_short}
 use Rattle.mpf_config.specs.Rows.{ModeRows, Rows}
 use Rattle.mpf_config.specs.Named.{IsNamedMode}

@@ -10,7 +10,7 @@ ghost use Rattle.plan_rows.specs.View.{members_view};
 
 use machine_definitions::{Definitions, Profile};
 use mpf_config::{Name, Shot, ShotGroup};
-use mpf_sections::tables::DEFAULT_PROFILE;
+use mpf_tables::tables::DEFAULT_PROFILE;
 
 /// What other entries say of the shots of a group. Where nothing defines a shot, any value will do:
 /// there is no plan then.

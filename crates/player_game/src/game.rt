@@ -14,7 +14,7 @@ use std::marker::Model;
 const MOST_GAMES: u64 = 1 << 32;
 
 /// How far the game has come.
-#[derive(Clone, Copy, Debug, PartialEq, Eq)]
+#[derive(Clone, Copy, PartialEq, Eq)]
 pub enum GamePhase {
     /// No game goes on.
     None,

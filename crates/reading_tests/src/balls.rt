@@ -1,16 +1,11 @@
 //! Ball devices: by their table, and in bundles by the names of their settings.
 
-use crate::cases::{Subject, assert_rows};
-use crate::coils::show_at;
-use crate::devices::show_name;
-use crate::tables::show_names;
+use crate::pen::Pen;
 use mpf_config::Section;
 use mpf_sections::{BallDevice, as_ball_device};
-use std::alloc::AllocError;
-use std::test::Fail;
 
-// Texts with one section, and its entries or their fault.
-const SECTIONS: &str = "\
+/// Texts with one section, and its entries or their fault.
+pub(crate) const SECTIONS: &str = "\
 ball_devices:¶ => ;
 ball_devices:¶  d:¶    ball_switches: s¶ => d@2:  s@3 | - | playfield@0 | 10000ms | 500ms | 500ms | false | 0 | ;
 ball_devices:¶  d:¶    tags: trough, home drain¶    max_eject_attempts: 1000¶    mechanical_eject: yes¶    exit_count_delay: 1¶    entrance_count_delay: 2s¶    eject_timeouts: 10 s¶    eject_targets: e¶    eject_coil: c¶    ball_switches:¶      - a¶      - b¶ => d@2:  a@12 b@13 | c@10 | e@9 | 10000ms | 2000ms | 1ms | true | 1000 |  trough@3 home@3 drain@3;
@@ -57,10 +52,10 @@ ball_devices:¶  d:¶    ball_switches: a¶  playfield:¶    ball_switches: b¶ 
 ball_device:¶ => no section
 ";
 
-// Texts, and what is read of them. A ball device is shown by its name; its ball switches; its coil and its target; how
-// many milliseconds an attempt lasts, and those before a ball counts and before it is gone; whether a ball may leave by
-// itself, and how many attempts there are; its tags; and whether it is a trough, a home of balls and a drain.
-const BALLS: &str = "\
+/// Texts, and what is read of them. A ball device is shown by its name; its ball switches; its coil and its target; how
+/// many milliseconds an attempt lasts, and those before a ball counts and before it is gone; whether a ball may leave by
+/// itself, and how many attempts there are; its tags; and whether it is a trough, a home of balls and a drain.
+pub(crate) const BALLS: &str = "\
 @¶ball_devices:¶  d:¶    ball_switches: a, b¶ => ball_devices¶ d@3; a@4 b@4; - playfield@0; 10000 500 500; false 0;; false false false¶
 @¶ball_devices:¶  t:¶    ball_switches: [a]¶    tags: trough, drain¶    eject_coil: c¶    eject_targets: p¶    eject_timeouts: 1¶    entrance_count_delay: 2¶    exit_count_delay: 3¶    max_eject_attempts: 4¶  p:¶    ball_switches:¶    mechanical_eject: on¶    tags:¶      - home¶ => ball_devices¶ t@3; a@4; c@6 p@7; 1 2 3; false 4; trough@5 drain@5; true true true¶ p@12;; - playfield@0; 10000 500 500; true 0; home@16; false true false¶
 @¶ball_devices:¶  d: {ball_switches: [«16 s№, »], max_eject_attempts: 1000, tags: [drain, Trough, homes]}¶  e: {ball_switches: a, eject_timeouts: 4294967295, tags: a}¶ => ball_devices¶ d@3;«16  s№@3»; - playfield@0; 10000 500 500; false 1000; drain@3 Trough@3 homes@3; false false true¶ e@4; a@4; - playfield@0; 4294967295 500 500; false 0; a@4; false false false¶
@@ -72,48 +67,29 @@ const BALLS: &str = "\
 @¶modes: m¶@m¶ball_devices:¶ => error 4 UnknownSection modes/m/config/m.yaml 2 ball_devices¶
 ";
 
-fn show_ball_device(out: &mut String, device: BallDevice<'_>) -> Result<(), AllocError> {
-    show_name(out, device.name)?;
-    show_names(out, device.switches)?;
-    out.push_str(";")?;
-    match device.eject_coil {
-        Some(coil) => show_at(out, coil)?,
-        None => out.push_str(" -")?,
-    }
-    show_at(out, device.target)?;
-    write!(
-        out,
-        "; {} {} {}; {} {};",
-        device.timeout,
-        device.entrance_delay,
-        device.exit_delay,
-        device.mechanical,
-        device.max_attempts
-    )?;
-    show_names(out, device.tags)?;
-    writeln!(
-        out,
-        "; {} {} {}",
-        device.is_trough(),
-        device.is_home(),
-        device.is_drain()
-    )
+fn show_ball_device(pen: &mut Pen, device: BallDevice<'_>) {
+    pen.entry(device.name);
+    pen.listed(device.switches);
+    pen.name_at(device.eject_coil);
+    pen.name_at(Some(device.target));
+    pen.put(";");
+    pen.also(device.timeout);
+    pen.also(device.entrance_delay);
+    pen.also(device.exit_delay);
+    pen.put(";");
+    pen.also(device.mechanical);
+    pen.also(device.max_attempts);
+    pen.put(";");
+    pen.listed(device.tags);
+    pen.also(device.is_trough());
+    pen.also(device.is_home());
+    pen.also(device.is_drain());
+    pen.put("\n");
 }
 
 /// Adds the ball devices of a section.
-pub(crate) fn show_balls(out: &mut String, section: &Section) -> Result<(), AllocError> {
+pub(crate) fn show_ball_devices(pen: &mut Pen, section: &Section) {
     for entry in section.ball_devices() {
-        show_ball_device(out, as_ball_device(entry))?;
+        show_ball_device(pen, as_ball_device(entry));
     }
-    Ok(())
-}
-
-#[test]
-fn ball_devices_by_their_table(rt: HostRuntime) -> Result<(), Fail> {
-    assert_rows(&rt, Subject::Section, SECTIONS)
-}
-
-#[test]
-fn ball_devices_of_bundles(rt: HostRuntime) -> Result<(), Fail> {
-    assert_rows(&rt, Subject::Texts, BALLS)
 }

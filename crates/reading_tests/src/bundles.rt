@@ -1,17 +1,16 @@
 //! Bundles and their rows, faults and notes.
 
-use crate::balls::show_balls;
-use crate::cases::{Subject, assert_rows, utf8};
-use crate::coils::show_coils;
-use crate::devices::show_devices;
-use crate::game::{show_game, show_variables};
-use crate::shots::show_shots;
-use crate::tables::{show_handled, show_handlers, show_names};
+use crate::balls::{BALLS, show_ball_devices};
+use crate::cases::{Subject, assert_rows};
+use crate::coils::{COILS, show_coil_sections};
+use crate::devices::{DEVICES, SAME_NAMES, show_device_sections};
+use crate::game::{GAMES, show_game, show_variables};
+use crate::pen::Pen;
+use crate::shots::{SHOTS, show_shot_sections};
 use mpf_config::{
-    Config, ConfigFault, EventPlayer, MODES_NAME, ModeText, Section, Switch, as_event_player,
-    as_switch, listed_modes, mode_names, mode_settings, read_bundle, write_fault, write_note,
+    Config, ConfigFault, MODES_NAME, ModeText, Note, Section, as_event_player, as_switch,
+    listed_modes, mode_names, mode_settings, read_bundle, write_fault, write_note,
 };
-use std::alloc::{AllocError, Global};
 use std::test::Fail;
 
 // Lines of a machine text behind its version line, and their rows: a switch's name, its contact and
@@ -165,165 +164,208 @@ const MODE_NAMES: &str = "\
 #config_version=6¶modes: [«65 a/, »]¶ => error 9 Limit config/config.yaml 2 modes¶
 ";
 
-fn show_switch(out: &mut String, row: Switch<'_>) -> Result<(), AllocError> {
-    write!(
-        out,
-        " {}@{}; {:?} {:?};",
-        utf8(&row.name.text),
-        row.name.line,
-        row.contact,
-        row.debounce
-    )?;
-    for names in [row.tags, row.activated, row.deactivated] {
-        show_names(out, names)?;
-        out.push_str(";")?;
-    }
-    out.push_str("\n")
-}
-
-fn show_player(out: &mut String, row: EventPlayer<'_>) -> Result<(), AllocError> {
-    out.push_str(" ")?;
-    show_handled(out, row.event)?;
-    out.push_str(";")?;
-    show_names(out, row.posts)?;
-    out.push_str(";\n")
-}
-
-fn show_section(out: &mut String, section: &Section) -> Result<(), AllocError> {
-    writeln!(out, "{}", utf8(&section.name))?;
+fn show_switches(pen: &mut Pen, section: &Section) {
     for entry in section.switches() {
-        show_switch(out, as_switch(entry))?;
+        let row = as_switch(entry);
+        pen.entry(row.name);
+        pen.shown(row.contact);
+        pen.shown(row.debounce);
+        pen.put(";");
+        pen.listed(row.tags);
+        pen.listed(row.activated);
+        pen.listed(row.deactivated);
+        pen.put("\n");
     }
-    for player in section.event_players() {
-        show_player(out, as_event_player(player))?;
-    }
-    show_coils(out, section)?;
-    show_variables(out, section)?;
-    show_devices(out, section)?;
-    show_shots(out, section)?;
-    show_balls(out, section)
 }
 
-fn show_machine(out: &mut String, sections: &[Section]) -> Result<(), AllocError> {
+fn show_players(pen: &mut Pen, section: &Section) {
+    for player in section.event_players() {
+        let row = as_event_player(player);
+        pen.put(" ");
+        pen.handled(row.event);
+        pen.put(";");
+        pen.listed(row.posts);
+        pen.put("\n");
+    }
+}
+
+fn show_section(pen: &mut Pen, section: &Section) {
+    pen.bytes(&section.name);
+    pen.put("\n");
+    show_switches(pen, section);
+    show_players(pen, section);
+    show_coil_sections(pen, section);
+    show_variables(pen, section);
+    show_device_sections(pen, section);
+    show_shot_sections(pen, section);
+    show_ball_devices(pen, section);
+}
+
+fn show_sections(pen: &mut Pen, sections: &[Section]) {
     for section in sections {
-        show_section(out, section)?;
-        show_game(out, section, sections)?;
+        show_section(pen, section);
+    }
+}
+
+fn show_machine(pen: &mut Pen, sections: &[Section]) {
+    for section in sections {
+        show_section(pen, section);
+        show_game(pen, section, sections);
         if section.name.as_slice() == MODES_NAME {
-            show_names(out, listed_modes(sections))?;
-            out.push_str("\n")?;
+            pen.names(listed_modes(sections));
+            pen.put("\n");
         }
     }
-    Ok(())
 }
 
-fn show_mode(out: &mut String, mode: &ModeText) -> Result<(), AllocError> {
+fn show_mode(pen: &mut Pen, mode: &ModeText) {
     let settings = mode_settings(&mode.sections);
-    write!(
-        out,
-        "{}: {} {} {};",
-        utf8(&mode.name),
-        settings.priority,
-        settings.game,
-        settings.stops_with_ball
-    )?;
-    for handlers in [settings.starts, settings.stops] {
-        show_handlers(out, handlers)?;
-        out.push_str(";")?;
-    }
-    out.push_str("\n")?;
-    for section in &mode.sections {
-        show_section(out, section)?;
-    }
-    Ok(())
+    pen.bytes(&mode.name);
+    pen.put(":");
+    pen.also(settings.priority);
+    pen.also(settings.game);
+    pen.also(settings.stops_with_ball);
+    pen.events(settings.starts);
+    pen.events(settings.stops);
+    pen.put(";\n");
+    show_sections(pen, &mode.sections);
 }
 
-fn show_config(alloc: Global, out: &mut String, config: &Config) -> Result<(), Fail> {
-    show_machine(out, &config.machine.sections)?;
-    for mode in &config.modes {
-        show_mode(out, mode)?;
+fn show_modes(pen: &mut Pen, modes: &[ModeText]) {
+    for mode in modes {
+        show_mode(pen, mode);
     }
-    let mut lines = Vec::new(alloc);
-    for note in &config.notes {
-        write_note(note, &mut lines)?;
+}
+
+fn show_note(pen: &mut Pen, note: &Note) {
+    let mut line = Vec::new(pen.alloc);
+    if write_note(note, &mut line).is_err() {
+        pen.lose();
     }
-    Ok(out.push_str(utf8(&lines))?)
+    pen.bytes(&line);
+}
+
+fn show_notes(pen: &mut Pen, notes: &[Note]) {
+    for note in notes {
+        show_note(pen, note);
+    }
+}
+
+fn show_config(pen: &mut Pen, config: &Config) {
+    show_machine(pen, &config.machine.sections);
+    show_modes(pen, &config.modes);
+    show_notes(pen, &config.notes);
 }
 
 // Adds the line of a fault.
-fn show_fault(alloc: Global, out: &mut String, fault: ConfigFault) -> Result<(), Fail> {
+fn show_fault(pen: &mut Pen, fault: &ConfigFault) {
     let ConfigFault::Bundle(fault) = fault else {
-        return Err(AllocError.into());
+        return pen.lose();
     };
-    let mut line = Vec::new(alloc);
-    write_fault(&fault, &mut line)?;
-    Ok(out.push_str(utf8(&line))?)
+    let mut line = Vec::new(pen.alloc);
+    if write_fault(fault, &mut line).is_err() {
+        pen.lose();
+    }
+    pen.bytes(&line);
 }
 
 /// Adds the sections, modes and notes of a bundle, or its fault.
-pub(crate) fn show_bundle(alloc: Global, out: &mut String, bundle: &[u8]) -> Result<(), Fail> {
-    match read_bundle(alloc, bundle) {
-        Ok(config) => show_config(alloc, out, &config),
-        Err(fault) => show_fault(alloc, out, fault),
+pub(crate) fn show_bundle(pen: &mut Pen, bundle: &[u8]) {
+    match read_bundle(pen.alloc, bundle) {
+        Ok(config) => show_config(pen, &config),
+        Err(fault) => show_fault(pen, &fault),
     }
 }
 
-// Adds the line of a text of a bundle with its version, where the line is `@M` or `@`, or the line.
-fn add_line(out: &mut String, line: &str) -> Result<(), AllocError> {
-    match line.strip_prefix("@") {
-        Some("") => out.push_str("@ config/config.yaml\n#config_version=6\n"),
-        Some(mode) if !mode.starts_with(" ") => {
-            write!(
-                out,
-                "@ modes/{mode}/config/{mode}.yaml\n#config_version=6\n"
-            )
-        }
-        _ => writeln!(out, "{line}"),
+// Adds the name of a text, and the line with the version.
+fn add_head(bundle: &mut Pen, mode: &str) {
+    if mode.is_empty() {
+        bundle.put("@ config/config.yaml");
+    } else {
+        bundle.put("@ modes/");
+        bundle.put(mode);
+        bundle.put("/config/");
+        bundle.put(mode);
+        bundle.put(".yaml");
+    }
+    bundle.put("\n#config_version=6\n");
+}
+
+// Adds a line, or the head of a text, where the line is `@M` or `@`.
+fn add_line(bundle: &mut Pen, line: &str) {
+    let mode = line.strip_prefix("@").unwrap_or(" ");
+    if mode.starts_with(" ") {
+        bundle.put(line);
+        bundle.put("\n");
+    } else {
+        add_head(bundle, mode);
+    }
+}
+
+fn add_lines(bundle: &mut Pen, lines: &str) {
+    for line in lines.lines() {
+        add_line(bundle, line);
+    }
+}
+
+// Adds what is read of the bundle that is written.
+fn show_written(pen: &mut Pen, bundle: &Pen) {
+    show_bundle(pen, bundle.text.as_bytes());
+    if bundle.is_lost {
+        pen.lose();
     }
 }
 
 /// Adds the sections, modes and notes of texts that `Subject::Texts` tells, or their fault.
-pub(crate) fn show_texts(alloc: Global, out: &mut String, texts: &str) -> Result<(), Fail> {
-    let mut bundle = String::new(alloc);
-    for line in texts.lines() {
-        add_line(&mut bundle, line)?;
+pub(crate) fn show_texts(pen: &mut Pen, texts: &str) {
+    let mut bundle = Pen::new(pen.alloc);
+    add_lines(&mut bundle, texts);
+    show_written(pen, &bundle);
+}
+
+/// The same of a machine text behind its version line.
+pub(crate) fn show_machine_text(pen: &mut Pen, text: &str) {
+    let mut bundle = Pen::new(pen.alloc);
+    add_head(&mut bundle, "");
+    bundle.put(text);
+    show_written(pen, &bundle);
+}
+
+fn show_lines(pen: &mut Pen, names: &[Vec<u8>]) {
+    for name in names {
+        pen.bytes(name);
+        pen.put("\n");
     }
-    show_bundle(alloc, out, bundle.as_bytes())
 }
 
 /// Adds the names of the modes that a machine text lists, or its fault.
-pub(crate) fn show_mode_names(alloc: Global, out: &mut String, text: &[u8]) -> Result<(), Fail> {
-    match mode_names(alloc, text) {
-        Ok(names) => {
-            for name in &names {
-                writeln!(out, "{}", utf8(name))?;
-            }
-            Ok(())
-        }
-        Err(fault) => show_fault(alloc, out, fault),
+pub(crate) fn show_mode_names(pen: &mut Pen, text: &[u8]) {
+    match mode_names(pen.alloc, text) {
+        Ok(names) => show_lines(pen, &names),
+        Err(fault) => show_fault(pen, &fault),
     }
 }
 
 #[test]
-fn bundles(rt: HostRuntime) -> Result<(), Fail> {
-    assert_rows(&rt, Subject::Machine, MACHINES)?;
-    assert_rows(&rt, Subject::Bundle, BUNDLES)
-}
-
-#[test]
-fn texts_of_modes(rt: HostRuntime) -> Result<(), Fail> {
-    assert_rows(&rt, Subject::Texts, MODES)?;
-    assert_rows(&rt, Subject::ModeNames, MODE_NAMES)
+fn bundles(rt: HostRuntime) {
+    assert_rows(&rt, &Subject::Machine, MACHINES);
+    assert_rows(&rt, &Subject::Bundle, BUNDLES);
+    assert_rows(&rt, &Subject::Texts, MODES);
+    assert_rows(&rt, &Subject::ModeNames, MODE_NAMES);
+    assert_rows(&rt, &Subject::Texts, COILS);
+    assert_rows(&rt, &Subject::Texts, DEVICES);
+    assert_rows(&rt, &Subject::Texts, SAME_NAMES);
+    assert_rows(&rt, &Subject::Texts, GAMES);
+    assert_rows(&rt, &Subject::Texts, SHOTS);
+    assert_rows(&rt, &Subject::Texts, BALLS);
 }
 
 #[test]
 fn longest_bundle(rt: HostRuntime) -> Result<(), Fail> {
     let bundle = vec![in rt.alloc(); b'a'; 8_388_609]?;
-    let mut found = String::new(rt.alloc());
-    show_bundle(rt.alloc(), &mut found, &bundle)?;
-    show_bundle(rt.alloc(), &mut found, &bundle[1..])?;
-    assert_eq!(rt;
-        found.as_str(),
-        "error 9 Limit - 1 -\nerror 1 Bundle - 1 -\n"
-    );
+    let mut found = Pen::new(rt.alloc());
+    show_bundle(&mut found, &bundle);
+    show_bundle(&mut found, &bundle[1..]);
+    assert_eq!(rt; found.end(), "error 9 Limit - 1 -\nerror 1 Bundle - 1 -\n");
     Ok(())
 }

@@ -1,19 +1,17 @@
 //! Tables of cases. A row is `TEXT => ANSWER`. In both `¶` stands for LF, and `«N PART»` for the part N
 //! times: `№` in it for the numbers from 1 to N, and `␣` for as many blanks as there are parts before.
 //!
-//! With an allocation refused, by `rt try --test --fail-alloc N`, a test ends with the error of the allocation. An
-//! assertion that fails then shows an answer that came in its place.
+//! With an allocation refused, by `rt try --test --fail-alloc N`, a test fails with `no memory`. If it shows a row,
+//! an answer came in place of the error.
 
-use crate::bundles::{show_bundle, show_mode_names, show_texts};
+use crate::bundles::{show_bundle, show_machine_text, show_mode_names, show_texts};
+use crate::pen::Pen;
 use crate::tables::show_pair;
 use crate::values::{Kind, show_nodes, show_value};
 use crate::yaml::{show_bytes, show_length, show_yaml};
-use std::alloc::{AllocError, Global};
 use std::process::Abort;
-use std::test::Fail;
 
 /// What the texts of a table are.
-#[derive(Clone, Copy)]
 pub(crate) enum Subject {
     /// YAML, of which the tree or the fault is shown.
     Yaml,
@@ -48,80 +46,104 @@ pub(crate) enum Subject {
     ModeSection,
 }
 
-/// The text that these bytes are.
-pub(crate) fn utf8(text: &[u8]) -> &str {
-    std::str::from_utf8(text).unwrap_or("no UTF-8")
+fn add_blanks(pen: &mut Pen, count: usize) {
+    for _ in 0..count {
+        pen.put(" ");
+    }
 }
 
-// Adds a part so many times.
-fn repeat(alloc: Global, out: &mut String, count: usize, part: &str) -> Result<(), AllocError> {
-    if !part.contains('№') && !part.contains('␣') {
-        return out.push_str(&part.repeat(alloc, count)?);
+// Adds the part of this number, counted from 1.
+fn add_part(pen: &mut Pen, part: &str, number: usize) {
+    for c in part.chars() {
+        match c {
+            '¶' => pen.push('\n'),
+            '№' => pen.value(number),
+            '␣' => add_blanks(pen, number.saturating_sub(1)),
+            _ => pen.push(c),
+        }
     }
-    let mut blanks = String::new(alloc);
+}
+
+// Adds what stands behind `«`.
+fn add_parts(pen: &mut Pen, again: &str) {
+    let (count, part) = again.split_once(' ').unwrap_or((again, ""));
+    let Ok(count) = count.parse::<usize>() else {
+        return pen.put("this is no count");
+    };
     for number in 1..=count {
-        let digits = format!(in alloc; "{number}")?;
-        let numbered = part.replace(alloc, '№', &digits)?;
-        out.push_str(&numbered.replace(alloc, '␣', &blanks)?)?;
-        blanks.push(' ')?;
+        add_part(pen, part, number);
     }
-    Ok(())
 }
 
-// Adds a text, and what it repeats behind `«`.
-fn add_part(alloc: Global, out: &mut String, part: &str) -> Result<(), Fail> {
-    let (once, rest) = part.split_once('«').unwrap_or((part, "0 "));
-    let (count, again) = rest.split_once(' ').ok_or("a count")?;
-    out.push_str(once)?;
-    Ok(repeat(alloc, out, count.parse::<usize>()?, again)?)
-}
-
-// What stands in a cell.
-fn whole(alloc: Global, cell: &str) -> Result<String, Fail> {
-    let lines = cell.replace(alloc, '¶', "\n")?;
-    let mut out = String::new(alloc);
-    for part in lines.split('»') {
-        add_part(alloc, &mut out, part)?;
+// Adds what stands in a cell.
+fn add_cell(pen: &mut Pen, cell: &str) {
+    for part in cell.split('»') {
+        let (once, again) = part.split_once('«').unwrap_or((part, "0 "));
+        add_part(pen, once, 1);
+        add_parts(pen, again);
     }
-    Ok(out)
 }
 
 // Adds the answer to a text.
-fn answer(alloc: Global, out: &mut String, subject: Subject, text: &str) -> Result<(), Fail> {
+fn answer(pen: &mut Pen, subject: &Subject, text: &str) {
     match subject {
-        Subject::Yaml => Ok(show_yaml(alloc, out, text.as_bytes())?),
-        Subject::Bytes => show_bytes(alloc, out, text),
-        Subject::Length => show_length(alloc, out, text),
-        Subject::Value(kind) => show_value(alloc, out, kind, text),
-        Subject::Nodes => show_nodes(alloc, out, text),
-        Subject::Bundle => show_bundle(alloc, out, text.as_bytes()),
-        Subject::Machine => {
-            let bundle = format!(in alloc; "@ config/config.yaml\n#config_version=6\n{text}")?;
-            show_bundle(alloc, out, bundle.as_bytes())
-        }
-        Subject::Texts => show_texts(alloc, out, text),
-        Subject::ModeNames => show_mode_names(alloc, out, text.as_bytes()),
-        _ => show_pair(alloc, out, subject, text),
+        Subject::Yaml => show_yaml(pen, text.as_bytes()),
+        Subject::Bytes => show_bytes(pen, text),
+        Subject::Length => show_length(pen, text),
+        Subject::Value(kind) => show_value(pen, kind, text),
+        Subject::Nodes => show_nodes(pen, text),
+        Subject::Bundle => show_bundle(pen, text.as_bytes()),
+        Subject::Machine => show_machine_text(pen, text),
+        Subject::Texts => show_texts(pen, text),
+        Subject::ModeNames => show_mode_names(pen, text.as_bytes()),
+        _ => show_pair(pen, subject, text),
     }
 }
 
-// The answer to the text of a row, and the one that stands there.
-fn answered(alloc: Global, subject: Subject, row: &str) -> Result<(String, String), Fail> {
-    let (text, wanted) = row.split_once(" => ").ok_or("a row")?;
-    let mut found = String::new(alloc);
-    answer(alloc, &mut found, subject, &whole(alloc, text)?)?;
-    Ok((found, whole(alloc, wanted)?))
+// Adds a row and what is found, if that is not what is wanted.
+fn compare(wrong: &mut Pen, row: &str, found: &Pen, wanted: &Pen) {
+    if found.is_lost || wanted.is_lost {
+        return wrong.lose();
+    }
+    if found.text.as_str() != wanted.text.as_str() {
+        wrong.put(row);
+        wrong.put("\nhas the answer ");
+        wrong.put(&found.text);
+        wrong.put("\n");
+    }
+}
+
+// Adds the answer to what stands in a cell.
+fn answer_cell(found: &mut Pen, subject: &Subject, cell: &str) {
+    let mut text = Pen::new(found.alloc);
+    add_cell(&mut text, cell);
+    answer(found, subject, &text.text);
+    if text.is_lost {
+        found.lose();
+    }
+}
+
+// Adds a row and its answer, if that is not the one that stands there.
+fn check_row(wrong: &mut Pen, subject: &Subject, row: &str) {
+    let (text, answer) = row
+        .split_once(" => ")
+        .unwrap_or((row, "a row has no answer"));
+    let mut found = Pen::new(wrong.alloc);
+    answer_cell(&mut found, subject, text);
+    let mut wanted = Pen::new(wrong.alloc);
+    add_cell(&mut wanted, answer);
+    compare(wrong, row, &found, &wanted);
+}
+
+fn check_rows(wrong: &mut Pen, subject: &Subject, table: &str) {
+    for row in table.lines() {
+        check_row(wrong, subject, row);
+    }
 }
 
 /// The text of each row has the answer that stands there.
-pub(crate) fn assert_rows<R: Abort + AllocGlobal>(
-    rt: &R,
-    subject: Subject,
-    table: &str,
-) -> Result<(), Fail> {
-    for row in table.lines() {
-        let (found, wanted) = answered(rt.alloc(), subject, row)?;
-        assert_eq!(rt; found.as_str(), wanted.as_str(), "{row}");
-    }
-    Ok(())
+pub(crate) fn assert_rows<R: Abort + AllocGlobal>(rt: &R, subject: &Subject, table: &str) {
+    let mut wrong = Pen::new(rt.alloc());
+    check_rows(&mut wrong, subject, table);
+    assert_eq!(rt; wrong.end(), "");
 }

@@ -1,20 +1,13 @@
 //! Coils, coil players, flippers and autofire coils of bundles, by the names of their settings.
 
-use crate::cases::{Subject, assert_rows, utf8};
-use crate::devices::show_name;
-use crate::tables::{show_handled, show_handlers};
-use mpf_config::{
-    Autofire, Coil, CoilItem, CoilPlayer, Flipper, NameAt, Section, as_autofire, as_coil,
-    as_coil_item, as_coil_player, as_flipper,
-};
-use std::alloc::AllocError;
-use std::test::Fail;
+use crate::pen::Pen;
+use mpf_config::{Keyed, Section, as_autofire, as_coil, as_coil_item, as_coil_player, as_flipper};
 
-// Texts, and what is read of them. A coil is shown by its name, the length of its pulse and the greatest
-// one, the power of its pulse and the greatest one, whether it may be held, the power with which it is held
-// and the greatest one. A coil player is shown by its event, and then what each coil does; a flipper and an
-// autofire coil by its name, its coils and its switch, and its events.
-const COILS: &str = "\
+/// Texts, and what is read of them. A coil is shown by its name, the length of its pulse and the greatest
+/// one, the power of its pulse and the greatest one, whether it may be held, the power with which it is held
+/// and the greatest one. A coil player is shown by its event, and then what each coil does; a flipper and an
+/// autofire coil by its name, its coils and its switch, and its events.
+pub(crate) const COILS: &str = "\
 @¶coils:¶  a:¶ => coils¶ a@3; 10 10 1000 1000 false 0 0;¶
 @¶coils:¶  b:¶    default_pulse_ms: 30¶    allow_enable: yes¶  c:¶    default_hold_power: 0.25¶  d: {default_hold_power: 0.25, allow_enable: yes, max_pulse_ms: 5}¶  e: {default_hold_power: 0, max_hold_power: 0.5}¶  f: {max_hold_power: 30%, allow_enable: on}¶ => coils¶ b@3; 30 30 1000 1000 true 1000 1000;¶ c@6; 10 10 1000 1000 true 250 250;¶ d@8; 10 5 1000 1000 true 250 1000;¶ e@9; 10 10 1000 1000 false 0 500;¶ f@10; 10 10 1000 1000 true 300 300;¶
 @¶coils:¶  g:¶    default_pulse_power: 0.5¶    max_pulse_power: 25%¶    max_pulse_ms: 1s¶    default_hold_power: 100%¶    max_hold_power: 0¶ => coils¶ g@3; 10 1000 500 250 true 1000 0;¶
@@ -25,93 +18,74 @@ const COILS: &str = "\
 @¶modes: m¶@m¶flippers:¶ => error 4 UnknownSection modes/m/config/m.yaml 2 flippers¶
 ";
 
-fn show_coil(out: &mut String, coil: Coil<'_>) -> Result<(), AllocError> {
-    show_name(out, coil.name)?;
-    writeln!(
-        out,
-        " {} {} {} {} {} {} {};",
-        coil.pulse_ms,
-        coil.max_pulse_ms,
-        coil.pulse_power,
-        coil.max_pulse_power,
-        coil.may_hold,
-        coil.hold_power,
-        coil.max_hold_power
-    )
-}
-
-fn show_item(out: &mut String, item: CoilItem<'_>) -> Result<(), AllocError> {
-    write!(
-        out,
-        " {}@{} {:?} {:?} {:?} {:?};",
-        utf8(&item.coil.text),
-        item.coil.line,
-        item.action,
-        item.pulse_ms,
-        item.pulse_power,
-        item.hold_power
-    )
-}
-
-fn show_coil_player(out: &mut String, player: CoilPlayer<'_>) -> Result<(), AllocError> {
-    out.push_str(" ")?;
-    show_handled(out, player.event)?;
-    out.push_str(";")?;
-    for keyed in player.items {
-        show_item(out, as_coil_item(keyed))?;
+fn show_coils(pen: &mut Pen, section: &Section) {
+    for entry in section.coils() {
+        let coil = as_coil(entry);
+        pen.entry(coil.name);
+        pen.also(coil.pulse_ms);
+        pen.also(coil.max_pulse_ms);
+        pen.also(coil.pulse_power);
+        pen.also(coil.max_pulse_power);
+        pen.also(coil.may_hold);
+        pen.also(coil.hold_power);
+        pen.also(coil.max_hold_power);
+        pen.put(";\n");
     }
-    out.push_str("\n")
 }
 
-/// Adds a name with the line that it is written in.
-pub(crate) fn show_at(out: &mut String, name: NameAt<'_>) -> Result<(), AllocError> {
-    write!(out, " {}@{}", utf8(name.text), name.line)
+fn show_items(pen: &mut Pen, items: &[Keyed]) {
+    for keyed in items {
+        let item = as_coil_item(keyed);
+        pen.put(" ");
+        pen.name(item.coil);
+        pen.shown(item.action);
+        pen.shown(item.pulse_ms);
+        pen.shown(item.pulse_power);
+        pen.shown(item.hold_power);
+        pen.put(";");
+    }
 }
 
-fn show_flipper(out: &mut String, flipper: Flipper<'_>) -> Result<(), AllocError> {
-    show_name(out, flipper.name)?;
-    show_at(out, flipper.main_coil)?;
-    match flipper.hold_coil {
-        Some(coil) => show_at(out, coil)?,
-        None => out.push_str(" -")?,
+fn show_coil_players(pen: &mut Pen, section: &Section) {
+    for entry in section.coil_players() {
+        let player = as_coil_player(entry);
+        pen.put(" ");
+        pen.handled(player.event);
+        pen.put(";");
+        show_items(pen, player.items);
+        pen.put("\n");
     }
-    show_at(out, flipper.switch)?;
-    for handlers in [flipper.enables, flipper.disables] {
-        out.push_str(";")?;
-        show_handlers(out, handlers)?;
-    }
-    out.push_str(";\n")
 }
 
-fn show_autofire(out: &mut String, autofire: Autofire<'_>) -> Result<(), AllocError> {
-    show_name(out, autofire.name)?;
-    show_at(out, autofire.coil)?;
-    show_at(out, autofire.switch)?;
-    for handlers in [autofire.enables, autofire.disables] {
-        out.push_str(";")?;
-        show_handlers(out, handlers)?;
+fn show_flippers(pen: &mut Pen, section: &Section) {
+    for entry in section.flippers() {
+        let flipper = as_flipper(entry);
+        pen.entry(flipper.name);
+        pen.name_at(Some(flipper.main_coil));
+        pen.name_at(flipper.hold_coil);
+        pen.name_at(Some(flipper.switch));
+        pen.events(flipper.enables);
+        pen.events(flipper.disables);
+        pen.put(";\n");
     }
-    out.push_str(";\n")
+}
+
+fn show_autofires(pen: &mut Pen, section: &Section) {
+    for entry in section.autofires() {
+        let autofire = as_autofire(entry);
+        pen.entry(autofire.name);
+        pen.name_at(Some(autofire.coil));
+        pen.name_at(Some(autofire.switch));
+        pen.events(autofire.enables);
+        pen.events(autofire.disables);
+        pen.put(";\n");
+    }
 }
 
 /// Adds the coils, the coil players, the flippers and the autofire coils of a section.
-pub(crate) fn show_coils(out: &mut String, section: &Section) -> Result<(), AllocError> {
-    for entry in section.coils() {
-        show_coil(out, as_coil(entry))?;
-    }
-    for player in section.coil_players() {
-        show_coil_player(out, as_coil_player(player))?;
-    }
-    for entry in section.flippers() {
-        show_flipper(out, as_flipper(entry))?;
-    }
-    for entry in section.autofires() {
-        show_autofire(out, as_autofire(entry))?;
-    }
-    Ok(())
-}
-
-#[test]
-fn coils_and_their_rules(rt: HostRuntime) -> Result<(), Fail> {
-    assert_rows(&rt, Subject::Texts, COILS)
+pub(crate) fn show_coil_sections(pen: &mut Pen, section: &Section) {
+    show_coils(pen, section);
+    show_coil_players(pen, section);
+    show_flippers(pen, section);
+    show_autofires(pen, section);
 }

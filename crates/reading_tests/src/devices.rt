@@ -1,20 +1,14 @@
 //! Logic blocks and timers of bundles, by the names of their settings.
 
-use crate::cases::{Subject, assert_rows, utf8};
-use crate::tables::{show_handled, show_handlers, show_names, show_steps};
-use mpf_config::{
-    Block, Control, Counter, Name, Section, StepBlock, Timer, as_control, as_counter,
-    as_step_block, as_timer,
-};
-use std::alloc::AllocError;
-use std::test::Fail;
+use crate::pen::Pen;
+use mpf_config::{Block, Entry, Fields, Section, as_control, as_counter, as_step_block, as_timer};
 
-// Texts, and what is read of them. A counter is shown by its name, the events that it counts, its value
-// at first, its interval, its end, its direction and its window; an accrual or a sequence by its name and
-// steps. Then come whether completing resets and disables it, whether it is kept for each player, and its
-// lists. A timer is shown by its name, its value at first, its end, its direction, its interval, whether
-// it runs at first and whether it starts again; and then what controls it.
-const DEVICES: &str = "\
+/// Texts, and what is read of them. A counter is shown by its name, the events that it counts, its value
+/// at first, its interval, its end, its direction and its window; an accrual or a sequence by its name and
+/// steps. Then come whether completing resets and disables it, whether it is kept for each player, and its
+/// lists. A timer is shown by its name, its value at first, its end, its direction, its interval, whether
+/// it runs at first and whether it starts again; and then what controls it.
+pub(crate) const DEVICES: &str = "\
 @¶counters:¶  c:¶    count_events: a, b¶  d:¶    count_events:¶    starting_count: 9¶    count_interval: 2¶    count_complete_value: -1¶    direction: down¶    multiple_hit_window: 1s¶    enable_events: e¶    disable_events: f¶    reset_events: g¶    restart_events: h¶    events_when_hit: i¶    events_when_complete: j k¶ => counters¶ c@3; a@4 b@4; 0 1 None Up 0; true true false;;;;;;;¶ d@5;; 9 2 Some(-1) Down 1000; true true false; e@12; f@13; g@14; h@15; i@16; j@17 k@17;¶
 @¶accruals:¶  q:¶    reset_on_complete: no¶    events:¶      - a, b¶      - c¶sequences:¶  r:¶    events:¶    disable_on_complete: no¶    persist_state: yes¶ => accruals¶ q@3; [ a@6 b@6][ c@7]; false true false;;;;;;;¶sequences¶ r@9;; true false true;;;;;;;¶
 @¶modes: m¶@m¶timers:¶  t:¶  u:¶    direction: down¶  v:¶    direction: down¶    start_value: 3¶    end_value: -2¶    tick_interval: 5¶    start_running: yes¶    restart_on_complete: yes¶ => modes¶ m@2¶m: 100 true true;;;¶timers¶ t@3; 0 None Up 1000 false false;¶ u@4; 0 Some(0) Down 1000 false false;¶ v@6; 3 Some(-2) Down 5 true true;¶
@@ -27,8 +21,8 @@ const DEVICES: &str = "\
 @¶modes: m¶@m¶timers:¶  playfield:¶ => error 6 BadValue modes/m/config/m.yaml 3 playfield¶
 ";
 
-// Texts that have entries of one section and name, or of two sections and one name, and what is read of them.
-const SAME_NAMES: &str = "\
+/// Texts that have entries of one section and name, or of two sections and one name, and what is read of them.
+pub(crate) const SAME_NAMES: &str = "\
 @¶modes: m¶counters:¶  c:¶    count_events: a¶@m¶counters:¶  b:¶    count_events: a¶  c:¶    count_events: d¶ => error 8 Duplicate modes/m/config/m.yaml 5 c¶
 @m¶accruals:¶  c:¶    events:¶@¶modes: m¶accruals:¶  c:¶    events:¶ => error 8 Duplicate modes/m/config/m.yaml 3 c¶
 @¶modes: a, b¶@b¶timers:¶  t:¶@a¶timers:¶  s:¶  t:¶ => error 8 Duplicate modes/a/config/a.yaml 4 t¶
@@ -41,94 +35,81 @@ const SAME_NAMES: &str = "\
 @¶modes: a¶@a¶timers:¶  t:¶@b¶timers:¶  t:¶ => modes¶ a@2¶a: 100 true true;;;¶timers¶ t@3; 0 None Up 1000 false false;¶note modes/b/config/b.yaml 0 unlisted modes/b/config/b.yaml¶
 ";
 
-pub(crate) fn show_name(out: &mut String, name: &Name) -> Result<(), AllocError> {
-    write!(out, " {}@{};", utf8(&name.text), name.line)
+fn show_block(pen: &mut Pen, block: Block<'_>) {
+    pen.also(block.reset_on_complete);
+    pen.also(block.disable_on_complete);
+    pen.also(block.persist);
+    pen.events(block.enables);
+    pen.events(block.disables);
+    pen.events(block.resets);
+    pen.events(block.restarts);
+    pen.put(";");
+    pen.listed(block.hit);
+    pen.listed(block.complete);
+    pen.put("\n");
 }
 
-fn show_block(out: &mut String, block: Block<'_>) -> Result<(), AllocError> {
-    write!(
-        out,
-        " {} {} {};",
-        block.reset_on_complete, block.disable_on_complete, block.persist
-    )?;
-    let first = [block.enables, block.disables];
-    let second = [block.resets, block.restarts];
-    for handlers in first.into_iter().chain(second) {
-        show_handlers(out, handlers)?;
-        out.push_str(";")?;
+fn show_counters(pen: &mut Pen, section: &Section) {
+    for entry in section.counters() {
+        let counter = as_counter(entry);
+        pen.entry(counter.name);
+        pen.handlers(counter.counts);
+        pen.put(";");
+        pen.also(counter.start);
+        pen.also(counter.interval);
+        pen.shown(counter.end);
+        pen.shown(counter.direction);
+        pen.also(counter.window);
+        pen.put(";");
+        show_block(pen, counter.block);
     }
-    for posts in [block.hit, block.complete] {
-        show_names(out, posts)?;
-        out.push_str(";")?;
+}
+
+fn show_step_blocks(pen: &mut Pen, entries: &[Entry]) {
+    for entry in entries {
+        let block = as_step_block(entry);
+        pen.entry(block.name);
+        if !block.steps.is_empty() {
+            pen.put(" ");
+        }
+        pen.steps(block.steps);
+        pen.put(";");
+        show_block(pen, block.block);
     }
-    out.push_str("\n")
 }
 
-fn show_counter(out: &mut String, counter: Counter<'_>) -> Result<(), AllocError> {
-    show_name(out, counter.name)?;
-    show_handlers(out, counter.counts)?;
-    write!(
-        out,
-        "; {} {} {:?} {:?} {};",
-        counter.start, counter.interval, counter.end, counter.direction, counter.window
-    )?;
-    show_block(out, counter.block)
-}
-
-fn show_step_block(out: &mut String, block: StepBlock<'_>) -> Result<(), AllocError> {
-    show_name(out, block.name)?;
-    if !block.steps.is_empty() {
-        out.push_str(" ")?;
-    }
-    show_steps(out, block.steps)?;
-    out.push_str(";")?;
-    show_block(out, block.block)
-}
-
-fn show_control(out: &mut String, control: Control<'_>) -> Result<(), AllocError> {
-    out.push_str(" ")?;
-    show_handled(out, control.event)?;
-    write!(out, " {:?} {};", control.action, control.value)
-}
-
-fn show_timer(out: &mut String, timer: Timer<'_>) -> Result<(), AllocError> {
-    show_name(out, timer.name)?;
-    write!(
-        out,
-        " {} {:?} {:?} {} {} {};",
-        timer.start, timer.end, timer.direction, timer.interval, timer.start_running, timer.restart
-    )?;
-    for map in timer.controls {
+fn show_controls(pen: &mut Pen, controls: &[Fields]) {
+    for map in controls {
         if let Some(control) = as_control(map) {
-            show_control(out, control)?;
+            pen.put(" ");
+            pen.handled(control.event);
+            pen.shown(control.action);
+            pen.also(control.value);
+            pen.put(";");
         }
     }
-    out.push_str("\n")
+}
+
+fn show_timers(pen: &mut Pen, section: &Section) {
+    for entry in section.timers() {
+        let timer = as_timer(entry);
+        pen.entry(timer.name);
+        pen.also(timer.start);
+        pen.shown(timer.end);
+        pen.shown(timer.direction);
+        pen.also(timer.interval);
+        pen.also(timer.start_running);
+        pen.also(timer.restart);
+        pen.put(";");
+        show_controls(pen, timer.controls);
+        pen.put("\n");
+    }
 }
 
 /// Adds the logic blocks and the timers of a section.
-pub(crate) fn show_devices(out: &mut String, section: &Section) -> Result<(), AllocError> {
-    for entry in section.counters() {
-        show_counter(out, as_counter(entry))?;
-    }
-    for entry in section.accruals() {
-        show_step_block(out, as_step_block(entry))?;
-    }
-    for entry in section.sequences() {
-        show_step_block(out, as_step_block(entry))?;
-    }
-    for entry in section.timers() {
-        show_timer(out, as_timer(entry))?;
-    }
-    Ok(())
-}
-
-#[test]
-fn logic_blocks_and_timers(rt: HostRuntime) -> Result<(), Fail> {
-    assert_rows(&rt, Subject::Texts, DEVICES)
-}
-
-#[test]
-fn entries_of_one_name(rt: HostRuntime) -> Result<(), Fail> {
-    assert_rows(&rt, Subject::Texts, SAME_NAMES)
+pub(crate) fn show_device_sections(pen: &mut Pen, section: &Section) {
+    show_counters(pen, section);
+    show_step_blocks(pen, section.accruals());
+    show_step_blocks(pen, section.sequences());
+    show_timers(pen, section);
 }

@@ -1,19 +1,15 @@
 //! The sections `machine`, `game` and `variable_player` of bundles, by the names of their settings.
 
-use crate::cases::{Subject, assert_rows};
-use crate::devices::show_name;
-use crate::tables::show_handled;
+use crate::pen::Pen;
 use mpf_config::{
-    Content, GAME_NAME, MACHINE_SECTION_NAME, Section, VariableItem, VariablePlayer, as_game,
-    as_variable_item, as_variable_player, min_balls,
+    Content, GAME_NAME, Keyed, MACHINE_SECTION_NAME, Section, as_game, as_variable_item,
+    as_variable_player, min_balls,
 };
-use std::alloc::AllocError;
-use std::test::Fail;
 
-// Texts, and what is read of them. The section `machine` is shown by how many balls a game needs, and `game` by
-// how many balls each player has and how many players there may be; an entry of `variable_player` by its event,
-// and then what is done with each variable.
-const GAMES: &str = "\
+/// Texts, and what is read of them. The section `machine` is shown by how many balls a game needs, and `game` by
+/// how many balls each player has and how many players there may be; an entry of `variable_player` by its event,
+/// and then what is done with each variable.
+pub(crate) const GAMES: &str = "\
 @¶machine:¶  min_balls: 3¶game:¶  balls_per_game: 5¶  max_players: 2¶ => machine¶ 3¶game¶ 5 2¶
 @¶game:¶machine:¶ => game¶ 3 4¶machine¶ 1¶
 @¶machine: {min_balls: 0}¶game: {max_players: 1, balls_per_game: 99}¶ => machine¶ 0¶game¶ 99 1¶
@@ -29,49 +25,41 @@ const GAMES: &str = "\
 @¶modes: m¶@m¶variable_player:¶  x: {«1025 a№: 1, »}¶ => error 9 Limit modes/m/config/m.yaml 3 x¶
 ";
 
-fn show_item(out: &mut String, item: VariableItem<'_>) -> Result<(), AllocError> {
-    show_name(out, item.variable)?;
-    write!(out, " {:?} {};", item.action, item.number)
-}
-
-fn show_player(out: &mut String, player: VariablePlayer<'_>) -> Result<(), AllocError> {
-    out.push_str(" ")?;
-    show_handled(out, player.event)?;
-    out.push_str(";")?;
-    for keyed in player.items {
-        show_item(out, as_variable_item(keyed))?;
+fn show_items(pen: &mut Pen, items: &[Keyed]) {
+    for keyed in items {
+        let item = as_variable_item(keyed);
+        pen.entry(item.variable);
+        pen.shown(item.action);
+        pen.also(item.number);
+        pen.put(";");
     }
-    out.push_str("\n")
 }
 
 /// Adds the variable players of a section.
-pub(crate) fn show_variables(out: &mut String, section: &Section) -> Result<(), AllocError> {
-    for player in section.variable_players() {
-        show_player(out, as_variable_player(player))?;
+pub(crate) fn show_variables(pen: &mut Pen, section: &Section) {
+    for entry in section.variable_players() {
+        let player = as_variable_player(entry);
+        pen.put(" ");
+        pen.handled(player.event);
+        pen.put(";");
+        show_items(pen, player.items);
+        pen.put("\n");
     }
-    Ok(())
 }
 
 /// Adds what a section of the machine text says of the game, or of the machine.
-pub(crate) fn show_game(
-    out: &mut String,
-    section: &Section,
-    sections: &[Section],
-) -> Result<(), AllocError> {
+pub(crate) fn show_game(pen: &mut Pen, section: &Section, sections: &[Section]) {
     if section.name.as_slice() == MACHINE_SECTION_NAME {
-        return writeln!(out, " {}", min_balls(sections));
+        pen.also(min_balls(sections));
+        return pen.put("\n");
     }
     let Content::Entry(entry) = &section.content else {
-        return Ok(());
+        return;
     };
-    if section.name.as_slice() != GAME_NAME {
-        return Ok(());
+    if section.name.as_slice() == GAME_NAME {
+        let game = as_game(entry);
+        pen.also(game.balls_per_game);
+        pen.also(game.max_players);
+        pen.put("\n");
     }
-    let game = as_game(entry);
-    writeln!(out, " {} {}", game.balls_per_game, game.max_players)
-}
-
-#[test]
-fn games_and_variables(rt: HostRuntime) -> Result<(), Fail> {
-    assert_rows(&rt, Subject::Texts, GAMES)
 }

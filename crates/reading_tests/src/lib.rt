@@ -14,6 +14,8 @@ mod devices;
 #[cfg(test)]
 mod game;
 #[cfg(test)]
+mod pen;
+#[cfg(test)]
 mod shots;
 #[cfg(test)]
 mod tables;

@@ -1,17 +1,10 @@
 //! Shots, groups of them and their profiles: by their tables, and in bundles by the names of their settings.
 
-use crate::cases::{Subject, assert_rows};
-use crate::coils::show_at;
-use crate::devices::show_name;
-use crate::tables::{show_handlers, show_names};
-use mpf_config::{
-    Section, Shot, ShotGroup, ShotProfile, as_shot, as_shot_group, as_shot_profile, as_state,
-};
-use std::alloc::AllocError;
-use std::test::Fail;
+use crate::pen::Pen;
+use mpf_config::{Fields, Section, as_shot, as_shot_group, as_shot_profile, as_state};
 
-// Texts with one section, which a machine and a mode have, and its entries or their fault.
-const SECTIONS: &str = "\
+/// Texts with one section, which a machine and a mode have, and its entries or their fault.
+pub(crate) const SECTIONS: &str = "\
 shots:¶ => ;
 shots:¶  s:¶ => s@2: - |  | default@0 |  |  |  | ;
 shots:¶  s:¶    switch: a¶    hit_events: b, c¶    profile: p¶    advance_events: d¶    reset_events: e¶    enable_events: f¶    disable_events: g h¶ => s@2: a@3 |  b@4 c@4 | p@5 |  d@6 |  e@7 |  f@8 |  g@9 h@9;
@@ -93,11 +86,11 @@ shot_group:¶ => no section
 shot_profile:¶ => no section
 ";
 
-// Texts, and what is read of them. A shot is shown by its name, its switch and its profile, and the events that hit,
-// advance, reset, enable and disable it; a group by its name and its shots, and the events that rotate it, rotate it
-// right, rotate it left and reset it; a profile by its name, whether a hit advances a shot, whether the first state
-// comes after the last, and its states.
-const SHOTS: &str = "\
+/// Texts, and what is read of them. A shot is shown by its name, its switch and its profile, and the events that hit,
+/// advance, reset, enable and disable it; a group by its name and its shots, and the events that rotate it, rotate it
+/// right, rotate it left and reset it; a profile by its name, whether a hit advances a shot, whether the first state
+/// comes after the last, and its states.
+pub(crate) const SHOTS: &str = "\
 @¶shots:¶  s:¶  t:¶    switch: a¶    hit_events: b, c{current_player.x==1}¶    profile: p¶    advance_events: d¶    reset_events: e¶    enable_events: f¶    disable_events: g, h¶ => shots¶ s@3; - default@0;;;;;;¶ t@4; a@5 p@7; b@6 c{x Equal 1}@6; d@8; e@9; f@10; g@11 h@11;¶
 @¶shot_groups:¶  g: {shots: x}¶  h:¶    shots: y, x¶    rotate_events: a¶    rotate_right_events: b¶    rotate_left_events: c¶    reset_events: d, e{ current_player.x < 0 }¶ => shot_groups¶ g@3; x@3;;;;;¶ h@4; y@5 x@5; a@6; b@7; c@8; d@9 e{x Less 0}@9;¶
 @¶shot_groups:¶  g: {shots: «16 x№ »}¶ => shot_groups¶ g@3;«16  x№@3»;;;;;¶
@@ -124,65 +117,56 @@ const SHOTS: &str = "\
 @¶modes: a, b¶@a¶shots:¶  s:¶@b¶shot_groups:¶  s: {shots: s}¶ => modes¶ a@2 b@2¶a: 100 true true;;;¶shots¶ s@3; - default@0;;;;;;¶b: 100 true true;;;¶shot_groups¶ s@3; s@3;;;;;¶
 ";
 
-fn show_shot(out: &mut String, shot: Shot<'_>) -> Result<(), AllocError> {
-    show_name(out, shot.name)?;
-    match shot.switch {
-        Some(switch) => show_at(out, switch)?,
-        None => out.push_str(" -")?,
+fn show_shots(pen: &mut Pen, section: &Section) {
+    for entry in section.shots() {
+        let shot = as_shot(entry);
+        pen.entry(shot.name);
+        pen.name_at(shot.switch);
+        pen.name_at(Some(shot.profile));
+        pen.events(shot.hits);
+        pen.events(shot.advances);
+        pen.events(shot.resets);
+        pen.events(shot.enables);
+        pen.events(shot.disables);
+        pen.put(";\n");
     }
-    show_at(out, shot.profile)?;
-    let moves = [shot.hits, shot.advances, shot.resets];
-    for handlers in moves.into_iter().chain([shot.enables, shot.disables]) {
-        out.push_str(";")?;
-        show_handlers(out, handlers)?;
-    }
-    out.push_str(";\n")
 }
 
-fn show_group(out: &mut String, group: ShotGroup<'_>) -> Result<(), AllocError> {
-    show_name(out, group.name)?;
-    show_names(out, group.shots)?;
-    let turns = [group.rotates, group.rotates_right, group.rotates_left];
-    for handlers in turns.into_iter().chain([group.resets]) {
-        out.push_str(";")?;
-        show_handlers(out, handlers)?;
+fn show_groups(pen: &mut Pen, section: &Section) {
+    for entry in section.shot_groups() {
+        let group = as_shot_group(entry);
+        pen.entry(group.name);
+        pen.names(group.shots);
+        pen.events(group.rotates);
+        pen.events(group.rotates_right);
+        pen.events(group.rotates_left);
+        pen.events(group.resets);
+        pen.put(";\n");
     }
-    out.push_str(";\n")
 }
 
-fn show_profile(out: &mut String, profile: ShotProfile<'_>) -> Result<(), AllocError> {
-    show_name(out, profile.name)?;
-    write!(out, " {} {};", profile.advance_on_hit, profile.loops)?;
-    for map in profile.states {
-        if let Some(state) = as_state(map) {
-            show_at(out, state)?;
-            out.push_str(";")?;
-        }
+fn show_states(pen: &mut Pen, states: &[Fields]) {
+    for map in states {
+        pen.name_at(as_state(map));
+        pen.put(";");
     }
-    out.push_str("\n")
+}
+
+fn show_profiles(pen: &mut Pen, section: &Section) {
+    for entry in section.shot_profiles() {
+        let profile = as_shot_profile(entry);
+        pen.entry(profile.name);
+        pen.also(profile.advance_on_hit);
+        pen.also(profile.loops);
+        pen.put(";");
+        show_states(pen, profile.states);
+        pen.put("\n");
+    }
 }
 
 /// Adds the shots, the groups and the profiles of a section.
-pub(crate) fn show_shots(out: &mut String, section: &Section) -> Result<(), AllocError> {
-    for entry in section.shots() {
-        show_shot(out, as_shot(entry))?;
-    }
-    for entry in section.shot_groups() {
-        show_group(out, as_shot_group(entry))?;
-    }
-    for entry in section.shot_profiles() {
-        show_profile(out, as_shot_profile(entry))?;
-    }
-    Ok(())
-}
-
-#[test]
-fn shots_by_tables(rt: HostRuntime) -> Result<(), Fail> {
-    assert_rows(&rt, Subject::Section, SECTIONS)?;
-    assert_rows(&rt, Subject::ModeSection, SECTIONS)
-}
-
-#[test]
-fn shots_of_bundles(rt: HostRuntime) -> Result<(), Fail> {
-    assert_rows(&rt, Subject::Texts, SHOTS)
+pub(crate) fn show_shot_sections(pen: &mut Pen, section: &Section) {
+    show_shots(pen, section);
+    show_groups(pen, section);
+    show_profiles(pen, section);
 }

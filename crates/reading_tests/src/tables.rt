@@ -1,17 +1,18 @@
 //! Entries and players that are read by tables.
 
-use crate::cases::{Subject, assert_rows, utf8};
-use mpf_sections::tables::{TextKind, shape_of};
-use mpf_sections::{HandledAt, as_handled};
+use crate::cases::{Subject, assert_rows};
+use crate::pen::Pen;
+use crate::yaml::tree_of;
+use crate::{balls, shots};
+use mpf_sections::as_handled;
+use mpf_tables::{TextKind, shape_of};
 use section_tables::fault::ConfigFault;
-use section_tables::rows::{Entry, Fields, Handler, Keyed, Name, Plain, Player, Value};
+use section_tables::rows::{Entry, Fields, Keyed, Plain, Player, Value};
 use section_tables::table::{
-    Absent, Bounds, Field, Kind, Others, PlayerKinds, Scalar, Setting, Shape, Without,
+    Absent, Barred, Bounds, Field, Kind, Others, PlayerKinds, Scalar, Setting, Shape, Without,
 };
 use section_tables::{entries, entry, name_list, players};
-use std::alloc::{AllocError, Global};
-use std::test::Fail;
-use yaml_subset::{Key, Tree, read};
+use yaml_subset::{Key, Tree};
 
 macro_rules! setting {
     ($key:expr, $kind:expr, $without:expr) => {
@@ -468,227 +469,184 @@ ball_devices:¶ => no section
 
 // ---- what is shown
 
-fn show_name(out: &mut String, name: &Name) -> Result<(), AllocError> {
-    write!(out, "{}@{}", utf8(&name.text), name.line)
-}
-
-/// Adds a handled event.
-pub(crate) fn show_handled(out: &mut String, event: HandledAt<'_>) -> Result<(), AllocError> {
-    out.push_str(utf8(event.name))?;
-    if let Some(guard) = event.condition {
-        write!(
-            out,
-            "{{{} {:?} {}}}",
-            utf8(&guard.variable),
-            guard.comparison,
-            guard.number
-        )?;
-    }
-    write!(out, "@{}", event.line)
-}
-
-fn show_plain(out: &mut String, value: &Plain) -> Result<(), AllocError> {
+fn show_plain(pen: &mut Pen, value: &Plain) {
     match value {
-        Plain::Nothing => out.push_str("-"),
-        Plain::Flag(b) => write!(out, "{b}"),
-        Plain::Number(n) => write!(out, "{n}"),
-        Plain::Time(ms) => write!(out, "{ms}ms"),
-        Plain::Power(n) => write!(out, "{n}"),
-        Plain::Word(word) => out.push_str(utf8(word)),
-        Plain::Name(name) => show_name(out, name),
-        Plain::DefaultName(text) => write!(out, "{}@0", utf8(text)),
-        Plain::Event(handler) => show_handled(out, as_handled(handler)),
+        Plain::Nothing => pen.put("-"),
+        Plain::Flag(b) => pen.value(*b),
+        Plain::Number(n) => pen.value(*n),
+        Plain::Time(ms) => {
+            pen.value(*ms);
+            pen.put("ms");
+        }
+        Plain::Power(n) => pen.value(*n),
+        Plain::Word(word) => pen.bytes(word),
+        Plain::Name(name) => pen.name(name),
+        Plain::DefaultName(text) => pen.at(text, 0),
+        Plain::Event(handler) => pen.handled(as_handled(handler)),
     }
 }
 
-pub(crate) fn show_names(out: &mut String, names: &[Name]) -> Result<(), AllocError> {
-    for name in names {
-        out.push_str(" ")?;
-        show_name(out, name)?;
-    }
-    Ok(())
-}
-
-pub(crate) fn show_handlers(out: &mut String, handlers: &[Handler]) -> Result<(), AllocError> {
-    for handler in handlers {
-        out.push_str(" ")?;
-        show_handled(out, as_handled(handler))?;
-    }
-    Ok(())
-}
-
-pub(crate) fn show_steps(out: &mut String, steps: &[Vec<Handler>]) -> Result<(), AllocError> {
-    for step in steps {
-        out.push_str("[")?;
-        show_handlers(out, step)?;
-        out.push_str("]")?;
-    }
-    Ok(())
-}
-
-fn show_plains(out: &mut String, values: &[Plain]) -> Result<(), AllocError> {
+fn show_plains(pen: &mut Pen, values: &[Plain]) {
     let mut between = "{";
     for value in values {
-        out.push_str(between)?;
-        show_plain(out, value)?;
+        pen.put(between);
+        show_plain(pen, value);
         between = ", ";
     }
-    out.push_str("}")
+    pen.put("}");
 }
 
-fn show_maps(out: &mut String, maps: &[Fields]) -> Result<(), AllocError> {
+fn show_maps(pen: &mut Pen, maps: &[Fields]) {
     for map in maps {
-        show_plains(out, &map.values)?;
-        write!(out, "@{}", map.line)?;
+        show_plains(pen, &map.values);
+        pen.put("@");
+        pen.value(map.line);
     }
-    Ok(())
 }
 
-fn show_keyed(out: &mut String, keyed: &[Keyed]) -> Result<(), AllocError> {
+fn show_keyed(pen: &mut Pen, keyed: &[Keyed]) {
     for one in keyed {
-        show_name(out, &one.name)?;
-        show_plains(out, &one.values)?;
+        pen.name(&one.name);
+        show_plains(pen, &one.values);
     }
-    Ok(())
 }
 
-fn show_value(out: &mut String, value: &Value) -> Result<(), AllocError> {
+fn show_value(pen: &mut Pen, value: &Value) {
     match value {
-        Value::One(value) => show_plain(out, value),
-        Value::Names(names) => show_names(out, names),
-        Value::Posts(posts) => show_names(out, posts),
-        Value::Events(handlers) => show_handlers(out, handlers),
-        Value::Steps(steps) => show_steps(out, steps),
-        Value::Maps(maps) => show_maps(out, maps),
-        Value::Keyed(keyed) => show_keyed(out, keyed),
+        Value::One(value) => show_plain(pen, value),
+        Value::Names(names) => pen.names(names),
+        Value::Posts(posts) => pen.names(posts),
+        Value::Events(handlers) => pen.handlers(handlers),
+        Value::Steps(steps) => pen.steps(steps),
+        Value::Maps(maps) => show_maps(pen, maps),
+        Value::Keyed(keyed) => show_keyed(pen, keyed),
     }
 }
 
-fn show_entry(out: &mut String, row: &Entry) -> Result<(), AllocError> {
-    show_name(out, &row.name)?;
+fn show_entry(pen: &mut Pen, row: &Entry) {
+    pen.name(&row.name);
     let mut between = ": ";
     for value in &row.values {
-        out.push_str(between)?;
-        show_value(out, value)?;
+        pen.put(between);
+        show_value(pen, value);
         between = " | ";
     }
-    Ok(())
 }
 
-fn show_entries(out: &mut String, rows: &[Entry]) -> Result<(), AllocError> {
+fn show_entries(pen: &mut Pen, rows: &[Entry]) {
     let mut between = "";
     for row in rows {
-        out.push_str(between)?;
-        show_entry(out, row)?;
+        pen.put(between);
+        show_entry(pen, row);
         between = "; ";
     }
-    out.push_str(";")
+    pen.put(";");
 }
 
-fn show_players(out: &mut String, rows: &[Player]) -> Result<(), AllocError> {
+fn show_players(pen: &mut Pen, rows: &[Player]) {
     let mut between = "";
     for row in rows {
-        out.push_str(between)?;
-        show_plain(out, &row.event)?;
-        out.push_str(": ")?;
-        show_value(out, &row.value)?;
+        pen.put(between);
+        show_plain(pen, &row.event);
+        pen.put(": ");
+        show_value(pen, &row.value);
         between = "; ";
     }
-    if rows.is_empty() {
-        return Ok(());
+    if !rows.is_empty() {
+        pen.put(";");
     }
-    out.push_str(";")
+}
+
+// Adds the kind, the line and the key of a fault.
+fn show_fault(pen: &mut Pen, fault: &ConfigFault) {
+    let ConfigFault::Bundle(fault) = fault else {
+        return pen.lose();
+    };
+    pen.put(fault.kind.name());
+    pen.also(fault.line);
+    pen.put(" ");
+    pen.bytes(&fault.key);
 }
 
 // ---- what is read
 
-// Adds what a section of this shape is read as.
-fn show_shape(
-    alloc: Global,
-    out: &mut String,
-    shape: Shape,
-    pair: &(Key, Tree),
-) -> Result<(), ConfigFault> {
-    match shape {
-        Shape::Entries(barred, table) => {
-            show_entries(out, &entries(alloc, barred, table, b"t", pair)?)?;
-        }
-        Shape::Players(kinds) => show_players(out, &players(alloc, kinds, b"t", pair)?)?,
-        Shape::Entry(table) => show_entry(out, &entry(alloc, table, b"t", pair)?)?,
-        Shape::Names => show_names(out, &name_list(alloc, 1024, b"t", pair)?)?,
+// Adds what an entry is read as by a table.
+fn show_entry_by(pen: &mut Pen, table: &[Setting], pair: &(Key, Tree)) {
+    match entry(pen.alloc, table, b"t", pair) {
+        Ok(row) => show_entry(pen, &row),
+        Err(fault) => show_fault(pen, &fault),
     }
-    Ok(())
+}
+
+fn show_entries_by(pen: &mut Pen, barred: Barred, table: &[Setting], pair: &(Key, Tree)) {
+    match entries(pen.alloc, barred, table, b"t", pair) {
+        Ok(rows) => show_entries(pen, &rows),
+        Err(fault) => show_fault(pen, &fault),
+    }
+}
+
+fn show_players_by(pen: &mut Pen, kinds: PlayerKinds, pair: &(Key, Tree)) {
+    match players(pen.alloc, kinds, b"t", pair) {
+        Ok(rows) => show_players(pen, &rows),
+        Err(fault) => show_fault(pen, &fault),
+    }
+}
+
+fn show_name_list(pen: &mut Pen, pair: &(Key, Tree)) {
+    match name_list(pen.alloc, 1024, b"t", pair) {
+        Ok(names) => pen.names(&names),
+        Err(fault) => show_fault(pen, &fault),
+    }
 }
 
 // Adds what a section of a text of this kind is read as, or that such a text has none of its name.
-fn show_section(
-    alloc: Global,
-    out: &mut String,
-    kind: TextKind,
-    pair: &(Key, Tree),
-) -> Result<(), ConfigFault> {
+fn show_section(pen: &mut Pen, kind: TextKind, pair: &(Key, Tree)) {
     match shape_of(kind, &pair.0.text) {
-        Some(shape) => show_shape(alloc, out, shape, pair),
-        None => Ok(out.push_str("no section")?),
+        Some(Shape::Entries(barred, table)) => show_entries_by(pen, barred, table, pair),
+        Some(Shape::Players(kinds)) => show_players_by(pen, kinds, pair),
+        Some(Shape::Entry(table)) => show_entry_by(pen, table, pair),
+        Some(Shape::Names) => show_name_list(pen, pair),
+        None => pen.put("no section"),
     }
 }
 
 // Adds what a pair is read as.
-fn show_rows(
-    alloc: Global,
-    out: &mut String,
-    subject: Subject,
-    pair: &(Key, Tree),
-) -> Result<(), ConfigFault> {
+fn show_read(pen: &mut Pen, subject: &Subject, pair: &(Key, Tree)) {
     match subject {
-        Subject::Entry => show_entry(out, &entry(alloc, SETTINGS, b"t", pair)?)?,
-        Subject::Needs => show_entry(out, &entry(alloc, NEEDS, b"t", pair)?)?,
-        Subject::OwnNames => show_entry(out, &entry(alloc, OWN_NAMES, b"t", pair)?)?,
-        Subject::Players => show_players(out, &players(alloc, PLAYER, b"t", pair)?)?,
-        Subject::ModeSection => show_section(alloc, out, TextKind::Mode, pair)?,
-        _ => show_section(alloc, out, TextKind::Machine, pair)?,
+        Subject::Entry => show_entry_by(pen, SETTINGS, pair),
+        Subject::Needs => show_entry_by(pen, NEEDS, pair),
+        Subject::OwnNames => show_entry_by(pen, OWN_NAMES, pair),
+        Subject::Players => show_players_by(pen, PLAYER, pair),
+        Subject::ModeSection => show_section(pen, TextKind::Mode, pair),
+        _ => show_section(pen, TextKind::Machine, pair),
     }
-    Ok(())
+}
+
+fn show_first(pen: &mut Pen, subject: &Subject, tree: &Tree) {
+    match tree.as_map() {
+        Some([pair, ..]) => show_read(pen, subject, pair),
+        _ => pen.put("no pair"),
+    }
 }
 
 /// Adds what the first pair of a text is read as, or the kind, the line and the key of its fault.
-pub(crate) fn show_pair(
-    alloc: Global,
-    out: &mut String,
-    subject: Subject,
-    text: &str,
-) -> Result<(), Fail> {
-    let tree = read(alloc, text.as_bytes())?;
-    let pair = tree.as_map().ok_or("a map")?.first().ok_or("a pair")?;
-    match show_rows(alloc, out, subject, pair) {
-        Err(ConfigFault::Bundle(fault)) => {
-            write!(
-                out,
-                "{} {} {}",
-                fault.kind.name(),
-                fault.line,
-                utf8(&fault.key)
-            )?;
-            Ok(())
-        }
-        other => Ok(other?),
+pub(crate) fn show_pair(pen: &mut Pen, subject: &Subject, text: &str) {
+    if let Some(tree) = tree_of(pen, text.as_bytes()) {
+        show_first(pen, subject, &tree);
     }
 }
 
 // ---- tests
 
 #[test]
-fn entries_by_tables(rt: HostRuntime) -> Result<(), Fail> {
-    let tables = [
-        (Subject::Entry, ENTRIES),
-        (Subject::Needs, NEEDED),
-        (Subject::OwnNames, NAMED),
-        (Subject::Players, PLAYERS),
-        (Subject::Section, SECTIONS),
-        (Subject::ModeSection, MODE_SECTIONS),
-    ];
-    for (subject, table) in tables {
-        assert_rows(&rt, subject, table)?;
-    }
-    Ok(())
+fn entries_by_tables(rt: HostRuntime) {
+    assert_rows(&rt, &Subject::Entry, ENTRIES);
+    assert_rows(&rt, &Subject::Needs, NEEDED);
+    assert_rows(&rt, &Subject::OwnNames, NAMED);
+    assert_rows(&rt, &Subject::Players, PLAYERS);
+    assert_rows(&rt, &Subject::Section, SECTIONS);
+    assert_rows(&rt, &Subject::ModeSection, MODE_SECTIONS);
+    assert_rows(&rt, &Subject::Section, shots::SECTIONS);
+    assert_rows(&rt, &Subject::ModeSection, shots::SECTIONS);
+    assert_rows(&rt, &Subject::Section, balls::SECTIONS);
 }

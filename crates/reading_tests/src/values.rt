@@ -1,11 +1,11 @@
 //! Texts and the values that they have.
 
-use crate::cases::{Subject, assert_rows, utf8};
-use mpf_values::{BadValue, ListFault, boolean, event, integer, list, name, power, time};
-use std::alloc::{AllocError, Global};
+use crate::cases::{Subject, assert_rows};
+use crate::pen::Pen;
+use crate::yaml::tree_of;
+use mpf_values::{BadValue, Item, ListFault, boolean, event, integer, list, name, power, time};
 use std::fmt::Display;
-use std::test::Fail;
-use yaml_subset::{Tree, read};
+use yaml_subset::Tree;
 
 // Each row of a table is a text in brackets and the value that it has, or `none`.
 
@@ -303,7 +303,6 @@ const LIST_NODES: &str = "\
 ";
 
 /// What a text is to be read as.
-#[derive(Clone, Copy)]
 pub(crate) enum Kind {
     Boolean,
     Integer,
@@ -314,86 +313,87 @@ pub(crate) enum Kind {
     List,
 }
 
-fn show<V: Display + Drop>(out: &mut String, value: Result<V, BadValue>) -> Result<(), AllocError> {
+fn show<V: Display + Drop>(pen: &mut Pen, value: Result<V, BadValue>) {
     match value {
-        Ok(value) => write!(out, "{value}"),
-        Err(_) => out.push_str("none"),
+        Ok(value) => pen.value(value),
+        Err(_) => pen.put("none"),
     }
 }
 
-fn show_event(out: &mut String, text: &[u8]) -> Result<(), AllocError> {
+fn show_name(pen: &mut Pen, text: &[u8]) {
+    match name(text) {
+        Ok(name) => pen.bytes(name),
+        Err(_) => pen.put("none"),
+    }
+}
+
+fn show_event(pen: &mut Pen, text: &[u8]) {
     let Ok(event) = event(text) else {
-        return out.push_str("none");
+        return pen.put("none");
     };
-    out.push_str(utf8(event.name))?;
-    let Some(condition) = event.condition else {
-        return Ok(());
-    };
-    write!(
-        out,
-        " {} {:?} {}",
-        utf8(condition.variable),
-        condition.comparison,
-        condition.number
-    )
+    pen.bytes(event.name);
+    if let Some(condition) = event.condition {
+        pen.put(" ");
+        pen.bytes(condition.variable);
+        pen.shown(condition.comparison);
+        pen.also(condition.number);
+    }
 }
 
-fn show_items(alloc: Global, out: &mut String, tree: &Tree) -> Result<(), AllocError> {
-    let items = match list(alloc, tree) {
-        Ok(items) => items,
-        Err(ListFault::BadValue) => return out.push_str("none"),
-        Err(ListFault::NoMemory) => return Err(AllocError),
-    };
-    write!(out, "{}", items.len())?;
-    for item in &items {
-        write!(out, " <{}>{}", utf8(item.text), item.line)?;
+fn show_items(pen: &mut Pen, items: &[Item<'_>]) {
+    pen.value(items.len());
+    for item in items {
+        pen.put(" ");
+        pen.quoted(item.text, item.line);
     }
-    Ok(())
+}
+
+fn show_list(pen: &mut Pen, tree: &Tree) {
+    match list(pen.alloc, tree) {
+        Ok(items) => show_items(pen, &items),
+        Err(ListFault::BadValue) => pen.put("none"),
+        Err(ListFault::NoMemory) => pen.lose(),
+    }
+}
+
+fn show_scalar_list(pen: &mut Pen, text: &[u8]) {
+    match Vec::from_slice(pen.alloc, text) {
+        Ok(text) => show_list(pen, &Tree::Scalar(7, text)),
+        Err(_) => pen.lose(),
+    }
 }
 
 /// Adds the value of a text that stands in brackets, or `none`.
-pub(crate) fn show_value(
-    alloc: Global,
-    out: &mut String,
-    kind: Kind,
-    text: &str,
-) -> Result<(), Fail> {
+pub(crate) fn show_value(pen: &mut Pen, kind: &Kind, text: &str) {
     let [b'[', text @ .., b']'] = text.as_bytes() else {
-        return Err("brackets".into());
+        return pen.put("no brackets");
     };
-    let shown = match kind {
-        Kind::Boolean => show(out, boolean(text)),
-        Kind::Integer => show(out, integer(text)),
-        Kind::Time => show(out, time(text)),
-        Kind::Power => show(out, power(text)),
-        Kind::Name => match name(text) {
-            Ok(name) => out.push_str(utf8(name)),
-            Err(_) => out.push_str("none"),
-        },
-        Kind::Event => show_event(out, text),
-        Kind::List => show_items(alloc, out, &Tree::Scalar(7, Vec::from_slice(alloc, text)?)),
-    };
-    Ok(shown?)
+    match kind {
+        Kind::Boolean => show(pen, boolean(text)),
+        Kind::Integer => show(pen, integer(text)),
+        Kind::Time => show(pen, time(text)),
+        Kind::Power => show(pen, power(text)),
+        Kind::Name => show_name(pen, text),
+        Kind::Event => show_event(pen, text),
+        Kind::List => show_scalar_list(pen, text),
+    }
 }
 
 /// Adds the items of a YAML node.
-pub(crate) fn show_nodes(alloc: Global, out: &mut String, text: &str) -> Result<(), Fail> {
-    Ok(show_items(alloc, out, &read(alloc, text.as_bytes())?)?)
+pub(crate) fn show_nodes(pen: &mut Pen, text: &str) {
+    if let Some(tree) = tree_of(pen, text.as_bytes()) {
+        show_list(pen, &tree);
+    }
 }
 
 #[test]
-fn values(rt: HostRuntime) -> Result<(), Fail> {
-    let tables = [
-        (Kind::Boolean, BOOLEANS),
-        (Kind::Integer, INTEGERS),
-        (Kind::Time, TIMES),
-        (Kind::Power, POWERS),
-        (Kind::Name, NAMES),
-        (Kind::Event, EVENTS),
-        (Kind::List, LIST_TEXTS),
-    ];
-    for (kind, table) in tables {
-        assert_rows(&rt, Subject::Value(kind), table)?;
-    }
-    assert_rows(&rt, Subject::Nodes, LIST_NODES)
+fn values(rt: HostRuntime) {
+    assert_rows(&rt, &Subject::Value(Kind::Boolean), BOOLEANS);
+    assert_rows(&rt, &Subject::Value(Kind::Integer), INTEGERS);
+    assert_rows(&rt, &Subject::Value(Kind::Time), TIMES);
+    assert_rows(&rt, &Subject::Value(Kind::Power), POWERS);
+    assert_rows(&rt, &Subject::Value(Kind::Name), NAMES);
+    assert_rows(&rt, &Subject::Value(Kind::Event), EVENTS);
+    assert_rows(&rt, &Subject::Value(Kind::List), LIST_TEXTS);
+    assert_rows(&rt, &Subject::Nodes, LIST_NODES);
 }

@@ -1,7 +1,6 @@
 //! Texts at the limits and above, and long ones.
 
-use crate::yaml::{show_length, show_yaml};
-use std::test::Fail;
+use crate::cases::{Subject, assert_rows};
 
 /// Keys one inside the other, and below the last a line that is deeper than all; then keys of 1,024
 /// characters, with their quotes and the blanks before their colon.
@@ -21,40 +20,20 @@ pub(crate) const LIMITS: &str = "\
 ";
 
 #[test]
-fn a_mebibyte(rt: HostRuntime) -> Result<(), Fail> {
-    let text = vec![in rt.alloc(); b'#'; 1_048_577]?;
-    let mut found = String::new(rt.alloc());
-    show_yaml(rt.alloc(), &mut found, &text)?;
-    found.push('\n')?;
-    show_yaml(rt.alloc(), &mut found, &text[1..])?;
-    assert_eq!(rt; found.as_str(), "TooLong 1\n1{}");
-    Ok(())
+fn a_mebibyte(rt: HostRuntime) {
+    let rows = "«1048577 #» => TooLong 1\n«1048576 #» => 1{}";
+    assert_rows(&rt, &Subject::Yaml, rows);
 }
 
 #[test]
-fn many_keys_of_lines(rt: HostRuntime) -> Result<(), Fail> {
-    let mut text = String::new(rt.alloc());
-    for key in 0..100_000_u32 {
-        write!(&mut text, "k{key}:\n")?;
-    }
-    let mut found = String::new(rt.alloc());
-    show_length(rt.alloc(), &mut found, &text)?;
-    text.push_str("k0:\n")?;
-    found.push('\n')?;
-    show_yaml(rt.alloc(), &mut found, text.as_bytes())?;
-    assert_eq!(rt; found.as_str(), "100000 keys\nDuplicateKey 100001");
-    Ok(())
+fn many_keys_of_lines(rt: HostRuntime) {
+    assert_rows(&rt, &Subject::Length, "«100000 k№:¶» => 100000 keys");
+    let row = "«100000 k№:¶»k1:¶ => DuplicateKey 100001";
+    assert_rows(&rt, &Subject::Yaml, row);
 }
 
 #[test]
-fn many_keys_in_braces(rt: HostRuntime) -> Result<(), Fail> {
-    let mut text = String::from_str(rt.alloc(), "{")?;
-    for key in 0..50_000_u32 {
-        write!(&mut text, "k{key}: a,")?;
-    }
-    text.push_str("k0: a}")?;
-    let mut found = String::new(rt.alloc());
-    show_yaml(rt.alloc(), &mut found, text.as_bytes())?;
-    assert_eq!(rt; found.as_str(), "DuplicateKey 1");
-    Ok(())
+fn many_keys_in_braces(rt: HostRuntime) {
+    let row = "{«50000 k№: a,»k1: a} => DuplicateKey 1";
+    assert_rows(&rt, &Subject::Yaml, row);
 }

@@ -13,8 +13,8 @@ use crate::coil_faults::{add_coil_name, add_switch_name};
 use crate::fault::{RowFault, RowFaultKind};
 use machine_definitions::Definitions;
 use mpf_config::{Entry, Name, NameAt};
-use mpf_sections::tables::PLAYFIELD;
 use mpf_sections::{BallDevice, as_ball_device};
+use mpf_tables::tables::PLAYFIELD;
 use std::alloc::{AllocError, Global};
 
 /// Adds the faults of the names in these entries of `ball_devices`.

@@ -9,7 +9,7 @@ ghost use Rattle.row_faults.specs.Numbers.{number_found, IsNumbered, number_of, 
 ghost use Rattle.row_faults.specs.View.{devices_view};
 
 use mpf_sections::BallDevice;
-use mpf_sections::tables::PLAYFIELD;
+use mpf_tables::tables::PLAYFIELD;
 use std::alloc::{AllocError, Global};
 use std::collections::BTreeMap;
 

@@ -1,0 +1,218 @@
+-- What holds of the shape of each section: a term for each, in the order of `machine_shapes` and `mode_shapes`.
+use Rattle.std.proofs.Common.{◌≡◌, ℕ, ◌≤◌, Bool, true, false, cond, List, [], ◌∷◌, Option, Some, None, refl, sym, subst, codes}
+use Rattle.std.specs.List.{AllByRecursion}
+use Rattle.std.specs.Str.{bytes_eq}
+use Rattle.std.proofs.lemmas.Option.{same_Some, none-some}
+use Rattle.mpf_tables.specs.declared.tables.TextKind.{TextKind}
+use Rattle.mpf_tables.specs.declared.tables.TextKind.TheVariants.{Machine, Mode}
+use Rattle.mpf_values.specs.Names.{IsName}
+use Rattle.mpf_values.proofs.NameTexts.{IsName-from_is_name}
+use Rattle.section_tables.specs.Rows.{Handled}
+use Rattle.section_tables.specs.Kinds.{Shape}
+use Rattle.section_tables.specs.Entries.{handled_at}
+use Rattle.section_tables.specs.Named.{IsNamedHandled, IsNamedKinds, IsNamedTable, IsNamedShape, IsShortTable, IsShortShape}
+use Rattle.mpf_tables.specs.SectionTables.{switches, coils, rule_events, flippers, autofire_coils, playfield, ball_devices, block, counters, step_blocks, timers, default_profile, shots, shot_groups, shot_profiles, shot_shapes, mode, machine, game, event_player, coil_player, variable_player, shared_shapes, device_shapes, machine_shapes, mode_shapes, named_in, shape_of}
+use Rattle.mpf_tables.specs.TableRules.{IsRight}
+use Rattle.section_tables.proofs.RowNames.{no_items, few_items}
+use Rattle.section_tables.proofs.Steps.{word_is}
+
+-- ---- what holds of all that have a name
+
+module _ {A : Type 0} (P : List ℕ → A → Type 0) (section : List ℕ) (x : A) where
+  at_name : (name : List ℕ) (y : A) (rest : Option A) (b : Bool) → bytes_eq section name ≡ b → cond b (Some y) rest ≡ Some x → P name y → (rest ≡ Some x → P section x) → P section x
+  at_name name y rest true e is p so = subst (P section) (same_Some y x is) (subst (λ n. P n y) (sym (word_is section name e)) p)
+  at_name name y rest false e is p so = so is
+
+  holds_at : (ts : List (List ℕ × A)) → named_in section ts ≡ Some x → AllByRecursion (λ t. P t.0 t.1) ts → P section x
+  holds_at [] is all = absurd (none-some x is)
+  holds_at (t ∷ ts) is all = at_name t.0 t.1 (named_in section ts) (bytes_eq section t.0) refl is all.0 (λ later. holds_at ts later all.1)
+
+-- ---- `switches`
+
+switches_named : IsNamedTable switches
+switches_named = ((tt, tt), ((tt, tt), ((tt, tt), ((tt, tt), ((tt, tt), tt)))))
+
+switches_short : (longest : ℕ) → IsShortTable longest switches
+switches_short longest = let none = no_items longest in (none, (none, (none, (none, (none, tt)))))
+
+-- ---- `coils`
+
+coils_named : IsNamedTable coils
+coils_named = ((tt, tt), ((tt, tt), ((tt, tt), ((tt, tt), ((tt, tt), ((tt, tt), ((tt, tt), tt)))))))
+
+coils_short : (longest : ℕ) → IsShortTable longest coils
+coils_short longest = let none = no_items longest in (none, (none, (none, (none, (none, (none, (none, tt)))))))
+
+-- ---- `flippers` and `autofire_coils`
+
+abbrev default_event : List ℕ → Handled
+default_event name = handled_at 0 (record { name = name; condition = None })
+
+rule_events_named : IsNamedTable rule_events
+rule_events_named =
+    let starts : IsNamedHandled (default_event (codes "ball_started")) = record { name = IsName-from_is_name (codes "ball_started") refl; variable = tt } in
+    let ends : IsNamedHandled (default_event (codes "ball_will_end")) = record { name = IsName-from_is_name (codes "ball_will_end") refl; variable = tt } in
+    (((starts, tt), tt), (((ends, tt), tt), tt))
+
+flippers_named : IsNamedTable flippers
+flippers_named = ((tt, tt), ((tt, tt), ((tt, tt), rule_events_named)))
+
+autofire_coils_named : IsNamedTable autofire_coils
+autofire_coils_named = ((tt, tt), ((tt, tt), rule_events_named))
+
+rule_events_short : (longest : ℕ) → 1 ≤ longest → IsShortTable longest rule_events
+rule_events_short longest one = let first = few_items longest one in (first, (first, tt))
+
+flippers_short : (longest : ℕ) → 1 ≤ longest → IsShortTable longest flippers
+flippers_short longest one = let none = no_items longest in (none, (none, (none, rule_events_short longest one)))
+
+autofire_coils_short : (longest : ℕ) → 1 ≤ longest → IsShortTable longest autofire_coils
+autofire_coils_short longest one = let none = no_items longest in (none, (none, rule_events_short longest one))
+
+-- ---- `counters`, `accruals` and `sequences`
+
+block_named : IsNamedTable block
+block_named = ((tt, tt), ((tt, tt), ((tt, tt), ((tt, tt), ((tt, tt), ((tt, tt), ((tt, tt), ((tt, tt), ((tt, tt), tt)))))))))
+
+block_short : (longest : ℕ) → IsShortTable longest block
+block_short longest = let none = no_items longest in (none, (none, (none, (none, (none, (none, (none, (none, (none, tt)))))))))
+
+counters_named : IsNamedTable counters
+counters_named = ((tt, tt), ((tt, tt), ((tt, tt), ((tt, tt), ((tt, tt), ((tt, tt), block_named))))))
+
+counters_short : (longest : ℕ) → IsShortTable longest counters
+counters_short longest = let none = no_items longest in (none, (none, (none, (none, (none, (none, block_short longest))))))
+
+step_blocks_named : IsNamedTable step_blocks
+step_blocks_named = ((tt, tt), block_named)
+
+step_blocks_short : (longest : ℕ) → IsShortTable longest step_blocks
+step_blocks_short longest = (no_items longest, block_short longest)
+
+-- ---- `timers`
+
+timers_named : IsNamedTable timers
+timers_named = ((tt, tt), ((tt, tt), ((tt, tt), ((tt, tt), ((tt, tt), ((tt, tt), ((tt, (tt, (tt, (tt, tt)))), tt)))))))
+
+timers_short : (longest : ℕ) → IsShortTable longest timers
+timers_short longest = let none = no_items longest in (none, (none, (none, (none, (none, (none, (none, tt)))))))
+
+-- ---- `shots`, `shot_groups` and `shot_profiles`
+
+pub default_profile_named : IsName default_profile
+default_profile_named = IsName-from_is_name default_profile refl
+
+shots_named : IsNamedTable shots
+shots_named = ((tt, tt), ((tt, tt), ((default_profile_named, tt), ((tt, tt), ((tt, tt), ((tt, tt), ((tt, tt), tt)))))))
+
+shots_short : (longest : ℕ) → IsShortTable longest shots
+shots_short longest = let none = no_items longest in (none, (none, (none, (none, (none, (none, (none, tt)))))))
+
+shot_groups_named : IsNamedTable shot_groups
+shot_groups_named = ((tt, tt), ((tt, tt), ((tt, tt), ((tt, tt), ((tt, tt), tt)))))
+
+shot_groups_short : (longest : ℕ) → IsShortTable longest shot_groups
+shot_groups_short longest = let none = no_items longest in (none, (none, (none, (none, (none, tt)))))
+
+shot_profiles_named : IsNamedTable shot_profiles
+shot_profiles_named = ((tt, (tt, tt)), ((tt, tt), ((tt, tt), tt)))
+
+shot_profiles_short : (longest : ℕ) → IsShortTable longest shot_profiles
+shot_profiles_short longest = let none = no_items longest in (none, (none, (none, tt)))
+
+-- ---- `ball_devices`
+
+pub playfield_named : IsName playfield
+playfield_named = IsName-from_is_name playfield refl
+
+ball_devices_named : IsNamedTable ball_devices
+ball_devices_named = ((tt, tt), ((tt, tt), ((playfield_named, tt), ((tt, tt), ((tt, tt), ((tt, tt), ((tt, tt), ((tt, tt), ((tt, tt), tt)))))))))
+
+ball_devices_short : (longest : ℕ) → IsShortTable longest ball_devices
+ball_devices_short longest = let none = no_items longest in (none, (none, (none, (none, (none, (none, (none, (none, (none, tt)))))))))
+
+-- ---- `mode`
+
+mode_named : IsNamedTable mode
+mode_named = ((tt, tt), ((tt, tt), ((tt, tt), ((tt, tt), ((tt, tt), ((tt, tt), tt))))))
+
+mode_short : (longest : ℕ) → IsShortTable longest mode
+mode_short longest = let none = no_items longest in (none, (none, (none, (none, (none, (none, tt))))))
+
+-- ---- `machine` and `game`
+
+machine_named : IsNamedTable machine
+machine_named = ((tt, tt), tt)
+
+machine_short : (longest : ℕ) → IsShortTable longest machine
+machine_short longest = (no_items longest, tt)
+
+game_named : IsNamedTable game
+game_named = ((tt, tt), ((tt, tt), tt))
+
+game_short : (longest : ℕ) → IsShortTable longest game
+game_short longest = let none = no_items longest in (none, (none, tt))
+
+-- ---- `event_player`
+
+player_named : IsNamedKinds event_player
+player_named = record { key = tt; value = tt }
+
+-- ---- `coil_player`
+
+coil_player_named : IsNamedKinds coil_player
+coil_player_named = record { key = tt; value = (tt, (tt, (tt, (tt, tt)))) }
+
+-- ---- `variable_player`
+
+variable_player_named : IsNamedKinds variable_player
+variable_player_named = record { key = tt; value = (tt, (tt, tt)) }
+
+-- ---- the shapes of sections
+
+abbrev AllShapes : (Shape → Type 0) → List (List ℕ × Shape) → Type 0
+AllShapes P = AllByRecursion (λ t. P t.1)
+
+shot_named : AllShapes IsNamedShape shot_shapes
+shot_named = (shots_named, (shot_groups_named, (shot_profiles_named, tt)))
+
+shot_short : (longest : ℕ) → AllShapes (IsShortShape longest) shot_shapes
+shot_short longest = (shots_short longest, (shot_groups_short longest, (shot_profiles_short longest, tt)))
+
+shot_right : AllShapes IsRight shot_shapes
+shot_right = (refl, (refl, (refl, tt)))
+
+shared_named : AllShapes IsNamedShape shared_shapes
+shared_named = (player_named, (variable_player_named, (coil_player_named, (counters_named, (step_blocks_named, (step_blocks_named, shot_named))))))
+
+shared_short : (longest : ℕ) → AllShapes (IsShortShape longest) shared_shapes
+shared_short longest = (tt, (tt, (tt, (counters_short longest, (step_blocks_short longest, (step_blocks_short longest, shot_short longest))))))
+
+shared_right : AllShapes IsRight shared_shapes
+shared_right = (refl, (refl, (refl, (refl, (refl, (refl, shot_right))))))
+
+device_named : AllShapes IsNamedShape device_shapes
+device_named = (flippers_named, (autofire_coils_named, (ball_devices_named, shared_named)))
+
+device_short : (longest : ℕ) → 1 ≤ longest → AllShapes (IsShortShape longest) device_shapes
+device_short longest one = (flippers_short longest one, (autofire_coils_short longest one, (ball_devices_short longest, shared_short longest)))
+
+device_right : AllShapes IsRight device_shapes
+device_right = (refl, (refl, (refl, shared_right)))
+
+pub shape_named : (text : TextKind) (section : List ℕ) (shape : Shape) → shape_of text section ≡ Some shape → IsNamedShape shape
+shape_named Machine section shape is = holds_at (λ name s. IsNamedShape s) section shape machine_shapes is
+    (tt, (machine_named, (game_named, (switches_named, (coils_named, device_named)))))
+shape_named Mode section shape is = holds_at (λ name s. IsNamedShape s) section shape mode_shapes is
+    (mode_named, (timers_named, shared_named))
+
+pub shape_short : (longest : ℕ) → 1 ≤ longest → (text : TextKind) (section : List ℕ) (shape : Shape) → shape_of text section ≡ Some shape → IsShortShape longest shape
+shape_short longest one Machine section shape is = holds_at (λ name s. IsShortShape longest s) section shape machine_shapes is
+    (tt, (machine_short longest, (game_short longest, (switches_short longest, (coils_short longest, device_short longest one)))))
+shape_short longest one Mode section shape is = holds_at (λ name s. IsShortShape longest s) section shape mode_shapes is
+    (mode_short longest, (timers_short longest, shared_short longest))
+
+pub shape_right : (text : TextKind) (section : List ℕ) (shape : Shape) → shape_of text section ≡ Some shape → IsRight shape
+shape_right Machine section shape is = holds_at (λ name s. IsRight s) section shape machine_shapes is
+    (tt, (refl, (refl, (refl, (refl, device_right)))))
+shape_right Mode section shape is = holds_at (λ name s. IsRight s) section shape mode_shapes is (refl, (refl, shared_right))

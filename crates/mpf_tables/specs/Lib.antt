@@ -1,0 +1,2 @@
+pub mod SectionTables
+pub mod TableRules
