@@ -132,16 +132,16 @@ fn add_taken(out: &mut String, taken: &Taken) -> Result<(), AllocError> {
 }
 
 /// Adds what the board takes in a run, and the report where the rig is not dropped.
-fn add_found(
+fn add_found<D: Device>(
     alloc: Global,
     out: &mut String,
     checked: &Checked,
-    trial: Trial,
-    inputs: &str,
+    devices: Vec<D>,
+    (trial, inputs): (Trial, &str),
 ) -> Result<(), AllocError> {
     let taken: Taken = Rc::new(alloc, RefCell::new(ArrayVec::new()))?;
     let board = FuseBoard::new(trial.first, trial.onwards, taken.clone()?);
-    let Ok(mut rig) = Rig::new(alloc, checked, devices_of(alloc, checked)?, board) else {
+    let Ok(mut rig) = Rig::new(alloc, checked, devices, board) else {
         return out.push_str("no rig");
     };
     if !is_run(&mut rig, inputs, trial.steps) {
@@ -165,7 +165,8 @@ fn compare(
     (inputs, course): (&str, &str),
 ) -> Result<(), AllocError> {
     let mut found = String::new(alloc);
-    add_found(alloc, &mut found, checked, trial, inputs)?;
+    let devices = devices_of(alloc, checked)?;
+    add_found(alloc, &mut found, checked, devices, (trial, inputs))?;
     let mut wanted = String::new(alloc);
     add_wanted(&mut wanted, trial, course)?;
     if found.as_str() != wanted.as_str() {

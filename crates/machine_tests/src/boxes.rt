@@ -84,11 +84,11 @@ fn counter_of(checked: &Checked, word: &str) -> Option<Counter> {
 }
 
 /// Adds whether the boxes make a rig, and how many of them are dropped while it is there.
-fn add_rig(
+fn add_rig<D: Device>(
     alloc: Global,
     out: &mut String,
     checked: &Checked,
-    boxes: Vec<Box<dyn Device>>,
+    boxes: Vec<D>,
     dropped: &Drops,
 ) -> Result<(), AllocError> {
     match Rig::new(alloc, checked, boxes, MemoryBoard::new(alloc)?) {

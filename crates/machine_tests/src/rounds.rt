@@ -78,6 +78,9 @@ fn cost(posts: &[(u16, u16)], weights: &[u32], from: u16) -> u64 {
     total
 }
 
+/// A weight that is above the limit, whatever an event weighs beyond it.
+const MANY: u64 = 1_000_000;
+
 /// The least weights of so many events, by as many rounds as there can be events: 64. The greatest
 /// number stays where one can go on without end.
 pub(crate) fn least_weights(
@@ -89,8 +92,11 @@ pub(crate) fn least_weights(
     for number in 0..4_096u16 {
         let event = number & 63;
         if (event as usize) < count {
-            let needed = cost(posts, &weights, event);
-            if let Some(weight) = weights.get_mut(event as usize) {
+            let is_endless = go_on(posts, &weights, event) != u16::MAX;
+            let needed = cost(posts, &weights, event).min(MANY);
+            if let Some(weight) = weights.get_mut(event as usize)
+                && !is_endless
+            {
                 *weight = u32::try_from(needed).unwrap_or(u32::MAX);
             }
         }

@@ -4,6 +4,7 @@ use crate::cases::{add, wrong_rows};
 use coil_guard::{Board, MemoryBoard};
 use config_checker::check;
 use device_objects::Device;
+use logic_blocks::Counter;
 use mpf_config::Config;
 use pin_rig::{Input, Rig};
 use plan_tables::SwitchId;
@@ -60,7 +61,7 @@ pub(crate) fn stepped(
     let Ok(checked) = check(alloc, config) else {
         return out.push_str("refused");
     };
-    let devices: Vec<Box<dyn Device>> = Vec::new(alloc);
+    let devices: Vec<Counter> = Vec::new(alloc);
     match Rig::new(alloc, &checked, devices, MemoryBoard::new(alloc)?) {
         Ok(mut rig) => add_steps(out, &mut rig, inputs),
         Err(_) => out.push_str("no rig"),
