@@ -1,89 +1,90 @@
 //! Rigs on boards: the commands that a board takes, where it faults, and how a rig ends.
 
-use crate::cases::{Subject, assert_cases};
-use crate::model::{Course, Fuse, Sent, add_command, add_report, failed, shown, wanted};
+use crate::cases::{add, wrong_rows};
 use crate::steps::input_of;
 use arrayvec::ArrayVec;
-use coil_guard::{Board, FuseBoard, MemoryBoard, Taken};
+use coil_guard::{Command, FuseBoard, Taken};
 use coil_rules::{Autofire, Flipper};
 use config_checker::{Checked, check};
 use device_objects::Device;
 use mpf_config::Config;
-use pin_rig::{Input, Rig, ShutReport, StepFault};
+use pin_rig::{Input, Rig, StepFault};
+use plan_tables::CoilId;
 use std::alloc::{AllocError, Global};
 use std::cell::RefCell;
 use std::rc::Rc;
 use std::test::Fail;
-use written_machine::{Happening, Line};
 
-/// The runs of a configuration with these inputs.
+/// A rig that ends after so many steps, or at a fault of its board, and then by a drop or not. The
+/// board faults at its command of a number, from 1 on, alone or from there on.
 #[derive(Clone, Copy)]
-struct Trial<'a> {
-    checked: &'a Checked,
-    inputs: &'a str,
-}
-
-/// How a rig ends: after so many steps, or at a fault of its board, and then by a drop or not.
-#[derive(Clone, Copy)]
-struct Ending {
-    steps: usize,
+struct Trial {
+    steps: u32,
+    first: u64,
+    onwards: bool,
     dropped: bool,
 }
 
-/// Notes a step: the commands of its lines, and its moment.
-fn note(course: &mut Course, at: u64, lines: &[Line]) -> Result<(), AllocError> {
-    let step = course.moments.len();
-    for (place, line) in lines.iter().enumerate() {
-        if let Happening::Coil(command) = line.happening {
-            course.sent.push(Sent {
-                step,
-                at,
-                place,
-                command,
-            })?;
+impl Trial {
+    /// Up to 15 steps, up to 15 for the first fault, and both of both, all in turn.
+    fn new(number: u32) -> Trial {
+        Trial {
+            steps: 15u32.saturating_sub(number >> 6),
+            first: u64::from(number >> 2 & 15),
+            onwards: number & 2 == 2,
+            dropped: number & 1 == 1,
         }
     }
-    course.moments.push(at)?;
-    course.lines = lines.len();
+
+    /// Whether the board takes its command of this number.
+    fn takes(self, number: u64) -> bool {
+        number != self.first && !(self.onwards && number > self.first)
+    }
+}
+
+/// Adds what the board is to take at the end of a run, after so many commands, where these coils are
+/// to be put off. Then adds how many of these it takes, and how many not, if there is a report.
+fn add_end(out: &mut String, trial: Trial, coils: &str, count: u64) -> Result<(), AllocError> {
+    let mut number = count;
+    let mut faults = 0u16;
+    for word in coils.split_whitespace() {
+        number = number.saturating_add(1);
+        if trial.takes(number) {
+            let coil = CoilId(word.parse::<u16>().unwrap_or(u16::MAX));
+            add(out, &Command::Disable { coil })?;
+        } else {
+            faults = faults.saturating_add(1);
+        }
+    }
+    if trial.dropped {
+        return Ok(());
+    }
+    let taken = number.saturating_sub(count.saturating_add(u64::from(faults)));
+    add(out, &(taken, faults))
+}
+
+/// Adds what the board is to take and the report, by a course: each command with the coils that are
+/// to be put off if it is not taken, and `=` before each step, and `.` at the end, with those that
+/// are on then.
+fn add_wanted(out: &mut String, trial: Trial, course: &str) -> Result<(), AllocError> {
+    let mut steps = 0u32;
+    let mut number = 0u64;
+    for item in course.split(';') {
+        let (command, coils) = item.split_once('/').unwrap_or((item, ""));
+        if command == "." || (command == "=" && steps == trial.steps) {
+            return add_end(out, trial, coils, number);
+        } else if command == "=" {
+            steps = steps.saturating_add(1);
+            continue;
+        }
+        number = number.saturating_add(1);
+        if !trial.takes(number) {
+            return add_end(out, trial, coils, number);
+        }
+        out.push_str(command)?;
+        out.push(' ')?;
+    }
     Ok(())
-}
-
-/// Whether the board takes all commands of a step. Where it does not, the rig is halted.
-fn goes_on<D: Device, B: Board>(rig: &mut Rig<'_, D, B>, input: Input) -> Result<bool, Fail> {
-    match rig.step(input) {
-        Ok(_) => return Ok(true),
-        Err(StepFault::BoardFault) => {}
-        Err(_) => return Err("a refused input".into()),
-    }
-    match rig.step(input) {
-        Err(StepFault::Halted) => Ok(false),
-        _ => Err("a rig that is not halted".into()),
-    }
-}
-
-/// Steps through the inputs, so many of them, or up to a fault of the board.
-fn run<D: Device, B: Board>(
-    alloc: Global,
-    rig: &mut Rig<'_, D, B>,
-    inputs: &str,
-    steps: usize,
-) -> Result<Course, Fail> {
-    let mut course = Course {
-        sent: Vec::new(alloc),
-        moments: Vec::new(alloc),
-        lines: 0,
-    };
-    for text in inputs.split(',') {
-        if course.moments.len() >= steps {
-            break;
-        }
-        let served = goes_on(rig, input_of(text))?;
-        note(&mut course, rig.now(), rig.trace())?;
-        if !served {
-            break;
-        }
-    }
-    Ok(course)
 }
 
 /// A device for each row of a plan of flippers and autofire coils.
@@ -99,165 +100,104 @@ fn devices_of(alloc: Global, checked: &Checked) -> Result<Vec<Box<dyn Device>>, 
     Ok(devices)
 }
 
-/// A run of a rig with these devices on a board. Where the rig is not dropped, it gives the board
-/// back, with its report.
-fn run_on<D: Device, B: Board>(
-    alloc: Global,
-    trial: Trial<'_>,
-    ending: Ending,
-    devices: Vec<D>,
-    board: B,
-) -> Result<(Course, Option<(B, ShutReport)>), Fail> {
-    let mut rig = Rig::new(alloc, trial.checked, devices, board)?;
-    let course = run(alloc, &mut rig, trial.inputs, ending.steps)?;
-    if ending.dropped {
-        return Ok((course, None));
+/// Steps through the inputs, so many of them, or up to a fault of the board. Gives whether the board
+/// alone ends it, and the rig is halted then.
+fn is_run<D: Device>(rig: &mut Rig<'_, D, FuseBoard>, inputs: &str, count: u32) -> bool {
+    let mut steps = 0u32;
+    for text in inputs.split(',') {
+        if steps == count {
+            break;
+        }
+        steps = steps.saturating_add(1);
+        match rig.step(input_of(text)) {
+            Ok(_) => {}
+            Err(StepFault::BoardFault) => {
+                return matches!(rig.step(Input::Alarm), Err(StepFault::Halted));
+            }
+            Err(_) => return false,
+        }
     }
-    Ok((course, Some(rig.shut_down())))
+    true
 }
 
-/// Adds what a board in memory takes in the whole run, and what the rig reports. Gives the course of
-/// the run, and how many commands come.
-fn recorded(alloc: Global, out: &mut String, trial: Trial<'_>) -> Result<(Course, usize), Fail> {
-    let ending = Ending {
-        steps: usize::MAX,
-        dropped: false,
+/// Adds the commands that a board took.
+fn add_taken(out: &mut String, taken: &Taken) -> Result<(), AllocError> {
+    let Ok(taken) = taken.try_borrow() else {
+        return out.push_str("a list that is lent");
     };
-    let devices = devices_of(alloc, trial.checked)?;
-    let (course, end) = run_on(alloc, trial, ending, devices, MemoryBoard::new(alloc)?)?;
-    let (board, report) = end.ok_or("a report")?;
-    let (first, second) = board.taken();
-    for command in first.iter().chain(second) {
-        add_command(out, *command)?;
+    for command in taken.iter() {
+        add(out, command)?;
     }
-    add_report(out, &report)?;
-    let count = course.sent.len().saturating_add(report.off.len());
-    Ok((course, count))
+    Ok(())
 }
 
-/// Adds what a board takes in a run, and what the rig reports where it is not dropped. Gives the
-/// course of the run.
-fn fused(
+/// Adds what the board takes in a run, and the report where the rig is not dropped.
+fn add_found<D: Device>(
     alloc: Global,
     out: &mut String,
-    trial: Trial<'_>,
-    ending: Ending,
-    fuse: Fuse,
-) -> Result<Course, Fail> {
+    checked: &Checked,
+    devices: Vec<D>,
+    (trial, inputs): (Trial, &str),
+) -> Result<(), AllocError> {
     let taken: Taken = Rc::new(alloc, RefCell::new(ArrayVec::new()))?;
-    let board = FuseBoard::new(fuse.first, fuse.onwards, taken.clone()?);
-    let devices = devices_of(alloc, trial.checked)?;
-    let (course, end) = run_on(alloc, trial, ending, devices, board)?;
-    for command in taken.try_borrow()?.iter() {
-        add_command(out, *command)?;
+    let board = FuseBoard::new(trial.first, trial.onwards, taken.clone()?);
+    let Ok(mut rig) = Rig::new(alloc, checked, devices, board) else {
+        return out.push_str("no rig");
+    };
+    if !is_run(&mut rig, inputs, trial.steps) {
+        return out.push_str("another refusal");
     }
-    if let Some((_board, report)) = end {
-        add_report(out, &report)?;
+    if trial.dropped {
+        drop(rig);
+        return add_taken(out, &taken);
     }
-    Ok(course)
+    let (_board, report) = rig.shut_down();
+    add_taken(out, &taken)?;
+    add(out, &(report.off.len(), report.faults))
 }
 
-/// A run on a board that faults takes and shows what it is to, by the course of the whole run; or it
-/// is added how it does not.
+/// Adds how a run is other than it is to be.
 fn compare(
     alloc: Global,
     out: &mut String,
-    trial: Trial<'_>,
-    course: &Course,
-    ending: Ending,
-    fuse: Fuse,
-) -> Result<(), Fail> {
+    checked: &Checked,
+    trial: Trial,
+    (inputs, course): (&str, &str),
+) -> Result<(), AllocError> {
     let mut found = String::new(alloc);
-    let ran = fused(alloc, &mut found, trial, ending, fuse)?;
-    let mut want = String::new(alloc);
-    wanted(&mut want, course, ending.steps, fuse, !ending.dropped)?;
-    if found.as_str() != want.as_str() {
-        write!(out, "{found} in place of {want}, ")?;
-    }
-    let count = shown(course, ending.steps, fuse);
-    let lines = match failed(course, ending.steps, count) {
-        Some(sent) => sent.place,
-        None => ran.lines,
-    };
-    if ran.sent.len() != count || ran.lines != lines {
-        write!(out, "{} lines of the last step, ", ran.lines)?;
+    let devices = devices_of(alloc, checked)?;
+    add_found(alloc, &mut found, checked, devices, (trial, inputs))?;
+    let mut wanted = String::new(alloc);
+    add_wanted(&mut wanted, trial, course)?;
+    if found.as_str() != wanted.as_str() {
+        add(out, &(found, wanted))?;
     }
     Ok(())
 }
 
-/// The same for boards that fault once or onwards, and for a rig that is dropped or not.
-fn compare_ends(
-    alloc: Global,
-    out: &mut String,
-    trial: Trial<'_>,
-    course: &Course,
-    steps: usize,
-    first: u64,
-) -> Result<(), Fail> {
-    for (onwards, dropped) in [(false, false), (false, true), (true, false), (true, true)] {
-        let ending = Ending { steps, dropped };
-        let fuse = Fuse { first, onwards };
-        compare(alloc, out, trial, course, ending, fuse)?;
-    }
-    Ok(())
-}
-
-/// The same for each place of the first fault, until there is none.
-fn compare_fuses(
-    alloc: Global,
-    out: &mut String,
-    trial: Trial<'_>,
-    course: &Course,
-    steps: usize,
-    count: usize,
-) -> Result<(), Fail> {
-    for first in 0..=count.saturating_add(1) {
-        compare_ends(alloc, out, trial, course, steps, first as u64)?;
-    }
-    Ok(())
-}
-
-/// The same for each number of steps.
-fn compare_steps(
-    alloc: Global,
-    out: &mut String,
-    trial: Trial<'_>,
-    course: &Course,
-    count: usize,
-) -> Result<(), Fail> {
-    for steps in 0..=course.moments.len() {
-        compare_fuses(alloc, out, trial, course, steps, count)?;
-    }
-    Ok(())
-}
-
-/// Answers to inputs with the commands of the run and the report of its end; or, after `count`, with
-/// how many commands there are. Of runs on boards that fault, and of those that end earlier, it only
-/// adds what is wrong.
+/// Answers to how many trials there are, inputs and a course with those runs that are other than they
+/// are to be.
 pub(crate) fn boarded(
     alloc: Global,
     out: &mut String,
     config: &Config,
     question: &str,
-) -> Result<(), Fail> {
-    let (form, inputs) = question.split_once(' ').ok_or("a question")?;
-    let checked = check(alloc, config)?;
-    let trial = Trial {
-        checked: &checked,
-        inputs,
+) -> Result<(), AllocError> {
+    let (count, rest) = question.split_once(' ').unwrap_or((question, ""));
+    let texts = rest.split_once(": ").unwrap_or((rest, ""));
+    let Ok(checked) = check(alloc, config) else {
+        return out.push_str("refused");
     };
-    let mut told = String::new(alloc);
-    let (course, count) = recorded(alloc, &mut told, trial)?;
-    if form == "count" {
-        write!(out, "{} {count}", course.sent.len())?;
-        return compare_ends(alloc, out, trial, &course, usize::MAX, 0);
+    let count = count.parse::<u32>().unwrap_or(0);
+    for number in 0..count {
+        compare(alloc, out, &checked, Trial::new(number), texts)?;
     }
-    out.push_str(&told)?;
-    compare_steps(alloc, out, trial, &course, count)
+    write!(out, "{count} runs")
 }
 
 // Switch 0 enables a flipper on coils 0 and 1, with switch 1, and an autofire coil, 2, with switch 2,
-// which is not quick. It starts a mode, which holds coil 3. The second machine holds 256 coils.
+// which is not quick. It starts a mode, which holds coil 3. A pulse of coil 0 lasts 20 ms, one of coil
+// 2 lasts 10 ms. The second machine holds 256 coils.
 const BOARDS: &str = "\
 modes: m
 coils:
@@ -287,10 +227,24 @@ mode:
 coil_player:
   mode_m_started: {c_o: enable}
 ?
-list 0 0 1,20 1 1,30 2 1,alarm,38 1 0,39 1 1,40 0 0,41 0 1,60 1 0,61 1 1,62 => \
-e3.500 p0.20.1000 e1.1000 p2.10.1000 d1 e1.1000 d1 d3 e3.500 p0.20.1000 e1.1000 d0 d1 d3 \
-off 0 1 3, 0 faults
-list 0 0 1,20 1 1,40 => e3.500 p0.20.1000 e1.1000 d1 d3 off 1 3, 0 faults
+boards 1024 0 0 1,20 1 1,30 2 1,alarm,38 1 0,39 1 1,40 0 0,41 0 1,60 1 0,61 1 1,62: \
+=/;\
+Enable { coil: CoilId(3), power: 500 }/3;=/3;\
+Pulse { coil: CoilId(0), ms: 20, power: 1000 }/0 3;Enable { coil: CoilId(1), power: 1000 }/0 1 3;=/0 1 3;\
+=/0 1 3;\
+Pulse { coil: CoilId(2), ms: 10, power: 1000 }/0 1 2 3;=/0 1 2 3;\
+Disable { coil: CoilId(1) }/0 1 2 3;=/0 2 3;\
+Enable { coil: CoilId(1), power: 1000 }/0 1 2 3;=/0 1 2 3;\
+Disable { coil: CoilId(1) }/1 2 3;Disable { coil: CoilId(3) }/2 3;=/2;\
+Enable { coil: CoilId(3), power: 500 }/2 3;=/2 3;\
+=/3;\
+Pulse { coil: CoilId(0), ms: 20, power: 1000 }/0 3;Enable { coil: CoilId(1), power: 1000 }/0 1 3;=/0 1 3;\
+./0 1 3 => 1024 runs
+boards 1024 0 0 1,20 1 1,40: \
+=/;\
+Enable { coil: CoilId(3), power: 500 }/3;=/3;\
+Pulse { coil: CoilId(0), ms: 20, power: 1000 }/0 3;Enable { coil: CoilId(1), power: 1000 }/0 1 3;=/0 1 3;\
+./1 3 => 1024 runs
 
 switches:
   s: {debounce: quick}
@@ -300,9 +254,12 @@ coils:
   s_active:
 «256     c#: enable
 »?
-count 3 0 1 => 256 512";
+boards 4 0 0 1: =/;Enable { coil: CoilId(0), power: 1000 }/0;\
+«255 Enable { coil: CoilId(#), power: 1000 }/?;»./0«255  #» => 4 runs";
 
 #[test]
 fn boards(rt: HostRuntime) -> Result<(), Fail> {
-    assert_cases(&rt, Subject::Boards, BOARDS)
+    let wrong = wrong_rows(rt.alloc(), BOARDS)?;
+    assert_eq!(rt; wrong.as_str(), "");
+    Ok(())
 }

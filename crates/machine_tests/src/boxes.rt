@@ -1,6 +1,6 @@
 //! Boxes that count how many of them have been dropped, and the rigs that they are handed to.
 
-use crate::cases::{Subject, assert_cases};
+use crate::cases::{add, wrong_rows};
 use coil_guard::MemoryBoard;
 use config_checker::{Checked, check};
 use device_objects::{Device, DeviceState, Outcome, World};
@@ -69,16 +69,11 @@ impl Device for Counted {
     }
 }
 
-/// The row that a word names: its number, after `+` where its counter is to be hit.
-fn row_of<'a>(checked: &'a Checked, word: &str) -> Result<&'a DeviceRow, Fail> {
-    let number = word.trim_start_matches('+').parse::<usize>()?;
-    Ok(checked.plan().rows().get(number).ok_or("a row")?)
-}
-
-/// The counter of a row, after a hit where that is to be.
-fn counter_of(row: &DeviceRow, hit: bool) -> Option<Counter> {
-    let mut counter = Counter::new(row)?;
-    if hit {
+/// The counter of the row that a word names by its number, after a hit where `+` stands before it.
+fn counter_of(checked: &Checked, word: &str) -> Option<Counter> {
+    let number = word.trim_start_matches('+').parse::<usize>().ok()?;
+    let mut counter = Counter::new(checked.plan().rows().get(number)?)?;
+    if word.starts_with('+') {
         let world = World {
             games: 0,
             player: 0,
@@ -88,17 +83,17 @@ fn counter_of(row: &DeviceRow, hit: bool) -> Option<Counter> {
     Some(counter)
 }
 
-/// Adds whether these devices make a rig, and how many of them are dropped while it is there.
+/// Adds whether the boxes make a rig, and how many of them are dropped while it is there.
 fn add_rig<D: Device>(
     alloc: Global,
     out: &mut String,
     checked: &Checked,
-    devices: Vec<D>,
+    boxes: Vec<D>,
     dropped: &Drops,
 ) -> Result<(), AllocError> {
-    match Rig::new(alloc, checked, devices, MemoryBoard::new(alloc)?) {
-        Ok(_rig) => write!(out, "a rig, {} dropped, ", dropped.get()),
-        Err(fault) => write!(out, "{fault:?}, {} dropped, ", dropped.get()),
+    match Rig::new(alloc, checked, boxes, MemoryBoard::new(alloc)?) {
+        Ok(_rig) => add(out, &("a rig", dropped.get())),
+        Err(fault) => add(out, &(fault, dropped.get())),
     }
 }
 
@@ -109,21 +104,23 @@ pub(crate) fn boxed(
     out: &mut String,
     config: &Config,
     words: &str,
-) -> Result<(), Fail> {
-    let checked = check(alloc, config)?;
+) -> Result<(), AllocError> {
+    let Ok(checked) = check(alloc, config) else {
+        return out.push_str("refused");
+    };
     let dropped: Drops = Rc::new(alloc, Cell::new(0))?;
     let mut boxes: Vec<Box<dyn Device>> = Vec::new(alloc);
     for word in words.split_whitespace() {
-        let row = row_of(&checked, word)?;
-        let counter = counter_of(row, word.starts_with('+')).ok_or("a counter")?;
-        let drops = dropped.clone()?;
-        boxes.push(Box::new(alloc, Counted { counter, drops })?)?;
+        if let Some(counter) = counter_of(&checked, word) {
+            let drops = dropped.clone()?;
+            boxes.push(Box::new(alloc, Counted { counter, drops })?)?;
+        }
     }
     add_rig(alloc, out, &checked, boxes, &dropped)?;
-    Ok(write!(out, "{} in all", dropped.get())?)
+    add(out, &dropped.get())
 }
 
-// Row 0 is the machine's, 1 and 2 are of a mode.
+// Row 0 is the machine's, 1 and 2 are of a mode. The second number is that of all drops.
 const BOXES: &str = "\
 modes: m
 counters:
@@ -138,17 +135,19 @@ counters:
     count_events: hit
     starting_count: 3
 ?
-0 1 2 => a rig, 0 dropped, 3 in all
-1 2 => WrongDevice(RowId(0)), 2 dropped, 2 in all
-0 2 => WrongDevice(RowId(1)), 2 dropped, 2 in all
-0 1 => WrongDevice(RowId(2)), 2 dropped, 2 in all
-0 1 2 2 => WrongDevice(RowId(3)), 4 dropped, 4 in all
-0 2 1 => WrongDevice(RowId(1)), 3 dropped, 3 in all
-0 1 1 => WrongDevice(RowId(2)), 3 dropped, 3 in all
-0 +1 2 => WrongDevice(RowId(1)), 3 dropped, 3 in all
- => WrongDevice(RowId(0)), 0 dropped, 0 in all";
+boxes 0 1 2 => (\"a rig\", 0) 3
+boxes 1 2 => (WrongDevice(RowId(0)), 2) 2
+boxes 0 2 => (WrongDevice(RowId(1)), 2) 2
+boxes 0 1 => (WrongDevice(RowId(2)), 2) 2
+boxes 0 1 2 2 => (WrongDevice(RowId(3)), 4) 4
+boxes 0 2 1 => (WrongDevice(RowId(1)), 3) 3
+boxes 0 1 1 => (WrongDevice(RowId(2)), 3) 3
+boxes 0 +1 2 => (WrongDevice(RowId(1)), 3) 3
+boxes => (WrongDevice(RowId(0)), 0) 0";
 
 #[test]
 fn boxes(rt: HostRuntime) -> Result<(), Fail> {
-    assert_cases(&rt, Subject::Boxes, BOXES)
+    let wrong = wrong_rows(rt.alloc(), BOXES)?;
+    assert_eq!(rt; wrong.as_str(), "");
+    Ok(())
 }

@@ -1,4 +1,12 @@
 //! Small machines, drawn at random: a machine text, and those of its modes behind it.
+//!
+//! They are drawn by templates. There `[..|..|..|..]` has four forms, of which one is taken, and
+//! `(..)` and `$..)` are there only for the first switch and the second. `;..` is one of the entries
+//! of events, of which there are some. `M` stands for a name, and `%` for that of any event. `*`
+//! stands for that of the next event in turn, whose place holds from there on; `!` puts back the
+//! first place. `~` stands for a post of the event at the place, or nothing, and `^` for an event
+//! that stands no further, or nothing. What is behind `#` tells which events post each other: see
+//! `rounds`.
 
 use std::alloc::{AllocError, Global};
 
@@ -11,12 +19,9 @@ fn draw(state: &mut u64, limit: usize) -> usize {
     number.checked_rem(limit).unwrap_or(0)
 }
 
-/// The events that a text can name: those of the second switch, of the first, and of no switch.
-const NAMES: &str = "y_active y_inactive x_active x_inactive a b c d e f g h";
-
 /// What a text is drawn from.
 #[derive(Clone, Copy)]
-struct Shape {
+struct Pen {
     /// The places of the names that are used: from this one ..
     first: usize,
     /// .. on, so many.
@@ -25,209 +30,265 @@ struct Shape {
     reach: usize,
     /// Of 32 posts so many go anywhere.
     anywhere: usize,
-    /// How many posts an entry has at least.
-    fewest: usize,
+    /// Of 4 posts so many are drawn.
+    share: usize,
+    /// How many places there are from an entry to the next.
+    turn: usize,
+    /// The first place, the one that holds, and that of the latest entry.
+    base: usize,
+    place: usize,
+    latest: usize,
+    /// How many entries are left.
+    entries: usize,
+    /// Whether a part is left out: 0 where it is not.
+    skipped: usize,
 }
 
 /// One to eight events, half of the time with a switch or two. Posts that only go on make no cycle.
-fn draw_shape(state: &mut u64) -> Shape {
-    let (reach, anywhere) = match draw(state, 4) {
-        0 => (1, 0),
-        1 => (3, 0),
-        2 => (2, 2),
-        _ => (4, 32),
+fn draw_pen(state: &mut u64) -> Pen {
+    let [reach, anywhere] = match draw(state, 4) {
+        0 => [1, 0],
+        1 => [3, 0],
+        2 => [2, 2],
+        _ => [4, 32],
     };
-    let first = [0, 2, 4, 4][draw(state, 4) & 3];
+    let first = (draw(state, 4) << 1).min(4);
     let last = draw(state, 8).max(draw(state, 8)).saturating_add(5);
-    Shape {
+    let count = last.saturating_sub(first);
+    Pen {
         first,
-        count: last.saturating_sub(first),
+        count,
         reach,
         anywhere,
-        fewest: [0, 0, 4, 4][draw(state, 4) & 3],
+        share: if draw(state, 2) == 0 { 2 } else { 4 },
+        turn: if draw(state, 2) == 0 {
+            1
+        } else {
+            count.saturating_sub(1)
+        },
+        base: 3,
+        place: 3,
+        latest: draw(state, count),
+        entries: 0,
+        skipped: 0,
     }
 }
 
-fn add_name(out: &mut String, place: usize) -> Result<(), AllocError> {
-    out.push_str(NAMES.split_whitespace().nth(place).unwrap_or("none"))
+/// Takes a mark of a template that stands for no text.
+fn turn(pen: &mut Pen, state: &mut u64, mark: char) {
+    match mark {
+        '[' => pen.skipped = draw(state, 4),
+        '|' => pen.skipped = pen.skipped.wrapping_sub(1),
+        '(' => pen.skipped = pen.first >> 2,
+        '$' => pen.skipped = pen.first >> 1,
+        ';' => {
+            pen.skipped = usize::from(pen.entries == 0);
+            pen.entries = pen.entries.saturating_sub(1);
+        }
+        '!' => pen.place = pen.base,
+        _ => pen.skipped = 0,
+    }
 }
 
-/// One post of the event, unless it goes past the last name.
-fn add_post(
-    out: &mut String,
-    state: &mut u64,
-    shape: Shape,
-    from: usize,
-) -> Result<(), AllocError> {
-    out.push(' ')?;
-    if draw(state, 32) < shape.anywhere {
-        return add_name(out, draw(state, shape.count).saturating_add(shape.first));
-    }
-    let post = draw(state, shape.reach)
-        .saturating_add(from)
+/// The place of the name for a mark, or one of no name.
+fn draw_place(pen: &mut Pen, state: &mut u64, mark: char) -> usize {
+    let any = draw(state, pen.count).saturating_add(pen.first);
+    let further = draw(state, pen.reach)
+        .saturating_add(pen.place)
         .saturating_add(1);
-    if post < shape.first.saturating_add(shape.count) {
-        add_name(out, post)?;
+    match mark {
+        '*' => {
+            let next = pen.latest.saturating_add(pen.turn);
+            pen.latest = next.checked_rem(pen.count).unwrap_or(0);
+            pen.place = pen.latest.saturating_add(pen.first);
+            pen.place
+        }
+        '~' => if draw(state, 4) >= pen.share {
+            99
+        } else if draw(state, 32) < pen.anywhere {
+            any
+        } else if further < pen.count.saturating_add(pen.first) {
+            further
+        } else {
+            99
+        },
+        '^' => if any > pen.base { 99 } else { any },
+        _ => any,
     }
-    Ok(())
 }
 
-/// What an event posts: up to four posts, and no fewer than the shape says.
-fn add_posts(
+/// Adds a text by a template, with a name.
+fn add_drawn(
     out: &mut String,
+    pen: &mut Pen,
     state: &mut u64,
-    shape: Shape,
-    from: usize,
-) -> Result<(), AllocError> {
-    for _ in 0..draw(state, 5).max(shape.fewest) {
-        add_post(out, state, shape, from)?;
-    }
-    Ok(())
-}
-
-/// Entries of events, none twice: up or down, from any of them.
-fn add_players(out: &mut String, state: &mut u64, shape: Shape) -> Result<(), AllocError> {
-    out.push_str("event_player:\n")?;
-    let start = draw(state, shape.count);
-    let step = [1, shape.count.saturating_sub(1)][draw(state, 2) & 1];
-    for number in 0..draw(state, 15)
-        .max(shape.fewest.saturating_mul(3))
-        .min(shape.count)
-    {
-        let place = number.saturating_mul(step).saturating_add(start);
-        let from = place
-            .checked_rem(shape.count)
-            .unwrap_or(0)
-            .saturating_add(shape.first);
-        out.push_str("  ")?;
-        add_name(out, from)?;
-        out.push(':')?;
-        add_posts(out, state, shape, from)?;
-        out.push('\n')?;
-    }
-    Ok(())
-}
-
-/// A switch by its entry, with what it posts first in a comment.
-fn add_switch(
-    out: &mut String,
-    state: &mut u64,
-    shape: Shape,
+    template: &str,
     name: &str,
 ) -> Result<(), AllocError> {
-    write!(out, "  {name}:\n    events_when_activated:")?;
-    add_posts(out, state, shape, 3)?;
-    write!(out, " # {name}_active\n    events_when_deactivated:")?;
-    add_posts(out, state, shape, 3)?;
-    write!(out, " # {name}_inactive\n")
-}
-
-fn add_switches(out: &mut String, state: &mut u64, shape: Shape) -> Result<(), AllocError> {
-    out.push_str("switches:\n")?;
-    if shape.first < 4 {
-        add_switch(out, state, shape, "x")?;
-    }
-    if shape.first < 2 {
-        add_switch(out, state, shape, "y")?;
-    }
-    Ok(())
-}
-
-/// Events that have an effect on a mode: up to two, none of them behind its place, and perhaps one of
-/// the first mode.
-fn add_causes(
-    out: &mut String,
-    state: &mut u64,
-    shape: Shape,
-    place: usize,
-    key: &str,
-) -> Result<(), AllocError> {
-    write!(out, "  {key}:")?;
-    for _ in 0..draw(state, 3) {
-        out.push(' ')?;
-        let places = place.saturating_sub(shape.first).saturating_add(1);
-        add_name(out, draw(state, places).saturating_add(shape.first))?;
-    }
-    out.push_str(["", "", "", " mode_m_started"][draw(state, 4) & 3])?;
-    out.push('\n')
-}
-
-/// What an entry of a coil player does.
-const DEEDS: [&str; 4] = [
-    "{k: pulse}",
-    "{k: enable, l: enable}",
-    "{l: enable, k: disable}",
-    "{l: pulse}",
-];
-
-fn add_deeds(out: &mut String, state: &mut u64) -> Result<(), AllocError> {
-    writeln!(out, ": {}", DEEDS[draw(state, 4) & 3])
-}
-
-/// A coil player with an entry at any event. That of a mode has one at the mode's start too.
-fn add_coil_player(
-    out: &mut String,
-    state: &mut u64,
-    shape: Shape,
-    mode: &str,
-) -> Result<(), AllocError> {
-    out.push_str("coil_player:\n  ")?;
-    add_name(out, draw(state, shape.count).saturating_add(shape.first))?;
-    add_deeds(out, state)?;
-    if mode.is_empty() {
-        return Ok(());
-    }
-    write!(out, "  mode_{mode}_started")?;
-    add_deeds(out, state)
-}
-
-/// A mode in a text of its own. It has a place among the names: what it posts at its own events stands
-/// behind it.
-fn add_mode(out: &mut String, state: &mut u64, shape: Shape, mode: &str) -> Result<(), AllocError> {
-    write!(
-        out,
-        "@ modes/{mode}/config/{mode}.yaml\n#config_version=6\nmode:\n"
-    )?;
-    let place = draw(state, shape.count).saturating_add(shape.first);
-    add_causes(out, state, shape, place, "start_events")?;
-    add_causes(out, state, shape, place, "stop_events")?;
-    for key in ["game_mode", "stop_on_ball_end"] {
-        writeln!(out, "  {key}: {}", ["no", "yes"][draw(state, 2) & 1])?;
-    }
-    add_players(out, state, shape)?;
-    for event in ["starting", "started", "stopping", "stopped"] {
-        write!(out, "  mode_{mode}_{event}:")?;
-        if draw(state, 2) == 0 {
-            add_posts(out, state, shape, place)?;
+    let names = "y_active y_inactive x_active x_inactive a b c d e f g h";
+    for mark in template.chars() {
+        match mark {
+            '[' | '|' | ']' | '(' | '$' | ')' | ';' | '!' => turn(pen, state, mark),
+            _ if pen.skipped != 0 => {}
+            '~' | '%' | '^' | '*' => {
+                let place = draw_place(pen, state, mark);
+                out.push_str(names.split_whitespace().nth(place).unwrap_or(""))?;
+            }
+            'M' => out.push_str(name)?,
+            _ => out.push(mark)?,
         }
-        out.push('\n')?;
-    }
-    if draw(state, 2) == 0 {
-        add_coil_player(out, state, shape, mode)?;
     }
     Ok(())
 }
 
 /// A machine with two coils, half of the time with a mode or two. Either of the sections that post
-/// can be the first.
+/// can be the first. A mode has a place among the names: what it posts at its own events stands
+/// behind it, and what starts or stops it does not.
 pub(crate) fn draw_machine(alloc: Global, state: &mut u64) -> Result<String, AllocError> {
-    let shape = draw_shape(state);
     let mut out = String::new(alloc);
-    let modes = ["", "", "m", "n m"][draw(state, 4) & 3];
-    writeln!(out, "modes: {modes}")?;
-    if draw(state, 2) == 0 {
-        add_switches(&mut out, state, shape)?;
-        add_players(&mut out, state, shape)?;
-    } else {
-        add_players(&mut out, state, shape)?;
-        add_switches(&mut out, state, shape)?;
-    }
-    out.push_str("coils:\n  l:\n  k:\n")?;
-    if draw(state, 2) == 0 {
-        add_coil_player(&mut out, state, shape, "")?;
-    }
+    let mut pen = draw_pen(state);
+    let fewest = if pen.share == 4 { 12 } else { 0 };
+    let modes = match draw(state, 4) {
+        0 => "m",
+        1 => "n m",
+        _ => "",
+    };
+    pen.entries = draw(state, 15).max(fewest).min(pen.count);
+    let is_turned = draw(state, 2) == 0;
+    let machine = if is_turned { TURNED } else { MACHINE };
+    add_drawn(&mut out, &mut pen, state, machine, modes)?;
     for mode in modes.split_whitespace() {
-        add_mode(&mut out, state, shape, mode)?;
+        pen.entries = draw(state, 15).max(fewest).min(pen.count);
+        pen.base = draw(state, pen.count).saturating_add(pen.first);
+        pen.place = pen.base;
+        add_drawn(&mut out, &mut pen, state, MODE, mode)?;
     }
     Ok(out)
 }
+
+const MACHINE: &str = "\
+@ config/config.yaml
+#config_version=6
+modes: M
+switches:
+(  x:
+    events_when_activated: !~ ~ ~ ~ # 1
+    events_when_deactivated: ~ ~ ~ ~ # 2
+# 1: x_active
+# 2: x_inactive
+)$  y:
+    events_when_activated: ~ ~ ~ ~ # 3
+    events_when_deactivated: ~ ~ ~ ~ # 4
+# 3: y_active
+# 4: y_inactive
+)event_player:
+;  *: ~ ~ ~ ~
+;  *: ~ ~ ~ ~
+;  *: ~ ~ ~ ~
+;  *: ~ ~ ~ ~
+;  *: ~ ~ ~ ~
+;  *: ~ ~ ~ ~
+;  *: ~ ~ ~ ~
+;  *: ~ ~ ~ ~
+;  *: ~ ~ ~ ~
+;  *: ~ ~ ~ ~
+;  *: ~ ~ ~ ~
+;  *: ~ ~ ~ ~
+)coils:
+  l:
+  k:
+[coil_player:
+  %: {k: pulse}
+|coil_player:
+  %: {k: enable, l: enable}
+||]";
+
+const TURNED: &str = "\
+@ config/config.yaml
+#config_version=6
+modes: M
+event_player:
+;  *: ~ ~ ~ ~
+;  *: ~ ~ ~ ~
+;  *: ~ ~ ~ ~
+;  *: ~ ~ ~ ~
+;  *: ~ ~ ~ ~
+;  *: ~ ~ ~ ~
+;  *: ~ ~ ~ ~
+;  *: ~ ~ ~ ~
+;  *: ~ ~ ~ ~
+;  *: ~ ~ ~ ~
+;  *: ~ ~ ~ ~
+;  *: ~ ~ ~ ~
+)switches:
+(  x:
+    events_when_activated: !~ ~ ~ ~ # 1
+    events_when_deactivated: ~ ~ ~ ~ # 2
+# 1: x_active
+# 2: x_inactive
+)$  y:
+    events_when_activated: ~ ~ ~ ~ # 3
+    events_when_deactivated: ~ ~ ~ ~ # 4
+# 3: y_active
+# 4: y_inactive
+)coils:
+  l:
+  k:
+[coil_player:
+  %: {k: pulse}
+|coil_player:
+  %: {k: enable, l: enable}
+||]";
+
+const MODE: &str = "\
+@ modes/M/config/M.yaml
+#config_version=6
+mode:
+  start_events: ^ ^ [mode_m_started|||] #<mode_M_will_start
+  stop_events: ^ ^ [mode_m_started|||] #<mode_M_stopping
+[  game_mode: no
+|  game_mode: no
+|  game_mode: yes
+# game_ending: mode_M_stopping
+|  game_mode: yes
+# game_ending: mode_M_stopping
+][  stop_on_ball_end: no
+|  stop_on_ball_end: no
+|  stop_on_ball_end: yes
+# ball_ending: mode_M_stopping
+|  stop_on_ball_end: yes
+# ball_ending: mode_M_stopping
+]# mode_M_will_start: mode_M_starting
+# mode_M_starting: mode_M_started
+# mode_M_started: mode_M_stopping
+# mode_M_stopping: mode_M_stopped
+event_player:
+  mode_M_starting: [~ ~ ~ ~|~ ~ ~ ~||]
+  mode_M_started: [~ ~ ~ ~|~ ~ ~ ~||]
+  mode_M_stopping: [~ ~ ~ ~|~ ~ ~ ~||]
+  mode_M_stopped: [~ ~ ~ ~|~ ~ ~ ~||]
+;  *: ~ ~ ~ ~
+;  *: ~ ~ ~ ~
+;  *: ~ ~ ~ ~
+;  *: ~ ~ ~ ~
+;  *: ~ ~ ~ ~
+;  *: ~ ~ ~ ~
+;  *: ~ ~ ~ ~
+;  *: ~ ~ ~ ~
+;  *: ~ ~ ~ ~
+;  *: ~ ~ ~ ~
+;  *: ~ ~ ~ ~
+;  *: ~ ~ ~ ~
+)[coil_player:
+  %: {k: pulse}
+  mode_M_started: {k: enable, l: enable}
+# mode_M_stopping: k: l:
+|coil_player:
+  %: {l: enable, k: disable}
+  mode_M_started: {l: pulse}
+# mode_M_stopping: l:
+|coil_player:
+  %: {k: enable, l: enable}
+  mode_M_started: {l: enable, k: disable}
+# mode_M_stopping: k: l:
+|]";

@@ -1,90 +1,124 @@
-//! Plans of small configurations, and the limits of their tables.
+//! Plans of small configurations with the limits of their tables, and what is made of a plan: handlers
+//! and weights. Also queues.
 
-use crate::cases::{Subject, assert_cases};
+use crate::cases::{add, wrong_rows};
+use cascade_rank::{Weights, find, verify};
+use event_queue::{Handlers, Posted, Queue};
 use mpf_config::Config;
 use mpf_plan::plan;
-use plan_tables::{BindingId, EventId, ListId, Plan, SwitchId};
+use plan_tables::{BindingId, EventId, ListId, Owner, Plan, SwitchId};
 use std::alloc::{AllocError, Global};
 use std::test::Fail;
 
-/// The text that these bytes are.
-fn text(bytes: &[u8]) -> &str {
-    std::str::from_utf8(bytes).unwrap_or("no UTF-8")
+/// Adds the entry of a table with this number: a list, a binding, what is bound to an event, or the
+/// kind of a switch and what it posts. Or adds that there is none.
+fn add_entry(out: &mut String, plan: &Plan, word: &str, number: u16) -> Result<(), AllocError> {
+    let place = number as usize;
+    if word == "list" && place < plan.list_count() {
+        add(out, &plan.list(ListId(u32::from(number))))
+    } else if word == "binding" && place < plan.binding_count() {
+        add(out, &plan.binding(BindingId(number)))
+    } else if word == "bound" && place < plan.event_count() {
+        add(out, &plan.bindings_of(EventId(number)))
+    } else if word == "switch" && place < plan.switch_count() {
+        let switch = SwitchId(number);
+        let posts = (plan.posts(switch, true), plan.posts(switch, false));
+        add(out, &(plan.switch_kind(switch), posts))
+    } else {
+        out.push_str("none")
+    }
 }
 
-/// Adds each event: its name, the event and the switch of that name, and what is bound to it.
-fn add_events(out: &mut String, plan: &Plan) -> Result<(), AllocError> {
-    for number in 0..plan.event_count() {
-        let event = EventId(number as u16);
-        let name = plan.event_name(event);
-        let bindings = plan.bindings_of(event);
-        write!(
-            out,
-            "{} {:?} {:?} {:?}; ",
-            text(name),
-            plan.find_event(name),
-            plan.find_switch(name),
-            bindings
-        )?;
+/// Adds the first two handlers of the event of this name, or of an event that no plan has, and the
+/// first step of a walk over them.
+fn handled(alloc: Global, out: &mut String, plan: &Plan, name: &str) -> Result<(), AllocError> {
+    let handlers = Handlers::new(alloc, plan)?;
+    let event = plan
+        .find_event(name.as_bytes())
+        .unwrap_or(EventId(u16::MAX));
+    let [first, second] = [handlers.nth(event, 0), handlers.nth(event, 1)];
+    add(out, &(first, second, handlers.next(event, 0)))
+}
+
+/// Adds the least weights, up to the first event that has none, or why there are none.
+pub(crate) fn add_least(alloc: Global, out: &mut String, plan: &Plan) -> Result<(), AllocError> {
+    let weights = match find(alloc, plan) {
+        Ok(weights) => weights,
+        Err(fault) => return add(out, &fault),
+    };
+    for number in 0..=u16::MAX {
+        let Some(weight) = weights.get(EventId(number)) else {
+            break;
+        };
+        add(out, &weight)?;
     }
     Ok(())
 }
 
-/// Adds each switch: its name, the event and the switch of that name, its kind, and what it posts.
-fn add_switches(out: &mut String, plan: &Plan) -> Result<(), AllocError> {
-    for number in 0..plan.switch_count() {
-        let switch = SwitchId(number as u16);
-        let name = plan.switch_name(switch);
-        write!(
-            out,
-            "{} {:?} {:?} ",
-            text(name),
-            plan.find_event(name),
-            plan.find_switch(name)
-        )?;
-        let [active, inactive] = [plan.posts(switch, true), plan.posts(switch, false)];
-        write!(
-            out,
-            "{:?} {active:?} {inactive:?}; ",
-            plan.switch_kind(switch)
-        )?;
+/// Adds what `verify` says of these weights.
+fn judged(alloc: Global, out: &mut String, plan: &Plan, numbers: &str) -> Result<(), AllocError> {
+    let mut weights = Vec::new(alloc);
+    for word in numbers.split_whitespace() {
+        weights.push(word.parse::<u32>().unwrap_or(0))?;
     }
-    Ok(())
+    add(out, &verify(plan, &Weights::of(weights)))
 }
 
-fn add_lists(out: &mut String, plan: &Plan) -> Result<(), AllocError> {
-    for number in 0..plan.list_count() {
-        write!(out, "{:?}; ", plan.list(ListId(number as u32)))?;
+/// Answers to a question about a plan: to `counts` with how many events, bindings and switches it has,
+/// to `named` with the event and the switch of a name.
+fn told(
+    alloc: Global,
+    out: &mut String,
+    plan: &Plan,
+    word: &str,
+    rest: &str,
+) -> Result<(), AllocError> {
+    let name = rest.as_bytes();
+    match word {
+        "counts" => {
+            let [events, bindings] = [plan.event_count(), plan.bindings().len()];
+            add(out, &(events, bindings, plan.switch_count()))
+        }
+        "named" => add(out, &(plan.find_event(name), plan.find_switch(name))),
+        "handlers" => handled(alloc, out, plan, rest),
+        "find" => add_least(alloc, out, plan),
+        "verify" => judged(alloc, out, plan, rest),
+        _ => add_entry(out, plan, word, rest.parse::<u16>().unwrap_or(u16::MAX)),
     }
-    Ok(())
 }
 
-fn add_bindings(out: &mut String, plan: &Plan) -> Result<(), AllocError> {
-    for number in 0..plan.binding_count() {
-        write!(out, "{:?}; ", plan.binding(BindingId(number as u16)))?;
-    }
-    write!(out, "{} bindings", plan.bindings().len())
-}
-
-/// Adds the events, switches, lists and bindings of a plan.
-pub(crate) fn planned(out: &mut String, plan: &Plan) -> Result<(), Fail> {
-    add_events(out, plan)?;
-    add_switches(out, plan)?;
-    add_lists(out, plan)?;
-    Ok(add_bindings(out, plan)?)
-}
-
-fn add_counts(out: &mut String, plan: &Plan) -> Result<(), AllocError> {
-    let [events, bindings] = [plan.event_count(), plan.binding_count()];
-    write!(out, "{events} {bindings} {}", plan.switch_count())
-}
-
-/// Adds how many events, bindings and switches the plan has, or why there is none.
-pub(crate) fn sized(alloc: Global, out: &mut String, config: &Config) -> Result<(), AllocError> {
+/// Answers to a question about the plan of the configuration, or with the reason why there is none.
+pub(crate) fn planned(
+    alloc: Global,
+    out: &mut String,
+    config: &Config,
+    word: &str,
+    rest: &str,
+) -> Result<(), AllocError> {
     match plan(alloc, config) {
-        Ok(plan) => add_counts(out, &plan),
+        Ok(plan) => told(alloc, out, &plan, word, rest),
         Err(fault) => write!(out, "{fault}"),
     }
+}
+
+/// Adds what comes of the calls that follow the size of a queue: `take`, or the number of an event
+/// to be pushed.
+pub(crate) fn queued(alloc: Global, out: &mut String, question: &str) -> Result<(), AllocError> {
+    let (size, calls) = question.split_once(": ").unwrap_or((question, ""));
+    let mut queue = Queue::new(alloc, size.parse::<usize>().unwrap_or(0))?;
+    for word in calls.split_whitespace() {
+        match word.parse::<u16>() {
+            Ok(number) => {
+                let posted = Posted {
+                    event: EventId(number),
+                    owner: Owner::Machine,
+                };
+                add(out, &queue.push(posted))?;
+            }
+            Err(_) => add(out, &queue.take())?,
+        }
+    }
+    Ok(())
 }
 
 const PLANS: &str = "\
@@ -95,35 +129,47 @@ switches:
   s_left:
   s_right:
 ?
-plan => \
-s_left_active Some(EventId(0)) None [BindingId(0)]; \
-a Some(EventId(1)) None []; \
-b Some(EventId(2)) None [BindingId(1)]; \
-c Some(EventId(3)) None []; \
-s_left_inactive Some(EventId(4)) None []; \
-s_right_active Some(EventId(5)) None []; \
-s_right_inactive Some(EventId(6)) None []; \
-s_left None Some(SwitchId(0)) SwitchKind { contact: NormallyOpen, quick: false } [EventId(0)] [EventId(4)]; \
-s_right None Some(SwitchId(1)) SwitchKind { contact: NormallyOpen, quick: false } [EventId(5)] [EventId(6)]; \
-[Post(EventId(1)), Post(EventId(2)), Post(EventId(1))]; \
-[Post(EventId(3))]; \
-Binding { event: EventId(0), owner: Machine, priority: 0, condition: None, target: Run(ListId(0)) }; \
-Binding { event: EventId(2), owner: Machine, priority: 0, condition: None, target: Run(ListId(1)) }; \
-2 bindings
+counts => (7, 2, 2)
+bound 0 => [BindingId(0)]
+named s_left_active => (Some(EventId(0)), None)
+bound 1 => []
+named a => (Some(EventId(1)), None)
+bound 2 => [BindingId(1)]
+named b => (Some(EventId(2)), None)
+bound 3 => []
+named c => (Some(EventId(3)), None)
+bound 4 => []
+named s_left_inactive => (Some(EventId(4)), None)
+bound 5 => []
+named s_right_active => (Some(EventId(5)), None)
+bound 6 => []
+named s_right_inactive => (Some(EventId(6)), None)
+switch 0 => (SwitchKind { contact: NormallyOpen, quick: false }, ([EventId(0)], [EventId(4)]))
+named s_left => (None, Some(SwitchId(0)))
+switch 1 => (SwitchKind { contact: NormallyOpen, quick: false }, ([EventId(5)], [EventId(6)]))
+named s_right => (None, Some(SwitchId(1)))
+list 0 => [Post(EventId(1)), Post(EventId(2)), Post(EventId(1))]
+list 1 => [Post(EventId(3))]
+list 2 => none
+binding 0 => Binding { event: EventId(0), owner: Machine, priority: 0, condition: None, target: Run(ListId(0)) }
+binding 1 => Binding { event: EventId(2), owner: Machine, priority: 0, condition: None, target: Run(ListId(1)) }
 
 event_player:
   a: c, b
   b:
 ?
-plan => \
-a Some(EventId(0)) None [BindingId(0)]; \
-c Some(EventId(1)) None []; \
-b Some(EventId(2)) None [BindingId(1)]; \
-[Post(EventId(1)), Post(EventId(2))]; \
-[]; \
-Binding { event: EventId(0), owner: Machine, priority: 0, condition: None, target: Run(ListId(0)) }; \
-Binding { event: EventId(2), owner: Machine, priority: 0, condition: None, target: Run(ListId(1)) }; \
-2 bindings
+counts => (3, 2, 0)
+bound 0 => [BindingId(0)]
+named a => (Some(EventId(0)), None)
+bound 1 => []
+named c => (Some(EventId(1)), None)
+bound 2 => [BindingId(1)]
+named b => (Some(EventId(2)), None)
+list 0 => [Post(EventId(1)), Post(EventId(2))]
+list 1 => []
+list 2 => none
+binding 0 => Binding { event: EventId(0), owner: Machine, priority: 0, condition: None, target: Run(ListId(0)) }
+binding 1 => Binding { event: EventId(2), owner: Machine, priority: 0, condition: None, target: Run(ListId(1)) }
 
 switches:
   s_left:
@@ -133,21 +179,23 @@ switches:
     debounce: quick
     events_when_activated: hit, sw_lane
 ?
-plan => \
-s_left_active Some(EventId(0)) None []; \
-sw_lane Some(EventId(1)) None []; \
-sw_start Some(EventId(2)) None []; \
-hit Some(EventId(3)) None []; \
-s_left_inactive Some(EventId(4)) None []; \
-gone Some(EventId(5)) None []; \
-s_left None Some(SwitchId(0)) SwitchKind { contact: NormallyClosed, quick: true } \
-[EventId(0), EventId(1), EventId(2), EventId(3), EventId(1)] [EventId(4), EventId(5), EventId(3)]; \
-0 bindings";
-
-#[test]
-fn plans(rt: HostRuntime) -> Result<(), Fail> {
-    assert_cases(&rt, Subject::Plan, PLANS)
-}
+counts => (6, 0, 1)
+bound 0 => []
+named s_left_active => (Some(EventId(0)), None)
+bound 1 => []
+named sw_lane => (Some(EventId(1)), None)
+bound 2 => []
+named sw_start => (Some(EventId(2)), None)
+bound 3 => []
+named hit => (Some(EventId(3)), None)
+bound 4 => []
+named s_left_inactive => (Some(EventId(4)), None)
+bound 5 => []
+named gone => (Some(EventId(5)), None)
+switch 0 => (SwitchKind { contact: NormallyClosed, quick: true }, \
+([EventId(0), EventId(1), EventId(2), EventId(3), EventId(1)], [EventId(4), EventId(5), EventId(3)]))
+named s_left => (None, Some(SwitchId(0)))
+list 0 => none";
 
 // How many events, bindings and switches there are, at the limits and above them; with as many
 // devices as there may be, and with one more.
@@ -155,12 +203,12 @@ const LIMITS: &str = "\
 event_player:
 «4096   p#:
 »?
-limits => 4096 4096 0
+counts => (4096, 4096, 0)
 
 event_player:
 «4097   p#:
 »?
-limits => Limit events
+counts => Limit events
 
 event_player:
   e:
@@ -168,7 +216,7 @@ event_player:
 »switches:
 «256   s#:
 »?
-limits => 4096 3584 256
+counts => (4096, 3584, 256)
 
 event_player:
   e:
@@ -176,21 +224,21 @@ event_player:
 »switches:
 «256   s#:
 »?
-limits => Limit events
+counts => Limit events
 
 event_player:
   e:
 switches:
 «257   s#:
 »?
-limits => Limit switches
+counts => Limit switches
 
 event_player:
 «4097   p#:
 »switches:
 «257   s#:
 »?
-limits => Limit events
+counts => Limit events
 
 switches:
   s_a:
@@ -206,7 +254,7 @@ switches:
   s_d:
     tags: «1020 d#, »
 ?
-limits => 4096 0 4
+counts => (4096, 0, 4)
 
 switches:
   s_a:
@@ -222,19 +270,142 @@ switches:
   s_d:
     tags: «1021 d#, »
 ?
-limits => Limit events
+counts => Limit events
 
 counters:
 «1024   c#: {count_events: a}
 »?
-limits => 3073 1024 0
+counts => (3073, 1024, 0)
 
 counters:
 «1025   c#: {count_events: a}
 »?
-limits => Limit rows";
+counts => Limit rows";
+
+const HANDLERS: &str = "\
+event_player:
+  a: x
+  b: x
+?
+handlers a => (Some(BindingId(0)), None, Some((BindingId(0), 1)))
+handlers b => (Some(BindingId(1)), None, Some((BindingId(1), 1)))
+handlers x => (None, None, None)
+handlers none => (None, None, None)";
+
+const QUEUES: &str = "\
+?
+queue 2: 1 2 3 take 4 take take take => \
+Ok(()) Ok(()) Err(Full) \
+Some(Posted { event: EventId(1), owner: Machine }) Ok(()) \
+Some(Posted { event: EventId(2), owner: Machine }) \
+Some(Posted { event: EventId(4), owner: Machine }) None
+queue 0: 1 take => Err(Full) None";
+
+// The events of the first machine by number: `s_left_active`, `s_left_inactive`, `a`, `b`. An event
+// can need more than 32 bits hold. The fault is that of the first event that weighs too little.
+const WEIGHTS: &str = "\
+switches:
+  s_left:
+event_player:
+  s_left_active: a, b
+?
+find => 3 1 1 1
+verify 3 1 1 1 => Ok(Bound(4))
+verify 5 2 2 2 => Ok(Bound(6))
+verify 2 1 1 1 => Err(Short(EventId(0), 3))
+verify 3 1 1 0 => Err(Short(EventId(3), 1))
+verify 2 1 1 => Err(WrongEvents)
+verify 3 1 => Err(WrongEvents)
+verify 3 1 1 1 1 => Err(WrongEvents)
+verify 9999 1 1 1 => Ok(Bound(10000))
+verify 10000 1 1 1 => Err(BoundTooLarge)
+
+event_player:
+  a: b, b
+  c: a, b
+?
+find => 3 1 5
+verify 1 2147483648 3 => Err(Short(EventId(0), 4294967297))
+verify 3 1 10000 => Ok(Bound(0))
+verify 3 1 10001 => Err(BoundTooLarge)
+
+event_player:
+  e0: e1
+  e1: e2
+?
+find => 3 2 1
+
+event_player:
+  e0:
+  e1: e0
+  e2: e1
+?
+find => 1 2 3
+
+event_player:
+  e0:«4095  e#
+  e#:»
+?
+find => 4096«4095  ~»
+
+event_player:
+  e0: «99 e1, »
+  e1: «100 e2, »
+?
+find => 10000 101 1
+verify 10000 101 1 => Ok(Bound(0))
+
+event_player:
+  e0: «100 e1, »
+  e1: «99 e2, »
+?
+find => BoundTooLarge
+verify 10001 100 1 => Err(BoundTooLarge)
+
+switches:
+  s_left:
+event_player:
+  s_left_active: «98 a, » «100 b, »
+  a: «100 b, »
+?
+find => 9999 1 101 1
+verify 9999 1 101 1 => Ok(Bound(10000))
+
+switches:
+  s_left:
+event_player:
+  s_left_active: «99 a, »
+  a: «100 b, »
+?
+find => BoundTooLarge
+verify 10000 1 101 1 => Err(BoundTooLarge)
+
+event_player:
+  e0: e1, e0
+?
+find => Cycle([EventId(0)])
+
+event_player:
+  e0: e1
+  e1: e2, e4
+  e2: e3, e1
+  e4: e5
+  e5: e4
+?
+find => Cycle([EventId(1), EventId(2)])
+
+event_player:
+  e0: e1, e2
+  e2: e2
+  e1: e1
+?
+find => Cycle([EventId(1)])";
 
 #[test]
-fn limits(rt: HostRuntime) -> Result<(), Fail> {
-    assert_cases(&rt, Subject::Limits, LIMITS)
+fn plans(rt: HostRuntime) -> Result<(), Fail> {
+    for table in [PLANS, LIMITS, HANDLERS, QUEUES, WEIGHTS] {
+        let wrong = wrong_rows(rt.alloc(), table)?;
+        assert_eq!(rt; wrong.as_str(), "");
+    }
+    Ok(())
 }

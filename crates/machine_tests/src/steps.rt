@@ -1,24 +1,30 @@
 //! A machine by hand, one input at a time.
 
-use crate::cases::{Subject, assert_cases, numbers_in};
+use crate::cases::{add, wrong_rows};
 use coil_guard::{Board, MemoryBoard};
 use config_checker::check;
 use device_objects::Device;
 use logic_blocks::Counter;
 use mpf_config::Config;
-use pin_rig::{Input, Rig, check_moment};
+use pin_rig::{Input, Rig};
 use plan_tables::SwitchId;
 use std::alloc::{AllocError, Global};
 use std::test::Fail;
 
+/// The word of a text at this place as a number, the greatest where it is none.
+pub(crate) fn number_at(text: &str, place: usize) -> u64 {
+    let word = text.split_whitespace().nth(place).unwrap_or("");
+    word.parse::<u64>().unwrap_or(u64::MAX)
+}
+
 /// The input of a text: a moment, a switch and its raw level; or a moment, for a wait; or `alarm`.
 pub(crate) fn input_of(text: &str) -> Input {
-    let [at, switch, level] = numbers_in(text);
+    let [at, switch] = [number_at(text, 0), number_at(text, 1)];
     match u16::try_from(switch) {
         Ok(number) => Input::Change {
             at,
             switch: SwitchId(number),
-            level: level == 1,
+            level: number_at(text, 2) == 1,
         },
         Err(_) => if at == u64::MAX {
             Input::Alarm
@@ -28,31 +34,21 @@ pub(crate) fn input_of(text: &str) -> Input {
     }
 }
 
-/// Adds what comes of one input: its lines, or the number and the name of its refusal; then the
-/// latest moment, and that of the alarm that is due next.
-fn step<D: Device, B: Board>(
-    out: &mut String,
-    rig: &mut Rig<'_, D, B>,
-    input: Input,
-) -> Result<(), AllocError> {
-    match rig.step(input) {
-        Ok(lines) => write!(out, "{lines:?}")?,
-        Err(fault) => write!(out, "{} {fault}", fault.number())?,
-    }
-    write!(out, " {} {:?}; ", rig.now(), rig.next_due())
-}
-
-/// Adds what comes of the inputs in turn, and the lines of the latest stimulus.
-fn step_all<D: Device, B: Board>(
+/// Adds for each input its lines, or the number and the name of its refusal; then the latest moment,
+/// and that of the alarm that is due next. At the end stand the lines of the latest stimulus.
+fn add_steps<D: Device, B: Board>(
     out: &mut String,
     rig: &mut Rig<'_, D, B>,
     inputs: &str,
 ) -> Result<(), AllocError> {
     for text in inputs.split(',') {
-        let input = input_of(text);
-        step(out, rig, input)?;
+        match rig.step(input_of(text)) {
+            Ok(lines) => add(out, &lines)?,
+            Err(fault) => write!(out, "{} {fault} ", fault.number())?,
+        }
+        add(out, &(rig.now(), rig.next_due()))?;
     }
-    write!(out, "{:?}", rig.trace())
+    add(out, &rig.trace())
 }
 
 /// Answers to inputs, in a machine of the configuration.
@@ -61,17 +57,15 @@ pub(crate) fn stepped(
     out: &mut String,
     config: &Config,
     inputs: &str,
-) -> Result<(), Fail> {
-    let checked = check(alloc, config)?;
+) -> Result<(), AllocError> {
+    let Ok(checked) = check(alloc, config) else {
+        return out.push_str("refused");
+    };
     let devices: Vec<Counter> = Vec::new(alloc);
-    let mut rig = Rig::new(alloc, &checked, devices, MemoryBoard::new(alloc)?)?;
-    Ok(step_all(out, &mut rig, inputs)?)
-}
-
-/// What `check_moment` answers to the latest moment and the next.
-pub(crate) fn admitted(out: &mut String, moments: &str) -> Result<(), AllocError> {
-    let [latest, at, _] = numbers_in(moments);
-    write!(out, "{:?}", check_moment(latest, at))
+    match Rig::new(alloc, &checked, devices, MemoryBoard::new(alloc)?) {
+        Ok(mut rig) => add_steps(out, &mut rig, inputs),
+        Err(_) => out.push_str("no rig"),
+    }
 }
 
 // A normal switch, 0, and a quick one, 1, whose activation posts `a`, which posts `b` twice.
@@ -85,53 +79,88 @@ event_player:
   s_quick_active: a
   a: b b
 ?
-100 0 1 => [] 100 Some(105); []
-100 0 1,alarm => [] 100 Some(105); \
+steps 100 0 1 => [] (100, Some(105)) []
+steps 100 0 1,alarm => [] (100, Some(105)) \
 [Line { moment: 105, owner: Machine, happening: Switch(SwitchId(0), true) }, \
-Line { moment: 105, owner: Machine, happening: Event(EventId(0)) }] 105 None; \
+Line { moment: 105, owner: Machine, happening: Event(EventId(0)) }] (105, None) \
 [Line { moment: 105, owner: Machine, happening: Switch(SwitchId(0), true) }, \
 Line { moment: 105, owner: Machine, happening: Event(EventId(0)) }]
-7 1 1 => [Line { moment: 7, owner: Machine, happening: Switch(SwitchId(1), true) }, \
+steps 7 1 1 => [Line { moment: 7, owner: Machine, happening: Switch(SwitchId(1), true) }, \
 Line { moment: 7, owner: Machine, happening: Event(EventId(2)) }, \
 Line { moment: 7, owner: Machine, happening: Event(EventId(4)) }, \
 Line { moment: 7, owner: Machine, happening: Event(EventId(5)) }, \
-Line { moment: 7, owner: Machine, happening: Event(EventId(5)) }] 7 None; \
+Line { moment: 7, owner: Machine, happening: Event(EventId(5)) }] (7, None) \
 [Line { moment: 7, owner: Machine, happening: Switch(SwitchId(1), true) }, \
 Line { moment: 7, owner: Machine, happening: Event(EventId(2)) }, \
 Line { moment: 7, owner: Machine, happening: Event(EventId(4)) }, \
 Line { moment: 7, owner: Machine, happening: Event(EventId(5)) }, \
 Line { moment: 7, owner: Machine, happening: Event(EventId(5)) }]
-100 0 1,99 2 1,99 0 1,1099511627776 0 1,105 0 0 => \
-[] 100 Some(105); \
-3 NoSuchSwitch 100 Some(105); \
-1 Backwards 100 Some(105); \
-2 TooLate 100 Some(105); \
-6 AlarmPending 100 Some(105); []
-100 0 1,99,1099511627776,105,104 => \
-[] 100 Some(105); \
-1 Backwards 100 Some(105); \
-2 TooLate 100 Some(105); \
-6 AlarmPending 100 Some(105); \
-[] 104 Some(105); []
-alarm,1099511627775 0 1,alarm => \
-7 NoAlarm 0 None; \
-[] 1099511627775 Some(1099511627780); \
-2 TooLate 1099511627775 Some(1099511627780); []";
+steps 100 0 1,99 2 1,99 0 1,1099511627776 0 1,105 0 0 => \
+[] (100, Some(105)) \
+3 NoSuchSwitch (100, Some(105)) \
+1 Backwards (100, Some(105)) \
+2 TooLate (100, Some(105)) \
+6 AlarmPending (100, Some(105)) []
+steps 100 0 1,99,1099511627776,105,104 => \
+[] (100, Some(105)) \
+1 Backwards (100, Some(105)) \
+2 TooLate (100, Some(105)) \
+6 AlarmPending (100, Some(105)) \
+[] (104, Some(105)) []
+steps alarm,1099511627775 0 1,alarm => \
+7 NoAlarm (0, None) \
+[] (1099511627775, Some(1099511627780)) \
+2 TooLate (1099511627775, Some(1099511627780)) []
+
+?
+moments 100 100 => Ok(())
+moments 100 99 => Err(Backwards)
+moments 0 1099511627775 => Ok(())
+moments 0 1099511627776 => Err(TooLate)
+moments 1099511627777 1099511627776 => Err(Backwards)";
+
+// A bounce is forgotten. The least moment is due first, and of equal ones the lowest number.
+const LEVELS: &str = "\
+switches:
+  a:
+    debounce: normal
+  b:
+    type: NC
+    debounce: quick
+  c:
+    debounce: normal
+?
+steps 100 0 1,alarm,105 0 0,alarm,200 0 1,203 0 0 => [] (100, Some(105)) \
+[Line { moment: 105, owner: Machine, happening: Switch(SwitchId(0), true) }, \
+Line { moment: 105, owner: Machine, happening: Event(EventId(0)) }] (105, None) \
+[] (105, Some(110)) \
+[Line { moment: 110, owner: Machine, happening: Switch(SwitchId(0), false) }, \
+Line { moment: 110, owner: Machine, happening: Event(EventId(1)) }] (110, None) \
+[] (200, Some(205)) \
+[] (203, None) []
+steps 0 1 1,7 1 0 => [] (0, None) \
+[Line { moment: 7, owner: Machine, happening: Switch(SwitchId(1), true) }, \
+Line { moment: 7, owner: Machine, happening: Event(EventId(2)) }] (7, None) \
+[Line { moment: 7, owner: Machine, happening: Switch(SwitchId(1), true) }, \
+Line { moment: 7, owner: Machine, happening: Event(EventId(2)) }]
+steps 10 2 1,10 0 1,alarm,alarm,20 2 0,21 0 0,alarm => [] (10, Some(15)) \
+[] (10, Some(15)) \
+[Line { moment: 15, owner: Machine, happening: Switch(SwitchId(0), true) }, \
+Line { moment: 15, owner: Machine, happening: Event(EventId(0)) }] (15, Some(15)) \
+[Line { moment: 15, owner: Machine, happening: Switch(SwitchId(2), true) }, \
+Line { moment: 15, owner: Machine, happening: Event(EventId(4)) }] (15, None) \
+[] (20, Some(25)) \
+[] (21, Some(25)) \
+[Line { moment: 25, owner: Machine, happening: Switch(SwitchId(2), false) }, \
+Line { moment: 25, owner: Machine, happening: Event(EventId(5)) }] (25, Some(26)) \
+[Line { moment: 25, owner: Machine, happening: Switch(SwitchId(2), false) }, \
+Line { moment: 25, owner: Machine, happening: Event(EventId(5)) }]";
 
 #[test]
 fn steps(rt: HostRuntime) -> Result<(), Fail> {
-    assert_cases(&rt, Subject::Steps, STEPS)
-}
-
-const MOMENTS: &str = "\
-?
-100 100 => Ok(())
-100 99 => Err(Backwards)
-0 1099511627775 => Ok(())
-0 1099511627776 => Err(TooLate)
-1099511627777 1099511627776 => Err(Backwards)";
-
-#[test]
-fn moments(rt: HostRuntime) -> Result<(), Fail> {
-    assert_cases(&rt, Subject::Moments, MOMENTS)
+    for table in [STEPS, LEVELS] {
+        let wrong = wrong_rows(rt.alloc(), table)?;
+        assert_eq!(rt; wrong.as_str(), "");
+    }
+    Ok(())
 }
