@@ -20,7 +20,10 @@ use mpf_config::{
     Coil, Entry, Section, Shot, as_autofire, as_coil, as_flipper, as_switch, min_balls,
 };
 use mpf_sections::{BallDevice, as_ball_device};
-use mpf_tables::tables::DEFAULT_PROFILE;
+use mpf_tables::tables::{
+    AUTOFIRE_COILS_NAME, BALL_DEVICES_NAME, COILS_NAME, DEFAULT_PROFILE, FLIPPERS_NAME,
+    SWITCHES_NAME,
+};
 use std::alloc::{AllocError, Global};
 use std::collections::{BTreeMap, BTreeSet};
 use std::marker::Model;
@@ -147,6 +150,7 @@ impl<'a> Definitions<'a> {
 }
 
 /// The coils of all sections, by their names.
+#[tactic(auto, unfolding(mpf_sections::specs::TypedCoils::coils_in))]
 fn coils_of<'a>(
     alloc: Global,
     sections: &'a [Section],
@@ -155,7 +159,7 @@ fn coils_of<'a>(
 {
     let mut coils = BTreeMap::new(alloc);
     for section in sections {
-        add_coils(&mut coils, section.coils())?;
+        add_coils(&mut coils, section.entries_of(COILS_NAME))?;
     }
     Ok(coils)
 }
@@ -182,7 +186,7 @@ fn ball_devices_of<'a>(
 {
     let mut devices = BTreeMap::new(alloc);
     for section in sections {
-        add_ball_devices(&mut devices, section.ball_devices())?;
+        add_ball_devices(&mut devices, section.entries_of(BALL_DEVICES_NAME))?;
     }
     Ok(devices)
 }
@@ -201,12 +205,13 @@ fn add_ball_devices<'a>(
 }
 
 /// The names of the switches of all sections.
+#[tactic(auto, unfolding(mpf_sections::specs::Typed::switches_in))]
 fn switches_of<'a>(alloc: Global, sections: &'a [Section]) -> Result<BTreeSet<&'a [u8]>, AllocError>
     ensures { IfOk result (λ names. HasSwitches (map section_view sections.now) names) }
 {
     let mut names = BTreeSet::new(alloc);
     for section in sections {
-        add_switches(&mut names, section.switches())?;
+        add_switches(&mut names, section.entries_of(SWITCHES_NAME))?;
     }
     Ok(names)
 }
@@ -221,13 +226,14 @@ fn add_switches<'a>(names: &mut BTreeSet<&'a [u8]>, entries: &'a [Entry]) -> Res
 }
 
 /// The names of the switches of all flippers and autofire coils.
+#[tactic(auto, unfolding(mpf_sections::specs::TypedCoils::flippers_in, mpf_sections::specs::TypedCoils::autofires_in))]
 fn quick_of<'a>(alloc: Global, sections: &'a [Section]) -> Result<BTreeSet<&'a [u8]>, AllocError>
     ensures { IfOk result (λ names. HasQuick (map section_view sections.now) names) }
 {
     let mut names = BTreeSet::new(alloc);
     for section in sections {
-        add_flippers(&mut names, section.flippers())?;
-        add_autofires(&mut names, section.autofires())?;
+        add_flippers(&mut names, section.entries_of(FLIPPERS_NAME))?;
+        add_autofires(&mut names, section.entries_of(AUTOFIRE_COILS_NAME))?;
     }
     Ok(names)
 }

@@ -11,7 +11,7 @@ ghost use Rattle.machine_definitions.specs.Found.{names_view, profile_view, foun
 use crate::profile::Profile;
 use mpf_config::config::{Config, ModeText};
 use mpf_config::{Entry, Fields, Section, Shot, as_shot, as_shot_profile, as_state};
-use mpf_tables::tables::DEFAULT_PROFILE;
+use mpf_tables::tables::{DEFAULT_PROFILE, SHOT_PROFILES_NAME, SHOTS_NAME};
 use std::alloc::{AllocError, Global};
 use std::collections::BTreeMap;
 
@@ -35,6 +35,7 @@ pub(crate) fn shots_of<'a>(
 }
 
 /// Adds those of a text.
+#[tactic(auto, unfolding(mpf_sections::specs::TypedShots::shots_in))]
 fn add_text_shots<'a>(
     shots: &mut BTreeMap<&'a [u8], Shot<'a>>,
     sections: &'a [Section],
@@ -42,7 +43,7 @@ fn add_text_shots<'a>(
     ensures { OnOk result ((name : List ℕ) → found_shot shots.new name ≡ fold (latest_shot name) (found_shot shots.old name) (flat_map shots_in (map section_view sections.now))) }
 {
     for section in sections {
-        add_shots(shots, section.shots())?;
+        add_shots(shots, section.entries_of(SHOTS_NAME))?;
     }
     Ok(())
 }
@@ -88,7 +89,7 @@ fn add_text_profiles<'a>(
     ensures { OnOk result ((name : List ℕ) → found_profile profiles.new name ≡ fold (latest_profile name) (found_profile profiles.old name) (map profile_of (flat_map shot_profiles_in (map section_view sections.now)))) }
 {
     for section in sections {
-        add_profiles(alloc, profiles, section.shot_profiles())?;
+        add_profiles(alloc, profiles, section.entries_of(SHOT_PROFILES_NAME))?;
     }
     Ok(())
 }

@@ -1,5 +1,5 @@
 -- What holds of ball devices, by the names of their settings: their names are names, and their settings are in their ranges.
-use Rattle.std.proofs.Common.{ℕ, nat_le, Option, Some, None, slice_get, refl, arith}
+use Rattle.std.proofs.Common.{◌≡◌, ℕ, nat_le, Option, Some, None, map, slice_get, refl, arith}
 use Rattle.std.specs.List.{All}
 use Rattle.std.proofs.lemmas.List.Elements.{All-map, All-weaker}
 use Rattle.section_tables.specs.Rows.{nothing, flag, number, time, power, word, name, event, Value, one, names, posts, events, steps, maps, keyed, Entry}
@@ -78,3 +78,8 @@ ball_devices_short s h =
     let es = entries_of ball_devices_name s in
     All-map IsShortBallDevice ball_device_of es
     (All-weaker (IsShortEntry 1024) (λ e. IsShortBallDevice (ball_device_of e)) ball_device_short es (entries_of_short ball_devices_name s h))
+
+-- The ball devices of a section are its entries, where it is `ball_devices`.
+pub ball_devices_are : (s : SectionRows) → map ball_device_of (entries_of ball_devices_name s) ≡ ball_devices_in s
+unfolding ball_devices_in
+ball_devices_are s = refl

@@ -1,15 +1,14 @@
 //! The entries of `ball_devices`, by the names of their settings.
 
-ghost use Rattle.std.specs.Prelude.{◌≡◌, map, slice_get};
+ghost use Rattle.std.specs.Prelude.{◌≡◌, slice_get};
 ghost use Rattle.section_tables.specs.View.{values_view};
 ghost use Rattle.mpf_sections.specs.Typed.{natural_within};
-ghost use Rattle.mpf_sections.specs.TypedBalls.{ball_device_of, is_tagged, is_trough, is_home, is_drain, ball_devices_in};
-ghost use Rattle.mpf_sections.specs.View.{entry_view, section_view, ball_device_view};
+ghost use Rattle.mpf_sections.specs.TypedBalls.{ball_device_of, is_tagged, is_trough, is_home, is_drain};
+ghost use Rattle.mpf_sections.specs.View.{entry_view, ball_device_view};
 
-use crate::section::Section;
 use crate::typed::NameAt;
 use crate::values::{few_names, flag, name, name_or, names, some_time, text};
-use mpf_tables::tables::{BALL_DEVICES_NAME, PLAYFIELD};
+use mpf_tables::tables::PLAYFIELD;
 use section_tables::rows::{Entry, Name, Plain, Value};
 
 /// An entry of `ball_devices`.
@@ -122,16 +121,5 @@ impl BallDevice<'_> {
         ensures { result ≡ is_drain (ball_device_view self.now) }
     {
         self.is_tagged(DRAIN)
-    }
-}
-
-impl Section {
-    /// The entries of `ball_devices`, each to be read with [`as_ball_device`]; none of any other
-    /// section.
-    #[tactic(auto, unfolding(crate::specs::TypedBalls::ball_devices_in))]
-    pub fn ball_devices(&self) -> &[Entry]
-        ensures { map ball_device_of (map entry_view result.now) ≡ ball_devices_in (section_view self.now) }
-    {
-        self.entries_of(BALL_DEVICES_NAME)
     }
 }

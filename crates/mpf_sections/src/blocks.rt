@@ -1,15 +1,13 @@
 //! The entries of `counters`, `accruals` and `sequences`, by the names of their settings.
 
-ghost use Rattle.std.specs.Prelude.{◌≡◌, ◌≤◌, map};
+ghost use Rattle.std.specs.Prelude.{◌≡◌, ◌≤◌};
 ghost use Rattle.section_tables.specs.View.{values_view};
-ghost use Rattle.mpf_sections.specs.Typed.{counter_of, step_block_of, counters_in, accruals_in, sequences_in};
-ghost use Rattle.mpf_sections.specs.View.{entry_view, section_view, block_view, counter_view, step_block_view};
+ghost use Rattle.mpf_sections.specs.Typed.{counter_of, step_block_of};
+ghost use Rattle.mpf_sections.specs.View.{entry_view, block_view, counter_view, step_block_view};
 ghost use Rattle.mpf_sections.specs.Inside.{block_at};
 
-use crate::section::Section;
 use crate::values::{direction, flag, handlers, limit, milliseconds, number, posts_at, steps};
 use crate::words::Direction;
-use mpf_tables::tables::{ACCRUALS_NAME, COUNTERS_NAME, SEQUENCES_NAME};
 use section_tables::rows::{Entry, Handler, Name, Value};
 
 /// The settings that all logic blocks have.
@@ -129,33 +127,5 @@ pub fn as_step_block(entry: &Entry) -> StepBlock<'_>
         name: &entry.name,
         steps: steps(row, EVENTS),
         block: as_block(row, BLOCK_OF_STEPS),
-    }
-}
-
-impl Section {
-    /// The entries of `counters`, each to be read with [`as_counter`]; none of any other section.
-    #[tactic(auto, unfolding(crate::specs::Typed::counters_in))]
-    pub fn counters(&self) -> &[Entry]
-        ensures { map counter_of (map entry_view result.now) ≡ counters_in (section_view self.now) }
-    {
-        self.entries_of(COUNTERS_NAME)
-    }
-
-    /// The entries of `accruals`, each to be read with [`as_step_block`]; none of any other
-    /// section.
-    #[tactic(auto, unfolding(crate::specs::Typed::accruals_in))]
-    pub fn accruals(&self) -> &[Entry]
-        ensures { map step_block_of (map entry_view result.now) ≡ accruals_in (section_view self.now) }
-    {
-        self.entries_of(ACCRUALS_NAME)
-    }
-
-    /// The entries of `sequences`, each to be read with [`as_step_block`]; none of any other
-    /// section.
-    #[tactic(auto, unfolding(crate::specs::Typed::sequences_in))]
-    pub fn sequences(&self) -> &[Entry]
-        ensures { map step_block_of (map entry_view result.now) ≡ sequences_in (section_view self.now) }
-    {
-        self.entries_of(SEQUENCES_NAME)
     }
 }

@@ -1,14 +1,12 @@
 //! The entries of `flippers` and `autofire_coils`, by the names of their settings.
 
-ghost use Rattle.std.specs.Prelude.{◌≡◌, map};
+ghost use Rattle.std.specs.Prelude.{◌≡◌};
 ghost use Rattle.mpf_sections.specs.Inside.{needed_at};
-ghost use Rattle.mpf_sections.specs.TypedCoils.{flipper_of, autofire_of, flippers_in, autofires_in};
-ghost use Rattle.mpf_sections.specs.View.{entry_view, section_view, name_at_view, flipper_view, autofire_view};
+ghost use Rattle.mpf_sections.specs.TypedCoils.{flipper_of, autofire_of};
+ghost use Rattle.mpf_sections.specs.View.{entry_view, name_at_view, flipper_view, autofire_view};
 
-use crate::section::Section;
 use crate::typed::NameAt;
 use crate::values::{handlers, name, text};
-use mpf_tables::tables::{AUTOFIRE_COILS_NAME, FLIPPERS_NAME};
 use section_tables::rows::{Entry, Handler, Name};
 
 /// An entry of `flippers`.
@@ -102,24 +100,5 @@ pub fn as_autofire(entry: &Entry) -> Autofire<'_>
         switch: needed_name(entry, SWITCH),
         enables: handlers(row, AUTOFIRE_ENABLES),
         disables: handlers(row, AUTOFIRE_DISABLES),
-    }
-}
-
-impl Section {
-    /// The entries of `flippers`, each to be read with [`as_flipper`]; none of any other section.
-    #[tactic(auto, unfolding(crate::specs::TypedCoils::flippers_in))]
-    pub fn flippers(&self) -> &[Entry]
-        ensures { map flipper_of (map entry_view result.now) ≡ flippers_in (section_view self.now) }
-    {
-        self.entries_of(FLIPPERS_NAME)
-    }
-
-    /// The entries of `autofire_coils`, each to be read with [`as_autofire`]; none of any other
-    /// section.
-    #[tactic(auto, unfolding(crate::specs::TypedCoils::autofires_in))]
-    pub fn autofires(&self) -> &[Entry]
-        ensures { map autofire_of (map entry_view result.now) ≡ autofires_in (section_view self.now) }
-    {
-        self.entries_of(AUTOFIRE_COILS_NAME)
     }
 }

@@ -1,14 +1,12 @@
 //! The entries of `coils` and `coil_player`, by the names of their settings.
 
-ghost use Rattle.std.specs.Prelude.{◌≡◌, map, unwrap_or};
-ghost use Rattle.mpf_sections.specs.TypedCoils.{may_hold, max_hold_power, coil_action_of, coil_of, coil_item_of, coil_player_of, coils_in, coil_players_in};
-ghost use Rattle.mpf_sections.specs.View.{keyed_view, entry_view, player_view, section_view, coil_view, coil_item_view, coil_player_view};
+ghost use Rattle.std.specs.Prelude.{◌≡◌, unwrap_or};
+ghost use Rattle.mpf_sections.specs.TypedCoils.{may_hold, max_hold_power, coil_action_of, coil_of, coil_item_of, coil_player_of};
+ghost use Rattle.mpf_sections.specs.View.{keyed_view, entry_view, player_view, coil_view, coil_item_view, coil_player_view};
 
-use crate::section::Section;
 use crate::typed::HandledAt;
 use crate::values::{field, flag, handled, keyed, power, pulse, text, word_field};
 use crate::words::CoilAction;
-use mpf_tables::tables::{COIL_PLAYER_NAME, COILS_NAME};
 use section_tables::rows::{Entry, Keyed, Name, Player};
 
 /// An entry of `coils`. Powers are in thousandths of full power.
@@ -158,24 +156,5 @@ pub fn as_coil_player(player: &Player) -> CoilPlayer<'_>
     CoilPlayer {
         event: handled(&player.event),
         items: keyed(&player.value),
-    }
-}
-
-impl Section {
-    /// The entries of `coils`, each to be read with [`as_coil`]; none of any other section.
-    #[tactic(auto, unfolding(crate::specs::TypedCoils::coils_in))]
-    pub fn coils(&self) -> &[Entry]
-        ensures { map coil_of (map entry_view result.now) ≡ coils_in (section_view self.now) }
-    {
-        self.entries_of(COILS_NAME)
-    }
-
-    /// The entries of `coil_player`, each to be read with [`as_coil_player`]; none of any other
-    /// section.
-    #[tactic(auto, unfolding(crate::specs::TypedCoils::coil_players_in))]
-    pub fn coil_players(&self) -> &[Player]
-        ensures { map coil_player_of (map player_view result.now) ≡ coil_players_in (section_view self.now) }
-    {
-        self.players_of(COIL_PLAYER_NAME)
     }
 }

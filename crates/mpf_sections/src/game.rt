@@ -1,14 +1,14 @@
 //! The entries of `machine`, `game` and `variable_player`, by the names of their settings.
 
 ghost use Rattle.std.specs.Prelude.{◌≡◌, map};
-ghost use Rattle.mpf_sections.specs.TypedGame.{variable_action_of, variable_item_of, variable_player_of, variable_players_in, game_of, min_balls_of};
+ghost use Rattle.mpf_sections.specs.TypedGame.{variable_action_of, variable_item_of, variable_player_of, game_of, min_balls_of};
 ghost use Rattle.mpf_sections.specs.View.{keyed_view, entry_view, player_view, section_view, variable_item_view, variable_player_view, game_view};
 
 use crate::section::{Content, Section};
 use crate::typed::{HandledAt, section_named};
 use crate::values::{change, handled, keyed, natural_within, word_field};
 use crate::words::VariableAction;
-use mpf_tables::tables::{MACHINE_SECTION_NAME, VARIABLE_PLAYER_NAME};
+use mpf_tables::tables::MACHINE_SECTION_NAME;
 use section_tables::rows::{Entry, Keyed, Name, Player};
 
 /// What is done with a variable where an event is handled.
@@ -107,16 +107,5 @@ pub fn min_balls(sections: &[Section]) -> u32
     match section_named(sections, MACHINE_SECTION_NAME) {
         Some(Content::Entry(entry)) => natural_within(&entry.values, MIN_BALLS, 0, 99, 1),
         _ => 1,
-    }
-}
-
-impl Section {
-    /// The entries of `variable_player`, each to be read with [`as_variable_player`]; none of any
-    /// other section.
-    #[tactic(auto, unfolding(crate::specs::TypedGame::variable_players_in))]
-    pub fn variable_players(&self) -> &[Player]
-        ensures { map variable_player_of (map player_view result.now) ≡ variable_players_in (section_view self.now) }
-    {
-        self.players_of(VARIABLE_PLAYER_NAME)
     }
 }

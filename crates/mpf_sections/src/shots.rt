@@ -3,13 +3,12 @@
 ghost use Rattle.std.specs.Prelude.{◌≡◌, map, option_map, slice_get};
 ghost use Rattle.section_tables.specs.View.{values_view};
 ghost use Rattle.mpf_sections.specs.Typed.{listed_maps};
-ghost use Rattle.mpf_sections.specs.TypedShots.{few, shot_of, shot_group_of, state_of, shot_profile_of, shots_in, shot_groups_in, shot_profiles_in};
-ghost use Rattle.mpf_sections.specs.View.{fields_view, entry_view, section_view, name_at_view, shot_view, shot_group_view, shot_profile_view};
+ghost use Rattle.mpf_sections.specs.TypedShots.{few, shot_of, shot_group_of, state_of, shot_profile_of};
+ghost use Rattle.mpf_sections.specs.View.{fields_view, entry_view, name_at_view, shot_view, shot_group_view, shot_profile_view};
 
-use crate::section::Section;
 use crate::typed::NameAt;
 use crate::values::{few_names, field, flag, handlers, maps, name, name_or, text};
-use mpf_tables::tables::{DEFAULT_PROFILE, SHOT_GROUPS_NAME, SHOT_PROFILES_NAME, SHOTS_NAME};
+use mpf_tables::tables::DEFAULT_PROFILE;
 use section_tables::rows::{Entry, Fields, Handler, Name, Value};
 
 /// An entry of `shots`.
@@ -159,33 +158,5 @@ pub fn as_shot_profile(entry: &Entry) -> ShotProfile<'_>
         states: few_maps(row, STATES),
         advance_on_hit: flag(row, ADVANCE_ON_HIT),
         loops: flag(row, LOOP),
-    }
-}
-
-impl Section {
-    /// The entries of `shots`, each to be read with [`as_shot`]; none of any other section.
-    #[tactic(auto, unfolding(crate::specs::TypedShots::shots_in))]
-    pub fn shots(&self) -> &[Entry]
-        ensures { map shot_of (map entry_view result.now) ≡ shots_in (section_view self.now) }
-    {
-        self.entries_of(SHOTS_NAME)
-    }
-
-    /// The entries of `shot_groups`, each to be read with [`as_shot_group`]; none of any other
-    /// section.
-    #[tactic(auto, unfolding(crate::specs::TypedShots::shot_groups_in))]
-    pub fn shot_groups(&self) -> &[Entry]
-        ensures { map shot_group_of (map entry_view result.now) ≡ shot_groups_in (section_view self.now) }
-    {
-        self.entries_of(SHOT_GROUPS_NAME)
-    }
-
-    /// The entries of `shot_profiles`, each to be read with [`as_shot_profile`]; none of any other
-    /// section.
-    #[tactic(auto, unfolding(crate::specs::TypedShots::shot_profiles_in))]
-    pub fn shot_profiles(&self) -> &[Entry]
-        ensures { map shot_profile_of (map entry_view result.now) ≡ shot_profiles_in (section_view self.now) }
-    {
-        self.entries_of(SHOT_PROFILES_NAME)
     }
 }

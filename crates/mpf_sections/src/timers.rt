@@ -1,16 +1,14 @@
 //! The entries of `timers`, by the names of their settings.
 
 ghost use Rattle.std.specs.Prelude.{◌≡◌, map, option_map};
-ghost use Rattle.mpf_sections.specs.Typed.{action_of, end_from, interval_from, control_of, timer_of, timers_in};
-ghost use Rattle.mpf_sections.specs.View.{fields_view, entry_view, section_view, control_view, timer_view};
+ghost use Rattle.mpf_sections.specs.Typed.{action_of, end_from, interval_from, control_of, timer_of};
+ghost use Rattle.mpf_sections.specs.View.{fields_view, entry_view, control_view, timer_view};
 
-use crate::section::Section;
 use crate::typed::HandledAt;
 use crate::values::{
     direction, event, field, flag, limit, maps, milliseconds, number, number_field, word_field,
 };
 use crate::words::{ControlAction, Direction};
-use mpf_tables::tables::TIMERS_NAME;
 use section_tables::rows::{Entry, Fields, Name};
 
 /// An event that controls a timer.
@@ -159,15 +157,5 @@ pub fn as_timer(entry: &Entry) -> Timer<'_>
         start_running: flag(row, START_RUNNING),
         restart: flag(row, RESTART_ON_COMPLETE),
         controls: maps(row, CONTROL_EVENTS),
-    }
-}
-
-impl Section {
-    /// The entries of `timers`, each to be read with [`as_timer`]; none of any other section.
-    #[tactic(auto, unfolding(crate::specs::Typed::timers_in))]
-    pub fn timers(&self) -> &[Entry]
-        ensures { map timer_of (map entry_view result.now) ≡ timers_in (section_view self.now) }
-    {
-        self.entries_of(TIMERS_NAME)
     }
 }

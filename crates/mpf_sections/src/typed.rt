@@ -1,14 +1,14 @@
 //! The entries of sections, by the names of their settings.
 
 ghost use Rattle.std.specs.Prelude.{◌≡◌, None, map, option_map};
-ghost use Rattle.section_tables.specs.View.{name_view, handler_view, values_view, entry_view, entries_view, player_view, players_view};
-ghost use Rattle.mpf_sections.specs.Typed.{mode_settings_of, mode_row, mode_settings, listed_modes, content_named, contact_of, debounce_of, switch_of, event_player_of, entries_in, players_in, entries_of, players_of, switches_in, event_players_in};
+ghost use Rattle.section_tables.specs.View.{name_view, handler_view, values_view, entry_view, player_view};
+ghost use Rattle.mpf_sections.specs.Typed.{mode_settings_of, mode_row, mode_settings, listed_modes, content_named, contact_of, debounce_of, switch_of, event_player_of, entries_in, players_in, entries_of, players_of};
 ghost use Rattle.mpf_sections.specs.View.{content_view, section_view, handled_at_view, switch_view, event_player_view, mode_settings_view};
 
 use crate::section::{Content, Section};
 use crate::values::{flag, handled, handlers, names, natural, posts, posts_at, word};
 use crate::words::{Contact, Debounce};
-use mpf_tables::tables::{EVENT_PLAYER_NAME, MODE_NAME, MODES_NAME, SWITCHES_NAME};
+use mpf_tables::tables::{MODE_NAME, MODES_NAME};
 use section_tables::rows::{Entry, Guard, Handler, Name, Player, Value};
 
 /// A name where it is written.
@@ -249,7 +249,8 @@ impl Content {
 }
 
 impl Section {
-    /// The entries of the section, where it has this name; none otherwise.
+    /// The entries of the section, where it has this name; none otherwise. Those of `switches` are to be
+    /// read with [`as_switch`], and so on. `mpf_tables::tables` has the names.
     pub fn entries_of(&self, name: &[u8]) -> &[Entry]
         ensures { map entry_view result.now ≡ entries_of name.now (section_view self.now) }
     {
@@ -267,22 +268,5 @@ impl Section {
             return self.content.players();
         }
         &[]
-    }
-
-    /// The entries of `switches`, each to be read with [`as_switch`]; none of any other section.
-    #[tactic(auto, unfolding(crate::specs::Typed::switches_in))]
-    pub fn switches(&self) -> &[Entry]
-        ensures { map switch_of (map entry_view result.now) ≡ switches_in (section_view self.now) }
-    {
-        self.entries_of(SWITCHES_NAME)
-    }
-
-    /// The entries of `event_player`, each to be read with [`as_event_player`]; none of any other
-    /// section.
-    #[tactic(auto, unfolding(crate::specs::Typed::event_players_in))]
-    pub fn event_players(&self) -> &[Player]
-        ensures { map event_player_of (map player_view result.now) ≡ event_players_in (section_view self.now) }
-    {
-        self.players_of(EVENT_PLAYER_NAME)
     }
 }

@@ -217,6 +217,7 @@ fn has_row(place: Place, grouped: &BTreeSet<&[u8]>, section: &[u8], entry: &Entr
 // ---- shots in groups
 
 /// The shots that the groups of a text list.
+#[tactic(auto, unfolding(mpf_sections::specs::TypedShots::shot_groups_in))]
 fn grouped_shots<'a>(
     alloc: Global,
     sections: &'a [Section],
@@ -225,7 +226,7 @@ fn grouped_shots<'a>(
 {
     let mut names = BTreeSet::new(alloc);
     for section in sections {
-        take_groups(&mut names, section.shot_groups())?;
+        take_groups(&mut names, section.entries_of(SHOT_GROUPS_NAME))?;
     }
     Ok(names)
 }

@@ -3,6 +3,7 @@
 use crate::pen::Pen;
 use mpf_config::Section;
 use mpf_sections::{BallDevice, as_ball_device};
+use mpf_tables::tables::BALL_DEVICES_NAME;
 
 /// Texts with one section, and its entries or their fault.
 pub(crate) const SECTIONS: &str = "\
@@ -89,7 +90,7 @@ fn show_ball_device(pen: &mut Pen, device: BallDevice<'_>) {
 
 /// Adds the ball devices of a section.
 pub(crate) fn show_ball_devices(pen: &mut Pen, section: &Section) {
-    for entry in section.ball_devices() {
+    for entry in section.entries_of(BALL_DEVICES_NAME) {
         show_ball_device(pen, as_ball_device(entry));
     }
 }

@@ -11,6 +11,7 @@ use mpf_config::{
     Config, ConfigFault, MODES_NAME, ModeText, Note, Section, as_event_player, as_switch,
     listed_modes, mode_names, mode_settings, read_bundle, write_fault, write_note,
 };
+use mpf_tables::tables::{EVENT_PLAYER_NAME, SWITCHES_NAME};
 use std::test::Fail;
 
 // Lines of a machine text behind its version line, and their rows: a switch's name, its contact and
@@ -165,7 +166,7 @@ const MODE_NAMES: &str = "\
 ";
 
 fn show_switches(pen: &mut Pen, section: &Section) {
-    for entry in section.switches() {
+    for entry in section.entries_of(SWITCHES_NAME) {
         let row = as_switch(entry);
         pen.entry(row.name);
         pen.shown(row.contact);
@@ -179,7 +180,7 @@ fn show_switches(pen: &mut Pen, section: &Section) {
 }
 
 fn show_players(pen: &mut Pen, section: &Section) {
-    for player in section.event_players() {
+    for player in section.players_of(EVENT_PLAYER_NAME) {
         let row = as_event_player(player);
         pen.put(" ");
         pen.handled(row.event);

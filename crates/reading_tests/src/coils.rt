@@ -2,6 +2,7 @@
 
 use crate::pen::Pen;
 use mpf_config::{Keyed, Section, as_autofire, as_coil, as_coil_item, as_coil_player, as_flipper};
+use mpf_tables::tables::{AUTOFIRE_COILS_NAME, COIL_PLAYER_NAME, COILS_NAME, FLIPPERS_NAME};
 
 /// Texts, and what is read of them. A coil is shown by its name, the length of its pulse and the greatest
 /// one, the power of its pulse and the greatest one, whether it may be held, the power with which it is held
@@ -19,7 +20,7 @@ pub(crate) const COILS: &str = "\
 ";
 
 fn show_coils(pen: &mut Pen, section: &Section) {
-    for entry in section.coils() {
+    for entry in section.entries_of(COILS_NAME) {
         let coil = as_coil(entry);
         pen.entry(coil.name);
         pen.also(coil.pulse_ms);
@@ -47,7 +48,7 @@ fn show_items(pen: &mut Pen, items: &[Keyed]) {
 }
 
 fn show_coil_players(pen: &mut Pen, section: &Section) {
-    for entry in section.coil_players() {
+    for entry in section.players_of(COIL_PLAYER_NAME) {
         let player = as_coil_player(entry);
         pen.put(" ");
         pen.handled(player.event);
@@ -58,7 +59,7 @@ fn show_coil_players(pen: &mut Pen, section: &Section) {
 }
 
 fn show_flippers(pen: &mut Pen, section: &Section) {
-    for entry in section.flippers() {
+    for entry in section.entries_of(FLIPPERS_NAME) {
         let flipper = as_flipper(entry);
         pen.entry(flipper.name);
         pen.name_at(Some(flipper.main_coil));
@@ -71,7 +72,7 @@ fn show_flippers(pen: &mut Pen, section: &Section) {
 }
 
 fn show_autofires(pen: &mut Pen, section: &Section) {
-    for entry in section.autofires() {
+    for entry in section.entries_of(AUTOFIRE_COILS_NAME) {
         let autofire = as_autofire(entry);
         pen.entry(autofire.name);
         pen.name_at(Some(autofire.coil));

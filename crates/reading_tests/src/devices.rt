@@ -2,6 +2,7 @@
 
 use crate::pen::Pen;
 use mpf_config::{Block, Entry, Fields, Section, as_control, as_counter, as_step_block, as_timer};
+use mpf_tables::tables::{ACCRUALS_NAME, COUNTERS_NAME, SEQUENCES_NAME, TIMERS_NAME};
 
 /// Texts, and what is read of them. A counter is shown by its name, the events that it counts, its value
 /// at first, its interval, its end, its direction and its window; an accrual or a sequence by its name and
@@ -50,7 +51,7 @@ fn show_block(pen: &mut Pen, block: Block<'_>) {
 }
 
 fn show_counters(pen: &mut Pen, section: &Section) {
-    for entry in section.counters() {
+    for entry in section.entries_of(COUNTERS_NAME) {
         let counter = as_counter(entry);
         pen.entry(counter.name);
         pen.handlers(counter.counts);
@@ -91,7 +92,7 @@ fn show_controls(pen: &mut Pen, controls: &[Fields]) {
 }
 
 fn show_timers(pen: &mut Pen, section: &Section) {
-    for entry in section.timers() {
+    for entry in section.entries_of(TIMERS_NAME) {
         let timer = as_timer(entry);
         pen.entry(timer.name);
         pen.also(timer.start);
@@ -109,7 +110,7 @@ fn show_timers(pen: &mut Pen, section: &Section) {
 /// Adds the logic blocks and the timers of a section.
 pub(crate) fn show_device_sections(pen: &mut Pen, section: &Section) {
     show_counters(pen, section);
-    show_step_blocks(pen, section.accruals());
-    show_step_blocks(pen, section.sequences());
+    show_step_blocks(pen, section.entries_of(ACCRUALS_NAME));
+    show_step_blocks(pen, section.entries_of(SEQUENCES_NAME));
     show_timers(pen, section);
 }

@@ -5,6 +5,7 @@ use mpf_config::{
     Content, GAME_NAME, Keyed, MACHINE_SECTION_NAME, Section, as_game, as_variable_item,
     as_variable_player, min_balls,
 };
+use mpf_tables::tables::VARIABLE_PLAYER_NAME;
 
 /// Texts, and what is read of them. The section `machine` is shown by how many balls a game needs, and `game` by
 /// how many balls each player has and how many players there may be; an entry of `variable_player` by its event,
@@ -37,7 +38,7 @@ fn show_items(pen: &mut Pen, items: &[Keyed]) {
 
 /// Adds the variable players of a section.
 pub(crate) fn show_variables(pen: &mut Pen, section: &Section) {
-    for entry in section.variable_players() {
+    for entry in section.players_of(VARIABLE_PLAYER_NAME) {
         let player = as_variable_player(entry);
         pen.put(" ");
         pen.handled(player.event);

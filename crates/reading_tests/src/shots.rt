@@ -2,6 +2,7 @@
 
 use crate::pen::Pen;
 use mpf_config::{Fields, Section, as_shot, as_shot_group, as_shot_profile, as_state};
+use mpf_tables::tables::{SHOT_GROUPS_NAME, SHOT_PROFILES_NAME, SHOTS_NAME};
 
 /// Texts with one section, which a machine and a mode have, and its entries or their fault.
 pub(crate) const SECTIONS: &str = "\
@@ -118,7 +119,7 @@ pub(crate) const SHOTS: &str = "\
 ";
 
 fn show_shots(pen: &mut Pen, section: &Section) {
-    for entry in section.shots() {
+    for entry in section.entries_of(SHOTS_NAME) {
         let shot = as_shot(entry);
         pen.entry(shot.name);
         pen.name_at(shot.switch);
@@ -133,7 +134,7 @@ fn show_shots(pen: &mut Pen, section: &Section) {
 }
 
 fn show_groups(pen: &mut Pen, section: &Section) {
-    for entry in section.shot_groups() {
+    for entry in section.entries_of(SHOT_GROUPS_NAME) {
         let group = as_shot_group(entry);
         pen.entry(group.name);
         pen.names(group.shots);
@@ -153,7 +154,7 @@ fn show_states(pen: &mut Pen, states: &[Fields]) {
 }
 
 fn show_profiles(pen: &mut Pen, section: &Section) {
-    for entry in section.shot_profiles() {
+    for entry in section.entries_of(SHOT_PROFILES_NAME) {
         let profile = as_shot_profile(entry);
         pen.entry(profile.name);
         pen.also(profile.advance_on_hit);

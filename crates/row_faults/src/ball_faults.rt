@@ -2,8 +2,8 @@
 
 ghost use Rattle.std.specs.Prelude.{◌≡◌, ◌++◌, map, option_map, OnOk};
 ghost use Rattle.std.specs.List.{flat_map};
-ghost use Rattle.mpf_sections.specs.TypedBalls.{ball_device_of};
-ghost use Rattle.mpf_sections.specs.View.{name_view, name_at_view, entry_view, ball_device_view};
+ghost use Rattle.mpf_sections.specs.TypedBalls.{ball_device_of, ball_devices_in};
+ghost use Rattle.mpf_sections.specs.View.{name_view, name_at_view, entry_view, section_view, ball_device_view};
 ghost use Rattle.row_faults.specs.CoilFaults.{switch_name_faults};
 ghost use Rattle.row_faults.specs.BallFaults.{is_place, eject_coil_faults, ball_device_faults};
 ghost use Rattle.row_faults.specs.View.{row_faults_view};
@@ -12,13 +12,27 @@ use crate::adding::{add_if, at};
 use crate::coil_faults::{add_coil_name, add_switch_name};
 use crate::fault::{RowFault, RowFaultKind};
 use machine_definitions::Definitions;
-use mpf_config::{Entry, Name, NameAt};
+use mpf_config::{Entry, Name, NameAt, Section};
 use mpf_sections::{BallDevice, as_ball_device};
-use mpf_tables::tables::PLAYFIELD;
+use mpf_tables::tables::{BALL_DEVICES_NAME, PLAYFIELD};
 use std::alloc::{AllocError, Global};
 
-/// Adds the faults of the names in these entries of `ball_devices`.
-pub(crate) fn add_ball_devices(
+/// Adds the faults of the names in the ball devices of a section.
+#[tactic(auto, unfolding(mpf_sections::specs::TypedBalls::ball_devices_in))]
+pub(crate) fn add_ball_device_faults(
+    alloc: Global,
+    faults: &mut Vec<RowFault>,
+    definitions: &Definitions<'_>,
+    text: &[u8],
+    section: &Section,
+) -> Result<(), AllocError>
+    ensures { OnOk result (row_faults_view faults.new.items ≡ row_faults_view faults.old.items ++ flat_map (ball_device_faults definitions.now.machine text.now) (ball_devices_in (section_view section.now))) }
+{
+    add_ball_devices(alloc, faults, definitions, text, section.entries_of(BALL_DEVICES_NAME))
+}
+
+/// Adds those of these entries of `ball_devices`.
+fn add_ball_devices(
     alloc: Global,
     faults: &mut Vec<RowFault>,
     definitions: &Definitions<'_>,

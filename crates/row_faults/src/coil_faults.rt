@@ -15,9 +15,11 @@ use mpf_config::{
     Coil, CoilAction, CoilItem, Entry, Flipper, Keyed, NameAt, Player, Section, as_autofire,
     as_coil, as_coil_item, as_coil_player, as_flipper,
 };
+use mpf_tables::tables::{AUTOFIRE_COILS_NAME, COIL_PLAYER_NAME, COILS_NAME, FLIPPERS_NAME};
 use std::alloc::{AllocError, Global};
 
 /// Adds the faults of what a section of the text of this name says of coils, as written.
+#[tactic(auto, unfolding(mpf_sections::specs::TypedCoils::coils_in, mpf_sections::specs::TypedCoils::coil_players_in, mpf_sections::specs::TypedCoils::flippers_in, mpf_sections::specs::TypedCoils::autofires_in))]
 pub(crate) fn add_coil_faults(
     alloc: Global,
     faults: &mut Vec<RowFault>,
@@ -27,10 +29,28 @@ pub(crate) fn add_coil_faults(
 ) -> Result<(), AllocError>
     ensures { OnOk result (row_faults_view faults.new.items ≡ row_faults_view faults.old.items ++ coil_faults_in definitions.now.machine text.now (section_view section.now)) }
 {
-    add_coils(alloc, faults, text, section.coils())?;
-    add_coil_players(alloc, faults, definitions, text, section.coil_players())?;
-    add_flippers(alloc, faults, definitions, text, section.flippers())?;
-    add_autofires(alloc, faults, definitions, text, section.autofires())
+    add_coils(alloc, faults, text, section.entries_of(COILS_NAME))?;
+    add_coil_players(
+        alloc,
+        faults,
+        definitions,
+        text,
+        section.players_of(COIL_PLAYER_NAME),
+    )?;
+    add_flippers(
+        alloc,
+        faults,
+        definitions,
+        text,
+        section.entries_of(FLIPPERS_NAME),
+    )?;
+    add_autofires(
+        alloc,
+        faults,
+        definitions,
+        text,
+        section.entries_of(AUTOFIRE_COILS_NAME),
+    )
 }
 
 // ---- names

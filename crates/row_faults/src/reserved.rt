@@ -13,6 +13,9 @@ use machine_definitions::is_reserved_game_event;
 use mpf_config::{
     Entry, ModeText, Name, Player, Section, as_counter, as_event_player, as_step_block, as_switch,
 };
+use mpf_tables::tables::{
+    ACCRUALS_NAME, COUNTERS_NAME, EVENT_PLAYER_NAME, SEQUENCES_NAME, SWITCHES_NAME,
+};
 use std::alloc::{AllocError, Global};
 use std::collections::BTreeSet;
 
@@ -96,6 +99,7 @@ pub(crate) fn reserved_posts<'a>(
 }
 
 /// Adds the reserved events that a section posts, entry by entry as written.
+#[tactic(auto, unfolding(mpf_sections::specs::Typed::switches_in, mpf_sections::specs::Typed::event_players_in, mpf_sections::specs::Typed::counters_in, mpf_sections::specs::Typed::accruals_in, mpf_sections::specs::Typed::sequences_in))]
 fn add_section<'a>(
     found: &mut Vec<&'a Name>,
     modes: &ModeEvents,
@@ -103,11 +107,11 @@ fn add_section<'a>(
 ) -> Result<(), AllocError>
     ensures { OnOk result (written_view found.new.items ≡ written_view found.old.items ++ reserved_among (keys_view modes.now) (posts_in (section_view section.now))) }
 {
-    add_switches(found, modes, section.switches())?;
-    add_players(found, modes, section.event_players())?;
-    add_counters(found, modes, section.counters())?;
-    add_step_blocks(found, modes, section.accruals())?;
-    add_step_blocks(found, modes, section.sequences())
+    add_switches(found, modes, section.entries_of(SWITCHES_NAME))?;
+    add_players(found, modes, section.players_of(EVENT_PLAYER_NAME))?;
+    add_counters(found, modes, section.entries_of(COUNTERS_NAME))?;
+    add_step_blocks(found, modes, section.entries_of(ACCRUALS_NAME))?;
+    add_step_blocks(found, modes, section.entries_of(SEQUENCES_NAME))
 }
 
 /// Adds those that switches post.

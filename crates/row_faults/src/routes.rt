@@ -15,6 +15,7 @@ use crate::fault::{RowFault, RowFaultKind};
 use crate::targets::leads_of;
 use mpf_config::{Entry, Name, Section};
 use mpf_sections::{BallDevice, as_ball_device};
+use mpf_tables::tables::BALL_DEVICES_NAME;
 use std::alloc::{AllocError, Global};
 use std::collections::BTreeSet;
 
@@ -44,7 +45,7 @@ fn ball_devices_of<'a>(
 {
     let mut devices = Vec::new(alloc);
     for section in sections {
-        add_entries(&mut devices, section.ball_devices())?;
+        add_entries(&mut devices, section.entries_of(BALL_DEVICES_NAME))?;
     }
     Ok(devices)
 }

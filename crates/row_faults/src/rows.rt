@@ -2,7 +2,7 @@
 
 ghost use Rattle.std.specs.Prelude.{◌≡◌, [], ◌++◌, map, IfOk, OnOk};
 ghost use Rattle.std.specs.List.{filter, flat_map};
-ghost use Rattle.mpf_sections.specs.Typed.{timer_of};
+ghost use Rattle.mpf_sections.specs.Typed.{timer_of, timers_in};
 ghost use Rattle.mpf_sections.specs.View.{entry_view, section_view, timer_view};
 ghost use Rattle.mpf_config.specs.View.{mode_view, rows_view};
 ghost use Rattle.row_faults.specs.RowFaults.{name_fault, has_reached, starts_at_end, timer_fault, section_faults, written_faults, ordered_by, fault_line, fault_number, text_faults, mode_faults, faults_by, row_faults};
@@ -12,19 +12,20 @@ ghost use Rattle.machine_definitions.specs.Found.{is_found};
 ghost use Rattle.row_faults.specs.View.{keys_view, written_view, row_fault_view, row_faults_view};
 
 use crate::adding::{at, fault_at};
-use crate::ball_faults::add_ball_devices;
+use crate::ball_faults::add_ball_device_faults;
 use crate::coil_faults::add_coil_faults;
 use crate::fault::{RowFault, RowFaultKind};
 use crate::once::listed_once;
 use crate::reserved::{ModeEvents, add_texts, events_of_modes, reserved_posts};
 use crate::routes::add_route_faults;
-use crate::shot_faults::{Shots, add_shots, misplaced_shots, shots_of};
+use crate::shot_faults::{Shots, add_shot_faults, misplaced_shots, shots_of};
 use crate::variable_faults::add_variable_faults;
 use machine_definitions::Definitions;
 use mpf_config::{
     Config, Direction, Entry, MACHINE_NAME, ModeText, Name, Section, Timer, as_timer, listed_modes,
     mode_text_name,
 };
+use mpf_tables::tables::TIMERS_NAME;
 use std::alloc::{AllocError, Global};
 use std::collections::BTreeSet;
 
@@ -184,17 +185,11 @@ fn add_section<'a>(
     add_names(alloc, faults, text, &posts)?;
     add_variable_faults(alloc, faults, known.modes, text, section)?;
     add_coil_faults(alloc, faults, known.definitions, text, section)?;
-    add_ball_devices(
-        alloc,
-        faults,
-        known.definitions,
-        text,
-        section.ball_devices(),
-    )?;
-    add_shots(alloc, faults, known.definitions, text, section.shots())?;
+    add_ball_device_faults(alloc, faults, known.definitions, text, section)?;
+    add_shot_faults(alloc, faults, known.definitions, text, section)?;
     let misplaced = misplaced_shots(alloc, taken, known.definitions, known.own, section)?;
     add_names(alloc, faults, text, &misplaced)?;
-    add_timers(alloc, faults, text, section.timers())
+    add_timer_faults(alloc, faults, text, section)
 }
 
 /// Adds a fault for each of these names of the text.
@@ -213,7 +208,20 @@ fn add_names(
     Ok(())
 }
 
-/// Adds a fault for each of these timers that starts at its end.
+/// Adds a fault for each timer of a section that starts at its end.
+#[tactic(auto, unfolding(mpf_sections::specs::Typed::timers_in))]
+fn add_timer_faults(
+    alloc: Global,
+    faults: &mut Vec<RowFault>,
+    text: &[u8],
+    section: &Section,
+) -> Result<(), AllocError>
+    ensures { OnOk result (row_faults_view faults.new.items ≡ row_faults_view faults.old.items ++ map (timer_fault text.now) (filter starts_at_end (timers_in (section_view section.now)))) }
+{
+    add_timers(alloc, faults, text, section.entries_of(TIMERS_NAME))
+}
+
+/// Adds a fault for each of these entries of `timers` that starts at its end.
 fn add_timers(
     alloc: Global,
     faults: &mut Vec<RowFault>,

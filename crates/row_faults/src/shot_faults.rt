@@ -3,7 +3,7 @@
 ghost use Rattle.std.specs.Prelude.{◌≡◌, ◌++◌, ◌||◌, ℕ, List, [], map, option_map, IfOk, OnOk};
 ghost use Rattle.std.specs.List.{flat_map, list_any};
 ghost use Rattle.std.specs.Str.{bytes_eq};
-ghost use Rattle.mpf_sections.specs.TypedShots.{shot_of, shot_group_of};
+ghost use Rattle.mpf_sections.specs.TypedShots.{shot_of, shot_group_of, shots_in};
 ghost use Rattle.mpf_sections.specs.View.{name_view, name_at_view, entry_view, section_view, shot_view, shot_group_view};
 ghost use Rattle.machine_definitions.specs.Found.{is_found};
 ghost use Rattle.row_faults.specs.ShotFaults.{shot_switch_faults, shot_faults, first_shot, listed_with, listed_by, listed_in, is_own_shot, are_of_two_profiles, is_misplaced, taken_after, kept_if, misplaced};
@@ -14,6 +14,7 @@ use crate::coil_faults::add_switch_name;
 use crate::fault::{RowFault, RowFaultKind};
 use machine_definitions::Definitions;
 use mpf_config::{Entry, Name, NameAt, Section, Shot, ShotGroup, as_shot, as_shot_group};
+use mpf_tables::tables::{SHOT_GROUPS_NAME, SHOTS_NAME};
 use std::alloc::{AllocError, Global};
 use std::collections::BTreeSet;
 
@@ -22,8 +23,22 @@ pub(crate) type Shots<'a> = BTreeSet<&'a [u8]>;
 
 // ---- `shots`
 
-/// Adds the faults of these entries of `shots`.
-pub(crate) fn add_shots(
+/// Adds the faults of the shots of a section.
+#[tactic(auto, unfolding(mpf_sections::specs::TypedShots::shots_in))]
+pub(crate) fn add_shot_faults(
+    alloc: Global,
+    faults: &mut Vec<RowFault>,
+    definitions: &Definitions<'_>,
+    text: &[u8],
+    section: &Section,
+) -> Result<(), AllocError>
+    ensures { OnOk result (row_faults_view faults.new.items ≡ row_faults_view faults.old.items ++ flat_map (shot_faults definitions.now text.now) (shots_in (section_view section.now))) }
+{
+    add_shots(alloc, faults, definitions, text, section.entries_of(SHOTS_NAME))
+}
+
+/// Adds those of these entries of `shots`.
+fn add_shots(
     alloc: Global,
     faults: &mut Vec<RowFault>,
     definitions: &Definitions<'_>,
@@ -81,6 +96,7 @@ fn add_switch(
 /// The names that the groups of a section may not list, in the order in which they are written. Here
 /// `own` are the shots that the section's text defines, and groups before these list the names that
 /// are taken. Takes all that these groups list. Where memory runs out, some of it may be taken.
+#[tactic(auto, unfolding(mpf_sections::specs::TypedShots::shot_groups_in))]
 pub(crate) fn misplaced_shots<'a>(
     alloc: Global,
     taken: &mut Shots<'a>,
@@ -91,19 +107,20 @@ pub(crate) fn misplaced_shots<'a>(
     ensures names { IfOk result (λ names. written_view names.items ≡ misplaced definitions.now (is_found own.now) (is_found taken.old) (listed_in definitions.now (section_view section.now))) }
     ensures taken { IfOk result (λ _. is_found taken.new ≡ taken_after (is_found taken.old) (listed_in definitions.now (section_view section.now))) }
 {
-    let groups: &'a [Entry] = section.shot_groups();
+    let groups: &'a [Entry] = section.entries_of(SHOT_GROUPS_NAME);
     let mut names: Vec<&'a Name> = Vec::new(alloc);
     note_groups(&mut names, taken, definitions, own, groups)?;
     Ok(names)
 }
 
 /// The shots that these sections define.
+#[tactic(auto, unfolding(mpf_sections::specs::TypedShots::shots_in))]
 pub(crate) fn shots_of<'a>(alloc: Global, sections: &'a [Section]) -> Result<Shots<'a>, AllocError>
     ensures { IfOk result (λ shots. (name : List ℕ) → is_found shots name ≡ is_own_shot (map section_view sections.now) name) }
 {
     let mut shots = BTreeSet::new(alloc);
     for section in sections {
-        take_shots(&mut shots, section.shots())?;
+        take_shots(&mut shots, section.entries_of(SHOTS_NAME))?;
     }
     Ok(shots)
 }

@@ -11,6 +11,7 @@ use crate::adding::{add_if, at};
 use crate::fault::{RowFault, RowFaultKind};
 use crate::reserved::{ModeEvents, is_reserved};
 use mpf_config::{Keyed, Player, Section, VariableItem, as_variable_item, as_variable_player};
+use mpf_tables::tables::VARIABLE_PLAYER_NAME;
 use std::alloc::{AllocError, Global};
 
 /// The two variables that the game alone sets.
@@ -19,6 +20,7 @@ const BALL: &[u8] = b"ball";
 const NUMBER: &[u8] = b"number";
 
 /// Adds the faults of what a section of the text of this name says of variables, as written.
+#[tactic(auto, unfolding(mpf_sections::specs::TypedGame::variable_players_in))]
 pub(crate) fn add_variable_faults(
     alloc: Global,
     faults: &mut Vec<RowFault>,
@@ -28,7 +30,13 @@ pub(crate) fn add_variable_faults(
 ) -> Result<(), AllocError>
     ensures { OnOk result (row_faults_view faults.new.items ≡ row_faults_view faults.old.items ++ variable_faults (keys_view modes.now) text.now (section_view section.now)) }
 {
-    add_players(alloc, faults, modes, text, section.variable_players())
+    add_players(
+        alloc,
+        faults,
+        modes,
+        text,
+        section.players_of(VARIABLE_PLAYER_NAME),
+    )
 }
 
 /// Adds the faults of these entries of `variable_player`.
