@@ -13,7 +13,7 @@ use crate::collect_devices::collect_device;
 use crate::collect_game::collect_game;
 use crate::collect_shots::{collect_group, collect_shot};
 use crate::collect_variables::collect_variable_player;
-use crate::contribution::{Aim, Contribution, Effect, joined, whole};
+use crate::contribution::{Aim, Contribution, Effect, add, joined, whole};
 use machine_definitions::Definitions;
 use mpf_config::config::Contact as WrittenContact;
 use mpf_config::{
@@ -162,8 +162,14 @@ fn collect_switch<'a>(
 ) -> Result<(), AllocError>
     ensures { OnOk result (contributions_view contributions.new.items ≡ contributions_view contributions.old.items ++ switch_contributions definitions.now.machine (switch_row_view row.entry)) }
 {
-    contributions.push(Contribution::Gives(Table::Switches, &row.name.text))?;
-    contributions.push(Contribution::Reads(kind_of(definitions, row), confirms(row.tags)))?;
+    add(
+        contributions,
+        Contribution::Gives(Table::Switches, &row.name.text),
+    )?;
+    add(
+        contributions,
+        Contribution::Reads(kind_of(definitions, row), confirms(row.tags)),
+    )?;
     collect_active(contributions, row)?;
     collect_inactive(contributions, row)?;
     Ok(())
@@ -219,10 +225,10 @@ fn collect_active<'a>(
     ensures { OnOk result (contributions_view contributions.new.items ≡ contributions_view contributions.old.items ++ map active (active_posts (switch_row_view row.entry))) }
 {
     let own = joined(&row.name.text, b"", b"_active");
-    contributions.push(Contribution::Active(own))?;
+    add(contributions, Contribution::Active(own))?;
     collect_tags(contributions, row.tags)?;
     for name in row.activated {
-        contributions.push(Contribution::Active(whole(&name.text)))?;
+        add(contributions, Contribution::Active(whole(&name.text)))?;
     }
     Ok(())
 }
@@ -235,7 +241,7 @@ fn collect_tags<'a>(
 {
     for tag in tags {
         let event = joined(b"sw_", b"", &tag.text);
-        contributions.push(Contribution::Active(event))?;
+        add(contributions, Contribution::Active(event))?;
     }
     Ok(())
 }
@@ -248,9 +254,9 @@ fn collect_inactive<'a>(
     ensures { OnOk result (contributions_view contributions.new.items ≡ contributions_view contributions.old.items ++ map inactive (inactive_posts (switch_row_view row.entry))) }
 {
     let own = joined(&row.name.text, b"", b"_inactive");
-    contributions.push(Contribution::Inactive(own))?;
+    add(contributions, Contribution::Inactive(own))?;
     for name in row.deactivated {
-        contributions.push(Contribution::Inactive(whole(&name.text)))?;
+        add(contributions, Contribution::Inactive(whole(&name.text)))?;
     }
     Ok(())
 }
@@ -277,7 +283,10 @@ fn collect_posts<'a>(
     ensures { OnOk result (contributions_view contributions.new.items ≡ contributions_view contributions.old.items ++ map (λ e. does (posts e)) (texts (map name_view names.now))) }
 {
     for name in names {
-        contributions.push(Contribution::Does(Effect::Post(whole(&name.text))))?;
+        add(
+            contributions,
+            Contribution::Does(Effect::Post(whole(&name.text))),
+        )?;
     }
     Ok(())
 }
@@ -293,7 +302,10 @@ fn collect_mode<'a>(
 ) -> Result<(), AllocError>
     ensures { OnOk result (contributions_view contributions.new.items ≡ contributions_view contributions.old.items ++ mode_contributions name.now (mode_settings_view settings.entry)) }
 {
-    contributions.push(Contribution::Mode(name, settings.priority, settings.game))?;
+    add(
+        contributions,
+        Contribution::Mode(name, settings.priority, settings.game),
+    )?;
     collect_later_events(contributions, name)?;
     collect_controls(contributions, settings)?;
     Ok(())
@@ -306,11 +318,22 @@ fn collect_later_events<'a>(
 ) -> Result<(), AllocError>
     ensures { OnOk result (contributions_view contributions.new.items ≡ contributions_view contributions.old.items ++ later_events name.now) }
 {
-    contributions.push(Contribution::ModeEvent(ModeEvent::Starting, name))?;
-    contributions.push(Contribution::ModeEvent(ModeEvent::Started, name))?;
-    contributions.push(Contribution::ModeEvent(ModeEvent::Stopping, name))?;
-    contributions.push(Contribution::ModeEvent(ModeEvent::Stopped, name))?;
-    Ok(())
+    add(
+        contributions,
+        Contribution::ModeEvent(ModeEvent::Starting, name),
+    )?;
+    add(
+        contributions,
+        Contribution::ModeEvent(ModeEvent::Started, name),
+    )?;
+    add(
+        contributions,
+        Contribution::ModeEvent(ModeEvent::Stopping, name),
+    )?;
+    add(
+        contributions,
+        Contribution::ModeEvent(ModeEvent::Stopped, name),
+    )
 }
 
 /// What starts a mode, and what stops it.
@@ -337,7 +360,7 @@ fn collect_stop_where<'a>(
 {
     if holds {
         let bound = Contribution::Binds(whole(event), Place::Control, Aim::Stop);
-        contributions.push(bound)?;
+        add(contributions, bound)?;
     }
     Ok(())
 }

@@ -10,7 +10,7 @@ ghost use Rattle.plan_tables.specs.declared.table.Table.TheVariants.{Events};
 use crate::collect_coils::{defaults_of, own_pulse};
 use crate::collect_effects::{collect_effect, collect_event, collect_post};
 use crate::collect_shots::collect_unknown;
-use crate::contribution::{Contribution, Effect, Parts, joined, whole};
+use crate::contribution::{Contribution, Effect, Parts, add, joined, whole};
 use machine_definitions::Definitions;
 use mpf_config::{BallDevice, Content, GAME_NAME, Name, NameAt, Section};
 use plan_rows::{Destination, Place};
@@ -30,7 +30,10 @@ pub(crate) fn collect_ball_device<'a>(
 {
     let drain = drains(definitions, row);
     collect_unknown(contributions, is_known(to))?;
-    contributions.push(Contribution::Device(Place::Machine, ball_settings(row, to)))?;
+    add(
+        contributions,
+        Contribution::Device(Place::Machine, ball_settings(row, to)),
+    )?;
     collect_switches(contributions, row.switches)?;
     collect_mentions(contributions, &row.name.text, drain)?;
     collect_lists(contributions, definitions, row, drain)?;
@@ -68,8 +71,7 @@ fn collect_switch<'a>(
 ) -> Result<(), AllocError>
     ensures { OnOk result (contributions_view contributions.new.items ≡ contributions_view contributions.old.items ++ listens number name.now ∷ []) }
 {
-    contributions.push(Contribution::Listens(number, name))?;
-    Ok(())
+    add(contributions, Contribution::Listens(number, name))
 }
 
 // ---- the game

@@ -6,7 +6,7 @@ ghost use Rattle.mpf_sections.specs.View.{handler_view, handled_at_view};
 ghost use Rattle.plan_contributions.specs.Contributions.{events, bound};
 ghost use Rattle.plan_contributions.specs.View.{contributions_view};
 
-use crate::contribution::{Aim, Contribution, whole};
+use crate::contribution::{Aim, Contribution, add, whole};
 use mpf_config::{HandledAt, Handler, as_handled};
 use plan_rows::Place;
 use std::alloc::AllocError;
@@ -20,9 +20,15 @@ pub(crate) fn collect_bound<'a>(
 ) -> Result<(), AllocError>
     ensures { OnOk result (contributions_view contributions.new.items ≡ contributions_view contributions.old.items ++ bound (handled_at_view handled.entry).event place aim) }
 {
-    contributions.push(Contribution::Binds(whole(handled.name), place, aim))?;
+    add(
+        contributions,
+        Contribution::Binds(whole(handled.name), place, aim),
+    )?;
     if let Some(guard) = handled.condition {
-        contributions.push(Contribution::Under(&guard.variable, guard.comparison, guard.number))?;
+        add(
+            contributions,
+            Contribution::Under(&guard.variable, guard.comparison, guard.number),
+        )?;
     }
     Ok(())
 }

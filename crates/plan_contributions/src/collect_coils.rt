@@ -11,7 +11,7 @@ ghost use Rattle.plan_contributions.specs.View.{deed_view, defaults_view, contri
 
 use crate::collect_bound::collect_bound;
 use crate::collect_devices::collect_acts;
-use crate::contribution::{Aim, Contribution, Deed, Effect};
+use crate::contribution::{Aim, Contribution, Deed, Effect, add};
 use machine_definitions::Definitions;
 use mpf_config::{
     Autofire, Coil, CoilAction, CoilItem, CoilPlayer, Flipper, Keyed, NameAt, as_coil_item,
@@ -43,8 +43,10 @@ pub(crate) fn collect_coil<'a>(
 ) -> Result<(), AllocError>
     ensures { OnOk result (contributions_view contributions.new.items ≡ contributions_view contributions.old.items ++ coil_contributions (coil_view row.entry)) }
 {
-    contributions.push(Contribution::Coil(&row.name.text, limits_of(row)))?;
-    Ok(())
+    add(
+        contributions,
+        Contribution::Coil(&row.name.text, limits_of(row)),
+    )
 }
 
 // ---- `coil_player`
@@ -119,7 +121,10 @@ fn collect_items<'a>(
     for keyed in items {
         let item = as_coil_item(keyed);
         let deed = deed_of(defaults_of(definitions, &item.coil.text), item);
-        contributions.push(Contribution::Does(Effect::Coil(&item.coil.text, deed)))?;
+        add(
+            contributions,
+            Contribution::Does(Effect::Coil(&item.coil.text, deed)),
+        )?;
     }
     Ok(())
 }
@@ -152,8 +157,11 @@ pub(crate) fn collect_flipper<'a>(
 ) -> Result<(), AllocError>
     ensures { OnOk result (contributions_view contributions.new.items ≡ contributions_view contributions.old.items ++ device_contributions Machine (flipper_device definitions.now.machine (flipper_view row.entry))) }
 {
-    contributions.push(Contribution::Device(Place::Machine, Settings::Flipper))?;
-    contributions.push(Contribution::Listens(0, row.switch.text))?;
+    add(
+        contributions,
+        Contribution::Device(Place::Machine, Settings::Flipper),
+    )?;
+    add(contributions, Contribution::Listens(0, row.switch.text))?;
     collect_acts(contributions, Place::Machine, Act::Enable, row.enables)?;
     collect_acts(contributions, Place::Machine, Act::Disable, row.disables)?;
     match row.hold_coil {
@@ -173,10 +181,18 @@ fn collect_two_coils<'a>(
 {
     let pulse = own_pulse(defaults_of(definitions, main.text));
     let enable = own_hold(defaults_of(definitions, hold.text));
-    contributions.push(Contribution::DoesIn(0, Effect::Coil(main.text, pulse)))?;
-    contributions.push(Contribution::DoesIn(0, Effect::Coil(hold.text, enable)))?;
-    contributions.push(Contribution::DoesIn(1, Effect::Coil(hold.text, Deed::Disable)))?;
-    Ok(())
+    add(
+        contributions,
+        Contribution::DoesIn(0, Effect::Coil(main.text, pulse)),
+    )?;
+    add(
+        contributions,
+        Contribution::DoesIn(0, Effect::Coil(hold.text, enable)),
+    )?;
+    add(
+        contributions,
+        Contribution::DoesIn(1, Effect::Coil(hold.text, Deed::Disable)),
+    )
 }
 
 /// The main coil holds the flipper up where it may be held, and else is pulsed.
@@ -189,12 +205,19 @@ fn collect_main_coil<'a>(
 {
     let coil = defaults_of(definitions, main.text);
     if !coil.may_hold {
-        contributions.push(Contribution::DoesIn(0, Effect::Coil(main.text, own_pulse(coil))))?;
-        return Ok(());
+        return add(
+            contributions,
+            Contribution::DoesIn(0, Effect::Coil(main.text, own_pulse(coil))),
+        );
     }
-    contributions.push(Contribution::DoesIn(0, Effect::Coil(main.text, own_hold(coil))))?;
-    contributions.push(Contribution::DoesIn(1, Effect::Coil(main.text, Deed::Disable)))?;
-    Ok(())
+    add(
+        contributions,
+        Contribution::DoesIn(0, Effect::Coil(main.text, own_hold(coil))),
+    )?;
+    add(
+        contributions,
+        Contribution::DoesIn(1, Effect::Coil(main.text, Deed::Disable)),
+    )
 }
 
 /// An autofire coil, which is the machine's.
@@ -207,10 +230,15 @@ pub(crate) fn collect_autofire<'a>(
     ensures { OnOk result (contributions_view contributions.new.items ≡ contributions_view contributions.old.items ++ device_contributions Machine (autofire_device definitions.now.machine (autofire_view row.entry))) }
 {
     let pulse = own_pulse(defaults_of(definitions, row.coil.text));
-    contributions.push(Contribution::Device(Place::Machine, Settings::Autofire))?;
-    contributions.push(Contribution::Listens(0, row.switch.text))?;
+    add(
+        contributions,
+        Contribution::Device(Place::Machine, Settings::Autofire),
+    )?;
+    add(contributions, Contribution::Listens(0, row.switch.text))?;
     collect_acts(contributions, Place::Machine, Act::Enable, row.enables)?;
     collect_acts(contributions, Place::Machine, Act::Disable, row.disables)?;
-    contributions.push(Contribution::DoesIn(0, Effect::Coil(row.coil.text, pulse)))?;
-    Ok(())
+    add(
+        contributions,
+        Contribution::DoesIn(0, Effect::Coil(row.coil.text, pulse)),
+    )
 }

@@ -12,7 +12,7 @@ ghost use Rattle.plan_tables.specs.declared.table.Table.TheVariants.{Events};
 
 use crate::collect_bound::{collect_bound, collect_each};
 use crate::collect_effects::collect_post;
-use crate::contribution::{Aim, Contribution, Effect, Parts, joined, whole};
+use crate::contribution::{Aim, Contribution, Effect, Parts, add, joined, whole};
 use mpf_config::config::{ControlAction, Direction as WrittenDirection};
 use mpf_config::{
     ACCRUALS_NAME, Block, COUNTERS_NAME, Counter, Entry, Fields, Handler, Name, SEQUENCES_NAME,
@@ -134,7 +134,10 @@ fn collect_mentions<'a>(
     ensures { OnOk result (contributions_view contributions.new.items ≡ contributions_view contributions.old.items ++ map (mentions Events) (texts (map name_view names.now))) }
 {
     for name in names {
-        contributions.push(Contribution::Mentions(Table::Events, whole(&name.text)))?;
+        add(
+            contributions,
+            Contribution::Mentions(Table::Events, whole(&name.text)),
+        )?;
     }
     Ok(())
 }
@@ -154,7 +157,10 @@ fn collect_block_lists<'a>(
 ) -> Result<(), AllocError>
     ensures { OnOk result (contributions_view contributions.new.items ≡ contributions_view contributions.old.items ++ effects_from 0 (block_lists name.now (block_view block.entry))) }
 {
-    contributions.push(Contribution::DoesIn(0, Effect::Post(block_event(name, b"_updated"))))?;
+    add(
+        contributions,
+        Contribution::DoesIn(0, Effect::Post(block_event(name, b"_updated"))),
+    )?;
     collect_list(contributions, 1, block.hit, block_event(name, b"_hit"))?;
     collect_list(
         contributions,
@@ -175,8 +181,10 @@ fn collect_list<'a>(
     ensures { OnOk result (contributions_view contributions.new.items ≡ contributions_view contributions.old.items ++ map (does_in number) (map posts (or_own (map name_view names.now) (parts_text own.entry)))) }
 {
     if is_none(names) {
-        contributions.push(Contribution::DoesIn(number, Effect::Post(own)))?;
-        return Ok(());
+        return add(
+            contributions,
+            Contribution::DoesIn(number, Effect::Post(own)),
+        );
     }
     collect_written(contributions, number, names)
 }
@@ -189,7 +197,10 @@ fn collect_written<'a>(
     ensures { OnOk result (contributions_view contributions.new.items ≡ contributions_view contributions.old.items ++ map (does_in number) (map posts (texts (map name_view names.now)))) }
 {
     for name in names {
-        contributions.push(Contribution::DoesIn(number, Effect::Post(whole(&name.text))))?;
+        add(
+            contributions,
+            Contribution::DoesIn(number, Effect::Post(whole(&name.text))),
+        )?;
     }
     Ok(())
 }
@@ -217,7 +228,10 @@ fn collect_counter<'a>(
 ) -> Result<(), AllocError>
     ensures { OnOk result (contributions_view contributions.new.items ≡ contributions_view contributions.old.items ++ device_contributions place (counter_device (counter_view row.entry))) }
 {
-    contributions.push(Contribution::Device(place, counter_settings(row)))?;
+    add(
+        contributions,
+        Contribution::Device(place, counter_settings(row)),
+    )?;
     collect_acts(contributions, place, Act::Count, row.counts)?;
     collect_block_acts(contributions, place, row.block)?;
     collect_block_posts(contributions, &row.name.text, row.block)?;
@@ -245,7 +259,7 @@ fn collect_step_block<'a>(
 ) -> Result<(), AllocError>
     ensures { OnOk result (contributions_view contributions.new.items ≡ contributions_view contributions.old.items ++ device_contributions place (step_device settings (step_block_view row.entry))) }
 {
-    contributions.push(Contribution::Device(place, settings))?;
+    add(contributions, Contribution::Device(place, settings))?;
     collect_steps(contributions, place, row.steps)?;
     collect_block_acts(contributions, place, row.block)?;
     collect_block_posts(contributions, &row.name.text, row.block)?;
@@ -289,7 +303,10 @@ fn collect_timer<'a>(
 ) -> Result<(), AllocError>
     ensures { OnOk result (contributions_view contributions.new.items ≡ contributions_view contributions.old.items ++ device_contributions place (timer_device (timer_view row.entry))) }
 {
-    contributions.push(Contribution::Device(place, timer_settings(row)))?;
+    add(
+        contributions,
+        Contribution::Device(place, timer_settings(row)),
+    )?;
     collect_timer_acts(contributions, place, row.controls)?;
     collect_timer_lists(contributions, &row.name.text)?;
     Ok(())

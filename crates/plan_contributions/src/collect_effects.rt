@@ -5,7 +5,7 @@ ghost use Rattle.plan_contributions.specs.Contributions.{does_in, mentions, post
 ghost use Rattle.plan_tables.specs.declared.table.Table.TheVariants.{Events};
 ghost use Rattle.plan_contributions.specs.View.{parts_text, effect_view, contributions_view};
 
-use crate::contribution::{Contribution, Effect, Parts};
+use crate::contribution::{Contribution, Effect, Parts, add};
 use plan_tables::table::Table;
 use std::alloc::AllocError;
 
@@ -17,8 +17,7 @@ pub(crate) fn collect_effect<'a>(
 ) -> Result<(), AllocError>
     ensures { OnOk result (contributions_view contributions.new.items ≡ contributions_view contributions.old.items ++ does_in number (effect_view effect.entry) ∷ []) }
 {
-    contributions.push(Contribution::DoesIn(number, effect))?;
-    Ok(())
+    add(contributions, Contribution::DoesIn(number, effect))
 }
 
 /// An effect list of the row that came last posts the event.
@@ -39,6 +38,5 @@ pub(crate) fn collect_event<'a>(
 ) -> Result<(), AllocError>
     ensures { OnOk result (contributions_view contributions.new.items ≡ contributions_view contributions.old.items ++ mentions Events (parts_text event.entry) ∷ []) }
 {
-    contributions.push(Contribution::Mentions(Table::Events, event))?;
-    Ok(())
+    add(contributions, Contribution::Mentions(Table::Events, event))
 }

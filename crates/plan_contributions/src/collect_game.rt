@@ -7,7 +7,7 @@ ghost use Rattle.plan_contributions.specs.Contributions.{mentions, game_contribu
 ghost use Rattle.plan_contributions.specs.View.{contributions_view};
 ghost use Rattle.plan_tables.specs.declared.table.Table.TheVariants.{Events};
 
-use crate::contribution::{Contribution, whole};
+use crate::contribution::{Contribution, add, whole};
 use machine_definitions::{Definitions, GAME_EVENT_NAMES};
 use mpf_config::GameSettings;
 use plan_tables::table::Table;
@@ -22,11 +22,14 @@ pub(crate) fn collect_game(
     ensures { OnOk result (contributions_view contributions.new.items ≡ contributions_view contributions.old.items ++ game_contributions definitions.now.machine (game_view row)) }
 {
     collect_events(contributions, &GAME_EVENT_NAMES)?;
-    contributions.push(Contribution::Plays {
-        min_balls: definitions.min_balls(),
-        balls_per_game: row.balls_per_game,
-        max_players: row.max_players,
-    })?;
+    add(
+        contributions,
+        Contribution::Plays {
+            min_balls: definitions.min_balls(),
+            balls_per_game: row.balls_per_game,
+            max_players: row.max_players,
+        },
+    )?;
     Ok(())
 }
 
@@ -38,7 +41,10 @@ fn collect_events<'a>(
     ensures { OnOk result (contributions_view contributions.new.items ≡ contributions_view contributions.old.items ++ map (mentions Events) (map (λ n. n.now) names.now)) }
 {
     for name in names {
-        contributions.push(Contribution::Mentions(Table::Events, whole(name)))?;
+        add(
+            contributions,
+            Contribution::Mentions(Table::Events, whole(name)),
+        )?;
     }
     Ok(())
 }

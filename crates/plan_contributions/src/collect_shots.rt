@@ -14,7 +14,7 @@ ghost use Rattle.plan_rows.specs.View.{seat_view, members_view};
 use crate::collect_bound::collect_each;
 use crate::collect_devices::collect_acts;
 use crate::collect_effects::collect_post;
-use crate::contribution::{Aim, Contribution, Parts, joined, whole};
+use crate::contribution::{Aim, Contribution, Parts, add, joined, whole};
 use machine_definitions::Profile;
 use mpf_config::{Handler, Name, NameAt, Shot, ShotGroup};
 use plan_rows::{Members, Place, Seat, is_enabled};
@@ -62,7 +62,7 @@ pub(crate) fn collect_group<'a>(
     let shots = row.shots.len() as u8;
     let settings = bank_settings(members.profile, shots, members.enabled, true);
     collect_unknown(contributions, members.all_known)?;
-    contributions.push(Contribution::Device(place, settings))?;
+    add(contributions, Contribution::Device(place, settings))?;
     collect_group_acts(contributions, place, row)?;
     collect_group_lists(contributions, members.profile, &row.name.text, row.shots)
 }
@@ -75,7 +75,7 @@ pub(crate) fn collect_unknown(
     ensures { OnOk result (contributions_view contributions.new.items ≡ contributions_view contributions.old.items ++ unknown_unless known) }
 {
     if !known {
-        contributions.push(Contribution::Unknown)?;
+        add(contributions, Contribution::Unknown)?;
     }
     Ok(())
 }
@@ -88,7 +88,10 @@ fn collect_switch<'a>(
     ensures { OnOk result (contributions_view contributions.new.items ≡ contributions_view contributions.old.items ++ shot_switch (option_map name_at_view switch.entry)) }
 {
     if let Some(name) = switch {
-        contributions.push(Contribution::Mentions(Table::Switches, whole(name.text)))?;
+        add(
+            contributions,
+            Contribution::Mentions(Table::Switches, whole(name.text)),
+        )?;
     }
     Ok(())
 }
@@ -104,7 +107,7 @@ fn collect_lone<'a>(
     ensures { OnOk result (contributions_view contributions.new.items ≡ contributions_view contributions.old.items ++ device_contributions place (lone_device (profile_view profile.now) (shot_view row.entry))) }
 {
     let settings = bank_settings(profile, 1, first_flag(is_enabled(row)), false);
-    contributions.push(Contribution::Device(place, settings))?;
+    add(contributions, Contribution::Device(place, settings))?;
     collect_shot_acts(contributions, Target { place, row: None }, 0, row)?;
     collect_shot_lists(contributions, 0, profile, &row.name.text)?;
     Ok(())
@@ -188,7 +191,7 @@ fn collect_switch_hits<'a>(
     if let Some(name) = switch {
         let event = joined(name.text, b"", b"_active");
         let aim = aim_at(target.row, hit);
-        contributions.push(Contribution::Binds(event, target.place, aim))?;
+        add(contributions, Contribution::Binds(event, target.place, aim))?;
     }
     Ok(())
 }

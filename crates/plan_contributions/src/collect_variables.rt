@@ -9,7 +9,7 @@ ghost use Rattle.plan_contributions.specs.Contributions.{item_contributions, var
 ghost use Rattle.plan_contributions.specs.View.{contributions_view, effect_view};
 
 use crate::collect_bound::collect_bound;
-use crate::contribution::{Aim, Contribution, Effect, player_event};
+use crate::contribution::{Aim, Contribution, Effect, add, player_event};
 use mpf_config::config::VariableAction as WrittenAction;
 use mpf_config::{Keyed, VariableItem, VariablePlayer, as_variable_item};
 use plan_rows::Place;
@@ -62,8 +62,8 @@ fn collect_changes<'a>(
     for keyed in items {
         let item = as_variable_item(keyed);
         let event = player_event(&item.variable.text);
-        contributions.push(Contribution::Mentions(Table::Events, event))?;
-        contributions.push(Contribution::Does(change_of(item)))?;
+        add(contributions, Contribution::Mentions(Table::Events, event))?;
+        add(contributions, Contribution::Does(change_of(item)))?;
     }
     Ok(())
 }

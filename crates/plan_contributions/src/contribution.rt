@@ -1,6 +1,6 @@
 //! What rows give to a plan, by names.
 
-ghost use Rattle.std.specs.Prelude.{◌≡◌, option_map, OnOk, ◌++◌};
+ghost use Rattle.std.specs.Prelude.{◌≡◌, option_map, OnOk, ◌++◌, [], ◌∷◌};
 ghost use Rattle.plan_contributions.specs.UsedNames.{used_by, used, given};
 ghost use Rattle.plan_contributions.specs.Contributions.{event_ending, mode_event_name};
 ghost use Rattle.machine_definitions.specs.Players.{player_event};
@@ -113,6 +113,17 @@ pub enum Contribution<'a> {
         balls_per_game: u32,
         max_players: u32,
     },
+}
+
+/// Adds one more.
+pub(crate) fn add<'a>(
+    contributions: &mut Vec<Contribution<'a>>,
+    more: Contribution<'a>,
+) -> Result<(), AllocError>
+    ensures { OnOk result (contributions.new.items ≡ contributions.old.items ++ more.entry ∷ []) }
+{
+    contributions.push(more)?;
+    Ok(())
 }
 
 /// A name in three pieces.

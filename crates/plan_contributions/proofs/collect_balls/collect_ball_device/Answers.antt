@@ -16,10 +16,10 @@ returns c =
     let to = c.args.to in
     let old = contributions_view c.args.contributions.now.items in
     let known = c.in_ok-collect_unknown.ensures ∙ ap (λ (b : Bool). old ++ unknown_unless b) c.is_known.ensures in
-    let row = row_first c.collect_unknown.new.contributions.items c.push.new.self.items Machine c.ball_settings.result (ball_settings d to) c.in_ok-push.ensures.items c.ball_settings.ensures in
+    let row = row_first c.collect_unknown.new.contributions.items c.add.new.contributions.items Machine c.ball_settings.result (ball_settings d to) c.in_ok-add.ensures c.ball_settings.ensures in
     let named = contributions_view c.collect_switches.new.contributions.items in
     let naming =
     c.in_ok-collect_mentions.ensures
     ∙ (λ i. named ++ map (mentions Events) (entry_mentions (c.deref.ensures.value i) (c.drains-drain.ensures i))) in
-    ball_device_collected machine d to old (contributions_view c.collect_unknown.new.contributions.items) (contributions_view c.push.new.self.items) named (contributions_view c.collect_mentions.new.contributions.items)
+    ball_device_collected machine d to old (contributions_view c.collect_unknown.new.contributions.items) (contributions_view c.add.new.contributions.items) named (contributions_view c.collect_mentions.new.contributions.items)
     (contributions_view c.collect_lists.new.contributions.items) known row c.in_ok-collect_switches.ensures naming c.in_ok-collect_lists.ensures

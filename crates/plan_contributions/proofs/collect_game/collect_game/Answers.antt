@@ -14,7 +14,7 @@ returns c =
     let players = c.args.row.max_players in
     let old = contributions_view c.args.contributions.now.items in
     let last = contribution.Plays c.min_balls.result balls players ∷ [] in
-    ap contributions_view c.in_ok-push.ensures.items
+    ap contributions_view c.in_ok-add.ensures
     ∙ map-append contribution_view c.collect_events.new.contributions.items last
     ∙ ap (λ l. l ++ plays c.min_balls.result balls players ∷ []) c.in_ok-collect_events.ensures
     ∙ append_assoc old (map (mentions Events) game_event_names) (plays c.min_balls.result balls players ∷ [])
