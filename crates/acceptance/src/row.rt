@@ -162,27 +162,32 @@ fn play_log(
     let mut devices: Vec<Box<dyn Device>> = Vec::new(alloc);
     for row in checked.plan().rows() {
         let device: Box<dyn Device> = if let Some(counter) = Counter::new(row) {
-            Box::new(alloc, counter)?
+            boxed(alloc, counter)?
         } else if let Some(accrual) = Accrual::new(row) {
-            Box::new(alloc, accrual)?
+            boxed(alloc, accrual)?
         } else if let Some(sequence) = Sequence::new(row) {
-            Box::new(alloc, sequence)?
+            boxed(alloc, sequence)?
         } else if let Some(timer) = Timer::new(row) {
-            Box::new(alloc, timer)?
+            boxed(alloc, timer)?
         } else if let Some(bank) = ShotBank::new(row) {
-            Box::new(alloc, bank)?
+            boxed(alloc, bank)?
         } else if let Some(flipper) = Flipper::new(row) {
-            Box::new(alloc, flipper)?
+            boxed(alloc, flipper)?
         } else if let Some(autofire) = Autofire::new(row) {
-            Box::new(alloc, autofire)?
+            boxed(alloc, autofire)?
         } else if let Some(device) = BallDevice::new(row) {
-            Box::new(alloc, device)?
+            boxed(alloc, device)?
         } else {
             continue;
         };
         devices.push(device)?;
     }
     play_on_board(alloc, checked, devices, log, wires, writer)
+}
+
+/// A box of a device.
+fn boxed<D: Device>(alloc: Global, device: D) -> Result<Box<D>, AllocError> {
+    Ok(Box::new(alloc, device)?)
 }
 
 /// Plays a log on a board in memory, or on one that faults.

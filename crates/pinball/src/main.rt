@@ -131,21 +131,21 @@ fn play_log<L: Read, W: Write>(
     let mut devices: Vec<Box<dyn Device>> = Vec::new(alloc);
     for row in checked.plan().rows() {
         let device: Box<dyn Device> = if let Some(counter) = Counter::new(row) {
-            Box::new(alloc, counter)?
+            boxed(alloc, counter)?
         } else if let Some(accrual) = Accrual::new(row) {
-            Box::new(alloc, accrual)?
+            boxed(alloc, accrual)?
         } else if let Some(sequence) = Sequence::new(row) {
-            Box::new(alloc, sequence)?
+            boxed(alloc, sequence)?
         } else if let Some(timer) = Timer::new(row) {
-            Box::new(alloc, timer)?
+            boxed(alloc, timer)?
         } else if let Some(bank) = ShotBank::new(row) {
-            Box::new(alloc, bank)?
+            boxed(alloc, bank)?
         } else if let Some(flipper) = Flipper::new(row) {
-            Box::new(alloc, flipper)?
+            boxed(alloc, flipper)?
         } else if let Some(autofire) = Autofire::new(row) {
-            Box::new(alloc, autofire)?
+            boxed(alloc, autofire)?
         } else if let Some(device) = BallDevice::new(row) {
-            Box::new(alloc, device)?
+            boxed(alloc, device)?
         } else {
             continue;
         };
@@ -153,6 +153,11 @@ fn play_log<L: Read, W: Write>(
     }
     let board = MemoryBoard::new(alloc)?;
     play_text(alloc, checked, devices, board, log, writer)
+}
+
+/// A box of a device.
+fn boxed<D: Device>(alloc: Global, device: D) -> Result<Box<D>, AllocError> {
+    Ok(Box::new(alloc, device)?)
 }
 
 /// The bundle of the configuration in this folder; or the one on standard input.

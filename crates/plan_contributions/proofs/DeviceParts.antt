@@ -15,14 +15,12 @@ use Rattle.plan_tables.specs.declared.devices.Settings.{Settings}
 use Rattle.plan_tables.specs.declared.table.Table.TheVariants.{Events}
 use Rattle.plan_contributions.specs.declared.contribution.Contribution as contributions
 use Rattle.plan_contributions.specs.declared.contribution.Contribution.TheVariants as contribution
-use Rattle.plan_contributions.specs.declared.contribution.Parts.{Parts}
 use Rattle.plan_rows.specs.declared.place.Place.{Place}
 use Rattle.section_tables.specs.declared.rows.Name.{Name}
 use Rattle.mpf_sections.specs.View.{name_view}
-use Rattle.plan_contributions.specs.DeviceEntries.{texts, device_of, step_settings, step_device, timer_device, acts, step_acts, controlled, Effect, posts}
-use Rattle.plan_contributions.specs.declared.contribution.Effect.TheVariants as effect
+use Rattle.plan_contributions.specs.DeviceEntries.{texts, device_of, step_settings, step_device, timer_device, acts, step_acts, controlled, Effect}
 use Rattle.plan_contributions.specs.Contributions.{Contribution, device, does_in, listens, mentions, Device, act_binding, effects_from, listens_from, device_contributions}
-use Rattle.plan_contributions.specs.View.{parts_text, contribution_view, contributions_view}
+use Rattle.plan_contributions.specs.View.{contribution_view, contributions_view}
 
 -- what is made of some things, and then of others
 pub mapped_after : {X : Type 0} (f : X → Contribution) (old : List Contribution) (xs ys : List X) → (old ++ map f xs) ++ map f ys ≡ old ++ map f (xs ++ ys)
@@ -36,11 +34,6 @@ made_after f old xs ys = append_assoc old (flat_map f xs) (flat_map f ys) ∙ ap
 pub row_first : (old new : List contributions.Contribution) (place : Place) (s t : Settings) → new ≡ old ++ contribution.Device place s ∷ [] → s ≡ t → contributions_view new ≡ contributions_view old ++ device place t ∷ []
 row_first old new place s t pushed same =
     ap contributions_view pushed ∙ map-append contribution_view old (contribution.Device place s ∷ []) ∙ ap (λ x. contributions_view old ++ device place x ∷ []) same
-
--- a post of this event in a list of the row
-pub post_first : (old new : List contributions.Contribution) (k : ℕ) (p : Parts) (u : List ℕ) → new ≡ old ++ contribution.DoesIn k (effect.Post p) ∷ [] → parts_text p ≡ u → contributions_view new ≡ contributions_view old ++ does_in k (posts u) ∷ []
-post_first old new k p u pushed same =
-    ap contributions_view pushed ∙ map-append contribution_view old (contribution.DoesIn k (effect.Post p) ∷ []) ∙ ap (λ x. contributions_view old ++ does_in k (posts x) ∷ []) same
 
 -- the three lists of a block
 pub lists_collected : (old a b e : List Contribution) (u : Effect) (hit complete : List Effect) → a ≡ old ++ does_in 0 u ∷ [] → b ≡ a ++ map (does_in 1) hit → e ≡ b ++ map (does_in 2) complete

@@ -11,6 +11,7 @@ ghost use Rattle.plan_contributions.specs.View.{deed_view, defaults_view, contri
 
 use crate::collect_bound::collect_bound;
 use crate::collect_devices::collect_acts;
+use crate::collect_effects::collect_effect;
 use crate::contribution::{Aim, Contribution, Deed, Effect, add};
 use machine_definitions::Definitions;
 use mpf_config::{
@@ -181,18 +182,9 @@ fn collect_two_coils<'a>(
 {
     let pulse = own_pulse(defaults_of(definitions, main.text));
     let enable = own_hold(defaults_of(definitions, hold.text));
-    add(
-        contributions,
-        Contribution::DoesIn(0, Effect::Coil(main.text, pulse)),
-    )?;
-    add(
-        contributions,
-        Contribution::DoesIn(0, Effect::Coil(hold.text, enable)),
-    )?;
-    add(
-        contributions,
-        Contribution::DoesIn(1, Effect::Coil(hold.text, Deed::Disable)),
-    )
+    collect_effect(contributions, 0, Effect::Coil(main.text, pulse))?;
+    collect_effect(contributions, 0, Effect::Coil(hold.text, enable))?;
+    collect_effect(contributions, 1, Effect::Coil(hold.text, Deed::Disable))
 }
 
 /// The main coil holds the flipper up where it may be held, and else is pulsed.
@@ -205,19 +197,10 @@ fn collect_main_coil<'a>(
 {
     let coil = defaults_of(definitions, main.text);
     if !coil.may_hold {
-        return add(
-            contributions,
-            Contribution::DoesIn(0, Effect::Coil(main.text, own_pulse(coil))),
-        );
+        return collect_effect(contributions, 0, Effect::Coil(main.text, own_pulse(coil)));
     }
-    add(
-        contributions,
-        Contribution::DoesIn(0, Effect::Coil(main.text, own_hold(coil))),
-    )?;
-    add(
-        contributions,
-        Contribution::DoesIn(1, Effect::Coil(main.text, Deed::Disable)),
-    )
+    collect_effect(contributions, 0, Effect::Coil(main.text, own_hold(coil)))?;
+    collect_effect(contributions, 1, Effect::Coil(main.text, Deed::Disable))
 }
 
 /// An autofire coil, which is the machine's.
@@ -237,8 +220,5 @@ pub(crate) fn collect_autofire<'a>(
     add(contributions, Contribution::Listens(0, row.switch.text))?;
     collect_acts(contributions, Place::Machine, Act::Enable, row.enables)?;
     collect_acts(contributions, Place::Machine, Act::Disable, row.disables)?;
-    add(
-        contributions,
-        Contribution::DoesIn(0, Effect::Coil(row.coil.text, pulse)),
-    )
+    collect_effect(contributions, 0, Effect::Coil(row.coil.text, pulse))
 }

@@ -12,7 +12,7 @@ ghost use Rattle.plan_tables.specs.declared.table.Table.TheVariants.{Events};
 
 use crate::collect_bound::{collect_bound, collect_each};
 use crate::collect_effects::collect_post;
-use crate::contribution::{Aim, Contribution, Effect, Parts, add, joined, whole};
+use crate::contribution::{Aim, Contribution, Parts, add, joined, whole};
 use mpf_config::config::{ControlAction, Direction as WrittenDirection};
 use mpf_config::{
     ACCRUALS_NAME, Block, COUNTERS_NAME, Counter, Entry, Fields, Handler, Name, SEQUENCES_NAME,
@@ -157,10 +157,7 @@ fn collect_block_lists<'a>(
 ) -> Result<(), AllocError>
     ensures { OnOk result (contributions_view contributions.new.items ≡ contributions_view contributions.old.items ++ effects_from 0 (block_lists name.now (block_view block.entry))) }
 {
-    add(
-        contributions,
-        Contribution::DoesIn(0, Effect::Post(block_event(name, b"_updated"))),
-    )?;
+    collect_post(contributions, 0, block_event(name, b"_updated"))?;
     collect_list(contributions, 1, block.hit, block_event(name, b"_hit"))?;
     collect_list(
         contributions,
@@ -181,10 +178,7 @@ fn collect_list<'a>(
     ensures { OnOk result (contributions_view contributions.new.items ≡ contributions_view contributions.old.items ++ map (does_in number) (map posts (or_own (map name_view names.now) (parts_text own.entry)))) }
 {
     if is_none(names) {
-        return add(
-            contributions,
-            Contribution::DoesIn(number, Effect::Post(own)),
-        );
+        return collect_post(contributions, number, own);
     }
     collect_written(contributions, number, names)
 }
@@ -197,10 +191,7 @@ fn collect_written<'a>(
     ensures { OnOk result (contributions_view contributions.new.items ≡ contributions_view contributions.old.items ++ map (does_in number) (map posts (texts (map name_view names.now)))) }
 {
     for name in names {
-        add(
-            contributions,
-            Contribution::DoesIn(number, Effect::Post(whole(&name.text))),
-        )?;
+        collect_post(contributions, number, whole(&name.text))?;
     }
     Ok(())
 }
