@@ -28,7 +28,13 @@ pub(crate) fn add_ball_device_faults(
 ) -> Result<(), AllocError>
     ensures { OnOk result (row_faults_view faults.new.items ≡ row_faults_view faults.old.items ++ flat_map (ball_device_faults definitions.now.machine text.now) (ball_devices_in (section_view section.now))) }
 {
-    add_ball_devices(alloc, faults, definitions, text, section.entries_of(BALL_DEVICES_NAME))
+    add_ball_devices(
+        alloc,
+        faults,
+        definitions,
+        text,
+        section.entries_of(BALL_DEVICES_NAME),
+    )
 }
 
 /// Adds those of these entries of `ball_devices`.

@@ -34,7 +34,13 @@ pub(crate) fn add_shot_faults(
 ) -> Result<(), AllocError>
     ensures { OnOk result (row_faults_view faults.new.items ≡ row_faults_view faults.old.items ++ flat_map (shot_faults definitions.now text.now) (shots_in (section_view section.now))) }
 {
-    add_shots(alloc, faults, definitions, text, section.entries_of(SHOTS_NAME))
+    add_shots(
+        alloc,
+        faults,
+        definitions,
+        text,
+        section.entries_of(SHOTS_NAME),
+    )
 }
 
 /// Adds those of these entries of `shots`.
