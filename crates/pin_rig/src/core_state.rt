@@ -1,12 +1,14 @@
 //! The state of a machine, with room for the events that wait and the lines.
 
-ghost use Rattle.std.specs.Prelude.{◌≡◌, ◌^◌, ◌<◌, ◌≤◌, ℕ, Some, true, false, IfOk, IfSome, IsSome, length, option_map};
-ghost use Rattle.event_queue.specs.Handlers.{set_running};
+ghost use Rattle.std.specs.Prelude.{◌≡◌, ◌^◌, ◌<◌, ◌≤◌, ℕ, [], None, Some, true, false, IfOk, IfSome, IsSome, length, option_map, replicate, vec_capacity};
+ghost use Rattle.event_queue.specs.Handlers.{none_running, set_running};
+ghost use Rattle.event_queue.specs.Queue.{empty};
 ghost use Rattle.event_queue.specs.PlanOrder.{bound_in_order, GoesOn};
 ghost use Rattle.mode_stack.specs.ModeStep.{starts, started, stopped, stop_answer, entered, ended};
-ghost use Rattle.mode_stack.specs.Modes.{needs_game, mode_state};
-ghost use Rattle.switch_core.specs.Switches.{after_change, reported_by_change, next_due, after_fire, reported_by_fire};
-ghost use Rattle.coil_guard.specs.Coils.{after_release, answer_release};
+ghost use Rattle.mode_stack.specs.Modes.{idle_modes, needs_game, mode_state};
+ghost use Rattle.switch_core.specs.Switches.{IsComplete, all_idle, after_change, reported_by_change, next_due, after_fire, reported_by_fire};
+ghost use Rattle.coil_guard.specs.Asked.{limits_of};
+ghost use Rattle.coil_guard.specs.Coils.{all_off, after_release, answer_release};
 ghost use Rattle.coil_guard.specs.SentCommands.{coil_of};
 ghost use Rattle.device_objects.specs.Laws.{MayCome};
 ghost use Rattle.written_machine.specs.Machine.{initial, write, post, set_switches, set_mode, set_device, set_coils, ask_coil, book, device_at, called, change_variable, has_game, is_post, write_final};
@@ -14,9 +16,9 @@ ghost use Rattle.written_machine.specs.Run.{arrived};
 ghost use Rattle.device_objects.specs.DeviceStep.{device_step};
 ghost use Rattle.plan_tables.specs.Valid.{IsConditionWithin};
 ghost use Rattle.player_game.specs.GameStep.{is_ball_on};
-ghost use Rattle.player_game.specs.Players.{is_met};
+ghost use Rattle.player_game.specs.Players.{is_met, no_players};
 ghost use Rattle.ball_devices.specs.Bookings.{is_awaited};
-ghost use Rattle.ball_devices.specs.Ledger.{origin_of};
+ghost use Rattle.ball_devices.specs.Ledger.{no_balls, origin_of};
 ghost use Rattle.pin_rig.specs.Balls.{IsThere, ledger_call};
 ghost use Rattle.pin_rig.specs.Core.{played, IsWorkOfGame};
 ghost use Rattle.written_machine.specs.NextAlarm.{next_alarm, is_due_by, first_of};
@@ -38,7 +40,7 @@ use plan_tables::{
     VariableAction, VariableId,
 };
 use player_game::{Game, GamePhase, GameWork, Players};
-use std::alloc::Global;
+use std::alloc::{AllocError, Global};
 use std::marker::Model;
 use switch_core::{Change, Switches};
 use written_machine::{Happening, Line};
@@ -79,6 +81,67 @@ impl<'p, D: Device> Model for Core<'p, D> {
     ghost invariant = { λ c. (c.queue.size ≤ vec_capacity c.lines) × (c.modes.plan ≡ c.handlers.plan) × (c.players.plan ≡ c.handlers.plan) × (c.game.rules ≡ c.handlers.plan.game) × (map D.row_of c.devices.items ≡ c.handlers.plan.rows) × (c.alarms ≡ map (λ d. due_of (D.state_of d)) c.devices.items) × (length c.ledger.counted ≡ length c.handlers.plan.rows) };
 }
 
+/// The switches, the modes, the coils, the ledger and the players of a plan, at first.
+#[derive(Drop)]
+struct FirstParts<'p> {
+    switches: Switches,
+    modes: Modes<'p>,
+    coils: Coils,
+    ledger: BallLedger,
+    players: Players<'p>,
+}
+
+/// All switches are inactive, all modes idle and all coils off, no ball is known, and there is no
+/// player.
+fn first_parts<'p>(alloc: Global, plan: &'p Plan) -> Result<FirstParts<'p>, AllocError>
+    ensures switches { IfOk result (λ p. p.switches ≡ all_idle plan.now) }
+    ensures kinds { IfOk result (λ p. length p.switches.kinds ≡ length plan.now.switches) }
+    ensures complete { IfOk result (λ p. IsComplete p.switches) }
+    ensures modes { IfOk result (λ p. p.modes ≡ idle_modes plan.now) }
+    ensures coils { IfOk result (λ p. p.coils ≡ all_off (limits_of plan.now)) }
+    ensures count { IfOk result (λ p. length p.coils ≡ length plan.now.coils) }
+    ensures ledger { IfOk result (λ p. p.ledger ≡ no_balls plan.now) }
+    ensures players { IfOk result (λ p. p.players ≡ record { plan = plan.now; state = no_players }) }
+{
+    Ok(FirstParts {
+        switches: Switches::new(alloc, plan)?,
+        modes: Modes::new(alloc, plan)?,
+        coils: Coils::new(alloc, plan)?,
+        ledger: BallLedger::new(alloc, plan)?,
+        players: Players::new(alloc, plan)?,
+    })
+}
+
+/// The alarms, and what waits and who handles it, with room for what comes.
+#[derive(Drop)]
+struct WaitingParts<'p> {
+    alarms: Alarms,
+    queue: Queue,
+    handlers: Handlers<'p>,
+    lines: Vec<Line>,
+}
+
+/// Nothing is due and no event waits, and the machine alone handles events. There is room for so
+/// many events that wait, and so many lines.
+fn waiting_parts<'p>(
+    alloc: Global,
+    plan: &'p Plan,
+    room: usize,
+) -> Result<WaitingParts<'p>, AllocError>
+    ensures alarms { IfOk result (λ w. w.alarms ≡ replicate (length plan.now.rows) None) }
+    ensures queue { IfOk result (λ w. w.queue ≡ empty room) }
+    ensures handlers { IfOk result (λ w. w.handlers ≡ record { plan = plan.now; running = none_running plan.now }) }
+    ensures lines { IfOk result (λ w. w.lines.items ≡ []) }
+    ensures room { IfOk result (λ w. room ≤ vec_capacity w.lines) }
+{
+    Ok(WaitingParts {
+        alarms: Alarms::new(alloc, plan.rows().len() as u16)?,
+        queue: Queue::new(alloc, room)?,
+        handlers: Handlers::new(alloc, plan)?,
+        lines: Vec::with_capacity(alloc, room)?,
+    })
+}
+
 impl<'p, D: Device> Core<'p, D> {
     ghost use Rattle.std.specs.Prelude.{map};
     ghost use Rattle.pin_rig.specs.Fit.{IsFit, IsFirstWrong};
@@ -102,32 +165,24 @@ impl<'p, D: Device> Core<'p, D> {
         ensures fit { IfOk result (λ c. IsFit plan.now (map D.row_of devices.items) (map D.state_of devices.items)) }
         ensures wrong { (row : ℕ) → result ≡ Err (RigFault.WrongDevice (record { 0 = row })) → IsFirstWrong plan.now (map D.row_of devices.items) (map D.state_of devices.items) row }
     {
-        let switches = Switches::new(alloc, plan)?;
-        let modes = Modes::new(alloc, plan)?;
-        let alarms = Alarms::new(alloc, plan.rows().len() as u16)?;
-        let coils = Coils::new(alloc, plan)?;
-        let ledger = BallLedger::new(alloc, plan)?;
-        let players = Players::new(alloc, plan)?;
-        let game = Game::new(plan);
-        let queue = Queue::new(alloc, room)?;
-        let handlers = Handlers::new(alloc, plan)?;
-        let lines = Vec::with_capacity(alloc, room)?;
+        let first = first_parts(alloc, plan)?;
+        let waiting = waiting_parts(alloc, plan, room)?;
         if let Some(row) = first_wrong(plan, &devices) {
             return Err(RigFault::WrongDevice(row));
         }
         Ok(Core {
             moment: 0,
-            switches,
-            modes,
+            switches: first.switches,
+            modes: first.modes,
             devices,
-            alarms,
-            coils,
-            ledger,
-            players,
-            game,
-            queue,
-            handlers,
-            lines,
+            alarms: waiting.alarms,
+            coils: first.coils,
+            ledger: first.ledger,
+            players: first.players,
+            game: Game::new(plan),
+            queue: waiting.queue,
+            handlers: waiting.handlers,
+            lines: waiting.lines,
         })
     }
 

@@ -17,11 +17,11 @@ returns-clause-plan g c =
     let plan = c.args.plan.now in
     record {
       devices = subst (HasDevices plan) (sym (ap (map g.D.Device.state_of) (sym c.deref.ensures.value) ∙ c.in_default.ensures.fit.states_are)) (initial-devices plan);
-      coils = c.in_ok-coils.ensures.count;
-      modes = ap (λ s. length s.modes) c.in_ok-modes.ensures.idle ∙ length-replicate (length plan.modes) (in_phase Idle);
-      handlers = c.in_ok-handlers.ensures ∙ (λ i. record { plan = plan; running = (idle-runs plan ∙ ap (λ s. running_of s.modes) (sym c.in_ok-modes.ensures.idle)) i });
-      kinds = c.in_ok-switches.ensures.count;
-      complete = c.in_ok-switches.ensures.complete;
+      coils = c.in_ok-first.ensures.count;
+      modes = ap (λ s. length s.modes) c.in_ok-first.ensures.modes ∙ length-replicate (length plan.modes) (in_phase Idle);
+      handlers = c.in_ok-waiting.ensures.handlers ∙ (λ i. record { plan = plan; running = (idle-runs plan ∙ ap (λ s. running_of s.modes) (sym c.in_ok-first.ensures.modes)) i });
+      kinds = c.in_ok-first.ensures.kinds;
+      complete = c.in_ok-first.ensures.complete;
     }
 
 pub invariant_of-result : goal.invariant_of-result
@@ -33,7 +33,7 @@ invariant_of-result g c =
       search rules,
       search rules,
       search rules,
-      ap (map g.D.Device.row_of) (sym c.deref.ensures.value) ∙ fit.rows_are ∙ sym (ap (λ h. h.plan.rows) c.in_ok-handlers.ensures),
-      c.in_ok-alarms.ensures ∙ ap (λ (rs : List DeviceRow). replicate (length rs) None) c.rows.ensures.rows ∙ sym (dues-are g.D.Device.state_of c.args.devices.items ∙ ap (map due_of) states ∙ first-dues rows),
-      ap (λ l. length l.counted) c.in_ok-ledger.ensures.empty ∙ length-replicate (length rows) 0 ∙ sym (ap (λ h. length h.plan.rows) c.in_ok-handlers.ensures),
+      ap (map g.D.Device.row_of) (sym c.deref.ensures.value) ∙ fit.rows_are ∙ sym (ap (λ h. h.plan.rows) c.in_ok-waiting.ensures.handlers),
+      c.in_ok-waiting.ensures.alarms ∙ sym (dues-are g.D.Device.state_of c.args.devices.items ∙ ap (map due_of) states ∙ first-dues rows),
+      ap (λ l. length l.counted) c.in_ok-first.ensures.ledger ∙ length-replicate (length rows) 0 ∙ sym (ap (λ h. length h.plan.rows) c.in_ok-waiting.ensures.handlers),
     )
