@@ -468,24 +468,8 @@ impl<'p, D: Device> Core<'p, D> {
     pub(crate) fn stop_devices(self)
         requires { self.machine.moment < 2 ^ 40 }
     {
-        let Core {
-            moment,
-            switches: _,
-            modes: _,
-            mut devices,
-            alarms: _,
-            coils: _,
-            ledger: _,
-            players,
-            game,
-            queue: _,
-            handlers: _,
-            lines: _,
-        } = self;
-        let world = game.world(&players);
-        for device in &mut devices {
-            stop_one(device, moment, world);
-        }
+        let world = self.game.world(&self.players);
+        stop_all(self.devices, self.moment, world);
     }
 
     /// The raw level of the switch that is due next is accepted, which one must be.
@@ -511,6 +495,16 @@ fn call_one<D: Device>(device: &mut D, call: Call, now: u64, world: World) -> Ou
         Call::ModeStop => device.stop(now, world),
         Call::Fire => device.fire(now, world),
         Call::Act(act) => device.act(act, now, world),
+    }
+}
+
+/// Devices stop, and are dropped.
+fn stop_all<D: Device>(devices: Vec<D>, moment: u64, world: World)
+    requires { moment < 2 ^ 40 }
+{
+    let mut devices = devices;
+    for device in &mut devices {
+        stop_one(device, moment, world);
     }
 }
 
