@@ -48,26 +48,32 @@ pub fn faults_of_rows(alloc: Global, config: &Config) -> Result<Vec<RowFault>, A
 }
 
 /// The faults of all texts: of the machine text, then of the modes' in their order.
-fn faults_of_texts<'a>(
+fn faults_of_texts(
     alloc: Global,
     modes: &ModeEvents,
-    config: &'a Config,
+    config: &Config,
 ) -> Result<Vec<RowFault>, AllocError>
     ensures { IfOk result (λ faults. row_faults_view faults.items ≡ faults_by (keys_view modes.now) (rows_view config.now)) }
 {
     let definitions = Definitions::new(alloc, config)?;
+    faults_with(alloc, modes, &definitions, config)
+}
+
+/// The same, where the definitions are those of the configuration.
+fn faults_with<'a>(
+    alloc: Global,
+    modes: &ModeEvents,
+    definitions: &Definitions<'_>,
+    config: &'a Config,
+) -> Result<Vec<RowFault>, AllocError>
+    requires { definitions.now ≡ rows_view config.now }
+    ensures { IfOk result (λ faults. row_faults_view faults.items ≡ faults_by (keys_view modes.now) (rows_view config.now)) }
+{
     let machine: &'a [Section] = config.machine.sections.as_slice();
     let texts: &'a [ModeText] = config.modes.as_slice();
     let mut taken: Shots<'a> = BTreeSet::new(alloc);
-    let mut faults = faults_of_text(
-        alloc,
-        &mut taken,
-        modes,
-        &definitions,
-        MACHINE_NAME,
-        machine,
-    )?;
-    add_modes(alloc, &mut faults, &mut taken, modes, &definitions, texts)?;
+    let mut faults = faults_of_text(alloc, &mut taken, modes, definitions, MACHINE_NAME, machine)?;
+    add_modes(alloc, &mut faults, &mut taken, modes, definitions, texts)?;
     Ok(faults)
 }
 

@@ -9,17 +9,17 @@ use Rattle.row_faults.specs.FaultView.{RowFaultView}
 use Rattle.row_faults.specs.RowFaults.{text_faults, mode_faults, is_none_taken}
 use Rattle.row_faults.specs.ShotFaults.{listed_of, taken_after}
 use Rattle.row_faults.specs.View.{keys_view}
-use Rattle.row_faults.proofs.rows.faults_of_texts.Goals as goal
+use Rattle.row_faults.proofs.rows.faults_with.Goals as goal
 
 pub returns : goal.returns
 returns c =
     let modes = keys_view c.args.modes.now in
-    let given = c.in_ok-definitions.definitions in
+    let given = c.args.definitions.now in
     let machine = c.as_slice-machine.result.now in
     let texts = c.as_slice-texts.result.now in
     let nothing = is_found c.new-taken.result in
     let none : nothing ≡ is_none_taken = λ i name. ap (λ (keys : List (Bor (List ℕ))). list_any (has_bytes name) keys) c.new-taken.ensures.empty i in
-    let is : given ≡ rows_view c.args.config.now = c.in_ok-definitions.ensures in
+    let is : given ≡ rows_view c.args.config.now = c.requires in
     c.in_ok-add_modes.ensures
     ∙ ap (λ (fs : List RowFaultView). fs ++ mode_faults modes given (is_found c.faults_of_text.new.taken) (map mode_view texts)) c.in_ok-faults.ensures.faults
     ∙ ap (λ (test : List ℕ → Bool). text_faults modes given nothing machine_name (map section_view machine) ++ mode_faults modes given test (map mode_view texts)) c.in_ok-faults.ensures.taken
