@@ -91,22 +91,21 @@ fn pinball<'a>(alloc: Global) -> Result<Command<'a>, AllocError>
     ensures { IfOk result (λ command. app_of command ≡ pinball_app) }
 {
     let check = check_command(alloc)?;
+    let command = program(alloc).subcommand(check)?;
     let verify = path_command(
         alloc,
         "verify",
         "Verifies a certificate of a configuration",
         path_argument(alloc, "CERT", "The file with the certificate"),
     )?;
+    let command = command.subcommand(verify)?;
     let play = path_command(
         alloc,
         "play",
         "Plays a log on a configuration",
         path_argument(alloc, "LOG", "The file with the log of the switches"),
     )?;
-    program(alloc)
-        .subcommand(check)?
-        .subcommand(verify)?
-        .subcommand(play)
+    command.subcommand(play)
 }
 
 fn program<'a>(alloc: Global) -> Command<'a>
