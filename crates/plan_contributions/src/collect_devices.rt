@@ -11,7 +11,7 @@ ghost use Rattle.plan_contributions.specs.View.{parts_text, contributions_view};
 ghost use Rattle.plan_tables.specs.declared.table.Table.TheVariants.{Events};
 
 use crate::collect_bound::{collect_bound, collect_each};
-use crate::collect_effects::collect_post;
+use crate::collect_effects::{collect_event, collect_post};
 use crate::contribution::{Aim, Contribution, Parts, add, joined, whole};
 use mpf_config::config::{ControlAction, Direction as WrittenDirection};
 use mpf_config::{
@@ -22,7 +22,6 @@ use plan_rows::{Place, is_none};
 use plan_tables::devices::{
     Act, BlockSettings, CounterSettings, Direction, Settings, StepSettings, TimerSettings,
 };
-use plan_tables::table::Table;
 use std::alloc::AllocError;
 
 /// What an entry gives where it is a device, after what is there.
@@ -134,10 +133,7 @@ fn collect_mentions<'a>(
     ensures { OnOk result (contributions_view contributions.new.items ≡ contributions_view contributions.old.items ++ map (mentions Events) (texts (map name_view names.now))) }
 {
     for name in names {
-        add(
-            contributions,
-            Contribution::Mentions(Table::Events, whole(&name.text)),
-        )?;
+        collect_event(contributions, whole(&name.text))?;
     }
     Ok(())
 }

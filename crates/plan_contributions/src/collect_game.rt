@@ -7,10 +7,10 @@ ghost use Rattle.plan_contributions.specs.Contributions.{mentions, game_contribu
 ghost use Rattle.plan_contributions.specs.View.{contributions_view};
 ghost use Rattle.plan_tables.specs.declared.table.Table.TheVariants.{Events};
 
+use crate::collect_effects::collect_event;
 use crate::contribution::{Contribution, add, whole};
 use machine_definitions::{Definitions, GAME_EVENT_NAMES};
 use mpf_config::GameSettings;
-use plan_tables::table::Table;
 use std::alloc::AllocError;
 
 /// The events of the game, and its rules.
@@ -41,10 +41,7 @@ fn collect_events<'a>(
     ensures { OnOk result (contributions_view contributions.new.items ≡ contributions_view contributions.old.items ++ map (mentions Events) (map (λ n. n.now) names.now)) }
 {
     for name in names {
-        add(
-            contributions,
-            Contribution::Mentions(Table::Events, whole(name)),
-        )?;
+        collect_event(contributions, whole(name))?;
     }
     Ok(())
 }

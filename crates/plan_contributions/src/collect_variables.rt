@@ -9,12 +9,12 @@ ghost use Rattle.plan_contributions.specs.Contributions.{item_contributions, var
 ghost use Rattle.plan_contributions.specs.View.{contributions_view, effect_view};
 
 use crate::collect_bound::collect_bound;
+use crate::collect_effects::collect_event;
 use crate::contribution::{Aim, Contribution, Effect, add, player_event};
 use mpf_config::config::VariableAction as WrittenAction;
 use mpf_config::{Keyed, VariableItem, VariablePlayer, as_variable_item};
 use plan_rows::Place;
 use plan_tables::entries::VariableAction;
-use plan_tables::table::Table;
 use std::alloc::AllocError;
 
 /// What is done with a variable, in the plan.
@@ -62,7 +62,7 @@ fn collect_changes<'a>(
     for keyed in items {
         let item = as_variable_item(keyed);
         let event = player_event(&item.variable.text);
-        add(contributions, Contribution::Mentions(Table::Events, event))?;
+        collect_event(contributions, event)?;
         add(contributions, Contribution::Does(change_of(item)))?;
     }
     Ok(())

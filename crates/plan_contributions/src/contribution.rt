@@ -115,7 +115,8 @@ pub enum Contribution<'a> {
     },
 }
 
-/// Adds one more.
+/// Adds one more. Everything in this crate adds by this call: where memory is out, `push` hands back what it was given,
+/// and each `?` after a `push` would have to drop it, which is slow to prove.
 pub(crate) fn add<'a>(
     contributions: &mut Vec<Contribution<'a>>,
     more: Contribution<'a>,
