@@ -216,7 +216,7 @@ pub fn listed_modes(sections: &[Section]) -> &[Name]
 // ---- sections
 
 /// The content of the section of this name, if there is one.
-pub fn section_named<'a>(sections: &'a [Section], name: &[u8]) -> Option<&'a Content>
+pub(crate) fn section_named<'a>(sections: &'a [Section], name: &[u8]) -> Option<&'a Content>
     ensures { option_map (λ content. content_view content.now) result ≡ content_named name.now (map section_view sections.now) }
 {
     for section in sections {
