@@ -59,8 +59,8 @@ impl BallLedger {
         })
     }
 
-    /// A ball enters a device: one that was on its way to the device, else one from the playfield,
-    /// else a new one. Reports which.
+    /// Books that a ball enters a device, and returns where it came from: it was on its way to the
+    /// device, else on the playfield, else it is new. Fewer than 2^32 balls are known before.
     pub fn enter(&mut self, device: RowId) -> Origin
         requires device { device.0 < length self.old.counted }
         requires room { self.old.known < 2 ^ 32 }
@@ -125,7 +125,7 @@ impl BallLedger {
         self.counted[number] -= 1;
     }
 
-    /// A ball that was on its way to the target is on the playfield.
+    /// Books that a ball that was on its way to the target is on the playfield. There is such a ball.
     pub fn arrived(&mut self, target: BallTarget)
         requires target { IsTargetThere (length self.old.counted) target }
         requires ball { 0 < transit_to self.old target }

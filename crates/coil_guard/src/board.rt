@@ -8,10 +8,9 @@ use thiserror::Error;
 #[error("BoardFault")]
 pub struct BoardFault;
 
-/// A board takes commands to coils, one at a time. It has a count of its faults. It may tell the
-/// list of the commands that it has taken, and then its meaning includes this list. It may also tell
-/// its answers to the commands to come, and then it is held to them. What a board does with a coil,
-/// no contract can say.
+/// A board takes commands to coils, one at a time, and counts its faults. It may report the list of
+/// the commands that it has taken. It may also report its answers to the commands to come, and then it
+/// has to give these answers. What a board does with a coil, no contract can say.
 pub trait Board: Drop {
     ghost use Rattle.std.specs.Prelude.{◌≡◌, ◌↔◌, ℕ, Option, List, is_ok, IsErr, OnOk};
     ghost use Rattle.coil_guard.specs.declared.command.Command.{Command};
@@ -19,18 +18,19 @@ pub trait Board: Drop {
 
     /// The count of faults.
     ghost fault_count: { Self → ℕ };
-    /// The commands that were taken, first taken first, where the board tells them.
+    /// The commands that were taken, first taken first, if the board reports them.
     ghost told: { Self → Option (List Command) };
-    /// The answers to the commands to come, where the board tells them.
+    /// The answers to the commands to come, if the board reports them.
     ghost answers: { Self → Answers } = { λ _. untold };
 
-    /// Takes a command. A told list grows by it, or is told no more. A board that tells its answer
-    /// takes the command exactly if that is the answer, and its later answers stay as they were.
+    /// Takes a command. A reported list has grown by it, or is no longer reported. A board that
+    /// reports its answer takes the command exactly if that is the answer, and its later answers stay as
+    /// they were.
     ///
     /// # Errors
     ///
-    /// `BoardFault`: the board has not taken the command. The count of faults has risen, or stood
-    /// at its last value, 2^64 - 1. A told list stays as it was.
+    /// `BoardFault`: the board has not taken the command. The count of faults has risen, or it was
+    /// 2^64 - 1 already. A reported list stays as it was.
     fn send(&mut self, command: Command) -> Result<(), BoardFault>
         ensures fault { IsErr result ↔ HasFaulted (fault_count self.old) (fault_count self.new) }
         ensures count { OnOk result (fault_count self.new ≡ fault_count self.old) }

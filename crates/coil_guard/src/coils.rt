@@ -52,8 +52,8 @@ impl Coils {
         Ok(Coils { coils })
     }
 
-    /// Does what `pulse`, `enable` or `disable` does, as the command says, which the owner asks for
-    /// at the moment `now`.
+    /// Does what `pulse`, `enable` or `disable` does for a command that the owner asks for at the moment
+    /// `now`, below 2^40 ms. The coil is one of the plan's.
     pub fn ask(&mut self, command: Command, owner: Owner, now: u64) -> Answer
         requires coil { (coil_of command).0 < length self.old }
         requires now { now < 2 ^ 40 }

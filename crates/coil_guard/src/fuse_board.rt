@@ -10,8 +10,8 @@ use std::rc::Rc;
 /// The commands that a `FuseBoard` took, which its test shares with it.
 pub type Taken = Rc<RefCell<ArrayVec<Command, 1024>>>;
 
-/// A board for tests that faults at one command, or from one command on. It tells which commands to
-/// come these are. It tells no list, but adds the commands that it takes to one that a test shares.
+/// A board for tests that faults at one command, or from one command on. It reports its answers to the
+/// commands to come, and no list. It adds each command that it takes to a list that a test shares.
 #[derive(Drop)]
 pub struct FuseBoard {
     /// How many commands come until the first fault, and with it; 0 if it is past.

@@ -12,8 +12,8 @@ const ROOM: usize = 1_024;
 /// How far the board counts: to one more than it keeps.
 const COUNTED: u16 = 1_025;
 
-/// A board that takes every command and keeps the latest 1,024 of them. It tells the list of its
-/// commands until it has taken more than it keeps. It tells that it takes all commands to come.
+/// A board that takes every command and keeps the latest 1,024 of them. It reports the list of its
+/// commands until it has taken more than 1,024, and reports that it takes all commands to come.
 #[derive(Drop)]
 pub struct MemoryBoard {
     kept: HeapCircularBuffer<Command>,

@@ -11,7 +11,7 @@ use thiserror::Error;
 /// What is wrong with a certificate.
 #[derive(Debug, Drop, Error)]
 pub enum CertificateFault {
-    /// The first line that is not as it has to be, counted from 1.
+    /// The number, from 1, of the first line that is not in the format of a certificate.
     #[error("Line {0}")]
     Line(usize),
     /// Its events are not those of the plan, in the order of their numbers.

@@ -22,7 +22,7 @@ pub enum ShellFault {
     Write,
     /// A text is longer than its limit.
     TooLong,
-    /// The devices are not those of the plan's rows, one for each in its first state.
+    /// A device is not the one of its row in its first state, or there are too few or too many devices.
     WrongDevice,
 }
 
@@ -74,6 +74,10 @@ impl Failure {
 
     /// Writes what standard error gets: the line `fault: NAME`, and a second one, `file: PATH`, if
     /// a file is at fault.
+    ///
+    /// # Errors
+    ///
+    /// The writer's. Then any part of this may have been written.
     pub fn write<W: Write>(&self, writer: &mut W) -> io::Result<()>
         ensures { OnOk result (Appends (W.contents writer.old) (W.contents writer.new) (failure_text self.now.fault (option_map string_bytes self.now.file))) }
     {

@@ -18,11 +18,12 @@ pub fn printed_certificate_is_verified()
     ensures short { AcceptedIsShort (2 ^ 20) }
 {}
 
-/// The law of certificates in play. `play_text` writes the same for every log, and gives the same
-/// verdict, whatever weights and bound the plan was accepted with: those that `check` found, or
-/// those of a certificate. Both are functions of `printed_for_log`.
+/// The law of certificates in play. If a log is played out, the lines of its trace and of the log
+/// lines that are refused are the same, and so is the verdict, whatever weights and bound the plan was
+/// accepted with: those that `check` found, or those of a certificate.
 ///
-/// It does nothing: its contract is the law, over what is printed for a log.
+/// It does nothing: its contract is the law, over `printed_for_log`, which is what `play_text` prints
+/// for a log that is played out.
 pub fn any_certificate_plays_the_same()
     ensures { PlaysTheSame }
 {}
@@ -38,7 +39,7 @@ pub fn log_gives_one_play()
     ensures play { GivesOnePlay }
 {}
 
-/// The law of boards that tell their answers. On two boards that tell the same answers to all
+/// The law of boards that report their answers. On two boards that report the same answers to all
 /// commands to come, `play_text` writes the same for a log, puts off the same coils, and gives the
 /// same verdict: all this follows from the plan, the log and the answers. On a board that takes all
 /// commands, as a `MemoryBoard` does, every log is played out.

@@ -51,13 +51,12 @@ pub(crate) enum Stop {
 /// last. Equal handlers run in plan order. At the end no event waits.
 ///
 /// The board is sent the commands of the lines, in order, and at the end a disable for each coil
-/// that is still on. Where it does not take a command of the trace, the log ends there: the lines
-/// before the line of this command are written, and then that the log's line is refused that was
-/// being played. The machine is shut down in this case too, and this coil is put off with those
-/// that are on.
+/// that is still on. If it does not take a command of the trace, the log ends there: the lines before
+/// that of the command are written, and then `refused` for the line of the log that was being played.
+/// The machine is shut down in this case too, and this coil is put off with those that are on.
 ///
-/// Where the board tells its answers to the commands to come, they say whether and where the log
-/// ends so. Then all that is written follows from the plan, the log and these answers.
+/// If the board reports its answers to the commands to come, all that is written follows from the
+/// plan, the log and these answers.
 ///
 /// # Errors
 ///
@@ -69,8 +68,8 @@ pub(crate) enum Stop {
 /// - `Write`: the writer failed. How much was written is not said.
 ///
 /// The log is read to its end, and all memory taken, before anything is written. So after all but
-/// the last nothing has been written, and nothing was sent to the board. After the last, the coils
-/// that are on are put off. The devices and the board are dropped in any case.
+/// the last nothing has been written. After the last, the coils that are on are put off. The devices and
+/// the board are dropped in any case. No clause says what was sent to the board before an error.
 pub fn play_text<D: Device, B: Board, R: Read, W: Write>(
     alloc: Global,
     checked: &Checked,

@@ -12,10 +12,12 @@ use std::io::Read;
 /// How many bytes a read asks for.
 const PIECE: usize = 8192;
 
-/// All bytes that the reader gives, up to its end, which is a read of nothing. The reader is asked
-/// at most `limit` + 1 times.
+/// All bytes that the reader gives, up to the first read of no byte. The reader is asked at most
+/// `limit` + 1 times.
 ///
 /// # Errors
+///
+/// After each of them, how far the reader has been read is not said.
 ///
 /// - `Read`: a read failed.
 /// - `TooLong`: there are more than `limit` bytes. Nothing is read after the first read that shows

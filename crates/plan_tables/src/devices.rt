@@ -143,7 +143,7 @@ pub enum Settings {
     Bank(BankSettings),
     /// A flipper. What one flipper does, and another does not, is in their effect lists.
     Flipper,
-    /// An autofire coil. Which coil it is stands in its effect list.
+    /// An autofire coil. Which coil it is, is in its effect list.
     Autofire,
     BallDevice(BallSettings),
 }
@@ -235,7 +235,7 @@ pub struct DeviceRow {
     pub settings: Settings,
 }
 
-/// What a device is told to do. It ignores acts of other kinds, and the numbers of steps, shots or
+/// What a device is asked to do. It ignores acts of other kinds, and the numbers of steps, shots or
 /// switches that it does not have.
 #[derive(Clone, Copy, Debug)]
 pub enum Act {
@@ -251,7 +251,7 @@ pub enum Act {
     Reset,
     /// The device begins anew, and acts from now on.
     Restart,
-    /// A timer runs, or a multiball begins.
+    /// A timer runs.
     Start,
     /// A timer stops running, and reports `stopped`.
     Stop,
@@ -285,8 +285,4 @@ pub enum Act {
     Confirm,
     /// A trough is asked to eject this many more balls.
     Request(usize),
-    /// A ball save gives a drained ball back.
-    Save,
-    /// A multiball ends.
-    End,
 }

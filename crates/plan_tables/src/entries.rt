@@ -67,7 +67,7 @@ pub struct Condition {
     pub number: i64,
 }
 
-/// An effect list, by its number: below 21,504.
+/// An effect list, by its number: below 311,296.
 #[derive(Clone, Copy, Debug)]
 pub struct ListId(pub u32);
 
@@ -183,7 +183,7 @@ impl GameEvent {
 /// What a plan says of the game.
 #[derive(Clone, Copy)]
 pub struct GameRules {
-    /// So many balls have to be in devices tagged `trough` or `home` for a game to begin: at most 99.
+    /// The fewest balls in devices tagged `trough` or `home` with which a game begins: at most 99.
     pub min_balls: u32,
     /// How many balls each player has: from 1 to 99.
     pub balls_per_game: u32,

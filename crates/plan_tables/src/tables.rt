@@ -69,11 +69,11 @@ impl Plan {
     ghost use Rattle.plan_tables.specs.Valid.{IsRowWithin, IsValid, IsWorkAt};
     ghost use Rattle.plan_tables.specs.Devices.{IsWithinLimits, list_count};
 
-    /// The plan of these tables.
+    /// The plan of these tables, which have to be valid, with a name for each switch and each coil.
     ///
     /// # Errors
     ///
-    /// Memory ran out.
+    /// `AllocError`: memory ran out.
     pub fn new(alloc: Global, tables: Tables) -> Result<Plan, AllocError>
         requires valid { IsValid (tables_view tables) }
         requires switches { length tables.switches.items ≡ length (name_sets_view tables.names Switches) }
