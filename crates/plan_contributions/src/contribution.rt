@@ -128,7 +128,7 @@ pub(crate) fn add<'a>(
 }
 
 /// A name in three pieces.
-pub fn joined<'a>(front: &'a [u8], middle: &'a [u8], end: &'a [u8]) -> Parts<'a>
+pub(crate) fn joined<'a>(front: &'a [u8], middle: &'a [u8], end: &'a [u8]) -> Parts<'a>
     ensures { parts_text result ≡ front.now ++ middle.now ++ end.now }
 {
     Parts {

@@ -19,6 +19,6 @@ pub mod contribution;
 pub use collect::collect_row;
 pub use collect_devices::direction_in_plan;
 pub use contribution::{
-    Aim, Contribution, Deed, Effect, Parts, given, joined, mode_event_name, player_event, used,
-    whole, write_name,
+    Aim, Contribution, Deed, Effect, Parts, given, mode_event_name, player_event, used, whole,
+    write_name,
 };
