@@ -19,16 +19,17 @@ use Rattle.written_machine.proofs.Reached.{reached-next, reached-within, reached
 use Rattle.written_machine.proofs.Alarms.{has_states-begin, moment-begin, moment-after}
 use Rattle.written_machine.specs.NextAlarm.{next_alarm}
 use Rattle.written_machine.proofs.Silence.{begin-still}
+use Rattle.coil_driver.specs.Board.{HasTakenAll, commands_of, after_lines}
+use Rattle.coil_driver.specs.Driver.{DriverView, IsSendable, HasSent, HasStopped}
+use Rattle.coil_driver.proofs.Sending.{cascade-agrees, sent-sendable}
+use Rattle.coil_driver.specs.Agrees.{Agrees}
+use Rattle.machine_core.specs.Core.{CoreView, IsCoreOf, CanCall, HandlesFor, IsPlayable, HasRoom, StaysWithin, HasSettled, after}
+use Rattle.machine_core.proofs.Settling.{follows-handles}
+use Rattle.machine_core.proofs.Room.{drop-found}
 use Rattle.pin_rig.specs.declared.input.Input.{Input}
-use Rattle.pin_rig.specs.Core.{CoreView, IsCoreOf, CanCall, HandlesFor, IsPlayable, HasRoom, StaysWithin, HasSettled, after}
-use Rattle.pin_rig.proofs.Settling.{follows-handles}
-use Rattle.pin_rig.specs.Board.{HasTakenAll, commands_of, after_lines}
-use Rattle.pin_rig.specs.Driver.{DriverView, IsSendable, HasSent, HasStopped}
 use Rattle.pin_rig.specs.Rig.{RigView, stimulus_at, RigCascade, RigStep, RigHalt}
 use Rattle.pin_rig.specs.Inside.{IsHeld}
 use Rattle.pin_rig.proofs.Judging.{judged-allowed, judged-running, judged-asks, AsksFor}
-use Rattle.pin_rig.proofs.Room.{drop-found}
-use Rattle.pin_rig.proofs.Sending.{Agrees, cascade-agrees, sent-sendable}
 
 -- what a machine is asked for its core can do
 asked-playable : (rig : RigView) (core : CoreView) (stimulus : Stimulus) → rig.machine ≡ core.machine → length core.machine.switches.kinds ≡ length rig.checked.plan.switches → AsksFor rig stimulus → IsPlayable core stimulus

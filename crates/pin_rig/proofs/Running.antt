@@ -25,13 +25,14 @@ use Rattle.written_machine.specs.Machine.{initial}
 use Rattle.written_machine.specs.Sent.{sent_at, sent_in, sendings}
 use Rattle.written_machine.proofs.Alarms.{forward, moment-after, not_late-run, not_late-initial}
 use Rattle.written_machine.proofs.Guarded.{follows-run}
+use Rattle.coil_driver.specs.Board.{BoardView, HasTakenAll, commands_of, after_happening, after_line, after_lines, TellsMore}
+use Rattle.coil_driver.proofs.Sending.{cascade-agrees}
+use Rattle.coil_driver.specs.Agrees.{IsSent, AreSent}
+use Rattle.coil_driver.proofs.Serving.{taken-append, commands-append, taken-tells}
 use Rattle.pin_rig.specs.declared.input.Input.{Input}
-use Rattle.pin_rig.specs.Board.{BoardView, HasTakenAll, commands_of, after_happening, after_line, after_lines, TellsMore}
 use Rattle.pin_rig.specs.Rig.{RigView, RigCascade}
 use Rattle.pin_rig.specs.Steps.{AreSteps, AreStepsToHalt, at_rest, IsRunOf}
 use Rattle.pin_rig.proofs.Judging.{judged-of_input}
-use Rattle.pin_rig.proofs.Sending.{IsSent, AreSent, cascade-agrees}
-use Rattle.pin_rig.proofs.Serving.{taken-append, commands-append, taken-tells}
 
 -- ---- the run
 

@@ -1,29 +1,14 @@
--- What a rig holds, and what is seen of a stimulus, apart from where they lie in memory.
+-- What a rig holds, and what is returned for an input.
 use Rattle.std.specs.Prelude.{◌≡◌, ℕ, ◌<◌, ◌≤◌, ◌^◌, None, Result, Ok, Err, List, length}
 use Rattle.written_machine.specs.Accepted.{IsAccepted}
 use Rattle.written_machine.specs.CheckedView.{CheckedView}
-use Rattle.written_machine.specs.Run.{Source, switch, device, Stimulus, Change, Alarm, Wait, IsReached}
+use Rattle.written_machine.specs.Run.{Stimulus, IsReached}
+use Rattle.coil_driver.specs.Driver.{DriverView}
+use Rattle.machine_core.specs.declared.stimulus.Stimulus.{Stimulus as HeldStimulus}
+use Rattle.machine_core.specs.Core.{CoreView, IsCoreOf}
+use Rattle.machine_core.specs.Stimuli.{stimulus_view}
 use Rattle.pin_rig.specs.declared.input.StepFault.{StepFault}
-use Rattle.pin_rig.specs.declared.stimulus.Source.{Source as HeldSource}
-use Rattle.pin_rig.specs.declared.stimulus.Source.TheVariants as held_source
-use Rattle.pin_rig.specs.declared.stimulus.Stimulus.{Stimulus as HeldStimulus}
-use Rattle.pin_rig.specs.declared.stimulus.Stimulus.TheVariants as held
-use Rattle.pin_rig.specs.Core.{CoreView, IsCoreOf}
-use Rattle.pin_rig.specs.Driver.{DriverView}
 use Rattle.written_machine.specs.declared.line.Line.{Line}
-
-abbrev pub source_view : HeldSource → Source
-source_view (held_source.Switch n) = switch n
-source_view (held_source.Device r) = device r
-
--- an alarm: its moment, and what it comes from
-abbrev pub alarm_view : ℕ × HeldSource → ℕ × Source
-alarm_view a = (a.0, source_view a.1)
-
-abbrev pub stimulus_view : HeldStimulus → Stimulus
-stimulus_view (held.Change at n level) = Change at n level
-stimulus_view (held.Alarm at source) = Alarm at (source_view source)
-stimulus_view (held.Wait at) = Wait at
 
 -- what is returned for a stimulus, or for why there is none
 abbrev pub GivesStimulus : Result HeldStimulus StepFault → Result Stimulus StepFault → Type 0

@@ -1,12 +1,7 @@
 pub mod Refused
-pub mod Fit
-pub mod Board
 pub mod Rig
 pub mod Steps
 pub mod ShutDown
 -- What the contracts of private functions cite; `step` cites Lending, for the lines that it lends.
 pub mod Lending
-pub mod Core
-pub mod Balls
-pub mod Driver
 pub mod Inside

@@ -13,12 +13,12 @@ use Rattle.written_machine.specs.EventStep.{EventSteps}
 use Rattle.written_machine.specs.Run.{Source, Stimulus, Change, Alarm, Wait, IsAllowed, begin, IsReached}
 use Rattle.written_machine.specs.NextAlarm.{next_alarm, is_due_by}
 use Rattle.written_machine.specs.PlanOrder.{settled}
+use Rattle.coil_driver.specs.Board.{BoardView, HasTakenAll, HasNotTaken, commands_of, after_lines}
 use Rattle.pin_rig.specs.declared.input.Input.{Input}
 use Rattle.pin_rig.specs.declared.input.Input.TheVariants as inputs
 use Rattle.pin_rig.specs.declared.input.StepFault.{StepFault}
 use Rattle.pin_rig.specs.declared.input.StepFault.TheVariants as faults
 use Rattle.pin_rig.specs.Refused.{is_too_late, admitted}
-use Rattle.pin_rig.specs.Board.{BoardView, HasTakenAll, HasNotTaken, commands_of, after_lines}
 
 pub record RigView : Type 0 where
   -- what was accepted, and the state of its machine

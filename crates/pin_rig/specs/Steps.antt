@@ -9,9 +9,9 @@ use Rattle.written_machine.specs.Accepted.{IsAccepted}
 use Rattle.written_machine.specs.Machine.{initial}
 use Rattle.written_machine.specs.Run.{Source, Stimulus, Change, Alarm, Wait, IsAllowed, IsRun}
 use Rattle.written_machine.specs.Sent.{sendings}
+use Rattle.coil_driver.specs.Board.{BoardView, commands_of, TellsMore}
 use Rattle.pin_rig.specs.declared.input.Input.{Input}
 use Rattle.pin_rig.specs.declared.input.Input.TheVariants as inputs
-use Rattle.pin_rig.specs.Board.{BoardView, commands_of, TellsMore}
 use Rattle.pin_rig.specs.Rig.{RigView, stimulus_at, RigStep, RigHalt}
 
 -- each input is a step, and the trace is the lines of all, step by step

@@ -1,11 +1,11 @@
 //! What a rig is given, and why it is refused.
 
 ghost use Rattle.std.specs.Prelude.{◌≡◌};
-ghost use Rattle.pin_rig.specs.declared.input.RigFault.TheVariants.{NoMemory};
 ghost use Rattle.pin_rig.specs.Refused.{step_fault_number, step_fault_name, admitted};
 
-use plan_tables::{RowId, SwitchId};
-use std::alloc::{AllocError, AllocFailed};
+// There is no rig for the reasons for which its machine has no core.
+pub use machine_core::CoreFault as RigFault;
+use plan_tables::SwitchId;
 use thiserror::Error;
 
 /// The first moment that is too late, in milliseconds.
@@ -97,33 +97,4 @@ pub fn check_moment(latest: u64, at: u64) -> Result<(), StepFault>
         return Err(StepFault::TooLate);
     }
     Ok(())
-}
-
-/// Why there is no rig.
-#[derive(Clone, Copy, Debug, Error)]
-pub enum RigFault {
-    /// Memory ran out.
-    #[error("NoMemory")]
-    NoMemory,
-    /// The first row whose device is not the one of the row, in its first state. Where there are
-    /// too few devices it is the first row without one, and where there are too many the first
-    /// number without a row.
-    #[error("WrongDevice {}", .0.0)]
-    WrongDevice(RowId),
-}
-
-impl From<AllocError> for RigFault {
-    ghost from_gives = { λ _ e. e ≡ NoMemory };
-
-    fn from(_e: AllocError) -> RigFault {
-        RigFault::NoMemory
-    }
-}
-
-impl<T: Drop> From<AllocFailed<T>> for RigFault {
-    ghost from_gives = { λ _ e. e ≡ NoMemory };
-
-    fn from(_e: AllocFailed<T>) -> RigFault {
-        RigFault::NoMemory
-    }
 }

@@ -2,15 +2,12 @@
 
 ghost use Rattle.std.specs.Prelude.{◌≡◌};
 
-use crate::core_state::Core;
-use crate::driver::Driver;
 use crate::input::{Input, RigFault, StepFault, check_moment};
-use crate::parts::{begin, settle};
-use crate::report::ShutReport;
-use crate::stimulus::Stimulus;
+use coil_driver::{Driver, ShutReport};
 use coil_guard::{Board, Coils};
 use config_checker::Checked;
 use device_objects::{Device, DeviceState};
+use machine_core::{Core, Stimulus, begin, settle};
 use plan_tables::RowId;
 use std::alloc::Global;
 use std::marker::Model;
@@ -72,14 +69,16 @@ impl<'c, D: Device, B: Board> Rig<'c, D, B> {
     ghost use Rattle.written_machine.specs.Run.{IsReached};
     ghost use Rattle.written_machine.specs.NextAlarm.{next_alarm};
     ghost use Rattle.pin_rig.specs.Rig.{timely, alarm_at, stimulus_at, RigStep, HasFailed, IsWhy, RunsUnlessHalted, IsOfRun};
-    ghost use Rattle.pin_rig.specs.Board.{board_view};
-    ghost use Rattle.pin_rig.specs.ShutDown.{ArePutOff, coils_to_put_off};
+    ghost use Rattle.coil_driver.specs.Board.{board_view};
+    ghost use Rattle.coil_driver.specs.ShutDown.{ArePutOff};
+    ghost use Rattle.pin_rig.specs.ShutDown.{coils_to_put_off};
     ghost use Rattle.pin_rig.specs.Steps.{at_rest};
-    ghost use Rattle.pin_rig.specs.Inside.{stimulus_view, GivesStimulus};
+    ghost use Rattle.machine_core.specs.Stimuli.{stimulus_view};
+    ghost use Rattle.pin_rig.specs.Inside.{GivesStimulus};
     ghost use Rattle.std.specs.Io.BufRead.{Rests};
     ghost use mir.Syntax.{named};
     ghost use Rattle.pin_rig.specs.contracts.rig.Rig.{the_row};
-    ghost use Rattle.pin_rig.specs.Fit.{IsFit, IsFirstWrong};
+    ghost use Rattle.machine_core.specs.Fit.{IsFit, IsFirstWrong};
     ghost use Rattle.pin_rig.specs.Lending.{IsStepped};
 
     /// The machine of an accepted configuration, as it begins: at moment 0, with all switches

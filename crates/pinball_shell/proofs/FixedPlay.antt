@@ -16,12 +16,13 @@ use Rattle.written_machine.specs.declared.line.Happening.{Happening}
 use Rattle.written_machine.specs.declared.line.Happening.TheVariants as happenings
 use Rattle.written_machine.specs.CheckedView.{CheckedView}
 use Rattle.written_machine.specs.Machine.{Machine, initial}
+use Rattle.coil_driver.specs.Board.{BoardView, HasTakenAll, HasNotTaken, command_of, commands_of, after_lines}
+use Rattle.coil_driver.specs.ShutDown.{ArePutOff, is_faulted}
+use Rattle.coil_driver.proofs.Serving.{commands-append}
 use Rattle.pin_rig.specs.declared.input.StepFault.TheVariants.{BoardFault}
-use Rattle.pin_rig.specs.Board.{BoardView, HasTakenAll, HasNotTaken, command_of, commands_of, after_lines}
 use Rattle.pin_rig.specs.Rig.{RigView}
-use Rattle.pin_rig.specs.ShutDown.{ArePutOff, coils_to_put_off, is_faulted}
+use Rattle.pin_rig.specs.ShutDown.{coils_to_put_off}
 use Rattle.pin_rig.specs.Steps.{at_rest}
-use Rattle.pin_rig.proofs.Serving.{commands-append}
 use Rattle.pinball_shell.specs.declared.refusal.Refusal.TheVariants.{Step}
 use Rattle.pinball_shell.specs.LogText.{said}
 use Rattle.pinball_shell.specs.RunOfLog.{given_by_line, Printed, Traced, Refused, printed_for_line, printed_for_lines, printed_for_log, after_line, traced}

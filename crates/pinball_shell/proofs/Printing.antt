@@ -11,9 +11,9 @@ use Rattle.written_machine.specs.Machine.{Machine}
 use Rattle.written_machine.specs.Run.{Stimulus}
 use Rattle.written_machine.specs.AlarmsBy.{state_after}
 use Rattle.written_machine.specs.PlanOrder.{settled}
+use Rattle.coil_driver.specs.Board.{commands_of, after_lines, HasTakenAll}
 use Rattle.config_checker.proofs.Writing.{written-nil, written-then}
 use Rattle.pin_rig.specs.declared.input.Input.{Input}
-use Rattle.pin_rig.specs.Board.{commands_of, after_lines, HasTakenAll}
 use Rattle.pin_rig.specs.Rig.{RigView, RigStep, RigHalt}
 use Rattle.pinball_shell.specs.RunOfLog.{trace_of, Printed, Traced}
 use Rattle.pinball_shell.specs.TraceText.{line_text, printed_text, printed_texts}

@@ -7,9 +7,9 @@ use Rattle.coil_guard.specs.declared.command.Command.TheVariants.{Disable}
 use Rattle.coil_guard.specs.declared.state.CoilState.{CoilState}
 use Rattle.coil_guard.specs.Boards.{IsToldAfter}
 use Rattle.written_machine.specs.declared.line.Line.{Line}
-use Rattle.pin_rig.specs.Board.{BoardView, HasTaken, HasTakenAll, command_of, commands_of, after_line, after_lines, TellsMore}
+use Rattle.coil_driver.specs.Board.{BoardView, HasTaken, HasTakenAll, command_of, commands_of, after_line, after_lines, TellsMore}
+use Rattle.coil_driver.specs.ShutDown.{ArePutOff}
 use Rattle.pin_rig.specs.Rig.{RigView}
-use Rattle.pin_rig.specs.ShutDown.{ArePutOff}
 use Rattle.pinball_shell.specs.RunOfLog.{Printed, Traced, Refused, traced}
 use Rattle.pinball_shell.specs.Ends.{IsServed, IsHalted}
 

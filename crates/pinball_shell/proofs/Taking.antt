@@ -9,17 +9,17 @@ use Rattle.written_machine.specs.Machine.{Machine}
 use Rattle.written_machine.specs.Run.{Stimulus, Change, Alarm, Wait, moment_of, IsReached}
 use Rattle.written_machine.specs.NextAlarm.{is_due_by}
 use Rattle.written_machine.proofs.NextAlarms.{not_due-nothing}
+use Rattle.coil_driver.specs.Board.{BoardView, commands_of, TellsMore}
+use Rattle.machine_core.specs.declared.fault.CoreFault.{CoreFault}
+use Rattle.machine_core.specs.declared.fault.CoreFault.TheVariants as core_faults
+use Rattle.machine_core.specs.Fit.{IsFit, IsFirstWrong}
 use Rattle.config_checker.proofs.Writing.{written-then}
 use Rattle.pin_rig.specs.declared.input.Input.{Input}
 use Rattle.pin_rig.specs.declared.input.Input.TheVariants as inputs
 use Rattle.pin_rig.specs.declared.input.StepFault.{StepFault}
-use Rattle.pin_rig.specs.Board.{BoardView, commands_of, TellsMore}
 use Rattle.pin_rig.specs.Rig.{RigView, stimulus_at, IsOfRun}
 use Rattle.pin_rig.specs.Steps.{IsOfInput, at_rest}
 use Rattle.pin_rig.proofs.Judging.{allowed-judged}
-use Rattle.pin_rig.specs.declared.input.RigFault.{RigFault}
-use Rattle.pin_rig.specs.declared.input.RigFault.TheVariants as rig_faults
-use Rattle.pin_rig.specs.Fit.{IsFit, IsFirstWrong}
 use Rattle.plan_tables.specs.declared.devices.DeviceRow.{DeviceRow}
 use Rattle.device_objects.specs.declared.state.DeviceState.{DeviceState}
 use Rattle.pinball_shell.specs.declared.fault.ShellFault.{ShellFault}
@@ -125,10 +125,10 @@ log-played plan c first rig board last log a b d v plan_is rest h shut =
     }
 
 -- where no rig was made for its devices, they are not those of the plan
-pub wrong-unfit : {T : Type 0} (plan : PlanView) (rows : List DeviceRow) (states : List DeviceState) (fault : RigFault) → ((row : ℕ) → fault ≡ rig_faults.WrongDevice (record { 0 = row }) → IsFirstWrong plan rows states row)
+pub wrong-unfit : {T : Type 0} (plan : PlanView) (rows : List DeviceRow) (states : List DeviceState) (fault : CoreFault) → ((row : ℕ) → fault ≡ core_faults.WrongDevice (record { 0 = row }) → IsFirstWrong plan rows states row)
     → ◌≡◌ {A = Result T ShellFault} (Err (fault_of_rig fault)) (Err faults.WrongDevice) → IsFit plan rows states → ⊥
-wrong-unfit plan rows states rig_faults.NoMemory wrong is fit = cc
-wrong-unfit plan rows states (rig_faults.WrongDevice row) wrong is fit = (wrong row.0 refl).unfit fit
+wrong-unfit plan rows states core_faults.NoMemory wrong is fit = cc
+wrong-unfit plan rows states (core_faults.WrongDevice row) wrong is fit = (wrong row.0 refl).unfit fit
 
 -- a run of the plan leads to a state of the rig
 pub reached-of : (plan : PlanView) (first now : RigView) → IsRigOf plan first → now.checked ≡ first.checked → (held : IsOfRun now) → IsReached plan held.0 now.machine

@@ -11,10 +11,11 @@ use Rattle.written_machine.specs.declared.line.Line.{Line}
 use Rattle.written_machine.specs.declared.line.Happening.TheVariants as happenings
 use Rattle.written_machine.specs.CheckedView.{CheckedView}
 use Rattle.written_machine.specs.Machine.{Machine, initial}
+use Rattle.coil_driver.specs.Board.{BoardView, HasTakenAll, HasNotTaken, commands_of, after_lines, TellsMore}
+use Rattle.coil_driver.specs.ShutDown.{ArePutOff}
 use Rattle.pin_rig.specs.declared.input.StepFault.TheVariants.{BoardFault}
-use Rattle.pin_rig.specs.Board.{BoardView, HasTakenAll, HasNotTaken, commands_of, after_lines, TellsMore}
 use Rattle.pin_rig.specs.Rig.{RigView}
-use Rattle.pin_rig.specs.ShutDown.{ArePutOff, coils_to_put_off}
+use Rattle.pin_rig.specs.ShutDown.{coils_to_put_off}
 use Rattle.pin_rig.specs.Steps.{at_rest}
 use Rattle.pinball_shell.specs.declared.fault.Verdict.{Verdict}
 use Rattle.pinball_shell.specs.declared.refusal.Refusal.TheVariants.{Step}

@@ -3,7 +3,7 @@ use Rattle.std.specs.Prelude.{◌≡◌, ℕ, Option, IsSome, List}
 use Rattle.std.specs.Io.KnownBytes.{Appends}
 use Rattle.coil_guard.specs.Boards.{takes_all}
 use Rattle.written_machine.specs.CheckedView.{CheckedView}
-use Rattle.pin_rig.specs.Board.{BoardView}
+use Rattle.coil_driver.specs.Board.{BoardView}
 use Rattle.pin_rig.specs.ShutDown.{coils_to_put_off}
 use Rattle.pin_rig.specs.Steps.{at_rest}
 use Rattle.pinball_shell.specs.declared.fault.Verdict.{Verdict}

@@ -10,11 +10,12 @@ use Rattle.written_machine.specs.Accepted.{IsAccepted}
 use Rattle.written_machine.specs.Run.{Stimulus, Change, Alarm, Wait, moment_of}
 use Rattle.written_machine.specs.NextAlarm.{is_due_by}
 use Rattle.written_machine.specs.AlarmsBy.{state_after}
+use Rattle.coil_driver.specs.Board.{BoardView}
+use Rattle.coil_driver.specs.ShutDown.{ArePutOff}
 use Rattle.pin_rig.specs.declared.input.Input.{Input}
 use Rattle.pin_rig.specs.declared.input.Input.TheVariants as inputs
-use Rattle.pin_rig.specs.Board.{BoardView}
 use Rattle.pin_rig.specs.Rig.{RigView, stimulus_at}
-use Rattle.pin_rig.specs.ShutDown.{ArePutOff, coils_to_put_off}
+use Rattle.pin_rig.specs.ShutDown.{coils_to_put_off}
 use Rattle.pinball_shell.specs.declared.fault.Verdict.{Verdict}
 use Rattle.pinball_shell.specs.declared.fault.Verdict.TheVariants as verdicts
 use Rattle.pinball_shell.specs.declared.refusal.Refusal.{Refusal}

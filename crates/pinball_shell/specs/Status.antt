@@ -1,7 +1,7 @@
 -- The status with which the program ends, and what it says of a fault.
 use Rattle.std.specs.Prelude.{ℕ, List, [], ◌∷◌, ◌++◌, Option, None, Some, Result, Ok, Err, codes}
-use Rattle.pin_rig.specs.declared.input.RigFault.{RigFault}
-use Rattle.pin_rig.specs.declared.input.RigFault.TheVariants as rig
+use Rattle.machine_core.specs.declared.fault.CoreFault.{CoreFault}
+use Rattle.machine_core.specs.declared.fault.CoreFault.TheVariants as rig
 use Rattle.pinball_shell.specs.declared.fault.ShellFault.{ShellFault}
 use Rattle.pinball_shell.specs.declared.fault.ShellFault.TheVariants.{NoMemory, Read, Write, TooLong, WrongDevice}
 use Rattle.pinball_shell.specs.declared.fault.Verdict.{Verdict}
@@ -22,7 +22,7 @@ fault_name TooLong = codes "TooLong"
 fault_name WrongDevice = codes "WrongDevice"
 
 -- the fault where no rig can be made
-abbrev pub fault_of_rig : RigFault → ShellFault
+abbrev pub fault_of_rig : CoreFault → ShellFault
 fault_of_rig rig.NoMemory = NoMemory
 fault_of_rig (rig.WrongDevice row) = WrongDevice
 

@@ -4,8 +4,8 @@ ghost use Rattle.std.specs.Prelude.{◌≡◌, ◌≢◌, ◌^◌, ◌<◌, ◌�
 ghost use Rattle.std.specs.Io.KnownBytes.{Appends, Keeps};
 ghost use Rattle.written_machine.specs.Machine.{initial};
 ghost use Rattle.written_machine.specs.NextAlarm.{is_due_by};
-ghost use Rattle.pin_rig.specs.Board.{BoardView, board_view};
-ghost use Rattle.pin_rig.specs.Fit.{IsFit};
+ghost use Rattle.coil_driver.specs.Board.{BoardView, board_view};
+ghost use Rattle.machine_core.specs.Fit.{IsFit};
 ghost use Rattle.pin_rig.specs.Refused.{admitted};
 ghost use Rattle.pin_rig.specs.Rig.{stimulus_at, IsOfRun, RigStep, RigHalt};
 ghost use Rattle.pinball_shell.specs.LogView.{said_view};

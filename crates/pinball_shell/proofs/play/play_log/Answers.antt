@@ -1,7 +1,7 @@
 use Rattle.std.proofs.Common.{Err, IsErrOf, ap, sym, ◌∙◌, map, subst}
 use Rattle.std.proofs.lemmas.Result.{err_from_is_err_and}
-use Rattle.pin_rig.specs.Board.{BoardView, board_view}
-use Rattle.pin_rig.specs.Fit.{IsFit}
+use Rattle.coil_driver.specs.Board.{BoardView, board_view}
+use Rattle.machine_core.specs.Fit.{IsFit}
 use Rattle.pinball_shell.specs.declared.fault.ShellFault.TheVariants as faults
 use Rattle.pinball_shell.proofs.LogRuns.{log_is_run}
 use Rattle.pinball_shell.proofs.Taking.{log-played, wrong-unfit}

@@ -1,7 +1,7 @@
 use Rattle.std.proofs.Common.{◌≡◌, Ok, List, length, ap, sym, ◌∙◌, subst}
 use Rattle.written_machine.specs.declared.line.Line.{Line}
+use Rattle.machine_core.specs.Stimuli.{stimulus_view}
 use Rattle.pin_rig.specs.Rig.{RigView, stimulus_at, RigStep, RigHalt}
-use Rattle.pin_rig.specs.Inside.{stimulus_view}
 use Rattle.pin_rig.proofs.Acting.{rig_of, begun-room, begun_core-handles, begun_core-calls, begun-stays, can-send, steps-on, held-again, halts, held-halted}
 use Rattle.pin_rig.proofs.rig.Rig.act.Goals as goal
 

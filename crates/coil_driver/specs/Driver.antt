@@ -1,0 +1,77 @@
+-- A board, and what was sent to it.
+use Rattle.std.specs.Prelude.{◌≡◌, ◌⊎◌, ℕ, suc, ◌<◌, ◌^◌, ◌||◌, ◌++◌, Bool, Option, Some, None, List, [], ◌∷◌, take, slice_get}
+use Rattle.plan_tables.specs.declared.entries.CoilId.{CoilId}
+use Rattle.coil_guard.specs.declared.command.Command.{Command}
+use Rattle.coil_guard.specs.declared.command.Command.TheVariants.{Disable}
+use Rattle.coil_guard.specs.declared.state.CoilState.{CoilState}
+use Rattle.coil_guard.specs.CoilStep.{is_on_at}
+use Rattle.coil_guard.specs.Coils.{coil_at}
+use Rattle.coil_guard.specs.SentCommands.{coil_of}
+use Rattle.written_machine.specs.declared.line.Line.{Line}
+use Rattle.written_machine.specs.declared.line.Happening.{Happening}
+use Rattle.written_machine.specs.declared.line.Happening.TheVariants as lines
+use Rattle.coil_driver.specs.Board.{BoardView, HasTaken, HasTakenAll, HasNotTaken, commands_of, after_lines}
+use Rattle.coil_driver.specs.ShutDown.{is_faulted}
+
+pub record DriverView : Type 0 where
+  pub board : BoardView
+  pub sent : List CoilState
+  pub faulted : Option CoilId
+
+-- the command of a line is to one of so many coils
+abbrev pub IsToCoil : ℕ → Happening → Type 0
+IsToCoil count (lines.Coil command) = (coil_of command).0 < count
+IsToCoil count _ = Unit {0}
+
+-- and the line is not too late
+abbrev pub IsSendable : ℕ → Line → Type 0
+IsSendable count l = IsToCoil count l.happening × (l.moment < 2 ^ 40)
+
+-- the board has taken the commands of these lines, and the guard was asked for them
+pub record HasSent (trace : List Line) (old new : DriverView) : Type 0 where
+  pub taken : HasTakenAll (commands_of trace) old.board new.board
+  pub sent : new.sent ≡ after_lines trace old.sent
+  pub faulted : new.faulted ≡ old.faulted
+
+-- the board has taken a command, and nothing else has changed
+pub record HasSentAlone (command : Command) (old new : DriverView) : Type 0 where
+  pub taken : HasTaken command old.board new.board
+  pub sent : new.sent ≡ old.sent
+  pub faulted : new.faulted ≡ old.faulted
+
+-- The board has not taken a command.
+pub record HasFaultedAt (command : Command) (old new : DriverView) : Type 0 where
+  pub not_taken : HasNotTaken old.board new.board
+  pub sent : new.sent ≡ old.sent
+  pub faulted : new.faulted ≡ Some (coil_of command)
+
+-- It has not taken the command of this line.
+pub record HasNotSent (line : Line) (old new : DriverView) : Type 0 where
+  pub command : Command
+  pub line_is : line.happening ≡ lines.Coil command
+  pub fault : HasFaultedAt command old new
+
+-- The command of the line at this place is the first one that the board has not taken.
+pub record HasStopped (trace : List Line) (place : ℕ) (old new : DriverView) : Type 0 where
+  pub line : Line
+  pub there : slice_get trace place ≡ Some line
+  pub mid : DriverView
+  pub earlier : HasSent (take place trace) old mid
+  pub fault : HasNotSent line mid new
+
+-- all commands of these lines were sent; or up to one that the board has not taken
+abbrev pub IsServed : List Line → Option ℕ → DriverView → DriverView → Type 0
+IsServed trace None old new = HasSent trace old new
+IsServed trace (Some place) old new = HasStopped trace place old new
+
+-- ---- at the end
+
+-- whether the coil is to be put off at a moment
+abbrev pub is_due_off : ℕ → DriverView → CoilId → Bool
+is_due_off now d coil = is_on_at now (coil_at d.sent coil) || is_faulted d.faulted coil
+
+-- a coil was sent a disable, which is reported
+abbrev pub HasPutOff : CoilId → BoardView → List CoilId → ℕ → List CoilId → ℕ → BoardView → Type 0
+HasPutOff coil old off faults now_off now_faults new =
+    (HasTaken (Disable coil) old new × (now_off ≡ off ++ coil ∷ []) × (now_faults ≡ faults))
+    ⊎ (HasNotTaken old new × (now_off ≡ off) × (now_faults ≡ suc faults))

@@ -1,0 +1,80 @@
+-- What is done where a switch was accepted.
+use Rattle.std.proofs.Common.{◌≡◌, ◌<◌, List, [], ◌∷◌, length, length-append, sym, ap, ◌∙◌, subst, arith}
+use Rattle.plan_tables.specs.PlanView.{PlanView, act_of_listener, listeners_of, posts_of}
+use Rattle.plan_tables.specs.declared.entries.EventId.{EventId}
+use Rattle.plan_tables.specs.declared.entries.Listener.{Listener}
+use Rattle.plan_tables.specs.declared.entries.Owner.TheVariants as owners
+use Rattle.device_objects.specs.declared.device.Call.TheVariants as calls
+use Rattle.switch_core.specs.declared.change.Change.{Change as Acceptance}
+use Rattle.written_machine.specs.declared.line.Happening.TheVariants as lines
+use Rattle.written_machine.specs.Machine.{Machine, write, post, all_do, tell_listener, tell_listeners, confirm_on_playfield, do_accepted}
+use Rattle.machine_core.specs.Core.{CoreView, CanCall, HasRoom, after}
+use Rattle.machine_core.proofs.Going.{Goes, goes-then, goes-can, goes-all, goes-post, goes-write, goes-call, goes-playfield}
+use Rattle.machine_core.proofs.Listing.{grown}
+use Rattle.machine_core.proofs.Room.{room-before}
+
+module _ (plan : PlanView) (a : Acceptance) (now : CoreView) (room : HasRoom now.room (do_accepted plan a now.machine)) where
+  abbrev begun : Machine
+  begun = write owners.Machine (lines.Switch a.switch a.active) now.machine
+
+  abbrev told : Machine
+  told = tell_listeners plan a begun
+
+  abbrev arrived : Machine
+  arrived = confirm_on_playfield plan a told
+
+  goes-told : (s : Machine) → Goes plan s (all_do (tell_listener plan a.active) (listeners_of plan a.switch) s)
+  goes-told s = goes-all plan (tell_listener plan a.active) (λ l t. goes-call plan (calls.Act (act_of_listener a.active l)) l.row t) (listeners_of plan a.switch) s
+
+  goes-last : Goes plan arrived (do_accepted plan a now.machine)
+  goes-last = goes-all plan (post owners.Machine) (goes-post plan owners.Machine) (posts_of plan a.switch a.active) arrived
+
+  arrived-room : HasRoom now.room arrived
+  arrived-room = room-before now.room arrived (do_accepted plan a now.machine) (grown plan arrived (do_accepted plan a now.machine) goes-last) room
+
+  told-fits : HasRoom now.room told
+  told-fits = room-before now.room told arrived (grown plan told arrived (goes-playfield plan a told)) arrived-room
+
+  -- there is room for its line
+  pub line-room : length now.machine.lines < now.room
+  line-room =
+      let s = now.machine in
+      let more = (goes-told begun).lines in
+      let fits = told-fits.lines in
+      omega (arith, length-append s.lines (record { moment = s.moment; owner = owners.Machine; happening = lines.Switch a.switch a.active } ∷ []))
+
+  module _ (written : CoreView) (written_is : written ≡ after (write owners.Machine (lines.Switch a.switch a.active)) now) (listeners : List Listener) (listeners_are : listeners ≡ listeners_of plan a.switch) where
+    -- and for what the devices that listen to it are told
+    pub told-room : HasRoom written.room (all_do (tell_listener plan a.active) listeners written.machine)
+    told-room =
+        subst (λ (v : CoreView). HasRoom v.room (all_do (tell_listener plan a.active) listeners v.machine)) (sym written_is)
+        (subst (λ (ls : List Listener). HasRoom now.room (all_do (tell_listener plan a.active) ls begun)) (sym listeners_are) told-fits)
+
+    module _ (core : CoreView) (core_is : core ≡ after (all_do (tell_listener plan a.active) listeners) written) where
+      core-is : core ≡ after (λ s. told) now
+      core-is = core_is ∙ (λ i. after (all_do (tell_listener plan a.active) (listeners_are i)) (written_is i))
+
+      -- for what a ball leads to that has arrived on the playfield
+      pub playfield-room : HasRoom core.room (confirm_on_playfield plan a core.machine)
+      playfield-room = subst (λ (v : CoreView). HasRoom v.room (confirm_on_playfield plan a v.machine)) (sym core-is) arrived-room
+
+      pub playfield-plan : now.handlers.plan ≡ plan → core.handlers.plan ≡ plan
+      playfield-plan is = ap (λ (v : CoreView). v.handlers.plan) core-is ∙ is
+
+      pub playfield-calls : CanCall plan now → CanCall plan core
+      playfield-calls h =
+          subst (CanCall plan) (sym core-is)
+          (goes-can plan now (after (λ s. told) now) (goes-then plan now.machine begun told (goes-write plan owners.Machine (lines.Switch a.switch a.active) now.machine) (goes-told begun)) h)
+
+      -- and for its events
+      module _ (arrived_core : CoreView) (arrived_core_is : arrived_core ≡ after (confirm_on_playfield plan a) core) (events : List EventId) (events_are : events ≡ posts_of plan a.switch a.active) where
+        arrived-is : arrived_core ≡ after (λ s. arrived) now
+        arrived-is = arrived_core_is ∙ ap (after (confirm_on_playfield plan a)) core-is
+
+        pub posts-room : HasRoom arrived_core.room (all_do (post owners.Machine) events arrived_core.machine)
+        posts-room =
+            subst (λ (v : CoreView). HasRoom v.room (all_do (post owners.Machine) events v.machine)) (sym arrived-is)
+            (subst (λ (es : List EventId). HasRoom now.room (all_do (post owners.Machine) es arrived)) (sym events_are) room)
+
+        pub accepted-done : (last : CoreView) → last ≡ after (all_do (post owners.Machine) events) arrived_core → last ≡ after (do_accepted plan a) now
+        accepted-done last last_is = last_is ∙ (λ i. after (all_do (post owners.Machine) (events_are i)) (arrived-is i))

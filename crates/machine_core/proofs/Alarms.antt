@@ -1,0 +1,96 @@
+-- What the next alarm comes from.
+use Rattle.std.proofs.Common.{◌≡◌, ℕ, ◌<◌, Option, Some, None, option_map, MatchOption, List, [], ◌∷◌, length, map, refl, ap, sym, ◌∙◌, subst, arith}
+use Rattle.std.specs.Option.{IsSome}
+use Rattle.plan_tables.specs.PlanView.{PlanView}
+use Rattle.plan_tables.specs.declared.entries.SwitchId.{SwitchId}
+use Rattle.plan_tables.specs.declared.devices.RowId.{RowId}
+use Rattle.device_objects.specs.declared.device.Call.TheVariants as calls
+use Rattle.device_objects.specs.declared.state.DeviceState.{DeviceState}
+use Rattle.device_objects.specs.DeviceStep.{due_of}
+use Rattle.device_objects.specs.Laws.{MayCome}
+use Rattle.switch_core.specs.declared.change.Change.{Change as Acceptance}
+use Rattle.switch_core.specs.Switches.{SwitchesView, next_due, IsNextDue, IsNothingDue, accept, accept_due, reported, after_fire, reported_by_fire}
+use Rattle.switch_core.proofs.NextDue.{next_due-is, next_due-is_due}
+use Rattle.switch_core.proofs.Lists.{due-within}
+use Rattle.written_machine.specs.Machine.{Machine, set_switches, device_at, do_accepted}
+use Rattle.written_machine.specs.Devices.{HasDevices}
+use Rattle.written_machine.specs.Run.{Source, switch, device, fire}
+use Rattle.written_machine.specs.NextAlarm.{next_alarm}
+use Rattle.written_machine.proofs.Does.{due-row}
+use Rattle.written_machine.proofs.NextAlarms.{found-is_next, next_alarm-due}
+use Rattle.machine_core.specs.Core.{CoreView, IsCoreOf, HasRoom, after}
+
+same_Some : (a b : Acceptance) → Some a ≡ Some b → a ≡ b
+same_Some a b h = cc
+
+within-found : (s new : SwitchesView) (o : Option (ℕ × SwitchId)) (a : Acceptance) → MatchOption o (IsNothingDue s) (λ d. IsNextDue s d.0 d.1) → option_map (λ d. reported new d.1) o ≡ Some a → a.switch.0 < length s.states
+within-found s new None a h is = cc
+within-found s new (Some d) a h is =
+    let number = ap (λ (t : Acceptance). t.switch.0) (same_Some (reported new d.1) a is) in
+    omega (arith, number, due-within s d.1 d.0 h.due)
+
+-- it is one of the plan's
+pub fired-within : (plan : PlanView) (c : CoreView) (a : Acceptance) → IsCoreOf plan c → reported_by_fire c.machine.switches ≡ Some a → a.switch.0 < length plan.switches
+fired-within plan c a core is =
+    let s = c.machine.switches in
+    let within = within-found s (after_fire s) (next_due s) a (next_due-is_due s) is in
+    let states = core.complete.states in
+    let kinds = core.kinds in
+    omega (arith, within, states, kinds)
+
+-- the moments at which devices are due, by their states
+pub dues-are : {A : Type 0} (state : A → DeviceState) (items : List A) → map (λ d. due_of (state d)) items ≡ map due_of (map state items)
+dues-are state [] = refl
+dues-are state (x ∷ items) = ap (λ (rest : List (Option ℕ)). due_of (state x) ∷ rest) (dues-are state items)
+
+-- ---- which source fires
+
+-- a switch that is the source of the next alarm is due next among the switches
+pub next-switch : (s : Machine) (at : ℕ) (n : SwitchId) → next_alarm s ≡ Some (at, switch n) → next_due s.switches ≡ Some (at, n)
+next-switch s at n next = next_due-is s.switches at n (next_alarm-due s at n (found-is_next s at (switch n) next))
+
+-- a device that is the source of the next alarm is one of the plan, and due
+pub next-row : (plan : PlanView) (s : Machine) (at : ℕ) (r : RowId) → HasDevices plan s.devices → next_alarm s ≡ Some (at, device r) → r.0 < length plan.rows
+next-row plan s at r has next = due-row plan s r at has (found-is_next s at (device r) next).due
+
+pub next-due : (s : Machine) (at : ℕ) (r : RowId) → next_alarm s ≡ Some (at, device r) → MayCome calls.Fire (device_at s r)
+next-due s at r next = subst IsSome (sym (found-is_next s at (device r) next).due) refl
+
+-- the next alarm has a moment
+pub next-of : (s : Machine) (source : Source) → option_map (λ a. a.1) (next_alarm s) ≡ Some source → (at : ℕ) × (next_alarm s ≡ Some (at, source))
+next-of s source is = by (next_alarm s) refl is
+  where
+    by : (o : Option (ℕ × Source)) → next_alarm s ≡ o → option_map (λ a. a.1) o ≡ Some source → (at : ℕ) × (next_alarm s ≡ Some (at, source))
+    by None e h = cc
+    by (Some a) e h = let same : a.1 ≡ source = cc in (a.0, e ∙ ap (λ x. Some (a.0, x)) same)
+
+-- ---- the raw level of a switch is accepted
+
+module _ (plan : PlanView) (core : CoreView) (source : Source) (next : option_map (λ a. a.1) (next_alarm core.machine) ≡ Some source) (n : SwitchId) (source_is : source ≡ switch n)
+    (a : Acceptance) (reported_is : reported_by_fire core.machine.switches ≡ Some a) (now : CoreView) (now_is : now ≡ after (set_switches (after_fire core.machine.switches)) core) where
+  abbrev switches : SwitchesView
+  switches = core.machine.switches
+
+  due : (at : ℕ) × (next_due switches ≡ Some (at, n))
+  due =
+      let found = next-of core.machine source next in
+      (found.0, next-switch core.machine found.0 n (found.1 ∙ ap (λ x. Some (found.0, x)) source_is))
+
+  accepted-is : after_fire switches ≡ accept n switches
+  accepted-is = ap (λ o. accept_due o switches) due.1
+
+  acceptance-is : a ≡ reported (accept n switches) n
+  acceptance-is =
+      same_Some a (reported (accept n switches) n)
+      (sym reported_is ∙ ap (option_map (λ d. reported (after_fire switches) d.1)) due.1 ∙ ap (λ s. Some (reported s n)) accepted-is)
+
+  fired-is : fire plan source core.machine ≡ do_accepted plan a (set_switches (after_fire switches) core.machine)
+  fired-is = ap (λ x. fire plan x core.machine) source_is ∙ (λ i. do_accepted plan (sym acceptance-is i) (set_switches (sym accepted-is i) core.machine))
+
+  pub fired-room : HasRoom core.room (fire plan source core.machine) → HasRoom now.room (do_accepted plan a now.machine)
+  fired-room room =
+      subst (λ (c : CoreView). HasRoom c.room (do_accepted plan a c.machine)) (sym now_is)
+      (subst (HasRoom core.room) fired-is room)
+
+  pub fired-done : (last : CoreView) → last ≡ after (do_accepted plan a) now → last ≡ after (fire plan source) core
+  fired-done last last_is = last_is ∙ ap (after (do_accepted plan a)) now_is ∙ ap (λ (s : Machine). after (λ t. s) core) (sym fired-is)

@@ -1,0 +1,111 @@
+-- An action, and then what it confirms; and the first device that is Away to a target.
+use Rattle.std.specs.Prelude.{◌&&◌, find}
+use Rattle.std.proofs.Common.{◌≡◌, ℕ, ◌+◌, ◌<◌, ◌≤◌, Bool, true, false, if◌then◌else◌, cond, Option, None, Some, List, length, filter, drop, refl, ap, sym, ◌∙◌, subst}
+use Rattle.std.proofs.lemmas.Bool.{and_parts, false≢true}
+use Rattle.plan_tables.specs.PlanView.{PlanView, feeds, row_at, row_numbers}
+use Rattle.plan_tables.specs.declared.entries.Action.{Action}
+use Rattle.plan_tables.specs.declared.entries.Action.TheVariants.{Post, Pulse, Enable, Disable, Change, Enter, Leave, Lose, Arrive}
+use Rattle.plan_tables.specs.declared.entries.Owner.{Owner}
+use Rattle.plan_tables.specs.declared.devices.BallTarget.{BallTarget}
+use Rattle.plan_tables.specs.declared.devices.BallTarget.TheVariants.{Device}
+use Rattle.plan_tables.specs.declared.devices.RowId.{RowId}
+use Rattle.ball_devices.specs.declared.booking.Origin.{Origin}
+use Rattle.ball_devices.specs.declared.booking.Origin.TheVariants.{Awaited, Found, New}
+use Rattle.ball_devices.specs.Ledger.{origin_of}
+use Rattle.ball_devices.specs.Bookings.{is_awaited}
+use Rattle.ball_devices.specs.Bookings as calls_of_ledger
+use Rattle.written_machine.specs.Machine.{Machine, post, book, after_entry, do_action_by, do_action, no_confirm, confirm_first_away, confirm_entry, device_at, is_device_away}
+use Rattle.machine_core.specs.Balls.{awaited_entry}
+use Rattle.machine_core.specs.Core.{CoreView, CanCall, HasRoom, after}
+use Rattle.machine_core.proofs.Going.{Goes, goes-none, goes-can, goes-confirm, goes-action_by, goes-no_confirm}
+use Rattle.machine_core.proofs.Listing.{grown, row-first, row-other, rows-end}
+use Rattle.machine_core.proofs.Room.{room-before}
+
+-- ---- an entry that is confirmed last
+
+-- the device that ejected the ball is told, if the ball was on its way
+abbrev pub confirmed : (RowId → Machine → Machine) → Option RowId → Machine → Machine
+confirmed confirm None s = s
+confirmed confirm (Some r) s = confirm r s
+
+module _ (plan : PlanView) (owner : Owner) where
+  entry-parts : (confirm : RowId → Machine → Machine) (r : RowId) (drain : Bool) (o : Origin) (s : Machine)
+      → after_entry plan confirm owner r drain o s ≡ confirmed confirm (if is_awaited o then Some r else None) (after_entry plan no_confirm owner r drain o s)
+  entry-parts confirm r drain Awaited s = refl
+  entry-parts confirm r drain Found s = refl
+  entry-parts confirm r drain New s = refl
+
+  action-parts : (confirm : RowId → Machine → Machine) (a : Action) (s : Machine) → do_action_by plan confirm owner a s ≡ confirmed confirm (awaited_entry a s) (do_action_by plan no_confirm owner a s)
+  action-parts confirm (Post e) s = refl
+  action-parts confirm (Pulse coil ms power) s = refl
+  action-parts confirm (Enable coil power) s = refl
+  action-parts confirm (Disable coil) s = refl
+  action-parts confirm (Change v action n e) s = refl
+  action-parts confirm (Enter r e drain) s = entry-parts confirm r drain (origin_of r s.ledger) (post owner e (book owner (calls_of_ledger.Enter r) s))
+  action-parts confirm (Leave r) s = refl
+  action-parts confirm (Lose r) s = refl
+  action-parts confirm (Arrive r) s = refl
+
+  goes-confirmed : (entry : Option RowId) (s : Machine) → Goes plan s (confirmed (confirm_entry plan) entry s)
+  goes-confirmed None s = goes-none plan s
+  goes-confirmed (Some r) s = goes-confirm plan (Device r) s
+
+  module _ (a : Action) (old : CoreView) (room : HasRoom old.room (do_action plan owner a old.machine)) where
+    abbrev alone : Machine
+    alone = do_action_by plan no_confirm owner a old.machine
+
+    parts-room : HasRoom old.room (confirmed (confirm_entry plan) (awaited_entry a old.machine) alone)
+    parts-room = subst (HasRoom old.room) (action-parts (confirm_entry plan) a old.machine) room
+
+    pub alone-room : HasRoom old.room alone
+    alone-room = room-before old.room alone (confirmed (confirm_entry plan) (awaited_entry a old.machine) alone) (grown plan alone (confirmed (confirm_entry plan) (awaited_entry a old.machine) alone) (goes-confirmed (awaited_entry a old.machine) alone)) parts-room
+
+    module _ (now : CoreView) (now_is : now ≡ after (do_action_by plan no_confirm owner a) old) where
+      pub alone-calls : CanCall plan old → CanCall plan now
+      alone-calls h = subst (CanCall plan) (sym now_is) (goes-can plan old (after (do_action_by plan no_confirm owner a) old) (goes-action_by plan no_confirm (goes-no_confirm plan) owner a old.machine) h)
+
+      pub confirm-room : (r : RowId) → awaited_entry a old.machine ≡ Some r → HasRoom now.room (confirm_first_away plan (Device r) now.machine)
+      confirm-room r is =
+          subst (λ (c : CoreView). HasRoom c.room (confirm_first_away plan (Device r) c.machine)) (sym now_is)
+          (subst (λ (entry : Option RowId). HasRoom old.room (confirmed (confirm_entry plan) entry alone)) is parts-room)
+
+      pub done-confirmed : (r : RowId) → awaited_entry a old.machine ≡ Some r → (last : CoreView) → last ≡ after (confirm_first_away plan (Device r)) now → last ≡ after (do_action plan owner a) old
+      done-confirmed r is last last_is =
+          last_is ∙ ap (after (confirm_first_away plan (Device r))) now_is
+          ∙ ap (λ (s : Machine). after (λ t. s) old) (sym (action-parts (confirm_entry plan) a old.machine ∙ ap (λ (entry : Option RowId). confirmed (confirm_entry plan) entry alone) is))
+
+      pub done-alone : awaited_entry a old.machine ≡ None → now ≡ after (do_action plan owner a) old
+      done-alone is =
+          now_is ∙ ap (λ (s : Machine). after (λ t. s) old) (sym (action-parts (confirm_entry plan) a old.machine ∙ ap (λ (entry : Option RowId). confirmed (confirm_entry plan) entry alone) is))
+
+-- ---- the first device that is Away to a target
+
+module _ (plan : PlanView) (target : BallTarget) (s : Machine) where
+  abbrev feeds_it : RowId → Bool
+  feeds_it r = feeds target (row_at plan r).settings
+
+  abbrev away : RowId → Bool
+  away r = is_device_away (device_at s r)
+
+  -- the first of those from a row on
+  abbrev pub away_from : ℕ → Option RowId
+  away_from i = find away (filter feeds_it (drop i (row_numbers plan)))
+
+  pub away-here : (i : ℕ) → i < length plan.rows → (feeds_it (record { 0 = i }) && away (record { 0 = i })) ≡ true → away_from i ≡ Some (record { 0 = i })
+  away-here i there both =
+      let r : RowId = record { 0 = i } in
+      let parts = and_parts (feeds_it r) (away r) both in
+      ap (find away) (row-first plan feeds_it i there parts.0)
+      ∙ ap (λ (b : Bool). cond b (Some r) (find away (filter feeds_it (drop (i + 1) (row_numbers plan))))) parts.1
+
+  pub away-later : (i : ℕ) → i < length plan.rows → (feeds_it (record { 0 = i }) && away (record { 0 = i })) ≡ false → away_from i ≡ away_from (i + 1)
+  away-later i there neither = by (feeds_it (record { 0 = i })) (away (record { 0 = i })) refl refl neither
+    where
+      by : (f a : Bool) → feeds_it (record { 0 = i }) ≡ f → away (record { 0 = i }) ≡ a → (f && a) ≡ false → away_from i ≡ away_from (i + 1)
+      by true true is of h = absurd (false≢true (sym h))
+      by true false is of h =
+          ap (find away) (row-first plan feeds_it i there is) ∙ ap (λ (b : Bool). cond b (Some (record { 0 = i })) (away_from (i + 1))) of
+      by false a is of h = ap (find away) (row-other plan feeds_it i there is)
+
+  pub away-end : (i : ℕ) → length plan.rows ≤ i → away_from i ≡ None
+  away-end i past = ap (λ (rs : List RowId). find away (filter feeds_it rs)) (rows-end plan i past)

@@ -1,0 +1,69 @@
+-- A ball enters a device.
+use Rattle.std.proofs.Common.{◌≡◌, ◌<◌, Bool, true, false, [], ◌∷◌, length, length-append, refl, ap, sym, ◌∙◌, subst, arith}
+use Rattle.std.proofs.lemmas.Bool.{false≢true}
+use Rattle.plan_tables.specs.PlanView.{PlanView}
+use Rattle.plan_tables.specs.declared.entries.EventId.{EventId}
+use Rattle.plan_tables.specs.declared.entries.Owner.{Owner}
+use Rattle.plan_tables.specs.declared.devices.RowId.{RowId}
+use Rattle.ball_devices.specs.declared.booking.Origin.{Origin}
+use Rattle.ball_devices.specs.declared.booking.Origin.TheVariants.{Awaited, Found, New}
+use Rattle.ball_devices.specs.Ledger.{origin_of}
+use Rattle.ball_devices.specs.Bookings.{is_awaited}
+use Rattle.ball_devices.specs.Bookings as calls_of_ledger
+use Rattle.written_machine.specs.Machine.{Machine, post, book, drain_if, after_entry, enter_ball, no_confirm}
+use Rattle.machine_core.specs.Core.{CoreView, HasRoom, after}
+use Rattle.machine_core.proofs.Going.{goes-post, goes-after_entry, goes-no_confirm}
+use Rattle.machine_core.proofs.Listing.{grown}
+use Rattle.machine_core.proofs.Room.{room-before}
+
+module _ (plan : PlanView) (owner : Owner) (r : RowId) (drain : Bool) where
+  -- where it was on its way, nothing more happens here, and else it may have drained
+  rest-awaited : (o : Origin) (s : Machine) → is_awaited o ≡ true → after_entry plan no_confirm owner r drain o s ≡ s
+  rest-awaited Awaited s h = refl
+  rest-awaited Found s h = absurd (false≢true h)
+  rest-awaited New s h = absurd (false≢true h)
+
+  rest-other : (o : Origin) (s : Machine) → is_awaited o ≡ false → after_entry plan no_confirm owner r drain o s ≡ drain_if plan owner drain s
+  rest-other Awaited s h = absurd (false≢true (sym h))
+  rest-other Found s h = refl
+  rest-other New s h = refl
+
+  module _ (e : EventId) (old : CoreView) (room : HasRoom old.room (enter_ball plan no_confirm owner r e drain old.machine)) where
+    abbrev told : Machine
+    told = book owner (calls_of_ledger.Enter r) old.machine
+
+    abbrev posted : Machine
+    posted = post owner e told
+
+    abbrev origin : Origin
+    origin = origin_of r old.machine.ledger
+
+    posted-fits : HasRoom old.room posted
+    posted-fits =
+        room-before old.room posted (enter_ball plan no_confirm owner r e drain old.machine)
+        (grown plan posted (enter_ball plan no_confirm owner r e drain old.machine) (goes-after_entry plan no_confirm (goes-no_confirm plan) owner r drain origin posted)) room
+
+    pub booked-room : HasRoom old.room told
+    booked-room = room-before old.room told posted (grown plan told posted (goes-post plan owner e told)) posted-fits
+
+    module _ (booked : CoreView) (booked_is : booked ≡ after (book owner (calls_of_ledger.Enter r)) old) where
+      pub event-room : length booked.machine.waiting < booked.room
+      event-room =
+          subst (λ (c : CoreView). length c.machine.waiting < c.room) (sym booked_is)
+          (let fits = posted-fits.waiting in omega (arith, length-append told.waiting (record { event = e; owner = owner } ∷ [])))
+
+      module _ (now : CoreView) (now_is : now ≡ after (post owner e) booked) where
+        now-is : now ≡ after (λ s. posted) old
+        now-is = now_is ∙ ap (after (post owner e)) booked_is
+
+        pub entered-awaited : is_awaited origin ≡ true → now ≡ after (enter_ball plan no_confirm owner r e drain) old
+        entered-awaited awaited = now-is ∙ ap (λ (s : Machine). after (λ t. s) old) (sym (rest-awaited origin posted awaited))
+
+        pub drain-room : is_awaited origin ≡ false → HasRoom now.room (drain_if plan owner drain now.machine)
+        drain-room other =
+            subst (λ (c : CoreView). HasRoom c.room (drain_if plan owner drain c.machine)) (sym now-is)
+            (subst (HasRoom old.room) (rest-other origin posted other) room)
+
+        pub entered-other : is_awaited origin ≡ false → (last : CoreView) → last ≡ after (drain_if plan owner drain) now → last ≡ after (enter_ball plan no_confirm owner r e drain) old
+        entered-other other last last_is =
+            last_is ∙ ap (after (drain_if plan owner drain)) now-is ∙ ap (λ (s : Machine). after (λ t. s) old) (sym (rest-other origin posted other))

@@ -1,0 +1,106 @@
+-- What is done with the modes, and with the handlers of those that run.
+use Rattle.std.proofs.Common.{◌≡◌, ℕ, zero, suc, Bool, true, false, if◌then◌else◌, List, [], ◌∷◌, length, set, replicate, refl, sym, ap, ◌∙◌}
+use Rattle.std.proofs.lemmas.List.{map-set}
+use Rattle.plan_tables.specs.PlanView.{PlanView, coil_numbers, mode_event}
+use Rattle.plan_tables.specs.declared.entries.CoilId.{CoilId}
+use Rattle.plan_tables.specs.declared.entries.Owner.{Owner}
+use Rattle.coil_guard.specs.declared.command.Command.TheVariants as commands
+use Rattle.coil_guard.specs.CoilStep.{is_held_by}
+use Rattle.coil_guard.specs.Coils.{coil_at}
+use Rattle.plan_tables.specs.declared.entries.ModeEvent.TheVariants.{Started, Stopping, Stopped}
+use Rattle.plan_tables.specs.declared.entries.Owner.TheVariants as owners
+use Rattle.plan_tables.specs.declared.entries.Work.TheVariants.{Mode}
+use Rattle.plan_tables.specs.declared.entries.ModeId.{ModeId}
+use Rattle.mode_stack.specs.declared.phase.Phase.TheVariants as phases
+use Rattle.mode_stack.specs.declared.phase.ModeState.{ModeState}
+use Rattle.mode_stack.specs.ModeStep.{in_phase, is_running, entered, ended}
+use Rattle.mode_stack.specs.Modes.{mode_state, running_of}
+use Rattle.mode_stack.specs.Modes as modes
+use Rattle.mode_stack.proofs.WhoRuns.{starting_keeps_who_runs}
+use Rattle.event_queue.specs.Handlers.{none_running, set_running}
+use Rattle.device_objects.specs.declared.device.Call.{Call}
+use Rattle.device_objects.specs.declared.device.Call.TheVariants as calls
+use Rattle.written_machine.specs.Machine.{Machine, all_do, post, set_mode, stop_mode, call_devices, ask_coil, release_coil, release_coils}
+use Rattle.written_machine.specs.EventStep.{do_before, do_after}
+use Rattle.written_machine.proofs.Does.{stop-by}
+use Rattle.written_machine.proofs.Parts.{does-calls}
+use Rattle.written_machine.proofs.Silence.{still-does}
+use Rattle.machine_core.specs.Core.{CoreView, after, follow}
+
+-- where the same modes run, the handlers are the same
+pub follow-still : (does : Machine → Machine) (c : CoreView) → c.handlers.running ≡ running_of c.machine.modes → running_of (does c.machine).modes ≡ running_of c.machine.modes → after does c ≡ follow does c
+follow-still does c was still = λ i. record { handlers = record { plan = c.handlers.plan; running = (was ∙ sym still) i }; machine = does c.machine; room = c.room }
+
+-- a mode that is told to stop goes on running, if it ran
+pub stop-still : (plan : PlanView) (m : ModeId) (s : Machine) → running_of (stop_mode plan m s).modes ≡ running_of s.modes
+stop-still plan m s =
+    let same = starting_keeps_who_runs.stop s.modes m in
+    stop-by plan m s (λ t. running_of t.modes ≡ running_of s.modes) same same
+
+abbrev runs : ModeState → Bool
+runs s = is_running s.phase
+
+-- a mode that is entered runs, and one that has ended does not
+pub entered-runs : (states : List ModeState) (m : ModeId) (running : List Bool) → running ≡ running_of states → set running m.0 true ≡ running_of (set states m.0 (entered (mode_state states m)))
+entered-runs states m running is = ap (λ (bs : List Bool). set bs m.0 true) is ∙ sym (map-set runs states m.0 (in_phase phases.Active))
+
+pub ended-runs : (states : List ModeState) (m : ModeId) (running : List Bool) → running ≡ running_of states → set running m.0 false ≡ running_of (set states m.0 (ended (mode_state states m)))
+ended-runs states m running is = ap (λ (bs : List Bool). set bs m.0 false) is ∙ sym (map-set runs states m.0 (in_phase phases.Idle))
+
+-- at the beginning none runs
+none_runs : (n : ℕ) → replicate n false ≡ running_of (modes.all_idle n)
+none_runs zero = refl
+none_runs (suc n) = ap (λ (bs : List Bool). false ∷ bs) (none_runs n)
+
+pub idle-runs : (plan : PlanView) → none_running plan ≡ running_of (modes.all_idle (length plan.modes))
+idle-runs plan = none_runs (length plan.modes)
+
+-- the core of a mode that is entered, and of one that has ended
+pub entered-follows : (c : CoreView) (m : ModeId) → c.handlers.running ≡ running_of c.machine.modes
+    → record c { machine = set_mode m (entered (mode_state c.machine.modes m)) c.machine; handlers = set_running c.handlers m true } ≡ follow (λ s. set_mode m (entered (mode_state s.modes m)) s) c
+entered-follows c m is =
+    λ i. record { handlers = record { plan = c.handlers.plan; running = entered-runs c.machine.modes m c.handlers.running is i }; machine = set_mode m (entered (mode_state c.machine.modes m)) c.machine; room = c.room }
+
+-- while the devices of a mode are called, the same modes run
+pub calls-still : (plan : PlanView) (call : Call) (m : ModeId) (s : Machine) → running_of (call_devices plan call m s).modes ≡ running_of s.modes
+calls-still plan call m s = still-does plan (λ owner. Unit {0}) ⊥ (does-calls plan (λ owner. Unit {0}) tt call m tt s)
+
+-- the core after the whole work at `started`
+pub started-follows : (plan : PlanView) (c entered_core new : CoreView) (m : ModeId) → entered_core ≡ follow (λ s. set_mode m (entered (mode_state s.modes m)) s) c → new ≡ after (call_devices plan calls.ModeStart m) entered_core
+    → new ≡ follow (do_before plan (Mode m Started)) c
+started-follows plan c entered_core new m was is =
+    is ∙ ap (after (call_devices plan calls.ModeStart m)) was
+    ∙ (λ i. record {
+      handlers = record { plan = c.handlers.plan; running = sym (calls-still plan calls.ModeStart m (set_mode m (entered (mode_state c.machine.modes m)) c.machine)) i };
+      machine = do_before plan (Mode m Started) c.machine;
+      room = c.room;
+    })
+
+-- while its coils are put off too
+freed-modes : (owner : Owner) (coils : List CoilId) (s : Machine) → (all_do (release_coil owner) coils s).modes ≡ s.modes
+freed-modes owner [] s = refl
+freed-modes owner (coil ∷ coils) s = freed-modes owner coils (release_coil owner coil s) ∙ by (is_held_by owner (coil_at s.coils coil))
+  where
+    by : (b : Bool) → (if b then ask_coil owner (commands.Disable coil) s else s).modes ≡ s.modes
+    by true = refl
+    by false = refl
+
+pub freed-still : (plan : PlanView) (owner : Owner) (s : Machine) → running_of (release_coils plan owner s).modes ≡ running_of s.modes
+freed-still plan owner s = ap (λ (states : List ModeState). running_of states) (freed-modes owner (coil_numbers plan) s)
+
+pub ended-follows : (plan : PlanView) (kept : Bool) (c stopped freed ended_core : CoreView) (m : ModeId) → c.handlers.running ≡ running_of c.machine.modes
+    → stopped ≡ after (call_devices plan calls.ModeStop m) c
+    → freed ≡ after (release_coils plan (owners.Mode m)) stopped
+    → ended_core ≡ record freed { machine = set_mode m (ended (mode_state freed.machine.modes m)) freed.machine; handlers = set_running freed.handlers m false }
+    → after (post owners.Machine (mode_event plan m Stopped)) ended_core ≡ follow (do_after plan kept (Mode m Stopping)) c
+ended-follows plan kept c stopped freed ended_core m is was free last =
+    let calls_done = call_devices plan calls.ModeStop m c.machine in
+    let free_now = release_coils plan (owners.Mode m) calls_done in
+    let running = is ∙ sym (freed-still plan (owners.Mode m) calls_done ∙ calls-still plan calls.ModeStop m c.machine) in
+    ap (after (post owners.Machine (mode_event plan m Stopped))) last
+    ∙ ap (λ (v : CoreView). after (post owners.Machine (mode_event plan m Stopped)) (record v { machine = set_mode m (ended (mode_state v.machine.modes m)) v.machine; handlers = set_running v.handlers m false })) (free ∙ ap (after (release_coils plan (owners.Mode m))) was)
+    ∙ (λ i. record {
+      handlers = record { plan = c.handlers.plan; running = ended-runs free_now.modes m c.handlers.running running i };
+      machine = post owners.Machine (mode_event plan m Stopped) (set_mode m (ended (mode_state free_now.modes m)) free_now);
+      room = c.room;
+    })

@@ -1,0 +1,202 @@
+-- What is kept while actions are done, devices are called, and balls that have arrived are confirmed.
+use Rattle.std.specs.Prelude.{◌&&◌}
+use Rattle.std.proofs.Common.{◌≡◌, ℕ, ℤ, ◌≤◌, Bool, true, false, if◌then◌else◌, Option, None, Some, List, [], ◌∷◌, length, length-append, refl, ◌∙◌, arith}
+use Rattle.plan_tables.specs.PlanView.{PlanView, actions_at, first_trough, game_event, list_of_row, row_at, switch_at, target_of}
+use Rattle.plan_tables.specs.declared.entries.Action.{Action}
+use Rattle.plan_tables.specs.declared.entries.Action.TheVariants.{Post, Pulse, Enable, Disable, Change, Enter, Leave, Lose, Arrive}
+use Rattle.plan_tables.specs.declared.entries.EventId.{EventId}
+use Rattle.plan_tables.specs.declared.entries.GameEvent.TheVariants.{BallDrain}
+use Rattle.plan_tables.specs.declared.entries.Owner.{Owner}
+use Rattle.plan_tables.specs.declared.entries.VariableId.{VariableId}
+use Rattle.plan_tables.specs.declared.devices.Act.TheVariants.{Confirm, Request}
+use Rattle.plan_tables.specs.declared.devices.BallTarget.{BallTarget}
+use Rattle.plan_tables.specs.declared.devices.BallTarget.TheVariants as targets
+use Rattle.plan_tables.specs.declared.devices.RowId.{RowId}
+use Rattle.ball_devices.specs.Bookings.{LedgerCall, after_call, booked, can_book}
+use Rattle.ball_devices.specs.Bookings as calls_of_ledger
+use Rattle.ball_devices.specs.Ledger.{origin_of}
+use Rattle.ball_devices.specs.declared.booking.Origin.{Origin}
+use Rattle.ball_devices.specs.declared.booking.Origin.TheVariants.{Awaited, Found, New}
+use Rattle.coil_guard.specs.declared.command.Command.{Command}
+use Rattle.coil_guard.specs.declared.command.Command.TheVariants as commands
+use Rattle.device_objects.specs.declared.device.Call.{Call}
+use Rattle.device_objects.specs.declared.device.Call.TheVariants as calls
+use Rattle.player_game.specs.GameStep.{is_ball_on}
+use Rattle.player_game.specs.Players.{PlayersState, changed_to, after_change}
+use Rattle.switch_core.specs.declared.change.Change.{Change as Acceptance}
+use Rattle.written_machine.specs.declared.line.Happening.{Happening}
+use Rattle.written_machine.specs.declared.line.Happening.TheVariants as lines
+use Rattle.written_machine.specs.Devices.{HasDevices}
+use Rattle.written_machine.specs.Machine.{Machine, write, post, set_device, set_ledger, set_players, all_do, ask_coil, tell_change, book, counts_of, drain_if, after_entry, enter_ball, do_action_by, do_list_by, do_answer_by, called, call_device_by, first_away, no_confirm, confirm_of, confirm_first_away, confirm_entry, do_action, do_list, call_device, ask_trough, ask_ball, confirm_on_playfield}
+use Rattle.written_machine.specs.Moves.{Turned, Does, moved}
+use Rattle.written_machine.proofs.Does.{has_devices-does}
+use Rattle.written_machine.proofs.Growth.{post-grows, asked-grows, told-grows}
+use Rattle.written_machine.proofs.Held.{asked-count}
+use Rattle.machine_core.specs.Core.{CoreView, CanCall}
+
+-- The second machine has as many lines and waiting events at least. Its modes and its moment are the same, and its
+-- devices can be called and its coils asked as before.
+pub record Goes (plan : PlanView) (s t : Machine) : Type 0 where
+  pub lines : length s.lines ≤ length t.lines
+  pub waiting : length s.waiting ≤ length t.waiting
+  pub modes : t.modes ≡ s.modes
+  pub moment : t.moment ≡ s.moment
+  pub coils : length t.coils ≡ length s.coils
+  pub devices : HasDevices plan s.devices → HasDevices plan t.devices
+
+module _ (plan : PlanView) where
+  pub goes-none : (s : Machine) → Goes plan s s
+  goes-none s = record { lines = omega arith; waiting = omega arith; modes = refl; moment = refl; coils = refl; devices = λ h. h }
+
+  pub goes-then : (s t u : Machine) → Goes plan s t → Goes plan t u → Goes plan s u
+  goes-then s t u g h =
+      let fewer = g.lines in
+      let more = h.lines in
+      let before = g.waiting in
+      let later = h.waiting in
+      record {
+        lines = omega arith;
+        waiting = omega arith;
+        modes = h.modes ∙ g.modes;
+        moment = h.moment ∙ g.moment;
+        coils = h.coils ∙ g.coils;
+        devices = λ was. h.devices (g.devices was);
+      }
+
+  -- devices can be called as before
+  pub goes-can : (old new : CoreView) → Goes plan old.machine new.machine → CanCall plan old → CanCall plan new
+  goes-can old new g h =
+      let early = h.early in
+      let moment = g.moment in
+      record { devices = g.devices h.devices; coils = g.coils ∙ h.coils; early = omega arith }
+
+  -- ---- one change each
+
+  pub goes-post : (owner : Owner) (e : EventId) (s : Machine) → Goes plan s (post owner e s)
+  goes-post owner e s = let g = post-grows owner e s in record { lines = g.0; waiting = g.1; modes = refl; moment = refl; coils = refl; devices = λ h. h }
+
+  pub goes-write : (owner : Owner) (what : Happening) (s : Machine) → Goes plan s (write owner what s)
+  goes-write owner what s = record {
+    lines = omega (arith, length-append s.lines (record { moment = s.moment; owner = owner; happening = what } ∷ []));
+    waiting = omega arith;
+    modes = refl;
+    moment = refl;
+    coils = refl;
+    devices = λ h. h;
+  }
+
+  goes-asked : (owner : Owner) (command : Command) (s : Machine) → Goes plan s (ask_coil owner command s)
+  goes-asked owner command s =
+      let g = asked-grows owner command s in
+      record { lines = g.0; waiting = g.1; modes = refl; moment = refl; coils = asked-count owner command s.moment s.coils; devices = λ h. h }
+
+  goes-told : (owner : Owner) (player : ℕ) (v : VariableId) (e : EventId) (value : Option ℤ) (players : PlayersState) (s : Machine)
+      → Goes plan s (tell_change owner player v e value (set_players players s))
+  goes-told owner player v e None players s = record { lines = omega arith; waiting = omega arith; modes = refl; moment = refl; coils = refl; devices = λ h. h }
+  goes-told owner player v e (Some value) players s =
+      let g = told-grows owner player v e (Some value) (set_players players s) in
+      record { lines = g.0; waiting = g.1; modes = refl; moment = refl; coils = refl; devices = λ h. h }
+
+  -- a device is called, and goes on to its next state
+  pub goes-turn : (call : Call) (r : RowId) (s : Machine) → Goes plan s (set_device r (called plan call r s).0 s)
+  goes-turn call r s =
+      let turned : Does plan (λ x. Unit {0}) _ s (set_device r (called plan call r s).0 s) = moved (Turned call r) s tt in
+      record { lines = omega arith; waiting = omega arith; modes = refl; moment = refl; coils = refl; devices = has_devices-does plan turned }
+
+  goes-if : (b : Bool) (s t : Machine) → Goes plan s t → Goes plan s (if b then t else s)
+  goes-if true s t g = g
+  goes-if false s t g = goes-none s
+
+  pub goes-book : (owner : Owner) (call : LedgerCall) (s : Machine) → Goes plan s (book owner call s)
+  goes-book owner call s =
+      let what = lines.Balls (booked call s.ledger) (counts_of (after_call call s.ledger)) in
+      let told = set_ledger (after_call call s.ledger) s in
+      let g = goes-write owner what told in
+      goes-if (can_book call s.ledger) s (write owner what told)
+      (record { lines = g.lines; waiting = g.waiting; modes = refl; moment = refl; coils = refl; devices = λ h. h })
+
+  goes-drain : (owner : Owner) (drain : Bool) (s : Machine) → Goes plan s (drain_if plan owner drain s)
+  goes-drain owner true s = goes-if (is_ball_on s.game.phase) s (post owner (game_event plan BallDrain) s) (goes-post owner (game_event plan BallDrain) s)
+  goes-drain owner false s = goes-none s
+
+  -- one after another
+  pub goes-all : {X : Type 0} (f : X → Machine → Machine) → ((x : X) (s : Machine) → Goes plan s (f x s)) → (xs : List X) (s : Machine) → Goes plan s (all_do f xs s)
+  goes-all f each [] s = goes-none s
+  goes-all f each (x ∷ xs) s = goes-then s (f x s) (all_do f xs (f x s)) (each x s) (goes-all f each xs (f x s))
+
+  -- ---- actions, lists and calls, whoever is told of an entry
+
+  module _ (confirm : RowId → Machine → Machine) (each : (r : RowId) (s : Machine) → Goes plan s (confirm r s)) where
+    pub goes-after_entry : (owner : Owner) (r : RowId) (drain : Bool) (o : Origin) (s : Machine) → Goes plan s (after_entry plan confirm owner r drain o s)
+    goes-after_entry owner r drain Awaited s = each r s
+    goes-after_entry owner r drain Found s = goes-drain owner drain s
+    goes-after_entry owner r drain New s = goes-drain owner drain s
+
+    goes-enter : (owner : Owner) (r : RowId) (e : EventId) (drain : Bool) (s : Machine) → Goes plan s (enter_ball plan confirm owner r e drain s)
+    goes-enter owner r e drain s =
+        let told = book owner (calls_of_ledger.Enter r) s in
+        let posted = post owner e told in
+        goes-then s posted (enter_ball plan confirm owner r e drain s)
+        (goes-then s told posted (goes-book owner (calls_of_ledger.Enter r) s) (goes-post owner e told))
+        (goes-after_entry owner r drain (origin_of r s.ledger) posted)
+
+    pub goes-action_by : (owner : Owner) (a : Action) (s : Machine) → Goes plan s (do_action_by plan confirm owner a s)
+    goes-action_by owner (Post e) s = goes-post owner e s
+    goes-action_by owner (Pulse coil ms power) s = goes-asked owner (commands.Pulse coil ms power) s
+    goes-action_by owner (Enable coil power) s = goes-asked owner (commands.Enable coil power) s
+    goes-action_by owner (Disable coil) s = goes-asked owner (commands.Disable coil) s
+    goes-action_by owner (Change v action n e) s =
+        let value = changed_to plan v action n s.players in
+        goes-told owner s.players.current v e value (after_change plan v value s.players) s
+    goes-action_by owner (Enter r e drain) s = goes-enter owner r e drain s
+    goes-action_by owner (Leave r) s = goes-book owner (calls_of_ledger.Leave r (target_of plan r)) s
+    goes-action_by owner (Lose r) s = goes-book owner (calls_of_ledger.Lose r) s
+    goes-action_by owner (Arrive r) s = goes-book owner (calls_of_ledger.Arrive (target_of plan r)) s
+
+    pub goes-list_by : (r : RowId) (k : ℕ) (s : Machine) → Goes plan s (do_list_by plan confirm (row_at plan r).owner (list_of_row plan r k) s)
+    goes-list_by r k s = goes-all (do_action_by plan confirm (row_at plan r).owner) (goes-action_by (row_at plan r).owner) (actions_at plan (list_of_row plan r k)) s
+
+    pub goes-answer_by : (r : RowId) (lists : List ℕ) (s : Machine) → Goes plan s (do_answer_by plan confirm r lists s)
+    goes-answer_by r lists s = goes-all (λ k. do_list_by plan confirm (row_at plan r).owner (list_of_row plan r k)) (goes-list_by r) lists s
+
+    pub goes-call_by : (call : Call) (r : RowId) (s : Machine) → Goes plan s (call_device_by plan confirm call r s)
+    goes-call_by call r s =
+        let turned = set_device r (called plan call r s).0 s in
+        goes-then s turned (call_device_by plan confirm call r s) (goes-turn call r s) (goes-answer_by r (called plan call r s).1 turned)
+
+  -- ---- where nobody is told
+
+  pub goes-no_confirm : (r : RowId) (s : Machine) → Goes plan s (no_confirm r s)
+  goes-no_confirm r s = goes-none s
+
+  goes-confirm_of : (found : Option RowId) (s : Machine) → Goes plan s (confirm_of plan found s)
+  goes-confirm_of None s = goes-none s
+  goes-confirm_of (Some r) s = goes-call_by no_confirm goes-no_confirm (calls.Act Confirm) r s
+
+  pub goes-confirm : (target : BallTarget) (s : Machine) → Goes plan s (confirm_first_away plan target s)
+  goes-confirm target s = goes-confirm_of (first_away plan target s) s
+
+  -- ---- where the first device that is Away is told
+
+  pub goes-confirm_entry : (r : RowId) (s : Machine) → Goes plan s (confirm_entry plan r s)
+  goes-confirm_entry r s = goes-confirm (targets.Device r) s
+
+  pub goes-action : (owner : Owner) (a : Action) (s : Machine) → Goes plan s (do_action plan owner a s)
+  goes-action owner a s = goes-action_by (confirm_entry plan) goes-confirm_entry owner a s
+
+  pub goes-list : (r : RowId) (k : ℕ) (s : Machine) → Goes plan s (do_list plan (row_at plan r).owner (list_of_row plan r k) s)
+  goes-list r k s = goes-list_by (confirm_entry plan) goes-confirm_entry r k s
+
+  pub goes-call : (call : Call) (r : RowId) (s : Machine) → Goes plan s (call_device plan call r s)
+  goes-call call r s = goes-call_by (confirm_entry plan) goes-confirm_entry call r s
+
+  goes-trough : (found : Option RowId) (s : Machine) → Goes plan s (ask_trough plan found s)
+  goes-trough None s = goes-none s
+  goes-trough (Some r) s = goes-call (calls.Act (Request 1)) r s
+
+  pub goes-ask : (asks : Bool) (s : Machine) → Goes plan s (ask_ball plan asks s)
+  goes-ask true s = goes-trough (first_trough plan) s
+  goes-ask false s = goes-none s
+
+  pub goes-playfield : (a : Acceptance) (s : Machine) → Goes plan s (confirm_on_playfield plan a s)
+  goes-playfield a s = goes-if (a.active && (switch_at plan a.switch).confirms_playfield) s (confirm_first_away plan targets.Playfield s) (goes-confirm targets.Playfield s)

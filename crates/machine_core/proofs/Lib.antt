@@ -1,0 +1,17 @@
+pub mod Alarms
+pub mod Room
+pub mod Calling
+pub mod Going
+pub mod Listing
+pub mod Fitting
+pub mod Accepting
+pub mod Entering
+pub mod Confirming
+pub mod Homes
+pub mod Handling
+pub mod Playing
+pub mod Stepping
+pub mod Settling
+pub mod Following
+pub mod Callable
+pub mod Releasing

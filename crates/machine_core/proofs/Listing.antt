@@ -1,0 +1,63 @@
+-- The rows of a plan, one after another, and what their devices answer.
+use Rattle.std.proofs.Common.{◌≡◌, ℕ, ◌+◌, ◌<◌, ◌≤◌, Bool, true, false, cond, List, [], ◌∷◌, length, filter, drop, ap, sym, ◌∙◌, subst, arith}
+use Rattle.std.specs.List.{All}
+use Rattle.std.proofs.lemmas.List.{drop_all, drop_more}
+use Rattle.std.proofs.lemmas.List.Elements.{All-get_or}
+use Rattle.plan_tables.specs.PlanView.{PlanView, is_owner, row_at, row_numbers}
+use Rattle.plan_tables.specs.Devices.{list_count}
+use Rattle.plan_tables.specs.declared.entries.ModeId.{ModeId}
+use Rattle.plan_tables.specs.declared.entries.Owner.TheVariants as owners
+use Rattle.plan_tables.specs.declared.devices.RowId.{RowId}
+use Rattle.device_objects.specs.declared.device.Call.{Call}
+use Rattle.device_objects.specs.Laws.{MayCome}
+use Rattle.device_objects.specs.Outcomes.{outcomes}
+use Rattle.device_objects.proofs.Answered.{answers_are_outcomes}
+use Rattle.device_objects.proofs.Lists.{outcomes_of_row}
+use Rattle.cascade_rank.proofs.Rows.{length-rows, row_of}
+use Rattle.written_machine.specs.Devices.{HasDevices}
+use Rattle.written_machine.specs.Machine.{Machine, all_do, world_of, device_at, called, call_device}
+use Rattle.machine_core.specs.Core.{CoreView, CanCall, after}
+use Rattle.machine_core.proofs.Room.{Grows}
+use Rattle.machine_core.proofs.Going.{Goes, goes-can, goes-call}
+
+-- as much as before, and more
+pub grown : (plan : PlanView) (s t : Machine) → Goes plan s t → Grows s t
+grown plan s t g = (g.lines, g.waiting)
+
+module _ (plan : PlanView) where
+  -- of these rows the devices of a mode are called
+  abbrev pub call_rows : Call → ModeId → List RowId → Machine → Machine
+  call_rows call m rs s = all_do (call_device plan call) (filter (λ r. is_owner (owners.Mode m) (row_at plan r).owner) rs) s
+
+  -- ---- rows, one after another
+
+  -- those from a number on: the row of the number, and those after it
+  rows-more : (i : ℕ) → i < length plan.rows → drop i (row_numbers plan) ≡ record { 0 = i } ∷ drop (i + 1) (row_numbers plan)
+  rows-more i there =
+      let first : RowId = record { 0 = i } in
+      drop_more (row_numbers plan) i first (omega (arith, there, length-rows plan)) ∙ ap (λ (r : RowId). r ∷ drop (i + 1) (row_numbers plan)) (row_of plan i first there)
+
+  -- those of them that are meant
+  pub row-first : (test : RowId → Bool) (i : ℕ) → i < length plan.rows → test (record { 0 = i }) ≡ true
+      → filter test (drop i (row_numbers plan)) ≡ record { 0 = i } ∷ filter test (drop (i + 1) (row_numbers plan))
+  row-first test i there meant =
+      ap (filter test) (rows-more i there) ∙ ap (λ (b : Bool). cond b (record { 0 = i } ∷ filter test (drop (i + 1) (row_numbers plan))) (filter test (drop (i + 1) (row_numbers plan)))) meant
+
+  pub row-other : (test : RowId → Bool) (i : ℕ) → i < length plan.rows → test (record { 0 = i }) ≡ false
+      → filter test (drop i (row_numbers plan)) ≡ filter test (drop (i + 1) (row_numbers plan))
+  row-other test i there other =
+      ap (filter test) (rows-more i there) ∙ ap (λ (b : Bool). cond b (record { 0 = i } ∷ filter test (drop (i + 1) (row_numbers plan))) (filter test (drop (i + 1) (row_numbers plan)))) other
+
+  pub rows-end : (i : ℕ) → length plan.rows ≤ i → drop i (row_numbers plan) ≡ []
+  rows-end i past = drop_all i (row_numbers plan) (omega (arith, past, length-rows plan))
+
+  -- what a device answers are lists of its row
+  pub answer-lists : (call : Call) (r : RowId) (s : Machine) → r.0 < length plan.rows → HasDevices plan s.devices → MayCome call (device_at s r) → All (λ k. k < list_count (row_at plan r).settings) (called plan call r s).1
+  answer-lists call r s there has may =
+      let settings = (row_at plan r).settings in
+      let answer = (called plan call r s).1 in
+      let (i, within, is) = answers_are_outcomes settings call s.moment (world_of s) (device_at s r) (has.shapes r there) may in
+      subst (All (λ k. k < list_count settings)) is (All-get_or (All (λ k. k < list_count settings)) (outcomes settings call) i answer within (outcomes_of_row settings call))
+
+  pub call-calls : (call : Call) (r : RowId) (now next : CoreView) → next ≡ after (call_device plan call r) now → CanCall plan now → CanCall plan next
+  call-calls call r now next is h = subst (CanCall plan) (sym is) (goes-can plan now (after (call_device plan call r) now) (goes-call plan call r now.machine) h)

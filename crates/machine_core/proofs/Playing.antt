@@ -1,0 +1,123 @@
+-- What an event of the game leads to.
+use Rattle.std.proofs.Common.{◌≡◌, ℕ, suc, ◌+◌, ◌-◌, ◌<◌, ◌≤◌, Bool, true, false, List, [], ◌∷◌, length, ap, sym, ◌∙◌, subst, arith}
+use Rattle.std.specs.List.{range_with_len}
+use Rattle.plan_tables.specs.PlanView.{PlanView}
+use Rattle.plan_tables.specs.declared.entries.GameEvent.{GameEvent}
+use Rattle.plan_tables.specs.declared.entries.Owner.TheVariants as owners
+use Rattle.mode_stack.specs.declared.phase.ModeState.{ModeState}
+use Rattle.mode_stack.specs.Modes.{running_of}
+use Rattle.player_game.specs.declared.game.GameWork.{GameWork}
+use Rattle.player_game.specs.GameStep.{GameStep}
+use Rattle.player_game.specs.Players.{score_of}
+use Rattle.plan_tables.specs.PlanView.{game_event}
+use Rattle.written_machine.specs.declared.line.Happening.TheVariants as lines
+use Rattle.written_machine.specs.Machine.{Machine, all_do, ask_ball, do_game, post_game, write_final, write_finals}
+use Rattle.machine_core.specs.Core.{CoreView, CanCall, HasRoom, IsWorkOfGame, after, played, step_at}
+use Rattle.machine_core.proofs.Going.{Goes, goes-none, goes-can, goes-all, goes-post, goes-write, goes-ask}
+use Rattle.machine_core.proofs.Listing.{grown}
+use Rattle.machine_core.proofs.Room.{room-before}
+
+-- ---- what is told, asked and posted
+
+module _ (plan : PlanView) where
+  goes-finals : (tells : Bool) (s : Machine) → Goes plan s (write_finals plan tells s)
+  goes-finals true s =
+      goes-all plan (write_final plan) (λ player t. goes-write plan owners.Machine (lines.Final player (score_of plan t.players player)) t)
+      (range_with_len 1 (length s.players.players)) s
+  goes-finals false s = goes-none plan s
+
+  goes-events : (events : List GameEvent) (s : Machine) → Goes plan s (all_do (post_game plan) events s)
+  goes-events events s = goes-all plan (post_game plan) (λ e t. goes-post plan owners.Machine (game_event plan e) t) events s
+
+  -- the same modes run
+  pub game-still : (which : GameEvent) (s : Machine) → running_of (do_game plan which s).modes ≡ running_of s.modes
+  game-still which s =
+      let step = step_at plan which s in
+      let gone = played plan which s in
+      let told = write_finals plan step.finals gone in
+      let asked = ask_ball plan step.requests told in
+      ap (λ (states : List ModeState). running_of states) ((goes-events step.posts asked).modes ∙ (goes-ask plan step.requests told).modes ∙ (goes-finals step.finals gone).modes)
+
+-- ---- scores, one player after another
+
+pub finals-first : (place count : ℕ) → place < count → range_with_len (place + 1) (count - place) ≡ (place + 1) ∷ range_with_len (place + 1 + 1) (count - (place + 1))
+finals-first place count there =
+    let one : count - place ≡ suc (count - (place + 1)) = omega arith in
+    ap (range_with_len (place + 1)) one
+
+pub finals-end : (place count : ℕ) → count ≤ place → range_with_len (place + 1) (count - place) ≡ []
+finals-end place count past =
+    let none : count - place ≡ 0 = omega arith in
+    ap (range_with_len (place + 1)) none
+
+-- ---- the game goes on, scores are told, a ball is asked for, and events are posted
+
+module _ (plan : PlanView) (which : GameEvent) (old next : CoreView) (plan_is : old.handlers.plan ≡ plan) (next_is : next ≡ after (played old.handlers.plan which) old)
+    (work : GameWork) (work_is : IsWorkOfGame old.handlers.plan which old.machine work) where
+  abbrev step : GameStep
+  step = step_at plan which old.machine
+
+  abbrev gone : Machine
+  gone = played plan which old.machine
+
+  abbrev scored : Machine
+  scored = write_finals plan step.finals gone
+
+  abbrev asked_machine : Machine
+  asked_machine = ask_ball plan step.requests scored
+
+  next-is : next ≡ after (played plan which) old
+  next-is = next_is ∙ ap (λ (p : PlanView). after (played p which) old) plan_is
+
+  finals-are : work.finals ≡ step.finals
+  finals-are = work_is.finals ∙ ap (λ (p : PlanView). (step_at p which old.machine).finals) plan_is
+
+  requests-are : work.requests ≡ step.requests
+  requests-are = work_is.requests ∙ ap (λ (p : PlanView). (step_at p which old.machine).requests) plan_is
+
+  posts-are : work.posts.items ≡ step.posts
+  posts-are = work_is.posts ∙ ap (λ (p : PlanView). (step_at p which old.machine).posts) plan_is
+
+  next-plan : next.handlers.plan ≡ plan
+  next-plan = ap (λ (v : CoreView). v.handlers.plan) next-is ∙ plan_is
+
+  asked-fits : HasRoom old.room (do_game plan which old.machine) → HasRoom old.room asked_machine
+  asked-fits room = room-before old.room asked_machine (do_game plan which old.machine) (grown plan asked_machine (do_game plan which old.machine) (goes-events plan step.posts asked_machine)) room
+
+  pub scores-room : HasRoom old.room (do_game plan which old.machine) → HasRoom next.room (write_finals next.handlers.plan work.finals next.machine)
+  scores-room room =
+      let here : HasRoom old.room scored = room-before old.room scored asked_machine (grown plan scored asked_machine (goes-ask plan step.requests scored)) (asked-fits room) in
+      subst (λ (p : PlanView). HasRoom next.room (write_finals p work.finals next.machine)) (sym next-plan)
+      (subst (λ (v : CoreView). HasRoom v.room (write_finals plan work.finals v.machine)) (sym next-is)
+      (subst (λ (b : Bool). HasRoom old.room (write_finals plan b gone)) (sym finals-are) here))
+
+  -- once scores are told
+  module _ (told : CoreView) (told_is : told ≡ after (write_finals next.handlers.plan work.finals) next) where
+    told-is : told ≡ after (λ s. scored) old
+    told-is = told_is ∙ (λ i. after (write_finals (next-plan i) (finals-are i)) (next-is i))
+
+    pub told-plan : told.handlers.plan ≡ plan
+    told-plan = ap (λ (v : CoreView). v.handlers.plan) told-is ∙ plan_is
+
+    pub told-calls : CanCall plan old → CanCall plan told
+    told-calls h =
+        subst (CanCall plan) (sym told-is)
+        (goes-can plan (after (played plan which) old) (after (λ s. scored) old) (goes-finals plan step.finals gone) (record { devices = h.devices; coils = h.coils; early = h.early }))
+
+    pub ask-room : HasRoom old.room (do_game plan which old.machine) → HasRoom told.room (ask_ball plan work.requests told.machine)
+    ask-room room =
+        subst (λ (v : CoreView). HasRoom v.room (ask_ball plan work.requests v.machine)) (sym told-is)
+        (subst (λ (b : Bool). HasRoom old.room (ask_ball plan b scored)) (sym requests-are) (asked-fits room))
+
+    -- and a ball is asked for
+    module _ (asked : CoreView) (asked_is : asked ≡ after (ask_ball plan work.requests) told) (posts : List GameEvent) (posts_is : posts ≡ work.posts.items) where
+      asked-is : asked ≡ after (λ s. asked_machine) old
+      asked-is = asked_is ∙ (λ i. after (ask_ball plan (requests-are i)) (told-is i))
+
+      pub events-room : HasRoom old.room (do_game plan which old.machine) → HasRoom asked.room (all_do (post_game plan) posts asked.machine)
+      events-room room =
+          subst (λ (v : CoreView). HasRoom v.room (all_do (post_game plan) posts v.machine)) (sym asked-is)
+          (subst (λ (es : List GameEvent). HasRoom old.room (all_do (post_game plan) es asked_machine)) (sym (posts_is ∙ posts-are)) room)
+
+      pub game-done : (last : CoreView) → last ≡ after (all_do (post_game plan) posts) asked → last ≡ after (do_game plan which) old
+      game-done last last_is = last_is ∙ (λ i. after (all_do (post_game plan) ((posts_is ∙ posts-are) i)) (asked-is i))

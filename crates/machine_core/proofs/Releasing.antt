@@ -1,0 +1,256 @@
+-- The coils that an owner holds are put off, the lowest first.
+use Rattle.std.proofs.Common.{◌≡◌, ℕ, zero, suc, ◌+◌, ◌-◌, ◌<◌, ◌≤◌, inl, inr, Bool, true, false, if◌then◌else◌, Option, None, Some, option_map, List, [], ◌∷◌, ◌++◌, length, take, drop, get_or, refl, sym, ap, ◌∙◌, subst, length-append, arith}
+use Rattle.std.proofs.lemmas.Bool.{cases_eq, cond-true, cond-false, or_right}
+use Rattle.std.proofs.lemmas.List.{take-append-drop, drop_more, take_more, take_all, length-set, get_or-set_same, get_or-set_other}
+use Rattle.std.proofs.lemmas.List.FromFn.{length-map-range_with_len, get_or-map-range_with_len}
+use Rattle.std.proofs.lemmas.Option.{same_Some}
+use Rattle.std.specs.Prelude.{nat_lt, is_some}
+use Rattle.plan_tables.specs.PlanView.{PlanView, coil_numbers, mode_event}
+use Rattle.plan_tables.specs.declared.entries.ModeId.{ModeId}
+use Rattle.plan_tables.specs.declared.entries.ModeEvent.TheVariants.{Stopping, Stopped}
+use Rattle.plan_tables.specs.declared.entries.Owner.TheVariants as owners
+use Rattle.plan_tables.specs.declared.entries.Work.{Work}
+use Rattle.plan_tables.specs.declared.entries.Work.TheVariants.{Mode}
+use Rattle.device_objects.specs.declared.device.Call.TheVariants as calls
+use Rattle.plan_tables.specs.declared.entries.CoilId.{CoilId}
+use Rattle.plan_tables.specs.declared.entries.Owner.{Owner}
+use Rattle.coil_guard.specs.declared.command.Command.{Command}
+use Rattle.coil_guard.specs.declared.command.Command.TheVariants.{Disable}
+use Rattle.coil_guard.specs.declared.command.Answer.TheVariants.{Sent, Skipped}
+use Rattle.coil_guard.specs.declared.state.CoilState.{CoilState}
+use Rattle.coil_guard.specs.Limits.{no_limits}
+use Rattle.coil_guard.specs.CoilStep.{off, is_on_at, is_held_by, disabled}
+use Rattle.coil_guard.specs.Lowest.{first_of_two, lowest, IsLowest}
+use Rattle.coil_guard.specs.Coils.{coil_at, set_coil, put_off, next_held, after_release, answer_release}
+use Rattle.coil_guard.specs.Owners.{is_holder}
+use Rattle.written_machine.specs.declared.line.Happening.TheVariants as lines
+use Rattle.written_machine.specs.Machine.{Machine, write, set_coils, told, all_do, ask_coil, call_devices, release_coil, release_coils}
+use Rattle.written_machine.specs.EventStep.{do_after}
+use Rattle.written_machine.proofs.Parts.{does-calls}
+use Rattle.written_machine.proofs.Growth.{asked-grows, all_do-grows}
+use Rattle.machine_core.specs.Core.{CoreView, CanCall, HasRoom, after}
+use Rattle.machine_core.proofs.Callable.{can-does}
+use Rattle.machine_core.proofs.Room.{Grows}
+
+-- ---- the lowest coil
+
+next-lowest : (test : CoilId → Bool) (n : ℕ) (a : Option CoilId) (b : Bool) → IsLowest test n a → test (record { 0 = n }) ≡ b
+    → IsLowest test (suc n) (first_of_two a (if b then Some (record { 0 = n }) else None))
+next-lowest test n (Some c) b is here = let h = is.0 in (omega arith, is.1, is.2)
+next-lowest test n None true is here = (omega arith, here, is)
+next-lowest test n None false is here = λ coil within.
+    elim (cases_eq coil.0 n) [
+      | inl last ↦ ap (λ (k : ℕ). test (record { 0 = k })) last ∙ here
+      | inr earlier ↦ is coil (omega (arith, within, earlier))
+    ]
+
+lowest-is : (test : CoilId → Bool) (n : ℕ) → IsLowest test n (lowest test n)
+lowest-is test zero = λ coil within. absurd (omega (arith, within))
+lowest-is test (suc n) = next-lowest test n (lowest test n) (test (record { 0 = n })) (lowest-is test n) refl
+
+all_do-append : {X : Type 0} (f : X → Machine → Machine) (xs ys : List X) (s : Machine) → all_do f (xs ++ ys) s ≡ all_do f ys (all_do f xs s)
+all_do-append f [] ys s = refl
+all_do-append f (x ∷ xs) ys s = all_do-append f xs ys (f x s)
+
+-- a coil that is held is on
+held-on : (owner : Owner) (now : ℕ) (x : CoilState) → is_held_by owner x ≡ true → is_on_at now x ≡ true
+held-on owner now x is = or_right (nat_lt now x.pulse_end) (is_some x.holder) (by x.holder is)
+  where
+    by : (holder : Option Owner) → is_holder owner holder ≡ true → is_some holder ≡ true
+    by None h = h
+    by (Some o) h = refl
+
+module _ (plan : PlanView) (owner : Owner) where
+  -- ---- coils that it does not hold stay
+
+  not-released : (c : CoilId) (s : Machine) → is_held_by owner (coil_at s.coils c) ≡ false → release_coil owner c s ≡ s
+  not-released c s not = cond-false (is_held_by owner (coil_at s.coils c)) (ask_coil owner (Disable c) s) s not
+
+  number-at : (k : ℕ) (d : CoilId) → k < length plan.coils → get_or (coil_numbers plan) k d ≡ record { 0 = k }
+  number-at k d there = get_or-map-range_with_len (λ n. record { 0 = n }) 0 (length plan.coils) k k d there (omega arith)
+
+  count : length (coil_numbers plan) ≡ length plan.coils
+  count = length-map-range_with_len {X = CoilId} (λ n. record { 0 = n }) 0 (length plan.coils)
+
+  none-below : (k : ℕ) (s : Machine) → k ≤ length plan.coils → ((c : CoilId) → c.0 < k → is_held_by owner (coil_at s.coils c) ≡ false)
+      → all_do (release_coil owner) (take k (coil_numbers plan)) s ≡ s
+  none-below zero s within none = refl
+  none-below (suc k) s within none =
+      let ns = coil_numbers plan in
+      let here : CoilId = record { 0 = k } in
+      let more : take (suc k) ns ≡ take k ns ++ here ∷ [] =
+      let on : suc k ≡ k + 1 = omega arith in
+      ap (λ n. take n ns) on ∙ take_more ns k here (omega (arith, within, count)) ∙ ap (λ (c : CoilId). take k ns ++ c ∷ []) (number-at k here within) in
+      ap (λ cs. all_do (release_coil owner) cs s) more
+      ∙ all_do-append (release_coil owner) (take k ns) (here ∷ []) s
+      ∙ ap (release_coil owner here) (none-below k s (omega (arith, within)) (λ c below. none c (omega (arith, below))))
+      ∙ not-released here s (none here (omega arith))
+
+  -- ---- the lowest that it holds
+
+  module _ (s : Machine) (all : length s.coils ≡ length plan.coils) where
+    -- where there is none, nothing is put off
+    pub released-end : None ≡ next_held owner s.coils → release_coils plan owner s ≡ s
+    released-end none =
+        let test = λ (c : CoilId). is_held_by owner (coil_at s.coils c) in
+        let not : IsLowest test (length s.coils) None = subst (IsLowest test (length s.coils)) (sym none) (lowest-is test (length s.coils)) in
+        ap (λ cs. all_do (release_coil owner) cs s) (sym (take_all (length plan.coils) (coil_numbers plan) (omega (arith, count))))
+        ∙ none-below (length plan.coils) s (omega arith) (λ c below. not c (omega (arith, below, all)))
+
+    module _ (coil : CoilId) (first : Some coil ≡ next_held owner s.coils) where
+      test : CoilId → Bool
+      test c = is_held_by owner (coil_at s.coils c)
+
+      is : IsLowest (λ c. is_held_by owner (coil_at s.coils c)) (length s.coils) (Some coil)
+      is = subst (IsLowest (λ c. is_held_by owner (coil_at s.coils c)) (length s.coils)) (sym first) (lowest-is (λ c. is_held_by owner (coil_at s.coils c)) (length s.coils))
+
+      there : coil.0 < length plan.coils
+      there = let h = is.0 in omega (arith, h, all)
+
+      on : is_on_at s.moment (coil_at s.coils coil) ≡ true
+      on = held-on owner s.moment (coil_at s.coils coil) is.1
+
+      abbrev let_go : Machine
+      let_go = write owner (lines.Coil (Disable coil)) (set_coils (set_coil coil (disabled (coil_at s.coils coil)) s.coils) s)
+
+      asked-is : ask_coil owner (Disable coil) s ≡ let_go
+      asked-is =
+          ap (λ (b : Bool). write owner (told (Disable coil) (if b then Sent (Disable coil) else Skipped)) (set_coils (if b then set_coil coil (disabled (coil_at s.coils coil)) s.coils else s.coils) s)) on
+
+      -- others stay as they are held
+      others : (c : CoilId) → c.0 < coil.0 → is_held_by owner (coil_at let_go.coils c) ≡ false
+      others c below =
+          ap (is_held_by owner) (get_or-set_other s.coils coil.0 c.0 (disabled (coil_at s.coils coil)) (off no_limits) (λ (same : c.0 ≡ coil.0). omega (arith, below, same)))
+          ∙ is.2 c below
+
+      own : is_held_by owner (coil_at let_go.coils coil) ≡ false
+      own = ap (is_held_by owner) (get_or-set_same s.coils coil.0 (disabled (coil_at s.coils coil)) (off no_limits) is.0)
+
+      split : coil_numbers plan ≡ take coil.0 (coil_numbers plan) ++ coil ∷ drop (coil.0 + 1) (coil_numbers plan)
+      split =
+          let ns = coil_numbers plan in
+          sym (take-append-drop coil.0 ns)
+          ∙ ap (λ cs. take coil.0 ns ++ cs) (drop_more ns coil.0 coil (omega (arith, there, count)) ∙ ap (λ (c : CoilId). c ∷ drop (coil.0 + 1) ns) (number-at coil.0 coil there))
+
+      at-split : (t : Machine) → ((c : CoilId) → c.0 < coil.0 → is_held_by owner (coil_at t.coils c) ≡ false)
+          → release_coils plan owner t ≡ all_do (release_coil owner) (drop (coil.0 + 1) (coil_numbers plan)) (release_coil owner coil t)
+      at-split t none =
+          let ns = coil_numbers plan in
+          ap (λ cs. all_do (release_coil owner) cs t) split
+          ∙ all_do-append (release_coil owner) (take coil.0 ns) (coil ∷ drop (coil.0 + 1) ns) t
+          ∙ ap (λ u. all_do (release_coil owner) (drop (coil.0 + 1) ns) (release_coil owner coil u)) (none-below coil.0 t (omega (arith, there)) none)
+
+      -- it is put off first, and then the others
+      pub released-first : release_coils plan owner s ≡ release_coils plan owner let_go
+      released-first =
+          let up = drop (coil.0 + 1) (coil_numbers plan) in
+          at-split s is.2
+          ∙ ap (all_do (release_coil owner) up) (cond-true (is_held_by owner (coil_at s.coils coil)) (ask_coil owner (Disable coil) s) s is.1 ∙ asked-is ∙ sym (not-released coil let_go own))
+          ∙ sym (at-split let_go others)
+
+  release-grows : (s : Machine) → Grows s (release_coils plan owner s)
+  release-grows s = all_do-grows (release_coil owner) (λ c t. by c t (is_held_by owner (coil_at t.coils c))) (coil_numbers plan) s
+    where
+      by : (c : CoilId) (t : Machine) (b : Bool) → Grows t (if b then ask_coil owner (Disable c) t else t)
+      by c t true = asked-grows owner (Disable c) t
+      by c t false = (omega arith, omega arith)
+
+  -- ---- the code's loop
+
+  -- the coils that are held now, put off now, are all, put off at the start
+  pub record IsReleasing (start now : CoreView) : Type 0 where
+    pub left : after (release_coils plan owner) now ≡ after (release_coils plan owner) start
+    pub all : length now.machine.coils ≡ length plan.coils
+
+  module _ (start now : CoreView) (h : IsReleasing start now) where
+    pub releasing-end : None ≡ answer_release owner now.machine.moment now.machine.coils → (last : CoreView)
+        → last ≡ after (λ s. set_coils (after_release owner s.moment s.coils) s) now → last ≡ after (release_coils plan owner) start
+    releasing-end none last last_is =
+        by (next_held owner now.machine.coils) refl none
+      where
+        by : (o : Option CoilId) → o ≡ next_held owner now.machine.coils → None ≡ option_map Disable o → last ≡ after (release_coils plan owner) start
+        by None e n =
+            last_is
+            ∙ ap (λ (o : Option CoilId). after (set_coils (put_off_now o)) now) (sym e)
+            ∙ ap (λ (t : Machine). record now { machine = t }) (sym (released-end now.machine h.all e))
+            ∙ h.left
+          where
+            put_off_now : Option CoilId → List CoilState
+            put_off_now o = put_off o now.machine.coils
+        by (Some c) e n = cc
+
+    -- one more is put off
+    module _ (command : Command) (answer : Some command ≡ answer_release owner now.machine.moment now.machine.coils)
+        (released : CoreView) (released_is : released ≡ after (λ s. set_coils (after_release owner s.moment s.coils) s) now) where
+      record IsNext : Type 0 where
+        coil : CoilId
+        first : Some coil ≡ next_held owner now.machine.coils
+        command_is : command ≡ Disable coil
+
+      next : IsNext
+      next = by (next_held owner now.machine.coils) refl answer
+        where
+          by : (o : Option CoilId) → o ≡ next_held owner now.machine.coils → Some command ≡ option_map Disable o → IsNext
+          by None e a = cc
+          by (Some coil) e a = record { coil = coil; first = e; command_is = same_Some command (Disable coil) a }
+
+      abbrev gone : Machine
+      gone = let_go now.machine h.all next.coil next.first
+
+      coils-are : released.machine ≡ set_coils (set_coil next.coil (disabled (coil_at now.machine.coils next.coil)) now.machine.coils) now.machine
+      coils-are = ap (λ (v : CoreView). v.machine) released_is ∙ ap (λ (o : Option CoilId). set_coils (put_off o now.machine.coils) now.machine) (sym next.first)
+
+      module _ (written : CoreView) (written_is : written ≡ after (write owner (lines.Coil command)) released) where
+        gone-is : written ≡ after (λ s. gone) now
+        gone-is =
+            written_is
+            ∙ ap (after (write owner (lines.Coil command))) released_is
+            ∙ (λ i. record now { machine = write owner (lines.Coil (next.command_is i)) (set_coils (put_off (sym next.first i) now.machine.coils) now.machine) })
+
+        pub releasing-next : IsReleasing start written
+        releasing-next = record {
+          left =
+              ap (after (release_coils plan owner)) gone-is
+              ∙ ap (λ (t : Machine). record now { machine = t }) (sym (released-first now.machine h.all next.coil next.first))
+              ∙ h.left;
+          all = ap (λ (v : CoreView). length v.machine.coils) gone-is ∙ length-set now.machine.coils next.coil.0 (disabled (coil_at now.machine.coils next.coil)) ∙ h.all;
+        }
+
+        module _ (room : HasRoom start.room (release_coils plan owner start.machine)) where
+          room-next : length now.machine.lines < now.room
+          room-next =
+              let same : HasRoom now.room (release_coils plan owner now.machine) = subst (λ (v : CoreView). HasRoom v.room v.machine) (sym h.left) room in
+              let fits = same.lines in
+              let grown = (release-grows gone).0 in
+              let one = ap (λ (t : Machine). length t.lines) (released-first now.machine h.all next.coil next.first) in
+              let last = length-append now.machine.lines (record { moment = now.machine.moment; owner = owner; happening = lines.Coil (Disable next.coil) } ∷ []) in
+              omega (arith, fits, grown, one, last)
+
+          pub releasing-room : length released.machine.lines < released.room
+          releasing-room = subst (λ (v : CoreView). length v.machine.lines < v.room) (sym released_is) room-next
+
+          pub releasing-smaller : written.room - length written.machine.lines < now.room - length now.machine.lines
+          releasing-smaller =
+              let fits = room-next in
+              let last = length-append now.machine.lines (record { moment = now.machine.moment; owner = owner; happening = lines.Coil (Disable next.coil) } ∷ []) in
+              subst (λ (v : CoreView). v.room - length v.machine.lines < now.room - length now.machine.lines) (sym gone-is) (omega (arith, fits, last))
+
+-- ---- a mode stops
+
+-- where all that is done leaves room, the stop of its devices does
+pub stopped-room : (plan : PlanView) (kept : Bool) (m : ModeId) (work : Work) (room : ℕ) (s : Machine) → work ≡ Mode m Stopping → HasRoom room (do_after plan kept work s) → HasRoom room (call_devices plan calls.ModeStop m s)
+stopped-room plan kept m work room s is h =
+    let stopped = call_devices plan calls.ModeStop m s in
+    let whole : HasRoom room (do_after plan kept (Mode m Stopping) s) = subst (λ (w : Work). HasRoom room (do_after plan kept w s)) is h in
+    let freed = release_coils plan (owners.Mode m) stopped in
+    let grown = release-grows plan (owners.Mode m) stopped in
+    let lines = whole.lines in
+    let waiting = whole.waiting in
+    let more = length-append freed.waiting (record { event = mode_event plan m Stopped; owner = owners.Machine } ∷ []) in
+    record { waiting = omega (arith, grown.1, waiting, more); lines = omega (arith, grown.0, lines) }
+
+-- and there are all coils after it
+pub stopped-coils : (plan : PlanView) (m : ModeId) (old stopped : CoreView) → stopped ≡ after (call_devices plan calls.ModeStop m) old → CanCall plan old → length stopped.machine.coils ≡ length plan.coils
+stopped-coils plan m old stopped is h =
+    let can = can-does plan old (after (call_devices plan calls.ModeStop m) old) (does-calls plan (λ owner. Unit {0}) tt calls.ModeStop m tt old.machine) h in
+    ap (λ (v : CoreView). length v.machine.coils) is ∙ can.coils

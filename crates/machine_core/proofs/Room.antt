@@ -1,0 +1,120 @@
+-- What leaves room in the end left room before.
+use Rattle.std.proofs.Common.{◌≡◌, ℕ, ℤ, zero, suc, ◌+◌, ◌≤◌, ◌<◌, Option, Some, None, List, [], ◌∷◌, length, drop, length-append, refl, ap, sym, ◌∙◌, subst, arith}
+use Rattle.std.specs.Prelude.{slice_get}
+use Rattle.plan_tables.specs.declared.entries.EventId.{EventId}
+use Rattle.plan_tables.specs.declared.entries.Owner.{Owner}
+use Rattle.plan_tables.specs.declared.entries.Owner.TheVariants as owners
+use Rattle.plan_tables.specs.declared.entries.GameEvent.{GameEvent}
+use Rattle.plan_tables.specs.declared.entries.VariableId.{VariableId}
+use Rattle.plan_tables.specs.declared.entries.VariableAction.{VariableAction}
+use Rattle.plan_tables.specs.PlanView.{PlanView, game_event}
+use Rattle.player_game.specs.Players.{changed_to, after_change as players_after_change, score_of}
+use Rattle.written_machine.specs.declared.line.Happening.TheVariants as lines
+use Rattle.written_machine.specs.Machine.{Machine, post, set_players, all_do, tell_change, change_variable, post_game, write_final}
+use Rattle.written_machine.proofs.Growth.{all_do-grows, post-grows}
+use Rattle.event_queue.specs.declared.queue.Posted.{Posted}
+use Rattle.event_queue.specs.Queue.{QueueView, IsTaken}
+use Rattle.machine_core.specs.Core.{CoreView, TakesFirst, HasRoom, after}
+
+-- the second machine has as many lines and waiting events at least
+abbrev pub Grows : Machine → Machine → Type 0
+Grows s t = (length s.lines ≤ length t.lines) × (length s.waiting ≤ length t.waiting)
+
+pub room-before : (room : ℕ) (s t : Machine) → Grows s t → HasRoom room t → HasRoom room s
+room-before room s t g h =
+    let lines = g.0 in
+    let waiting = g.1 in
+    let most_lines = h.lines in
+    let most_waiting = h.waiting in
+    record { waiting = omega arith; lines = omega arith }
+
+-- where all that is left to do leaves room, its first does
+pub room-first : {X : Type 0} (f : X → Machine → Machine) → ((x : X) (s : Machine) → Grows s (f x s)) → (now all : CoreView) (x : X) (xs left : List X) → left ≡ x ∷ xs → after (all_do f left) now ≡ all → HasRoom all.room all.machine → HasRoom now.room (f x now.machine)
+room-first f each now all x xs left e is h =
+    let whole : after (all_do f (x ∷ xs)) now ≡ all = subst (λ (ys : List _). after (all_do f ys) now ≡ all) e is in
+    let here : HasRoom now.room (all_do f xs (f x now.machine)) = subst (λ (v : CoreView). HasRoom v.room v.machine) (sym whole) h in
+    room-before now.room (f x now.machine) (all_do f xs (f x now.machine)) (all_do-grows f each xs (f x now.machine)) here
+
+-- where all that is left to do comes to a state, so does the rest after the first
+pub all_do-first : {X : Type 0} (f : X → Machine → Machine) (now next all : CoreView) (x : X) (xs left : List X) → left ≡ x ∷ xs → after (all_do f left) now ≡ all → next ≡ after (f x) now → after (all_do f xs) next ≡ all
+all_do-first f now next all x xs left e is n =
+    let whole : after (all_do f (x ∷ xs)) now ≡ all = subst (λ (ys : List _). after (all_do f ys) now ≡ all) e is in
+    subst (λ (v : CoreView). after (all_do f xs) v ≡ all) (sym n) whole
+
+-- what is at a place is the first of what is left there
+pub drop-found : {X : Type 0} (xs : List X) (k : ℕ) (x : X) → slice_get xs k ≡ Some x → drop k xs ≡ x ∷ drop (k + 1) xs
+drop-found [] k x h = cc
+drop-found (y ∷ ys) zero x h = let same : y ≡ x = cc in ap (λ z. z ∷ ys) same
+drop-found (y ∷ ys) (suc k) x h =
+    let e : suc k + 1 ≡ suc (k + 1) = omega arith in
+    rw e (drop-found ys k x h)
+
+-- and where there is nothing, nothing is left
+pub drop-not_found : {X : Type 0} (xs : List X) (k : ℕ) → slice_get xs k ≡ None → drop k xs ≡ []
+drop-not_found [] zero h = refl
+drop-not_found [] (suc k) h = refl
+drop-not_found (y ∷ ys) zero h = cc
+drop-not_found (y ∷ ys) (suc k) h = drop-not_found ys k h
+
+-- what was taken from the queue was taken from the machine
+pub taken-is : (result : Option Posted) (old new : QueueView) (c d : CoreView) → IsTaken result old new → c.machine.waiting ≡ old.waiting → c.room ≡ old.size → d ≡ record c { machine = record c.machine { waiting = new.waiting }; room = new.size } → TakesFirst result c d
+taken-is None old new c d (none, same) waits room is = (
+  waits ∙ none,
+  is ∙ ap (λ (q : QueueView). record c { machine = record c.machine { waiting = q.waiting }; room = q.size }) same
+      ∙ ap (λ (ps : List Posted). record c { machine = record c.machine { waiting = ps }; room = old.size }) (sym waits) ∙ ap (λ (n : ℕ). record c { room = n }) (sym room),
+)
+taken-is (Some first) old new c d (first_is, same) waits room is =
+    (new.waiting, waits ∙ first_is, is ∙ ap (λ (n : ℕ). record c { machine = record c.machine { waiting = new.waiting }; room = n }) (same ∙ sym room))
+
+-- where all that is left to post leaves room, its first has it
+pub post-room : (owner : Owner) (now all : CoreView) (e : EventId) (es left : List EventId) → left ≡ e ∷ es → after (all_do (post owner) left) now ≡ all → HasRoom all.room all.machine → length now.machine.waiting < now.room
+post-room owner now all e es left is whole h =
+    let room = room-first (post owner) (post-grows owner) now all e es left is whole h in
+    let fits = room.waiting in
+    omega (arith, fits, length-append now.machine.waiting (record { event = e; owner = owner } ∷ []))
+
+-- a score that is told adds a line
+pub final-grows : (plan : PlanView) (player : ℕ) (s : Machine) → Grows s (write_final plan player s)
+final-grows plan player s =
+    (omega (arith, length-append s.lines (record { moment = s.moment; owner = owners.Machine; happening = lines.Final player (score_of plan s.players player) } ∷ [])), omega arith)
+
+pub final-room : (plan : PlanView) (now all : CoreView) (player : ℕ) (players left : List ℕ) → left ≡ player ∷ players → after (all_do (write_final plan) left) now ≡ all → HasRoom all.room all.machine → length now.machine.lines < now.room
+final-room plan now all player players left is whole h =
+    let room = room-first (write_final plan) (final-grows plan) now all player players left is whole h in
+    let fits = room.lines in
+    let s = now.machine in
+    omega (arith, fits, length-append s.lines (record { moment = s.moment; owner = owners.Machine; happening = lines.Final player (score_of plan s.players player) } ∷ []))
+
+-- and an event of the game that is posted waits
+pub game-grows : (plan : PlanView) (e : GameEvent) (s : Machine) → Grows s (post_game plan e s)
+game-grows plan e s = post-grows owners.Machine (game_event plan e) s
+
+pub game-room : (plan : PlanView) (now all : CoreView) (e : GameEvent) (es left : List GameEvent) → left ≡ e ∷ es → after (all_do (post_game plan) left) now ≡ all → HasRoom all.room all.machine → length now.machine.waiting < now.room
+game-room plan now all e es left is whole h =
+    let room = room-first (post_game plan) (game-grows plan) now all e es left is whole h in
+    let fits = room.waiting in
+    omega (arith, fits, length-append now.machine.waiting (record { event = game_event plan e; owner = owners.Machine } ∷ []))
+
+-- where a change of a variable that is told leaves room, there is room for its line and its event
+told-fits : (owner : Owner) (player : ℕ) (v : VariableId) (e : EventId) (value : ℤ) (room : ℕ) (s : Machine) → HasRoom room (tell_change owner player v e (Some value) s) → (length s.lines < room) × (length s.waiting < room)
+told-fits owner player v e value room s h =
+    let written = h.lines in
+    let waits = h.waiting in (
+      omega (arith, written, length-append s.lines (record { moment = s.moment; owner = owner; happening = lines.Player player v value } ∷ [])),
+      omega (arith, waits, length-append s.waiting (record { event = e; owner = owner } ∷ [])),
+    )
+
+changed-fits : (plan : PlanView) (owner : Owner) (v : VariableId) (action : VariableAction) (n : ℤ) (e : EventId) (value : ℤ) (room : ℕ) (s : Machine) → Some value ≡ changed_to plan v action n s.players
+    → HasRoom room (change_variable plan owner v action n e s) → (length s.lines < room) × (length s.waiting < room)
+changed-fits plan owner v action n e value room s is h =
+    told-fits owner s.players.current v e value room (set_players (players_after_change plan v (Some value) s.players) s)
+    (subst (λ (o : Option ℤ). HasRoom room (tell_change owner s.players.current v e o (set_players (players_after_change plan v o s.players) s))) (sym is) h)
+
+-- so it is for the players that a core holds
+pub changed-room : (seen now : CoreView) → seen ≡ now → (held : PlanView) → held ≡ seen.handlers.plan → (owner : Owner) (v : VariableId) (action : VariableAction) (n : ℤ) (e : EventId) (value : ℤ)
+    → Some value ≡ changed_to held v action n seen.machine.players → HasRoom now.room (change_variable now.handlers.plan owner v action n e now.machine)
+    → (length seen.machine.lines < seen.room) × (length seen.machine.waiting < seen.room)
+changed-room seen now same held held_is owner v action n e value is room =
+    changed-fits seen.handlers.plan owner v action n e value seen.room seen.machine
+    (is ∙ ap (λ (p : PlanView). changed_to p v action n seen.machine.players) held_is)
+    (subst (λ (c : CoreView). HasRoom c.room (change_variable c.handlers.plan owner v action n e c.machine)) (sym same) room)

@@ -1,0 +1,23 @@
+use Rattle.std.proofs.Common.{◌<◌, ◌≤◌, length, ap, sym, ◌∙◌, arith}
+use Rattle.machine_core.proofs.Confirming.{away-here, away-later, away-end}
+use Rattle.machine_core.proofs.arrivals.first_away.Goals as goal
+
+pub loop-number-preserved : goal.loop-number-preserved
+loop-number-preserved g c =
+    let plan = c.args.plan.now in
+    let i = c.loop-number.number in
+    let there : i < length plan.rows = omega (arith, c.loop-number-test.true, ap (λ rows. length rows) c.rows-number-end.ensures.rows) in
+    sym (away-later plan c.args.target c.args.core.now.machine i there (sym c.is_away_to.ensures ∙ c.if-is_away_to.false)) ∙ c.loop-number.invariant
+
+pub returns-then-is_away_to-clause-first : goal.returns-then-is_away_to-clause-first
+returns-then-is_away_to-clause-first g c =
+    let plan = c.args.plan.now in
+    let i = c.loop-number.number in
+    let there : i < length plan.rows = omega (arith, c.loop-number-test.true, ap (λ rows. length rows) c.rows-number-end.ensures.rows) in
+    sym (away-here plan c.args.target c.args.core.now.machine i there (sym c.is_away_to.ensures ∙ c.if-is_away_to.true)) ∙ c.loop-number.invariant
+
+pub returns-clause-first : goal.returns-clause-first
+returns-clause-first g c =
+    let plan = c.args.plan.now in
+    let past : length plan.rows ≤ c.loop-number.number = omega (arith, c.loop-number-test.false, ap (λ rows. length rows) c.rows-number-end.ensures.rows) in
+    sym (away-end plan c.args.target c.args.core.now.machine c.loop-number.number past) ∙ c.loop-number.invariant

@@ -1,0 +1,39 @@
+use Rattle.std.proofs.Common.{rules, None, List, map, replicate, length, ap, sym, subst, ◌∙◌}
+use Rattle.written_machine.specs.Devices.{HasDevices}
+use Rattle.written_machine.proofs.Alarms.{initial-devices}
+use Rattle.std.proofs.lemmas.List.{length-replicate}
+use Rattle.mode_stack.specs.declared.phase.Phase.TheVariants.{Idle}
+use Rattle.mode_stack.specs.ModeStep.{in_phase}
+use Rattle.mode_stack.specs.Modes.{running_of}
+use Rattle.plan_tables.specs.declared.devices.DeviceRow.{DeviceRow}
+use Rattle.device_objects.specs.DeviceStep.{due_of}
+use Rattle.machine_core.proofs.Alarms.{dues-are}
+use Rattle.machine_core.proofs.Fitting.{first-dues}
+use Rattle.machine_core.proofs.Following.{idle-runs}
+use Rattle.machine_core.proofs.core_state.Core.new.Goals as goal
+
+pub returns-clause-plan : goal.returns-clause-plan
+returns-clause-plan g c =
+    let plan = c.args.plan.now in
+    record {
+      devices = subst (HasDevices plan) (sym (ap (map g.D.Device.state_of) (sym c.deref.ensures.value) ∙ c.in_default.ensures.fit.states_are)) (initial-devices plan);
+      coils = c.in_ok-first.ensures.count;
+      modes = ap (λ s. length s.modes) c.in_ok-first.ensures.modes ∙ length-replicate (length plan.modes) (in_phase Idle);
+      handlers = c.in_ok-waiting.ensures.handlers ∙ (λ i. record { plan = plan; running = (idle-runs plan ∙ ap (λ s. running_of s.modes) (sym c.in_ok-first.ensures.modes)) i });
+      kinds = c.in_ok-first.ensures.kinds;
+      complete = c.in_ok-first.ensures.complete;
+    }
+
+pub invariant_of-result : goal.invariant_of-result
+invariant_of-result g c =
+    let rows = c.args.plan.now.rows in
+    let fit = c.in_default.ensures.fit in
+    let states = ap (map g.D.Device.state_of) (sym c.deref.ensures.value) ∙ fit.states_are in (
+      search rules,
+      search rules,
+      search rules,
+      search rules,
+      ap (map g.D.Device.row_of) (sym c.deref.ensures.value) ∙ fit.rows_are ∙ sym (ap (λ h. h.plan.rows) c.in_ok-waiting.ensures.handlers),
+      c.in_ok-waiting.ensures.alarms ∙ sym (dues-are g.D.Device.state_of c.args.devices.items ∙ ap (map due_of) states ∙ first-dues rows),
+      ap (λ l. length l.counted) c.in_ok-first.ensures.ledger ∙ length-replicate (length rows) 0 ∙ sym (ap (λ h. length h.plan.rows) c.in_ok-waiting.ensures.handlers),
+    )

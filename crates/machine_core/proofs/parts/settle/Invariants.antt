@@ -1,0 +1,12 @@
+use Rattle.std.proofs.Common.{◌≡◌, ℕ, ◌-◌, length}
+use Rattle.written_machine.specs.PlanOrder.{plan_steps}
+use Rattle.machine_core.specs.Core.{CanCall, follow}
+use Rattle.machine_core.proofs.parts.settle.Given as goal
+
+-- so many event steps in plan order were taken
+abbrev pub invariant-loop-first : goal.invariant-loop-first
+invariant-loop-first g l = (count : ℕ) × (l.core ≡ follow (plan_steps l.plan count) l.fn.core) × CanCall l.plan l.core
+
+-- each gives a line
+abbrev pub decreases-loop-first : goal.decreases-loop-first
+decreases-loop-first g l = l.core.room - length l.core.machine.lines

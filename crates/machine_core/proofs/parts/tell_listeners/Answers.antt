@@ -1,0 +1,49 @@
+use Rattle.std.proofs.Common.{◌≡◌, ◌+◌, drop, get_or, ap, sym, ◌∙◌, subst}
+use Rattle.std.proofs.lemmas.List.{drop_more}
+use Rattle.plan_tables.specs.PlanView.{act_of_listener}
+use Rattle.plan_tables.specs.declared.devices.Act.{Act}
+use Rattle.plan_tables.specs.declared.entries.Listener.{Listener}
+use Rattle.device_objects.specs.declared.device.Call.TheVariants as calls
+use Rattle.written_machine.specs.Machine.{Machine, all_do, call_device, tell_listener}
+use Rattle.machine_core.specs.Core.{CoreView, HasRoom, after}
+use Rattle.machine_core.proofs.Going.{goes-call}
+use Rattle.machine_core.proofs.Listing.{call-calls, grown}
+use Rattle.machine_core.proofs.Room.{room-first, all_do-first}
+use Rattle.machine_core.proofs.parts.tell_listeners.Goals as goal
+
+none : Listener
+none = record { row = record { 0 = 0 }; switch = 0 }
+
+pub call_device-requires-clause-plan : goal.call_device-requires-clause-plan
+call_device-requires-clause-plan g c = ap (λ (v : CoreView). v.handlers.plan) c.loop-listener.invariant.0 ∙ c.requires.plan
+
+pub call_device-requires-clause-calls : goal.call_device-requires-clause-calls
+call_device-requires-clause-calls g c = c.loop-listener.invariant.1
+
+pub call_device-requires-clause-room : goal.call_device-requires-clause-room
+unfolding none
+call_device-requires-clause-room g c =
+    let plan = c.args.plan.now in
+    let active = c.args.active in
+    let listeners = c.args.listeners.now in
+    let i = c.loop-listener.listener-index in
+    let l = get_or listeners i none in
+    let core = c.loop-listener.core in
+    subst (λ (a : Act). HasRoom core.room (call_device plan (calls.Act a) l.row core.machine)) (sym c.act.ensures)
+    (room-first (tell_listener plan active) (λ (x : Listener) (s : Machine). grown plan s (tell_listener plan active x s) (goes-call plan (calls.Act (act_of_listener active x)) x.row s)) core (after (all_do (tell_listener plan active) listeners) c.args.core.now)
+    l (drop (i + 1) listeners) (drop i listeners) (drop_more listeners i none c.loop-listener-test.true) c.loop-listener.invariant.0 c.requires.room)
+
+pub loop-listener-preserved : goal.loop-listener-preserved
+unfolding none
+loop-listener-preserved g c =
+    let plan = c.args.plan.now in
+    let active = c.args.active in
+    let listeners = c.args.listeners.now in
+    let i = c.loop-listener.listener-index in
+    let l = get_or listeners i none in
+    let core = c.loop-listener.core in
+    let done : c.call_device.new.core ≡ after (tell_listener plan active l) core = c.call_device.ensures ∙ ap (λ (a : Act). after (call_device plan (calls.Act a) l.row) core) c.act.ensures in (
+      all_do-first (tell_listener plan active) core c.call_device.new.core (after (all_do (tell_listener plan active) listeners) c.args.core.now)
+          l (drop (i + 1) listeners) (drop i listeners) (drop_more listeners i none c.loop-listener-test.true) c.loop-listener.invariant.0 done,
+      call-calls plan (calls.Act (act_of_listener active l)) l.row core c.call_device.new.core done c.loop-listener.invariant.1,
+    )

@@ -1,0 +1,111 @@
+-- The state of a machine with its room, and what is done with it.
+use Rattle.std.specs.Prelude.{◌≡◌, ℕ, ◌<◌, ◌≤◌, ◌^◌, Option, Some, None, List, [], ◌∷◌, length}
+use Rattle.plan_tables.specs.PlanView.{PlanView}
+use Rattle.plan_tables.specs.declared.entries.Work.{Work}
+use Rattle.plan_tables.specs.declared.entries.Work.TheVariants.{Nothing, Mode, Game}
+use Rattle.plan_tables.specs.declared.entries.GameEvent.{GameEvent}
+use Rattle.plan_tables.specs.Valid.{HasGame}
+use Rattle.player_game.specs.declared.game.GameWork.{GameWork}
+use Rattle.player_game.specs.GameStep.{GameStep, game_step}
+use Rattle.switch_core.specs.Switches.{IsComplete}
+use Rattle.event_queue.specs.declared.queue.Posted.{Posted}
+use Rattle.event_queue.specs.Handlers.{HandlersView}
+use Rattle.mode_stack.specs.Modes.{running_of}
+use Rattle.plan_tables.specs.declared.entries.EventId.{EventId}
+use Rattle.event_queue.specs.PlanOrder.{by_priority}
+use Rattle.written_machine.specs.Machine.{Machine, all_do, do_handler, home_of, set_game, set_players}
+use Rattle.written_machine.specs.Devices.{HasDevices}
+use Rattle.written_machine.specs.EventStep.{work_before, work_after, handlers_in}
+use Rattle.written_machine.specs.Run.{Stimulus, Change, Alarm, Wait}
+use Rattle.written_machine.specs.NextAlarm.{next_alarm}
+use Rattle.written_machine.specs.PlanOrder.{plan_steps}
+
+pub record CoreView : Type 0 where
+  -- what handles events
+  pub handlers : HandlersView
+  pub machine : Machine
+  -- how many events may wait, and how many lines may be written
+  pub room : ℕ
+
+-- the core after this was done to its machine
+abbrev pub after : (Machine → Machine) → CoreView → CoreView
+after does c = record c { machine = does c.machine }
+
+-- the same, where which modes run may have changed: its handlers are those of the modes that run now
+abbrev pub follow : (Machine → Machine) → CoreView → CoreView
+follow does c = record {
+  handlers = record { plan = c.handlers.plan; running = running_of (does c.machine).modes };
+  machine = does c.machine;
+  room = c.room;
+}
+
+-- devices can be called, and coils asked: each device has a state of its shape, there are all coils, and the moment is
+-- not too late
+pub record CanCall (plan : PlanView) (c : CoreView) : Type 0 where
+  pub devices : HasDevices plan c.machine.devices
+  pub coils : length c.machine.coils ≡ length plan.coils
+  pub early : c.machine.moment < 2 ^ 40
+
+-- it has the handlers of the modes that run
+abbrev pub HandlesFor : PlanView → CoreView → Type 0
+HandlesFor plan c = c.handlers ≡ record { plan = plan; running = running_of c.machine.modes }
+
+-- the work is none, that of a mode of the plan, or that of its game
+abbrev pub IsWorkOf : PlanView → Work → Type 0
+IsWorkOf plan Nothing = Unit {0}
+IsWorkOf plan (Mode m which) = m.0 < length plan.modes
+IsWorkOf plan (Game which) = HasGame plan
+
+-- what is done in plan order at an event that was taken
+abbrev pub after_taken : PlanView → EventId → Machine → Machine
+after_taken plan e s =
+    let ready = work_before plan e s in
+    work_after plan e s (all_do (do_handler plan) (by_priority plan (handlers_in plan ready e)) ready)
+
+-- the game and its players go on as an event of the game says
+abbrev pub step_at : PlanView → GameEvent → Machine → GameStep
+step_at plan which s = game_step plan.game plan which (home_of plan s) s.game s.players
+
+abbrev pub played : PlanView → GameEvent → Machine → Machine
+played plan which s = set_players (step_at plan which s).players (set_game (step_at plan which s).game s)
+
+-- what else the event leads to
+pub record IsWorkOfGame (plan : PlanView) (which : GameEvent) (s : Machine) (work : GameWork) : Type 0 where
+  pub posts : work.posts.items ≡ (step_at plan which s).posts
+  pub requests : work.requests ≡ (step_at plan which s).requests
+  pub finals : work.finals ≡ (step_at plan which s).finals
+
+-- the machine of the plan is kept: it has its modes, devices and coils, the handlers of the modes that run, and all its switches
+pub record IsCoreOf (plan : PlanView) (c : CoreView) : Type 0 where
+  pub devices : HasDevices plan c.machine.devices
+  pub coils : length c.machine.coils ≡ length plan.coils
+  pub modes : length c.machine.modes ≡ length plan.modes
+  pub handlers : HandlesFor plan c
+  pub kinds : length c.machine.switches.kinds ≡ length plan.switches
+  pub complete : IsComplete c.machine.switches
+
+-- the event that waits first is taken, where one waits
+abbrev pub TakesFirst : Option Posted → CoreView → CoreView → Type 0
+TakesFirst None old new = (old.machine.waiting ≡ []) × (new ≡ old)
+TakesFirst (Some first) old new = (rest : List Posted) × (old.machine.waiting ≡ first ∷ rest) × (new ≡ after (λ s. record s { waiting = rest }) old)
+
+-- the moment is not too late, a change is that of a switch which there is, and an alarm is the next one
+abbrev pub IsPlayable : CoreView → Stimulus → Type 0
+IsPlayable c (Change at switch level) = (at < 2 ^ 40) × (switch.0 < length c.machine.switches.kinds)
+IsPlayable c (Alarm at source) = (at < 2 ^ 40) × (next_alarm c.machine ≡ Some (at, source))
+IsPlayable c (Wait at) = at < 2 ^ 40
+
+-- what waits and what was written fits
+pub record HasRoom (room : ℕ) (s : Machine) : Type 0 where
+  pub waiting : length s.waiting ≤ room
+  pub lines : length s.lines ≤ room
+
+-- after each number of event steps in plan order there is room
+abbrev pub StaysWithin : PlanView → ℕ → Machine → Type 0
+StaysWithin plan room s = (n : ℕ) → HasRoom room (plan_steps plan n s)
+
+-- so many event steps in plan order that nothing waits any more
+pub record HasSettled (plan : PlanView) (old new : CoreView) : Type 0 where
+  pub count : ℕ
+  pub new_is : new ≡ follow (plan_steps plan count) old
+  pub settles : new.machine.waiting ≡ []

@@ -1,0 +1,20 @@
+-- What a stimulus is, and what an alarm comes from, to the written machine.
+use Rattle.std.specs.Prelude.{ℕ}
+use Rattle.written_machine.specs.Run.{Source, switch, device, Stimulus, Change, Alarm, Wait}
+use Rattle.machine_core.specs.declared.stimulus.Source.{Source as HeldSource}
+use Rattle.machine_core.specs.declared.stimulus.Source.TheVariants as held_source
+use Rattle.machine_core.specs.declared.stimulus.Stimulus.{Stimulus as HeldStimulus}
+use Rattle.machine_core.specs.declared.stimulus.Stimulus.TheVariants as held
+
+abbrev pub source_view : HeldSource → Source
+source_view (held_source.Switch n) = switch n
+source_view (held_source.Device r) = device r
+
+-- an alarm: its moment, and what it comes from
+abbrev pub alarm_view : ℕ × HeldSource → ℕ × Source
+alarm_view a = (a.0, source_view a.1)
+
+abbrev pub stimulus_view : HeldStimulus → Stimulus
+stimulus_view (held.Change at n level) = Change at n level
+stimulus_view (held.Alarm at source) = Alarm at (source_view source)
+stimulus_view (held.Wait at) = Wait at

@@ -1,0 +1,123 @@
+//! The actions of effect lists, before a ball that one of them lets into a device is confirmed.
+
+ghost use Rattle.std.specs.Prelude.{◌≡◌, ◌<◌, true, length};
+ghost use Rattle.plan_tables.specs.Valid.{HasGame, IsActionWithin, IsTargetThere};
+ghost use Rattle.plan_tables.specs.PlanView.{game_event, target_of};
+ghost use Rattle.written_machine.specs.Machine.{do_action_by, drain_if, enter_ball, no_confirm};
+ghost use Rattle.machine_core.specs.Balls.{awaited_entry};
+ghost use Rattle.machine_core.specs.Core.{CanCall, HasRoom, after};
+
+use crate::balls::BallCall;
+use crate::core_state::Core;
+use coil_guard::Command;
+use device_objects::Device;
+use plan_tables::{Action, BallTarget, EventId, GameEvent, Owner, Plan, RowId};
+
+/// An action. A ball that it lets into a device is not confirmed yet.
+pub(crate) fn run_alone<D: Device>(
+    plan: &Plan,
+    core: &mut Core<'_, D>,
+    owner: Owner,
+    action: Action,
+)
+    requires action { IsActionWithin plan.now action }
+    requires plan { core.old.handlers.plan ≡ plan.now }
+    requires calls { CanCall plan.now core.old }
+    requires room { HasRoom core.old.room (do_action_by plan.now no_confirm owner action core.old.machine) }
+    ensures { core.new ≡ after (do_action_by plan.now no_confirm owner action) core.old }
+{
+    match action {
+        Action::Post(event) => core.post(owner, event),
+        Action::Pulse { coil, ms, power } => core.ask(owner, Command::Pulse { coil, ms, power }),
+        Action::Enable { coil, power } => core.ask(owner, Command::Enable { coil, power }),
+        Action::Disable { coil } => core.ask(owner, Command::Disable { coil }),
+        Action::Change {
+            variable,
+            action,
+            number,
+            event,
+        } => core.change_variable(owner, variable, action, number, event),
+        Action::Enter {
+            device,
+            event,
+            drain,
+        } => enter(plan, core, owner, device, event, drain),
+        Action::Leave { device } => {
+            core.book(owner, BallCall::Leave(device, target_of(plan, device)));
+        }
+        Action::Lose { device } => core.book(owner, BallCall::Lose(device)),
+        Action::Arrive { device } => core.book(owner, BallCall::Arrive(target_of(plan, device))),
+    }
+}
+
+/// A ball enters a device: that is booked, and its event posted. Where the ball was not on its way
+/// there, it may have drained.
+fn enter<D: Device>(
+    plan: &Plan,
+    core: &mut Core<'_, D>,
+    owner: Owner,
+    device: RowId,
+    event: EventId,
+    drain: bool,
+)
+    requires device { device.0 < length plan.now.rows }
+    requires game { drain ≡ true → HasGame plan.now }
+    requires plan { core.old.handlers.plan ≡ plan.now }
+    requires room { HasRoom core.old.room (enter_ball plan.now no_confirm owner device event drain core.old.machine) }
+    ensures { core.new ≡ after (enter_ball plan.now no_confirm owner device event drain) core.old }
+{
+    let awaited = core.awaits(device);
+    core.book(owner, BallCall::Enter(device));
+    core.post(owner, event);
+    if !awaited {
+        post_drain(plan, core, owner, drain);
+    }
+}
+
+/// The event of a ball that drains is posted, where that is to be and a ball is on.
+fn post_drain<D: Device>(plan: &Plan, core: &mut Core<'_, D>, owner: Owner, drain: bool)
+    requires game { drain ≡ true → HasGame plan.now }
+    requires room { HasRoom core.old.room (drain_if plan.now owner drain core.old.machine) }
+    ensures { core.new ≡ after (drain_if plan.now owner drain) core.old }
+{
+    if drain && core.is_ball_on() {
+        core.post(owner, game_event(plan, GameEvent::BallDrain));
+    }
+}
+
+/// The device into which the action lets a ball that is on its way there, if it does.
+pub(crate) fn awaited_entry<D: Device>(core: &Core<'_, D>, action: Action) -> Option<RowId>
+    requires { IsActionWithin core.now.handlers.plan action }
+    ensures { result ≡ awaited_entry action core.now.machine }
+{
+    match action {
+        Action::Enter { device, .. } => {
+            if core.awaits(device) {
+                Some(device)
+            } else {
+                None
+            }
+        }
+        _ => None,
+    }
+}
+
+/// Where a ball device ejects its balls to.
+fn target_of(plan: &Plan, device: RowId) -> BallTarget
+    requires { device.0 < length plan.now.rows }
+    ensures target { result ≡ target_of plan.now device }
+    ensures there { IsTargetThere (length plan.now.rows) result }
+{
+    match plan.row(device).settings.target() {
+        Some(target) => target,
+        None => BallTarget::Playfield,
+    }
+}
+
+/// This one of the game's events.
+pub(crate) fn game_event(plan: &Plan, event: GameEvent) -> EventId
+    requires { HasGame plan.now }
+    ensures { result ≡ game_event plan.now event }
+{
+    plan.game().unwrap().events[event.index()]
+}

@@ -1,0 +1,112 @@
+//! Balls that have arrived where a device has ejected them to.
+
+ghost use Rattle.std.specs.Prelude.{◌≡◌, ◌<◌, ◌&&◌, IfSome, length};
+ghost use Rattle.std.specs.List.{All};
+ghost use Rattle.plan_tables.specs.Devices.{list_count};
+ghost use Rattle.plan_tables.specs.PlanView.{feeds, row_at};
+ghost use Rattle.plan_tables.specs.Valid.{IsActionWithin};
+ghost use Rattle.plan_tables.specs.declared.devices.Act.TheVariants.{Confirm};
+ghost use Rattle.device_objects.specs.declared.device.Call.TheVariants as calls;
+ghost use Rattle.written_machine.specs.Machine.{all_do, call_device_by, confirm_first_away, do_action_by, do_answer_by, device_at, first_away, is_device_away, no_confirm};
+ghost use Rattle.written_machine.specs.Devices.{HasDevices};
+ghost use Rattle.machine_core.specs.Core.{CanCall, HasRoom, after};
+
+use crate::actions::run_alone;
+use crate::core_state::Core;
+use device_objects::{Call, Device, DeviceState, Eject};
+use plan_tables::{Act, Action, BallTarget, Owner, Plan, RowId};
+
+/// A ball has arrived at the target: the first device whose ball is on its way there is told, if
+/// there is one.
+pub(crate) fn confirm<D: Device>(plan: &Plan, core: &mut Core<'_, D>, target: BallTarget)
+    requires plan { core.old.handlers.plan ≡ plan.now }
+    requires calls { CanCall plan.now core.old }
+    requires room { HasRoom core.old.room (confirm_first_away plan.now target core.old.machine) }
+    ensures { core.new ≡ after (confirm_first_away plan.now target) core.old }
+{
+    if let Some(row) = first_away(plan, core, target) {
+        tell_arrival(plan, core, row);
+    }
+}
+
+/// The first device whose ball is on its way to the target.
+fn first_away<D: Device>(plan: &Plan, core: &Core<'_, D>, target: BallTarget) -> Option<RowId>
+    requires { HasDevices plan.now core.now.machine.devices }
+    ensures first { result ≡ first_away plan.now target core.now.machine }
+    ensures there { IfSome result (λ row. row.0 < length plan.now.rows) }
+{
+    for number in 0..plan.rows().len() {
+        let row = RowId(number as u16);
+        if is_away_to(plan, core, row, target) {
+            return Some(row);
+        }
+    }
+    None
+}
+
+/// Whether the device's ball is on its way to the target.
+fn is_away_to<D: Device>(plan: &Plan, core: &Core<'_, D>, row: RowId, target: BallTarget) -> bool
+    requires row { row.0 < length plan.now.rows }
+    requires devices { HasDevices plan.now core.now.machine.devices }
+    ensures { result ≡ (feeds target (row_at plan.now row).settings && is_device_away (device_at core.now.machine row)) }
+{
+    plan.row(row).settings.feeds(target) && is_away(&core.state(row))
+}
+
+/// Whether the ball that a device has ejected is on its way.
+fn is_away(state: &DeviceState) -> bool
+    ensures { result ≡ is_device_away state.now }
+{
+    match state {
+        DeviceState::BallDevice(device) => match device.eject {
+            Eject::Away(_) => true,
+            Eject::Idle | Eject::Pulsing(_) => false,
+        },
+        _ => false,
+    }
+}
+
+/// A device is told that its ball has arrived. What it answers is done, and confirms nothing.
+fn tell_arrival<D: Device>(plan: &Plan, core: &mut Core<'_, D>, row: RowId)
+    requires row { row.0 < length plan.now.rows }
+    requires plan { core.old.handlers.plan ≡ plan.now }
+    requires calls { CanCall plan.now core.old }
+    requires room { HasRoom core.old.room (call_device_by plan.now no_confirm (calls.Act Confirm) row core.old.machine) }
+    ensures { core.new ≡ after (call_device_by plan.now no_confirm (calls.Act Confirm) row) core.old }
+{
+    let lists = core.call(row, Call::Act(Act::Confirm));
+    run_told_lists(plan, core, row, &lists);
+}
+
+/// Effect lists of a device that was told of an arrival run, one after another.
+fn run_told_lists<D: Device>(plan: &Plan, core: &mut Core<'_, D>, row: RowId, lists: &[u16])
+    requires row { row.0 < length plan.now.rows }
+    requires lists { All (λ list. list < list_count (row_at plan.now row).settings) lists.now }
+    requires plan { core.old.handlers.plan ≡ plan.now }
+    requires calls { CanCall plan.now core.old }
+    requires room { HasRoom core.old.room (do_answer_by plan.now no_confirm row lists.now core.old.machine) }
+    ensures { core.new ≡ after (do_answer_by plan.now no_confirm row lists.now) core.old }
+{
+    let owner = plan.row(row).owner;
+    for list in lists {
+        run_told_actions(plan, core, owner, plan.list(plan.list_of_row(row, *list)));
+    }
+}
+
+/// Their actions confirm nothing.
+fn run_told_actions<D: Device>(
+    plan: &Plan,
+    core: &mut Core<'_, D>,
+    owner: Owner,
+    actions: &[Action],
+)
+    requires actions { All (IsActionWithin plan.now) actions.now }
+    requires plan { core.old.handlers.plan ≡ plan.now }
+    requires calls { CanCall plan.now core.old }
+    requires room { HasRoom core.old.room (all_do (do_action_by plan.now no_confirm owner) actions.now core.old.machine) }
+    ensures { core.new ≡ after (all_do (do_action_by plan.now no_confirm owner) actions.now) core.old }
+{
+    for action in actions {
+        run_alone(plan, core, owner, *action);
+    }
+}

@@ -1,0 +1,90 @@
+//! What the ledger of balls is told, and what it says.
+
+ghost use Rattle.std.specs.Prelude.{◌≡◌, map, true, length};
+ghost use Rattle.plan_tables.specs.PlanView.{home_rows};
+ghost use Rattle.ball_devices.specs.Ledger.{counted_in, total};
+ghost use Rattle.ball_devices.specs.Bookings.{after_call, booked, can_book};
+ghost use Rattle.written_machine.specs.Machine.{counts_of};
+ghost use Rattle.machine_core.specs.Balls.{IsThere, ledger_call};
+
+use ball_devices::{BallLedger, Booking};
+use plan_tables::{BallTarget, Plan, RowId};
+use written_machine::line::BallCounts;
+
+/// No more balls become known.
+const MOST_BALLS: u64 = 1 << 32;
+
+/// What the ledger is told.
+#[derive(Clone, Copy)]
+pub(crate) enum BallCall {
+    /// A ball enters the device.
+    Enter(RowId),
+    /// A ball leaves the device, and is on its way to the target.
+    Leave(RowId, BallTarget),
+    /// A ball leaves the device without being ejected.
+    Lose(RowId),
+    /// A ball that was on its way to the target is on the playfield.
+    Arrive(BallTarget),
+}
+
+/// Whether the ledger may book this.
+pub(crate) fn can_book(ledger: &BallLedger, call: BallCall) -> bool
+    requires { IsThere (length ledger.now.counted) (ledger_call call) }
+    ensures { result ≡ can_book (ledger_call call) ledger.now }
+{
+    match call {
+        BallCall::Enter(_) => ledger.known() < MOST_BALLS,
+        BallCall::Leave(device, _) | BallCall::Lose(device) => ledger.counted(device) > 0,
+        BallCall::Arrive(target) => ledger.transit(target) > 0,
+    }
+}
+
+/// Books this, which the ledger may. Reports what is booked.
+pub(crate) fn book(ledger: &mut BallLedger, call: BallCall) -> Booking
+    requires { can_book (ledger_call call) ledger.old ≡ true }
+    ensures booked { result ≡ booked (ledger_call call) ledger.old }
+    ensures ledger { ledger.new ≡ after_call (ledger_call call) ledger.old }
+{
+    match call {
+        BallCall::Enter(device) => Booking::Entered(device, ledger.enter(device)),
+        BallCall::Leave(device, target) => {
+            ledger.left(device, target);
+            Booking::Left(device, target)
+        }
+        BallCall::Lose(device) => {
+            ledger.lost(device);
+            Booking::Lost(device)
+        }
+        BallCall::Arrive(target) => {
+            ledger.arrived(target);
+            Booking::Arrived(target)
+        }
+    }
+}
+
+/// How many balls are known, and where they are.
+pub(crate) fn counts_of(ledger: &BallLedger) -> BallCounts
+    ensures { result ≡ counts_of ledger.now }
+{
+    BallCounts {
+        known: ledger.known(),
+        counted: ledger.all_counted(),
+        transit: ledger.all_in_transit(),
+        playfield: ledger.playfield(),
+    }
+}
+
+/// How many balls are at home.
+pub(crate) fn home(plan: &Plan, ledger: &BallLedger) -> u64
+    requires { length ledger.now.counted ≡ length plan.now.rows }
+    ensures { result ≡ total (map (counted_in ledger.now) (home_rows plan.now)) }
+{
+    let mut home = 0;
+    for number in 0..plan.rows().len() {
+        let row = RowId(number as u16);
+        if plan.row(row).settings.is_home() {
+            home += ledger.counted(row);
+        }
+    }
+    home
+}

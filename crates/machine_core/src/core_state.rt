@@ -1,0 +1,548 @@
+//! The state of a machine, with room for the events that wait and the lines.
+
+ghost use Rattle.std.specs.Prelude.{◌≡◌, ◌^◌, ◌<◌, ◌≤◌, ℕ, [], None, Some, true, false, IfOk, IfSome, IsSome, length, option_map, replicate, vec_capacity};
+ghost use Rattle.event_queue.specs.Handlers.{none_running, set_running};
+ghost use Rattle.event_queue.specs.Queue.{empty};
+ghost use Rattle.event_queue.specs.PlanOrder.{bound_in_order, GoesOn};
+ghost use Rattle.mode_stack.specs.ModeStep.{starts, started, stopped, stop_answer, entered, ended};
+ghost use Rattle.mode_stack.specs.Modes.{idle_modes, needs_game, mode_state};
+ghost use Rattle.switch_core.specs.Switches.{IsComplete, all_idle, after_change, reported_by_change, next_due, after_fire, reported_by_fire};
+ghost use Rattle.coil_guard.specs.Asked.{limits_of};
+ghost use Rattle.coil_guard.specs.Coils.{all_off, after_release, answer_release};
+ghost use Rattle.coil_guard.specs.SentCommands.{coil_of};
+ghost use Rattle.device_objects.specs.Laws.{MayCome};
+ghost use Rattle.written_machine.specs.Machine.{initial, write, post, set_switches, set_mode, set_device, set_coils, ask_coil, book, device_at, called, change_variable, has_game, is_post, write_final};
+ghost use Rattle.written_machine.specs.Run.{arrived};
+ghost use Rattle.device_objects.specs.DeviceStep.{device_step};
+ghost use Rattle.plan_tables.specs.Valid.{IsConditionWithin};
+ghost use Rattle.player_game.specs.GameStep.{is_ball_on};
+ghost use Rattle.player_game.specs.Players.{is_met, no_players};
+ghost use Rattle.ball_devices.specs.Bookings.{is_awaited};
+ghost use Rattle.ball_devices.specs.Ledger.{no_balls, origin_of};
+ghost use Rattle.machine_core.specs.Balls.{IsThere, ledger_call};
+ghost use Rattle.machine_core.specs.Core.{played, IsWorkOfGame};
+ghost use Rattle.written_machine.specs.NextAlarm.{next_alarm, is_due_by, first_of};
+ghost use Rattle.written_machine.specs.Run.{switch as of_switch, device as of_device};
+ghost use Rattle.machine_core.specs.Core.{HasRoom, IsCoreOf, TakesFirst, after};
+ghost use Rattle.machine_core.specs.Stimuli.{alarm_view};
+
+use crate::balls::{BallCall, book, can_book, counts_of, home};
+use crate::fault::CoreFault;
+use crate::fit::first_wrong;
+use crate::stimulus::Source;
+use ball_devices::BallLedger;
+use coil_guard::{Answer, Coils, Command};
+use device_objects::{Call, Device, DeviceState, Outcome, World};
+use event_queue::{Alarms, Handlers, Posted, Queue};
+use mode_stack::{Modes, StopAnswer};
+use plan_tables::{
+    BallTarget, BindingId, Condition, EventId, GameEvent, ModeId, Owner, Plan, RowId, SwitchId,
+    VariableAction, VariableId,
+};
+use player_game::{Game, GamePhase, GameWork, Players};
+use std::alloc::{AllocError, Global};
+use std::marker::Model;
+use switch_core::{Change, Switches};
+use written_machine::{Happening, Line};
+
+/// The machine of a plan, with its devices: the moment of the latest stimulus, the switches, the
+/// modes, the devices and their alarms, the coils, the ledger of balls, the players and the game,
+/// the events that wait and what handles them, and the lines of the latest stimulus. Moments are
+/// milliseconds.
+///
+/// `begin` does what a stimulus does, and `settle` takes the event steps after it. Only `new` takes
+/// memory. `stop_devices` stops the devices; where a core is dropped, they are dropped as they are.
+#[derive(Drop)]
+pub struct Core<'p, D: Device> {
+    moment: u64,
+    switches: Switches,
+    modes: Modes<'p>,
+    /// At each row's number the device of the row.
+    devices: Vec<D>,
+    alarms: Alarms,
+    coils: Coils,
+    ledger: BallLedger,
+    players: Players<'p>,
+    game: Game,
+    queue: Queue,
+    handlers: Handlers<'p>,
+    lines: Vec<Line>,
+}
+
+impl<'p, D: Device> Model for Core<'p, D> {
+    ghost use Rattle.std.specs.Prelude.{◌≡◌, ◌≤◌, length, map, vec_capacity};
+    ghost use Rattle.device_objects.specs.DeviceStep.{due_of};
+    ghost use Rattle.machine_core.specs.Core.{CoreView};
+
+    ghost Value = { CoreView };
+
+    ghost view = { λ c. record {
+      handlers = c.handlers;
+      machine = record { moment = c.moment; switches = c.switches; modes = c.modes.modes; devices = map D.state_of c.devices.items; coils = c.coils; ledger = c.ledger; players = c.players.state; game = c.game.state; waiting = c.queue.waiting; lines = c.lines.items };
+      room = c.queue.size;
+    } };
+
+    ghost invariant = { λ c. (c.queue.size ≤ vec_capacity c.lines) × (c.modes.plan ≡ c.handlers.plan) × (c.players.plan ≡ c.handlers.plan) × (c.game.rules ≡ c.handlers.plan.game) × (map D.row_of c.devices.items ≡ c.handlers.plan.rows) × (c.alarms ≡ map (λ d. due_of (D.state_of d)) c.devices.items) × (length c.ledger.counted ≡ length c.handlers.plan.rows) };
+}
+
+/// The switches, the modes, the coils, the ledger and the players of a plan, at first.
+#[derive(Drop)]
+struct FirstParts<'p> {
+    switches: Switches,
+    modes: Modes<'p>,
+    coils: Coils,
+    ledger: BallLedger,
+    players: Players<'p>,
+}
+
+/// All switches are inactive, all modes idle and all coils off, no ball is known, and there is no
+/// player.
+fn first_parts<'p>(alloc: Global, plan: &'p Plan) -> Result<FirstParts<'p>, AllocError>
+    ensures switches { IfOk result (λ p. p.switches ≡ all_idle plan.now) }
+    ensures kinds { IfOk result (λ p. length p.switches.kinds ≡ length plan.now.switches) }
+    ensures complete { IfOk result (λ p. IsComplete p.switches) }
+    ensures modes { IfOk result (λ p. p.modes ≡ idle_modes plan.now) }
+    ensures coils { IfOk result (λ p. p.coils ≡ all_off (limits_of plan.now)) }
+    ensures count { IfOk result (λ p. length p.coils ≡ length plan.now.coils) }
+    ensures ledger { IfOk result (λ p. p.ledger ≡ no_balls plan.now) }
+    ensures players { IfOk result (λ p. p.players ≡ record { plan = plan.now; state = no_players }) }
+{
+    Ok(FirstParts {
+        switches: Switches::new(alloc, plan)?,
+        modes: Modes::new(alloc, plan)?,
+        coils: Coils::new(alloc, plan)?,
+        ledger: BallLedger::new(alloc, plan)?,
+        players: Players::new(alloc, plan)?,
+    })
+}
+
+/// The alarms, and what waits and who handles it, with room for what comes.
+#[derive(Drop)]
+struct WaitingParts<'p> {
+    alarms: Alarms,
+    queue: Queue,
+    handlers: Handlers<'p>,
+    lines: Vec<Line>,
+}
+
+/// Nothing is due and no event waits, and the machine alone handles events. There is room for so
+/// many events that wait, and so many lines.
+fn waiting_parts<'p>(
+    alloc: Global,
+    plan: &'p Plan,
+    room: usize,
+) -> Result<WaitingParts<'p>, AllocError>
+    ensures alarms { IfOk result (λ w. w.alarms ≡ replicate (length plan.now.rows) None) }
+    ensures queue { IfOk result (λ w. w.queue ≡ empty room) }
+    ensures handlers { IfOk result (λ w. w.handlers ≡ record { plan = plan.now; running = none_running plan.now }) }
+    ensures lines { IfOk result (λ w. w.lines.items ≡ []) }
+    ensures room { IfOk result (λ w. room ≤ vec_capacity w.lines) }
+{
+    Ok(WaitingParts {
+        alarms: Alarms::new(alloc, plan.rows().len() as u16)?,
+        queue: Queue::new(alloc, room)?,
+        handlers: Handlers::new(alloc, plan)?,
+        lines: Vec::with_capacity(alloc, room)?,
+    })
+}
+
+impl<'p, D: Device> Core<'p, D> {
+    ghost use Rattle.std.specs.Prelude.{map};
+    ghost use Rattle.machine_core.specs.Fit.{IsFit, IsFirstWrong};
+
+    /// The plan's machine at moment 0, with all switches inactive, all modes idle, all coils off, no
+    /// ball known, no game and no event waiting. It has a device for each row of the plan, in the
+    /// order of the rows, and room for so many events that wait, and for so many lines of one
+    /// stimulus. Only this call takes memory.
+    ///
+    /// # Errors
+    ///
+    /// The first of these that applies. The devices are dropped then.
+    ///
+    /// - `NoMemory`: memory ran out.
+    /// - `WrongDevice`: a device is not the one of its row, in its first state; or there are too
+    ///   few devices, or too many.
+    pub fn new(
+        alloc: Global,
+        plan: &'p Plan,
+        room: usize,
+        devices: Vec<D>,
+    ) -> Result<Core<'p, D>, CoreFault>
+        ensures machine { IfOk result (λ c. c.machine ≡ initial plan.now) }
+        ensures plan { IfOk result (λ c. IsCoreOf plan.now c) }
+        ensures room { IfOk result (λ c. c.room ≡ room) }
+        ensures fit { IfOk result (λ c. IsFit plan.now (map D.row_of devices.items) (map D.state_of devices.items)) }
+        ensures wrong { (row : ℕ) → result ≡ Err (CoreFault.WrongDevice (record { 0 = row })) → IsFirstWrong plan.now (map D.row_of devices.items) (map D.state_of devices.items) row }
+    {
+        let first = first_parts(alloc, plan)?;
+        let waiting = waiting_parts(alloc, plan, room)?;
+        if let Some(row) = first_wrong(plan, &devices) {
+            return Err(CoreFault::WrongDevice(row));
+        }
+        Ok(Core {
+            moment: 0,
+            switches: first.switches,
+            modes: first.modes,
+            devices,
+            alarms: waiting.alarms,
+            coils: first.coils,
+            ledger: first.ledger,
+            players: first.players,
+            game: Game::new(plan),
+            queue: waiting.queue,
+            handlers: waiting.handlers,
+            lines: waiting.lines,
+        })
+    }
+
+    /// The moment of the latest stimulus, in milliseconds: 0 before the first one.
+    pub fn moment(&self) -> u64
+        ensures { result ≡ self.now.machine.moment }
+    {
+        self.moment
+    }
+
+    /// The lines of the latest stimulus, in the order in which they came.
+    pub fn lines(&self) -> &[Line]
+        ensures { result.now ≡ self.now.machine.lines }
+    {
+        self.lines.as_slice()
+    }
+
+    /// The alarm that comes next, if one is due at all: its moment, in milliseconds, and what it
+    /// comes from. Of alarms at one moment it is that of a switch first, and of switches or of
+    /// devices that of the lowest number.
+    pub fn due(&self) -> Option<(u64, Source)>
+        ensures { option_map alarm_view result ≡ next_alarm self.now.machine }
+    {
+        first_of(self.switches.due(), self.alarms.least())
+    }
+
+    /// Whether an alarm is due at or before this moment, in milliseconds.
+    pub fn is_due_by(&self, at: u64) -> bool
+        ensures { result ≡ is_due_by at self.now.machine }
+    {
+        let Some((due, _)) = self.due() else {
+            return false;
+        };
+        due <= at
+    }
+
+    /// A stimulus comes: it is a new moment, with no line yet.
+    pub(crate) fn arrive(&mut self, at: u64)
+        ensures { self.new ≡ after (arrived at) self.old }
+    {
+        self.moment = at;
+        self.lines.clear();
+    }
+
+    /// A line is written.
+    pub(crate) fn write(&mut self, owner: Owner, happening: Happening)
+        requires { length self.old.machine.lines < self.old.room }
+        ensures { self.new ≡ after (write owner happening) self.old }
+    {
+        let moment = self.moment;
+        self.lines.push_reserved(Line {
+            moment,
+            owner,
+            happening,
+        });
+    }
+
+    /// An event is posted.
+    pub(crate) fn post(&mut self, owner: Owner, event: EventId)
+        requires { length self.old.machine.waiting < self.old.room }
+        ensures { self.new ≡ after (post owner event) self.old }
+    {
+        match self.queue.push(Posted { event, owner }) {
+            Ok(()) => {}
+            Err(_) => unreachable!(),
+        }
+    }
+
+    /// Takes the event that waits first.
+    pub(crate) fn take(&mut self) -> Option<Posted>
+        ensures { TakesFirst result self.old self.new }
+    {
+        self.queue.take()
+    }
+
+    /// The place of the next handler of an event in plan order, and where the walk over them goes
+    /// on. It begins with `from` as 0.
+    pub(crate) fn handler(&self, event: EventId, from: usize) -> Option<(BindingId, usize)>
+        ensures walk { GoesOn self.now.handlers.plan self.now.handlers.running event from result }
+        ensures further { IfSome result (λ step. (from < step.1) × (step.1 ≤ length (bound_in_order self.now.handlers.plan event))) }
+        ensures within { IfSome result (λ step. step.0.0 < length self.now.handlers.plan.bindings) }
+    {
+        self.handlers.next(event, from)
+    }
+
+    /// A mode is told to start. Reports whether it starts.
+    pub(crate) fn start(&mut self, mode: ModeId) -> bool
+        requires { mode.0 < length self.old.handlers.plan.modes }
+        ensures started { self.new ≡ after (set_mode mode (started (needs_game self.old.handlers.plan mode) (has_game self.old.machine) (mode_state self.old.machine.modes mode))) self.old }
+        ensures starts { result ≡ starts (needs_game self.old.handlers.plan mode) (has_game self.old.machine) (mode_state self.old.machine.modes mode).phase }
+    {
+        let game = self.has_game();
+        self.modes.start(mode, game)
+    }
+
+    /// Whether a ball of the game is on.
+    pub(crate) fn is_ball_on(&self) -> bool
+        ensures { result ≡ is_ball_on self.now.machine.game.phase }
+    {
+        match self.game.phase() {
+            GamePhase::Ball => true,
+            GamePhase::None | GamePhase::Between => false,
+        }
+    }
+
+    /// Whether a game goes on.
+    fn has_game(&self) -> bool
+        ensures { result ≡ has_game self.now.machine }
+    {
+        match self.game.phase() {
+            GamePhase::None => false,
+            GamePhase::Between | GamePhase::Ball => true,
+        }
+    }
+
+    /// A mode is told to stop. Reports whether its event for that is to be posted.
+    pub(crate) fn stop(&mut self, mode: ModeId) -> bool
+        requires { mode.0 < length self.old.handlers.plan.modes }
+        ensures stopped { self.new ≡ after (set_mode mode (stopped (mode_state self.old.machine.modes mode))) self.old }
+        ensures posts { result ≡ is_post (stop_answer (mode_state self.old.machine.modes mode).phase) }
+    {
+        match self.modes.stop(mode) {
+            StopAnswer::Post => true,
+            StopAnswer::Kept | StopAnswer::Ignored => false,
+        }
+    }
+
+    /// A mode is active, and its bindings are handlers. Reports whether a stop was kept for it.
+    pub(crate) fn enter(&mut self, mode: ModeId) -> bool
+        requires { mode.0 < length self.old.handlers.plan.modes }
+        ensures entered { self.new ≡ record self.old { machine = set_mode mode (entered (mode_state self.old.machine.modes mode)) self.old.machine; handlers = set_running self.old.handlers mode true } }
+        ensures kept { result ≡ (mode_state self.old.machine.modes mode).kept }
+    {
+        self.handlers.add_owner(mode);
+        self.modes.entered(mode)
+    }
+
+    /// A mode is idle, and its bindings are no handlers.
+    pub(crate) fn end(&mut self, mode: ModeId)
+        requires { mode.0 < length self.old.handlers.plan.modes }
+        ensures { self.new ≡ record self.old { machine = set_mode mode (ended (mode_state self.old.machine.modes mode)) self.old.machine; handlers = set_running self.old.handlers mode false } }
+    {
+        self.handlers.drop_owner(mode);
+        self.modes.ended(mode);
+    }
+
+    /// The state of the device of a row, which has to be one of the plan.
+    pub fn state(&self, row: RowId) -> DeviceState
+        requires { row.0 < length self.now.machine.devices }
+        ensures { result ≡ device_at self.now.machine row }
+    {
+        self.devices[row.0 as usize].state()
+    }
+
+    /// A device that there is is called, and goes on to its next state. Reports the effect lists
+    /// that it answers.
+    pub(crate) fn call(&mut self, row: RowId, call: Call) -> Outcome
+        requires row { row.0 < length self.old.machine.devices }
+        requires moment { self.old.machine.moment < 2 ^ 40 }
+        requires may { MayCome call (device_at self.old.machine row) }
+        ensures called { self.new ≡ after (set_device row (called self.old.handlers.plan call row self.old.machine).0) self.old }
+        ensures lists { result.items ≡ (called self.old.handlers.plan call row self.old.machine).1 }
+    {
+        let world = self.game.world(&self.players);
+        let device = &mut self.devices[row.0 as usize];
+        let lists = call_one(device, call, self.moment, world);
+        let due = device.due();
+        self.alarms.set(row, due);
+        lists
+    }
+
+    /// Whether the condition of a binding is met; it is where there is none.
+    pub(crate) fn meets(&self, condition: Option<Condition>) -> bool
+        requires { IsConditionWithin self.now.handlers.plan condition }
+        ensures { result ≡ is_met self.now.handlers.plan self.now.machine.players condition }
+    {
+        self.players.meets(condition)
+    }
+
+    /// An action on a variable of the current player. Where the variable changes, its line is
+    /// written, and its event posted.
+    pub(crate) fn change_variable(
+        &mut self,
+        owner: Owner,
+        variable: VariableId,
+        action: VariableAction,
+        number: i64,
+        event: EventId,
+    )
+        requires variable { variable.0 < length self.old.handlers.plan.variables }
+        requires room { HasRoom self.old.room (change_variable self.old.handlers.plan owner variable action number event self.old.machine) }
+        ensures { self.new ≡ after (change_variable self.old.handlers.plan owner variable action number event) self.old }
+    {
+        let player = self.players.current();
+        if let Some(value) = self.players.change(variable, action, number) {
+            self.write(owner, Happening::Player(player, variable, value));
+            self.post(owner, event);
+        }
+    }
+
+    /// The ledger is told this. Where it books it, its line is written.
+    pub(crate) fn book(&mut self, owner: Owner, call: BallCall)
+        requires there { IsThere (length self.old.handlers.plan.rows) (ledger_call call) }
+        requires room { HasRoom self.old.room (book owner (ledger_call call) self.old.machine) }
+        ensures { self.new ≡ after (book owner (ledger_call call)) self.old }
+    {
+        if !can_book(&self.ledger, call) {
+            return;
+        }
+        let booking = book(&mut self.ledger, call);
+        let counts = counts_of(&self.ledger);
+        self.write(owner, Happening::Balls(booking, counts));
+    }
+
+    /// Whether a ball that enters a device now was on its way there.
+    pub(crate) fn awaits(&self, device: RowId) -> bool
+        requires { device.0 < length self.now.handlers.plan.rows }
+        ensures { result ≡ is_awaited (origin_of device self.now.machine.ledger) }
+    {
+        self.ledger.transit(BallTarget::Device(device)) > 0
+    }
+
+    /// The game and its players go on as an event of the game says. Reports what else it leads to.
+    pub(crate) fn play(&mut self, plan: &Plan, event: GameEvent) -> GameWork
+        requires { self.old.handlers.plan ≡ plan.now }
+        ensures played { self.new ≡ after (played self.old.handlers.plan event) self.old }
+        ensures work { IsWorkOfGame self.old.handlers.plan event self.old.machine result }
+    {
+        let home = home(plan, &self.ledger);
+        self.game.work(event, &mut self.players, home)
+    }
+
+    /// How many players there are.
+    pub(crate) fn player_count(&self) -> usize
+        ensures { result ≡ length self.now.machine.players.players }
+    {
+        self.players.count()
+    }
+
+    /// The score of a player is told.
+    pub(crate) fn tell_score(&mut self, player: usize)
+        requires first { 1 ≤ player }
+        requires last { player ≤ length self.old.machine.players.players }
+        requires room { length self.old.machine.lines < self.old.room }
+        ensures { self.new ≡ after (write_final self.old.handlers.plan player) self.old }
+    {
+        let score = self.players.score(player);
+        self.write(Owner::Machine, Happening::Final(player, score));
+    }
+
+    /// An owner asks for a command to a coil that there is. It is sent or skipped, and either way
+    /// there is a line.
+    pub(crate) fn ask(&mut self, owner: Owner, command: Command)
+        requires coil { (coil_of command).0 < length self.old.machine.coils }
+        requires moment { self.old.machine.moment < 2 ^ 40 }
+        requires room { length self.old.machine.lines < self.old.room }
+        ensures { self.new ≡ after (ask_coil owner command) self.old }
+    {
+        let happening = match self.coils.ask(command, owner, self.moment) {
+            Answer::Sent(sent) => Happening::Coil(sent),
+            Answer::Skipped => Happening::Skip(command),
+        };
+        self.write(owner, happening);
+    }
+
+    /// The first coil that the owner holds is put off, if one is. Reports the command that is sent.
+    pub(crate) fn release(&mut self, owner: Owner) -> Option<Command>
+        ensures released { self.new ≡ after (λ s. set_coils (after_release owner s.moment s.coils) s) self.old }
+        ensures command { result ≡ answer_release owner self.old.machine.moment self.old.machine.coils }
+    {
+        self.coils.release(owner, self.moment)
+    }
+
+    /// A switch that there is has a new raw level. Reports where it is accepted at once.
+    pub(crate) fn change(&mut self, at: u64, switch: SwitchId, level: bool) -> Option<Change>
+        requires at { at < 2 ^ 40 }
+        requires switch { switch.0 < length self.old.machine.switches.kinds }
+        ensures changed { self.new ≡ after (set_switches (after_change switch level at self.old.machine.switches)) self.old }
+        ensures reported { result ≡ reported_by_change switch level at self.old.machine.switches }
+    {
+        self.switches.change(switch, level, at)
+    }
+
+    /// Ends the machine. Each device is told at the moment of the latest stimulus, which has to be
+    /// before 2^40 ms, that its mode stops, and is dropped. What it answers is left out.
+    pub fn stop_devices(self)
+        requires { self.machine.moment < 2 ^ 40 }
+    {
+        let world = self.game.world(&self.players);
+        stop_all(self.devices, self.moment, world);
+    }
+
+    /// The raw level of the switch that is due next is accepted, which one must be.
+    pub(crate) fn fire(&mut self) -> Change
+        requires { IsSome (next_due self.old.machine.switches) }
+        ensures fired { self.new ≡ after (set_switches (after_fire self.old.machine.switches)) self.old }
+        ensures reported { reported_by_fire self.old.machine.switches ≡ Some result }
+    {
+        self.switches.fire()
+    }
+}
+
+/// One call of one device.
+fn call_one<D: Device>(device: &mut D, call: Call, now: u64, world: World) -> Outcome
+    requires moment { now < 2 ^ 40 }
+    requires may { MayCome call (D.state_of device.old) }
+    ensures row { D.row_of device.new ≡ D.row_of device.old }
+    ensures state { D.state_of device.new ≡ (device_step (D.row_of device.old).settings call now world (D.state_of device.old)).0 }
+    ensures lists { result.items ≡ (device_step (D.row_of device.old).settings call now world (D.state_of device.old)).1 }
+{
+    match call {
+        Call::ModeStart => device.start(now, world),
+        Call::ModeStop => device.stop(now, world),
+        Call::Fire => device.fire(now, world),
+        Call::Act(act) => device.act(act, now, world),
+    }
+}
+
+/// Devices stop, and are dropped.
+fn stop_all<D: Device>(devices: Vec<D>, moment: u64, world: World)
+    requires { moment < 2 ^ 40 }
+{
+    let mut devices = devices;
+    for device in &mut devices {
+        stop_one(device, moment, world);
+    }
+}
+
+/// One device stops. What it answers is left out.
+fn stop_one<D: Device>(device: &mut D, now: u64, world: World)
+    requires { now < 2 ^ 40 }
+    ensures { D.row_of device.new ≡ D.row_of device.old }
+{
+    let _ = call_one(device, Call::ModeStop, now, world);
+}
+
+/// Of an alarm of a switch and one of a device the one that comes first: the switch's, where they
+/// are due at one moment.
+fn first_of(switch: Option<(u64, SwitchId)>, device: Option<(u64, RowId)>) -> Option<(u64, Source)>
+    ensures { option_map alarm_view result ≡ first_of (option_map (λ d. (d.0, of_switch d.1)) switch) (option_map (λ d. (d.0, of_device d.1)) device) }
+{
+    match (switch, device) {
+        (None, None) => None,
+        (Some((at, switch)), None) => Some((at, Source::Switch(switch))),
+        (None, Some((at, row))) => Some((at, Source::Device(row))),
+        (Some((at, switch)), Some((later, row))) => {
+            if at <= later {
+                Some((at, Source::Switch(switch)))
+            } else {
+                Some((later, Source::Device(row)))
+            }
+        }
+    }
+}

@@ -1,8 +1,0 @@
-use Rattle.std.proofs.Common.{◌≡◌, drop}
-use Rattle.written_machine.specs.Machine.{do_answer}
-use Rattle.pin_rig.specs.Core.{CanCall, after}
-use Rattle.pin_rig.proofs.calls.run_lists.Given as goal
-
--- what is left to run, run now, is all, run at the start
-abbrev pub invariant-loop-list : goal.invariant-loop-list
-invariant-loop-list g l = (after (do_answer l.plan l.row (drop l.list-index l.lists)) l.core ≡ after (do_answer l.plan l.row l.lists) l.fn.core) × CanCall l.plan l.core

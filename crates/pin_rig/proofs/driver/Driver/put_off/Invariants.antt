@@ -1,5 +1,0 @@
-use Rattle.pin_rig.proofs.PuttingOff.{IsPuttingOff}
-use Rattle.pin_rig.proofs.driver.Driver.put_off.Given as goal
-
-abbrev pub invariant-loop-number : goal.invariant-loop-number
-invariant-loop-number g l = IsPuttingOff l.plan l.now l.fn.self l.number l.self l.report.off.items l.report.faults

@@ -1,7 +1,0 @@
-use Rattle.std.proofs.Common.{◌≡◌, length, take}
-use Rattle.pin_rig.specs.Driver.{HasSent}
-use Rattle.pin_rig.proofs.driver.Driver.serve.Given as goal
-
--- the commands of the lines so far were sent
-abbrev pub invariant-loop-place : goal.invariant-loop-place
-invariant-loop-place g l = HasSent (take l.place l.lines) l.fn.self l.self × (length l.self.sent ≡ length l.fn.self.sent)
