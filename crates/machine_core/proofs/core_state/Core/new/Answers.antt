@@ -1,11 +1,10 @@
-use Rattle.std.proofs.Common.{rules, None, List, map, replicate, length, ap, sym, subst, ◌∙◌}
+use Rattle.std.proofs.Common.{rules, map, length, ap, sym, subst, ◌∙◌}
 use Rattle.written_machine.specs.Devices.{HasDevices}
 use Rattle.written_machine.proofs.Alarms.{initial-devices}
 use Rattle.std.proofs.lemmas.List.{length-replicate}
 use Rattle.mode_stack.specs.declared.phase.Phase.TheVariants.{Idle}
 use Rattle.mode_stack.specs.ModeStep.{in_phase}
 use Rattle.mode_stack.specs.Modes.{running_of}
-use Rattle.plan_tables.specs.declared.devices.DeviceRow.{DeviceRow}
 use Rattle.device_objects.specs.DeviceStep.{due_of}
 use Rattle.machine_core.proofs.Alarms.{dues-are}
 use Rattle.machine_core.proofs.Fitting.{first-dues}
@@ -26,14 +25,16 @@ returns-clause-plan g c =
 
 pub invariant_of-result : goal.invariant_of-result
 invariant_of-result g c =
-    let rows = c.args.plan.now.rows in
-    let fit = c.in_default.ensures.fit in
-    let states = ap (map g.D.Device.state_of) (sym c.deref.ensures.value) ∙ fit.states_are in (
-      search rules,
-      search rules,
-      search rules,
-      search rules,
-      ap (map g.D.Device.row_of) (sym c.deref.ensures.value) ∙ fit.rows_are ∙ sym (ap (λ h. h.plan.rows) c.in_ok-waiting.ensures.handlers),
-      c.in_ok-waiting.ensures.alarms ∙ sym (dues-are g.D.Device.state_of c.args.devices.items ∙ ap (map due_of) states ∙ first-dues rows),
-      ap (λ l. length l.counted) c.in_ok-first.ensures.ledger ∙ length-replicate (length rows) 0 ∙ sym (ap (λ h. length h.plan.rows) c.in_ok-waiting.ensures.handlers),
+    let handlers = c.in_ok-waiting.ensures.handlers in
+    let first = c.in_ok-first.ensures in (
+      rw (ap (λ q. q.size) c.in_ok-waiting.ensures.queue) c.in_ok-waiting.ensures.room,
+      ap (λ m. m.plan) first.modes ∙ sym (ap (λ h. h.plan) handlers),
+      ap (λ p. p.plan) first.players ∙ sym (ap (λ h. h.plan) handlers),
+      ap (λ g. g.rules) c.new.ensures ∙ sym (ap (λ h. h.plan.game) handlers),
+      ap (map g.D.Device.row_of) (sym c.deref.ensures.value) ∙ c.in_default.ensures.fit.rows_are ∙ sym (ap (λ h. h.plan.rows) handlers),
+      c.in_ok-waiting.ensures.alarms
+      ∙ sym (dues-are g.D.Device.state_of c.args.devices.items
+      ∙ ap (map due_of) (ap (map g.D.Device.state_of) (sym c.deref.ensures.value) ∙ c.in_default.ensures.fit.states_are)
+      ∙ first-dues c.args.plan.now.rows),
+      ap (λ l. length l.counted) first.ledger ∙ length-replicate (length c.args.plan.now.rows) 0 ∙ sym (ap (λ h. length h.plan.rows) handlers),
     )
