@@ -1,4 +1,4 @@
-use Rattle.std.proofs.Common.{rules, map, length, ap, sym, subst, ◌∙◌}
+use Rattle.std.proofs.Common.{map, length, ap, sym, subst, ◌∙◌}
 use Rattle.written_machine.specs.Devices.{HasDevices}
 use Rattle.written_machine.proofs.Alarms.{initial-devices}
 use Rattle.std.proofs.lemmas.List.{length-replicate}
