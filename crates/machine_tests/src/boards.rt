@@ -8,7 +8,7 @@ use coil_rules::{Autofire, Flipper};
 use config_checker::{Checked, check};
 use device_objects::Device;
 use mpf_config::Config;
-use pin_rig::{Input, Rig, StepFault};
+use pin_rig::{Input, Rig, ShutReport, StepFault};
 use plan_tables::CoilId;
 use std::alloc::{AllocError, Global};
 use std::cell::RefCell;
@@ -103,12 +103,7 @@ fn devices_of(alloc: Global, checked: &Checked) -> Result<Vec<Box<dyn Device>>, 
 /// Steps through the inputs, so many of them, or up to a fault of the board. Gives whether the board
 /// alone ends it, and the rig is halted then.
 fn is_run<D: Device>(rig: &mut Rig<'_, D, FuseBoard>, inputs: &str, count: u32) -> bool {
-    let mut steps = 0u32;
-    for text in inputs.split(',') {
-        if steps == count {
-            break;
-        }
-        steps = steps.saturating_add(1);
+    for text in inputs.split(',').take(count as usize) {
         match rig.step(input_of(text)) {
             Ok(_) => {}
             Err(StepFault::BoardFault) => {
@@ -131,29 +126,47 @@ fn add_taken(out: &mut String, taken: &Taken) -> Result<(), AllocError> {
     Ok(())
 }
 
-/// Adds what the board takes in a run, and the report where the rig is not dropped.
-fn add_found<D: Device>(
-    alloc: Global,
+/// Ends a rig: drops it, or shuts it down. Gives the report, if there is one.
+fn ended<D: Device>(rig: Rig<'_, D, FuseBoard>, dropped: bool) -> Option<ShutReport> {
+    if dropped {
+        return None;
+    }
+    let (_board, report) = rig.shut_down();
+    Some(report)
+}
+
+/// Adds what the board of a rig takes in a run, and the report where the rig is not dropped.
+fn add_run<D: Device>(
     out: &mut String,
-    checked: &Checked,
-    devices: Vec<D>,
+    mut rig: Rig<'_, D, FuseBoard>,
     (trial, inputs): (Trial, &str),
+    taken: &Taken,
 ) -> Result<(), AllocError> {
-    let taken: Taken = Rc::new(alloc, RefCell::new(ArrayVec::new()))?;
-    let board = FuseBoard::new(trial.first, trial.onwards, taken.clone()?);
-    let Ok(mut rig) = Rig::new(alloc, checked, devices, board) else {
-        return out.push_str("no rig");
-    };
     if !is_run(&mut rig, inputs, trial.steps) {
         return out.push_str("another refusal");
     }
-    if trial.dropped {
-        drop(rig);
-        return add_taken(out, &taken);
+    let report = ended(rig, trial.dropped);
+    add_taken(out, taken)?;
+    match report {
+        Some(report) => add(out, &(report.off.len(), report.faults)),
+        None => Ok(()),
     }
-    let (_board, report) = rig.shut_down();
-    add_taken(out, &taken)?;
-    add(out, &(report.off.len(), report.faults))
+}
+
+/// Adds what is found in a trial.
+fn add_found(
+    alloc: Global,
+    out: &mut String,
+    checked: &Checked,
+    trial: Trial,
+    inputs: &str,
+) -> Result<(), AllocError> {
+    let taken: Taken = Rc::new(alloc, RefCell::new(ArrayVec::new()))?;
+    let board = FuseBoard::new(trial.first, trial.onwards, taken.clone()?);
+    match Rig::new(alloc, checked, devices_of(alloc, checked)?, board) {
+        Ok(rig) => add_run(out, rig, (trial, inputs), &taken),
+        Err(_) => out.push_str("no rig"),
+    }
 }
 
 /// Adds how a run is other than it is to be.
@@ -165,14 +178,27 @@ fn compare(
     (inputs, course): (&str, &str),
 ) -> Result<(), AllocError> {
     let mut found = String::new(alloc);
-    let devices = devices_of(alloc, checked)?;
-    add_found(alloc, &mut found, checked, devices, (trial, inputs))?;
+    add_found(alloc, &mut found, checked, trial, inputs)?;
     let mut wanted = String::new(alloc);
     add_wanted(&mut wanted, trial, course)?;
     if found.as_str() != wanted.as_str() {
         add(out, &(found, wanted))?;
     }
     Ok(())
+}
+
+/// Adds how the runs of so many trials are other than they are to be, and how many there were.
+fn compare_all(
+    alloc: Global,
+    out: &mut String,
+    checked: &Checked,
+    count: u32,
+    texts: (&str, &str),
+) -> Result<(), AllocError> {
+    for number in 0..count {
+        compare(alloc, out, checked, Trial::new(number), texts)?;
+    }
+    write!(out, "{count} runs")
 }
 
 /// Answers to how many trials there are, inputs and a course with those runs that are other than they
@@ -188,11 +214,13 @@ pub(crate) fn boarded(
     let Ok(checked) = check(alloc, config) else {
         return out.push_str("refused");
     };
-    let count = count.parse::<u32>().unwrap_or(0);
-    for number in 0..count {
-        compare(alloc, out, &checked, Trial::new(number), texts)?;
-    }
-    write!(out, "{count} runs")
+    compare_all(
+        alloc,
+        out,
+        &checked,
+        count.parse::<u32>().unwrap_or(0),
+        texts,
+    )
 }
 
 // Switch 0 enables a flipper on coils 0 and 1, with switch 1, and an autofire coil, 2, with switch 2,

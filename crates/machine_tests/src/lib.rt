@@ -11,12 +11,6 @@ mod cases;
 #[cfg(test)]
 mod checks;
 #[cfg(test)]
-mod drawing;
-#[cfg(test)]
 mod plans;
-#[cfg(test)]
-mod random_plans;
-#[cfg(test)]
-mod rounds;
 #[cfg(test)]
 mod steps;

@@ -41,7 +41,7 @@ fn handled(alloc: Global, out: &mut String, plan: &Plan, name: &str) -> Result<(
 }
 
 /// Adds the least weights, up to the first event that has none, or why there are none.
-pub(crate) fn add_least(alloc: Global, out: &mut String, plan: &Plan) -> Result<(), AllocError> {
+fn add_least(alloc: Global, out: &mut String, plan: &Plan) -> Result<(), AllocError> {
     let weights = match find(alloc, plan) {
         Ok(weights) => weights,
         Err(fault) => return add(out, &fault),
