@@ -28,8 +28,8 @@ pub enum Input {
     },
 }
 
-/// Why a step gives no lines. At each of them but `BoardFault` the input is refused and nothing has
-/// changed. The first of these reasons is reported.
+/// Why a step failed: the first of these reasons. After `BoardFault` the machine has gone on. After
+/// any other, the input is refused and nothing has changed.
 #[derive(Clone, Copy, Debug, Error)]
 #[error("{}", self.name())]
 pub enum StepFault {

@@ -119,8 +119,9 @@ impl<'c, D: Device, B: Board> Rig<'c, D, B> {
     }
 
     /// Takes one input, and runs the whole cascade that it begins, the handlers of each event in
-    /// plan order. Then it sends the commands of the lines to the board, in order. It lends the
-    /// lines of both, in the order in which they came.
+    /// plan order. Then it sends the commands of the lines to the board, in order. It returns the
+    /// lines of the input and of its event steps, in the order in which they came. After a refusal,
+    /// `trace` still returns the lines of the step before.
     ///
     /// # Errors
     ///
@@ -183,10 +184,10 @@ impl<'c, D: Device, B: Board> Rig<'c, D, B> {
     }
 
     /// Ends the machine, and gives the board back. The devices stop, and are dropped. Then a disable
-    /// is sent to each coil that is on, at the moment of the latest stimulus and by the commands
-    /// that the board has taken, and to the coil whose command it has not taken: in the order of
-    /// their numbers, and also after a fault. The report says which coils are put off, and how many
-    /// faults there were.
+    /// is sent, in the order of their numbers, to each coil that is on at the moment of the latest
+    /// stimulus by the commands that the board has taken, and to the coil whose command it has not
+    /// taken. A fault does not stop this. The report has the coils whose disable the board has taken,
+    /// and the number of the others.
     pub fn shut_down(self) -> (B, ShutReport)
         ensures off { ArePutOff (coils_to_put_off self.entry) self.entry.board result.1.off.items result.1.faults (board_view B.told B.fault_count B.answers result.0) }
     {
