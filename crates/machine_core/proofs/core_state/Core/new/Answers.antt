@@ -33,8 +33,8 @@ invariant_of-result g c =
       ap (λ g. g.rules) c.new.ensures ∙ sym (ap (λ h. h.plan.game) handlers),
       ap (map g.D.Device.row_of) (sym c.deref.ensures.value) ∙ c.in_default.ensures.fit.rows_are ∙ sym (ap (λ h. h.plan.rows) handlers),
       c.in_ok-waiting.ensures.alarms
-      ∙ sym (dues-are g.D.Device.state_of c.args.devices.items
-      ∙ ap (map due_of) (ap (map g.D.Device.state_of) (sym c.deref.ensures.value) ∙ c.in_default.ensures.fit.states_are)
-      ∙ first-dues c.args.plan.now.rows),
+          ∙ sym (dues-are g.D.Device.state_of c.args.devices.items
+          ∙ ap (map due_of) (ap (map g.D.Device.state_of) (sym c.deref.ensures.value) ∙ c.in_default.ensures.fit.states_are)
+          ∙ first-dues c.args.plan.now.rows),
       ap (λ l. length l.counted) first.ledger ∙ length-replicate (length c.args.plan.now.rows) 0 ∙ sym (ap (λ h. length h.plan.rows) handlers),
     )
