@@ -153,17 +153,17 @@ fn add_run<D: Device>(
     }
 }
 
-/// Adds what is found in a trial.
-fn add_found(
+/// Adds what is found in a trial with these devices.
+fn add_found<D: Device>(
     alloc: Global,
     out: &mut String,
     checked: &Checked,
-    trial: Trial,
-    inputs: &str,
+    devices: Vec<D>,
+    (trial, inputs): (Trial, &str),
 ) -> Result<(), AllocError> {
     let taken: Taken = Rc::new(alloc, RefCell::new(ArrayVec::new()))?;
     let board = FuseBoard::new(trial.first, trial.onwards, taken.clone()?);
-    match Rig::new(alloc, checked, devices_of(alloc, checked)?, board) {
+    match Rig::new(alloc, checked, devices, board) {
         Ok(rig) => add_run(out, rig, (trial, inputs), &taken),
         Err(_) => out.push_str("no rig"),
     }
@@ -178,7 +178,8 @@ fn compare(
     (inputs, course): (&str, &str),
 ) -> Result<(), AllocError> {
     let mut found = String::new(alloc);
-    add_found(alloc, &mut found, checked, trial, inputs)?;
+    let devices = devices_of(alloc, checked)?;
+    add_found(alloc, &mut found, checked, devices, (trial, inputs))?;
     let mut wanted = String::new(alloc);
     add_wanted(&mut wanted, trial, course)?;
     if found.as_str() != wanted.as_str() {
