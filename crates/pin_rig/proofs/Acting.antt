@@ -30,6 +30,7 @@ use Rattle.pin_rig.specs.declared.input.Input.{Input}
 use Rattle.pin_rig.specs.Rig.{RigView, stimulus_at, RigCascade, RigStep, RigHalt}
 use Rattle.pin_rig.specs.Inside.{IsHeld}
 use Rattle.pin_rig.proofs.Judging.{judged-allowed, judged-running, judged-asks, AsksFor}
+use Rattle.pin_rig.proofs.Counting.{taken-no_fault, not_taken-fault}
 
 -- what a machine is asked for its core can do
 asked-playable : (rig : RigView) (core : CoreView) (stimulus : Stimulus) → rig.machine ≡ core.machine → length core.machine.switches.kinds ≡ length rig.checked.plan.switches → AsksFor rig stimulus → IsPlayable core stimulus
@@ -169,6 +170,7 @@ module _ (c : CheckedView) (core : CoreView) (driver : DriverView) (shown : ℕ)
           cascade = cascade (whole.sent ∙ ap (λ ls. after_lines ls driver.sent) (sym shown-all));
           lines_are = shown-all;
           taken = subst (λ ls. HasTakenAll (commands_of ls) driver.board sent.board) (sym shown-all) whole.taken;
+          no_fault = taken-no_fault (commands_of new.machine.lines) driver.board sent.board whole.taken;
           running = whole.faulted ∙ running;
         }
 
@@ -179,6 +181,11 @@ module _ (c : CheckedView) (core : CoreView) (driver : DriverView) (shown : ℕ)
 
       -- or those before one that the board has not taken
       module _ (part : HasStopped new.machine.lines place driver sent) where
+        part-lines : new.machine.lines ≡ take place new.machine.lines ++ part.line ∷ drop (place + 1) new.machine.lines
+        part-lines =
+            let ls = new.machine.lines in
+            sym (take-append-drop place ls) ∙ ap (λ rest. take place ls ++ rest) (drop-found ls place part.line part.there)
+
         part-halt : RigHalt input rig (rig_of c new sent place)
         part-halt =
             let ls = new.machine.lines in
@@ -187,11 +194,12 @@ module _ (c : CheckedView) (core : CoreView) (driver : DriverView) (shown : ℕ)
               line = part.line;
               command = part.fault.command;
               later = drop (place + 1) ls;
-              lines_are = sym (take-append-drop place ls) ∙ ap (λ rest. take place ls ++ rest) (drop-found ls place part.line part.there);
+              lines_are = part-lines;
               line_is = part.fault.line_is;
               board = part.mid.board;
               taken = part.earlier.taken;
               not_taken = part.fault.fault.not_taken;
+              fault = not_taken-fault ls (take place ls) (drop (place + 1) ls) part.line part.fault.command driver.board part.mid.board sent.board part.fault.line_is part-lines part.earlier.taken part.fault.fault.not_taken;
               halted = part.fault.fault.faulted;
             }
 

@@ -1,21 +1,21 @@
 -- What an input is judged to be may come next.
-use Rattle.std.proofs.Common.{◌≡◌, ℕ, ◌<◌, ◌≤◌, ◌^◌, nat_lt, nat_le, Bool, true, false, cond, if◌then◌else◌, Option, Some, None, Result, Ok, Err, length, refl, sym, subst, ap, ◌∙◌}
+use Rattle.std.proofs.Common.{◌≡◌, ℕ, ◌<◌, ◌≤◌, ◌^◌, nat_lt, nat_le, Bool, true, false, cond, if◌then◌else◌, Option, Some, None, Result, Ok, Err, option_map, length, inl, inr, arith, refl, sym, subst, ap, ◌∙◌}
 use Rattle.std.specs.Result.{result_and}
 use Rattle.std.proofs.lemmas.Bool.{cond_both, cond-true, cond-false, ltb-true, ltb-false, lt-ltb, le-ltb, leb-false, lt-leb}
 use Rattle.plan_tables.specs.declared.entries.SwitchId.{SwitchId}
 use Rattle.plan_tables.specs.declared.entries.CoilId.{CoilId}
 use Rattle.plan_tables.specs.Valid.{IsValid}
 use Rattle.written_machine.specs.Machine.{Machine}
-use Rattle.written_machine.specs.Run.{Source, Stimulus, Change, Alarm, Wait, IsTimely, IsAllowed}
+use Rattle.written_machine.specs.Run.{Source, source_due, Stimulus, Change, Alarm, Wait, IsTimely, IsAllowed}
 use Rattle.written_machine.specs.NextAlarm.{next_alarm, is_due_by}
-use Rattle.written_machine.proofs.NextAlarms.{found-is_next, next-is_found, not_due-nothing, nothing-not_due}
+use Rattle.written_machine.proofs.NextAlarms.{none-nothing, found-is_next, next-is_found, not_due-nothing, nothing-not_due}
 use Rattle.written_machine.proofs.Reached.{reached-not_late}
 use Rattle.pin_rig.specs.declared.input.Input.{Input}
 use Rattle.pin_rig.specs.declared.input.Input.TheVariants as inputs
 use Rattle.pin_rig.specs.declared.input.StepFault.{StepFault}
 use Rattle.pin_rig.specs.declared.input.StepFault.TheVariants as faults
 use Rattle.pin_rig.specs.Refused.{is_too_late, admitted}
-use Rattle.pin_rig.specs.Rig.{RigView, timely, alarm_at, stimulus_in, unless_halted, stimulus_at, HasFailed, IsWhy, IsOfRun}
+use Rattle.pin_rig.specs.Rig.{RigView, timely, alarm_at, stimulus_in, unless_halted, stimulus_at, HasFailed, IsWhy, IsOfRun, IsNextMoment}
 use Rattle.pin_rig.specs.Steps.{IsOfInput}
 
 ok_is : (a b : Stimulus) → ◌≡◌ {A = Result Stimulus StepFault} (Ok a) (Ok b) → a ≡ b
@@ -234,3 +234,14 @@ failed-why input old new faults.NoAlarm h = h.0
 failed-why input old new faults.Backwards h = h.0
 failed-why input old new faults.TooLate h = h.0
 failed-why input old new faults.AlarmPending h = h.0
+
+-- ---- the alarm that is due next
+
+next-from : (s : Machine) (next : Option (ℕ × Source)) → next_alarm s ≡ next → IsNextMoment s (option_map (λ a. a.0) next)
+next-from s None is = λ source due here. none-nothing s is source due here
+next-from s (Some a) is =
+    let first = found-is_next s a.0 a.1 is in
+    ((a.1, first.due), λ source due here. elim (first.least source due here) [ | inl later ↦ omega (arith, later) | inr same ↦ let e = same.0 in omega (arith, e) ])
+
+pub next-moment : (s : Machine) → IsNextMoment s (option_map (λ a. a.0) (next_alarm s))
+next-moment s = next-from s (next_alarm s) refl

@@ -1,3 +1,4 @@
 pub mod Judging
+pub mod Counting
 pub mod Acting
 pub mod Running

@@ -1,7 +1,9 @@
 -- Steps, one after another, are a run, and a board has taken just the commands of their lines.
-use Rattle.std.proofs.Common.{◌≡◌, ℕ, None, Some, List, [], ◌∷◌, ◌++◌, refl, ap, sym, ◌∙◌, subst, append_assoc, arith}
+use Rattle.std.proofs.Common.{◌≡◌, ◌||◌, ℕ, None, Some, List, [], ◌∷◌, ◌++◌, filter, refl, ap, sym, ◌∙◌, subst, append_assoc, arith}
 use Rattle.std.proofs.lemmas.Grind.{flat_map-append}
 use Rattle.std.proofs.lemmas.List.{append-nil}
+use Rattle.plan_tables.specs.PlanView.{coil_numbers}
+use Rattle.plan_tables.specs.declared.entries.CoilId.{CoilId}
 use Rattle.plan_tables.specs.declared.entries.Owner.{Owner}
 use Rattle.plan_tables.specs.declared.entries.CoilLimits.{CoilLimits}
 use Rattle.coil_guard.specs.declared.command.Command.{Command}
@@ -9,7 +11,9 @@ use Rattle.coil_guard.specs.declared.command.Command.TheVariants as commands
 use Rattle.coil_guard.specs.declared.command.Answer.{Answer}
 use Rattle.coil_guard.specs.declared.command.Answer.TheVariants as answers
 use Rattle.coil_guard.specs.declared.state.CoilState.{CoilState}
-use Rattle.coil_guard.specs.SentCommands.{Sending}
+use Rattle.coil_guard.specs.SentCommands.{Sending, is_on}
+use Rattle.coil_guard.specs.CoilStep.{is_on_at}
+use Rattle.coil_guard.specs.Coils.{coil_at}
 use Rattle.coil_guard.specs.Calls as calls_of
 use Rattle.coil_guard.specs.Calls.{CoilCall, after_call, sent_by, sent_as}
 use Rattle.coil_guard.specs.Follows.{Follows}
@@ -28,10 +32,11 @@ use Rattle.written_machine.proofs.Guarded.{follows-run}
 use Rattle.coil_driver.specs.Board.{BoardView, HasTakenAll, commands_of, after_happening, after_line, after_lines, TellsMore}
 use Rattle.coil_driver.proofs.Sending.{cascade-agrees}
 use Rattle.coil_driver.specs.Agrees.{IsSent, AreSent}
+use Rattle.coil_driver.specs.ShutDown.{is_faulted}
 use Rattle.coil_driver.proofs.Serving.{taken-append, commands-append, taken-tells}
 use Rattle.pin_rig.specs.declared.input.Input.{Input}
 use Rattle.pin_rig.specs.Rig.{RigView, RigCascade}
-use Rattle.pin_rig.specs.Steps.{AreSteps, AreStepsToHalt, at_rest, IsRunOf}
+use Rattle.pin_rig.specs.Steps.{AreSteps, AreStepsToHalt, at_rest, IsRunOf, PutsOffWhatIsOn}
 use Rattle.pin_rig.proofs.Judging.{judged-of_input}
 
 -- ---- the run
@@ -173,3 +178,11 @@ module _ (c : CheckedView) (board : BoardView) (accepted : IsAccepted c) where
       subst (λ s. Follows limits (sendings shown) s new.machine.moment) (sym step.sent_is)
       (subst (λ ss. Follows limits ss (after_lines new.lines mid.sent) new.machine.moment) (sym (ap sendings h.shown_is ∙ flat_map-append sent_in h.earlier new.lines))
       (part-follows limits new.machine.moment new.lines (h.halt.line ∷ h.halt.later) (sendings h.earlier) mid.sent are before))
+
+-- ---- what is put off at the end
+
+pub off-by_commands : (c : CheckedView) (rig : RigView) (shown : List Line) → Follows (limits_of c.plan) (sendings shown) rig.sent rig.machine.moment → PutsOffWhatIsOn rig shown
+off-by_commands c rig shown follows =
+    let now = rig.machine.moment in
+    let on : (coil : CoilId) → is_on_at now (coil_at rig.sent coil) ≡ is_on (sendings shown) coil now = λ coil. sym ((follows.each coil).on now (omega arith)) in
+    (λ i. filter (λ coil. on coil i || is_faulted rig.faulted coil) (coil_numbers rig.checked.plan))

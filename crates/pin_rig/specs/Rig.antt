@@ -1,5 +1,5 @@
 -- A rig, and what a step of it does.
-use Rattle.std.specs.Prelude.{◌≡◌, ℕ, nat_lt, if◌then◌else◌, Option, Some, None, Result, Ok, Err, List, [], ◌∷◌, ◌++◌, length}
+use Rattle.std.specs.Prelude.{◌≡◌, ◌≢◌, ◌⊎◌, ℕ, ◌<◌, ◌≤◌, ◌-◌, ◌^◌, nat_lt, if◌then◌else◌, Option, Some, None, Result, Ok, Err, List, [], ◌∷◌, ◌++◌, length}
 use Rattle.std.specs.Result.{result_and}
 use Rattle.plan_tables.specs.declared.entries.CoilId.{CoilId}
 use Rattle.coil_guard.specs.declared.command.Command.{Command}
@@ -10,7 +10,7 @@ use Rattle.written_machine.specs.declared.line.Happening.TheVariants as lines
 use Rattle.written_machine.specs.CheckedView.{CheckedView}
 use Rattle.written_machine.specs.Machine.{Machine}
 use Rattle.written_machine.specs.EventStep.{EventSteps}
-use Rattle.written_machine.specs.Run.{Source, Stimulus, Change, Alarm, Wait, IsAllowed, begin, IsReached}
+use Rattle.written_machine.specs.Run.{Source, source_due, Stimulus, Change, Alarm, Wait, IsAllowed, begin, IsReached}
 use Rattle.written_machine.specs.NextAlarm.{next_alarm, is_due_by}
 use Rattle.written_machine.specs.PlanOrder.{settled}
 use Rattle.coil_driver.specs.Board.{BoardView, HasTakenAll, HasNotTaken, commands_of, after_lines}
@@ -58,7 +58,19 @@ unless_halted (Some coil) given = Err faults.Halted
 abbrev pub stimulus_at : RigView → Input → Result Stimulus StepFault
 stimulus_at rig input = unless_halted rig.faulted (stimulus_in rig.checked rig.machine input)
 
+-- ---- the alarm that is due next
+
+-- No alarm is due at all; or one is due at this moment, and none before it.
+abbrev pub IsNextMoment : Machine → Option ℕ → Type 0
+IsNextMoment s None = (source : Source) (due : ℕ) → source_due s source ≡ Some due → ⊥
+IsNextMoment s (Some at) = ((source : Source) × (source_due s source ≡ Some at)) × ((source : Source) (due : ℕ) → source_due s source ≡ Some due → at ≤ due)
+
 -- ---- steps
+
+-- The board has faulted in a step with these commands: its count of faults has risen, or was at its last value and a command
+-- was sent.
+abbrev pub HasFaultedOn : List Command → BoardView → BoardView → Type 0
+HasFaultedOn commands old new = (old.fault_count < new.fault_count) ⊎ ((old.fault_count ≡ 2 ^ 64 - 1) × (commands ≢ []))
 
 -- The input is a stimulus that is allowed, and the machine is in the state after its event steps in plan order, at whose
 -- end no event waits. The guard of what was sent was asked for the commands of the lines that are shown.
@@ -73,11 +85,12 @@ pub record RigCascade (input : Input) (old new : RigView) : Type 0 where
   pub settles : new.machine.waiting ≡ []
   pub sent_is : new.sent ≡ after_lines new.lines old.sent
 
--- All lines of the cascade are shown, and the board has taken just their commands.
+-- All lines of the cascade are shown, and the board has taken just their commands, without a fault.
 pub record RigStep (input : Input) (old new : RigView) : Type 0 where
   pub cascade : RigCascade input old new
   pub lines_are : new.lines ≡ new.machine.lines
   pub taken : HasTakenAll (commands_of new.lines) old.board new.board
+  pub no_fault : HasFaultedOn (commands_of new.machine.lines) old.board new.board → ⊥
   pub running : new.faulted ≡ None
 
 -- The board has not taken a command of the cascade. The lines before its line are shown, the board has taken just their
@@ -92,6 +105,7 @@ pub record RigHalt (input : Input) (old new : RigView) : Type 0 where
   pub board : BoardView
   pub taken : HasTakenAll (commands_of new.lines) old.board board
   pub not_taken : HasNotTaken board new.board
+  pub fault : HasFaultedOn (commands_of new.machine.lines) old.board new.board
   pub halted : new.faulted ≡ Some (coil_of command)
 
 -- Why a step gives no lines: the board has not taken a command; or the input is refused, and nothing has changed.

@@ -1,8 +1,11 @@
 -- Steps, one after another.
-use Rattle.std.specs.Prelude.{◌≡◌, ◌↔◌, ℕ, None, List, [], ◌∷◌, ◌++◌, Ok}
+use Rattle.std.specs.Prelude.{◌≡◌, ◌↔◌, ◌||◌, ℕ, Bool, None, List, [], ◌∷◌, ◌++◌, filter, Ok}
+use Rattle.plan_tables.specs.PlanView.{coil_numbers}
+use Rattle.plan_tables.specs.declared.entries.CoilId.{CoilId}
 use Rattle.coil_guard.specs.Asked.{limits_of}
 use Rattle.coil_guard.specs.Coils.{all_off}
 use Rattle.coil_guard.specs.Follows.{Follows}
+use Rattle.coil_guard.specs.SentCommands.{is_on}
 use Rattle.written_machine.specs.declared.line.Line.{Line}
 use Rattle.written_machine.specs.CheckedView.{CheckedView}
 use Rattle.written_machine.specs.Accepted.{IsAccepted}
@@ -10,9 +13,11 @@ use Rattle.written_machine.specs.Machine.{initial}
 use Rattle.written_machine.specs.Run.{Source, Stimulus, Change, Alarm, Wait, IsAllowed, IsRun}
 use Rattle.written_machine.specs.Sent.{sendings}
 use Rattle.coil_driver.specs.Board.{BoardView, commands_of, TellsMore}
+use Rattle.coil_driver.specs.ShutDown.{is_faulted}
 use Rattle.pin_rig.specs.declared.input.Input.{Input}
 use Rattle.pin_rig.specs.declared.input.Input.TheVariants as inputs
 use Rattle.pin_rig.specs.Rig.{RigView, stimulus_at, RigStep, RigHalt}
+use Rattle.pin_rig.specs.ShutDown.{coils_to_put_off}
 
 -- each input is a step, and the trace is the lines of all, step by step
 abbrev pub AreSteps : List Input → RigView → List Line → RigView → Type 0
@@ -81,6 +86,21 @@ pub record SentIsShown : Type 0 where
       → Follows (limits_of c.plan) (sendings trace) new.sent new.machine.moment
   pub halt : (c : CheckedView) (board : BoardView) (inputs : List Input) (last : Input) (trace shown : List Line) (new : RigView) → IsAccepted c
       → AreStepsToHalt inputs last (at_rest c board) trace shown new → Follows (limits_of c.plan) (sendings shown) new.sent new.machine.moment
+
+-- Whether a coil is to be put off at the end: it is on at the moment of the latest stimulus by the commands of the lines that
+-- were shown, or the board has not taken its last command.
+abbrev pub is_left_on : List Line → RigView → CoilId → Bool
+is_left_on shown rig coil = is_on (sendings shown) coil rig.machine.moment || is_faulted rig.faulted coil
+
+-- What `shut_down` puts off then follows from these lines.
+abbrev pub PutsOffWhatIsOn : RigView → List Line → Type 0
+PutsOffWhatIsOn rig shown = coils_to_put_off rig ≡ filter (is_left_on shown rig) (coil_numbers rig.checked.plan)
+
+pub record OffIsByCommands : Type 0 where
+  pub steps : (c : CheckedView) (board : BoardView) (inputs : List Input) (trace : List Line) (new : RigView) → IsAccepted c → AreSteps inputs (at_rest c board) trace new
+      → PutsOffWhatIsOn new trace
+  pub halt : (c : CheckedView) (board : BoardView) (inputs : List Input) (last : Input) (trace shown : List Line) (new : RigView) → IsAccepted c
+      → AreStepsToHalt inputs last (at_rest c board) trace shown new → PutsOffWhatIsOn new shown
 
 -- An input is taken exactly where the rig is not halted and it is a stimulus that may come.
 abbrev pub TakesWhatMayCome : Type 0

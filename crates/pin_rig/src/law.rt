@@ -1,6 +1,6 @@
 //! What holds after every list of inputs.
 
-ghost use Rattle.pin_rig.specs.Steps.{StepsAreRun, HaltedStepsAreRun, SentIsShown, TakesWhatMayCome};
+ghost use Rattle.pin_rig.specs.Steps.{StepsAreRun, HaltedStepsAreRun, SentIsShown, OffIsByCommands, TakesWhatMayCome};
 
 /// The law of `Rig`, for every list of inputs on a new rig.
 ///
@@ -12,8 +12,9 @@ ghost use Rattle.pin_rig.specs.Steps.{StepsAreRun, HaltedStepsAreRun, SentIsShow
 /// If the board has not taken a command of the last input, it has taken exactly the commands of the
 /// lines that were shown. These lines are the beginning of the trace (`halt`).
 ///
-/// What `shut_down` puts off follows from the commands of the lines that were shown: each coil that
-/// is on by them is one that the rig counts as on (`sent`).
+/// What the rig knows of the coils follows from the commands of the lines that were shown (`sent`). So
+/// does what `shut_down` puts off then: each coil that is on by them at the moment of the latest
+/// stimulus, and the one whose command the board has not taken (`off`).
 ///
 /// An input is taken exactly if the rig is not halted and the input is a stimulus that may come
 /// (`taken`).
@@ -23,5 +24,6 @@ pub fn steps_are_run()
     ensures run { StepsAreRun }
     ensures halt { HaltedStepsAreRun }
     ensures sent { SentIsShown }
+    ensures off { OffIsByCommands }
     ensures taken { TakesWhatMayCome }
 {}

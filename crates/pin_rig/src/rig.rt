@@ -68,7 +68,7 @@ impl<'c, D: Device, B: Board> Rig<'c, D, B> {
     ghost use Rattle.std.specs.Borrow.{sem};
     ghost use Rattle.written_machine.specs.Run.{IsReached};
     ghost use Rattle.written_machine.specs.NextAlarm.{next_alarm};
-    ghost use Rattle.pin_rig.specs.Rig.{timely, alarm_at, stimulus_at, RigStep, HasFailed, IsWhy, RunsUnlessHalted, IsOfRun};
+    ghost use Rattle.pin_rig.specs.Rig.{timely, alarm_at, stimulus_at, RigStep, HasFailed, IsWhy, RunsUnlessHalted, IsOfRun, IsNextMoment};
     ghost use Rattle.coil_driver.specs.Board.{board_view};
     ghost use Rattle.coil_driver.specs.ShutDown.{ArePutOff};
     ghost use Rattle.pin_rig.specs.ShutDown.{coils_to_put_off};
@@ -133,10 +133,11 @@ impl<'c, D: Device, B: Board> Rig<'c, D, B> {
     /// - `Backwards`: the moment of a change or a wait is before that of the latest stimulus.
     /// - `TooLate`: the moment of the input is 2^40 ms or later.
     /// - `AlarmPending`: an alarm is due at or before the moment of a change or a wait.
-    /// - `BoardFault`: the board has not taken a command of the cascade. `trace` has the lines
-    ///   before the line of this command, and the board has taken their commands. Nothing more is
-    ///   sent, and the rig is halted. The machine has gone on to the end of the cascade: `now`,
-    ///   `next_due` and `state` are of that end.
+    /// - `BoardFault`: the board has not taken a command of the cascade, so its count of faults has
+    ///   risen, or was at its last value already. `trace` has the lines before the line of this
+    ///   command, and the board has taken their commands. Nothing more is sent, and the rig is
+    ///   halted. The machine has gone on to the end of the cascade: `now`, `next_due` and `state`
+    ///   are of that end.
     pub fn step(&mut self, input: Input) -> Result<&[Line], StepFault>
         ensures* after { sem 𝓛 (Rests (the_row (record { mir = named 1; lft = [] }) D.row B.row D.Device B.Board) self.entry (λ new. IsStepped input self.entry.now new result)) }
         ensures judged { MatchResult result (λ _. IsOk (stimulus_at self.old input)) (λ fault. IsWhy (stimulus_at self.old input) fault) }
@@ -153,8 +154,9 @@ impl<'c, D: Device, B: Board> Rig<'c, D, B> {
         self.core.moment()
     }
 
-    /// The moment of the alarm that is due next, in milliseconds, if one is.
+    /// The moment of the alarm that is due next, in milliseconds. None if nothing is due at all.
     pub fn next_due(&self) -> Option<u64>
+        ensures least { IsNextMoment self.now.machine result }
         ensures due { result ≡ option_map (λ a. a.0) (next_alarm self.now.machine) }
         ensures reached { IsOfRun self.now }
     {

@@ -1,7 +1,7 @@
 //! A bundle is read and checked, and the reply to it is written.
 
 ghost use Rattle.std.specs.Prelude.{◌≡◌, ◌≢◌, ◌^◌, ◌<◌, ◌≤◌, IfOk, OnOk, IfErr, IfSome, IsSome, IsErrOf, length, map, option_map, ◌⊎◌};
-ghost use Rattle.std.specs.Io.KnownBytes.{Appends, Keeps};
+ghost use Rattle.std.specs.Io.KnownBytes.{Appends, IsAtEnd, Keeps};
 ghost use Rattle.mpf_config.specs.View.{rows_view, note_view};
 ghost use Rattle.mpf_config.specs.Reading.{rows_at};
 ghost use Rattle.pinball_shell.specs.Reply.{replied, reply_to, reply_with, checked_by, answer_of, verdict_of, accepted_of};
@@ -60,8 +60,9 @@ pub fn check_text<R: Read, W: Write>(
 /// bundle's rows, then `yes` and the bound of the certificate's weights, or why they are refused
 /// and `no`.
 ///
-/// The whole bundle is read first, then the whole certificate, and then both are checked. Nothing
-/// is written before the answer is known. The errors are those of [`check_text`]; a certificate of
+/// The whole bundle is read first, then the whole certificate, and then both are checked. If the
+/// bundle cannot be read whole, the certificate is not asked for anything. Nothing is written before
+/// the answer is known. The errors are those of [`check_text`]; a certificate of
 /// more than 1 MiB is `TooLong` too.
 pub fn verify_text<R: Read, Q: Read, W: Write>(
     alloc: Global,
@@ -76,6 +77,7 @@ pub fn verify_text<R: Read, Q: Read, W: Write>(
     ensures within { OnOk result (IfSome (R.remaining bundle.old) (λ text. length text ≤ 2 ^ 23) × IfSome (Q.remaining certificate.old) (λ stated. length stated ≤ 2 ^ 20)) }
     ensures too_long { IsErrOf result ShellFault.TooLong →
         IfSome (R.remaining bundle.old) (λ text. 2 ^ 23 < length text) ⊎ IfSome (Q.remaining certificate.old) (λ stated. 2 ^ 20 < length stated) }
+    ensures bundle_first { (IsAtEnd (R.remaining bundle.new) × IfSome (R.remaining bundle.old) (λ text. length text ≤ 2 ^ 23)) ⊎ (certificate.new ≡ certificate.old) }
 {
     let reply = verify_bundle(alloc, bundle, certificate)?;
     match write_verified(&reply, writer) {
@@ -130,6 +132,7 @@ fn verify_bundle<R: Read, Q: Read>(
     ensures too_long { IsErrOf result ShellFault.TooLong →
         IfSome (R.remaining bundle.old) (λ text. 2 ^ 23 < length text) ⊎ IfSome (Q.remaining certificate.old) (λ stated. 2 ^ 20 < length stated) }
     ensures reads_only { IfErr result (λ e. e ≢ ShellFault.Write) }
+    ensures bundle_first { (IsAtEnd (R.remaining bundle.new) × IfSome (R.remaining bundle.old) (λ text. length text ≤ 2 ^ 23)) ⊎ (certificate.new ≡ certificate.old) }
 {
     let text = read_all(alloc, bundle, BUNDLE_LIMIT)?;
     let stated = read_all(alloc, certificate, CERTIFICATE_LIMIT)?;

@@ -1,7 +1,7 @@
 //! A log is read and played.
 
 ghost use Rattle.std.specs.Prelude.{◌≡◌, ◌≢◌, ◌^◌, ◌<◌, ◌≤◌, ◌⊎◌, false, IfOk, IfErr, IsTrue, IsOk, OnOk, IfSome, IsErrOf, length, map};
-ghost use Rattle.std.specs.Io.KnownBytes.{Appends, Keeps};
+ghost use Rattle.std.specs.Io.KnownBytes.{Appends, IsAtEnd, Keeps};
 ghost use Rattle.written_machine.specs.Machine.{initial};
 ghost use Rattle.written_machine.specs.NextAlarm.{is_due_by};
 ghost use Rattle.coil_driver.specs.Board.{BoardView, board_view};
@@ -67,8 +67,8 @@ pub(crate) enum Stop {
 ///   devices, or too many.
 /// - `Write`: the writer failed. How much was written is not said.
 ///
-/// The log is read to its end, and all memory taken, before anything is written. So after all but
-/// the last nothing has been written. After the last, the coils that are on are put off. The devices and
+/// The log is read to its end before the devices are judged. All memory is taken before anything is
+/// written. So after all but the last nothing has been written. After the last, the coils that are on are put off. The devices and
 /// the board are dropped in any case. No clause says what was sent to the board before an error.
 pub fn play_text<D: Device, B: Board, R: Read, W: Write>(
     alloc: Global,
@@ -87,6 +87,7 @@ pub fn play_text<D: Device, B: Board, R: Read, W: Write>(
     ensures too_long { IsErrOf result ShellFault.TooLong → IfSome (R.remaining reader.old) (λ log. 2 ^ 24 < length log) }
     ensures fit { OnOk result (IsFit checked.now.plan (map D.row_of devices.items) (map D.state_of devices.items)) }
     ensures wrong { IsErrOf result ShellFault.WrongDevice → ¬ (IsFit checked.now.plan (map D.row_of devices.items) (map D.state_of devices.items)) }
+    ensures log_first { IsErrOf result ShellFault.WrongDevice → IsAtEnd (R.remaining reader.new) × IfSome (R.remaining reader.old) (λ log. length log ≤ 2 ^ 24) }
 {
     let log = read_all(alloc, reader, LOG_LIMIT)?;
     let (verdict, _board) = play_log(alloc, checked, devices, board, &log, writer)?;

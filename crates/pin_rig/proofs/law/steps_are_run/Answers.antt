@@ -1,7 +1,7 @@
 use Rattle.std.proofs.Common.{refl}
 use Rattle.pin_rig.specs.Steps.{at_rest}
 use Rattle.pin_rig.proofs.Judging.{judged-of_input, judged-allowed, judged-running, allowed-judged}
-use Rattle.pin_rig.proofs.Running.{steps-run, steps-taken, halt-run, halt-taken, steps-follow, halt-follow}
+use Rattle.pin_rig.proofs.Running.{steps-run, steps-taken, halt-run, halt-taken, steps-follow, halt-follow, off-by_commands}
 use Rattle.pin_rig.proofs.law.steps_are_run.Goals as goal
 
 pub returns-clause-run : goal.returns-clause-run
@@ -15,6 +15,12 @@ pub returns-clause-sent : goal.returns-clause-sent
 returns-clause-sent c = record {
   steps = λ checked board inputs trace new accepted steps. steps-follow checked board accepted inputs trace new steps;
   halt = λ checked board inputs last trace shown new accepted halt. halt-follow checked board accepted inputs last trace shown new halt;
+}
+
+pub returns-clause-off : goal.returns-clause-off
+returns-clause-off c = record {
+  steps = λ checked board inputs trace new accepted steps. off-by_commands checked new trace (steps-follow checked board accepted inputs trace new steps);
+  halt = λ checked board inputs last trace shown new accepted halt. off-by_commands checked new shown (halt-follow checked board accepted inputs last trace shown new halt);
 }
 
 pub returns-clause-taken : goal.returns-clause-taken

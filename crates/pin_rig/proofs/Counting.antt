@@ -1,0 +1,39 @@
+-- A board's fault in a step shows in its count of faults.
+use Rattle.std.proofs.Common.{◌≡◌, ◌≢◌, ℕ, ◌<◌, ◌-◌, ◌^◌, ◌⊎◌, inl, inr, List, [], ◌∷◌, ◌++◌, length, length-append, refl, sym, ap, ◌∙◌, subst, arith}
+use Rattle.coil_guard.specs.declared.command.Command.{Command}
+use Rattle.coil_guard.specs.Boards.{HasFaulted}
+use Rattle.written_machine.specs.declared.line.Line.{Line}
+use Rattle.written_machine.specs.declared.line.Happening.TheVariants as lines
+use Rattle.coil_driver.specs.Board.{BoardView, HasTakenAll, HasNotTaken, command_of, commands_of}
+use Rattle.coil_driver.proofs.Serving.{commands-append}
+use Rattle.pin_rig.specs.Rig.{HasFaultedOn}
+
+taken-count : (commands : List Command) (old new : BoardView) → HasTakenAll commands old new → new.fault_count ≡ old.fault_count
+taken-count [] old new is = ap (λ (b : BoardView). b.fault_count) is
+taken-count (command ∷ more) old new (mid, one, all) = taken-count more mid new all ∙ one.count
+
+pub taken-no_fault : (commands : List Command) (old new : BoardView) → HasTakenAll commands old new → HasFaultedOn commands old new → ⊥
+taken-no_fault commands old new all (inl risen) = let same = taken-count commands old new all in omega (arith, risen, same)
+taken-no_fault [] old new all (inr (last, sent)) = sent refl
+taken-no_fault (command ∷ more) old new (mid, one, all) (inr (last, sent)) = one.no_fault (inr last)
+
+-- a command among others
+not_nil : (first : List Command) (command : Command) (second : List Command) → first ++ command ∷ second ≢ []
+not_nil first command second is =
+    let counts = ap (λ (l : List Command). length l) is in
+    let both = length-append first (command ∷ second) in
+    omega (arith, counts, both)
+
+has_command : (ls shown later : List Line) (line : Line) (command : Command) → line.happening ≡ lines.Coil command → ls ≡ shown ++ line ∷ later → commands_of ls ≢ []
+has_command ls shown later line command line_is is none =
+    not_nil (commands_of shown) command (commands_of later)
+    (ap (λ cs. commands_of shown ++ (cs ++ commands_of later)) (sym (ap command_of line_is)) ∙ sym (commands-append shown (line ∷ later)) ∙ ap commands_of (sym is) ∙ none)
+
+pub not_taken-fault : (ls shown later : List Line) (line : Line) (command : Command) (old mid new : BoardView) → line.happening ≡ lines.Coil command → ls ≡ shown ++ line ∷ later
+    → HasTakenAll (commands_of shown) old mid → HasNotTaken mid new → HasFaultedOn (commands_of ls) old new
+not_taken-fault ls shown later line command old mid new line_is is all not =
+    let same = taken-count (commands_of shown) old mid all in
+    elim (not.count) [
+      | inl risen ↦ inl (omega (arith, risen, same))
+      | inr last ↦ inr (sym same ∙ last, has_command ls shown later line command line_is is)
+    ]
