@@ -15,3 +15,4 @@ pub mod Settling
 pub mod Following
 pub mod Callable
 pub mod Releasing
+pub mod Stopping

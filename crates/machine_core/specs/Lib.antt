@@ -1,5 +1,6 @@
 pub mod Fit
 pub mod Stimuli
 pub mod Core
+pub mod Stopping
 -- What the contracts of private functions cite.
 pub mod Balls

@@ -1,6 +1,6 @@
 //! The state of a machine, with room for the events that wait and the lines.
 
-ghost use Rattle.std.specs.Prelude.{◌≡◌, ◌^◌, ◌<◌, ◌≤◌, ℕ, [], None, Some, true, false, IfOk, IfSome, IsSome, length, option_map, replicate, vec_capacity};
+ghost use Rattle.std.specs.Prelude.{◌≡◌, ◌^◌, ◌<◌, ◌≤◌, ℕ, [], None, Some, true, false, IfOk, IfSome, IsSome, length, map, option_map, replicate, vec_capacity};
 ghost use Rattle.event_queue.specs.Handlers.{none_running, set_running};
 ghost use Rattle.event_queue.specs.Queue.{empty};
 ghost use Rattle.event_queue.specs.PlanOrder.{bound_in_order, GoesOn};
@@ -25,6 +25,7 @@ ghost use Rattle.written_machine.specs.NextAlarm.{next_alarm, is_due_by, first_o
 ghost use Rattle.written_machine.specs.Run.{switch as of_switch, device as of_device};
 ghost use Rattle.machine_core.specs.Core.{HasRoom, IsCoreOf, TakesFirst, after};
 ghost use Rattle.machine_core.specs.Stimuli.{alarm_view};
+ghost use Rattle.machine_core.specs.Stopping.{stopped_state};
 
 use crate::balls::{BallCall, book, can_book, counts_of, home};
 use crate::fault::CoreFault;
@@ -51,7 +52,8 @@ use written_machine::{Happening, Line};
 /// milliseconds.
 ///
 /// `begin` does what a stimulus does, and `settle` takes the event steps after it. Only `new` takes
-/// memory. `stop_devices` stops the devices; where a core is dropped, they are dropped as they are.
+/// memory. `stop_devices` stops the devices and gives them back; where a core is dropped, they are
+/// dropped as they are.
 #[derive(Drop)]
 pub struct Core<'p, D: Device> {
     moment: u64,
@@ -149,6 +151,7 @@ fn waiting_parts<'p>(
 impl<'p, D: Device> Core<'p, D> {
     ghost use Rattle.std.specs.Prelude.{map};
     ghost use Rattle.machine_core.specs.Fit.{IsFit, IsFirstWrong};
+    ghost use Rattle.machine_core.specs.Stopping.{AreStopped};
 
     /// The plan's machine at moment 0, with all switches inactive, all modes idle, all coils off, no
     /// ball known, no game and no event waiting. It has a device for each row of the plan, in the
@@ -475,13 +478,16 @@ impl<'p, D: Device> Core<'p, D> {
         self.switches.change(switch, level, at)
     }
 
-    /// Ends the machine. Each device is told at the moment of the latest stimulus, which has to be
-    /// before 2^40 ms, that its mode stops, and is dropped. What it answers is left out.
-    pub fn stop_devices(self)
+    /// Ends the machine, and gives the devices back. Each is told at the moment of the latest
+    /// stimulus, which has to be before 2^40 ms, that its mode stops. What it answers is left out.
+    pub fn stop_devices(self) -> Vec<D>
         requires { self.machine.moment < 2 ^ 40 }
+        ensures { AreStopped self.entry.handlers.plan self.entry.machine (map D.row_of result.items) (map D.state_of result.items) }
     {
         let world = self.game.world(&self.players);
-        stop_all(self.devices, self.moment, world);
+        let mut devices = self.devices;
+        stop_all(&mut devices, self.moment, world);
+        devices
     }
 
     /// The raw level of the switch that is due next is accepted, which one must be.
@@ -510,12 +516,13 @@ fn call_one<D: Device>(device: &mut D, call: Call, now: u64, world: World) -> Ou
     }
 }
 
-/// Devices stop, and are dropped.
-fn stop_all<D: Device>(devices: Vec<D>, moment: u64, world: World)
+/// Devices stop. What they answer is left out.
+fn stop_all<D: Device>(devices: &mut [D], moment: u64, world: World)
     requires { moment < 2 ^ 40 }
+    ensures rows { map D.row_of devices.new ≡ map D.row_of devices.old }
+    ensures states { map D.state_of devices.new ≡ map (λ d. stopped_state moment world (D.row_of d) (D.state_of d)) devices.old }
 {
-    let mut devices = devices;
-    for device in &mut devices {
+    for device in devices {
         stop_one(device, moment, world);
     }
 }
@@ -523,7 +530,8 @@ fn stop_all<D: Device>(devices: Vec<D>, moment: u64, world: World)
 /// One device stops. What it answers is left out.
 fn stop_one<D: Device>(device: &mut D, now: u64, world: World)
     requires { now < 2 ^ 40 }
-    ensures { D.row_of device.new ≡ D.row_of device.old }
+    ensures row { D.row_of device.new ≡ D.row_of device.old }
+    ensures state { D.state_of device.new ≡ stopped_state now world (D.row_of device.old) (D.state_of device.old) }
 {
     let _ = call_one(device, Call::ModeStop, now, world);
 }

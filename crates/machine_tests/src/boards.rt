@@ -3,7 +3,7 @@
 use crate::cases::{add, wrong_rows};
 use crate::steps::input_of;
 use arrayvec::ArrayVec;
-use coil_guard::{Command, FuseBoard, Taken};
+use coil_guard::{Board, Command, FuseBoard, Taken};
 use coil_rules::{Autofire, Flipper};
 use config_checker::{Checked, check};
 use device_objects::Device;
@@ -127,7 +127,7 @@ fn add_taken(out: &mut String, taken: &Taken) -> Result<(), AllocError> {
 }
 
 /// Ends a rig: drops it, or shuts it down. Gives the report, if there is one.
-fn ended<D: Device>(rig: Rig<'_, D, FuseBoard>, dropped: bool) -> Option<ShutReport> {
+pub(crate) fn ended<D: Device, B: Board>(rig: Rig<'_, D, B>, dropped: bool) -> Option<ShutReport> {
     if dropped {
         return None;
     }

@@ -1,5 +1,6 @@
-//! Boxes that count how many of them have been dropped, and the rigs that they are handed to.
+//! Boxes that count how often they are stopped and dropped, and the rigs that they are handed to.
 
+use crate::boards::ended;
 use crate::cases::{add, wrong_rows};
 use coil_guard::MemoryBoard;
 use config_checker::{Checked, check};
@@ -13,19 +14,23 @@ use std::cell::Cell;
 use std::rc::Rc;
 use std::test::Fail;
 
-/// How many of the devices that share it have been dropped.
-type Drops = Rc<Cell<u32>>;
+/// How often a device has been stopped, and how often it has been dropped.
+#[derive(Drop)]
+struct Counts {
+    stops: Cell<u32>,
+    drops: Cell<u32>,
+}
 
-/// A counter whose drop is counted.
+/// A counter whose stops and drops are counted.
 struct Counted {
     counter: Counter,
-    drops: Drops,
+    counts: Rc<Counts>,
 }
 
 impl Drop for Counted {
     fn drop(self) {
-        let Counted { counter: _, drops } = self;
-        drops.set(drops.get().wrapping_add(1));
+        let Counted { counter: _, counts } = self;
+        counts.drops.set(counts.drops.get().wrapping_add(1));
     }
 }
 
@@ -53,6 +58,8 @@ impl Device for Counted {
     }
 
     fn stop(&mut self, now: u64, world: World) -> Outcome {
+        let stops = &self.counts.stops;
+        stops.set(stops.get().wrapping_add(1));
         self.counter.stop(now, world)
     }
 
@@ -83,22 +90,53 @@ fn counter_of(checked: &Checked, word: &str) -> Option<Counter> {
     Some(counter)
 }
 
-/// Adds whether the boxes make a rig, and how many of them are dropped while it is there.
+/// The counter, which is counted. Its counts are added to those of the others.
+fn counted(
+    alloc: Global,
+    counter: Counter,
+    all: &mut Vec<Rc<Counts>>,
+) -> Result<Counted, AllocError> {
+    let counts = Rc::new(
+        alloc,
+        Counts {
+            stops: Cell::new(0),
+            drops: Cell::new(0),
+        },
+    )?;
+    all.push(counts.clone()?)?;
+    Ok(Counted { counter, counts })
+}
+
+/// Adds for each box how often it has been stopped, and how often dropped.
+fn add_counts(out: &mut String, all: &[Rc<Counts>]) -> Result<(), AllocError> {
+    for counts in all {
+        add(out, &(counts.stops.get(), counts.drops.get()))?;
+    }
+    Ok(())
+}
+
+/// Adds whether the boxes make a rig, and what has become of them while it is there. Then the rig
+/// ends, by a drop or not.
 fn add_rig<D: Device>(
     alloc: Global,
     out: &mut String,
     checked: &Checked,
     boxes: Vec<D>,
-    dropped: &Drops,
+    (all, dropped): (&[Rc<Counts>], bool),
 ) -> Result<(), AllocError> {
     match Rig::new(alloc, checked, boxes, MemoryBoard::new(alloc)?) {
-        Ok(_rig) => add(out, &("a rig", dropped.get())),
-        Err(fault) => add(out, &(fault, dropped.get())),
+        Ok(rig) => {
+            add(out, &"a rig")?;
+            add_counts(out, all)?;
+            let _ = ended(rig, dropped);
+            Ok(())
+        }
+        Err(fault) => add(out, &fault),
     }
 }
 
-/// Adds whether the boxes of the rows that the words name make a rig, how many boxes are dropped
-/// then, and how many after that.
+/// Adds whether the boxes of the rows that the words name make a rig, and what has become of each
+/// box at the end. The first word says how the rig ends: `dropped`, or `shut_down`.
 pub(crate) fn boxed(
     alloc: Global,
     out: &mut String,
@@ -108,19 +146,20 @@ pub(crate) fn boxed(
     let Ok(checked) = check(alloc, config) else {
         return out.push_str("refused");
     };
-    let dropped: Drops = Rc::new(alloc, Cell::new(0))?;
+    let (end, words) = words.split_once(' ').unwrap_or((words, ""));
+    let mut all: Vec<Rc<Counts>> = Vec::new(alloc);
     let mut boxes: Vec<Box<dyn Device>> = Vec::new(alloc);
     for word in words.split_whitespace() {
         if let Some(counter) = counter_of(&checked, word) {
-            let drops = dropped.clone()?;
-            boxes.push(Box::new(alloc, Counted { counter, drops })?)?;
+            boxes.push(Box::new(alloc, counted(alloc, counter, &mut all)?)?)?;
         }
     }
-    add_rig(alloc, out, &checked, boxes, &dropped)?;
-    add(out, &dropped.get())
+    add_rig(alloc, out, &checked, boxes, (&all, end == "dropped"))?;
+    add_counts(out, &all)
 }
 
-// Row 0 is the machine's, 1 and 2 are of a mode. The second number is that of all drops.
+// Row 0 is the machine's, 1 and 2 are of a mode. A pair has the stops and the drops of a box: those of
+// all boxes while there is a rig, and those at the end.
 const BOXES: &str = "\
 modes: m
 counters:
@@ -135,15 +174,16 @@ counters:
     count_events: hit
     starting_count: 3
 ?
-boxes 0 1 2 => (\"a rig\", 0) 3
-boxes 1 2 => (WrongDevice(RowId(0)), 2) 2
-boxes 0 2 => (WrongDevice(RowId(1)), 2) 2
-boxes 0 1 => (WrongDevice(RowId(2)), 2) 2
-boxes 0 1 2 2 => (WrongDevice(RowId(3)), 4) 4
-boxes 0 2 1 => (WrongDevice(RowId(1)), 3) 3
-boxes 0 1 1 => (WrongDevice(RowId(2)), 3) 3
-boxes 0 +1 2 => (WrongDevice(RowId(1)), 3) 3
-boxes => (WrongDevice(RowId(0)), 0) 0";
+boxes dropped 0 1 2 => \"a rig\" (0, 0) (0, 0) (0, 0) (1, 1) (1, 1) (1, 1)
+boxes shut_down 0 1 2 => \"a rig\" (0, 0) (0, 0) (0, 0) (1, 1) (1, 1) (1, 1)
+boxes dropped 1 2 => WrongDevice(RowId(0)) (0, 1) (0, 1)
+boxes dropped 0 2 => WrongDevice(RowId(1)) (0, 1) (0, 1)
+boxes dropped 0 1 => WrongDevice(RowId(2)) (0, 1) (0, 1)
+boxes dropped 0 1 2 2 => WrongDevice(RowId(3)) (0, 1) (0, 1) (0, 1) (0, 1)
+boxes dropped 0 2 1 => WrongDevice(RowId(1)) (0, 1) (0, 1) (0, 1)
+boxes dropped 0 1 1 => WrongDevice(RowId(2)) (0, 1) (0, 1) (0, 1)
+boxes dropped 0 +1 2 => WrongDevice(RowId(1)) (0, 1) (0, 1) (0, 1)
+boxes dropped => WrongDevice(RowId(0))";
 
 #[test]
 fn boxes(rt: HostRuntime) -> Result<(), Fail> {

@@ -51,15 +51,7 @@ impl<'c, D: Device, B: Board> Model for Rig<'c, D, B> {
 
 impl<'c, D: Device, B: Board> Drop for Rig<'c, D, B> {
     fn drop(self) {
-        let Rig {
-            checked,
-            core,
-            mut driver,
-            shown: _,
-        } = self;
-        let now = core.moment();
-        core.stop_devices();
-        let _ = driver.put_off(checked.plan(), now);
+        let _ = self.end();
     }
 }
 
@@ -79,6 +71,7 @@ impl<'c, D: Device, B: Board> Rig<'c, D, B> {
     ghost use mir.Syntax.{named};
     ghost use Rattle.pin_rig.specs.contracts.rig.Rig.{the_row};
     ghost use Rattle.machine_core.specs.Fit.{IsFit, IsFirstWrong};
+    ghost use Rattle.machine_core.specs.Stopping.{AreStopped};
     ghost use Rattle.pin_rig.specs.Lending.{IsStepped};
 
     /// The machine of an accepted configuration, as it begins: at moment 0, with all switches
@@ -185,13 +178,22 @@ impl<'c, D: Device, B: Board> Rig<'c, D, B> {
         &self.core.lines()[..self.shown]
     }
 
-    /// Ends the machine, and gives the board back. The devices stop, and are dropped. Then a disable
-    /// is sent, in the order of their numbers, to each coil that is on at the moment of the latest
-    /// stimulus by the commands that the board has taken, and to the coil whose command it has not
-    /// taken. A fault does not stop this. The report has the coils whose disable the board has taken,
-    /// and the number of the others.
+    /// Ends the machine, and gives the board back. The devices stop. Then a disable is sent, in the
+    /// order of their numbers, to each coil that is on at the moment of the latest stimulus by the
+    /// commands that the board has taken, and to the coil whose command it has not taken. A fault
+    /// does not stop this. The report has the coils whose disable the board has taken, and the number
+    /// of the others. The devices are dropped at the end.
     pub fn shut_down(self) -> (B, ShutReport)
         ensures off { ArePutOff (coils_to_put_off self.entry) self.entry.board result.1.off.items result.1.faults (board_view B.told B.fault_count B.answers result.0) }
+    {
+        let (_, board, report) = self.end();
+        (board, report)
+    }
+
+    /// What `shut_down` and a drop do. Gives the devices, which have stopped, the board and the report.
+    fn end(self) -> (Vec<D>, B, ShutReport)
+        ensures stopped { AreStopped self.entry.checked.plan self.entry.machine (map D.row_of result.0.items) (map D.state_of result.0.items) }
+        ensures off { ArePutOff (coils_to_put_off self.entry) self.entry.board result.2.off.items result.2.faults (board_view B.told B.fault_count B.answers result.1) }
     {
         let Rig {
             checked,
@@ -200,9 +202,9 @@ impl<'c, D: Device, B: Board> Rig<'c, D, B> {
             shown: _,
         } = self;
         let now = core.moment();
-        core.stop_devices();
+        let devices = core.stop_devices();
         let report = driver.put_off(checked.plan(), now);
-        (driver.into_board(), report)
+        (devices, driver.into_board(), report)
     }
 
     /// One input, if it is not refused.
