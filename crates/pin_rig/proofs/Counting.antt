@@ -12,10 +12,14 @@ taken-count : (commands : List Command) (old new : BoardView) → HasTakenAll co
 taken-count [] old new is = ap (λ (b : BoardView). b.fault_count) is
 taken-count (command ∷ more) old new (mid, one, all) = taken-count more mid new all ∙ one.count
 
+-- a board whose count is at its last value takes nothing
+last-taken : (commands : List Command) (old new : BoardView) → HasTakenAll commands old new → old.fault_count ≡ 2 ^ 64 - 1 → commands ≢ [] → ⊥
+last-taken [] old new all last sent = sent refl
+last-taken (command ∷ more) old new (mid, one, all) last sent = one.no_fault (inr last)
+
 pub taken-no_fault : (commands : List Command) (old new : BoardView) → HasTakenAll commands old new → HasFaultedOn commands old new → ⊥
 taken-no_fault commands old new all (inl risen) = let same = taken-count commands old new all in omega (arith, risen, same)
-taken-no_fault [] old new all (inr (last, sent)) = sent refl
-taken-no_fault (command ∷ more) old new (mid, one, all) (inr (last, sent)) = one.no_fault (inr last)
+taken-no_fault commands old new all (inr both) = last-taken commands old new all both.0 both.1
 
 -- a command among others
 not_nil : (first : List Command) (command : Command) (second : List Command) → first ++ command ∷ second ≢ []
