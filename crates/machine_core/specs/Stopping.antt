@@ -12,7 +12,7 @@ use Rattle.written_machine.specs.Machine.{Machine, world_of}
 abbrev pub stopped_state : ℕ → World → DeviceRow → DeviceState → DeviceState
 stopped_state moment world row state = (device_step row.settings ModeStop moment world state).0
 
--- the states of the machine's devices, after each was told so at the moment of the latest stimulus
+-- the states of the machine's devices, after each was told, at the moment of the latest stimulus, that its mode stops
 abbrev pub stopped_states : PlanView → Machine → List DeviceState
 stopped_states plan s = map (λ d. stopped_state s.moment (world_of s) d.0 d.1) (zip plan.rows s.devices)
 

@@ -241,7 +241,7 @@ next-from : (s : Machine) (next : Option (ℕ × Source)) → next_alarm s ≡ n
 next-from s None is = λ source due here. none-nothing s is source due here
 next-from s (Some a) is =
     let first = found-is_next s a.0 a.1 is in
-    ((a.1, first.due), λ source due here. elim (first.least source due here) [ | inl later ↦ omega (arith, later) | inr same ↦ let e = same.0 in omega (arith, e) ])
+    ((a.1, first.due), λ source due here. elim (first.least source due here) [ inl later ↦ omega (arith, later) | inr same ↦ let e = same.0 in omega (arith, e) ])
 
 pub next-moment : (s : Machine) → IsNextMoment s (option_map (λ a. a.0) (next_alarm s))
 next-moment s = next-from s (next_alarm s) refl

@@ -67,8 +67,8 @@ IsNextMoment s (Some at) = ((source : Source) × (source_due s source ≡ Some a
 
 -- ---- steps
 
--- The board has faulted in a step with these commands: its count of faults has risen, or was at its last value and a command
--- was sent.
+-- The board has faulted in a step with these commands: its count of faults has risen, or was at its last value and a
+-- command was sent. The commands are those of the whole cascade: if there are any, the first was sent.
 abbrev pub HasFaultedOn : List Command → BoardView → BoardView → Type 0
 HasFaultedOn commands old new = (old.fault_count < new.fault_count) ⊎ ((old.fault_count ≡ 2 ^ 64 - 1) × (commands ≢ []))
 

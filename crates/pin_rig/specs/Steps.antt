@@ -87,12 +87,12 @@ pub record SentIsShown : Type 0 where
   pub halt : (c : CheckedView) (board : BoardView) (inputs : List Input) (last : Input) (trace shown : List Line) (new : RigView) → IsAccepted c
       → AreStepsToHalt inputs last (at_rest c board) trace shown new → Follows (limits_of c.plan) (sendings shown) new.sent new.machine.moment
 
--- Whether a coil is to be put off at the end: it is on at the moment of the latest stimulus by the commands of the lines that
--- were shown, or the board has not taken its last command.
+-- Whether a coil is to be put off at the end: it is on at the moment of the latest stimulus, by the commands of the lines
+-- that were shown, or the board has not taken its last command.
 abbrev pub is_left_on : List Line → RigView → CoilId → Bool
 is_left_on shown rig coil = is_on (sendings shown) coil rig.machine.moment || is_faulted rig.faulted coil
 
--- What `shut_down` puts off then follows from these lines.
+-- `shut_down` puts off the coils that these lines leave on, and the one whose command the board has not taken.
 abbrev pub PutsOffWhatIsOn : RigView → List Line → Type 0
 PutsOffWhatIsOn rig shown = coils_to_put_off rig ≡ filter (is_left_on shown rig) (coil_numbers rig.checked.plan)
 

@@ -127,10 +127,10 @@ impl<'c, D: Device, B: Board> Rig<'c, D, B> {
     /// - `TooLate`: the moment of the input is 2^40 ms or later.
     /// - `AlarmPending`: an alarm is due at or before the moment of a change or a wait.
     /// - `BoardFault`: the board has not taken a command of the cascade, so its count of faults has
-    ///   risen, or was at its last value already. `trace` has the lines before the line of this
-    ///   command, and the board has taken their commands. Nothing more is sent, and the rig is
-    ///   halted. The machine has gone on to the end of the cascade: `now`, `next_due` and `state`
-    ///   are of that end.
+    ///   risen, or was at its last value already. Any other answer leaves the count as it was.
+    ///   `trace` has the lines before the line of this command, and the board has taken their
+    ///   commands. Nothing more is sent, and the rig is halted. The machine has gone on to the end
+    ///   of the cascade: `now`, `next_due` and `state` are of that end.
     pub fn step(&mut self, input: Input) -> Result<&[Line], StepFault>
         ensures* after { sem 𝓛 (Rests (the_row (record { mir = named 1; lft = [] }) D.row B.row D.Device B.Board) self.entry (λ new. IsStepped input self.entry.now new result)) }
         ensures judged { MatchResult result (λ _. IsOk (stimulus_at self.old input)) (λ fault. IsWhy (stimulus_at self.old input) fault) }

@@ -62,8 +62,8 @@ pub fn check_text<R: Read, W: Write>(
 ///
 /// The whole bundle is read first, then the whole certificate, and then both are checked. If the
 /// bundle cannot be read whole, the certificate is not asked for anything. Nothing is written before
-/// the answer is known. The errors are those of [`check_text`]; a certificate of
-/// more than 1 MiB is `TooLong` too.
+/// the answer is known. The errors are those of [`check_text`]; a certificate of more than 1 MiB is
+/// `TooLong` too.
 pub fn verify_text<R: Read, Q: Read, W: Write>(
     alloc: Global,
     bundle: &mut R,
