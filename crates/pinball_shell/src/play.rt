@@ -67,10 +67,9 @@ pub(crate) enum Stop {
 ///   devices, or too many.
 /// - `Write`: the writer failed. How much was written is not said.
 ///
-/// The log is read to its end, and all memory taken, before anything is written. So nothing has been
-/// written after an error other than `Write`. After `Write`, the coils that are on are put off. The
-/// devices and the board are dropped in any case. No clause says what was sent to the board before an
-/// error.
+/// The log is read to its end, and all memory taken, before anything is written. So after all but
+/// the last nothing has been written. After the last, the coils that are on are put off. The devices and
+/// the board are dropped in any case. No clause says what was sent to the board before an error.
 pub fn play_text<D: Device, B: Board, R: Read, W: Write>(
     alloc: Global,
     checked: &Checked,
