@@ -1,6 +1,6 @@
 //! The events whose weights are in what an event costs.
 //!
-//! One pass over all that an event leads to: what follows from it asks only which events these are.
+//! One pass over all that an event leads to. What follows depends only on which events these are.
 //! A change of a variable leads to its post, whether the variable changes or not. A ball that enters a
 //! device leads to its event, to its drain, and to what each of the devices answers that may be told. An
 //! event of the game leads to what it posts by any of the ways that it can go. What is bound leads to

@@ -24,8 +24,8 @@ pub trait Board: Drop {
     ghost answers: { Self → Answers } = { λ _. untold };
 
     /// Takes a command. A reported list has grown by it, or is no longer reported. A board that
-    /// reports its answer takes the command exactly if that is the answer, and its later answers stay as
-    /// they were.
+    /// reports its answer takes the command exactly if that answer says so, and its later answers
+    /// stay as they were.
     ///
     /// # Errors
     ///

@@ -143,7 +143,7 @@ impl Coils {
         Some(Command::Disable { coil })
     }
 
-    /// The lowest coil that is on at the moment `now`, if one is: by a pulse or since it is held.
+    /// The lowest coil that is on at the moment `now`, by a pulse or a hold, if there is one.
     pub fn next_on(&self, now: u64) -> Option<CoilId>
         ensures next { result ≡ next_on now self.now }
         ensures within { IfSome result (λ c. c.0 < length self.now) }

@@ -22,7 +22,7 @@ pub enum Answer {
     Skipped,
 }
 
-/// What fills unused places: coil 0 is off.
+/// A disable of coil 0, which fills the unused places of an array.
 impl Default for Command {
     ghost use Rattle.std.specs.Prelude.{◌≡◌};
 

@@ -13,8 +13,8 @@ const ON: u16 = 0;
 /// The list of a flipper that goes off.
 const OFF: u16 = 1;
 
-/// A flipper: while it is enabled its switch puts it on. It goes off with its switch, and when it is
-/// disabled.
+/// A flipper: while it is enabled its switch puts it on. It goes off when its switch becomes inactive,
+/// and when it is disabled.
 #[derive(Drop)]
 pub struct Flipper {
     row: DeviceRow,

@@ -17,8 +17,8 @@ use plan_tables::{
     StepSettings, TimerSettings,
 };
 
-/// What a call of a device can answer, whatever the device's state: most of a shot that is hit, which
-/// answers nothing or, in each of 16 states, completes its group or not.
+/// What a call of a device can answer, whatever the device's state. A hit of a shot has most outcomes:
+/// nothing, or in each of 16 states a hit that completes its group, or one that does not.
 pub type Outcomes = ArrayVec<Outcome, 33>;
 
 /// What a call of a device of these settings can answer.

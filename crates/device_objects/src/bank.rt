@@ -9,7 +9,7 @@ ghost use Rattle.device_objects.specs.Bank.{group_complete, group_hit, hit_lists
 use crate::device::Outcome;
 use plan_tables::BankSettings;
 
-/// The next state: after the last comes the first where the profile loops, and else it stays.
+/// The next state. After the last one comes the first if the profile loops. If not, the last one stays.
 pub fn next_state(bank: &BankSettings, state: u8) -> u8
     ensures { result ≡ next_state bank.now state }
 {

@@ -46,7 +46,7 @@ pub fn arms_later_moments()
     ensures { ArmsLaterMoments }
 {}
 
-/// At first nothing of a device is due, nor when its mode has stopped.
+/// Nothing of a device is due at first, and nothing after its mode has stopped.
 ///
 /// It does nothing: its contract is the law, over all steps.
 pub fn nothing_is_due()

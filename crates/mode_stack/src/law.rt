@@ -2,7 +2,7 @@
 
 ghost use Rattle.mode_stack.specs.Modes.{StartingKeepsWhoRuns};
 
-/// The law of `start` and of `stop`: no mode begins or ceases to run by them, so that what handles
+/// The law of `start` and of `stop`: neither makes a mode begin to run, or cease to run. So what handles
 /// an event stays the same. It holds for all states, and whether a game goes on or not.
 ///
 /// It does nothing: its contract is the law, over the steps that the calls take.

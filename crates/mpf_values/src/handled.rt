@@ -36,7 +36,7 @@ impl Comparison {
     }
 }
 
-/// That a variable of the current player compares so with a number.
+/// A comparison of a variable of the current player with a number.
 #[derive(Clone, Copy)]
 pub struct Condition<'a> {
     /// The name of the variable.

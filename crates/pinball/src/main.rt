@@ -57,7 +57,7 @@ fn asked<R: Env + AllocGlobal>(rt: &R) -> Result<Ask, AskFault> {
     }
 }
 
-/// Does what is asked. What is printed is buffered, and has gone out where this answers a verdict.
+/// Does what is asked. Output is buffered. It has been written out if this answers a verdict.
 fn answer<R: Files + Input + Print + AllocGlobal>(rt: &R, ask: Ask) -> Result<Verdict, Failure> {
     let Ok(mut writer) = BufWriter::new(rt.alloc(), io::writer(rt)) else {
         return Err(Failure::from(ShellFault::NoMemory));

@@ -9,7 +9,7 @@ use pin_rig::StepFault;
 /// Why a line of a log is not played.
 #[derive(Clone, Copy)]
 pub enum Refusal {
-    /// What it says is no stimulus that may come.
+    /// It asks for a stimulus that may not come.
     Step(StepFault),
     /// It is no line of a log.
     BadLine,

@@ -141,9 +141,9 @@ pub enum Settings {
     Sequence(StepSettings),
     Timer(TimerSettings),
     Bank(BankSettings),
-    /// A flipper. What one flipper does, and another does not, is in their effect lists.
+    /// A flipper. Its effect lists say what it does with its coils.
     Flipper,
-    /// An autofire coil. Which coil it is, is in its effect list.
+    /// An autofire coil. Its effect list says which coil it pulses.
     Autofire,
     BallDevice(BallSettings),
 }

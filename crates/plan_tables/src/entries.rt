@@ -59,7 +59,7 @@ pub enum VariableAction {
     Set,
 }
 
-/// That a variable of the current player compares so with a number.
+/// A comparison of a variable of the current player with a number.
 #[derive(Clone, Copy, Debug)]
 pub struct Condition {
     pub variable: VariableId,

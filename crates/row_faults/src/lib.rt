@@ -1,6 +1,6 @@
 //! What is wrong with the rows of a configuration.
 //!
-//! No plan is needed for that: each fault is one of a name or a number where it is written.
+//! No plan is needed for that: each fault is about a name or a number, at the place where it is written.
 #![tactic(auto)]
 
 mod adding;
