@@ -3,15 +3,16 @@
 use crate::cases::{add, wrong_rows};
 use crate::steps::input_of;
 use arrayvec::ArrayVec;
-use coil_guard::{Board, Command, FuseBoard, Taken};
+use coil_guard::{FuseBoard, Taken};
 use coil_rules::{Autofire, Flipper};
 use config_checker::{Checked, check};
 use device_objects::Device;
 use mpf_config::Config;
-use pin_rig::{Input, Rig, ShutReport, StepFault};
-use plan_tables::CoilId;
+use pin_rig::{Input, Rig, StepFault};
+use plan_tables::DeviceRow;
 use std::alloc::{AllocError, Global};
 use std::cell::RefCell;
+use std::fmt::Debug;
 use std::rc::Rc;
 use std::test::Fail;
 
@@ -42,148 +43,221 @@ impl Trial {
     }
 }
 
-/// Adds what the board is to take at the end of a run, after so many commands, where these coils are
-/// to be put off. Then adds how many of these it takes, and how many not, if there is a report.
-fn add_end(out: &mut String, trial: Trial, coils: &str, count: u64) -> Result<(), AllocError> {
-    let mut number = count;
-    let mut faults = 0u16;
-    for word in coils.split_whitespace() {
-        number = number.saturating_add(1);
-        if trial.takes(number) {
-            let coil = CoilId(word.parse::<u16>().unwrap_or(u16::MAX));
-            add(out, &Command::Disable { coil })?;
+/// A text that is written piece by piece. Where memory is out a piece is missing, and the text is lost: so
+/// what writes needs no `?`, which is slow to prove.
+#[derive(Drop)]
+struct Pen {
+    text: String,
+    is_lost: bool,
+}
+
+impl Pen {
+    fn new(alloc: Global) -> Pen {
+        Pen {
+            text: String::new(alloc),
+            is_lost: false,
+        }
+    }
+
+    /// Adds how a value is shown.
+    fn add<T: Debug>(&mut self, value: &T) {
+        self.is_lost = add(&mut self.text, value).is_err() || self.is_lost;
+    }
+
+    /// Adds a text of three parts.
+    fn put(&mut self, before: &str, middle: &str, after: &str) {
+        let written = write!(self.text, "{before}{middle}{after} ");
+        self.is_lost = written.is_err() || self.is_lost;
+    }
+}
+
+/// What a board is to take of the commands that it is sent.
+#[derive(Drop)]
+struct Wanted {
+    trial: Trial,
+    pen: Pen,
+    sent: u64,
+    faults: u16,
+}
+
+impl Wanted {
+    /// A command is sent, of which three parts of its text are given. Gives whether the board takes it.
+    fn send(&mut self, before: &str, middle: &str, after: &str) -> bool {
+        self.sent = self.sent.saturating_add(1);
+        let takes = self.trial.takes(self.sent);
+        if takes {
+            self.pen.put(before, middle, after);
         } else {
-            faults = faults.saturating_add(1);
+            self.faults = self.faults.saturating_add(1);
+        }
+        takes
+    }
+
+    /// Follows a course: each command with the coils that are to be put off if it is not taken, and `=`
+    /// before each step, and `.` at the end, with those that are on then. Gives the coils to put off.
+    fn follow<'c>(&mut self, course: &'c str) -> &'c str {
+        let mut steps = 0u32;
+        for item in course.split(';') {
+            let (command, coils) = item.split_once('/').unwrap_or((item, ""));
+            let is_step = command == "=";
+            steps = steps.saturating_add(u32::from(is_step));
+            let goes_on = if is_step {
+                steps <= self.trial.steps
+            } else {
+                command != "." && self.send(command, "", "")
+            };
+            if !goes_on {
+                return coils;
+            }
+        }
+        ""
+    }
+
+    /// Puts these coils off. Then adds how many of these commands the board takes, and how many not, if
+    /// there is a report.
+    fn end(&mut self, coils: &str) {
+        let before = self.sent;
+        self.faults = 0;
+        for coil in coils.split_whitespace() {
+            self.send("Disable { coil: CoilId(", coil, ") }");
+        }
+        if !self.trial.dropped {
+            let sent = self.sent.saturating_sub(before);
+            let taken = sent.saturating_sub(u64::from(self.faults));
+            self.pen.add(&(taken, self.faults));
         }
     }
-    if trial.dropped {
-        return Ok(());
-    }
-    let taken = number.saturating_sub(count.saturating_add(u64::from(faults)));
-    add(out, &(taken, faults))
 }
 
-/// Adds what the board is to take and the report, by a course: each command with the coils that are
-/// to be put off if it is not taken, and `=` before each step, and `.` at the end, with those that
-/// are on then.
-fn add_wanted(out: &mut String, trial: Trial, course: &str) -> Result<(), AllocError> {
-    let mut steps = 0u32;
-    let mut number = 0u64;
-    for item in course.split(';') {
-        let (command, coils) = item.split_once('/').unwrap_or((item, ""));
-        if command == "." || (command == "=" && steps == trial.steps) {
-            return add_end(out, trial, coils, number);
-        } else if command == "=" {
-            steps = steps.saturating_add(1);
-            continue;
-        }
-        number = number.saturating_add(1);
-        if !trial.takes(number) {
-            return add_end(out, trial, coils, number);
-        }
-        out.push_str(command)?;
-        out.push(' ')?;
-    }
-    Ok(())
+/// What the board is to take and the report, by a course.
+fn wanted_in(alloc: Global, trial: Trial, course: &str) -> Pen {
+    let mut wanted = Wanted {
+        trial,
+        pen: Pen::new(alloc),
+        sent: 0,
+        faults: 0,
+    };
+    let coils = wanted.follow(course);
+    wanted.end(coils);
+    wanted.pen
 }
 
-/// A device for each row of a plan of flippers and autofire coils.
+/// A device of a row of a plan of flippers and autofire coils.
+fn device_of(alloc: Global, row: &DeviceRow) -> Result<Option<Box<dyn Device>>, AllocError> {
+    if let Some(flipper) = Flipper::new(row) {
+        return Ok(Some(Box::new(alloc, flipper)?));
+    }
+    if let Some(autofire) = Autofire::new(row) {
+        return Ok(Some(Box::new(alloc, autofire)?));
+    }
+    Ok(None)
+}
+
 fn devices_of(alloc: Global, checked: &Checked) -> Result<Vec<Box<dyn Device>>, AllocError> {
     let mut devices: Vec<Box<dyn Device>> = Vec::new(alloc);
     for row in checked.plan().rows() {
-        if let Some(flipper) = Flipper::new(row) {
-            devices.push(Box::new(alloc, flipper)?)?;
-        } else if let Some(autofire) = Autofire::new(row) {
-            devices.push(Box::new(alloc, autofire)?)?;
+        if let Some(device) = device_of(alloc, row)? {
+            devices.push(device)?;
         }
     }
     Ok(devices)
+}
+
+/// Steps, and gives why not.
+fn fault_of<D: Device>(rig: &mut Rig<'_, D, FuseBoard>, input: Input) -> Option<StepFault> {
+    rig.step(input).err()
 }
 
 /// Steps through the inputs, so many of them, or up to a fault of the board. Gives whether the board
 /// alone ends it, and the rig is halted then.
 fn is_run<D: Device>(rig: &mut Rig<'_, D, FuseBoard>, inputs: &str, count: u32) -> bool {
     for text in inputs.split(',').take(count as usize) {
-        match rig.step(input_of(text)) {
-            Ok(_) => {}
-            Err(StepFault::BoardFault) => {
-                return matches!(rig.step(Input::Alarm), Err(StepFault::Halted));
-            }
-            Err(_) => return false,
+        if let Some(fault) = fault_of(rig, input_of(text)) {
+            return matches!(fault, StepFault::BoardFault)
+                && matches!(fault_of(rig, Input::Alarm), Some(StepFault::Halted));
         }
     }
     true
 }
 
 /// Adds the commands that a board took.
-fn add_taken(out: &mut String, taken: &Taken) -> Result<(), AllocError> {
+fn add_taken(pen: &mut Pen, taken: &Taken) {
     let Ok(taken) = taken.try_borrow() else {
-        return out.push_str("a list that is lent");
+        return pen.put("a list that is lent", "", "");
     };
     for command in taken.iter() {
-        add(out, command)?;
+        pen.add(command);
     }
-    Ok(())
 }
 
-/// Ends a rig: drops it, or shuts it down. Gives the report, if there is one.
-pub(crate) fn ended<D: Device, B: Board>(rig: Rig<'_, D, B>, dropped: bool) -> Option<ShutReport> {
-    if dropped {
-        return None;
+/// How a rig ends.
+enum End {
+    Refused,
+    Dropped,
+    /// It is shut down: how many coils are put off then, and how many commands fault.
+    Shut(usize, u16),
+}
+
+/// Makes a rig, has its run, and ends it. It is here alone that a rig is no reference: such a large
+/// value is slow to prove.
+fn end_of<D: Device>(
+    alloc: Global,
+    checked: &Checked,
+    devices: Vec<D>,
+    board: FuseBoard,
+    (trial, inputs): (Trial, &str),
+) -> End {
+    let Ok(mut rig) = Rig::new(alloc, checked, devices, board) else {
+        return End::Refused;
+    };
+    if !is_run(&mut rig, inputs, trial.steps) {
+        return End::Refused;
+    }
+    if trial.dropped {
+        return End::Dropped;
     }
     let (_board, report) = rig.shut_down();
-    Some(report)
+    End::Shut(report.off.len(), report.faults)
 }
 
-/// Adds what the board of a rig takes in a run, and the report where the rig is not dropped.
-fn add_run<D: Device>(
-    out: &mut String,
-    mut rig: Rig<'_, D, FuseBoard>,
-    (trial, inputs): (Trial, &str),
-    taken: &Taken,
-) -> Result<(), AllocError> {
-    if !is_run(&mut rig, inputs, trial.steps) {
-        return out.push_str("another refusal");
-    }
-    let report = ended(rig, trial.dropped);
-    add_taken(out, taken)?;
-    match report {
-        Some(report) => add(out, &(report.off.len(), report.faults)),
-        None => Ok(()),
-    }
-}
-
-/// Adds what is found in a trial with these devices.
-fn add_found<D: Device>(
+/// What the board takes, and the report where the rig is not dropped.
+fn found_with<D: Device>(
     alloc: Global,
-    out: &mut String,
     checked: &Checked,
     devices: Vec<D>,
     (trial, inputs): (Trial, &str),
-) -> Result<(), AllocError> {
-    let taken: Taken = Rc::new(alloc, RefCell::new(ArrayVec::new()))?;
+    taken: &Taken,
+) -> Result<Pen, AllocError> {
     let board = FuseBoard::new(trial.first, trial.onwards, taken.clone()?);
-    match Rig::new(alloc, checked, devices, board) {
-        Ok(rig) => add_run(out, rig, (trial, inputs), &taken),
-        Err(_) => out.push_str("no rig"),
+    let end = end_of(alloc, checked, devices, board, (trial, inputs));
+    let mut pen = Pen::new(alloc);
+    add_taken(&mut pen, taken);
+    match end {
+        End::Refused => pen.put("another refusal", "", ""),
+        End::Dropped => {}
+        End::Shut(off, faults) => pen.add(&(off, faults)),
     }
+    Ok(pen)
 }
 
-/// Adds how a run is other than it is to be.
-fn compare(
+/// What is found in a trial.
+fn found_in(
     alloc: Global,
-    out: &mut String,
     checked: &Checked,
-    trial: Trial,
-    (inputs, course): (&str, &str),
-) -> Result<(), AllocError> {
-    let mut found = String::new(alloc);
+    (trial, inputs): (Trial, &str),
+) -> Result<Pen, AllocError> {
+    let taken: Taken = Rc::new(alloc, RefCell::new(ArrayVec::new()))?;
     let devices = devices_of(alloc, checked)?;
-    add_found(alloc, &mut found, checked, devices, (trial, inputs))?;
-    let mut wanted = String::new(alloc);
-    add_wanted(&mut wanted, trial, course)?;
-    if found.as_str() != wanted.as_str() {
-        add(out, &(found, wanted))?;
+    found_with(alloc, checked, devices, (trial, inputs), &taken)
+}
+
+/// Adds what is found where it is other than what is wanted.
+fn add_other(out: &mut String, found: &Pen, wanted: &Pen) -> Result<(), AllocError> {
+    if found.is_lost || wanted.is_lost {
+        return out.push_str("a text that is lost");
+    }
+    if found.text.as_str() != wanted.text.as_str() {
+        return add(out, &(found.text.as_str(), wanted.text.as_str()));
     }
     Ok(())
 }
@@ -194,10 +268,12 @@ fn compare_all(
     out: &mut String,
     checked: &Checked,
     count: u32,
-    texts: (&str, &str),
+    (inputs, course): (&str, &str),
 ) -> Result<(), AllocError> {
     for number in 0..count {
-        compare(alloc, out, checked, Trial::new(number), texts)?;
+        let trial = Trial::new(number);
+        let found = found_in(alloc, checked, (trial, inputs))?;
+        add_other(out, &found, &wanted_in(alloc, trial, course))?;
     }
     write!(out, "{count} runs")
 }

@@ -1,6 +1,5 @@
 //! Boxes that count how often they are stopped and dropped, and the rigs that they are handed to.
 
-use crate::boards::ended;
 use crate::cases::{add, wrong_rows};
 use coil_guard::MemoryBoard;
 use config_checker::{Checked, check};
@@ -115,6 +114,13 @@ fn add_counts(out: &mut String, all: &[Rc<Counts>]) -> Result<(), AllocError> {
     Ok(())
 }
 
+/// Ends a rig: drops it, or shuts it down.
+fn end<D: Device>(rig: Rig<'_, D, MemoryBoard>, dropped: bool) {
+    if !dropped {
+        let _ = rig.shut_down();
+    }
+}
+
 /// Adds whether the boxes make a rig, and what has become of them while it is there. Then the rig
 /// ends, by a drop or not.
 fn add_rig<D: Device>(
@@ -128,7 +134,7 @@ fn add_rig<D: Device>(
         Ok(rig) => {
             add(out, &"a rig")?;
             add_counts(out, all)?;
-            let _ = ended(rig, dropped);
+            end(rig, dropped);
             Ok(())
         }
         Err(fault) => add(out, &fault),
