@@ -1,0 +1,19 @@
+"""Names that are near a mistyped one."""
+import difflib
+from typing import Iterable
+
+
+def nearest(name: str, names: Iterable[str]) -> str:
+    """The nearest of the names, or none where no one is near."""
+    others = sorted({*names} - {name})
+    lower: dict[str, str] = {}
+    for other in others:
+        lower.setdefault(other.lower(), other)
+    if name.lower() in lower:
+        return lower[name.lower()]
+    for end in ("s", "_"):
+        for near in (name.lower() + end, name.lower().removesuffix(end)):
+            if near in lower:
+                return lower[near]
+    found = difflib.get_close_matches(name.lower(), lower, n=1, cutoff=0.75)
+    return lower[found[0]] if found and len(name) > 2 else ""
