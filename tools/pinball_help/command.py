@@ -5,8 +5,12 @@ import sys
 from pathlib import Path
 
 from . import errors, program
-from .findings import as_json, shown
+from .answers import complaint_of
+from .findings import as_json, cure_of, finding_of, shown
 from .program import NoAnswer, Program
+from .scenery import Scenery
+from .texts import read_texts
+from .ways import Cure
 
 NO_PROOF = "These are hints, and nothing here is proved. The answer that counts is that of `pinball check`."
 
@@ -25,6 +29,25 @@ def write_errors(asked: argparse.Namespace) -> int:
     return 1 if found else 0
 
 
+def write_explain(asked: argparse.Namespace) -> int:
+    """Says what each line on standard input means. Without DIR it has no texts to look into."""
+    texts = read_texts(Path(asked.dir)) if asked.dir else {}
+    scene = Scenery(texts)
+    found = []
+    for line in sys.stdin.read().split("\n"):
+        if complaint := complaint_of(line):
+            cure = cure_of(scene, complaint) if texts else Cure()
+            way = next(iter(cure.ways), None)
+            found.append(finding_of(scene, complaint, cure, way, texts))
+        elif line == "yes":
+            print("yes: the machine is accepted. What that promises is in docs/promises.md.\n")
+    if asked.json:
+        print(json.dumps([as_json(it) for it in found], indent=2))
+    for finding in found if not asked.json else []:
+        print("\n".join(shown(finding)) + "\n")
+    return 0
+
+
 def find(asked: argparse.Namespace) -> Program:
     tool = program.find(asked.program)
     program.report(tool)
@@ -39,6 +62,10 @@ def parser() -> argparse.ArgumentParser:
     one.add_argument("dir", metavar="DIR")
     one.add_argument("--json", action="store_true")
     one.set_defaults(run=write_errors)
+    one = commands.add_parser("explain", help="a filter: what each line of an answer means, and what to do")
+    one.add_argument("dir", metavar="DIR", nargs="?", help="the folder of the machine that the answer is about")
+    one.add_argument("--json", action="store_true")
+    one.set_defaults(run=write_explain)
     return top
 
 

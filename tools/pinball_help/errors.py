@@ -5,12 +5,11 @@ import time
 from dataclasses import dataclass, field, replace
 from pathlib import Path
 
-from . import cycles
 from .answers import Answer, Complaint
 from .findings import Finding, cure_of, finding_of
 from .mending import commented
 from .program import Program
-from .scenery import Scenery, section_of
+from .scenery import Scenery
 from .texts import Edit, Texts, edited, read_texts, write_texts
 from .ways import Cure, Way
 
@@ -83,8 +82,6 @@ class Search:
         return (order, PHASES.get(complaint.name, 3), complaint.line)
 
     def cure(self, complaint: Complaint) -> Cure:
-        if complaint.name == "Cycle":
-            return cycles.cure_of(self.scene, complaint)
         cure = cure_of(self.scene, complaint)
         if self.leave_out and cure.out:
             outs = (Way(cure.out),)
@@ -205,6 +202,3 @@ def overlap(one: Edit, other: Edit) -> bool:
 
 def search(program: Program, folder: Path, leave_out: bool = False) -> Report:
     return Search(program, folder, leave_out).run()
-
-
-__all__ = ["Report", "search", "section_of"]

@@ -2,11 +2,21 @@
 import re
 from dataclasses import asdict, dataclass
 
-from . import messages, ways_of_errors, ways_of_faults, ways_of_yaml
+from . import messages, ways_of_errors, ways_of_faults, ways_of_wholes, ways_of_yaml
 from .answers import Complaint
 from .scenery import Scenery
-from .texts import Edit, Texts
+from .texts import Edit, Line, Texts
 from .ways import Cure, Way
+
+
+@dataclass(frozen=True)
+class Change:
+    """A line of a file becomes another one, or nothing; or, if `is_new`, a line comes after it."""
+
+    text: str
+    line: int
+    new: str
+    is_new: bool
 
 
 @dataclass(frozen=True)
@@ -22,20 +32,20 @@ class Finding:
     near: str
     why: str
     write: str
-    becomes: tuple[tuple[int, str], ...]  # lines of the file, as a copy has them that is mended so
+    changes: tuple[Change, ...]  # what mends it, in the user's file
     part: str
     follows: bool = False  # from another finding, or from what a copy leaves out
 
 
 def cure_of(scene: Scenery, complaint: Complaint) -> Cure:
-    if complaint.text and complaint.text not in scene.texts:
+    if complaint.text not in ("", "-") and complaint.text not in scene.texts:
         return Cure()
     if complaint.name == "Yaml":
         return ways_of_yaml.cure_of(scene, complaint.text, complaint.line - 1, complaint.key)
     ways = {**ways_of_faults.WAYS, **ways_of_errors.WAYS}
-    if complaint.message == "fault 7 Limit" or complaint.name not in ways:
-        return Cure()
-    return ways[complaint.name](scene, complaint)
+    if complaint.message in ways_of_wholes.WAYS:
+        return ways_of_wholes.WAYS[complaint.message](scene, complaint)
+    return ways[complaint.name](scene, complaint) if complaint.name in ways and complaint.line else Cure()
 
 
 def words_of(complaint: Complaint) -> tuple[str, str]:
@@ -46,15 +56,35 @@ def words_of(complaint: Complaint) -> tuple[str, str]:
     return message.says.format(*words, **fields), message.cure.format(*words, **fields)
 
 
-def becomes(scene: Scenery, edits: tuple[Edit, ...]) -> tuple[tuple[int, str], ...]:
-    """The lines that the edits change, with their numbers; an empty line is one that is taken out."""
+def changes_of(scene: Scenery, edits: tuple[Edit, ...]) -> tuple[Change, ...]:
+    """The lines of the user's files that the edits change."""
     found = []
     for edit in edits:
-        numbers = [scene.number(edit.text, at) for at in range(edit.first, edit.last)]
-        numbers += [0] * (len(edit.lines) - len(numbers))
-        old = [scene.texts[edit.text][at].text for at in range(edit.first, edit.last)] + [""] * len(edit.lines)
-        found += [(number, new.rstrip("\r")) for number, new, was in zip(numbers, edit.lines, old) if new != was]
+        before = max((scene.number(edit.text, at) for at in range(edit.first)), default=0)
+        for place, new in enumerate(edit.lines):
+            at = edit.first + place
+            if at < edit.last:
+                before = scene.number(edit.text, at) or before
+                if scene.texts[edit.text][at].text != new:
+                    found.append(Change(edit.text, before, new.rstrip("\r"), False))
+            else:
+                found.append(Change(edit.text, before, new.rstrip("\r"), True))
     return tuple(found)
+
+
+def changed(texts: Texts, changes: tuple[Change, ...]) -> Texts:
+    """The texts after these changes. Lines are known by their numbers."""
+    result = {name: list(lines) for name, lines in texts.items()}
+    for change in changes:
+        lines = result[change.text]
+        at = max((place for place, line in enumerate(lines) if line.number == change.line), default=-1)
+        if not change.is_new:
+            lines[at] = Line(change.line, change.new)
+        else:
+            while at + 1 < len(lines) and lines[at + 1].number == 0:
+                at += 1
+            lines.insert(at + 1, Line(0, change.new))
+    return result
 
 
 def with_number(said: str, complaint: Complaint, number: int) -> str:
@@ -73,9 +103,9 @@ def finding_of(scene: Scenery, complaint: Complaint, cure: Cure, way: Way | None
     start = min(start, len(source))
     way = way or Way(())
     return Finding(
-        with_number(complaint.said, complaint, number), complaint.message, text, number, start + 1,
+        complaint.said if cure.at else with_number(complaint.said, complaint, number), complaint.message, text, number, start + 1,
         max(1, min(end, len(source)) - start), source, cure.says if cure.whole else (says, *cure.says), way.near, way.why, way.write or general,
-        becomes(scene, way.edits), messages.link(complaint.message),
+        changes_of(scene, way.edits), messages.link(complaint.message),
     )
 
 
@@ -104,13 +134,14 @@ def shown(finding: Finding) -> list[str]:
     lines += [f"  Near it: `{finding.near}`."] if finding.near else []
     lines += [f"  {finding.why}"] if finding.why else []
     lines += [f"  To do: {finding.write}"]
-    lines += [f"  {number or '':>5} + {printable(it)}" for number, it in finding.becomes[:4] if it.strip()]
+    lines += [f"  {'' if it.is_new else it.line:>5} + {printable(it.new)}" for it in finding.changes if it.new.strip()][:4]
+    gone = [it.line for it in finding.changes if not it.new.strip()]
+    if gone and len(gone) == len(finding.changes):
+        lines.append(f"  {gone[0]:>5} - (taken out{f', up to line {gone[-1]}' if gone[1:] else ''})")
     lines += [f"  More: {finding.part}"]
     return lines
 
 
 def as_json(finding: Finding) -> dict:
-    """The finding as editors read it: also each line that is to become another one, or none."""
-    found = asdict(finding)
-    found["becomes"] = [{"line": number, "text": text} for number, text in finding.becomes]
-    return found
+    """The finding as editors read it."""
+    return asdict(finding)

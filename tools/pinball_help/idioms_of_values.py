@@ -66,7 +66,7 @@ IDIOMS = (
         ("keys",), "counters:\n  c:\n    count_events: a\n    reset_events: {e: 1s}",
     ),
     Idiom(
-        ANY, EVENTS + "|control_events", r"\{[^}]*(?:device|mode|settings|machine|players?)\b[^_}][^}]*\}",
+        ANY, EVENTS + "|control_events", r"\{[^}]*\b(?:device|mode|settings|machine|players?)\b[^}]*\}",
         "A condition compares a variable of the current player with a whole number, and nothing else.",
         "Keep what it asks for in a variable: `{current_player.x == 1}`.",
         ("sub", r"\{[^}]*\}", ""), "shots:\n  s: {hit_events: 'a{mode.base.active}'}",

@@ -1,11 +1,13 @@
 """Names that are near a mistyped one."""
 import difflib
+import re
 from typing import Iterable
 
 
 def nearest(name: str, names: Iterable[str]) -> str:
-    """The nearest of the names, or none where no one is near."""
-    others = sorted({*names} - {name})
+    """The nearest of the names, or none where no one is near. A name with another number is another name."""
+    letters = re.sub(r"\d", "", name)
+    others = sorted(it for it in {*names} - {name} if re.sub(r"\d", "", it) != letters)
     lower: dict[str, str] = {}
     for other in others:
         lower.setdefault(other.lower(), other)

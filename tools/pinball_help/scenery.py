@@ -39,7 +39,7 @@ class Scenery:
     @cached_property
     def read(self) -> list[str]:
         """The texts that the program reads, in its order."""
-        return [MACHINE, *(name for name in map(mode_text, self.modes) if name in self.texts)]
+        return [name for name in (MACHINE, *map(mode_text, self.modes)) if name in self.texts]
 
     def owner(self, text: str) -> str:
         found = re.match(r"modes/([^/]+)/", text)

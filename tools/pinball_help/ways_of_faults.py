@@ -5,7 +5,7 @@ from . import values
 from .answers import Complaint
 from .mending import add, give, replace, take_item_out, take_out
 from .near import nearest
-from .outline import Entry
+from .outline import Entry, entries
 from .scenery import Place, Scenery, section_of
 from .ways import Cure, Way
 
@@ -67,7 +67,8 @@ def of_name(scene: Scenery, complaint: Complaint) -> Cure:
     if near:
         edit = replace(scene.texts, place.text, line, *mark, near)
         return Cure(says, True, (Way((edit,), f"Write `{near}`.", near=near), Way(out)), out, mark)
-    where = "the text of the machine" if section in ("coils", "switches", "ball_devices") else "the same text"
+    homes = {"shots": "the same text", "shot_profiles": "any text"}
+    where = homes.get(section, "the text of the machine")
     return Cure(says, True, (Way(out, f"Define it below `{section}` in {where}, or take its use out."),), out, mark)
 
 
@@ -145,7 +146,8 @@ def over(scene: Scenery, complaint: Complaint, used: tuple[str, str], limit: tup
     out = (take_out(scene.texts, complaint.text, setting if own and setting else entry),)
     write = f"Write `{used[0]}: {limit[1]}` or less. Raise the limit only if the coil bears it."
     if setting:
-        return Cure(says, False, (Way((give(scene.texts, complaint.text, setting, limit[1]),), write), Way(out)), out, (setting.start, setting.value.end))
+        marked = (setting.start, setting.value.end) if setting.line == entry.line else (entry.start, entry.end)
+        return Cure(says, False, (Way((give(scene.texts, complaint.text, setting, limit[1]),), write), Way(out)), out, marked)
     edit = add(scene.texts, complaint.text, entry, f"{used[0]}: {limit[1]}")
     return Cure(says, False, (Way((edit,), write), Way(out)), out, (entry.start, entry.end))
 
@@ -228,7 +230,7 @@ def of_route(scene: Scenery, complaint: Complaint) -> Cure:
     if entry is None:
         return Cure()
     out = (take_out(scene.texts, complaint.text, entry),)
-    found = [*switches_at_fault(scene, complaint.text, entry), *no_way_out(entry), *wrong_targets(scene, complaint.text, entry)]
+    found = [*switches_at_fault(scene, complaint.text, entry), *no_way_out(scene, complaint.text, entry), *wrong_targets(scene, complaint.text, entry)]
     edits = tuple(edit for _, _, edit in found if edit)
     write = " ".join(dict.fromkeys(write for _, write, _ in found)) or "See the causes in docs/faults.md."
     ways = (Way(edits, write),) if edits and len({edit.first for edit in edits}) == len(edits) else ()
@@ -256,15 +258,26 @@ def switches_at_fault(scene: Scenery, text: str, entry: Entry) -> list:
     return result
 
 
-def no_way_out(entry: Entry) -> list:
+def free_coil(scene: Scenery, device: str) -> str:
+    """The coil that no entry uses and whose name has a word of the device's, if there is one alone."""
+    used = {it.text for name in scene.read for entry in entries(scene.outlines[name]) for it in entry.value.texts()}
+    used |= {coil.key for _, entry in scene.entries_of("coil_player") for coil in entry.value.entries or []}
+    words = {*re.findall(r"[a-z]{3,}", device.lower())}
+    free = [name for name in scene.defined("coils") if name not in used and words & {*re.findall(r"[a-z]{3,}", name.lower())}]
+    return free[0] if len(free) == 1 else ""
+
+
+def no_way_out(scene: Scenery, text: str, entry: Entry) -> list:
     by_hand = entry.value.at("mechanical_eject")
     if entry.value.at("eject_coil"):
         return []
+    coil = free_coil(scene, entry.key)
+    edit = add(scene.texts, text, entry, f"eject_coil: {coil}") if coil else None
     if is_tagged(entry, "trough"):
-        return [("It has the tag `trough`, and no coil.", "Write its `eject_coil`: a trough ejects balls one by one.", None)]
+        return [("It has the tag `trough`, and no coil.", "Write its `eject_coil`: a trough ejects balls one by one.", edit)]
     if by_hand and values.is_yes(by_hand.text):
         return []
-    return [("Nothing lets its balls out.", "Write its `eject_coil`, or `mechanical_eject: yes` if they just roll out.", None)]
+    return [("Nothing lets its balls out.", "Write its `eject_coil`, or `mechanical_eject: yes` if they just roll out.", edit)]
 
 
 def is_tagged(entry: Entry, tag: str) -> bool:
