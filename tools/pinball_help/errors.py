@@ -7,7 +7,7 @@ from pathlib import Path
 
 from .answers import Answer, Complaint
 from .findings import Finding, cure_of, finding_of
-from .mending import commented
+from .mending import commented, take_out
 from .program import Program
 from .scenery import Scenery
 from .texts import Edit, Texts, edited, read_texts, write_texts
@@ -16,6 +16,7 @@ from .ways import Cure, Way
 ROUNDS = 2000
 FAR = (1_000_000, 0, 0)
 PHASES = {"Bundle": 0, "Version": 1, "Yaml": 2}
+LAST_PHASE = 3
 SECTIONS_WITH_NAMES = ("switches", "coils", "ball_devices", "shots", "shot_profiles", "shot_groups")
 
 
@@ -75,11 +76,12 @@ class Search:
             return self.program.check(Path(room))
 
     def place(self, complaint: Complaint) -> tuple:
-        """How far a complaint is: the text, the part of the judging, the line."""
+        """How far a complaint is: the text, the part of the judging, and of a fault of YAML the line."""
         if complaint.message.startswith("fault"):
             return FAR
         order = self.scene.read.index(complaint.text) if complaint.text in self.scene.read else -1
-        return (order, PHASES.get(complaint.name, 3), complaint.line)
+        phase = PHASES.get(complaint.name, LAST_PHASE)
+        return (order, phase, complaint.line if phase < LAST_PHASE else 0)
 
     def cure(self, complaint: Complaint) -> Cure:
         cure = cure_of(self.scene, complaint)
@@ -96,7 +98,7 @@ class Search:
         """Mends one error or fault by the way after which the answer is furthest on, and gives that answer."""
         cure, here = self.cure(complaint), self.place(complaint)
         best: tuple[tuple, Way, Answer] | None = None
-        for way in cure.ways:
+        for way in (*cure.ways, *self.last_ways(complaint)):
             if not way.edits:
                 continue
             answer = self.ask(edited(self.scene.texts, way.edits))
@@ -112,6 +114,12 @@ class Search:
             return None
         self.change(best[1].edits, complaint)
         return best[2]
+
+    def last_ways(self, complaint: Complaint) -> list[Way]:
+        """Where nothing else helps: takes the entry around a place out, and then the section."""
+        entry = self.scene.around(complaint.text, complaint.line - 1)
+        outer = [*entry.path, entry][:2][::-1] if entry else []
+        return [Way((take_out(self.scene.texts, complaint.text, it),)) for it in outer]
 
     def many(self, answer: Answer) -> Answer | None:
         """Mends all faults of entries that are at different lines."""

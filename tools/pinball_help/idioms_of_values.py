@@ -28,6 +28,7 @@ class Idiom:
 
 
 ANY = ".*"
+ENTRY = "(an entry of the section)"
 IDIOMS = (
     Idiom(
         "event_player", ANY, rf"\|\s*{TIME}",
@@ -115,7 +116,7 @@ IDIOMS = (
         ("sub", r"(:\s*-?\d+)\.\d+", r"\1"), "variable_player:\n  e:\n    score: 1.5",
     ),
     Idiom(
-        "switches|coils|flippers|autofire_coils", ANY, r"^$",
+        "switches|coils|flippers|autofire_coils", ENTRY, ANY,
         "Its settings are missing, or are below it as one text.",
         "Write its settings below it, deeper, each with a blank after the `:`.",
         ("out",), "switches:\n  s: yes",

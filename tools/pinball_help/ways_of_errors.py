@@ -4,7 +4,7 @@ import re
 from . import profile
 from .answers import Complaint
 from .idioms import SECTIONS, SETTINGS
-from .idioms_of_values import IDIOMS, Idiom
+from .idioms_of_values import ENTRY, IDIOMS, Idiom
 from .mending import add, blanks, block_end, give, line_of, rename, substitute, take_item_out, take_out
 from .near import nearest
 from .outline import Entry
@@ -135,8 +135,10 @@ def edits_of(scene: Scenery, text: str, entry: Entry, idiom: Idiom) -> tuple[Edi
 def idiom_of(scene: Scenery, text: str, entry: Entry) -> Idiom | None:
     section = section_of(entry) if entry.path else ""
     value = raw(scene.texts, text, entry)
+    own = len(entry.path) == 1 and section not in (*profile.PLAYERS, *profile.SINGLE)
     for idiom in IDIOMS:
-        if re.fullmatch(idiom.section, section) and re.fullmatch(idiom.setting, entry.key) and re.search(idiom.value, value):
+        fits = own if idiom.setting == ENTRY else re.fullmatch(idiom.setting, entry.key)
+        if fits and re.fullmatch(idiom.section, section) and re.search(idiom.value, value):
             return idiom
     return None
 
