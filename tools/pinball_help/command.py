@@ -2,9 +2,10 @@
 import argparse
 import json
 import sys
+from dataclasses import asdict
 from pathlib import Path
 
-from . import errors, program
+from . import errors, program, trace, unused
 from .answers import complaint_of
 from .findings import as_json, cure_of, finding_of, shown
 from .program import NoAnswer, Program
@@ -48,6 +49,29 @@ def write_explain(asked: argparse.Namespace) -> int:
     return 0
 
 
+def write_unused(asked: argparse.Namespace) -> int:
+    tool = find(asked)
+    answer = tool.check(Path(asked.dir))
+    if not answer.accepted:
+        print("The machine is refused, so it has no list of events: mend it first (pinball-help errors DIR).")
+        return 1
+    found = unused.unused(Scenery(read_texts(Path(asked.dir))), answer)
+    if asked.json:
+        print(json.dumps([asdict(it) for it in found], indent=2))
+        return 0
+    print("\n".join(unused.shown(found)) if found else "Nothing is unused.")
+    print(NO_PROOF)
+    return 0
+
+
+def write_trace(asked: argparse.Namespace) -> int:
+    start, end = trace.moment_of(asked.start), trace.moment_of(asked.end) if asked.end else None
+    wanted = trace.Wanted(asked.owner, asked.device, asked.event, start, end)
+    for line in trace.shown((it.rstrip("\n") for it in sys.stdin), wanted):
+        print(line)
+    return 0
+
+
 def find(asked: argparse.Namespace) -> Program:
     tool = program.find(asked.program)
     program.report(tool)
@@ -66,6 +90,17 @@ def parser() -> argparse.ArgumentParser:
     one.add_argument("dir", metavar="DIR", nargs="?", help="the folder of the machine that the answer is about")
     one.add_argument("--json", action="store_true")
     one.set_defaults(run=write_explain)
+    one = commands.add_parser("unused", help="what a machine has and nothing uses: events, switches, coils, shots, modes")
+    one.add_argument("dir", metavar="DIR")
+    one.add_argument("--json", action="store_true")
+    one.set_defaults(run=write_unused)
+    one = commands.add_parser("trace", help="a filter for what `pinball play` writes")
+    one.add_argument("--owner", default="", help="only what this mode does, or `machine`")
+    one.add_argument("--device", default="", help="only lines that name this switch, coil, counter, shot ..")
+    one.add_argument("--event", default="", metavar="PATTERN", help="only events that a regular expression finds")
+    one.add_argument("--from", dest="start", default="0", metavar="TIME", help="as 0:05.250, 5.25s or 5250")
+    one.add_argument("--to", dest="end", default="", metavar="TIME")
+    one.set_defaults(run=write_trace)
     return top
 
 
@@ -76,5 +111,9 @@ def main() -> int:
     except NoAnswer as error:
         print(f"pinball-help: {error}", file=sys.stderr)
         return 3
-    except BrokenPipeError:
-        return 0
+    except (OSError, ValueError) as error:
+        if isinstance(error, BrokenPipeError):
+            sys.stderr.close()  # (nobody reads on: Python would complain as it ends)
+            return 0
+        print(f"pinball-help: {error}", file=sys.stderr)
+        return 2

@@ -4,7 +4,7 @@ import re
 from typing import Iterable
 
 
-def nearest(name: str, names: Iterable[str]) -> str:
+def nearest(name: str, names: Iterable[str], at_least: float = 0.75) -> str:
     """The nearest of the names, or none where no one is near. A name with another number is another name."""
     letters = re.sub(r"\d", "", name)
     others = sorted(it for it in {*names} - {name} if re.sub(r"\d", "", it) != letters)
@@ -17,5 +17,5 @@ def nearest(name: str, names: Iterable[str]) -> str:
         for near in (name.lower() + end, name.lower().removesuffix(end)):
             if near in lower:
                 return lower[near]
-    found = difflib.get_close_matches(name.lower(), lower, n=1, cutoff=0.75)
+    found = difflib.get_close_matches(name.lower(), lower, n=1, cutoff=at_least)
     return lower[found[0]] if found and len(name) > 2 else ""
