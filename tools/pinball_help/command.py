@@ -5,12 +5,12 @@ import sys
 from dataclasses import asdict
 from pathlib import Path
 
-from . import errors, program, trace, unused
+from . import errors, picture, program, trace, unused
 from .answers import complaint_of
-from .findings import as_json, cure_of, finding_of, shown
+from .findings import Finding, as_json, cure_of, finding_of, shown
 from .program import NoAnswer, Program
 from .scenery import Scenery
-from .texts import read_texts
+from .texts import read_texts, write_texts
 from .ways import Cure
 
 NO_PROOF = "These are hints, and nothing here is proved. The answer that counts is that of `pinball check`."
@@ -18,16 +18,42 @@ NO_PROOF = "These are hints, and nothing here is proved. The answer that counts 
 
 def write_errors(asked: argparse.Namespace) -> int:
     tool = find(asked)
-    report = errors.search(tool, Path(asked.dir))
+    keep = Path(asked.keep) if asked.keep else None
+    if keep and keep.exists():
+        raise ValueError(f"{keep} is there already: give the name of a folder that is not")
+    report = errors.search(tool, Path(asked.dir), leave_out=keep is not None)
     found = [it for it in report.findings if not it.follows]
+    if keep:
+        write_texts(report.texts, keep)
     if asked.json:
         print(json.dumps([as_json(it) for it in found], indent=2))
         return 1 if found else 0
+    warning = kept_words(report, keep) if keep and found else ""
+    print(warning, end="\n" if warning else "")
     for number, finding in enumerate(found, 1):
         print(f"{number}. " + "\n".join(shown(finding)) + "\n")
-    print(f"{len(found)} to mend." if found else "Nothing to mend: the answer is yes.")
+    print(counted(report, found))
     print(NO_PROOF)
+    print(warning, end="")
     return 1 if found else 0
+
+
+def counted(report: errors.Report, found: list[Finding]) -> str:
+    follows = len(report.findings) - len(found)
+    if not found:
+        return "Nothing to mend: the answer is yes."
+    more = f" {follows} more follow from these." if follows else ""
+    if report.unsolved or not (report.answer and report.answer.accepted):
+        more += " There may be others that come after the last of these: mend it, and look again."
+    return f"{len(found)} to mend, in this order or any other.{more}"
+
+
+def kept_words(report: errors.Report, keep: Path) -> str:
+    """What the answer for a copy does not cover."""
+    count = len(report.findings)
+    answer = "yes" if report.answer and report.answer.accepted else "no"
+    return (f"!! {keep} IS NOT YOUR MACHINE: {count} places were refused, and are left out of it. `pinball check {keep}`\n"
+            f"!! answers {answer}, about what is left and about nothing else. Each place has a comment `# left out`.\n")
 
 
 def write_explain(asked: argparse.Namespace) -> int:
@@ -72,6 +98,22 @@ def write_trace(asked: argparse.Namespace) -> int:
     return 0
 
 
+def write_picture(asked: argparse.Namespace) -> int:
+    tool, folder = find(asked), Path(asked.dir)
+    answer = tool.check(folder)
+    if not answer.accepted and answer.complaints[0].message.startswith("error"):
+        print(f"pinball-help: the machine cannot be read: {answer.complaints[0].said}", file=sys.stderr)
+        return 1
+    trace_text = tool.output(["play", asked.log, str(folder)]) if asked.log and answer.accepted else None
+    text = picture.page(folder.resolve().name, Scenery(read_texts(folder)), answer, trace_text)
+    if asked.output == "-":
+        print(text, end="")
+    else:
+        Path(asked.output).write_text(text)
+        print(f"{asked.output}: {len(text) / 1e6:.1f} MB. Open it in a browser.")
+    return 0
+
+
 def find(asked: argparse.Namespace) -> Program:
     tool = program.find(asked.program)
     program.report(tool)
@@ -84,7 +126,8 @@ def parser() -> argparse.ArgumentParser:
     commands = top.add_subparsers(required=True, metavar="COMMAND")
     one = commands.add_parser("errors", help="all errors and faults of a machine at once")
     one.add_argument("dir", metavar="DIR")
-    one.add_argument("--json", action="store_true")
+    one.add_argument("--json", action="store_true", help="for editors")
+    one.add_argument("--keep", metavar="COPY", help="writes a folder in which all that is refused is left out, with comments")
     one.set_defaults(run=write_errors)
     one = commands.add_parser("explain", help="a filter: what each line of an answer means, and what to do")
     one.add_argument("dir", metavar="DIR", nargs="?", help="the folder of the machine that the answer is about")
@@ -101,6 +144,11 @@ def parser() -> argparse.ArgumentParser:
     one.add_argument("--from", dest="start", default="0", metavar="TIME", help="as 0:05.250, 5.25s or 5250")
     one.add_argument("--to", dest="end", default="", metavar="TIME")
     one.set_defaults(run=write_trace)
+    one = commands.add_parser("picture", help="a page with the graph of what posts what, and the timeline of a play")
+    one.add_argument("dir", metavar="DIR")
+    one.add_argument("--log", metavar="LOG", help="plays this log, and draws it")
+    one.add_argument("-o", "--output", default="-", metavar="FILE", help="where the page goes; else standard output")
+    one.set_defaults(run=write_picture)
     return top
 
 

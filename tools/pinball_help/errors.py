@@ -171,7 +171,7 @@ class Search:
     def touch(self, complaint: Complaint) -> None:
         """Notes what loses something at a complaint: the entries around it."""
         entry = self.scene.entry_at(complaint.text, complaint.line - 1, complaint.key) if complaint.line else None
-        if entry is None or complaint.name in ("Yaml", "Missing"):
+        if entry is None or complaint.name == "Missing":
             return
         for outer in entry.path[1:]:
             number = self.scene.number(complaint.text, outer.line)

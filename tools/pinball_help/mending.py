@@ -2,7 +2,7 @@
 import re
 
 from .outline import Entry, Node, indentation, is_item, without_comment
-from .texts import Edit, Texts
+from .texts import VERSION, Edit, Texts
 
 
 def line_of(texts: Texts, name: str, at: int) -> str:
@@ -105,13 +105,15 @@ def substitute(texts: Texts, name: str, entry: Entry, found: str, new: str) -> E
 def commented(edit: Edit, texts: Texts, why: str) -> Edit:
     """The same edit, with a comment that has what it takes out, and why."""
     old = [line_of(texts, edit.text, at) for at in range(edit.first, edit.last)]
+    if edit.lines[:1] == (VERSION,):
+        return edit  # (the first line takes no comment)
     lines, said = [], False
     for number, new in enumerate(edit.lines):
         was = re.sub(r"[^\t -~]", "?", old[number] if number < len(old) else "").replace("\t", "  ")
-        if new == was or not was.strip():
-            lines.append(new)
+        if new == was or not was.strip() or was.lstrip().startswith("#"):
+            lines.append(new or was)
             continue
-        reason = "" if said else f"left out ({why}): "
+        reason = "" if said else f"left out ({re.sub(r'[^ -~]', '?', why)}): "
         said = True
         place = new.rstrip() + "  " if new.strip() else was[: indentation(was)]
         lines.append(f"{place}# {reason}{was.strip()}")

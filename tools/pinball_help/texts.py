@@ -6,6 +6,7 @@ from pathlib import Path
 from typing import Iterator
 
 MACHINE = "config/config.yaml"
+VERSION = "#config_version=6"
 
 
 @dataclass(frozen=True)

@@ -9,7 +9,7 @@ from .mending import add, blanks, block_end, give, line_of, rename, substitute, 
 from .near import nearest
 from .outline import Entry
 from .scenery import Scenery, raw, section_of, setting_table
-from .texts import MACHINE, Edit
+from .texts import MACHINE, VERSION, Edit
 from .ways import Cure, Way
 
 # what a copy gets for a setting that is required, so that what comes after it is checked too
@@ -35,13 +35,13 @@ def of_bundle(scene: Scenery, complaint: Complaint) -> Cure:
 def of_version(scene: Scenery, complaint: Complaint) -> Cure:
     text, first = complaint.text, line_of(scene.texts, complaint.text, 0)
     in_place = not first.strip() or first.lstrip("\ufeff").startswith(("#", "---"))
-    lines = ("#config_version=6",) if in_place else ("#config_version=6", first)
+    lines = (VERSION,) if in_place else (VERSION, first)
     why = ""
     if found := re.search(r"config_version\s*=\s*(\d+)", first):
         why = f"It is written for version {found[1]} of MPF's configurations." if found[1] != "6" else ""
     numbers = () if in_place else (0, 1)
     edit = Edit(text, 0, min(1, len(scene.texts[text])), lines, numbers)
-    return Cure(ways=(Way((edit,), "Write `#config_version=6` as the first line.", why),), out=(edit,), mark=(0, len(first)))
+    return Cure(ways=(Way((edit,), f"Write `{VERSION}` as the first line.", why),), out=(edit,), mark=(0, len(first)))
 
 
 def of_section(scene: Scenery, complaint: Complaint) -> Cure:
