@@ -52,8 +52,10 @@ def kept_words(report: errors.Report, keep: Path) -> str:
     """What the answer for a copy does not cover."""
     count = len(report.findings)
     answer = "yes" if report.answer and report.answer.accepted else "no"
-    return (f"!! {keep} IS NOT YOUR MACHINE: {count} places were refused, and are left out of it. `pinball check {keep}`\n"
-            f"!! answers {answer}, about what is left and about nothing else. Each place has a comment `# left out`.\n")
+    return (
+        f"!! {keep} IS NOT YOUR MACHINE: {count} places were refused, and are left out of it, each with a comment\n"
+        f"!! `# left out`. `pinball check {keep}` answers {answer}, about what is left and about nothing else.\n"
+    )
 
 
 def write_explain(asked: argparse.Namespace) -> int:
@@ -127,13 +129,17 @@ def parser() -> argparse.ArgumentParser:
     one = commands.add_parser("errors", help="all errors and faults of a machine at once")
     one.add_argument("dir", metavar="DIR")
     one.add_argument("--json", action="store_true", help="for editors")
-    one.add_argument("--keep", metavar="COPY", help="writes a folder in which all that is refused is left out, with comments")
+    one.add_argument(
+        "--keep", metavar="COPY", help="writes a folder in which all that is refused is left out, with comments"
+    )
     one.set_defaults(run=write_errors)
     one = commands.add_parser("explain", help="a filter: what each line of an answer means, and what to do")
     one.add_argument("dir", metavar="DIR", nargs="?", help="the folder of the machine that the answer is about")
     one.add_argument("--json", action="store_true")
     one.set_defaults(run=write_explain)
-    one = commands.add_parser("unused", help="what a machine has and nothing uses: events, switches, coils, shots, modes")
+    one = commands.add_parser(
+        "unused", help="what a machine has and nothing uses: events, switches, coils, shots, modes"
+    )
     one.add_argument("dir", metavar="DIR")
     one.add_argument("--json", action="store_true")
     one.set_defaults(run=write_unused)

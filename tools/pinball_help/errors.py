@@ -88,7 +88,9 @@ class Search:
         if self.leave_out and cure.out:
             outs = (Way(cure.out),)
             if complaint.name == "Yaml":
-                outs = tuple(it for it in cure.ways if all(not line for edit in it.edits for line in edit.lines)) or outs
+                outs = tuple(
+                    it for it in cure.ways if all(not line for edit in it.edits for line in edit.lines)
+                ) or outs
             told = cure.ways[0] if cure.ways else Way(())
             outs = tuple(replace(told, edits=it.edits) for it in outs)
             return replace(cure, ways=outs)
@@ -162,7 +164,9 @@ class Search:
             return complaint.key in self.gone or self.faults_were_told
         if complaint.name in ("Missing", "BadValue"):
             return (complaint.text, number, complaint.key) in self.touched
-        if complaint.message in ("fault 2 PulseLimit", "fault 3 PowerLimit", "fault 4 HoldNotAllowed", "fault 6 BallRoute"):
+        if complaint.message in (
+            "fault 2 PulseLimit", "fault 3 PowerLimit", "fault 4 HoldNotAllowed", "fault 6 BallRoute"
+        ):
             own = any(text == complaint.text and line == number for text, line, _ in self.touched)
             coil = any(key == complaint.key for _, _, key in self.touched)
             return own or coil or self.faults_were_told
@@ -205,7 +209,9 @@ def is_single(answer: Answer) -> bool:
 
 
 def overlap(one: Edit, other: Edit) -> bool:
-    return one.text == other.text and one.first < max(other.last, other.first + 1) and other.first < max(one.last, one.first + 1)
+    return one.text == other.text and one.first < max(other.last, other.first + 1) and other.first < max(
+        one.last, one.first + 1
+    )
 
 
 def search(program: Program, folder: Path, leave_out: bool = False) -> Report:

@@ -103,8 +103,12 @@ def finding_of(scene: Scenery, complaint: Complaint, cure: Cure, way: Way | None
     start = min(start, len(source))
     way = way or Way(())
     return Finding(
-        complaint.said if cure.at else with_number(complaint.said, complaint, number), complaint.message, text, number, start + 1,
-        max(1, min(end, len(source)) - start), source, cure.says if cure.whole else (says, *cure.says), way.near, way.why, way.write or general,
+        complaint.said if cure.at else with_number(
+            complaint.said, complaint, number
+        ), complaint.message, text, number, start + 1,
+        max(1, min(end, len(source)) - start), source, cure.says if cure.whole else (
+            says, *cure.says
+        ), way.near, way.why, way.write or general,
         changes_of(scene, way.edits), messages.link(complaint.message),
     )
 
@@ -134,7 +138,9 @@ def shown(finding: Finding) -> list[str]:
     lines += [f"  Near it: `{finding.near}`."] if finding.near else []
     lines += [f"  {finding.why}"] if finding.why else []
     lines += [f"  To do: {finding.write}"]
-    lines += [f"  {'' if it.is_new else it.line:>5} + {printable(it.new)}" for it in finding.changes if it.new.strip()][:4]
+    lines += [
+        f"  {'' if it.is_new else it.line:>5} + {printable(it.new)}" for it in finding.changes if it.new.strip()
+    ][:4]
     gone = [it.line for it in finding.changes if not it.new.strip()]
     if gone and len(gone) == len(finding.changes):
         lines.append(f"  {gone[0]:>5} - (taken out{f', up to line {gone[-1]}' if gone[1:] else ''})")

@@ -49,7 +49,9 @@ class Graph:
     handled: list[Post] = field(default_factory=list)  # each event that a person handles, with its place
     owners: dict[str, str] = field(default_factory=dict)  # of events: the mode that is the first to name it
 
-    def bind(self, event: str, cost: Cost, why: str, text: str = "", entry: Entry | None = None, item: Node | None = None) -> None:
+    def bind(
+        self, event: str, cost: Cost, why: str, text: str = "", entry: Entry | None = None, item: Node | None = None
+    ) -> None:
         self.costs.setdefault(event, []).append(cost)
         for posted in dict.fromkeys(cost.events()):
             self.posts.append(Post(event, posted, why, text, entry, item))

@@ -26,7 +26,7 @@ SECTIONS = {
     "info_lights": "Take it out: lights are for other programs.",
     "kickbacks": "Write an entry of `autofire_coils` with `enable_events` and `disable_events` of its own.",
     "leds": "Name the section `lights`, which is skipped here, or take it out.",
-    "logic_blocks": "Write its `counters`, `accruals` and `sequences` as sections of their own, as config_version 6 does.",
+    "logic_blocks": "Write its `counters`, `accruals` and `sequences` as sections of their own, as version 6 has them.",
     "machine_vars": "Take it out: only players have variables here.",
     "magnets": "Write a coil with `default_hold_power`, and a `coil_player` that enables and disables it.",
     "matrix_lights": "Name the section `lights`, which is skipped here, or take it out.",
@@ -159,7 +159,9 @@ SETTINGS = {
     "mode": {
         "code": ("", "Take it out: no Python runs here."),
         "events_when_started": ("", "Take it out, and handle `mode_{mode}_started` in an `event_player`."),
-        "events_when_stopped": ("", "Take it out, and handle `mode_{mode}_stopped` in an `event_player` of the machine."),
+        "events_when_stopped": (
+            "", "Take it out, and handle `mode_{mode}_stopped` in an `event_player` of the machine."
+        ),
         "start_priority": ("", "Take it out: `priority` is that of the handlers and of the start."),
         "stop_priority": ("", "Take it out: `priority` is that of the handlers and of the stop."),
         "player_vars": ("", "Take it out: a variable is 0 at first."),

@@ -180,7 +180,8 @@ IDIOMS = (
     Idiom(
         "ball_devices", "eject_targets", r"[,\s\[]|^$",
         "A device has one target here, written as one name.", "Write the first target alone.",
-        ("first",), "coils:\n  c:\nball_devices:\n  d: {ball_switches: '', eject_coil: c, eject_targets: 'playfield, x'}",
+        ("first",),
+        "coils:\n  c:\nball_devices:\n  d: {ball_switches: '', eject_coil: c, eject_targets: 'playfield, x'}",
     ),
     Idiom(
         "ball_devices", "eject_timeouts", r"[,\[]",

@@ -86,7 +86,9 @@ class Maker:
     def blocks(self, text: str, entry: Entry, hits: list[tuple[Entry, Entry | None]]) -> None:
         name = f"logicblock_{entry.key}"
         hit = names_of(entry, "events_when_hit") if setting(entry, "events_when_hit") else [f"{name}_hit"]
-        done = names_of(entry, "events_when_complete") if setting(entry, "events_when_complete") else [f"{name}_complete"]
+        done = names_of(entry, "events_when_complete") if setting(entry, "events_when_complete") else [
+            f"{name}_complete"
+        ]
         cost = Cost(0, [f"{name}_updated", *hit, *done])
         for list_of_events, _ in hits:
             self.graph.bind_list(list_of_events, cost, f"{entry.key} is hit", text)
@@ -103,7 +105,9 @@ class Maker:
         found = setting(entry, "events")
         steps = found.value.items or [] if found else []
         # (each step is a list of its own: an entry that has this value alone)
-        self.blocks(text, entry, [(Entry("events", it.line, it.start, it.end, it, path=found.path), None) for it in steps])
+        self.blocks(
+            text, entry, [(Entry("events", it.line, it.start, it.end, it, path=found.path), None) for it in steps]
+        )
 
     of_sequences = of_accruals
 
@@ -113,8 +117,15 @@ class Maker:
         self.graph.stimulus(f" timer {entry.key}", Cost(0, [f"{name}_tick", *done]), f"timer {entry.key}", text, entry)
         if says_yes(entry, "start_running", False):
             mode = self.scene.owner(text)
-            self.graph.bind(f"mode_{mode}_started", Cost(0, [f"{name}_started"]), f"start_running of {entry.key}", text, entry)
-        posted = {"start": [f"{name}_started"], "restart": [f"{name}_started"], "stop": [f"{name}_stopped"], "pause": [f"{name}_paused"]}
+            self.graph.bind(
+                f"mode_{mode}_started", Cost(0, [f"{name}_started"]), f"start_running of {entry.key}", text, entry
+            )
+        posted = {
+            "start": [f"{name}_started"],
+            "restart": [f"{name}_started"],
+            "stop": [f"{name}_stopped"],
+            "pause": [f"{name}_paused"],
+        }
         controls = setting(entry, "control_events")
         for item in controls.value.items or [] if controls else []:
             action, event = item.at("action"), next((it for it in item.entries or [] if it.key == "event"), None)
@@ -141,7 +152,9 @@ class Maker:
             return name, ["unlit", "lit"], True, False
         states = setting(found[1], "states")
         names = [it.at("name") for it in states.value.items or []] if states else []
-        return name, [it.text for it in names if it], says_yes(found[1], "advance_on_hit", True), says_yes(found[1], "loop", False)
+        return name, [it.text for it in names if it], says_yes(found[1], "advance_on_hit", True), says_yes(
+            found[1], "loop", False
+        )
 
     def group_of(self, text: str, shot: str) -> Entry | None:
         groups = [entry for name, entry in self.scene.entries_of("shot_groups") if name == text]
@@ -157,7 +170,9 @@ class Maker:
             if group:
                 following = states[(at + 1) % len(states)] if loops else states[min(at + 1, len(states) - 1)]
                 posts += [f"{group.key}_hit", f"{group.key}_{state}_hit"]
-                posts += [f"{group.key}_complete", f"{group.key}_{following}_complete"] if moves and following != state else []
+                posts += [
+                    f"{group.key}_complete", f"{group.key}_{following}_complete"
+                ] if moves and following != state else []
             cases.append(Cost(0, posts))
         return Cost(0, [f"{shot.key}_hit", f"{shot.key}_{name}_hit"], cases)
 
@@ -194,7 +209,9 @@ class Maker:
         enters = [f"{name}_ball_enter", *(["ball_drain"] if "drain" in tags and self.has("game") else [])]
         ejects = [f"{name}_ball_eject_attempt", f"{name}_ejecting_ball"]
         ends = [f"{name}_ball_eject_success", f"{name}_ball_eject_failed"]
-        self.graph.stimulus(f" ball device {entry.key}", Cost(2, enters + ejects + ends), f"ball device {entry.key}", text, entry)
+        self.graph.stimulus(
+            f" ball device {entry.key}", Cost(2, enters + ejects + ends), f"ball device {entry.key}", text, entry
+        )
 
     # what the machine does by itself
 
@@ -222,7 +239,9 @@ class Maker:
             return
         mode = self.scene.owner(text)
         name = f"mode_{mode}"
-        for event, after in ("will_start", "starting"), ("starting", "started"), ("started", "stopping"), ("stopping", "stopped"):
+        for event, after in ("will_start", "starting"), ("starting", "started"), ("started", "stopping"), (
+            "stopping", "stopped"
+        ):
             self.graph.bind(f"{name}_{event}", Cost(0, [f"{name}_{after}"]), THE_MACHINE)
         held = self.coils_held(text)
         self.graph.bind(f"{name}_stopping", Cost(len(held)), THE_MACHINE)
@@ -230,8 +249,12 @@ class Maker:
             self.graph.owners[f"{name}_{event}"] = mode
         sections = self.scene.outlines[text].entries or []
         settings = next((it for it in sections if it.key == "mode"), Entry("mode", 0, 0, 0, outline.Node(0)))
-        self.graph.bind_list(setting(settings, "start_events"), Cost(0, [f"{name}_will_start"]), f"start_events of {mode}", text)
-        self.graph.bind_list(setting(settings, "stop_events"), Cost(0, [f"{name}_stopping"]), f"stop_events of {mode}", text)
+        self.graph.bind_list(
+            setting(settings, "start_events"), Cost(0, [f"{name}_will_start"]), f"start_events of {mode}", text
+        )
+        self.graph.bind_list(
+            setting(settings, "stop_events"), Cost(0, [f"{name}_stopping"]), f"stop_events of {mode}", text
+        )
         for key, event in ("stop_on_ball_end", "ball_ending"), ("game_mode", "game_ending"):
             if says_yes(settings, key, True):
                 self.graph.bind(event, Cost(0, [f"{name}_stopping"]), f"the mode {mode} stops with it")

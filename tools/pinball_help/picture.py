@@ -51,7 +51,9 @@ def named(graph: Graph) -> tuple[list[str], dict[str, str], dict[str, list[str]]
         # (an event that only one mode posts is drawn with it)
         owner = it.text.split("/")[1] if it.text.startswith("modes/") else "machine"
         if bands[it.posts] == "machine" and owner != "machine":
-            posters = {other.text for other in graph.posts if other.posts == it.posts} if len(graph.posts) < 3000 else {it.text}
+            posters = {other.text for other in graph.posts if other.posts == it.posts} if len(
+                graph.posts
+            ) < 3000 else {it.text}
             bands[it.posts] = owner if posters == {it.text} else "machine"
     return names, bands, {name: list(dict.fromkeys(it)) for name, it in after.items()}
 
@@ -98,7 +100,9 @@ def play_data(trace: str) -> dict:
         spans["coils", name] = [list(it) for it in joined([*coil.on, *([(coil.since, end)] if coil.holder else [])])]
     return {
         "end": end, "cut": cut,
-        "rows": [[kind, name, it] for (kind, name), it in sorted(spans.items(), key=lambda row: ORDER.index(row[0][0]))],
+        "rows": [
+            [kind, name, it] for (kind, name), it in sorted(spans.items(), key=lambda row: ORDER.index(row[0][0]))
+        ],
         "levels": [[name, it] for name, it in levels.items()],
         "lines": [[it.moment, ("" if it.owner == "machine" else f"[{it.owner}] ") + words_of(it)] for it in steps],
     }

@@ -130,8 +130,8 @@ class Coils:
         for name, coil in self.coils.items():
             stretches = joined([*coil.on, *([(coil.since, self.last)] if coil.holder else [])])
             whole = sum(end - start for start, end in stretches)
-            lines.append(f"{name:<{width}}  {coil.pulses:>6}  {coil.skipped:>7}  {time_of(whole):>8}  {duty(stretches):>4.0%}"
-                         + ("  (still held)" if coil.holder else ""))
+            counts = f"{coil.pulses:>6}  {coil.skipped:>7}  {time_of(whole):>8}  {duty(stretches):>4.0%}"
+            lines.append(f"{name:<{width}}  {counts}" + ("  (still held)" if coil.holder else ""))
         return lines
 
 
@@ -148,7 +148,10 @@ def joined(stretches: list[tuple[int, int]]) -> list[tuple[int, int]]:
 def duty(stretches: list[tuple[int, int]]) -> float:
     """The greatest part of any second for which a coil was on."""
     starts = [it for start, end in stretches for it in (start, end - SECOND)]
-    return max((sum(max(0, min(end, at + SECOND) - max(start, at)) for start, end in stretches) / SECOND for at in starts), default=0.0)
+    return max(
+        (sum(max(0, min(end, at + SECOND) - max(start, at)) for start, end in stretches) / SECOND for at in starts),
+        default=0.0,
+    )
 
 
 def words_of(step: Step) -> str:

@@ -39,20 +39,24 @@ class Looker:
         return Unused(kind, name, text, self.scene.number(text, entry.line if line < 0 else line), hint)
 
     def run(self) -> list[Unused]:
-        found = [*self.never_posted(), *self.never_handled(), *self.switches(), *self.coils(), *self.shots(), *self.modes(),
-                 *self.variables()]
-        return list(dict.fromkeys(found))
+        events = [*self.never_posted(), *self.never_handled()]
+        devices = [*self.switches(), *self.coils(), *self.shots()]
+        return list(dict.fromkeys([*events, *devices, *self.modes(), *self.variables()]))
 
     def never_posted(self) -> Iterator[Unused]:
         """(the certificate lists each event of the plan: an event that is not in it is in no text that is read)"""
         for it in self.graph.handled:
             if it.event not in self.posted and it.event in self.answer.weights and it.entry:
-                yield self.at("handled, and nothing posts it", it.event, it.text, it.entry, it.line, self.why_never(it.event))
+                yield self.at(
+                    "handled, and nothing posts it", it.event, it.text, it.entry, it.line, self.why_never(it.event)
+                )
 
     def why_never(self, event: str) -> str:
         if event in GAME:
             start = any("start" in names_of(entry, "tags") for _, entry in self.scene.entries_of("switches"))
-            if event not in self.posted and not any(it.key == "game" for it in self.scene.outlines[MACHINE].entries or []):
+            if event not in self.posted and not any(
+                it.key == "game" for it in self.scene.outlines[MACHINE].entries or []
+            ):
                 return "it comes with a game: the machine has no section `game`"
             return "" if start else "no switch has the tag `start`, so no game begins"
         if (found := FIVE.match(event)) and found[1] not in self.scene.modes:
@@ -102,25 +106,35 @@ class Looker:
         for text, entry in self.scene.entries_of("shots"):
             hits = names_of(entry, "hit_events")
             if not text_of(entry, "switch") and not {*hits} & self.posted:
-                yield self.at("shot that is never hit", entry.key, text, entry, hint="so its group is never complete by hits")
+                yield self.at(
+                    "shot that is never hit", entry.key, text, entry, hint="so its group is never complete by hits"
+                )
                 continue
             enabled = names_of(entry, "enable_events")
             if enabled and not {*enabled} & self.posted:
-                yield self.at("shot that is never enabled", entry.key, text, entry, hint="nothing posts its `enable_events`")
+                yield self.at(
+                    "shot that is never enabled", entry.key, text, entry, hint="nothing posts its `enable_events`"
+                )
             elif enabled and {*enabled} <= {"game_will_start", "game_starting", "game_started"}:
                 hint = "these events come before there is a player: take `player_turn_started`"
                 yield self.at("shot that is never enabled", entry.key, text, entry, hint=hint)
-            group = next((it for name, it in self.scene.entries_of("shot_groups") if name == text and entry.key in names_of(it, "shots")), None)
+            group = self.group_of(text, entry.key)
             starts = (f"{entry.key}_", f"{group.key}_") if group else (f"{entry.key}_",)
             if not any(it.startswith(starts) for it in self.handled):
                 yield self.at("shot whose hits nothing handles", entry.key, text, entry)
+
+    def group_of(self, text: str, shot: str) -> Entry | None:
+        groups = [entry for name, entry in self.scene.entries_of("shot_groups") if name == text]
+        return next((it for it in groups if shot in names_of(it, "shots")), None)
 
     def modes(self) -> Iterator[Unused]:
         listed = setting_of_root(self.scene, "modes")
         for item in listed.value.texts() if listed else []:
             name = mode_text(item.text)
             if listed and name in self.scene.texts and f"mode_{item.text}_will_start" not in self.posted:
-                yield self.at("mode that nothing starts", item.text, MACHINE, listed, item.line, "see its `start_events`")
+                yield self.at(
+                    "mode that nothing starts", item.text, MACHINE, listed, item.line, "see its `start_events`"
+                )
             elif listed and name in self.scene.texts:
                 yield from self.starts_of(item.text, name)
         for name in self.scene.texts:
@@ -143,7 +157,13 @@ class Looker:
                     for name in re.findall(r"current_player\.([\w.-]+?)\s*[=!<>]", written):
                         if name not in changed and name not in ("ball", "number"):
                             near = nearest(name, changed)
-                            yield self.at("variable that nothing changes", name, text, entry, hint=f"near it: `{near}`" if near else "it is always 0")
+                            yield self.at(
+                                "variable that nothing changes",
+                                name,
+                                text,
+                                entry,
+                                hint=f"near it: `{near}`" if near else "it is always 0",
+                            )
 
 
 def setting_of_root(scene: Scenery, key: str) -> Entry | None:

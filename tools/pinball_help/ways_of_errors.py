@@ -27,8 +27,8 @@ def of_bundle(scene: Scenery, complaint: Complaint) -> Cure:
             if line.text.startswith("@"):
                 edit = blanks(text, at, at + 1)
                 write = "Take the line out; or put a blank before it, if its block is there."
-                return Cure(ways=(Way((edit,), write, "A line that begins with `@` begins another text."),), out=(edit,),
-                            mark=(0, len(line.text)), at=(text, at))
+                way = Way((edit,), write, "A line that begins with `@` begins another text.")
+                return Cure(ways=(way,), out=(edit,), mark=(0, len(line.text)), at=(text, at))
     return Cure()
 
 
@@ -52,7 +52,9 @@ def of_section(scene: Scenery, complaint: Complaint) -> Cure:
     has = profile.sections()
     kind = "the machine" if text == MACHINE else "a mode"
     if key in has:
-        return taken_out(scene, text, entry, f"Move it to the text of {has[key]}.", f"`{key}` is a section of {has[key]}.")
+        return taken_out(
+            scene, text, entry, f"Move it to the text of {has[key]}.", f"`{key}` is a section of {has[key]}."
+        )
     if key in SECTIONS:
         return taken_out(scene, text, entry, SECTIONS[key], f"`{key}` is a section of MPF that is not read here.")
     here = [name for name, whose in has.items() if whose in (kind, "both")]
@@ -93,7 +95,9 @@ def of_setting(scene: Scenery, complaint: Complaint) -> Cure:
         edit = rename(scene.texts, text, entry, near)
         return Cure(says, True, (Way((edit,), f"Write `{near}`.", near=near), Way(out, near=near)), out, mark)
     if key in profile.sections():
-        return Cure(says, True, (Way(out, "Move it to the left edge.", "It is a section, and is indented."),), out, mark)
+        return Cure(
+            says, True, (Way(out, "Move it to the left edge.", "It is a section, and is indented."),), out, mark
+        )
     others = ", ".join(f"`{name}`" for name in profile.settings(table))
     return Cure(says, True, (Way(out, f"Take it out. The settings are {others}."),), out, mark)
 
@@ -152,10 +156,14 @@ def as_name(text: str) -> str:
 def of_names(scene: Scenery, text: str, entry: Entry) -> Cure | None:
     """Where the key itself is at fault: it is no name, or is reserved."""
     key, out, mark = entry.key, (take_out(scene.texts, text, entry),), (entry.start, entry.end)
-    says = (f"`{key}` is not read as the name of an event.",) if section_of(entry) in profile.PLAYERS else (f"`{key}` is no name.",)
+    says = (f"`{key}` is not read as the name of an event.",) if section_of(entry) in profile.PLAYERS else (
+        f"`{key}` is no name.",
+    )
     if key in ("playfield", "default") and len(entry.path) == 1:
         edit = rename(scene.texts, text, entry, f"{key}_1")
-        return Cure((f"`{key}` is a name that is there already.",), True, (Way((edit,), "Give it another name."),), out, mark)
+        return Cure(
+            (f"`{key}` is a name that is there already.",), True, (Way((edit,), "Give it another name."),), out, mark
+        )
     braces = re.match(r"([\w.-]+)(\s*)\{(.*)\}$", key, re.ASCII)
     if re.fullmatch(r"[\w.-]{1,64}", key, re.ASCII) or not entry.path:
         return None
@@ -163,11 +171,19 @@ def of_names(scene: Scenery, text: str, entry: Entry) -> Cure | None:
         name, gap, inside = braces[1], braces[2], braces[3]
         if gap:
             edit = rename(scene.texts, text, entry, f"{name}{{{inside}}}")
-            return Cure(says, True, (Way((edit,), f"Write `{name}{{{inside}}}`.", "No blank may come before the brace."),), out, mark)
+            return Cure(
+                says,
+                True,
+                (Way((edit,), f"Write `{name}{{{inside}}}`.", "No blank may come before the brace."),),
+                out,
+                mark,
+            )
         if not re.match(r"\s*current_player\.", inside) and re.match(r"\s*\w+\s*[=!<>]=?\s*-?\d+\s*$", inside):
             right = f"{name}{{current_player.{inside.strip()}}}"
             why = "A condition compares a variable of the current player."
-            return Cure(says, True, (Way((rename(scene.texts, text, entry, right),), f"Write `{right}`.", why),), out, mark)
+            return Cure(
+                says, True, (Way((rename(scene.texts, text, entry, right),), f"Write `{right}`.", why),), out, mark
+            )
         why = "A condition compares a variable of the current player with a whole number, and nothing else."
         write = "Keep what it asks for in a variable: `{current_player.x == 1}`."
         return Cure(says, True, (Way((rename(scene.texts, text, entry, name),), write, why), Way(out)), out, mark)
@@ -187,7 +203,12 @@ def of_value(scene: Scenery, complaint: Complaint) -> Cure:
         return of_mode_name(scene, text, line)
     if entry is None:
         out = (blanks(text, line, block_end(scene.texts, text, line)),) if line < len(scene.texts[text]) else ()
-        return Cure(("A text is a mapping of sections, as `switches:`.",), False, (Way(out, "Write sections with entries below them."),), out)
+        return Cure(
+            ("A text is a mapping of sections, as `switches:`.",),
+            False,
+            (Way(out, "Write sections with entries below them."),),
+            out,
+        )
     out = (take_out(scene.texts, text, entry),)
     mark = (entry.start, max(entry.end, entry.value.end if entry.value.line == entry.line else 0))
     says = takes(entry)
@@ -197,14 +218,26 @@ def of_value(scene: Scenery, complaint: Complaint) -> Cure:
         edits = edits_of(scene, text, entry, idiom)
         return Cure(says, False, (Way(edits, idiom.write, idiom.mpf), Way(out)), out, mark)
     if len(entry.path) == 0:
-        return Cure(("A section is a mapping of entries.",), False, (Way(out, "Write entries below it: `NAME:`, not `- NAME`."),), out, mark)
+        return Cure(
+            ("A section is a mapping of entries.",),
+            False,
+            (Way(out, "Write entries below it: `NAME:`, not `- NAME`."),),
+            out,
+            mark,
+        )
     if (near := nearest(raw(scene.texts, text, entry), words_of(entry))):
         way = Way((give(scene.texts, text, entry, near),), f"Write `{near}`.", near=near)
         return Cure(says, False, (way, Way(out, near=near)), out, mark)
     if bad := bad_items(entry):
         edits = tuple(take_item_out(scene.texts, text, entry, it) for it in bad[:1])
         write = "Write names of letters, digits, `_`, `-` and `.`, with commas between them."
-        return Cure((f"`{bad[0].text}` is no name.", *says), False, (Way(edits, write), Way(out)), out, (bad[0].start, bad[0].end))
+        return Cure(
+            (f"`{bad[0].text}` is no name.", *says),
+            False,
+            (Way(edits, write), Way(out)),
+            out,
+            (bad[0].start, bad[0].end),
+        )
     return Cure(says, False, (Way(out, "Write a value that it takes, or leave it out."),), out, mark)
 
 
@@ -237,8 +270,8 @@ def of_mode_name(scene: Scenery, text: str, line: int) -> Cure:
     if entry is None or item is None:
         return Cure()
     out = (take_item_out(scene.texts, text, entry, item),)
-    return Cure((f"`{item.text}` is no name of a mode.",), False, (Way(out, "Write the name of the mode's folder: letters, digits, `_`, "
-                "`-` and `.`; and not `machine`."),), out, (item.start, item.end))
+    way = Way(out, "Write the name of the mode's folder: letters, digits, `_`, `-` and `.`; and not `machine`.")
+    return Cure((f"`{item.text}` is no name of a mode.",), True, (way,), out, (item.start, item.end))
 
 
 def of_missing(scene: Scenery, complaint: Complaint) -> Cure:
@@ -272,7 +305,13 @@ def of_duplicate(scene: Scenery, complaint: Complaint) -> Cure:
         item = next((it for it in items[1:] if it.line == line), items[-1] if items else None)
         if item:
             out = (take_item_out(scene.texts, text, entry, item),)
-            return Cure(("The mode is listed twice.",), False, (Way(out, "Take one of the two out."),), out, (item.start, item.end))
+            return Cure(
+                ("The mode is listed twice.",),
+                False,
+                (Way(out, "Take one of the two out."),),
+                out,
+                (item.start, item.end),
+            )
     found = scene.entry_at(text, line, key)
     if found is None:
         return Cure()

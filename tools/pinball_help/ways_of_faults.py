@@ -10,6 +10,7 @@ from .scenery import Place, Scenery, section_of
 from .ways import Cure, Way
 
 FREE = "The game or the mode posts it by itself. You may handle it, but not post it."
+ENDS = " Nothing in a text can end a ball or a game: a ball ends when it drains."
 RESERVED_VARIABLES = "The game sets this variable, or its change would post an event of the game."
 # what a name is, by the section and the setting that it is written in
 KINDS = {
@@ -47,7 +48,11 @@ def of_name(scene: Scenery, complaint: Complaint) -> Cure:
     key, line = complaint.key, complaint.line - 1
     places = list(scene.places(complaint.text, line, key))
     # a key of an event player is handled, and may be any event
-    places = [it for it in places if it.item or section_of(it.entry) in ("coil_player", "variable_player") and len(it.entry.path) == 2]
+    places = [
+        it
+        for it in places
+        if it.item or section_of(it.entry) in ("coil_player", "variable_player") and len(it.entry.path) == 2
+    ]
     if not places:
         return Cure()
     place = next((it for it in places if kind_of(it)), places[0])
@@ -57,7 +62,10 @@ def of_name(scene: Scenery, complaint: Complaint) -> Cure:
     if kind is None:
         return of_reserved(scene, place, key, out, mark)
     section, called = kind
-    names = [*scene.defined(section), *(["playfield"] if section == "ball_devices" else ["default"] if section == "shot_profiles" else [])]
+    names = [
+        *scene.defined(section),
+        *(["playfield"] if section == "ball_devices" else ["default"] if section == "shot_profiles" else []),
+    ]
     if section == "shots" and key in names:
         return of_group(scene, place, key, out, mark)
     says = (f"`{key}` is used as the name of a {called}, and `{section}` defines no such {called}.",)
@@ -76,13 +84,19 @@ def of_reserved(scene: Scenery, place: Place, key: str, out: tuple, mark: tuple[
     if section_of(place.entry) == "variable_player":
         new = f"my_{key}"[:64]
         edit = replace(scene.texts, place.text, place.line, *mark, new)
-        return Cure((RESERVED_VARIABLES,), True, (Way((edit,), f"Take another name for your variable, as `{new}`."), Way(out)), out, mark)
+        return Cure(
+            (RESERVED_VARIABLES,),
+            True,
+            (Way((edit,), f"Take another name for your variable, as `{new}`."), Way(out)),
+            out,
+            mark,
+        )
     mode = re.match(r"mode_(.+)_(?:will_start|starting|started|stopping|stopped)$", key)
     if mode:
         what = "stop_events" if "stop" in key else "start_events"
         way = Way(out, f"Post an event of your own, and name it in the `{what}` of the mode `{mode[1]}`.", FREE)
     elif key.startswith(("ball_", "game_", "player_")):
-        ends = " Nothing in a text can end a ball or a game: a ball ends when it drains." if "end" in key or "drain" in key else ""
+        ends = ENDS if "end" in key or "drain" in key else ""
         way = Way(out, "Post an event of another name." + ends, FREE)
     else:
         way = Way(out, "Post an event of another name.", FREE)
@@ -99,14 +113,18 @@ def of_group(scene: Scenery, place: Place, key: str, out: tuple, mark: tuple[int
         return Cure((says,), True, (Way(out, f"Move the group to {home}, or the shot to this text."),), out, mark)
     listed = [it.text for it in place.entry.value.texts()]
     if listed.count(key) > 1:
-        return Cure((f"The group `{group.key}` lists it twice.",), True, (Way(out, "Take one of the two out."),), out, mark)
+        return Cure(
+            (f"The group `{group.key}` lists it twice.",), True, (Way(out, "Take one of the two out."),), out, mark
+        )
     for text, entry in scene.entries_of("shot_groups"):
         shots = entry.value.at("shots")
         if shots and entry.line < group.line and text == place.text and key in [it.text for it in shots.texts()]:
-            says = f"The group `{entry.key}` in line {scene.number(text, entry.line)} lists it too: a shot is in one group."
+            number = scene.number(text, entry.line)
+            says = f"The group `{entry.key}` in line {number} lists it too: a shot is in one group."
             return Cure((says,), True, (Way(out, "Take it out of one of the two groups."),), out, mark)
     first = listed[0]
-    says = f"It has the profile `{profile_of(scene, key)}`, and `{first}`, the first of the group, has `{profile_of(scene, first)}`."
+    one, other = profile_of(scene, key), profile_of(scene, first)
+    says = f"It has the profile `{one}`, and `{first}`, the first of the group, has `{other}`."
     edit = set_setting(scene, home, shot, "profile", profile_of(scene, first))
     return Cure((says,), True, (Way((edit,), "Give all shots of a group one profile."), Way(out)), out, mark)
 
@@ -137,7 +155,9 @@ def coil_at(scene: Scenery, complaint: Complaint) -> tuple[Entry | None, Entry |
     return scene.entry_at(complaint.text, complaint.line - 1, complaint.key), own[1] if own else None
 
 
-def over(scene: Scenery, complaint: Complaint, used: tuple[str, str], limit: tuple[str, str], unit: str, entry: Entry) -> Cure:
+def over(
+    scene: Scenery, complaint: Complaint, used: tuple[str, str], limit: tuple[str, str], unit: str, entry: Entry
+) -> Cure:
     """A value that is above its limit: `used` and `limit` are names of settings with their values."""
     where = f"`{limit[0]}` of `{complaint.key}`" if limit[0] else "what holds if nothing is written"
     says = (f"{used[1]}{unit}, at most {limit[1]}{unit}: {where}.",)
@@ -147,7 +167,9 @@ def over(scene: Scenery, complaint: Complaint, used: tuple[str, str], limit: tup
     write = f"Write `{used[0]}: {limit[1]}` or less. Raise the limit only if the coil bears it."
     if setting:
         marked = (setting.start, setting.value.end) if setting.line == entry.line else (entry.start, entry.end)
-        return Cure(says, False, (Way((give(scene.texts, complaint.text, setting, limit[1]),), write), Way(out)), out, marked)
+        return Cure(
+            says, False, (Way((give(scene.texts, complaint.text, setting, limit[1]),), write), Way(out)), out, marked
+        )
     edit = add(scene.texts, complaint.text, entry, f"{used[0]}: {limit[1]}")
     return Cure(says, False, (Way((edit,), write), Way(out)), out, (entry.start, entry.end))
 
@@ -159,8 +181,17 @@ def of_pulse(scene: Scenery, complaint: Complaint) -> Cure:
     limit = limit_of(own, ("max_pulse_ms", "default_pulse_ms"), "10")
     if section_of(entry) == "coils":
         used = limit_of(own, ("default_pulse_ms",), "10")
-        return over(scene, complaint, ("default_pulse_ms", plain_ms(used[1])), (limit[0], plain_ms(limit[1])), " ms", entry)
-    return over(scene, complaint, ("pulse_ms", plain_ms(limit_of(entry, ("pulse_ms",), "10")[1])), (limit[0], plain_ms(limit[1])), " ms", entry)
+        return over(
+            scene, complaint, ("default_pulse_ms", plain_ms(used[1])), (limit[0], plain_ms(limit[1])), " ms", entry
+        )
+    return over(
+        scene,
+        complaint,
+        ("pulse_ms", plain_ms(limit_of(entry, ("pulse_ms",), "10")[1])),
+        (limit[0], plain_ms(limit[1])),
+        " ms",
+        entry,
+    )
 
 
 def plain_ms(text: str) -> str:
@@ -199,7 +230,8 @@ def of_hold(scene: Scenery, complaint: Complaint) -> Cure:
     if coil is None or entry is None:
         return Cure()
     flipper = section_of(entry) == "flippers"
-    says = f"`coils` has it in {scene.where(coil[0], coil[1].line)}, with neither `allow_enable: yes` nor a `default_hold_power`."
+    where = scene.where(coil[0], coil[1].line)
+    says = f"`coils` has it in {where}, with neither `allow_enable: yes` nor a `default_hold_power`."
     out = (take_out(scene.texts, complaint.text, entry),)
     if flipper:
         write = "If it is the holding winding of a flipper, made to stay on, write `allow_enable: yes` at the coil."
@@ -230,7 +262,11 @@ def of_route(scene: Scenery, complaint: Complaint) -> Cure:
     if entry is None:
         return Cure()
     out = (take_out(scene.texts, complaint.text, entry),)
-    found = [*switches_at_fault(scene, complaint.text, entry), *no_way_out(scene, complaint.text, entry), *wrong_targets(scene, complaint.text, entry)]
+    found = [
+        *switches_at_fault(scene, complaint.text, entry),
+        *no_way_out(scene, complaint.text, entry),
+        *wrong_targets(scene, complaint.text, entry),
+    ]
     edits = tuple(edit for _, _, edit in found if edit)
     write = " ".join(dict.fromkeys(write for _, write, _ in found)) or "See the causes in docs/faults.md."
     ways = (Way(edits, write),) if edits and len({edit.first for edit in edits}) == len(edits) else ()
@@ -263,7 +299,11 @@ def free_coil(scene: Scenery, device: str) -> str:
     used = {it.text for name in scene.read for entry in entries(scene.outlines[name]) for it in entry.value.texts()}
     used |= {coil.key for _, entry in scene.entries_of("coil_player") for coil in entry.value.entries or []}
     words = {*re.findall(r"[a-z]{3,}", device.lower())}
-    free = [name for name in scene.defined("coils") if name not in used and words & {*re.findall(r"[a-z]{3,}", name.lower())}]
+    free = [
+        name
+        for name in scene.defined("coils")
+        if name not in used and words & {*re.findall(r"[a-z]{3,}", name.lower())}
+    ]
     return free[0] if len(free) == 1 else ""
 
 
@@ -274,10 +314,13 @@ def no_way_out(scene: Scenery, text: str, entry: Entry) -> list:
     coil = free_coil(scene, entry.key)
     edit = add(scene.texts, text, entry, f"eject_coil: {coil}") if coil else None
     if is_tagged(entry, "trough"):
-        return [("It has the tag `trough`, and no coil.", "Write its `eject_coil`: a trough ejects balls one by one.", edit)]
+        return [
+            ("It has the tag `trough`, and no coil.", "Write its `eject_coil`: a trough ejects balls one by one.", edit)
+        ]
     if by_hand and values.is_yes(by_hand.text):
         return []
-    return [("Nothing lets its balls out.", "Write its `eject_coil`, or `mechanical_eject: yes` if they just roll out.", edit)]
+    write = "Write its `eject_coil`, or `mechanical_eject: yes` if they just roll out."
+    return [("Nothing lets its balls out.", write, edit)]
 
 
 def is_tagged(entry: Entry, tag: str) -> bool:

@@ -30,14 +30,18 @@ def of_cycle(scene: Scenery, complaint: Complaint) -> Cure:
     if not mine:
         return Cure(says)
     first = steps[mine[0]][0]
-    mark = (first.item.start, first.item.end) if first.item else (first.entry.start, first.entry.end) if first.entry else None
+    mark = (first.item.start, first.item.end) if first.item else (
+        first.entry.start, first.entry.end
+    ) if first.entry else None
     return Cure(says, False, tuple(ways), ways[0].edits if ways else (), mark, (first.text, first.line))
 
 
 def written(scene: Scenery, posts: list[Post]) -> str:
     if not posts:
         return "made by the machine"
-    return "; ".join(f"{it.why}, {scene.where(it.text, it.line)}" if it.entry else f"made by the machine ({it.why})" for it in posts)
+    return "; ".join(
+        f"{it.why}, {scene.where(it.text, it.line)}" if it.entry else f"made by the machine ({it.why})" for it in posts
+    )
 
 
 def ease(post: Post) -> int:

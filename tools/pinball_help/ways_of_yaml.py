@@ -27,7 +27,13 @@ SLIPS = (
          "Take the anchor out, and write the value where it is used."),
     Slip("NotInSubset", r"!!?\w+\s+", "", "A tag is not read: every value is a text here.", "Take the tag out."),
     Slip("NotInSubset", r"^(\s*)\? +(\S.*)$", r"\1\2:", "A key is written without `?` here.", "Write `KEY:`."),
-    Slip("NotInSubset", VALUE + r"([%@`].*?)(\s+#.*)?$", r'\1"\2"\3', "No plain value begins so.", "Put quotes around it."),
+    Slip(
+        "NotInSubset",
+        VALUE + r"([%@`].*?)(\s+#.*)?$",
+        r'\1"\2"\3',
+        "No plain value begins so.",
+        "Put quotes around it.",
+    ),
     Slip("NotInSubset", VALUE + r"([^\"'#\[{]*:(?:\s.*)?)$", r'\1"\2"', "The value has a `:` and a blank after it.",
          "Put quotes around the value."),
     Slip("NotInSubset Indent", r"^(\s*(?:- )?[\w.{}=<>! -]+):(?=[^\s:])", r"\1: ", "A blank is missing after the `:`.",
@@ -39,7 +45,13 @@ SLIPS = (
     Slip("NotInSubset Tab", "[\x00-\x08\x0b-\x1f\x7f\ufeff]", "", "Control characters are not read.", "Take it out."),
     Slip("Quote", r"'([^']*'[^'\"]*)'(?=\s*(#|$|[,\]}]))", r'"\1"', "In single quotes a `'` ends the text.",
          "Put double quotes around it, or write two `''` for the one inside."),
-    Slip("Quote", r"\\(?![\\\"nt])", r"\\\\", "In double quotes a `\\` begins an escape.", "Write `\\\\` for a backslash."),
+    Slip(
+        "Quote",
+        r"\\(?![\\\"nt])",
+        r"\\\\",
+        "In double quotes a `\\` begins an escape.",
+        "Write `\\\\` for a backslash.",
+    ),
     Slip("Quote", r"([\"'])\s+([\"'])", r"\1, \2", "A comma is missing.", "Write a comma between the two."),
     Slip("Quote", r"([\"'])\s*([^\"'\s,\]}#][^\"']*)$", r"\1 # \2", "Text comes after the closing quote.",
          "Put all of it into the quotes, or take it out."),
@@ -131,7 +143,9 @@ def of_duplicates(scene: Scenery, text: str, at: int) -> list[Way]:
     here = next((it for it in entries(scene.outlines[text]) if it.line == at), None)
     if here is None:
         return []
-    same = [it for it in entries(scene.outlines[text]) if it.key == here.key and it.path == here.path and it is not here]
+    same = [
+        it for it in entries(scene.outlines[text]) if it.key == here.key and it.path == here.path and it is not here
+    ]
     first = same[0] if same else None
     if first is None or first.line >= here.line or here.in_braces:
         return [Way((take_out(scene.texts, text, here),), "Take one of the two out.")] if not here.in_braces else []
@@ -139,27 +153,35 @@ def of_duplicates(scene: Scenery, text: str, at: int) -> list[Way]:
     if first.value.entries and here.value.entries and first.value.line != first.line and here.value.line != here.line:
         change = first.value.entries[0].start - here.value.entries[0].start
         moved = [scene.texts[text][number] for number in range(here.line + 1, here.last)]
-        lines = [" " * max(0, indentation(it.text) + change) + it.text.lstrip() if it.text.strip() else "" for it in moved]
+        lines = [
+            " " * max(0, indentation(it.text) + change) + it.text.lstrip() if it.text.strip() else "" for it in moved
+        ]
         there = Edit(text, first.last, first.last, tuple(lines), tuple(it.number for it in moved))
         return [Way((there, blanks(text, here.line, here.last)), words)]
     if here.path and here.path[0].key == "event_player" and first.value.texts() and here.value.texts():
         names = ", ".join(it.text for it in [*first.value.texts(), *here.value.texts()])
         line = line_of(scene.texts, text, first.line)
-        joined = Edit(text, first.line, first.last, (f"{line[:first.end]}: {names}",) + ("",) * (first.last - first.line - 1))
+        joined = Edit(
+            text, first.line, first.last, (f"{line[:first.end]}: {names}",) + ("",) * (first.last - first.line - 1)
+        )
         return [Way((joined, take_out(scene.texts, text, here)), f"{words} Write `{here.key}: {names}` there.")]
     return [Way((take_out(scene.texts, text, here),), f"Line {scene.number(text, first.line)} has it: take one out.")]
 
 
 def of_open_flow(scene: Scenery, text: str, at: int) -> list[Way]:
     """A list that continues on the next lines: all of it on one line."""
-    lines = [without_comment(line_of(scene.texts, text, number)) for number in range(at, min(at + 200, len(scene.texts[text])))]
+    lines = [
+        without_comment(line_of(scene.texts, text, number))
+        for number in range(at, min(at + 200, len(scene.texts[text])))
+    ]
     joined = lines[0]
     for count, line in enumerate(lines[1:], 2):
         joined = f"{joined} {line.strip()}".rstrip()
         if joined.count("[") <= joined.count("]") and joined.count("{") <= joined.count("}"):
             joined = re.sub(r"([\[{]) +", r"\1", re.sub(r"[, ]+([\]}])", r"\1", joined))
             words = "Put it on one line, or write a line `- ITEM` for each item."
-            return [Way((Edit(text, at, at + count, (joined, *[""] * (count - 1))),), words, "YAML may break such a list; here it is on one line.")]
+            edit = Edit(text, at, at + count, (joined, *[""] * (count - 1)))
+            return [Way((edit,), words, "YAML may break such a list; here it is on one line.")]
     return []
 
 
@@ -202,7 +224,9 @@ def cure_of(scene: Scenery, text: str, at: int, fault: str) -> Cure:
     if fault == "NotUtf8":
         line = line_of(scene.texts, text, at)
         readable = line.encode("utf-8", "surrogateescape").decode("cp1252", "replace")
-        ways.append(Way((Edit(text, at, at + 1, (readable,)),), f"Save the file as UTF-8. The line may say: {readable.strip()}"))
+        ways.append(
+            Way((Edit(text, at, at + 1, (readable,)),), f"Save the file as UTF-8. The line may say: {readable.strip()}")
+        )
     end = block_end(scene.texts, text, at) if at < len(scene.texts[text]) else at
     out = (blanks(text, at, end),) if end > at else ()
     return Cure(ways=(*ways, Way((blanks(text, at, at + 1),)), Way(out)), out=out)
