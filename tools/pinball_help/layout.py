@@ -3,6 +3,7 @@ from dataclasses import dataclass, field
 
 ROW, LETTER, PADDING, GAP = 24, 6.7, 14, 46
 TALLEST = 48  # how many events are above each other before a second column begins
+LONE = " "  # the band of what is alone
 HEAD = 30  # the height of a band's title
 
 
@@ -82,6 +83,21 @@ def placed(names: list[str], bands: dict[str, str], after: dict[str, list[str]])
         y += HEAD + tallest * ROW + 22
     layout.height = y
     return layout
+
+
+def add_lone(layout: Layout, names: list[str]) -> None:
+    """Places names that nothing leads to, and that lead to nothing, in a band of their own below the others."""
+    if not names:
+        return
+    width = max(box_width(it) for it in names) + 12
+    columns = max(1, int(max(layout.width, 900) // width))
+    for at, name in enumerate(names):
+        x, y = 16 + at % columns * width, layout.height + HEAD + at // columns * ROW
+        layout.boxes[name] = Box(name, LONE, x, y, box_width(name))
+        layout.width = max(layout.width, x + width)
+    height = HEAD + -(-len(names) // columns) * ROW + 8
+    layout.bands.append(Band(LONE, layout.height, height))
+    layout.height += height
 
 
 def box_width(name: str) -> float:

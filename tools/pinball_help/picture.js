@@ -42,7 +42,10 @@ function movable(area, view, show, flat) {
     if (flat && event.shiftKey) { view.y -= event.deltaY; show(); return; }
     zoom(Math.exp(-event.deltaY / 400), event.clientX - box.left, event.clientY - box.top);
   }, { passive: false });
-  area.addEventListener("pointerdown", (event) => { pointers.set(event.pointerId, [event.clientX, event.clientY]); moved = false; });
+  area.addEventListener("pointerdown", (event) => {
+    pointers.set(event.pointerId, [event.clientX, event.clientY]);
+    moved = false;
+  });
   area.addEventListener("pointermove", (event) => {
     const before = pointers.get(event.pointerId);
     if (!before) return;
@@ -96,8 +99,10 @@ const path = (from, to) => {
 };
 const paths = (arrows) => arrows.map((it) => path(boxes[it[0]], boxes[it[1]])).join("");
 for (const [name, y, height] of graph.bands) {
-  draw("rect", { class: "band", x: 0, y, width: graph.size[0], height, rx: 8 }, root);
-  draw("text", { class: "title", x: 12, y: y + 18 }, root, name === "machine" ? "machine" : `mode ${name}`);
+  const lone = name === " " ? " lone" : "";
+  draw("rect", { class: `band${lone}`, x: 0, y, width: graph.size[0], height, rx: 8 }, root);
+  const title = name === "machine" ? "machine" : name === " " ? "posted, and that is all" : `mode ${name}`;
+  draw("text", { class: `title${lone}`, x: 12, y: y + 18 }, root, title);
 }
 const plain = draw("path", { class: "arrows", d: paths(graph.arrows.filter((it) => !it[2])) }, root);
 const chosenArrows = draw("path", { class: "arrows chosen" }, root);
@@ -106,7 +111,8 @@ draw("path", { class: "arrows red", d: paths(red) }, root);
 const inCycle = new Set(red.flatMap((it) => [it[0], it[1]]));
 const short = (name) => (name.length > 40 ? `${name.slice(0, 39)}…` : name);
 for (const it of boxes) {
-  const classes = ["box", it.isSwitch && "switch", inCycle.has(it.number) && "cycle"].filter(Boolean).join(" ");
+  const kinds = ["box", it.isSwitch && "switch", !it.linked && "lone", inCycle.has(it.number) && "cycle"];
+  const classes = kinds.filter(Boolean).join(" ");
   it.shape = draw("g", { class: classes, transform: `translate(${it.x} ${it.y})` }, root);
   draw("rect", { width: it.width, height: HEIGHT, rx: 4 }, it.shape);
   draw("text", { x: 6, y: 13 }, it.shape, short(it.name));
@@ -120,9 +126,15 @@ const showGraph = () => {
 };
 view.fit = () => {
   const scale = Math.min(area.clientWidth / graph.size[0], area.clientHeight / graph.size[1]);
-  view.scale = Math.min(1.2, Math.max(scale, boxes.length > 300 ? 0.02 : 0.3));
+  view.scale = Math.min(1.2, scale);
   view.x = Math.max(0, (area.clientWidth - graph.size[0] * view.scale) / 2);
   view.y = 4;
+  showGraph();
+};
+view.begin = () => {
+  view.fit();
+  if (view.scale >= 0.75) return;
+  Object.assign(view, { x: 4, y: 4, scale: 0.85 });
   showGraph();
 };
 const graphMoves = movable(area, view, showGraph, false);
@@ -132,13 +144,17 @@ const goTo = (it) => {
   view.y = area.clientHeight / 2 - it.y * view.scale;
   showGraph();
 };
-function list(title, arrows, end) {
-  if (!arrows.length) return;
+function list(title, arrows, end, places = []) {
+  if (!arrows.length && !places.length) return;
   element("h3", title, at("panel"));
   const items = element("ul", "", at("panel"));
+  for (const place of places.slice(0, 200)) element("li", place, items);
   for (const arrow of arrows.slice(0, 200)) {
     const item = element("li", "", items), other = boxes[arrow[end]];
-    element("button", other.name + (other.weight ? ` (${other.weight})` : ""), item).onclick = () => { choose(other); goTo(other); };
+    element("button", other.name + (other.weight ? ` (${other.weight})` : ""), item).onclick = () => {
+      choose(other);
+      goTo(other);
+    };
     for (const why of arrow[3]) element("small", why, item);
   }
 }
@@ -160,17 +176,20 @@ function choose(it) {
   if (inCycle.has(it.number)) element("p", "It is part of the cycle.", at("panel"));
   list("It leads to", it.leads, 1);
   list("It comes from", it.comes, 0);
-  const places = graph.handled[it.number];
-  if (places) {
-    element("h3", "It is handled in", at("panel"));
-    const items = element("ul", "", at("panel"));
-    for (const place of places) element("li", place, items);
-  }
+  const places = graph.places[it.number] || [[], []];
+  list("It comes from outside, by", [], 0, places[1]);
+  list("It is handled in", [], 0, places[0]);
 }
+const HINTS = [
+  "Choose an event to see what posts it, what it leads to, and where that is written. What an event leads to is to its "
+    + "right. A number is the event's weight. A blue one comes from outside: from a switch, a timer or a ball device.",
+  "Drag to move. The wheel, two fingers, + and − zoom. 0 fits all. The arrow keys move. / searches, Enter goes to "
+    + "the next one found, Escape lets go.",
+];
 function hint() {
   at("panel").textContent = "";
-  element("p", "Choose an event to see what posts it, what it leads to, and where that is written. A number is the event's weight.", at("panel"));
-  element("p", "Drag to move. Wheel, pinch, + and − zoom; 0 fits; the arrow keys move; / searches, Enter goes to the next one, Escape lets go.", at("panel"));
+  element("p", HINTS[0], at("panel"));
+  element("p", HINTS[1], at("panel"));
 }
 
 // The timeline.
@@ -183,7 +202,7 @@ let now = null, searched = "";
 const side = () => Math.min(190, Math.max(90, lane.clientWidth * 0.22));
 const matches = (name) => !searched || name.toLowerCase().includes(searched);
 function ticks(from, to) {
-  const steps = [1, 2, 5, 10, 20, 50, 100, 200, 500, 1e3, 2e3, 5e3, 1e4, 3e4, 6e4, 12e4, 3e5, 6e5, 18e5, 36e5, 144e5, 864e5];
+  const steps = [1, 2, 5, 10, 20, 50, 100, 200, 500, 1e3, 2e3, 5e3, 1e4, 3e4, 6e4, 12e4, 3e5, 6e5, 18e5, 36e5, 864e5];
   const step = steps.find((it) => it * span.scale > 90) || 864e5, found = [];
   for (let moment = Math.ceil(from / step) * step; moment <= to; moment += step) found.push(moment);
   return found;
@@ -197,8 +216,8 @@ function drawSpans(left, wide) {
     for (const [start, end] of stretches) {
       const x = left + span.x + start * span.scale, width = Math.max(1.5, (end - start) * span.scale);
       if (x + width < left || x > wide) continue;
-      const from = Math.max(x, left);
-      draw("rect", { class: `span ${group}`, x: from, y: y + 3, width: Math.max(1.5, Math.min(x + width, wide) - from), height: ROWS - 6, rx: 2 }, row);
+      const from = Math.max(x, left), long = Math.max(1.5, Math.min(x + width, wide) - from);
+      draw("rect", { class: `span ${group}`, x: from, y: y + 3, width: long, height: ROWS - 6, rx: 2 }, row);
     }
     draw("line", { class: "rule", x1: left, x2: wide, y1: y + ROWS, y2: y + ROWS }, row);
     y += ROWS;
@@ -208,7 +227,8 @@ function drawSpans(left, wide) {
 function drawLevels(left, wide, top) {
   let y = top;
   for (const [name, points] of play.levels) {
-    const most = Math.max(1, ...points.map((it) => it[1])), row = draw("g", { class: matches(name) ? "row" : "row dim" }, table);
+    const most = points.reduce((sum, it) => Math.max(sum, it[1]), 1);
+    const row = draw("g", { class: matches(name) ? "row" : "row dim" }, table);
     const up = (value) => y + LEVEL - 6 - (value / most) * (LEVEL - 14);
     let line = "", before = null;
     for (const [moment, value] of [...points, [play.end, points[points.length - 1][1]]]) {
@@ -224,7 +244,8 @@ function drawLevels(left, wide, top) {
 function drawNames(left) {
   draw("rect", { class: "shade", x: 0, y: 0, width: left, height: lane.clientHeight }, table);
   let y = TOP + span.y, kind = "";
-  const wide = Math.floor((left - 12) / 7.3), cut = (name) => (name.length > wide ? `${name.slice(0, wide - 1)}…` : name);
+  const wide = Math.floor((left - 12) / 7.3);
+  const cut = (name) => (name.length > wide ? `${name.slice(0, wide - 1)}…` : name);
   for (const [group, name] of play.rows) {
     y += group === kind ? 0 : 10;
     kind = group;
@@ -234,7 +255,8 @@ function drawNames(left) {
   y += 10;
   for (const [name, points] of play.levels) {
     draw("text", { x: 8, y: y + 18 }, table, cut(name));
-    draw("text", { x: 8, y: y + 34, class: "tick" }, table, cut(`at last ${points[points.length - 1][1]}, most ${Math.max(...points.map((it) => it[1]))}`));
+    const most = points.reduce((sum, it) => Math.max(sum, it[1]), 0);
+    draw("text", { x: 8, y: y + 34, class: "tick" }, table, cut(`${points[points.length - 1][1]}, at most ${most}`));
     y += LEVEL;
   }
 }
@@ -242,12 +264,18 @@ function showPlay() {
   table.textContent = "";
   const left = side(), wide = lane.clientWidth;
   const marks = ticks(-span.x / span.scale, (wide - left - span.x) / span.scale).filter((it) => it >= 0);
-  for (const moment of marks) draw("line", { class: "rule", x1: left + span.x + moment * span.scale, x2: left + span.x + moment * span.scale, y1: 0, y2: lane.clientHeight }, table);
+  const upright = (kind, moment) => {
+    const x = left + span.x + moment * span.scale;
+    draw("line", { class: kind, x1: x, x2: x, y1: 0, y2: lane.clientHeight }, table);
+  };
+  for (const moment of marks) upright("rule", moment);
   drawLevels(left, wide, drawSpans(left, wide));
-  if (now !== null) draw("line", { class: "now", x1: left + span.x + now * span.scale, x2: left + span.x + now * span.scale, y1: 0, y2: lane.clientHeight }, table);
+  if (now !== null) upright("now", now);
   drawNames(left);
   draw("rect", { class: "shade", x: 0, y: 0, width: wide, height: TOP - 4 }, table);
-  for (const moment of marks) draw("text", { class: "tick", x: left + span.x + moment * span.scale + 3, y: 17 }, table, time(moment));
+  for (const moment of marks) {
+    draw("text", { class: "tick", x: left + span.x + moment * span.scale + 3, y: 17 }, table, time(moment));
+  }
 }
 span.fit = () => {
   span.scale = Math.max(span.least, (lane.clientWidth - side() - 30) / Math.max(1, play.end));
@@ -266,7 +294,8 @@ function tell(moment) {
   const near = back ? play.lines[first - 1][0] : play.lines[first][0];
   while (from > 0 && play.lines[from - 1][0] >= near) from -= 1;
   const lines = play.lines.slice(from, from + 60);
-  element("pre", lines.map((it, place) => `${place && lines[place - 1][0] === it[0] ? "         " : time(it[0])} ${it[1]}`).join("\n"), at("panel"));
+  const words = (it, place) => (place && lines[place - 1][0] === it[0] ? `  ${it[1]}` : `${time(it[0])} ${it[1]}`);
+  element("pre", lines.map(words).join("\n"), at("panel"));
 }
 const playMoves = play ? movable(lane, span, showPlay, true) : null;
 if (play) {
@@ -286,14 +315,14 @@ function show(which) {
     at(name).hidden = name !== which;
     at(`tab-${name}`).setAttribute("aria-selected", String(name === which));
   }
-  if (which === "graph") { view.fit(); choose(null); } else { span.fit(); tell(0); }
+  if (which === "graph") { view.begin(); choose(null); } else { span.fit(); tell(0); }
 }
 at("tab-graph").onclick = () => show("graph");
 at("tab-play").onclick = () => show("play");
 at("in").onclick = () => (shown === "graph" ? graphMoves : playMoves).zoomIn();
 at("out").onclick = () => (shown === "graph" ? graphMoves : playMoves).zoomOut();
 at("fit").onclick = () => (shown === "graph" ? view : span).fit();
-const showLone = () => { for (const it of boxes) it.shape.style.display = it.linked || at("lone").checked ? "" : "none"; };
+const showLone = () => svg.classList.toggle("without", !at("lone").checked);
 at("lone").onchange = showLone;
 let hits = [], next = 0;
 at("words").oninput = () => {

@@ -4,8 +4,8 @@ import json
 from pathlib import Path
 
 from .answers import Answer
-from .graph import CycleError, Graph
-from .layout import Layout, placed
+from .graph import CycleError, Graph, Post
+from .layout import Layout, add_lone, placed
 from .machine_graph import graph_of
 from .scenery import Scenery
 from .trace import Coils, Step, joined, steps_of, time_of, words_of
@@ -19,43 +19,50 @@ def graph_data(scene: Scenery, graph: Graph, answer: Answer) -> dict:
     """The boxes, bands and arrows of the graph, as the page reads them."""
     cycle = next((it.words for it in answer.complaints if it.name == "Cycle"), ())
     steps = set(zip(cycle, [*cycle[1:], *cycle[:1]]))
-    names, bands, after = named(graph)
-    layout = placed(names, bands, after)
-    number = {name: at for at, name in enumerate(names)}
+    names, after = graph.names(), leads_to(graph)
     weights = weights_of(graph, answer)
-    linked = {it for name, following in after.items() if following for it in (name, *following)}
-    boxes = [box(layout, graph, name, weights.get(name, 0), name in linked) for name in names]
-    arrows = {}
+    linked = {it for name, following in after.items() for it in (name, *following)} | {it.event for it in graph.handled}
+    layout = placed([it for it in names if it in linked], bands_of(graph), after)
+    add_lone(layout, [it for it in names if it not in linked])
+    names = list(layout.boxes)
+    number = {name: at for at, name in enumerate(names)}
+    outside = {it.posts for it in graph.posts if it.event.startswith(" ")}
+    arrows: dict[tuple[int, int, bool], list[str]] = {}
     for it in graph.posts:
-        if it.event in number and it.posts in number:
-            where = scene.where(it.text, it.line) if it.entry else ""
-            arrows.setdefault((number[it.event], number[it.posts], (it.event, it.posts) in steps), []).append(
-                f"{it.why}, {where}" if where else f"{it.why}")
+        if it.event in number:
+            key = (number[it.event], number[it.posts], (it.event, it.posts) in steps)
+            arrows.setdefault(key, []).append(why_of(scene, it))
     return {
-        "boxes": boxes,
+        "boxes": [box(layout, name, weights.get(name, 0), name in outside, name in linked) for name in names],
         "bands": [[it.name, it.y, it.height] for it in layout.bands],
         "arrows": [[one, other, int(red), list(dict.fromkeys(why))] for (one, other, red), why in arrows.items()],
-        "handled": handled(scene, graph, number),
+        "places": places(scene, graph, number),
         "size": [layout.width + 20, layout.height],
     }
 
 
-def named(graph: Graph) -> tuple[list[str], dict[str, str], dict[str, list[str]]]:
-    """The names of what is drawn, the band of each, and what each leads to. Switches come first."""
+def leads_to(graph: Graph) -> dict[str, list[str]]:
+    """What each event leads to."""
     after: dict[str, list[str]] = {}
     for it in graph.posts:
-        after.setdefault(it.event, []).append(it.posts)
-    names = list(dict.fromkeys([*(it.event for it in graph.posts if it.event.startswith(" ")), *graph.names()]))
-    bands = {name: graph.owners.get(name, "machine") for name in names}
+        if not it.event.startswith(" "):
+            after.setdefault(it.event, []).append(it.posts)
+    return {name: list(dict.fromkeys(it)) for name, it in after.items()}
+
+
+def bands_of(graph: Graph) -> dict[str, str]:
+    """The band of each event: the mode that alone posts it, or whose event it is; else the machine."""
+    posters: dict[str, set[str]] = {}
     for it in graph.posts:
-        # (an event that only one mode posts is drawn with it)
-        owner = it.text.split("/")[1] if it.text.startswith("modes/") else "machine"
-        if bands[it.posts] == "machine" and owner != "machine":
-            posters = {other.text for other in graph.posts if other.posts == it.posts} if len(
-                graph.posts
-            ) < 3000 else {it.text}
-            bands[it.posts] = owner if posters == {it.text} else "machine"
-    return names, bands, {name: list(dict.fromkeys(it)) for name, it in after.items()}
+        posters.setdefault(it.posts, set()).add(it.text.split("/")[1] if it.text.startswith("modes/") else "machine")
+    found = dict.fromkeys(graph.names(), "machine")
+    found.update({name: next(iter(it)) for name, it in posters.items() if len(it) == 1})
+    found.update({name: owner for name, owner in graph.owners.items() if owner != "machine"})
+    return found
+
+
+def why_of(scene: Scenery, post: Post) -> str:
+    return f"{post.why}, {scene.where(post.text, post.line)}" if post.entry else post.why
 
 
 def weights_of(graph: Graph, answer: Answer) -> dict[str, int]:
@@ -68,18 +75,18 @@ def weights_of(graph: Graph, answer: Answer) -> dict[str, int]:
         return {}
 
 
-def box(layout: Layout, graph: Graph, name: str, weight: int, is_linked: bool) -> list:
+def box(layout: Layout, name: str, weight: int, from_outside: bool, is_linked: bool) -> list:
     at = layout.boxes[name]
-    return [name.strip(), round(at.x), round(at.y), round(at.width), weight, int(name.startswith(" ")), int(is_linked)]
+    return [name, round(at.x), round(at.y), round(at.width), weight, int(from_outside), int(is_linked)]
 
 
-def handled(scene: Scenery, graph: Graph, number: dict[str, int]) -> dict[int, list[str]]:
-    """Where each event is handled, by its number."""
-    found: dict[int, list[str]] = {}
-    for it in graph.handled:
-        if it.event in number:
-            found.setdefault(number[it.event], []).append(f"{it.why}, {scene.where(it.text, it.line)}")
-    return {at: list(dict.fromkeys(it)) for at, it in found.items()}
+def places(scene: Scenery, graph: Graph, number: dict[str, int]) -> dict[int, list[list[str]]]:
+    """Of each event, by its number: where it is handled, and what posts it from outside."""
+    found: dict[int, list[list[str]]] = {}
+    handled = [(it.event, 0, it) for it in graph.handled]
+    for name, which, it in [*handled, *((it.posts, 1, it) for it in graph.posts if it.event.startswith(" "))]:
+        found.setdefault(number[name], [[], []])[which].append(why_of(scene, it))
+    return {at: [list(dict.fromkeys(it)) for it in both] for at, both in found.items()}
 
 
 def play_data(trace: str) -> dict:
