@@ -1,7 +1,7 @@
 """Places the events of a graph: each mode is a band, and what an event leads to is to its right."""
 from dataclasses import dataclass, field
 
-ROW, LETTER, PADDING, GAP = 24, 6.7, 14, 46
+ROW, LETTER, PADDING, WEIGHT, GAP = 24, 6.7, 14, 38, 46
 TALLEST = 48  # how many events are above each other before a second column begins
 LONE = " "  # the band of what is alone
 HEAD = 30  # the height of a band's title
@@ -101,7 +101,7 @@ def add_lone(layout: Layout, names: list[str]) -> None:
 
 
 def box_width(name: str) -> float:
-    return round(min(len(name), 40) * LETTER + PADDING + 26)
+    return round(min(len(name), 40) * LETTER + PADDING + WEIGHT)
 
 
 def column_places(cells: dict[tuple[str, int], list[str]]) -> dict[tuple[int, int], tuple[float, float]]:

@@ -135,7 +135,7 @@ view.begin = () => {
   view.fit();
   if (view.scale >= 0.75) return;
   Object.assign(view, { x: 4, y: 4, scale: 0.85 });
-  showGraph();
+  if (inCycle.size) goTo(boxes[red[0][0]]); else showGraph();
 };
 const graphMoves = movable(area, view, showGraph, false);
 const goTo = (it) => {
@@ -188,6 +188,8 @@ const HINTS = [
 ];
 function hint() {
   at("panel").textContent = "";
+  if (red.length) element("h2", "The cycle, in red", at("panel"));
+  for (const arrow of red) list(`${boxes[arrow[0]].name} leads to`, [arrow], 1);
   element("p", HINTS[0], at("panel"));
   element("p", HINTS[1], at("panel"));
 }
