@@ -13,6 +13,7 @@ from .scenery import Scenery
 from .texts import read_texts, write_texts
 from .ways import Cure
 
+ABOUT = "Helps with the answers of pinball: it calls the program and reads what it says. It proves nothing."
 NO_PROOF = "These are hints, and nothing here is proved. The answer that counts is that of `pinball check`."
 
 
@@ -122,9 +123,14 @@ def find(asked: argparse.Namespace) -> Program:
     return tool
 
 
+def with_program(one: argparse.ArgumentParser) -> None:
+    """Takes the option after the subcommand too."""
+    one.add_argument("--program", metavar="PATH", default=argparse.SUPPRESS, help=argparse.SUPPRESS)
+
+
 def parser() -> argparse.ArgumentParser:
-    top = argparse.ArgumentParser(prog="pinball-help", description=__doc__)
-    top.add_argument("--program", metavar="PATH", help="the program `pinball`")
+    top = argparse.ArgumentParser(prog="pinball-help", description=ABOUT, epilog="docs/builders_bench.md has examples.")
+    top.add_argument("--program", metavar="PATH", help="the program `pinball`, if not the proved one")
     commands = top.add_subparsers(required=True, metavar="COMMAND")
     one = commands.add_parser("errors", help="all errors and faults of a machine at once")
     one.add_argument("dir", metavar="DIR")
@@ -132,6 +138,7 @@ def parser() -> argparse.ArgumentParser:
     one.add_argument(
         "--keep", metavar="COPY", help="writes a folder in which all that is refused is left out, with comments"
     )
+    with_program(one)
     one.set_defaults(run=write_errors)
     one = commands.add_parser("explain", help="a filter: what each line of an answer means, and what to do")
     one.add_argument("dir", metavar="DIR", nargs="?", help="the folder of the machine that the answer is about")
@@ -142,6 +149,7 @@ def parser() -> argparse.ArgumentParser:
     )
     one.add_argument("dir", metavar="DIR")
     one.add_argument("--json", action="store_true")
+    with_program(one)
     one.set_defaults(run=write_unused)
     one = commands.add_parser("trace", help="a filter for what `pinball play` writes")
     one.add_argument("--owner", default="", help="only what this mode does, or `machine`")
@@ -154,6 +162,7 @@ def parser() -> argparse.ArgumentParser:
     one.add_argument("dir", metavar="DIR")
     one.add_argument("--log", metavar="LOG", help="plays this log, and draws it")
     one.add_argument("-o", "--output", default="-", metavar="FILE", help="where the page goes; else standard output")
+    with_program(one)
     one.set_defaults(run=write_picture)
     return top
 

@@ -49,6 +49,7 @@ class Search:
         self.scene = Scenery(self.original)
         self.report = Report()
         self.told: set[tuple] = set()
+        self.counts: dict[tuple, int] = {}
         self.gone: set[str] = set()  # names that the copy defines no more
         self.touched: set[tuple[str, int, str]] = set()  # what has lost something: text, line of the file, key
         self.faults_were_told = False
@@ -100,7 +101,8 @@ class Search:
         """Mends one error or fault by the way after which the answer is furthest on, and gives that answer."""
         cure, here = self.cure(complaint), self.place(complaint)
         best: tuple[tuple, Way, Answer] | None = None
-        for way in (*cure.ways, *self.last_ways(complaint)):
+        ways = (*cure.ways, *self.last_ways(complaint)) if self.tries(complaint) < 2 else self.last_ways(complaint)
+        for way in ways:
             if not way.edits:
                 continue
             answer = self.ask(edited(self.scene.texts, way.edits))
@@ -128,10 +130,9 @@ class Search:
         taken: list[Edit] = []
         for complaint in answer.complaints:
             cure = self.cure(complaint)
-            way = cure.ways[0] if cure.ways else None
-            again = self.identity(complaint) in self.told
-            if again and len(cure.ways) > 1:
-                way = cure.ways[-1]
+            mending = [it for it in cure.ways if it.edits]
+            ways = [*mending[:1], *mending[1:][-1:], *self.last_ways(complaint)]
+            way = next(iter(ways[self.tries(complaint) :]), None)
             self.tell(complaint, cure, way)
             if way and not any(overlap(one, other) for one in way.edits for other in taken):
                 taken += way.edits
@@ -142,6 +143,12 @@ class Search:
         before = self.scene
         self.change(tuple(taken), None)
         return self.ask(self.scene.texts) if self.scene.texts != before.texts else None
+
+    def tries(self, complaint: Complaint) -> int:
+        """How often the complaint has come before. Counts it once more."""
+        count = self.counts.get(self.identity(complaint), 0)
+        self.counts[self.identity(complaint)] = count + 1
+        return count
 
     def identity(self, complaint: Complaint) -> tuple:
         number = self.scene.number(complaint.text, complaint.line - 1)
@@ -189,7 +196,7 @@ class Search:
         if self.leave_out:
             why = self.report.findings[-1].said if complaint else ""
             edits = tuple(commented(edit, texts, why or self.why(edit)) for edit in edits)
-        self.scene = Scenery(edited(texts, edits), self.scene.anchors)
+        self.scene = Scenery(edited(texts, edits), self.scene)
         self.gone |= names - self.names()
 
     def why(self, edit: Edit) -> str:

@@ -42,6 +42,7 @@ SECTIONS = {
     "queue_event_player": "Write an `event_player`: no event waits for another here.",
     "queue_relay_player": "Write an `event_player`: no event waits for another here.",
     "random_event_player": "Write an `event_player` with one of the events: nothing is drawn at random here.",
+    "scoring": "Name the section `variable_player`: this is its name in older versions of MPF.",
     "score_reels": "Take it out: score reels are not driven here.",
     "scriptlets": "Take it out: no Python runs here.",
     "sequence_shots": "Write a sequence of the switches' events: `sequences` with `events`.",
@@ -56,6 +57,9 @@ SECTIONS = {
     "timed_switches": "Let the switch's event start a mode with a timer, and let its other event stop the mode.",
     "tracks": "Take it out: sounds are for other programs.",
 }
+
+# what those sections are called here that have another name
+SECTIONS_RENAMED = {"scoring": "variable_player", "leds": "lights", "matrix_lights": "lights"}
 
 # a setting of MPF, by section: the setting to write in place of it (empty: none), and a word on it
 RENAMED = "This is the name of the setting in older versions of MPF."
@@ -106,7 +110,7 @@ SETTINGS = {
         "eject_coil_enable_time": ("", "Take it out: the eject coil is pulsed, as long as the coil's pulse is."),
         "eject_coil_jam_pulse": ("", "Take it out: each attempt has the coil's own pulse."),
         "eject_coil_retry_pulse": ("", "Take it out: each attempt has the coil's own pulse."),
-        "entrance_switch": ("", "Take it out: only `ball_switches` count."),
+        "entrance_switch": ("", "Take it out. If a ball lies at this switch, name it in `ball_switches`."),
         "entrance_switch_full_timeout": ("", "Take it out: only `ball_switches` count."),
         "hold_coil": ("", "Take it out: write the holding coil in a `coil_player`."),
         "idle_missing_ball_timeout": ("", "Take it out: `exit_count_delay` says when a ball is gone."),
@@ -180,6 +184,7 @@ SETTINGS = {
         "add_player_event": ("", "Take it out: the switch tagged `start` adds players."),
         "end_ball_event": ("", "Take it out: a ball ends when the last ball drains."),
         "event_player": ("", "Move it to the left edge: it is a section of its own."),
+        "player_vars": ("", "Take it out: a variable is 0 at first. For another value write a `variable_player`."),
     },
     "variable_player": {
         "float": ("", "Take it out, and write a whole number in `int`."),

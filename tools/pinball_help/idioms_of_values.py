@@ -37,6 +37,12 @@ IDIOMS = (
         ("sub", rf"\|\s*{TIME}", ""), "event_player:\n  a: b|2s",
     ),
     Idiom(
+        ANY, r"events_when_\w+", rf"\w\s*\|\s*{TIME}",
+        "MPF posts the event after a time. Delays are not carried out here.",
+        "Write the event without the time.",
+        ("sub", rf"\|\s*{TIME}", ""), "switches:\n  s:\n    events_when_activated: a|100ms",
+    ),
+    Idiom(
         ANY, EVENTS, rf"[\w}}]\s*\|\s*{TIME}",
         "MPF handles the event after a time. Delays are not carried out here.",
         "Write the event without the time.",

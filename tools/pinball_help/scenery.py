@@ -20,15 +20,17 @@ class Place:
 
 
 class Scenery:
-    """The texts of a machine, as they are or in a copy. A copy keeps the anchors that the files have."""
+    """The texts of a machine, as they are or in a copy.
 
-    def __init__(self, texts: Texts, anchors: dict[str, str] | None = None):
+    A copy is made from the scenery `before` it: it keeps its anchors, and the outlines of texts that are the same."""
+
+    def __init__(self, texts: Texts, before: "Scenery | None" = None):
         self.texts = texts
-        self.anchors = anchors_of(texts) if anchors is None else anchors
-
-    @cached_property
-    def outlines(self) -> dict[str, Node]:
-        return {name: outline.read(plain(lines)) for name, lines in self.texts.items()}
+        self.anchors: dict[str, str] = before.anchors if before else anchors_of(texts)
+        known = before.outlines if before else {}
+        same = [name for name in known if before and before.texts[name] is texts.get(name)]
+        others = {name: outline.read(plain(lines)) for name, lines in texts.items() if name not in same}
+        self.outlines: dict[str, Node] = {name: others.get(name) or known[name] for name in texts}
 
     @cached_property
     def modes(self) -> list[str]:

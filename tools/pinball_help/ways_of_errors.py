@@ -1,13 +1,14 @@
 """The ways to mend what an `error` line says: all but those of YAML."""
 import re
+from dataclasses import replace
 
 from . import profile
 from .answers import Complaint
-from .idioms import SECTIONS, SETTINGS
+from .idioms import SECTIONS, SECTIONS_RENAMED, SETTINGS
 from .idioms_of_values import ENTRY, IDIOMS, Idiom
 from .mending import add, blanks, block_end, give, line_of, rename, substitute, take_item_out, take_out
 from .near import nearest
-from .outline import Entry
+from .outline import Entry, Node, unquoted
 from .scenery import Scenery, raw, section_of, setting_table
 from .texts import MACHINE, VERSION, Edit
 from .ways import Cure, Way
@@ -56,7 +57,7 @@ def of_section(scene: Scenery, complaint: Complaint) -> Cure:
             scene, text, entry, f"Move it to the text of {has[key]}.", f"`{key}` is a section of {has[key]}."
         )
     if key in SECTIONS:
-        return taken_out(scene, text, entry, SECTIONS[key], f"`{key}` is a section of MPF that is not read here.")
+        return of_section_of_mpf(scene, text, entry)
     here = [name for name, whose in has.items() if whose in (kind, "both")]
     if near := nearest(key, [*here, *profile.skipped()]):
         edit = rename(scene.texts, text, entry, near)
@@ -70,6 +71,16 @@ def of_section(scene: Scenery, complaint: Complaint) -> Cure:
                          f"`{key}` is a setting, and begins at the left edge.")
     return taken_out(scene, text, entry, "Take it out of a copy of the folder, and check the copy.",
                      "No section of this name is read here.")
+
+
+def of_section_of_mpf(scene: Scenery, text: str, entry: Entry) -> Cure:
+    why = f"`{entry.key}` is a section of MPF that is not read here."
+    cure = taken_out(scene, text, entry, SECTIONS[entry.key], why)
+    new = SECTIONS_RENAMED.get(entry.key)
+    if not new or any(it.key == new for it in scene.outlines[text].entries or []):
+        return cure
+    renamed = replace(cure.ways[0], edits=(rename(scene.texts, text, entry, new),))
+    return replace(cure, ways=(renamed, *cure.ways))
 
 
 def of_setting(scene: Scenery, complaint: Complaint) -> Cure:
@@ -121,7 +132,7 @@ def edits_of(scene: Scenery, text: str, entry: Entry, idiom: Idiom) -> tuple[Edi
     if kind == "value":
         return (give(texts, text, entry, words[0]),)
     if kind == "upper":
-        return (give(texts, text, entry, value.upper()),)
+        return (give(texts, text, entry, unquoted(value).upper()),)
     if kind == "boolean":
         return (give(texts, text, entry, "yes" if value == "1" else "no"),)
     if kind == "keys":
@@ -138,7 +149,7 @@ def edits_of(scene: Scenery, text: str, entry: Entry, idiom: Idiom) -> tuple[Edi
 
 def idiom_of(scene: Scenery, text: str, entry: Entry) -> Idiom | None:
     section = section_of(entry) if entry.path else ""
-    value = raw(scene.texts, text, entry)
+    value = unquoted(raw(scene.texts, text, entry))
     own = len(entry.path) == 1 and section not in (*profile.PLAYERS, *profile.SINGLE)
     for idiom in IDIOMS:
         fits = own if idiom.setting == ENTRY else re.fullmatch(idiom.setting, entry.key)
@@ -153,47 +164,44 @@ def as_name(text: str) -> str:
     return re.sub(r"[^\w.-]+", "_", plain, flags=re.ASCII).strip("_")[:64] or "a_name"
 
 
+def cure_at(scene: Scenery, text: str, entry: Entry, says: tuple[str, ...], *ways: Way, whole: bool = False) -> Cure:
+    """The cure of an entry: some ways, and at last to take it out."""
+    out = (take_out(scene.texts, text, entry),)
+    return Cure(says, whole, (*ways, Way(out, ways[0].write if ways else "")), out, (entry.start, entry.end))
+
+
 def of_names(scene: Scenery, text: str, entry: Entry) -> Cure | None:
     """Where the key itself is at fault: it is no name, or is reserved."""
-    key, out, mark = entry.key, (take_out(scene.texts, text, entry),), (entry.start, entry.end)
-    says = (f"`{key}` is not read as the name of an event.",) if section_of(entry) in profile.PLAYERS else (
-        f"`{key}` is no name.",
-    )
+    key = entry.key
     if key in ("playfield", "default") and len(entry.path) == 1:
-        edit = rename(scene.texts, text, entry, f"{key}_1")
-        return Cure(
-            (f"`{key}` is a name that is there already.",), True, (Way((edit,), "Give it another name."),), out, mark
-        )
-    braces = re.match(r"([\w.-]+)(\s*)\{(.*)\}$", key, re.ASCII)
+        way = Way((rename(scene.texts, text, entry, f"{key}_1"),), "Give it another name.")
+        return cure_at(scene, text, entry, (f"`{key}` is a name that is there already.",), way, whole=True)
     if re.fullmatch(r"[\w.-]{1,64}", key, re.ASCII) or not entry.path:
         return None
-    if braces and section_of(entry) in profile.PLAYERS:
-        name, gap, inside = braces[1], braces[2], braces[3]
-        if gap:
-            edit = rename(scene.texts, text, entry, f"{name}{{{inside}}}")
-            return Cure(
-                says,
-                True,
-                (Way((edit,), f"Write `{name}{{{inside}}}`.", "No blank may come before the brace."),),
-                out,
-                mark,
-            )
-        if not re.match(r"\s*current_player\.", inside) and re.match(r"\s*\w+\s*[=!<>]=?\s*-?\d+\s*$", inside):
-            right = f"{name}{{current_player.{inside.strip()}}}"
-            why = "A condition compares a variable of the current player."
-            return Cure(
-                says, True, (Way((rename(scene.texts, text, entry, right),), f"Write `{right}`.", why),), out, mark
-            )
-        why = "A condition compares a variable of the current player with a whole number, and nothing else."
-        write = "Keep what it asks for in a variable: `{current_player.x == 1}`."
-        return Cure(says, True, (Way((rename(scene.texts, text, entry, name),), write, why), Way(out)), out, mark)
+    if section_of(entry) in profile.PLAYERS and re.match(r"[\w.-]+\s*\{.*\}$", key, re.ASCII):
+        return of_condition(scene, text, entry)
     right = as_name(key.split("|")[0])
     why = "A name has letters without accents, digits, `_`, `-` and `.` alone, at most 64 of them."
     if "|" in key:
         why = "MPF handles the event after a time. Delays are not carried out here."
     taken = any(it.key == right for it in siblings_of(entry))
-    edits = out if taken else (rename(scene.texts, text, entry, right),)
-    return Cure(says, True, (Way(edits, f"Write `{right}`.", why), Way(out)), out, mark)
+    ways = () if taken else (Way((rename(scene.texts, text, entry, right),), f"Write `{right}`.", why),)
+    return cure_at(scene, text, entry, (f"`{key}` is no name.",), *ways, whole=True)
+
+
+def of_condition(scene: Scenery, text: str, entry: Entry) -> Cure:
+    """A handled event with a condition that is not read."""
+    name, gap, inside = re.match(r"([^\s{]+)(\s*)\{(.*)\}$", entry.key).groups()  # type: ignore[union-attr]
+    right, why = name, "A condition compares a variable of the current player with a whole number, and nothing else."
+    write = "Keep what it asks for in a variable: `{current_player.x == 1}`."
+    if gap:
+        right, why = f"{name}{{{inside}}}", "No blank may come before the brace."
+        write = f"Write `{right}`."
+    elif re.match(r"\s*(?!current_player\.)\w+\s*[=!<>]=?\s*-?\d+\s*$", inside):
+        right, why = f"{name}{{current_player.{inside.strip()}}}", "A condition names a variable of the current player."
+        write = f"Write `{right}`."
+    way = Way((rename(scene.texts, text, entry, right),), write, why)
+    return cure_at(scene, text, entry, (f"`{entry.key}` is not read as an event with a condition.",), way, whole=True)
 
 
 def of_value(scene: Scenery, complaint: Complaint) -> Cure:
@@ -202,46 +210,44 @@ def of_value(scene: Scenery, complaint: Complaint) -> Cure:
     if complaint.key == "modes" and (entry is None or entry.key != "modes"):
         return of_mode_name(scene, text, line)
     if entry is None:
-        out = (blanks(text, line, block_end(scene.texts, text, line)),) if line < len(scene.texts[text]) else ()
-        return Cure(
-            ("A text is a mapping of sections, as `switches:`.",),
-            False,
-            (Way(out, "Write sections with entries below them."),),
-            out,
-        )
-    out = (take_out(scene.texts, text, entry),)
-    mark = (entry.start, max(entry.end, entry.value.end if entry.value.line == entry.line else 0))
-    says = takes(entry)
+        return of_no_mapping(scene, text, line)
     if named := of_names(scene, text, entry):
         return named
+    cure = of_entry(scene, text, entry)
+    end = entry.value.end if entry.value.line == entry.line else 0
+    return replace(
+        cure, mark=cure.mark if cure.mark != (entry.start, entry.end) else (entry.start, max(entry.end, end))
+    )
+
+
+def of_entry(scene: Scenery, text: str, entry: Entry) -> Cure:
+    """Where the value of an entry is at fault."""
+    says = takes(entry)
     if idiom := idiom_of(scene, text, entry):
-        edits = edits_of(scene, text, entry, idiom)
-        return Cure(says, False, (Way(edits, idiom.write, idiom.mpf), Way(out)), out, mark)
-    if len(entry.path) == 0:
-        return Cure(
-            ("A section is a mapping of entries.",),
-            False,
-            (Way(out, "Write entries below it: `NAME:`, not `- NAME`."),),
-            out,
-            mark,
+        way = Way(edits_of(scene, text, entry, idiom), idiom.write, idiom.mpf)
+        return cure_at(scene, text, entry, says, way)
+    if not entry.path:
+        way = Way((), "Write entries below it: `NAME:`, not `- NAME`.")
+        return cure_at(scene, text, entry, ("A section is a mapping of entries.",), way)
+    if near := nearest(raw(scene.texts, text, entry), words_of(entry)):
+        return cure_at(
+            scene, text, entry, says, Way((give(scene.texts, text, entry, near),), f"Write `{near}`.", near=near)
         )
-    if (near := nearest(raw(scene.texts, text, entry), words_of(entry))):
-        way = Way((give(scene.texts, text, entry, near),), f"Write `{near}`.", near=near)
-        return Cure(says, False, (way, Way(out, near=near)), out, mark)
     if bad := bad_items(entry):
-        edits = tuple(take_item_out(scene.texts, text, entry, it) for it in bad[:1])
         write = "Write names of letters, digits, `_`, `-` and `.`, with commas between them."
-        return Cure(
-            (f"`{bad[0].text}` is no name.", *says),
-            False,
-            (Way(edits, write), Way(out)),
-            out,
-            (bad[0].start, bad[0].end),
-        )
-    return Cure(says, False, (Way(out, "Write a value that it takes, or leave it out."),), out, mark)
+        way = Way((take_item_out(scene.texts, text, entry, bad[0]),), write)
+        cure = cure_at(scene, text, entry, (f"`{bad[0].text}` is no name.", *says), way)
+        return replace(cure, mark=(bad[0].start, bad[0].end)) if bad[0].line == entry.line else cure
+    return cure_at(scene, text, entry, says, Way((), "Write a value that it takes, or leave it out."))
 
 
-def bad_items(entry: Entry) -> list:
+def of_no_mapping(scene: Scenery, text: str, line: int) -> Cure:
+    out = (blanks(text, line, block_end(scene.texts, text, line)),) if line < len(scene.texts[text]) else ()
+    says = ("A text is a mapping of sections, as `switches:`.",)
+    return Cure(says, False, (Way(out, "Write sections with entries below them."),), out)
+
+
+def bad_items(entry: Entry) -> list[Node]:
     """The items of a list that are no names, nor names with a condition."""
     return [it for it in entry.value.texts() if not re.fullmatch(r"[\w.-]{1,64}(\{.*\})?", it.text, re.ASCII)]
 
