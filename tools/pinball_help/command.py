@@ -10,7 +10,7 @@ from .answers import complaint_of
 from .findings import Finding, as_json, cure_of, finding_of, shown
 from .program import NoAnswer, Program
 from .scenery import Scenery
-from .texts import read_texts, write_texts
+from .texts import MACHINE, read_texts, write_texts
 from .ways import Cure
 
 ABOUT = "Helps with the answers of pinball: it calls the program and reads what it says. It proves nothing."
@@ -178,5 +178,7 @@ def main() -> int:
         if isinstance(error, BrokenPipeError):
             sys.stderr.close()  # (nobody reads on: Python would complain as it ends)
             return 0
-        print(f"pinball-help: {error}", file=sys.stderr)
+        missing = isinstance(error, FileNotFoundError) and str(error.filename).endswith(MACHINE)
+        words = f"there is no {error.filename}: give the folder that has `config/` in it" if missing else error
+        print(f"pinball-help: {words}", file=sys.stderr)
         return 2

@@ -96,7 +96,7 @@ def with_number(said: str, complaint: Complaint, number: int) -> str:
 def finding_of(scene: Scenery, complaint: Complaint, cure: Cure, way: Way | None, original: Texts) -> Finding:
     says, general = words_of(complaint)
     text, at = cure.at or (complaint.text, complaint.line - 1)
-    number = scene.number(text, at)
+    number = scene.number(text, at) if text in scene.texts else complaint.line
     lines = original.get(text, [])
     source = lines[number - 1].text.rstrip("\r") if 0 < number <= len(lines) else ""
     start, end = cure.mark or mark_of(source, complaint.key)
@@ -127,7 +127,7 @@ def printable(text: str) -> str:
 
 def shown(finding: Finding) -> list[str]:
     """The lines that a person reads."""
-    where = f"{finding.text}:{finding.line}: " if finding.line else ""
+    where = f"{finding.text}:{finding.line}: " if finding.line and finding.text else ""
     lines = [f"{where}{finding.said}"]
     if finding.source.strip():
         before = printable(finding.source[: finding.column - 1])
