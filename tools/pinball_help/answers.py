@@ -1,0 +1,84 @@
+"""The lines that `pinball check`, `verify` and `play` write, as values."""
+import re
+from dataclasses import dataclass
+
+# NAME, TEXT and LINE of an `error`, and of the faults 1 to 6, have the same places
+PLACED = re.compile(r"^(?P<kind>error|fault) (?P<number>\d+) (?P<name>\w+) (?P<text>.+?) (?P<line>\d+) (?P<key>.*)$")
+WHOLE = re.compile(r"^fault (?P<number>\d+) (?P<name>\w+)(?: (?P<rest>.*))?$")
+NOTE = re.compile(r"^note (?P<text>.+?) (?P<line>\d+) (?P<name>skipped|absent|unlisted) (?P<key>.*)$")
+REFUSED = re.compile(r"^refused (?P<line>\d+) (?P<number>\d+) (?P<name>\w+)$")
+STOPPED = re.compile(r"^fault: (?P<name>\w+)$")
+CERTIFICATE_FAULTS = ("Line", "Events", "Short", "Bound")
+
+
+@dataclass(frozen=True)
+class Complaint:
+    """One line of an answer that says that something is refused, or is not read."""
+
+    said: str
+    message: str  # its key in `messages.MESSAGES`, such as `error 3 Yaml Tab`
+    name: str  # such as `Yaml`
+    text: str = ""  # the name of the text, such as `config/config.yaml`
+    line: int = 0  # from 1; 0 where it has no place
+    key: str = ""
+    words: tuple[str, ...] = ()  # of a fault without a place: what follows its name
+
+    @property
+    def is_note(self) -> bool:
+        return self.message.startswith("note")
+
+
+@dataclass(frozen=True)
+class Answer:
+    complaints: tuple[Complaint, ...]
+    notes: tuple[Complaint, ...]
+    accepted: bool
+    bound: int
+    weights: dict[str, int]
+
+
+def unescaped(text: str) -> str:
+    """The text of a name, in which control characters are written as `\\x` and two digits."""
+    return re.sub(r"\\x([0-9a-f]{2})", lambda found: chr(int(found[1], 16)), text)
+
+
+def complaint_of(said: str) -> Complaint | None:
+    """The complaint that a line says, or none of any other line."""
+    if found := NOTE.match(said):
+        name = found["name"]
+        return Complaint(said, f"note {name}", name, found["text"], int(found["line"]), unescaped(found["key"]))
+    if found := REFUSED.match(said):
+        return Complaint(said, f"refused {found['number']} {found['name']}", found["name"], "", int(found["line"]))
+    if found := STOPPED.match(said):
+        return Complaint(said, said, found["name"])
+    if (found := PLACED.match(said)) and (found["kind"] == "error" or int(found["number"]) < 7):
+        message = f"{found['kind']} {found['number']} {found['name']}"
+        message += f" {found['key']}" if found["name"] == "Yaml" else ""
+        key = unescaped(found["key"])
+        return Complaint(said, message, found["name"], unescaped(found["text"]), int(found["line"]), key)
+    if found := WHOLE.match(said):
+        words = tuple((found["rest"] or "").split())
+        message = f"fault {found['number']} {found['name']}"
+        if words and words[0] in CERTIFICATE_FAULTS and found["name"] == "Certificate":
+            message += f" {words[0]}"
+        return Complaint(said, message, found["name"], words=words)
+    return None
+
+
+def answer_of(output: str) -> Answer:
+    """What an output of `check` or `verify` says."""
+    lines = output.split("\n")
+    complaints = [found for found in map(complaint_of, lines) if found]
+    weights = {}
+    for line in lines:
+        if line.startswith("event "):
+            _, name, weight = line.split(" ")
+            weights[name] = int(weight)
+    bounds = [int(line.split(" ")[1]) for line in lines if re.match(r"bound \d+$", line)]
+    return Answer(
+        tuple(it for it in complaints if not it.is_note),
+        tuple(it for it in complaints if it.is_note),
+        "yes" in lines,
+        bounds[0] if bounds else 0,
+        weights,
+    )

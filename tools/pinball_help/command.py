@@ -1,0 +1,184 @@
+"""The words of the command line, and what each subcommand writes."""
+import argparse
+import json
+import sys
+from dataclasses import asdict
+from pathlib import Path
+
+from . import errors, picture, program, trace, unused
+from .answers import complaint_of
+from .findings import Finding, as_json, cure_of, finding_of, shown
+from .program import NoAnswer, Program
+from .scenery import Scenery
+from .texts import MACHINE, read_texts, write_texts
+from .ways import Cure
+
+ABOUT = "Helps with the answers of pinball: it calls the program and reads what it says. It proves nothing."
+NO_PROOF = "These are hints, and nothing here is proved. The answer that counts is that of `pinball check`."
+
+
+def write_errors(asked: argparse.Namespace) -> int:
+    tool = find(asked)
+    keep = Path(asked.keep) if asked.keep else None
+    if keep and keep.exists():
+        raise ValueError(f"{keep} is there already: give the name of a folder that is not")
+    report = errors.search(tool, Path(asked.dir), leave_out=keep is not None)
+    found = [it for it in report.findings if not it.follows]
+    if keep:
+        write_texts(report.texts, keep)
+    if asked.json:
+        print(json.dumps([as_json(it) for it in found], indent=2))
+        return 1 if found else 0
+    warning = kept_words(report, keep) if keep and found else ""
+    print(warning, end="\n" if warning else "")
+    for number, finding in enumerate(found, 1):
+        print(f"{number}. " + "\n".join(shown(finding)) + "\n")
+    print(counted(report, found))
+    print(NO_PROOF)
+    print(warning, end="")
+    return 1 if found else 0
+
+
+def counted(report: errors.Report, found: list[Finding]) -> str:
+    follows = len(report.findings) - len(found)
+    if not found:
+        return "Nothing to mend: the answer is yes."
+    more = f" {follows} more follow from these." if follows else ""
+    if report.unsolved or not (report.answer and report.answer.accepted):
+        more += " There may be others that come after the last of these: mend it, and look again."
+    return f"{len(found)} to mend, in this order or any other.{more}"
+
+
+def kept_words(report: errors.Report, keep: Path) -> str:
+    """What the answer for a copy does not cover."""
+    count = len(report.findings)
+    answer = "yes" if report.answer and report.answer.accepted else "no"
+    return (
+        f"!! {keep} IS NOT YOUR MACHINE: {count} places were refused, and are left out of it, each with a comment\n"
+        f"!! `# left out`. `pinball check {keep}` answers {answer}, about what is left and about nothing else.\n"
+    )
+
+
+def write_explain(asked: argparse.Namespace) -> int:
+    """Says what each line on standard input means. Without DIR it has no texts to look into."""
+    texts = read_texts(Path(asked.dir)) if asked.dir else {}
+    scene = Scenery(texts)
+    found = []
+    for line in sys.stdin.read().split("\n"):
+        if complaint := complaint_of(line):
+            cure = cure_of(scene, complaint) if texts else Cure()
+            way = next(iter(cure.ways), None)
+            found.append(finding_of(scene, complaint, cure, way, texts))
+        elif line == "yes":
+            print("yes: the machine is accepted. What that promises is in docs/promises.md.\n")
+    if asked.json:
+        print(json.dumps([as_json(it) for it in found], indent=2))
+    for finding in found if not asked.json else []:
+        print("\n".join(shown(finding)) + "\n")
+    return 0
+
+
+def write_unused(asked: argparse.Namespace) -> int:
+    tool = find(asked)
+    answer = tool.check(Path(asked.dir))
+    if not answer.accepted:
+        print("The machine is refused, so it has no list of events: mend it first (pinball-help errors DIR).")
+        return 1
+    found = unused.unused(Scenery(read_texts(Path(asked.dir))), answer)
+    if asked.json:
+        print(json.dumps([asdict(it) for it in found], indent=2))
+        return 0
+    print("\n".join(unused.shown(found)) if found else "Nothing is unused.")
+    print(NO_PROOF)
+    return 0
+
+
+def write_trace(asked: argparse.Namespace) -> int:
+    start, end = trace.moment_of(asked.start), trace.moment_of(asked.end) if asked.end else None
+    wanted = trace.Wanted(asked.owner, asked.device, asked.event, start, end)
+    for line in trace.shown((it.rstrip("\n") for it in sys.stdin), wanted):
+        print(line)
+    return 0
+
+
+def write_picture(asked: argparse.Namespace) -> int:
+    tool, folder = find(asked), Path(asked.dir)
+    answer = tool.check(folder)
+    if not answer.accepted and answer.complaints[0].message.startswith("error"):
+        print(f"pinball-help: the machine cannot be read: {answer.complaints[0].said}", file=sys.stderr)
+        return 1
+    trace_text = tool.output(["play", asked.log, str(folder)]) if asked.log and answer.accepted else None
+    text = picture.page(folder.resolve().name, Scenery(read_texts(folder)), answer, trace_text)
+    if asked.output == "-":
+        print(text, end="")
+    else:
+        Path(asked.output).write_text(text)
+        print(f"{asked.output}: {len(text) / 1e6:.1f} MB. Open it in a browser.")
+    return 0
+
+
+def find(asked: argparse.Namespace) -> Program:
+    tool = program.find(asked.program)
+    program.report(tool)
+    return tool
+
+
+def with_program(one: argparse.ArgumentParser) -> None:
+    """Takes the option after the subcommand too."""
+    one.add_argument("--program", metavar="PATH", default=argparse.SUPPRESS, help=argparse.SUPPRESS)
+
+
+def parser() -> argparse.ArgumentParser:
+    top = argparse.ArgumentParser(prog="pinball-help", description=ABOUT, epilog="docs/builders_bench.md has examples.")
+    top.add_argument("--program", metavar="PATH", help="the program `pinball`, if not the proved one")
+    commands = top.add_subparsers(required=True, metavar="COMMAND")
+    one = commands.add_parser("errors", help="all errors and faults of a machine at once")
+    one.add_argument("dir", metavar="DIR")
+    one.add_argument("--json", action="store_true", help="for editors")
+    one.add_argument(
+        "--keep", metavar="COPY", help="writes a folder in which all that is refused is left out, with comments"
+    )
+    with_program(one)
+    one.set_defaults(run=write_errors)
+    one = commands.add_parser("explain", help="a filter: what each line of an answer means, and what to do")
+    one.add_argument("dir", metavar="DIR", nargs="?", help="the folder of the machine that the answer is about")
+    one.add_argument("--json", action="store_true")
+    one.set_defaults(run=write_explain)
+    one = commands.add_parser(
+        "unused", help="what a machine has and nothing uses: events, switches, coils, shots, modes"
+    )
+    one.add_argument("dir", metavar="DIR")
+    one.add_argument("--json", action="store_true")
+    with_program(one)
+    one.set_defaults(run=write_unused)
+    one = commands.add_parser("trace", help="a filter for what `pinball play` writes")
+    one.add_argument("--owner", default="", help="only what this mode does, or `machine`")
+    one.add_argument("--device", default="", help="only lines that name this switch, coil, counter, shot ..")
+    one.add_argument("--event", default="", metavar="PATTERN", help="only events that a regular expression finds")
+    one.add_argument("--from", dest="start", default="0", metavar="TIME", help="as 0:05.250, 5.25s or 5250")
+    one.add_argument("--to", dest="end", default="", metavar="TIME")
+    one.set_defaults(run=write_trace)
+    one = commands.add_parser("picture", help="a page with the graph of what posts what, and the timeline of a play")
+    one.add_argument("dir", metavar="DIR")
+    one.add_argument("--log", metavar="LOG", help="plays this log, and draws it")
+    one.add_argument("-o", "--output", default="-", metavar="FILE", help="where the page goes; else standard output")
+    with_program(one)
+    one.set_defaults(run=write_picture)
+    return top
+
+
+def main() -> int:
+    asked = parser().parse_args()
+    try:
+        return asked.run(asked)
+    except NoAnswer as error:
+        print(f"pinball-help: {error}", file=sys.stderr)
+        return 3
+    except (OSError, ValueError) as error:
+        if isinstance(error, BrokenPipeError):
+            sys.stderr.close()  # (nobody reads on: Python would complain as it ends)
+            return 0
+        missing = isinstance(error, FileNotFoundError) and str(error.filename).endswith(MACHINE)
+        words = f"there is no {error.filename}: give the folder that has `config/` in it" if missing else error
+        print(f"pinball-help: {words}", file=sys.stderr)
+        return 2

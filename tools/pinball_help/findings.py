@@ -1,0 +1,153 @@
+"""What is said of one complaint: its place in the user's file, the words, and what to write."""
+import re
+from dataclasses import asdict, dataclass
+
+from . import messages, ways_of_errors, ways_of_faults, ways_of_wholes, ways_of_yaml
+from .answers import Complaint
+from .scenery import Scenery
+from .texts import Edit, Line, Texts
+from .ways import Cure, Way
+
+
+@dataclass(frozen=True)
+class Change:
+    """A line of a file becomes another one, or nothing; or, if `is_new`, a line comes after it."""
+
+    text: str
+    line: int
+    new: str
+    is_new: bool
+
+
+@dataclass(frozen=True)
+class Finding:
+    said: str  # the line of the answer, with the line number of the user's file
+    message: str
+    text: str
+    line: int  # 0 where it has no place
+    column: int  # from 1
+    width: int
+    source: str
+    says: tuple[str, ...]
+    near: str
+    why: str
+    write: str
+    changes: tuple[Change, ...]  # what mends it, in the user's file
+    part: str
+    follows: bool = False  # from another finding, or from what a copy leaves out
+
+
+def cure_of(scene: Scenery, complaint: Complaint) -> Cure:
+    if complaint.text not in ("", "-") and complaint.text not in scene.texts:
+        return Cure()
+    if complaint.name == "Yaml":
+        return ways_of_yaml.cure_of(scene, complaint.text, complaint.line - 1, complaint.key)
+    ways = {**ways_of_faults.WAYS, **ways_of_errors.WAYS}
+    if complaint.message in ways_of_wholes.WAYS:
+        return ways_of_wholes.WAYS[complaint.message](scene, complaint)
+    return ways[complaint.name](scene, complaint) if complaint.name in ways and complaint.line else Cure()
+
+
+def words_of(complaint: Complaint) -> tuple[str, str]:
+    """The words of the table for a complaint: what it says, and what to do."""
+    message = messages.MESSAGES[complaint.message]
+    words = [*complaint.words, "", "", ""]
+    fields = {"key": complaint.key or "-", "text": complaint.text, "line": complaint.line}
+    return message.says.format(*words, **fields), message.cure.format(*words, **fields)
+
+
+def changes_of(scene: Scenery, edits: tuple[Edit, ...]) -> tuple[Change, ...]:
+    """The lines of the user's files that the edits change."""
+    found = []
+    for edit in edits:
+        before = max((scene.number(edit.text, at) for at in range(edit.first)), default=0)
+        for place, new in enumerate(edit.lines):
+            at = edit.first + place
+            if at < edit.last:
+                before = scene.number(edit.text, at) or before
+                if scene.texts[edit.text][at].text != new:
+                    found.append(Change(edit.text, before, new.rstrip("\r"), False))
+            else:
+                found.append(Change(edit.text, before, new.rstrip("\r"), True))
+    return tuple(found)
+
+
+def changed(texts: Texts, changes: tuple[Change, ...]) -> Texts:
+    """The texts after these changes. Lines are known by their numbers."""
+    result = {name: list(lines) for name, lines in texts.items()}
+    for change in changes:
+        lines = result[change.text]
+        at = max((place for place, line in enumerate(lines) if line.number == change.line), default=-1)
+        if not change.is_new:
+            lines[at] = Line(change.line, change.new)
+        else:
+            while at + 1 < len(lines) and lines[at + 1].number == 0:
+                at += 1
+            lines.insert(at + 1, Line(0, change.new))
+    return result
+
+
+def with_number(said: str, complaint: Complaint, number: int) -> str:
+    """The line of the answer, with the line of the user's file in place of that of the copy."""
+    start = complaint.text + " "
+    return said.replace(f" {start}{complaint.line} ", f" {start}{number} ", 1)
+
+
+def finding_of(scene: Scenery, complaint: Complaint, cure: Cure, way: Way | None, original: Texts) -> Finding:
+    says, general = words_of(complaint)
+    text, at = cure.at or (complaint.text, complaint.line - 1)
+    number = scene.number(text, at) if text in scene.texts else complaint.line
+    lines = original.get(text, [])
+    source = lines[number - 1].text.rstrip("\r") if 0 < number <= len(lines) else ""
+    start, end = cure.mark or mark_of(source, complaint.key)
+    start = min(start, len(source))
+    way = way or Way(())
+    return Finding(
+        complaint.said if cure.at else with_number(
+            complaint.said, complaint, number
+        ), complaint.message, text, number, start + 1,
+        max(1, min(end, len(source)) - start), source, cure.says if cure.whole else (
+            says, *cure.says
+        ), way.near, way.why, way.write or general,
+        changes_of(scene, way.edits), messages.link(complaint.message),
+    )
+
+
+def mark_of(source: str, key: str) -> tuple[int, int]:
+    found = source.find(key) if key and key != "-" else -1
+    if found >= 0:
+        return found, found + len(key)
+    content = re.search(r"\S.*", source)
+    return content.span() if content else (0, 1)
+
+
+def printable(text: str) -> str:
+    return "".join(it if it.isprintable() else "?" for it in text.replace("\t", "    "))
+
+
+def shown(finding: Finding) -> list[str]:
+    """The lines that a person reads."""
+    where = f"{finding.text}:{finding.line}: " if finding.line and finding.text else ""
+    lines = [f"{where}{finding.said}"]
+    if finding.source.strip():
+        before = printable(finding.source[: finding.column - 1])
+        marked = printable(finding.source[finding.column - 1 :][: finding.width])
+        lines.append(f"  {finding.line:>5} | {printable(finding.source)}")
+        lines.append(f"        | {' ' * len(before)}{'^' * max(1, len(marked))}")
+    lines += [f"  {it}" for it in finding.says]
+    lines += [f"  Near it: `{finding.near}`."] if finding.near else []
+    lines += [f"  {finding.why}"] if finding.why else []
+    lines += [f"  To do: {finding.write}"]
+    lines += [
+        f"  {'' if it.is_new else it.line:>5} + {printable(it.new)}" for it in finding.changes if it.new.strip()
+    ][:4]
+    gone = [it.line for it in finding.changes if not it.new.strip()]
+    if gone and len(gone) == len(finding.changes):
+        lines.append(f"  {gone[0]:>5} - (taken out{f', up to line {gone[-1]}' if gone[1:] else ''})")
+    lines += [f"  More: {finding.part}"]
+    return lines
+
+
+def as_json(finding: Finding) -> dict:
+    """The finding as editors read it."""
+    return asdict(finding)

@@ -1,0 +1,275 @@
+"""What people who know MPF write as values, and what to write here: one row for each kind of value.
+
+A row holds for an entry of a section (or of several) whose key and raw value match. `edit` is what makes a copy right:
+
+    out           the entry is taken out
+    sub A B       each match of A in its lines becomes B
+    value B       its value becomes B
+    keys          a mapping becomes the list of its keys
+    first         a list becomes its first item
+
+`sample` is a text in which the program refuses the value; tools/test_help tries each row on its sample."""
+from dataclasses import dataclass
+
+TIME = r"\d[\d.]*\s*(?:ms|s|m|h|d|msec|sec|secs|min|mins)?"
+EVENTS = r"\w*_events|events_when_\w+|events"
+GAME = "game:\n"
+
+
+@dataclass(frozen=True)
+class Idiom:
+    section: str
+    setting: str  # of the entry at fault
+    value: str  # is found in its value
+    mpf: str  # what it means in MPF, or why it is refused
+    write: str
+    edit: tuple[str, ...]
+    sample: str
+
+
+ANY = ".*"
+ENTRY = "(an entry of the section)"
+IDIOMS = (
+    Idiom(
+        "event_player", ANY, rf"\|\s*{TIME}",
+        "MPF posts the event after a time. Delays are not carried out here.",
+        "Post it without the delay; or let the event start a mode with a timer, as docs/faults.md shows.",
+        ("sub", rf"\|\s*{TIME}", ""), "event_player:\n  a: b|2s",
+    ),
+    Idiom(
+        ANY, r"events_when_\w+", rf"\w\s*\|\s*{TIME}",
+        "MPF posts the event after a time. Delays are not carried out here.",
+        "Write the event without the time.",
+        ("sub", rf"\|\s*{TIME}", ""), "switches:\n  s:\n    events_when_activated: a|100ms",
+    ),
+    Idiom(
+        ANY, EVENTS, rf"[\w}}]\s*\|\s*{TIME}",
+        "MPF handles the event after a time. Delays are not carried out here.",
+        "Write the event without the time.",
+        ("sub", rf"\|\s*{TIME}", ""), "counters:\n  c:\n    count_events: a|2s",
+    ),
+    Idiom(
+        "event_player", ANY, r"\w\s*\{[^}]*\}",
+        "A condition of an event that is posted is not read.",
+        "Move the condition to the event that is handled: `a{current_player.x==1}: b`.",
+        ("sub", r"(:.*\w)\{[^}]*\}", r"\1"), "event_player:\n  a: b{current_player.x==1}",
+    ),
+    Idiom(
+        "event_player", ANY, r"\([^)]*\)",
+        "MPF writes a value in place of the brackets. Placeholders are not carried out here.",
+        "Write the names of the events themselves.",
+        ("sub", r"[\w.]*\([^)]*\)[\w.]*", "an_event"), "event_player:\n  a: (name)_hit",
+    ),
+    Idiom(
+        "event_player", ANY, r"priority\s*:|^$",
+        "Settings of a posted event are not read here.",
+        "Write the names of the events alone: `a: b, c`.",
+        ("keys",), "event_player:\n  a:\n    b:\n      priority: 5",
+    ),
+    Idiom(
+        ANY, EVENTS, r"^\{?\s*[\w.]+\s*:",
+        "MPF takes an event with a delay, as `e: 1s`. Delays are not carried out here.",
+        "Write a list of the events' names.",
+        ("keys",), "counters:\n  c:\n    count_events: a\n    reset_events: {e: 1s}",
+    ),
+    Idiom(
+        ANY, EVENTS + "|control_events", r"\{[^}]*\b(?:device|mode|settings|machine|players?)\b[^}]*\}",
+        "A condition compares a variable of the current player with a whole number, and nothing else.",
+        "Keep what it asks for in a variable: `{current_player.x == 1}`.",
+        ("sub", r"\{[^}]*\}", ""), "shots:\n  s: {hit_events: 'a{mode.base.active}'}",
+    ),
+    Idiom(
+        ANY, EVENTS, r"\{(?![^}]*current_player\.)[^}]*[=<>][^}]*\}",
+        "A condition without `current_player.` is not read.",
+        "Write `{current_player.x==1}`.",
+        ("sub", r"\{\s*(\w)", r"{current_player.\1"), "counters:\n  c:\n    count_events: a{x==1}",
+    ),
+    Idiom(
+        ANY, EVENTS, r"\{[^}]*\b(?:and|or|not)\b[^}]*\}",
+        "A condition has one comparison.",
+        "For `and`, let one event lead to another, with a condition at each; for `or`, write two entries.",
+        ("sub", r"\s+(?:and|or)\b[^}]*\}", "}"),
+        "counters:\n  c:\n    count_events: a{current_player.x==1 and current_player.y==2}",
+    ),
+    Idiom(
+        "variable_player", ANY, r"current_player|[*/()]|\d\s*[+-]\s*\d",
+        "MPF works out a formula here. A variable changes by a whole number that is written.",
+        "Write the number. For steps that depend on another variable write an entry for each value, with a condition: "
+        "`e{current_player.x == 2}:`.",
+        ("value", "1000"), "variable_player:\n  e:\n    score: 1000 * current_player.x",
+    ),
+    Idiom(
+        "variable_player", ANY, r"\|\s*block",
+        "In MPF `block` keeps entries of lower priority from scoring. Here each entry scores.",
+        "Write the number alone.",
+        ("sub", r"\s*\|\s*block", ""), "variable_player:\n  e:\n    score: 100|block",
+    ),
+    Idiom(
+        "variable_player", "action", r"add_machine|set_machine",
+        "There are no machine variables here.",
+        "Write `add` or `set`: the variable is the current player's.",
+        ("sub", "_machine", ""), "variable_player:\n  e:\n    score: {int: 1, action: add_machine}",
+    ),
+    Idiom(
+        "variable_player", "action", r"subtract",
+        "There is no such action here.",
+        "Write `add` with a negative number.",
+        ("value", "add"), "variable_player:\n  e:\n    score: {int: 1, action: subtract}",
+    ),
+    Idiom(
+        "variable_player", ANY, r"^-?\d*\.\d+$",
+        "A variable is a whole number.", "Write a whole number.",
+        ("sub", r"(:\s*-?\d+)\.\d+", r"\1"), "variable_player:\n  e:\n    score: 1.5",
+    ),
+    Idiom(
+        "switches|coils|flippers|autofire_coils", ENTRY, ANY,
+        "Its settings are missing, or are below it as one text.",
+        "Write its settings below it, deeper, each with a blank after the `:`.",
+        ("out",), "switches:\n  s: yes",
+    ),
+    Idiom(
+        "switches", "type", r"(?i)^n[co]$",
+        "Words are compared as they are written.", "Write `NO` or `NC`, in capitals.",
+        ("upper",), "switches:\n  s: {type: nc}",
+    ),
+    Idiom(
+        "switches", "debounce", r"\d",
+        "`debounce` takes no time here.", "Write `auto`, `quick` or `normal`.",
+        ("value", "normal"), "switches:\n  s: {debounce: 5ms}",
+    ),
+    Idiom(
+        "switches", "debounce", r"(?i)^(yes|true|on)$",
+        "`debounce` is no yes or no.", "Write `normal`, or `quick` for none.",
+        ("value", "normal"), "switches:\n  s: {debounce: yes}",
+    ),
+    Idiom(
+        "switches", "debounce", r"(?i)^(no|false|off)$",
+        "`debounce` is no yes or no.", "Write `quick`.",
+        ("value", "quick"), "switches:\n  s: {debounce: no}",
+    ),
+    Idiom(
+        "coils", r"\w+_pulse_ms", r"^\d{4,}|^[\d.]+ *s$|^0",
+        "A pulse lasts from 1 to 5,000 ms.", "Write how long the coil may be on, as `20ms`.",
+        ("out",), "coils:\n  c: {default_pulse_ms: 6000}",
+    ),
+    Idiom(
+        "coils|coil_player", r"\w*(?:pulse|hold)_power", r"^[\d.]+$",
+        "A power is a part of full power, from 0 to 1. MPF before 0.50 counted in eighths.",
+        "Write a part, as `0.25` or `25%`.",
+        ("value", "0.25"), "coils:\n  c: {default_hold_power: 25}",
+    ),
+    Idiom(
+        "coil_player", ANY, r"^(?i:on|yes|true)$",
+        "A coil is pulsed, enabled or disabled.", "Write `enable` to hold the coil, or `pulse`.",
+        ("value", "pulse"), "coils:\n  c:\ncoil_player:\n  e:\n    c: on",
+    ),
+    Idiom(
+        "coil_player", ANY, r"^(?i:off|no|false)$",
+        "A coil is pulsed, enabled or disabled.", "Write `disable`.",
+        ("value", "disable"), "coils:\n  c:\ncoil_player:\n  e:\n    c: off",
+    ),
+    Idiom(
+        "coil_player", ANY, r"^\d+(ms)?$",
+        "The length of a pulse is a setting of its own.", "Write `{action: pulse, pulse_ms: 20}`.",
+        ("value", "pulse"), "coils:\n  c:\ncoil_player:\n  e:\n    c: 20ms",
+    ),
+    Idiom(
+        "coil_player", ANY, r"^$",
+        "The coil has nothing that it can do.", "Write what it does: `pulse`, `enable` or `disable`.",
+        ("value", "pulse"), "coils:\n  c:\ncoil_player:\n  e:\n    c:",
+    ),
+    Idiom(
+        "coil_player", "action", r"timed_enable|flash|blink",
+        "There is no such action here.", "Write `enable`, and `disable` at another event; or `pulse`.",
+        ("value", "pulse"), "coils:\n  c:\ncoil_player:\n  e:\n    c: {action: timed_enable}",
+    ),
+    Idiom(
+        "ball_devices", "eject_targets", r"[,\s\[]|^$",
+        "A device has one target here, written as one name.", "Write the first target alone.",
+        ("first",),
+        "coils:\n  c:\nball_devices:\n  d: {ball_switches: '', eject_coil: c, eject_targets: 'playfield, x'}",
+    ),
+    Idiom(
+        "ball_devices", "eject_timeouts", r"[,\[]",
+        "A device has one target here, so one time.", "Write one time.",
+        ("first",), "coils:\n  c:\nball_devices:\n  d: {ball_switches: '', eject_coil: c, eject_timeouts: '5s, 9s'}",
+    ),
+    Idiom(
+        "game", "max_players", ANY,
+        "A game has from 1 to 4 players.", "Write a number from 1 to 4.",
+        ("value", "4"), "game:\n  max_players: 6",
+    ),
+    Idiom(
+        "game", "balls_per_game", ANY,
+        "A player has from 1 to 99 balls. MPF may read it from its settings.", "Write the number.",
+        ("value", "3"), "game:\n  balls_per_game: settings.balls_per_game",
+    ),
+    Idiom(
+        "mode", "use_wait_queue", ANY,
+        "No event waits for a mode here.", "Take it out.",
+        ("out",), "mode:\n  use_wait_queue: yes",
+    ),
+    Idiom(
+        "mode", "game_mode|stop_on_ball_end", r"^[01]$",
+        "A boolean is a word.", "Write `yes` or `no`.",
+        ("boolean",), "mode:\n  game_mode: 0",
+    ),
+    Idiom(
+        "mode", "priority", r"^\+|^-",
+        "A priority is from 0 to 1,000,000.", "Write the number without a sign.",
+        ("sub", r"([+-])(\d)", r"\2"), "mode:\n  priority: +100",
+    ),
+    Idiom(
+        "timers", r"\w+", r"current_player|settings|[*/(]",
+        "MPF works out a formula here. A timer takes a number that is written.", "Write the number.",
+        ("value", "10"), "mode:\ntimers:\n  t: {start_value: current_player.x, start_running: yes}",
+    ),
+    Idiom(
+        "timers", r"\w+_value", r"\.\d",
+        "The value of a timer is a whole number.", "Write a whole number. For shorter steps see `tick_interval`.",
+        ("sub", r"(\d)\.\d+", r"\1"), "mode:\ntimers:\n  t: {start_value: 1.5}",
+    ),
+    Idiom(
+        "timers", r"\w+_value", r"^$",
+        "The value is missing.", "Write a whole number, or take it out.",
+        ("out",), "mode:\ntimers:\n  t:\n    end_value:",
+    ),
+    Idiom(
+        "timers", "tick_interval", ANY,
+        "A tick takes a millisecond or more.", "Write a time, as `1s`.",
+        ("value", "1s"), "mode:\ntimers:\n  t: {tick_interval: 0}",
+    ),
+    Idiom(
+        "timers", "action", ANY,
+        "There is no such action of a timer here.", "Write `start`, `stop`, `pause`, `reset`, `restart`, `add`, "
+        "`subtract` or `jump`.",
+        ("value", "start"), "mode:\ntimers:\n  t:\n    control_events:\n    - {event: e, action: begin}",
+    ),
+    Idiom(
+        "shots", "switch", r"[,\s\[]",
+        "A shot has one switch here.",
+        "Write one switch, and for a second switch `s_b` the event `s_b_active` in `hit_events`.",
+        ("first",), "switches:\n  s_a:\n  s_b:\nshots:\n  x: {switch: 's_a, s_b'}",
+    ),
+    Idiom(
+        "shot_profiles", "states", ANY,
+        "A state is a mapping with a `name`; a profile has 1 to 16 of them, each with a name of its own.",
+        "Write `- name: lit` for each state.",
+        ("states",), "shot_profiles:\n  p:\n    states:\n      - up\n      - down",
+    ),
+    Idiom(
+        "accruals|sequences", "events", ANY,
+        "Each step is an item of a YAML list.", "Write a line `- EVENT` for each step.",
+        ("steps",), "accruals:\n  a:\n    events: x, y",
+    ),
+    Idiom(
+        "", "modes", r"machine",
+        "`machine` stands for what is in no mode.", "Give the mode another name.",
+        ("sub", r"\bmachine\b", "machine_mode"), "modes:\n  - machine",
+    ),
+    Idiom(
+        "", "modes", r":",
+        "`modes` is a list of names.", "Write a line `- NAME` for each mode.",
+        ("keys",), "modes:\n  base:\n  bonus:",
+    ),
+)

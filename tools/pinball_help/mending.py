@@ -1,0 +1,120 @@
+"""Edits of a copy: what takes an entry out, renames it, or gives it another value."""
+import re
+
+from .outline import Entry, Node, indentation, is_item, without_comment
+from .texts import VERSION, Edit, Texts
+
+
+def line_of(texts: Texts, name: str, at: int) -> str:
+    lines = texts.get(name, [])
+    return lines[at].text.rstrip("\r") if 0 <= at < len(lines) else ""
+
+
+def blanks(name: str, first: int, last: int) -> Edit:
+    return Edit(name, first, last, ("",) * (last - first))
+
+
+def block_end(texts: Texts, name: str, at: int) -> int:
+    """The line after the block of a line: all that is deeper, and a list at the indentation of its key."""
+    lines = texts[name]
+    head = lines[at].text
+    depth, end, last = indentation(head), at + 1, at + 1
+    while end < len(lines):
+        text = without_comment(lines[end].text.rstrip("\r"))
+        if text.strip():
+            deeper = indentation(text) > depth or is_item(text) and not is_item(head) and indentation(text) == depth
+            if not deeper:
+                break
+            last = end + 1
+        end += 1
+    return last
+
+
+def cut(line: str, start: int, end: int) -> str:
+    """A line without a part of it, and without the comma of this part."""
+    before, after = line[:start].rstrip(), line[end:].lstrip()
+    if after.startswith(","):
+        gap = " " if before and before[-1] not in "[{" else ""
+        return before + gap + after[1:].lstrip()
+    return before.removesuffix(",") + (" " if after.startswith("#") else "") + after
+
+
+def take_out(texts: Texts, name: str, entry: Entry) -> Edit:
+    """Takes an entry out, with all that is below it."""
+    line = line_of(texts, name, entry.line)
+    if entry.in_braces:
+        return Edit(name, entry.line, entry.line + 1, (cut(line, entry.start, entry.value.end),))
+    last = max(entry.last, entry.line + 1)
+    first = line[: entry.start].rstrip()  # the dash of an item whose first entry this is
+    return Edit(name, entry.line, last, (first,) + ("",) * (last - entry.line - 1))
+
+
+def take_item_out(texts: Texts, name: str, entry: Entry, item: Node) -> Edit:
+    """Takes one item out of a list; the whole entry if there is no other."""
+    if len(entry.value.texts()) < 2:
+        return take_out(texts, name, entry)
+    line = line_of(texts, name, item.line)
+    if is_item(line) and not re.search(r"[\[,]", line[: item.start]):
+        return blanks(name, item.line, item.line + 1)
+    return Edit(name, item.line, item.line + 1, (cut(line, item.start, item.end),))
+
+
+def replace(texts: Texts, name: str, at: int, start: int, end: int, new: str) -> Edit:
+    line = line_of(texts, name, at)
+    return Edit(name, at, at + 1, (line[:start] + new + line[end:],))
+
+
+def rename(texts: Texts, name: str, entry: Entry, new: str) -> Edit:
+    return replace(texts, name, entry.line, entry.start, entry.end, new)
+
+
+def give(texts: Texts, name: str, entry: Entry, value: str) -> Edit:
+    """Gives an entry another value, on its line."""
+    line = line_of(texts, name, entry.line)
+    if entry.in_braces:
+        return replace(texts, name, entry.line, entry.end, entry.value.end, f": {value}")
+    comment = line[len(without_comment(line)) :]
+    last = max(entry.last, entry.line + 1)
+    new = f"{line[:entry.end]}: {value}{comment}"
+    return Edit(name, entry.line, last, (new,) + ("",) * (last - entry.line - 1))
+
+
+def add(texts: Texts, name: str, entry: Entry, setting: str) -> Edit:
+    """Writes one setting more into an entry."""
+    line = line_of(texts, name, entry.line)
+    value = entry.value
+    if value.entries is not None and value.line == entry.line and line[value.start : value.start + 1] == "{":
+        rest = line[value.start + 1 :]
+        comma = "" if rest.lstrip().startswith("}") else ", "
+        return Edit(name, entry.line, entry.line + 1, (line[: value.start + 1] + setting + comma + rest,))
+    depth = value.entries[0].start if value.entries else indentation(line) + 2
+    return Edit(name, entry.line, entry.line + 1, (line, " " * depth + setting))
+
+
+def substitute(texts: Texts, name: str, entry: Entry, found: str, new: str) -> Edit:
+    """Replaces each match in the value of an entry; in the key too, where the match begins there."""
+    last = max(entry.last, entry.line + 1)
+    lines = [line_of(texts, name, at) for at in range(entry.line, last)]
+    if entry.in_braces:
+        line = lines[0]
+        part = re.sub(found, new, line[entry.start : entry.value.end])
+        return Edit(name, entry.line, entry.line + 1, (line[: entry.start] + part + line[entry.value.end :],))
+    return Edit(name, entry.line, last, tuple(re.sub(found, new, line) for line in lines))
+
+
+def commented(edit: Edit, texts: Texts, why: str) -> Edit:
+    """The same edit, with a comment that has what it takes out, and why."""
+    old = [line_of(texts, edit.text, at) for at in range(edit.first, edit.last)]
+    if edit.lines[:1] == (VERSION,):
+        return edit  # (the first line takes no comment)
+    lines, said = [], False
+    for number, new in enumerate(edit.lines):
+        was = re.sub(r"[^\t -~]", "?", old[number] if number < len(old) else "").replace("\t", "  ")
+        if new == was or not was.strip() or was.lstrip().startswith("#"):
+            lines.append(new or was)
+            continue
+        reason = "" if said else f"left out ({re.sub(r'[^ -~]', '?', why)}): "
+        said = True
+        place = new.rstrip() + "  " if new.strip() else was[: indentation(was)]
+        lines.append(f"{place}# {reason}{was.strip()}")
+    return Edit(edit.text, edit.first, edit.last, tuple(lines))

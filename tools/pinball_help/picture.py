@@ -1,0 +1,165 @@
+"""One page with the graph of what posts what, and with a log the timeline of its play."""
+import html
+import json
+from pathlib import Path
+
+from .answers import Answer
+from .graph import CycleError, Graph, Post
+from .layout import Layout, add_lone, placed
+from .machine_graph import graph_of
+from .scenery import Scenery
+from .trace import Coils, Step, joined, steps_of, time_of, words_of
+
+HERE = Path(__file__).resolve().parent
+MOST_LINES = 60_000  # of a play that is drawn
+BALLS = ("in devices", "on the way", "on the playfield")
+
+
+def graph_data(scene: Scenery, graph: Graph, answer: Answer) -> dict:
+    """The boxes, bands and arrows of the graph, as the page reads them."""
+    cycle = next((it.words for it in answer.complaints if it.name == "Cycle"), ())
+    steps = set(zip(cycle, [*cycle[1:], *cycle[:1]]))
+    names, after = graph.names(), leads_to(graph)
+    weights = weights_of(graph, answer)
+    linked = {it for name, following in after.items() for it in (name, *following)} | {it.event for it in graph.handled}
+    layout = placed([it for it in names if it in linked], bands_of(graph), after)
+    add_lone(layout, [it for it in names if it not in linked])
+    names = list(layout.boxes)
+    number = {name: at for at, name in enumerate(names)}
+    outside = {it.posts for it in graph.posts if it.event.startswith(" ")}
+    arrows: dict[tuple[int, int, bool], list[str]] = {}
+    for it in graph.posts:
+        if it.event in number:
+            key = (number[it.event], number[it.posts], (it.event, it.posts) in steps)
+            arrows.setdefault(key, []).append(why_of(scene, it))
+    return {
+        "boxes": [box(layout, name, weights.get(name, 0), name in outside, name in linked) for name in names],
+        "bands": [[it.name, it.y, it.height] for it in layout.bands],
+        "arrows": [[one, other, int(red), list(dict.fromkeys(why))] for (one, other, red), why in arrows.items()],
+        "places": places(scene, graph, number),
+        "size": [layout.width + 20, layout.height],
+    }
+
+
+def leads_to(graph: Graph) -> dict[str, list[str]]:
+    """What each event leads to."""
+    after: dict[str, list[str]] = {}
+    for it in graph.posts:
+        if not it.event.startswith(" "):
+            after.setdefault(it.event, []).append(it.posts)
+    return {name: list(dict.fromkeys(it)) for name, it in after.items()}
+
+
+def bands_of(graph: Graph) -> dict[str, str]:
+    """The band of each event: the mode that alone posts it, or whose event it is; else the machine."""
+    posters: dict[str, set[str]] = {}
+    for it in graph.posts:
+        posters.setdefault(it.posts, set()).add(it.text.split("/")[1] if it.text.startswith("modes/") else "machine")
+    found = dict.fromkeys(graph.names(), "machine")
+    found.update({name: next(iter(it)) for name, it in posters.items() if len(it) == 1})
+    found.update({name: owner for name, owner in graph.owners.items() if owner != "machine"})
+    return found
+
+
+def why_of(scene: Scenery, post: Post) -> str:
+    return f"{post.why}, {scene.where(post.text, post.line)}" if post.entry else post.why
+
+
+def weights_of(graph: Graph, answer: Answer) -> dict[str, int]:
+    """Those of the certificate; else by the weighing of these tools; none where there is a cycle."""
+    if answer.weights:
+        return answer.weights
+    try:
+        return graph.weights()
+    except CycleError:
+        return {}
+
+
+def box(layout: Layout, name: str, weight: int, from_outside: bool, is_linked: bool) -> list:
+    at = layout.boxes[name]
+    return [name, round(at.x), round(at.y), round(at.width), weight, int(from_outside), int(is_linked)]
+
+
+def places(scene: Scenery, graph: Graph, number: dict[str, int]) -> dict[int, list[list[str]]]:
+    """Of each event, by its number: where it is handled, and what posts it from outside."""
+    found: dict[int, list[list[str]]] = {}
+    handled = [(it.event, 0, it) for it in graph.handled]
+    for name, which, it in [*handled, *((it.posts, 1, it) for it in graph.posts if it.event.startswith(" "))]:
+        found.setdefault(number[name], [[], []])[which].append(why_of(scene, it))
+    return {at: [list(dict.fromkeys(it)) for it in both] for at, both in found.items()}
+
+
+def play_data(trace: str) -> dict:
+    """The rows of the timeline: what was on from when to when, and what rose and fell."""
+    steps = [it for it in steps_of(trace.split("\n")) if isinstance(it, Step)]
+    cut, steps = len(steps) > MOST_LINES, steps[:MOST_LINES]
+    end = max((it.moment for it in steps), default=0)
+    spans: dict[tuple[str, str], list[list]] = {}
+    open_at: dict[tuple[str, str], int] = {}
+    levels: dict[str, list[list[int]]] = {}
+    coils = Coils()
+    for it in steps:
+        coils.take(it)
+        follow(it, spans, open_at, levels)
+    for key, start in open_at.items():
+        spans.setdefault(key, []).append([start, end])
+    for name, coil in coils.coils.items():
+        spans["coils", name] = [list(it) for it in joined([*coil.on, *([(coil.since, end)] if coil.holder else [])])]
+    return {
+        "end": end, "cut": cut,
+        "rows": [
+            [kind, name, it] for (kind, name), it in sorted(spans.items(), key=lambda row: ORDER.index(row[0][0]))
+        ],
+        "levels": [[name, it] for name, it in levels.items()],
+        "lines": [[it.moment, ("" if it.owner == "machine" else f"[{it.owner}] ") + words_of(it)] for it in steps],
+    }
+
+
+ORDER = ["modes", "switches", "coils"]
+
+
+def follow(step: Step, spans: dict, open_at: dict, levels: dict) -> None:
+    """Adds a step to the rows of switches and modes, and to the lines of balls and scores."""
+    words = step.words
+    if step.kind == "switch":
+        turn(spans, open_at, ("switches", words[0]), step.moment, words[1] == "active")
+    elif step.kind == "event" and words[0].startswith("mode_"):
+        for ending, begins in ("_started", True), ("_stopped", False):
+            if words[0].endswith(ending) and step.owner == "machine":
+                turn(spans, open_at, ("modes", words[0][5 : -len(ending)]), step.moment, begins)
+    elif step.kind == "balls":
+        for name, count in zip(BALLS, words[1:]):
+            levels.setdefault(f"balls {name}", [[0, 0]]).append([step.moment, int(count)])
+    elif step.kind == "player" and words[1] == "score":
+        levels.setdefault(f"score of player {words[0]}", [[0, 0]]).append([step.moment, int(words[2])])
+
+
+def turn(spans: dict, open_at: dict, key: tuple[str, str], moment: int, begins: bool) -> None:
+    if begins:
+        open_at.setdefault(key, moment)
+    elif key in open_at:
+        spans.setdefault(key, []).append([open_at.pop(key), moment])
+
+
+def answer_words(answer: Answer) -> str:
+    if answer.accepted:
+        return f"yes: accepted, with the bound {answer.bound}"
+    first = answer.complaints[0].said if answer.complaints else "no"
+    more = len(answer.complaints) - 1
+    return f"no: {first}" + (f" and {more} more" if more > 0 else "")
+
+
+def page(title: str, scene: Scenery, answer: Answer, trace: str | None) -> str:
+    """The page: the data of this machine in the page of picture.html."""
+    data = {"title": title, "answer": answer_words(answer), "yes": answer.accepted,
+            "graph": graph_data(scene, graph_of(scene), answer), "play": play_data(trace) if trace else None}
+    # (a script ends at the first `</`, wherever it is)
+    text = json.dumps(data, separators=(",", ":"), ensure_ascii=True).replace("</", "<\\/")
+    parts = {name: (HERE / f"picture.{name}").read_text() for name in ("css", "js")}
+    whole = (HERE / "picture.html").read_text()
+    for name, part in (*parts.items(), ("title", html.escape(title)), ("data", text)):
+        whole = whole.replace(f"{{{{{name}}}}}", part)
+    return whole
+
+
+__all__ = ["page", "time_of"]

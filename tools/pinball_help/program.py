@@ -1,0 +1,71 @@
+"""Finds the program `pinball`, and asks it."""
+import os
+import shutil
+import subprocess
+import sys
+from dataclasses import dataclass
+from pathlib import Path
+
+from .answers import Answer, answer_of
+
+TOP = Path(__file__).resolve().parents[2]
+
+
+class NoAnswer(Exception):
+    """There is no program, or it has no answer."""
+
+
+@dataclass(frozen=True)
+class Program:
+    path: str
+    what: str  # where it was found
+
+    def output(self, words: list[str], text: str | None = None) -> str:
+        """What the program writes. Raises NoAnswer where it ends with another status than yes and no."""
+        data = text.encode("utf-8", "surrogateescape") if text is not None else b""
+        try:
+            ran = subprocess.run([self.path, *words], input=data, capture_output=True, timeout=600)
+        except OSError as error:
+            raise NoAnswer(f"{self.path} does not run: {error.strerror}") from error
+        except subprocess.TimeoutExpired as error:
+            raise NoAnswer(f"{self.path} did not answer within ten minutes") from error
+        if ran.returncode not in (0, 1):
+            said = ran.stderr.decode("utf-8", "replace").strip()
+            raise NoAnswer(said or f"{self.path} ended with status {ran.returncode}")
+        return ran.stdout.decode("utf-8", "surrogateescape")
+
+    def check(self, folder: Path) -> Answer:
+        return answer_of(self.output(["check", str(folder)]))
+
+
+def proved() -> str | None:
+    """The path of the proved program, or none where there is none of these sources."""
+    ran = subprocess.run([TOP / "tools/proved"], capture_output=True, text=True)
+    return ran.stdout.strip() if ran.returncode == 0 else None
+
+
+def kept_unproved() -> str | None:
+    """The path of the unproved build that `examples/run` keeps, if it is of these sources."""
+    ran = subprocess.run([TOP / "tools/unproved", "--kept"], capture_output=True, text=True)
+    return ran.stdout.strip() if ran.returncode == 0 else None
+
+
+def find(given: str | None) -> Program:
+    """The program that was named, else the proved one, else the one on the PATH, else the unproved build."""
+    if given:
+        if not os.access(given, os.X_OK) or os.path.isdir(given):
+            raise NoAnswer(f"{given} is not a program")
+        return Program(os.path.abspath(given), "the program that you gave")
+    if path := proved():
+        return Program(path, "the proved program")
+    if path := shutil.which("pinball"):
+        return Program(path, "the program on the PATH")
+    if path := kept_unproved():
+        return Program(path, "an unproved build of the sources")
+    raise NoAnswer("no program pinball: run tools/build to prove and build it, or examples/run for an unproved build")
+
+
+def report(program: Program) -> None:
+    """Says on standard error which program answers, where it is not the proved one."""
+    if "unproved" in program.what:
+        print(f"(the answers are those of {program.what}: {program.path})", file=sys.stderr)

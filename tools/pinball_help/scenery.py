@@ -1,0 +1,119 @@
+"""The texts of a machine with their outlines, and what they define."""
+import re
+from dataclasses import dataclass
+from functools import cached_property
+from typing import Iterator
+
+from . import outline
+from .outline import Entry, Node
+from .texts import MACHINE, Texts, mode_text, plain
+
+
+@dataclass(frozen=True)
+class Place:
+    """A name where it is written: in the text `text`, as a key or as an item of the value of `entry`."""
+
+    text: str
+    line: int  # from 0, as all lines of a copy
+    entry: Entry
+    item: Node | None  # none where the name is the key
+
+
+class Scenery:
+    """The texts of a machine, as they are or in a copy.
+
+    A copy is made from the scenery `before` it: it keeps its anchors, and the outlines of texts that are the same."""
+
+    def __init__(self, texts: Texts, before: "Scenery | None" = None):
+        self.texts = texts
+        self.anchors: dict[str, str] = before.anchors if before else anchors_of(texts)
+        known = before.outlines if before else {}
+        same = [name for name in known if before and before.texts[name] is texts.get(name)]
+        others = {name: outline.read(plain(lines)) for name, lines in texts.items() if name not in same}
+        self.outlines: dict[str, Node] = {name: others.get(name) or known[name] for name in texts}
+
+    @cached_property
+    def modes(self) -> list[str]:
+        """The modes that are listed, in their order."""
+        listed = self.outlines[MACHINE].at("modes") if MACHINE in self.outlines else None
+        return [item.text for item in listed.texts()] if listed else []
+
+    @cached_property
+    def read(self) -> list[str]:
+        """The texts that the program reads, in its order."""
+        return [name for name in (MACHINE, *map(mode_text, self.modes)) if name in self.texts]
+
+    def owner(self, text: str) -> str:
+        found = re.match(r"modes/([^/]+)/", text)
+        return found[1] if found else "machine"
+
+    def number(self, text: str, line: int) -> int:
+        """The number in the user's file of a line of the copy, from 1; 0 where the file has none."""
+        lines = self.texts.get(text, [])
+        return lines[line].number if 0 <= line < len(lines) else 0
+
+    def where(self, text: str, line: int) -> str:
+        return f"{text}:{self.number(text, line)}"
+
+    def entries_of(self, section: str) -> Iterator[tuple[str, Entry]]:
+        """The entries of a section, in all texts that are read."""
+        for text in self.read:
+            for top in self.outlines[text].entries or []:
+                if top.key == section:
+                    yield from ((text, entry) for entry in top.value.entries or [])
+
+    def defined(self, section: str) -> dict[str, tuple[str, Entry]]:
+        found: dict[str, tuple[str, Entry]] = {}
+        for text, entry in self.entries_of(section):
+            found.setdefault(entry.key, (text, entry))
+        return found
+
+    def entry_at(self, text: str, line: int, key: str) -> Entry | None:
+        return outline.entry_at(self.outlines[text], line, key) if text in self.outlines else None
+
+    def around(self, text: str, line: int) -> Entry | None:
+        """The innermost entry that a line belongs to."""
+        found = None
+        for entry in outline.entries(self.outlines.get(text, Node(0))):
+            if entry.line <= line < max(entry.last, entry.line + 1):
+                found = entry
+        return found
+
+    def places(self, text: str, line: int, name: str) -> Iterator[Place]:
+        """Where a name is written in a line."""
+        for entry in outline.entries(self.outlines.get(text, Node(0))):
+            if entry.line == line and entry.key == name:
+                yield Place(text, line, entry, None)
+            for item in entry.value.texts():
+                if item.line == line and item.text.split("{")[0] == name:
+                    yield Place(text, line, entry, item)
+
+
+def anchors_of(texts: Texts) -> dict[str, str]:
+    """The value of each anchor."""
+    found = {}
+    for lines in texts.values():
+        for line in plain(lines):
+            for it in re.finditer(r"(?:^|\s)&([\w-]+)\s+([^#]*)", line):
+                found[it[1]] = it[2].strip()
+    return found
+
+
+def section_of(entry: Entry) -> str:
+    return entry.path[0].key if entry.path else entry.key
+
+
+def setting_table(entry: Entry) -> str:
+    """The section whose table has the setting `entry`."""
+    inside = [it.key for it in entry.path]
+    return "control_events" if "control_events" in inside else section_of(entry)
+
+
+def raw(texts: Texts, text: str, entry: Entry) -> str:
+    """The value of an entry as it is written, its lines joined."""
+    lines = plain(texts[text])
+    if entry.in_braces:
+        return lines[entry.line][entry.value.start : entry.value.end].strip()
+    head = outline.without_comment(lines[entry.line].rstrip("\r"))[entry.end :].lstrip().removeprefix(":").strip()
+    rest = [outline.without_comment(line.rstrip("\r")).strip() for line in lines[entry.line + 1 : entry.last]]
+    return " ".join(it for it in [head, *rest] if it)

@@ -1,0 +1,27 @@
+"""The values of settings: times, powers, booleans and numbers."""
+import re
+
+UNITS = {"": 1, "ms": 1, "s": 1000, "m": 60_000, "h": 3_600_000, "d": 86_400_000}
+
+
+def milliseconds(text: str) -> int | None:
+    found = re.fullmatch(r"(\d+(?:\.\d+)?)\s*(ms|s|m|h|d|)", text.strip())
+    return round(float(found[1]) * UNITS[found[2]]) if found else None
+
+
+def thousandths(text: str) -> int | None:
+    found = re.fullmatch(r"(\d+(?:\.\d+)?)(%?)", text.strip())
+    return round(float(found[1]) * (10 if found[2] else 1000)) if found else None
+
+
+def number(text: str) -> int | None:
+    return int(text) if re.fullmatch(r"-?\d+", text.strip()) else None
+
+
+def is_yes(text: str) -> bool:
+    return text.lower() in ("yes", "true", "on")
+
+
+def event_of(text: str) -> str:
+    """The name of a handled event, without its condition."""
+    return text.partition("{")[0].strip()

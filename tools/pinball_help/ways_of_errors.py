@@ -1,0 +1,345 @@
+"""The ways to mend what an `error` line says: all but those of YAML."""
+import re
+from dataclasses import replace
+
+from . import profile
+from .answers import Complaint
+from .idioms import SECTIONS, SECTIONS_RENAMED, SETTINGS
+from .idioms_of_values import ENTRY, IDIOMS, Idiom
+from .mending import add, blanks, block_end, give, line_of, rename, substitute, take_item_out, take_out
+from .near import nearest
+from .outline import Entry, Node, unquoted
+from .scenery import Scenery, raw, section_of, setting_table
+from .texts import MACHINE, VERSION, Edit
+from .ways import Cure, Way
+
+# what a copy gets for a setting that is required, so that what comes after it is checked too
+STAND_INS = {"action": "pulse", "int": "0", "states": "[{name: a_state}]", "ball_switches": "[]", "events": "[]"}
+
+
+def taken_out(scene: Scenery, text: str, entry: Entry, write: str, why: str = "", near: str = "") -> Cure:
+    edit = take_out(scene.texts, text, entry)
+    return Cure(ways=(Way((edit,), write, why, near),), out=(edit,), mark=(entry.start, entry.end))
+
+
+def of_bundle(scene: Scenery, complaint: Complaint) -> Cure:
+    for text, lines in scene.texts.items():
+        for at, line in enumerate(lines):
+            if line.text.startswith("@"):
+                edit = blanks(text, at, at + 1)
+                write = "Take the line out; or put a blank before it, if its block is there."
+                way = Way((edit,), write, "A line that begins with `@` begins another text.")
+                return Cure(ways=(way,), out=(edit,), mark=(0, len(line.text)), at=(text, at))
+    return Cure()
+
+
+def of_version(scene: Scenery, complaint: Complaint) -> Cure:
+    text, first = complaint.text, line_of(scene.texts, complaint.text, 0)
+    in_place = not first.strip() or first.lstrip("\ufeff").startswith(("#", "---"))
+    lines = (VERSION,) if in_place else (VERSION, first)
+    why = ""
+    if found := re.search(r"config_version\s*=\s*(\d+)", first):
+        why = f"It is written for version {found[1]} of MPF's configurations." if found[1] != "6" else ""
+    numbers = () if in_place else (0, 1)
+    edit = Edit(text, 0, min(1, len(scene.texts[text])), lines, numbers)
+    return Cure(ways=(Way((edit,), f"Write `{VERSION}` as the first line.", why),), out=(edit,), mark=(0, len(first)))
+
+
+def of_section(scene: Scenery, complaint: Complaint) -> Cure:
+    text, key = complaint.text, complaint.key
+    entry = scene.entry_at(text, complaint.line - 1, key)
+    if entry is None:
+        return Cure()
+    has = profile.sections()
+    kind = "the machine" if text == MACHINE else "a mode"
+    if key in has:
+        return taken_out(
+            scene, text, entry, f"Move it to the text of {has[key]}.", f"`{key}` is a section of {has[key]}."
+        )
+    if key in SECTIONS:
+        return of_section_of_mpf(scene, text, entry)
+    here = [name for name, whose in has.items() if whose in (kind, "both")]
+    if near := nearest(key, [*here, *profile.skipped()]):
+        edit = rename(scene.texts, text, entry, near)
+        out = (take_out(scene.texts, text, entry),)
+        twice = any(it.key == near for it in scene.outlines[text].entries or [])
+        ways = () if twice else (Way((edit,), f"Write `{near}:`.", near=near),)
+        return Cure(ways=(*ways, Way(out, "Take it out.", near=near)), out=out, mark=(entry.start, entry.end))
+    settings = {name for section in profile.TABLES for name in profile.settings(section)} | profile.of_other_tools()
+    if key in settings:
+        return taken_out(scene, text, entry, "Indent it with spaces, below the entry that it belongs to.",
+                         f"`{key}` is a setting, and begins at the left edge.")
+    return taken_out(scene, text, entry, "Take it out of a copy of the folder, and check the copy.",
+                     "No section of this name is read here.")
+
+
+def of_section_of_mpf(scene: Scenery, text: str, entry: Entry) -> Cure:
+    why = f"`{entry.key}` is a section of MPF that is not read here."
+    cure = taken_out(scene, text, entry, SECTIONS[entry.key], why)
+    new = SECTIONS_RENAMED.get(entry.key)
+    if not new or any(it.key == new for it in scene.outlines[text].entries or []):
+        return cure
+    renamed = replace(cure.ways[0], edits=(rename(scene.texts, text, entry, new),))
+    return replace(cure, ways=(renamed, *cure.ways))
+
+
+def of_setting(scene: Scenery, complaint: Complaint) -> Cure:
+    text, key = complaint.text, complaint.key
+    entry = scene.entry_at(text, complaint.line - 1, key)
+    if entry is None:
+        return Cure()
+    table = setting_table(entry)
+    called = profile.CALLED.get(table, f"an entry of `{table}`")
+    says = (f"{called[0].upper()}{called[1:]} has no setting `{key}`.",)
+    mark = (entry.start, entry.end)
+    out = (take_out(scene.texts, text, entry),)
+    siblings = {it.key for it in siblings_of(entry)}
+    instead, word = SETTINGS.get(table, {}).get(key, ("", ""))
+    if word:
+        word = word.format(mode=scene.owner(text))
+        edits = (rename(scene.texts, text, entry, instead),) if instead and instead not in siblings else out
+        write = f"Write `{instead}`. {word}" if instead else word
+        why = "MPF has this setting, and it is not read here."
+        return Cure(says, True, (Way(edits, write, why, instead), Way(out)), out, mark)
+    near = nearest(key, [*profile.settings(table), *profile.of_other_tools()])
+    if near and near not in siblings:
+        edit = rename(scene.texts, text, entry, near)
+        return Cure(says, True, (Way((edit,), f"Write `{near}`.", near=near), Way(out, near=near)), out, mark)
+    if key in profile.sections():
+        return Cure(
+            says, True, (Way(out, "Move it to the left edge.", "It is a section, and is indented."),), out, mark
+        )
+    others = ", ".join(f"`{name}`" for name in profile.settings(table))
+    return Cure(says, True, (Way(out, f"Take it out. The settings are {others}."),), out, mark)
+
+
+def siblings_of(entry: Entry) -> list[Entry]:
+    return entry.path[-1].value.entries or [] if entry.path else []
+
+
+def states_of(value: str) -> str:
+    names = [it for it in re.split(r"[\s,\[\]{}-]+", re.sub(r"name:", " ", value)) if it][:16]
+    return "[" + ", ".join(f"{{name: {it}}}" for it in dict.fromkeys(names)) + "]" if names else "[{name: a_state}]"
+
+
+def edits_of(scene: Scenery, text: str, entry: Entry, idiom: Idiom) -> tuple[Edit, ...]:
+    """What a copy gets for an idiom."""
+    texts, value = scene.texts, raw(scene.texts, text, entry)
+    names = [it.text for it in entry.value.texts()]
+    kind, *words = idiom.edit
+    if kind == "sub":
+        return (substitute(texts, text, entry, words[0], words[1]),)
+    if kind == "value":
+        return (give(texts, text, entry, words[0]),)
+    if kind == "upper":
+        return (give(texts, text, entry, unquoted(value).upper()),)
+    if kind == "boolean":
+        return (give(texts, text, entry, "yes" if value == "1" else "no"),)
+    if kind == "keys":
+        keys = [it.key for it in entry.value.entries or []] or names
+        return (give(texts, text, entry, f"[{', '.join(keys)}]"),)
+    if kind == "first" and names:
+        return (give(texts, text, entry, names[0]),)
+    if kind == "states":
+        return (give(texts, text, entry, states_of(value)),)
+    if kind == "steps" and names:
+        return (give(texts, text, entry, f"[{', '.join(names)}]"),)
+    return (take_out(texts, text, entry),)
+
+
+def idiom_of(scene: Scenery, text: str, entry: Entry) -> Idiom | None:
+    section = section_of(entry) if entry.path else ""
+    value = unquoted(raw(scene.texts, text, entry))
+    own = len(entry.path) == 1 and section not in (*profile.PLAYERS, *profile.SINGLE)
+    for idiom in IDIOMS:
+        fits = own if idiom.setting == ENTRY else re.fullmatch(idiom.setting, entry.key)
+        if fits and re.fullmatch(idiom.section, section) and re.search(idiom.value, value):
+            return idiom
+    return None
+
+
+def as_name(text: str) -> str:
+    """A name that is like a text that is no name."""
+    plain = text.translate(str.maketrans("äöüàáâèéêìíòóùúçñÄÖÜ", "aouaaaeeeiioouucnAOU"))
+    return re.sub(r"[^\w.-]+", "_", plain, flags=re.ASCII).strip("_")[:64] or "a_name"
+
+
+def cure_at(scene: Scenery, text: str, entry: Entry, says: tuple[str, ...], *ways: Way, whole: bool = False) -> Cure:
+    """The cure of an entry: some ways, and at last to take it out."""
+    out = (take_out(scene.texts, text, entry),)
+    return Cure(says, whole, (*ways, Way(out, ways[0].write if ways else "")), out, (entry.start, entry.end))
+
+
+def of_names(scene: Scenery, text: str, entry: Entry) -> Cure | None:
+    """Where the key itself is at fault: it is no name, or is reserved."""
+    key = entry.key
+    if key in ("playfield", "default") and len(entry.path) == 1:
+        way = Way((rename(scene.texts, text, entry, f"{key}_1"),), "Give it another name.")
+        return cure_at(scene, text, entry, (f"`{key}` is a name that is there already.",), way, whole=True)
+    if re.fullmatch(r"[\w.-]{1,64}", key, re.ASCII) or not entry.path:
+        return None
+    if section_of(entry) in profile.PLAYERS and re.match(r"[\w.-]+\s*\{.*\}$", key, re.ASCII):
+        return of_condition(scene, text, entry)
+    right = as_name(key.split("|")[0])
+    why = "A name has letters without accents, digits, `_`, `-` and `.` alone, at most 64 of them."
+    if "|" in key:
+        why = "MPF handles the event after a time. Delays are not carried out here."
+    taken = any(it.key == right for it in siblings_of(entry))
+    ways = () if taken else (Way((rename(scene.texts, text, entry, right),), f"Write `{right}`.", why),)
+    return cure_at(scene, text, entry, (f"`{key}` is no name.",), *ways, whole=True)
+
+
+def of_condition(scene: Scenery, text: str, entry: Entry) -> Cure:
+    """A handled event with a condition that is not read."""
+    name, gap, inside = re.match(r"([^\s{]+)(\s*)\{(.*)\}$", entry.key).groups()  # type: ignore[union-attr]
+    right, why = name, "A condition compares a variable of the current player with a whole number, and nothing else."
+    write = "Keep what it asks for in a variable: `{current_player.x == 1}`."
+    if gap:
+        right, why = f"{name}{{{inside}}}", "No blank may come before the brace."
+        write = f"Write `{right}`."
+    elif re.match(r"\s*(?!current_player\.)\w+\s*[=!<>]=?\s*-?\d+\s*$", inside):
+        right, why = f"{name}{{current_player.{inside.strip()}}}", "A condition names a variable of the current player."
+        write = f"Write `{right}`."
+    way = Way((rename(scene.texts, text, entry, right),), write, why)
+    return cure_at(scene, text, entry, (f"`{entry.key}` is not read as an event with a condition.",), way, whole=True)
+
+
+def of_value(scene: Scenery, complaint: Complaint) -> Cure:
+    text, line = complaint.text, complaint.line - 1
+    entry = scene.entry_at(text, line, complaint.key)
+    if complaint.key == "modes" and (entry is None or entry.key != "modes"):
+        return of_mode_name(scene, text, line)
+    if entry is None:
+        return of_no_mapping(scene, text, line)
+    if named := of_names(scene, text, entry):
+        return named
+    cure = of_entry(scene, text, entry)
+    end = entry.value.end if entry.value.line == entry.line else 0
+    return replace(
+        cure, mark=cure.mark if cure.mark != (entry.start, entry.end) else (entry.start, max(entry.end, end))
+    )
+
+
+def of_entry(scene: Scenery, text: str, entry: Entry) -> Cure:
+    """Where the value of an entry is at fault."""
+    says = takes(entry)
+    if idiom := idiom_of(scene, text, entry):
+        way = Way(edits_of(scene, text, entry, idiom), idiom.write, idiom.mpf)
+        return cure_at(scene, text, entry, says, way)
+    if not entry.path:
+        way = Way((), "Write entries below it: `NAME:`, not `- NAME`.")
+        return cure_at(scene, text, entry, ("A section is a mapping of entries.",), way)
+    if near := nearest(raw(scene.texts, text, entry), words_of(entry)):
+        return cure_at(
+            scene, text, entry, says, Way((give(scene.texts, text, entry, near),), f"Write `{near}`.", near=near)
+        )
+    if bad := bad_items(entry):
+        write = "Write names of letters, digits, `_`, `-` and `.`, with commas between them."
+        way = Way((take_item_out(scene.texts, text, entry, bad[0]),), write)
+        cure = cure_at(scene, text, entry, (f"`{bad[0].text}` is no name.", *says), way)
+        return replace(cure, mark=(bad[0].start, bad[0].end)) if bad[0].line == entry.line else cure
+    return cure_at(scene, text, entry, says, Way((), "Write a value that it takes, or leave it out."))
+
+
+def of_no_mapping(scene: Scenery, text: str, line: int) -> Cure:
+    out = (blanks(text, line, block_end(scene.texts, text, line)),) if line < len(scene.texts[text]) else ()
+    says = ("A text is a mapping of sections, as `switches:`.",)
+    return Cure(says, False, (Way(out, "Write sections with entries below them."),), out)
+
+
+def bad_items(entry: Entry) -> list[Node]:
+    """The items of a list that are no names, nor names with a condition."""
+    return [it for it in entry.value.texts() if not re.fullmatch(r"[\w.-]{1,64}(\{.*\})?", it.text, re.ASCII)]
+
+
+def setting_of(entry: Entry) -> profile.Setting | None:
+    return profile.settings(setting_table(entry)).get(entry.key) if entry.path else None
+
+
+def takes(entry: Entry) -> tuple[str, ...]:
+    """The words of docs/profile.md on the value of a setting."""
+    found = setting_of(entry)
+    return (f"`{entry.key}` takes: {found.value.replace('required', '').strip()}.",) if found else ()
+
+
+def words_of(entry: Entry) -> list[str]:
+    found = setting_of(entry)
+    return profile.names(found.value) if found else []
+
+
+def of_mode_name(scene: Scenery, text: str, line: int) -> Cure:
+    """A mode that is listed under what is no name."""
+    listed = scene.outlines[text].entries or []
+    entry = next((it for it in listed if it.key == "modes"), None)
+    items = [it for it in entry.value.texts() if it.line == line] if entry else []
+    item = next((it for it in items if it.text == "machine" or not re.fullmatch(r"[\w.-]+", it.text, re.ASCII)), None)
+    if entry is None or item is None:
+        return Cure()
+    out = (take_item_out(scene.texts, text, entry, item),)
+    way = Way(out, "Write the name of the mode's folder: letters, digits, `_`, `-` and `.`; and not `machine`.")
+    return Cure((f"`{item.text}` is no name of a mode.",), True, (way,), out, (item.start, item.end))
+
+
+def of_missing(scene: Scenery, complaint: Complaint) -> Cure:
+    text, key = complaint.text, complaint.key
+    entry = scene.around(text, complaint.line - 1)
+    named = [it for it in [entry, *(entry.path[::-1] if entry else ())] if it and it.line == complaint.line - 1]
+    if not named:
+        return Cure()
+    entry = next((it for it in named if setting_misses(it, key)), named[0])
+    table = section_of(entry) if entry.path else entry.key
+    called = profile.CALLED.get("control_events" if entry.key == "control_events" else table, "It")
+    stand_in = STAND_INS.get(key, f"a_{key}") if (table, key) != ("timers", "action") else "start"
+    out = (take_out(scene.texts, text, entry),)
+    near = nearest(key, [it.key for it in entry.value.entries or []])
+    says = (f"{called[0].upper()}{called[1:]} has to have `{key}`, and `{entry.key}` has none.",)
+    why = f"It has `{near}`." if near else ""
+    way = Way((add(scene.texts, text, entry, f"{key}: {stand_in}"),), f"Write `{key}:` below `{entry.key}`.", why)
+    return Cure(says, True, (way, Way(out, way.write, why)), out, (entry.start, entry.end))
+
+
+def setting_misses(entry: Entry, key: str) -> bool:
+    keys = [it.key for it in entry.value.entries or []]
+    return bool(entry.path) and key not in keys
+
+
+def of_duplicate(scene: Scenery, complaint: Complaint) -> Cure:
+    text, line, key = complaint.text, complaint.line - 1, complaint.key
+    entry = next((it for it in scene.outlines[text].entries or [] if it.key == "modes"), None)
+    if text == MACHINE and entry:
+        items = [it for it in entry.value.texts() if it.text == key]
+        item = next((it for it in items[1:] if it.line == line), items[-1] if items else None)
+        if item:
+            out = (take_item_out(scene.texts, text, entry, item),)
+            return Cure(
+                ("The mode is listed twice.",),
+                False,
+                (Way(out, "Take one of the two out."),),
+                out,
+                (item.start, item.end),
+            )
+    found = scene.entry_at(text, line, key)
+    if found is None:
+        return Cure()
+    out = (take_out(scene.texts, text, found),)
+    others = [place for place in scene.entries_of(section_of(found)) if place[1].key == key and place[0] != text]
+    where = f"It is also in {scene.where(others[0][0], others[0][1].line)}." if others else ""
+    new = f"{key}_{scene.owner(text)}"[:64]
+    way = Way((rename(scene.texts, text, found, new),), f"Rename one of the two, as `{new}`.", where)
+    return Cure((), False, (way, Way(out)), out, (found.start, found.end))
+
+
+def of_limit(scene: Scenery, complaint: Complaint) -> Cure:
+    entry = scene.entry_at(complaint.text, complaint.line - 1, complaint.key)
+    if entry is None:
+        return Cure()
+    out = (take_out(scene.texts, complaint.text, entry),)
+    count = len(entry.value.texts()) or len(entry.value.entries or [])
+    write = "Join some of the modes." if complaint.key == "modes" else "Let an event of your own post the rest."
+    return Cure((f"It has {count} items.",), False, (Way(out, write),), out, (entry.start, entry.end))
+
+
+WAYS = {
+    "Bundle": of_bundle, "Version": of_version, "UnknownSection": of_section, "UnknownSetting": of_setting,
+    "BadValue": of_value, "Missing": of_missing, "Duplicate": of_duplicate, "Limit": of_limit,
+}

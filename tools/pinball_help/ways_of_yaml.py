@@ -1,0 +1,232 @@
+"""The ways to mend a text that is not in the subset of YAML that is read."""
+import re
+from dataclasses import dataclass
+
+from .mending import block_end, blanks, line_of, take_out
+from .outline import entries, indentation, without_comment
+from .scenery import Scenery
+from .texts import Edit, Texts, plain
+from .ways import Cure, Way
+
+
+@dataclass(frozen=True)
+class Slip:
+    """A slip in one line: what it looks like, and what to put in its place."""
+
+    faults: str
+    found: str
+    new: str
+    why: str
+    write: str
+
+
+VALUE = r"^(\s*(?:- )?[^\s:#][^:#]*:\s+)"
+SLIPS = (
+    Slip("NotInSubset", r"^(---|\.\.\.)(\s.*)?$", "", "A text is one document.", "Take the line out."),
+    Slip("NotInSubset Flow", r"(?<=[\w}\"'])\s*&\w+\s*|&[\w-]+\s+", "", "An anchor is not read.",
+         "Take the anchor out, and write the value where it is used."),
+    Slip("NotInSubset", r"!!?\w+\s+", "", "A tag is not read: every value is a text here.", "Take the tag out."),
+    Slip("NotInSubset", r"^(\s*)\? +(\S.*)$", r"\1\2:", "A key is written without `?` here.", "Write `KEY:`."),
+    Slip(
+        "NotInSubset",
+        VALUE + r"([%@`].*?)(\s+#.*)?$",
+        r'\1"\2"\3',
+        "No plain value begins so.",
+        "Put quotes around it.",
+    ),
+    Slip("NotInSubset", VALUE + r"([^\"'#\[{]*:(?:\s.*)?)$", r'\1"\2"', "The value has a `:` and a blank after it.",
+         "Put quotes around the value."),
+    Slip("NotInSubset Indent", r"^(\s*(?:- )?[\w.{}=<>! -]+):(?=[^\s:])", r"\1: ", "A blank is missing after the `:`.",
+         "Write a blank after the `:`."),
+    Slip("NotInSubset Indent", r"^(\s*)([\w.]+)\s*$", r"\1\2:", "It is no entry, as it has no `:`.",
+         "Write a `:` after it."),
+    Slip("NotInSubset Flow", r"([\w\"'}\]]) +(\"?[\w.]+\"?: )", r"\1, \2", "A comma is missing.",
+         "Write a comma between the entries."),
+    Slip("NotInSubset Tab", "[\x00-\x08\x0b-\x1f\x7f\ufeff]", "", "Control characters are not read.", "Take it out."),
+    Slip("Quote", r"'([^']*'[^'\"]*)'(?=\s*(#|$|[,\]}]))", r'"\1"', "In single quotes a `'` ends the text.",
+         "Put double quotes around it, or write two `''` for the one inside."),
+    Slip(
+        "Quote",
+        r"\\(?![\\\"nt])",
+        r"\\\\",
+        "In double quotes a `\\` begins an escape.",
+        "Write `\\\\` for a backslash.",
+    ),
+    Slip("Quote", r"([\"'])\s+([\"'])", r"\1, \2", "A comma is missing.", "Write a comma between the two."),
+    Slip("Quote", r"([\"'])\s*([^\"'\s,\]}#][^\"']*)$", r"\1 # \2", "Text comes after the closing quote.",
+         "Put all of it into the quotes, or take it out."),
+    Slip("Quote", r"^([^\"]*\"[^\"]*?)(\s*)$", r'\1"', "The quote is not closed on its line.", "Close the quote."),
+    Slip("Quote", r"^([^']*'[^']*?)(\s*)$", r"\1'", "The quote is not closed on its line.", "Close the quote."),
+    Slip("Flow", r",\s*(?=,)", "", "An item is missing.", "Take the comma out, or write the item."),
+    Slip("Flow", r"(?<=[\[{])\s*,", "", "An item is missing.", "Take the comma out, or write the item."),
+    Slip("Flow", r",?\s*[\w.]+:\s*(?=[}\]])", "", "A value is missing.", "Write the value, or take the key out."),
+    Slip("Flow", r"(?<=[{,])(\s*[\w.]+) ([\w.]+)(?=\s*[,}])", r"\1: \2", "A `:` is missing.", "Write `KEY: VALUE`."),
+    Slip("Flow", r"(?<=[{,])(\s*[\w.]+):(?=\S)", r"\1: ", "A blank is missing after the `:`.", "Write `KEY: VALUE`."),
+    Slip("Flow", r"([\]}])\s*[\]}\w,][^#]*$", r"\1", "Text comes after the end.", "Take it out."),
+    Slip("Flow", r"(\[[^\]]*?)(\s*)$", r"\1]", "The bracket is not closed.", "Close it with `]` on its line."),
+    Slip("Flow", r"(\{[^}]*?)(\s*)$", r"\1}", "The brace is not closed.", "Close it with `}` on its line."),
+)
+
+
+def slips(scene: Scenery, text: str, at: int, fault: str) -> list[Way]:
+    line = line_of(scene.texts, text, at)
+    found = []
+    for slip in SLIPS:
+        if fault in slip.faults.split() and (new := re.sub(slip.found, slip.new, line)) != line:
+            found.append(Way((Edit(text, at, at + 1, (new,)),), slip.write, slip.why))
+    return found
+
+
+def of_tabs(scene: Scenery, text: str, at: int) -> list[Way]:
+    """All tabs at the front of lines, and after dashes, become spaces."""
+    tabs = [number for number, line in enumerate(plain(scene.texts[text])) if re.match(r"\s*-?\s*\t", line)]
+    found = []
+    for width in (2, 4, 8):
+        edits = []
+        for number in tabs:
+            line = line_of(scene.texts, text, number)
+            front = re.match(r"[\s-]*", line)
+            assert front
+            edits.append(Edit(text, number, number + 1, (front[0].expandtabs(width) + line[front.end() :],)))
+        more = f" {len(tabs) - 1} more lines of this text have tabs too." if len(tabs) > 1 else ""
+        found.append(Way(tuple(edits), "Indent with spaces." + more, "YAML takes no tabs there."))
+    return found
+
+
+def reindented(texts: Texts, text: str, at: int, column: int) -> Edit:
+    end = block_end(texts, text, at)
+    change = column - indentation(line_of(texts, text, at))
+    lines = [line_of(texts, text, number) for number in range(at, end)]
+    new = [" " * max(0, indentation(line) + change) + line.lstrip() if line.strip() else line for line in lines]
+    return Edit(text, at, end, tuple(new))
+
+
+def of_indents(scene: Scenery, text: str, at: int) -> list[Way]:
+    """The line before it may be no entry; it may be the rest of a value; it may belong into another column."""
+    texts = scene.texts
+    before = at - 1
+    while before > 0 and not without_comment(line_of(texts, text, before)).strip():
+        before -= 1
+    earlier = without_comment(line_of(texts, text, before))
+    line = line_of(texts, text, at)
+    found = []
+    if not re.search(r":(\s|$)|^\s*-", earlier):
+        found += slips(scene, text, before, "Indent")
+    if indentation(line) > indentation(earlier) and not earlier.endswith(":"):
+        joined = Edit(text, before, at + 1, (f"{earlier} {line.strip()}", *[""] * (at - before)))
+        found.append(Way((joined,), "Put the whole value on one line; or write a line `- ITEM` for each item.",
+                         "The value of the line before it seems to continue here."))
+    for column in columns_above(texts, text, at):
+        way = f"Indent the line by {column} spaces, as the lines around it."
+        found.append(Way((reindented(texts, text, at, column),), way, "It is in no column of the blocks around it."))
+    return found
+
+
+def columns_above(texts: Texts, text: str, at: int) -> list[int]:
+    """The columns of the blocks that are open above a line, the nearest first."""
+    columns: list[int] = []
+    for number in range(at - 1, 0, -1):
+        line = without_comment(line_of(texts, text, number))
+        depth = indentation(line)
+        if line.strip() and (not columns or depth < columns[-1]):
+            columns.append(depth)
+            if len(columns) == 1 and line.endswith(":"):
+                columns.insert(0, depth + 2)
+                columns.pop()
+                columns.append(depth)
+    here = indentation(line_of(texts, text, at))
+    return sorted({*columns} - {here}, key=lambda it: (abs(it - here), it))
+
+
+def of_duplicates(scene: Scenery, text: str, at: int) -> list[Way]:
+    """Joins a key with the same key above it: two lists, or two blocks."""
+    here = next((it for it in entries(scene.outlines[text]) if it.line == at), None)
+    if here is None:
+        return []
+    same = [
+        it for it in entries(scene.outlines[text]) if it.key == here.key and it.path == here.path and it is not here
+    ]
+    first = same[0] if same else None
+    if first is None or first.line >= here.line or here.in_braces:
+        return [Way((take_out(scene.texts, text, here),), "Take one of the two out.")] if not here.in_braces else []
+    words = f"Join it with line {scene.number(text, first.line)}."
+    if first.value.entries and here.value.entries and first.value.line != first.line and here.value.line != here.line:
+        change = first.value.entries[0].start - here.value.entries[0].start
+        moved = [scene.texts[text][number] for number in range(here.line + 1, here.last)]
+        lines = [
+            " " * max(0, indentation(it.text) + change) + it.text.lstrip() if it.text.strip() else "" for it in moved
+        ]
+        there = Edit(text, first.last, first.last, tuple(lines), tuple(it.number for it in moved))
+        return [Way((there, blanks(text, here.line, here.last)), words)]
+    if here.path and here.path[0].key == "event_player" and first.value.texts() and here.value.texts():
+        names = ", ".join(it.text for it in [*first.value.texts(), *here.value.texts()])
+        line = line_of(scene.texts, text, first.line)
+        joined = Edit(
+            text, first.line, first.last, (f"{line[:first.end]}: {names}",) + ("",) * (first.last - first.line - 1)
+        )
+        return [Way((joined, take_out(scene.texts, text, here)), f"{words} Write `{here.key}: {names}` there.")]
+    return [Way((take_out(scene.texts, text, here),), f"Line {scene.number(text, first.line)} has it: take one out.")]
+
+
+def of_open_flow(scene: Scenery, text: str, at: int) -> list[Way]:
+    """A list that continues on the next lines: all of it on one line."""
+    lines = [
+        without_comment(line_of(scene.texts, text, number))
+        for number in range(at, min(at + 200, len(scene.texts[text])))
+    ]
+    joined = lines[0]
+    for count, line in enumerate(lines[1:], 2):
+        joined = f"{joined} {line.strip()}".rstrip()
+        if joined.count("[") <= joined.count("]") and joined.count("{") <= joined.count("}"):
+            joined = re.sub(r"([\[{]) +", r"\1", re.sub(r"[, ]+([\]}])", r"\1", joined))
+            words = "Put it on one line, or write a line `- ITEM` for each item."
+            edit = Edit(text, at, at + count, (joined, *[""] * (count - 1)))
+            return [Way((edit,), words, "YAML may break such a list; here it is on one line.")]
+    return []
+
+
+def of_aliases(scene: Scenery, text: str, at: int) -> list[Way]:
+    """The value of an anchor, in place of its alias."""
+    line = line_of(scene.texts, text, at)
+    found = re.search(r"\*([\w-]+)", line)
+    if not found:
+        return []
+    value = scene.anchors.get(found[1], "")
+    new = line.replace(found[0], value or "a_value")
+    words = f"Write the value of `&{found[1]}` here" + (f": `{value}`." if value else ".")
+    return [Way((Edit(text, at, at + 1, (new,)),), words, "An alias is not read.")]
+
+
+def of_block_scalars(scene: Scenery, text: str, at: int) -> list[Way]:
+    line = line_of(scene.texts, text, at)
+    found = re.match(r"(.*:\s+)[|>][+-]?\d?\s*$", line)
+    if not found:
+        return []
+    end = block_end(scene.texts, text, at)
+    rest = [line_of(scene.texts, text, number).strip() for number in range(at + 1, end)]
+    value = "\\n".join(it.replace("\\", "\\\\").replace('"', '\\"') for it in rest if it)
+    edit = Edit(text, at, end, (f'{found[1]}"{value}"', *[""] * (end - at - 1)))
+    return [Way((edit,), f'Write it on one line: `"{value[:40]}"`.', "A text of several lines is not read.")]
+
+
+def cure_of(scene: Scenery, text: str, at: int, fault: str) -> Cure:
+    """The ways to mend a line; the last ones take it out."""
+    ways: list[Way] = []
+    if fault == "Tab":
+        ways += of_tabs(scene, text, at)
+    if fault == "Indent":
+        ways += of_indents(scene, text, at)
+    if fault == "DuplicateKey":
+        ways += of_duplicates(scene, text, at)
+    if fault in ("Flow", "NotInSubset"):
+        ways += of_open_flow(scene, text, at) + of_aliases(scene, text, at) + of_block_scalars(scene, text, at)
+    ways += slips(scene, text, at, fault)
+    if fault == "NotUtf8":
+        line = line_of(scene.texts, text, at)
+        readable = line.encode("utf-8", "surrogateescape").decode("cp1252", "replace")
+        ways.append(
+            Way((Edit(text, at, at + 1, (readable,)),), f"Save the file as UTF-8. The line may say: {readable.strip()}")
+        )
+    end = block_end(scene.texts, text, at) if at < len(scene.texts[text]) else at
+    out = (blanks(text, at, end),) if end > at else ()
+    return Cure(ways=(*ways, Way((blanks(text, at, at + 1),)), Way(out)), out=out)
