@@ -89,8 +89,8 @@ fn counter_of(checked: &Checked, word: &str) -> Option<Counter> {
     Some(counter)
 }
 
-/// The counter, which is counted. Its counts are added to those of the others.
-fn counted(
+/// The counter with counts of its own, which are added to those of the others.
+fn with_counts(
     alloc: Global,
     counter: Counter,
     all: &mut Vec<Rc<Counts>>,
@@ -157,7 +157,7 @@ pub(crate) fn boxed(
     let mut boxes: Vec<Box<dyn Device>> = Vec::new(alloc);
     for word in words.split_whitespace() {
         if let Some(counter) = counter_of(&checked, word) {
-            boxes.push(Box::new(alloc, counted(alloc, counter, &mut all)?)?)?;
+            boxes.push(Box::new(alloc, with_counts(alloc, counter, &mut all)?)?)?;
         }
     }
     add_rig(alloc, out, &checked, boxes, (&all, end == "dropped"))?;
