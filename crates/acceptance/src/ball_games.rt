@@ -35,112 +35,94 @@ variable_player:
     score: 100
 ";
 
-/// The log of a game, and the lines on players that it should lead to. Where memory is out a line is
-/// missing, and the story is lost.
+/// The log of a game, and the lines on players that it should lead to.
 #[derive(Drop)]
 struct Story {
     log: String,
     wanted: String,
-    is_lost: bool,
     moment: u32,
     state: u64,
 }
 
 impl Story {
     /// At moment 1,000 three balls lie in the trough.
-    fn new(alloc: Global) -> Story {
+    fn new(alloc: Global) -> Result<Story, AllocError> {
         let mut story = Story {
             log: String::new(alloc),
             wanted: String::new(alloc),
-            is_lost: false,
             moment: 0,
             state: 1,
         };
-        story.change(0, "s_b1", 1);
-        story.change(0, "s_b2", 1);
-        story.change(0, "s_b3", 1);
+        story.change(0, "s_b1", 1)?;
+        story.change(0, "s_b2", 1)?;
+        story.change(0, "s_b3", 1)?;
         story.moment = 1_000;
-        story
+        Ok(story)
     }
 
     /// The raw level of a switch changes so many milliseconds later.
-    fn change(&mut self, after: u32, switch: &str, level: u8) {
+    fn change(&mut self, after: u32, switch: &str, level: u8) -> Result<(), AllocError> {
         self.moment = self.moment.saturating_add(after);
         let moment = self.moment;
-        let written = write!(self.log, "{moment} {switch} {level}\n");
-        self.is_lost = self.is_lost || written.is_err();
+        write!(self.log, "{moment} {switch} {level}\n")
     }
 
     /// A switch is pressed and let go.
-    fn press(&mut self, switch: &str) {
-        self.change(50, switch, 1);
-        self.change(50, switch, 0);
+    fn press(&mut self, switch: &str) -> Result<(), AllocError> {
+        self.change(50, switch, 1)?;
+        self.change(50, switch, 0)
     }
 
     /// The current player hits a target.
-    fn score(&mut self, player: u32, score: u32) -> u32 {
+    fn score(&mut self, player: u32, score: u32) -> Result<u32, AllocError> {
         let score = score.saturating_add(100);
-        self.press("s_hit");
+        self.press("s_hit")?;
         let moment = self.moment.saturating_sub(50);
-        let written = write!(
+        write!(
             self.wanted,
             "{moment} machine player {player} score {score}\n"
-        );
-        self.is_lost = self.is_lost || written.is_err();
-        score
+        )?;
+        Ok(score)
     }
 
     /// A ball goes from the trough over the plunger onto the playfield, hits targets, and drains. Until it counts as
     /// drained, the player still scores.
-    fn play_ball(&mut self, player: u32, score: u32) -> u32 {
+    fn play_ball(&mut self, player: u32, score: u32) -> Result<u32, AllocError> {
         let mut score = score;
-        self.change(700, "s_b1", 0);
-        self.change(600, "s_plunger", 1);
-        self.change(700, "s_plunger", 0);
-        self.change(600, "s_pf", 1);
-        self.change(10, "s_pf", 0);
+        self.change(700, "s_b1", 0)?;
+        self.change(600, "s_plunger", 1)?;
+        self.change(700, "s_plunger", 0)?;
+        self.change(600, "s_pf", 1)?;
+        self.change(10, "s_pf", 0)?;
         for _ in 0..draw(&mut self.state, 4) {
-            score = self.score(player, score);
+            score = self.score(player, score)?;
         }
-        self.change(10, "s_b1", 1);
-        score = self.score(player, score);
+        self.change(10, "s_b1", 1)?;
+        score = self.score(player, score)?;
         self.moment = self.moment.saturating_add(400);
-        score
+        Ok(score)
     }
 
     /// Each player in turn has a ball. Nobody joins any more.
-    fn play_round(&mut self, scores: &mut [u32]) {
+    fn play_round(&mut self, scores: &mut [u32]) -> Result<(), AllocError> {
         let mut player = 0u32;
         for score in scores.iter_mut() {
             player = player.saturating_add(1);
-            self.press("s_start");
-            *score = self.play_ball(player, *score);
+            self.press("s_start")?;
+            *score = self.play_ball(player, *score)?;
         }
+        Ok(())
     }
 
     /// The game is over, and nobody scores any more.
-    fn end(&mut self, scores: &[u32]) {
+    fn end(&mut self, scores: &[u32]) -> Result<(), AllocError> {
         let moment = self.moment;
         let mut player = 0u32;
         for score in scores {
             player = player.saturating_add(1);
-            let written = write!(self.wanted, "{moment} machine final {player} {score}\n");
-            self.is_lost = self.is_lost || written.is_err();
+            write!(self.wanted, "{moment} machine final {player} {score}\n")?;
         }
-        self.press("s_hit");
-    }
-
-    /// Four players have three balls each. A fifth does not join.
-    fn tell(&mut self) {
-        self.press("s_hit");
-        for _ in 0..5u32 {
-            self.press("s_start");
-        }
-        let mut scores = [0u32; 4];
-        for _ in 0..3u32 {
-            self.play_round(&mut scores);
-        }
-        self.end(&scores);
+        self.press("s_hit")
     }
 }
 
@@ -183,10 +165,17 @@ fn count(out: &str, what: &str) -> u32 {
 #[test]
 fn four_players_have_three_balls_each(rt: HostRuntime) -> Result<(), Fail> {
     let alloc = rt.alloc();
-    let mut story = Story::new(alloc);
-    story.tell();
+    let mut story = Story::new(alloc)?;
+    story.press("s_hit")?;
+    for _ in 0..5u32 {
+        story.press("s_start")?;
+    }
+    let mut scores: Vec<u32> = vec![in alloc; 0; 4]?;
+    for _ in 0..3u32 {
+        story.play_round(&mut scores)?;
+    }
+    story.end(&scores)?;
     let out = played(alloc, MACHINE, &story.log)?;
-    assert!(rt; !story.is_lost);
     assert_eq!(rt; count(&out, "machine event ball_started"), 12);
     assert_eq!(rt; on_players(alloc, &out)?.as_str(), story.wanted.as_str());
     Ok(())

@@ -33,17 +33,6 @@ event_player:
   a: b, b
 ";
 
-/// The text of this name, or else the text itself.
-fn text_of(text: &str) -> &str {
-    if text == "(one switch)\n" {
-        return ONE_SWITCH;
-    }
-    if text == "(twice posted)\n" {
-        return TWICE_POSTED;
-    }
-    text
-}
-
 /// What is read.
 #[derive(Drop)]
 pub(crate) enum Source<'a> {
@@ -55,14 +44,19 @@ pub(crate) enum Source<'a> {
 impl<'a> Source<'a> {
     /// The reader that a text names, or the reader of the text.
     pub(crate) fn of(text: &'a str) -> Source<'a> {
-        let fails_at = if text == "(never ends)\n" {
-            u64::MAX
-        } else if text == "(fails at its second read)\n" {
-            2
-        } else {
-            return Source::Text(text_of(text).as_bytes());
-        };
-        Source::Bytes { reads: 0, fails_at }
+        match text {
+            "(one switch)\n" => Source::Text(ONE_SWITCH.as_bytes()),
+            "(twice posted)\n" => Source::Text(TWICE_POSTED.as_bytes()),
+            "(never ends)\n" => Source::Bytes {
+                reads: 0,
+                fails_at: u64::MAX,
+            },
+            "(fails at its second read)\n" => Source::Bytes {
+                reads: 0,
+                fails_at: 2,
+            },
+            _ => Source::Text(text.as_bytes()),
+        }
     }
 
     /// Shows how often it was read, where it is no text.
@@ -113,16 +107,16 @@ pub(crate) enum Sink {
 impl Sink {
     /// The writer that a text names, or one that keeps what it is given.
     pub(crate) fn of(alloc: Global, text: &str) -> Sink {
-        let fails_at = if text == "(fails at its first write)\n" {
-            1
-        } else if text == "(fails at its second write)\n" {
-            2
-        } else {
-            return Sink::Kept(Vec::new(alloc));
-        };
-        Sink::Failing {
-            writes: 0,
-            fails_at,
+        match text {
+            "(fails at its first write)\n" => Sink::Failing {
+                writes: 0,
+                fails_at: 1,
+            },
+            "(fails at its second write)\n" => Sink::Failing {
+                writes: 0,
+                fails_at: 2,
+            },
+            _ => Sink::Kept(Vec::new(alloc)),
         }
     }
 

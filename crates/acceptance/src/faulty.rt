@@ -3,7 +3,6 @@
 use crate::row::assert_rows;
 use pinball_shell::{Failure, ShellFault, read_all};
 use std::alloc::Global;
-use std::process::Abort;
 use std::test::Fail;
 
 // Readers and writers that fail.
@@ -136,34 +135,27 @@ fn text_within_its_limit_is_read(rt: HostRuntime) {
     assert!(rt; matches!(refused, Err(ShellFault::TooLong)));
 }
 
-/// Standard error gets this of a failure.
-fn assert_said<R: Abort + AllocGlobal>(
-    rt: &R,
-    failure: &Failure,
-    wanted: &str,
-) -> Result<(), Fail> {
-    let mut writer = Vec::new(rt.alloc());
+/// Whether standard error gets this of a fault in the file `a b`, or in none.
+fn is_said(alloc: Global, fault: ShellFault, of_file: bool, wanted: &str) -> Result<bool, Fail> {
+    let failure = if of_file {
+        Failure::at(fault, String::from_str(alloc, "a b")?)
+    } else {
+        Failure::from(fault)
+    };
+    let mut writer = Vec::new(alloc);
     failure.write(&mut writer)?;
-    assert!(rt; writer.as_slice() == wanted.as_bytes(), "{wanted}");
-    Ok(())
-}
-
-/// Standard error gets this of a fault in the file `a b`.
-fn assert_said_of_file<R: Abort + AllocGlobal>(
-    rt: &R,
-    fault: ShellFault,
-    wanted: &str,
-) -> Result<(), Fail> {
-    let file = String::from_str(rt.alloc(), "a b")?;
-    assert_said(rt, &Failure::at(fault, file), wanted)
+    Ok(writer.as_slice() == wanted.as_bytes())
 }
 
 /// What standard error gets of a fault: a second line names the file, where one is at fault.
 #[test]
 fn faults_are_said(rt: HostRuntime) -> Result<(), Fail> {
-    assert_said_of_file(&rt, ShellFault::Read, "fault: Read\nfile: a b\n")?;
-    assert_said_of_file(&rt, ShellFault::TooLong, "fault: TooLong\nfile: a b\n")?;
-    assert_said_of_file(&rt, ShellFault::Write, "fault: Write\n")?;
-    assert_said_of_file(&rt, ShellFault::NoMemory, "fault: NoMemory\n")?;
-    assert_said(&rt, &Failure::from(ShellFault::Read), "fault: Read\n")
+    let alloc = rt.alloc();
+    let fault = ShellFault::TooLong;
+    assert!(rt; is_said(alloc, ShellFault::Read, true, "fault: Read\nfile: a b\n")?);
+    assert!(rt; is_said(alloc, fault, true, "fault: TooLong\nfile: a b\n")?);
+    assert!(rt; is_said(alloc, ShellFault::Read, false, "fault: Read\n")?);
+    assert!(rt; is_said(alloc, ShellFault::Write, true, "fault: Write\n")?);
+    assert!(rt; is_said(alloc, ShellFault::NoMemory, true, "fault: NoMemory\n")?);
+    Ok(())
 }

@@ -1,31 +1,27 @@
 //! Texts joined to a bundle.
 
 use pinball_shell::{BUNDLE_LIMIT, ShellFault, join};
-use std::process::Abort;
+use std::alloc::Global;
 use std::test::Fail;
 
-/// A bundle, a name and a text are joined to what is wanted.
-fn assert_joined<R: Abort + AllocGlobal>(
-    rt: &R,
-    (bundle, name, text): (&str, &str, &str),
-    wanted: &str,
-) -> Result<(), Fail> {
-    let (name, text) = (name.as_bytes(), text.as_bytes());
-    let joined = join(rt.alloc(), bundle.as_bytes(), name, text)?;
-    assert!(rt; joined.as_slice() == wanted.as_bytes(), "{wanted}");
-    Ok(())
+fn joins(alloc: Global, parts: (&str, &str, &str), wanted: &str) -> Result<bool, Fail> {
+    let (bundle, name, text) = parts;
+    let joined = join(alloc, bundle.as_bytes(), name.as_bytes(), text.as_bytes())?;
+    Ok(joined.as_slice() == wanted.as_bytes())
 }
 
 #[test]
 fn texts_are_joined(rt: HostRuntime) -> Result<(), Fail> {
+    let alloc = rt.alloc();
     let machine = "@ config/config.yaml\n#config_version=6\n";
     let name = "config/config.yaml";
-    assert_joined(&rt, ("@ a\nx: y\n", "b", ""), "@ a\nx: y\n@ b\n")?;
-    assert_joined(&rt, ("", name, "#config_version=6\n"), machine)?;
-    assert_joined(&rt, ("", name, "#config_version=6"), machine)?;
-    assert_joined(&rt, ("@ a\n", "b", "\n"), "@ a\n@ b\n\n")?;
-    assert_joined(&rt, ("@ a", "b", "x\ny"), "@ a@ b\nx\ny\n")?;
-    assert_joined(&rt, ("", "", ""), "@ \n")
+    assert!(rt; joins(alloc, ("@ a\nx: y\n", "b", ""), "@ a\nx: y\n@ b\n")?);
+    assert!(rt; joins(alloc, ("", name, "#config_version=6\n"), machine)?);
+    assert!(rt; joins(alloc, ("", name, "#config_version=6"), machine)?);
+    assert!(rt; joins(alloc, ("@ a\n", "b", "\n"), "@ a\n@ b\n\n")?);
+    assert!(rt; joins(alloc, ("@ a", "b", "x\ny"), "@ a@ b\nx\ny\n")?);
+    assert!(rt; joins(alloc, ("", "", ""), "@ \n")?);
+    Ok(())
 }
 
 #[test]

@@ -2,7 +2,6 @@
 
 use command_line::{AskFault, command};
 use std::alloc::{AllocError, Global};
-use std::process::Abort;
 use std::test::Fail;
 
 // Words of a command line, where `''` is an empty one, and what they ask for.
@@ -61,17 +60,12 @@ fn asked(alloc: Global, texts: &str) -> Result<String, AllocError> {
     }
 }
 
-fn assert_asked<R: Abort + AllocGlobal>(rt: &R, row: &str) -> Result<(), Fail> {
-    let (words, wanted) = row.split_once(" => ").unwrap_or(("", "a row"));
-    let found = asked(rt.alloc(), words)?;
-    assert!(rt; found.as_str() == wanted, "{row}: {found}");
-    Ok(())
-}
-
 #[test]
 fn words_ask(rt: HostRuntime) -> Result<(), Fail> {
     for row in ROWS.split("\n") {
-        assert_asked(&rt, row)?;
+        let (words, wanted) = row.split_once(" => ").unwrap_or(("", "a row"));
+        let found = asked(rt.alloc(), words)?;
+        assert!(rt; found.as_str() == wanted, "{row}: {found}");
     }
     Ok(())
 }
