@@ -1,3 +1,4 @@
+// Draws the data of picture.py: the graph of what posts what, and the timeline of a play.
 "use strict";
 const data = JSON.parse(document.getElementById("data").textContent);
 const at = (id) => document.getElementById(id);
@@ -289,6 +290,7 @@ function tell(moment) {
   now = moment;
   at("panel").textContent = "";
   element("h2", time(moment), at("panel"));
+  if (play.cut) element("p", `Only the first ${play.lines.length} lines of the play are drawn.`, at("panel"));
   const first = play.lines.findIndex((it) => it[0] >= moment);
   if (first < 0) { element("p", "Nothing happens after this moment.", at("panel")); return; }
   let from = first;
