@@ -26,10 +26,11 @@ def write_errors(asked: argparse.Namespace) -> int:
     found = [it for it in report.findings if not it.follows]
     if keep:
         write_texts(report.texts, keep)
+    warning = kept_words(report, keep) if keep and report.findings else ""
     if asked.json:
         print(json.dumps([as_json(it) for it in found], indent=2))
+        print(warning, end="", file=sys.stderr)
         return 1 if found else 0
-    warning = kept_words(report, keep) if keep and found else ""
     print(warning, end="\n" if warning else "")
     for number, finding in enumerate(found, 1):
         print(f"{number}. " + "\n".join(shown(finding)) + "\n")
@@ -41,7 +42,7 @@ def write_errors(asked: argparse.Namespace) -> int:
 
 def counted(report: errors.Report, found: list[Finding]) -> str:
     follows = len(report.findings) - len(found)
-    if not found:
+    if not report.findings:
         return "Nothing to mend: the answer is yes."
     more = f" {follows} more follow from these." if follows else ""
     if report.unsolved or not (report.answer and report.answer.accepted):
