@@ -2,7 +2,7 @@
 import argparse
 import json
 import sys
-from dataclasses import asdict
+from dataclasses import asdict, replace
 from pathlib import Path
 
 from . import errors, picture, program, trace, unused
@@ -10,7 +10,7 @@ from .answers import complaint_of
 from .findings import Finding, as_json, cure_of, finding_of, shown
 from .program import NoAnswer, Program
 from .scenery import Scenery
-from .texts import MACHINE, read_texts, write_texts
+from .texts import MACHINE, read_text, read_texts, write_texts
 from .ways import Cure
 
 ABOUT = "Helps with the answers of pinball: it calls the program and reads what it says. It proves nothing."
@@ -26,10 +26,11 @@ def write_errors(asked: argparse.Namespace) -> int:
     found = [it for it in report.findings if not it.follows]
     if keep:
         write_texts(report.texts, keep)
+    warning = kept_words(report, keep) if keep and report.findings else ""
     if asked.json:
         print(json.dumps([as_json(it) for it in found], indent=2))
+        print(warning, end="", file=sys.stderr)
         return 1 if found else 0
-    warning = kept_words(report, keep) if keep and found else ""
     print(warning, end="\n" if warning else "")
     for number, finding in enumerate(found, 1):
         print(f"{number}. " + "\n".join(shown(finding)) + "\n")
@@ -41,7 +42,7 @@ def write_errors(asked: argparse.Namespace) -> int:
 
 def counted(report: errors.Report, found: list[Finding]) -> str:
     follows = len(report.findings) - len(found)
-    if not found:
+    if not report.findings:
         return "Nothing to mend: the answer is yes."
     more = f" {follows} more follow from these." if follows else ""
     if report.unsolved or not (report.answer and report.answer.accepted):
@@ -63,12 +64,15 @@ def write_explain(asked: argparse.Namespace) -> int:
     """Says what each line on standard input means. Without DIR it has no texts to look into."""
     texts = read_texts(Path(asked.dir)) if asked.dir else {}
     scene = Scenery(texts)
+    original = {**texts, asked.log: read_text(Path(asked.log))} if asked.log else texts
     found = []
     for line in sys.stdin.read().split("\n"):
         if complaint := complaint_of(line):
+            if complaint.message.startswith("refused"):
+                complaint = replace(complaint, text=asked.log or "")
             cure = cure_of(scene, complaint) if texts else Cure()
             way = next(iter(cure.ways), None)
-            found.append(finding_of(scene, complaint, cure, way, texts))
+            found.append(finding_of(scene, complaint, cure, way, original))
         elif line == "yes":
             print("yes: the machine is accepted. What that promises is in docs/promises.md.\n")
     if asked.json:
@@ -142,7 +146,8 @@ def parser() -> argparse.ArgumentParser:
     one.set_defaults(run=write_errors)
     one = commands.add_parser("explain", help="a filter: what each line of an answer means, and what to do")
     one.add_argument("dir", metavar="DIR", nargs="?", help="the folder of the machine that the answer is about")
-    one.add_argument("--json", action="store_true")
+    one.add_argument("--log", metavar="LOG", help="the log that the answer of `play` is about")
+    one.add_argument("--json", action="store_true", help="for editors")
     one.set_defaults(run=write_explain)
     one = commands.add_parser(
         "unused", help="what a machine has and nothing uses: events, switches, coils, shots, modes"

@@ -1,3 +1,4 @@
+// Draws the data of picture.py: the graph of what posts what, and the timeline of a play.
 "use strict";
 const data = JSON.parse(document.getElementById("data").textContent);
 const at = (id) => document.getElementById(id);
@@ -199,13 +200,14 @@ const play = data.play, lane = at("play");
 at("tab-play").disabled = !play;
 const table = draw("svg", { "aria-hidden": "true" }, lane);
 const ROWS = 20, LEVEL = 44, TOP = 30;
-const span = { x: 0, y: 0, scale: 0.1, least: 0.0001, most: 8 };
+const span = { x: 0, y: 0, scale: 0.1, least: 1e-7, most: 8 };
 let now = null, searched = "";
 const side = () => Math.min(190, Math.max(90, lane.clientWidth * 0.22));
 const matches = (name) => !searched || name.toLowerCase().includes(searched);
 function ticks(from, to) {
-  const steps = [1, 2, 5, 10, 20, 50, 100, 200, 500, 1e3, 2e3, 5e3, 1e4, 3e4, 6e4, 12e4, 3e5, 6e5, 18e5, 36e5, 864e5];
-  const step = steps.find((it) => it * span.scale > 90) || 864e5, found = [];
+  const steps = [1, 2, 5, 10, 20, 50, 100, 200, 500, 1e3, 2e3, 5e3, 1e4, 3e4, 6e4, 12e4, 3e5, 6e5, 18e5, 36e5];
+  for (let hours = 4; hours < 1e5; hours *= 2) steps.push(hours * 36e5);
+  const step = steps.find((it) => it * span.scale > 90) || to, found = [];
   for (let moment = Math.ceil(from / step) * step; moment <= to; moment += step) found.push(moment);
   return found;
 }
@@ -289,6 +291,7 @@ function tell(moment) {
   now = moment;
   at("panel").textContent = "";
   element("h2", time(moment), at("panel"));
+  if (play.cut) element("p", `Only the first ${play.lines.length} lines of the play are drawn.`, at("panel"));
   const first = play.lines.findIndex((it) => it[0] >= moment);
   if (first < 0) { element("p", "Nothing happens after this moment.", at("panel")); return; }
   let from = first;
