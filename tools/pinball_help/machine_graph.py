@@ -83,15 +83,16 @@ class Maker:
         self.graph.handle(event, "coil_player", text, entry)
         self.graph.bind(event, Cost(len(entry.value.entries or [])), "coil_player", text, entry)
 
-    def blocks(self, text: str, entry: Entry, hits: list[tuple[Entry, Entry | None]]) -> None:
+    def blocks(self, text: str, entry: Entry, hits: list[tuple[Entry, bool]]) -> None:
+        """Adds a block with its lists of events that hit it, and whether a hit of each can complete it."""
         name = f"logicblock_{entry.key}"
         hit = names_of(entry, "events_when_hit") if setting(entry, "events_when_hit") else [f"{name}_hit"]
         done = names_of(entry, "events_when_complete") if setting(entry, "events_when_complete") else [
             f"{name}_complete"
         ]
-        cost = Cost(0, [f"{name}_updated", *hit, *done])
-        for list_of_events, _ in hits:
-            self.graph.bind_list(list_of_events, cost, f"{entry.key} is hit", text)
+        for list_of_events, completes in hits:
+            posts = [f"{name}_updated", *hit, *(done if completes else [])]
+            self.graph.bind_list(list_of_events, Cost(0, posts), f"{entry.key} is hit", text)
         for key in ("reset_events", "restart_events"):
             self.graph.bind_list(setting(entry, key), Cost(0, [f"{name}_updated"]), f"{key} of {entry.key}", text)
         for key in ("enable_events", "disable_events"):
@@ -99,17 +100,21 @@ class Maker:
 
     def of_counters(self, text: str, entry: Entry) -> None:
         found = setting(entry, "count_events")
-        self.blocks(text, entry, [(found, None)] if found else [])
+        completes = setting(entry, "count_complete_value") is not None
+        self.blocks(text, entry, [(found, completes)] if found else [])
+
+    def steps(self, entry: Entry) -> list[Entry]:
+        """The steps of a block, each as a list of its own: an entry that has this value alone."""
+        found = setting(entry, "events")
+        items = found.value.items or [] if found else []
+        return [Entry("events", it.line, it.start, it.end, it, path=found.path) for it in items]
 
     def of_accruals(self, text: str, entry: Entry) -> None:
-        found = setting(entry, "events")
-        steps = found.value.items or [] if found else []
-        # (each step is a list of its own: an entry that has this value alone)
-        self.blocks(
-            text, entry, [(Entry("events", it.line, it.start, it.end, it, path=found.path), None) for it in steps]
-        )
+        self.blocks(text, entry, [(step, True) for step in self.steps(entry)])
 
-    of_sequences = of_accruals
+    def of_sequences(self, text: str, entry: Entry) -> None:
+        steps = self.steps(entry)
+        self.blocks(text, entry, [(step, step is steps[-1]) for step in steps])
 
     def of_timers(self, text: str, entry: Entry) -> None:
         name, again = f"timer_{entry.key}", says_yes(entry, "restart_on_complete", False)
