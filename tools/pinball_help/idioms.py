@@ -35,7 +35,7 @@ SECTIONS = {
     "multiball_locks": "Take it out: a game here has one ball in play at a time.",
     "multiballs": "Take it out: a game here has one ball in play at a time.",
     "player_vars": "Take it out: a variable is 0 at first. For another value write a `variable_player` with "
-    "`action: set` at `player_turn_started`.",
+    "`action: set` at `ball_will_start{current_player.ball == 1}`.",
     "playfield_transfers": "Take it out: there is one playfield here.",
     "plugins": "Take it out: no Python runs here.",
     "psus": "Take it out: power supplies are not planned here.",

@@ -33,7 +33,7 @@ IDIOMS = (
     Idiom(
         "event_player", ANY, rf"\|\s*{TIME}",
         "MPF posts the event after a time. Delays are not carried out here.",
-        "Post it without the delay; or let the event start a mode with a timer, as docs/faults.md shows.",
+        "Post it without the delay; or let the event start a mode with a timer, as docs/from_mpf.md shows.",
         ("sub", rf"\|\s*{TIME}", ""), "event_player:\n  a: b|2s",
     ),
     Idiom(

@@ -134,12 +134,19 @@ class Maker:
         controls = setting(entry, "control_events")
         for item in controls.value.items or [] if controls else []:
             action, event = item.at("action"), next((it for it in item.entries or [] if it.key == "event"), None)
-            moves = done if action and action.text in ("add", "subtract", "jump") and self.has_end(entry) else []
+            moves = done if action and self.may_complete(entry, item, action.text) else []
             events = posted.get(action.text, moves) if action else []
             self.graph.bind_list(event, Cost(0, events), f"{action.text if action else ''} of timer {entry.key}", text)
 
-    def has_end(self, entry: Entry) -> bool:
-        return setting(entry, "end_value") is not None or text_of(entry, "direction") == "down"
+    @staticmethod
+    def may_complete(entry: Entry, item: outline.Node, action: str) -> bool:
+        """Whether a control of a timer may complete it: a jump does so only where its value is at the end."""
+        is_down, end = text_of(entry, "direction") == "down", text_of(entry, "end_value")
+        if action not in ("add", "subtract", "jump") or not (is_down or end):
+            return False
+        value = item.at("value")
+        distance = (number(value.text if value else "") or 0) - (number(end) or 0)
+        return action != "jump" or (distance <= 0 if is_down else distance >= 0)
 
     def of_shots(self, text: str, entry: Entry) -> None:
         hits = self.hits_of(text, entry)
