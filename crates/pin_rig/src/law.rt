@@ -9,12 +9,13 @@ ghost use Rattle.pin_rig.specs.Steps.{StepsAreRun, HaltedStepsAreRun, SentIsShow
 /// waits. A board that reports its list has added exactly the commands of this trace to it, in
 /// order, or no longer reports a list (`run`).
 ///
-/// If the board has not taken a command of the last input, it has taken exactly the commands of the
-/// lines that were shown. These lines are the beginning of the trace (`halt`).
+/// If the board has not taken a command of the last input, a board that reports its list has added
+/// exactly the commands of the lines that were shown, or no longer reports a list. These lines are
+/// the beginning of the trace (`halt`).
 ///
-/// What the rig knows of the coils follows from the commands of the lines that were shown (`sent`). So
-/// does what `shut_down` puts off then: each coil that is on by them at the moment of the latest
-/// stimulus, and the one whose command the board has not taken (`off`).
+/// The guard of what the board has taken follows from the commands of the lines that were shown
+/// (`sent`). The coils to which `shut_down` sends a disable are those that are on by these commands
+/// at the moment of the latest stimulus, and the one whose command the board has not taken (`off`).
 ///
 /// An input is taken exactly if the rig is not halted and the input is a stimulus that may come
 /// (`taken`).

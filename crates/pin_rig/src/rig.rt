@@ -127,7 +127,7 @@ impl<'c, D: Device, B: Board> Rig<'c, D, B> {
     /// - `TooLate`: the moment of the input is 2^40 ms or later.
     /// - `AlarmPending`: an alarm is due at or before the moment of a change or a wait.
     /// - `BoardFault`: the board has not taken a command of the cascade, so its count of faults has
-    ///   risen, or was at its last value already. Any other answer leaves the count as it was.
+    ///   risen, or was at 2^64 - 1 already. Any other answer leaves the count as it was.
     ///   `trace` has the lines before the line of this command, and the board has taken their
     ///   commands. Nothing more is sent, and the rig is halted. The machine has gone on to the end
     ///   of the cascade: `now`, `next_due` and `state` are of that end.

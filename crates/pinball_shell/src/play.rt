@@ -68,9 +68,9 @@ pub(crate) enum Stop {
 /// - `Write`: the writer failed. How much was written is not said.
 ///
 /// The log is read to its end before the devices are judged. All memory is taken before anything is
-/// written. So after all but the last nothing has been written. After the last, the coils that are
-/// on are put off. The devices and the board are dropped in any case. No clause says what was sent
-/// to the board before an error.
+/// written. So after all but `Write` nothing has been written. After `Write` the rig is dropped, which
+/// sends the commands of `Rig::shut_down`. The devices and the board are dropped in any case. No
+/// clause says what was sent to the board before an error.
 pub fn play_text<D: Device, B: Board, R: Read, W: Write>(
     alloc: Global,
     checked: &Checked,
