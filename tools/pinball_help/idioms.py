@@ -76,6 +76,8 @@ SETTINGS = {
         "pulse_ms": ("default_pulse_ms", RENAMED),
         "pulse_power": ("default_pulse_power", RENAMED),
         "hold_power": ("default_hold_power", RENAMED),
+        "pulse_power32": ("default_pulse_power", "This is a setting of older versions of MPF."),
+        "hold_power32": ("default_hold_power", "This is a setting of older versions of MPF."),
         "default_recycle": ("", "Take it out: a coil is ready again after twice the length of its pulse."),
         "recycle": ("", "Take it out: a coil is ready again after twice the length of its pulse."),
         "max_hold_duration": ("", "Take it out. A coil that may be held has to bear it for hours."),

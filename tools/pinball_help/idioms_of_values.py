@@ -7,9 +7,12 @@ A row holds for an entry of a section (or of several) whose key and raw value ma
     value B       its value becomes B
     keys          a mapping becomes the list of its keys
     first         a list becomes its first item
+    power         an old power becomes a part of full power: see powers.py
 
 `sample` is a text in which the program refuses the value; tools/test_help tries each row on its sample."""
 from dataclasses import dataclass
+
+from .powers import NAMES
 
 TIME = r"\d[\d.]*\s*(?:ms|s|m|h|d|msec|sec|secs|min|mins)?"
 EVENTS = r"\w*_events|events_when_\w+|events"
@@ -153,10 +156,10 @@ IDIOMS = (
         ("out",), "coils:\n  c: {default_pulse_ms: 6000}",
     ),
     Idiom(
-        "coils|coil_player", r"\w*(?:pulse|hold)_power", r"^[\d.]+$",
-        "A power is a part of full power, from 0 to 1. MPF before 0.50 counted in eighths.",
-        "Write a part, as `0.25` or `25%`.",
-        ("value", "0.25"), "coils:\n  c: {default_hold_power: 25}",
+        "coils|coil_player", NAMES, ANY,
+        "A power is a part of full power, from 0 to 1.",
+        "Write it as a part of full power.",
+        ("power",), "coils:\n  c: {default_hold_power: 25}",
     ),
     Idiom(
         "coil_player", ANY, r"^(?i:on|yes|true)$",

@@ -68,14 +68,15 @@ def rename(texts: Texts, name: str, entry: Entry, new: str) -> Edit:
     return replace(texts, name, entry.line, entry.start, entry.end, new)
 
 
-def give(texts: Texts, name: str, entry: Entry, value: str) -> Edit:
-    """Gives an entry another value, on its line."""
+def give(texts: Texts, name: str, entry: Entry, value: str, key: str = "") -> Edit:
+    """Gives an entry another value, on its line; and another key, if there is one."""
     line = line_of(texts, name, entry.line)
+    key = key or line[entry.start : entry.end]
     if entry.in_braces:
-        return replace(texts, name, entry.line, entry.end, entry.value.end, f": {value}")
+        return replace(texts, name, entry.line, entry.start, entry.value.end, f"{key}: {value}")
     comment = line[len(without_comment(line)) :]
     last = max(entry.last, entry.line + 1)
-    new = f"{line[:entry.end]}: {value}{comment}"
+    new = f"{line[:entry.start]}{key}: {value}{comment}"
     return Edit(name, entry.line, last, (new,) + ("",) * (last - entry.line - 1))
 
 

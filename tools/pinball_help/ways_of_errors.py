@@ -2,7 +2,7 @@
 import re
 from dataclasses import replace
 
-from . import profile
+from . import powers, profile
 from .answers import Complaint
 from .idioms import SECTIONS, SECTIONS_RENAMED, SETTINGS
 from .idioms_of_values import ENTRY, IDIOMS, Idiom
@@ -97,20 +97,34 @@ def of_setting(scene: Scenery, complaint: Complaint) -> Cure:
     instead, word = SETTINGS.get(table, {}).get(key, ("", ""))
     if word:
         word = word.format(mode=scene.owner(text))
-        edits = (rename(scene.texts, text, entry, instead),) if instead and instead not in siblings else out
-        write = f"Write `{instead}`. {word}" if instead else word
         why = "MPF has this setting, and it is not read here."
-        return Cure(says, True, (Way(edits, write, why, instead), Way(out)), out, mark)
+        if not instead:
+            return Cure(says, True, (Way(out, word, why), Way(out)), out, mark)
+        if instead in siblings:
+            return Cure(says, True, (Way(out, f"Take it out: `{instead}` is there. {word}", why),), out, mark)
+        edit, named, reason = as_setting(scene, text, entry, instead)
+        write = f"Write `{named}`. {word}"
+        return Cure(says, True, (Way((edit,), write, f"{why} {reason}".rstrip(), instead), Way(out)), out, mark)
     near = nearest(key, [*profile.settings(table), *profile.of_other_tools()])
     if near and near not in siblings:
-        edit = rename(scene.texts, text, entry, near)
-        return Cure(says, True, (Way((edit,), f"Write `{near}`.", near=near), Way(out, near=near)), out, mark)
+        edit, named, reason = as_setting(scene, text, entry, near)
+        way = Way((edit,), f"Write `{named}`.", reason, near)
+        return Cure(says, True, (way, Way(out, near=near)), out, mark)
     if key in profile.sections():
         return Cure(
             says, True, (Way(out, "Move it to the left edge.", "It is a section, and is indented."),), out, mark
         )
     others = ", ".join(f"`{name}`" for name in profile.settings(table))
     return Cure(says, True, (Way(out, f"Take it out. The settings are {others}."),), out, mark)
+
+
+def as_setting(scene: Scenery, text: str, entry: Entry, new: str) -> tuple[Edit, str, str]:
+    """Gives a setting its other name: the edit, what to write, and why. An old power gets another value too."""
+    value = unquoted(raw(scene.texts, text, entry))
+    right, reason = powers.meant(entry.key, value) if powers.is_power(new) else (value, "")
+    if reason:
+        return give(scene.texts, text, entry, right, new), f"{new}: {right}", reason
+    return rename(scene.texts, text, entry, new), new, ""
 
 
 def siblings_of(entry: Entry) -> list[Entry]:
@@ -131,6 +145,8 @@ def edits_of(scene: Scenery, text: str, entry: Entry, idiom: Idiom) -> tuple[Edi
         return (substitute(texts, text, entry, words[0], words[1]),)
     if kind == "value":
         return (give(texts, text, entry, words[0]),)
+    if kind == "power":
+        return (give(texts, text, entry, powers.meant(entry.key, unquoted(value))[0]),)
     if kind == "upper":
         return (give(texts, text, entry, unquoted(value).upper()),)
     if kind == "boolean":
@@ -224,7 +240,8 @@ def of_entry(scene: Scenery, text: str, entry: Entry) -> Cure:
     """Where the value of an entry is at fault."""
     says = takes(entry)
     if idiom := idiom_of(scene, text, entry):
-        way = Way(edits_of(scene, text, entry, idiom), idiom.write, idiom.mpf)
+        reason = powers.meant(entry.key, unquoted(raw(scene.texts, text, entry)))[1] if idiom.edit[0] == "power" else ""
+        way = Way(edits_of(scene, text, entry, idiom), idiom.write, f"{idiom.mpf} {reason}".rstrip())
         return cure_at(scene, text, entry, says, way)
     if not entry.path:
         way = Way((), "Write entries below it: `NAME:`, not `- NAME`.")
