@@ -39,4 +39,4 @@ def meant(setting: str, written: str) -> tuple[str, str]:
         return right, f"{why} {LESS}"
     right = UNKNOWN if is_percent else part(min(number / 100, float(UNKNOWN)))
     percent = f" In percent it would be `{number:g}%`." if not is_percent and number <= 100 else ""
-    return right, f"`{written}` is more than full power.{percent} Begin with little: `{right}`, or what the coil bears."
+    return right, f"`{written}` is more than full power.{percent} Begin with little, as `{right}`."

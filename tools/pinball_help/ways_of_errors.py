@@ -240,7 +240,8 @@ def of_entry(scene: Scenery, text: str, entry: Entry) -> Cure:
     """Where the value of an entry is at fault."""
     says = takes(entry)
     if idiom := idiom_of(scene, text, entry):
-        reason = powers.meant(entry.key, unquoted(raw(scene.texts, text, entry)))[1] if idiom.edit[0] == "power" else ""
+        value = unquoted(raw(scene.texts, text, entry))
+        reason = powers.meant(entry.key, value)[1] if idiom.edit[0] == "power" else ""
         way = Way(edits_of(scene, text, entry, idiom), idiom.write, f"{idiom.mpf} {reason}".rstrip())
         return cure_at(scene, text, entry, says, way)
     if not entry.path:
