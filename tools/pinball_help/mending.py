@@ -1,5 +1,6 @@
 """Edits of a copy: what takes an entry out, renames it, or gives it another value."""
 import re
+from typing import Callable
 
 from .outline import Entry, Node, indentation, is_item, without_comment
 from .texts import VERSION, Edit, Texts
@@ -92,7 +93,7 @@ def add(texts: Texts, name: str, entry: Entry, setting: str) -> Edit:
     return Edit(name, entry.line, entry.line + 1, (line, " " * depth + setting))
 
 
-def substitute(texts: Texts, name: str, entry: Entry, found: str, new: str) -> Edit:
+def substitute(texts: Texts, name: str, entry: Entry, found: str, new: str | Callable) -> Edit:
     """Replaces each match in the value of an entry; in the key too, where the match begins there."""
     last = max(entry.last, entry.line + 1)
     lines = [line_of(texts, name, at) for at in range(entry.line, last)]

@@ -2,7 +2,7 @@
 import re
 from dataclasses import replace
 
-from . import powers, profile
+from . import overwrites, powers, profile
 from .answers import Complaint
 from .idioms import SECTIONS, SECTIONS_RENAMED, SETTINGS
 from .idioms_of_values import ENTRY, IDIOMS, Idiom
@@ -12,6 +12,9 @@ from .outline import Entry, Node, unquoted
 from .scenery import Scenery, raw, section_of, setting_table
 from .texts import MACHINE, VERSION, Edit
 from .ways import Cure, Way
+
+EXAMPLE = "The value below is an example."
+PLACEHOLDER = r"\(([^)]*)\)"
 
 # what a copy gets for a setting that is required, so that what comes after it is checked too
 STAND_INS = {"action": "pulse", "int": "0", "states": "[{name: a_state}]", "ball_switches": "[]", "events": "[]"}
@@ -99,7 +102,10 @@ def of_setting(scene: Scenery, complaint: Complaint) -> Cure:
         word = word.format(mode=scene.owner(text))
         why = "MPF has this setting, and it is not read here."
         if not instead:
-            return Cure(says, True, (Way(out, word, why), Way(out)), out, mark)
+            if key in ("eos_switch", "use_eos") and "hold_coil" in siblings:
+                word = "Take it out: the flipper has its `hold_coil`."
+            told, edits = overwrites.moved(scene, text, entry)
+            return Cure(says, True, (Way((*out, *edits), f"{word} {told}".rstrip(), why), Way(out)), out, mark)
         if instead in siblings:
             return Cure(says, True, (Way(out, f"Take it out: `{instead}` is there. {word}", why),), out, mark)
         edit, named, reason = as_setting(scene, text, entry, instead)
@@ -154,6 +160,11 @@ def edits_of(scene: Scenery, text: str, entry: Entry, idiom: Idiom) -> tuple[Edi
     if kind == "keys":
         keys = [it.key for it in entry.value.entries or []] or names
         return (give(texts, text, entry, f"[{', '.join(keys)}]"),)
+    if kind == "number":
+        number = re.search(r"(?<![\w.])-?\d+(?![\w.])", value)
+        return (give(texts, text, entry, number[0] if number else "1"),)
+    if kind == "placeholder":
+        return (of_placeholder(scene, text, entry),)
     if kind == "first" and names:
         return (give(texts, text, entry, names[0]),)
     if kind == "states":
@@ -161,6 +172,21 @@ def edits_of(scene: Scenery, text: str, entry: Entry, idiom: Idiom) -> tuple[Edi
     if kind == "steps" and names:
         return (give(texts, text, entry, f"[{', '.join(names)}]"),)
     return (take_out(texts, text, entry),)
+
+
+def of_placeholder(scene: Scenery, text: str, entry: Entry) -> Edit:
+    """Events without placeholders, as an example: a line for each of two values of a variable, with its condition."""
+    value = raw(scene.texts, text, entry)
+    found = {*re.findall(PLACEHOLDER, value)}
+    variable = next(iter(found), "").strip()
+    by_value = len(found) == 1 and re.fullmatch(r"current_player\.\w+", variable) and "{" not in entry.key
+    if not by_value or entry.in_braces or entry.last > entry.line + 1:
+        return substitute(scene.texts, text, entry, PLACEHOLDER, lambda it: it[1] if it[1].isidentifier() else "1")
+    line = line_of(scene.texts, text, entry.line)
+    lines = [
+        f"{line[: entry.start]}{entry.key}{{{variable}=={it}}}: {re.sub(PLACEHOLDER, it, value)}" for it in ("1", "2")
+    ]
+    return Edit(text, entry.line, entry.line + 1, tuple(lines))
 
 
 def idiom_of(scene: Scenery, text: str, entry: Entry) -> Idiom | None:
@@ -312,7 +338,7 @@ def of_missing(scene: Scenery, complaint: Complaint) -> Cure:
     near = nearest(key, [it.key for it in entry.value.entries or []])
     says = (f"{called[0].upper()}{called[1:]} has to have `{key}`, and `{entry.key}` has none.",)
     why = f"It has `{near}`." if near else ""
-    way = Way((add(scene.texts, text, entry, f"{key}: {stand_in}"),), f"Write `{key}:` below `{entry.key}`.", why)
+    way = Way((add(scene.texts, text, entry, f"{key}: {stand_in}"),), f"Write `{key}:` below `{entry.key}`. {EXAMPLE}", why)
     return Cure(says, True, (way, Way(out, way.write, why)), out, (entry.start, entry.end))
 
 
