@@ -101,7 +101,9 @@ def substitute(texts: Texts, name: str, entry: Entry, found: str, new: str | Cal
         line = lines[0]
         part = re.sub(found, new, line[entry.start : entry.value.end])
         return Edit(name, entry.line, entry.line + 1, (line[: entry.start] + part + line[entry.value.end :],))
-    return Edit(name, entry.line, last, tuple(re.sub(found, new, line) for line in lines))
+    contents = [without_comment(line) for line in lines]
+    changed = [re.sub(found, new, it) + line[len(it) :] for it, line in zip(contents, lines)]
+    return Edit(name, entry.line, last, tuple(changed))
 
 
 def commented(edit: Edit, texts: Texts, why: str) -> Edit:

@@ -6,7 +6,7 @@ from .texts import Edit
 from .ways_of_faults import hold_limit, limit_of, set_setting
 
 COILS = {"coil_overwrite": "coil", "main_coil_overwrite": "main_coil", "hold_coil_overwrite": "hold_coil"}
-SETTINGS = ("pulse_ms", "pulse_power", "hold_power")
+SETTINGS = ("hold_power", "pulse_power", "pulse_ms")  # what harms most first
 
 
 def moved(scene: Scenery, text: str, entry: Entry) -> tuple[str, tuple[Edit, ...]]:
@@ -15,7 +15,8 @@ def moved(scene: Scenery, text: str, entry: Entry) -> tuple[str, tuple[Edit, ...
     The edits only lower what the coil has: the coil may be pulsed or held by others too, who mean no more than that."""
     name = entry.path[-1].value.at(COILS[entry.key]) if entry.key in COILS and entry.path else None
     coil = scene.defined("coils").get(name.text) if name else None
-    written = {it.key: unquoted(raw(scene.texts, text, it)) for it in entry.value.entries or [] if it.key in SETTINGS}
+    settings = {it.key: it for it in entry.value.entries or []}
+    written = {it: unquoted(raw(scene.texts, text, settings[it])) for it in SETTINGS if it in settings}
     if not name or not coil or not written:
         return "", ()
     words, reasons, edits = [], [], []
@@ -26,12 +27,9 @@ def moved(scene: Scenery, text: str, entry: Entry) -> tuple[str, tuple[Edit, ...
         if lowers(coil[1], key, right):
             edits.append(set_setting(scene, coil[0], coil[1], f"default_{key}", right))
     where = f"`{name.text}`, {scene.where(coil[0], coil[1].line)}"
-    told = " ".join([f"The coil is {where}. There it is {' and '.join(words)}.", *reasons])
-    return told, tuple(edits[-1:] if has_one_line(coil[1]) else edits)
-
-
-def has_one_line(coil: Entry) -> bool:
-    return coil.last <= coil.line + 1
+    told = " ".join([f"The coil is {where}: write {' and '.join(words)} there.", *reasons])
+    is_one_line = coil[1].last <= coil[1].line + 1
+    return told, tuple(edits[:1] if is_one_line else edits)  # (a line has one edit)
 
 
 def lowers(coil: Entry, key: str, right: str) -> bool:

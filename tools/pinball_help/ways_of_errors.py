@@ -182,11 +182,10 @@ def of_placeholder(scene: Scenery, text: str, entry: Entry) -> Edit:
     by_value = len(found) == 1 and re.fullmatch(r"current_player\.\w+", variable) and "{" not in entry.key
     if not by_value or entry.in_braces or entry.last > entry.line + 1:
         return substitute(scene.texts, text, entry, PLACEHOLDER, lambda it: it[1] if it[1].isidentifier() else "1")
-    line = line_of(scene.texts, text, entry.line)
-    lines = [
-        f"{line[: entry.start]}{entry.key}{{{variable}=={it}}}: {re.sub(PLACEHOLDER, it, value)}" for it in ("1", "2")
-    ]
-    return Edit(text, entry.line, entry.line + 1, tuple(lines))
+    start = line_of(scene.texts, text, entry.line)[: entry.start] + entry.key
+    one, other = (f"{{{variable}=={it}}}: {re.sub(PLACEHOLDER, it, value)}" for it in ("1", "2"))
+    first = give(scene.texts, text, entry, one.partition(": ")[2], entry.key + one.partition(": ")[0])
+    return Edit(text, entry.line, entry.line + 1, (*first.lines, start + other))
 
 
 def idiom_of(scene: Scenery, text: str, entry: Entry) -> Idiom | None:
