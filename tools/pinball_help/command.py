@@ -51,6 +51,8 @@ def counted(report: errors.Report, found: list[Finding]) -> str:
     more = f" {follows} more follow from these." if follows else ""
     if report.unsolved or not (report.answer and report.answer.accepted):
         more += " There may be others that come after the last of these: mend it, and look again."
+    if len(found) < 2:
+        return f"{len(found)} to mend.{more}"
     return f"{len(found)} to mend, in this order or any other.{more}\n{LINE_NUMBERS}"
 
 

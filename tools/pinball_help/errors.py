@@ -99,7 +99,7 @@ class Search:
 
     def cure(self, complaint: Complaint) -> Cure:
         cure = cure_of(self.scene, complaint)
-        if self.leave_out and cure.out:
+        if self.leave_out and cure.out and not cure.stays:
             outs = (Way(cure.out),)
             if complaint.name == "Yaml":
                 outs = tuple(

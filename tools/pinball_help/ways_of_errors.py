@@ -105,17 +105,19 @@ def of_setting(scene: Scenery, complaint: Complaint) -> Cure:
             if key in ("eos_switch", "use_eos") and "hold_coil" in siblings:
                 word = "Take it out: the flipper has its `hold_coil`."
             told, edits = overwrites.moved(scene, text, entry)
-            return Cure(says, True, (Way((*out, *edits), f"{word} {told}".rstrip(), why), Way(out)), out, mark)
+            ways = (Way((*out, *edits), f"{word} {told}".rstrip(), why), Way(out))
+            return Cure(says, True, ways, out, mark, stays=bool(edits))
         if instead in siblings:
             return Cure(says, True, (Way(out, f"Take it out: `{instead}` is there. {word}", why),), out, mark)
         edit, named, reason = as_setting(scene, text, entry, instead)
         write = f"Write `{named}`. {word}"
-        return Cure(says, True, (Way((edit,), write, f"{why} {reason}".rstrip(), instead), Way(out)), out, mark)
+        ways = (Way((edit,), write, f"{why} {reason}".rstrip(), instead), Way(out))
+        return Cure(says, True, ways, out, mark, stays=powers.is_power(instead))
     near = nearest(key, [*profile.settings(table), *profile.of_other_tools()])
     if near and near not in siblings:
         edit, named, reason = as_setting(scene, text, entry, near)
         way = Way((edit,), f"Write `{named}`.", reason, near)
-        return Cure(says, True, (way, Way(out, near=near)), out, mark)
+        return Cure(says, True, (way, Way(out, near=near)), out, mark, stays=powers.is_power(near))
     if key in profile.sections():
         return Cure(
             says, True, (Way(out, "Move it to the left edge.", "It is a section, and is indented."),), out, mark
@@ -268,7 +270,7 @@ def of_entry(scene: Scenery, text: str, entry: Entry) -> Cure:
         value = unquoted(raw(scene.texts, text, entry))
         reason = powers.meant(entry.key, value)[1] if idiom.edit[0] == "power" else ""
         way = Way(edits_of(scene, text, entry, idiom), idiom.write, f"{idiom.mpf} {reason}".rstrip())
-        return cure_at(scene, text, entry, says, way)
+        return replace(cure_at(scene, text, entry, says, way), stays=idiom.edit[0] == "power")
     if not entry.path:
         way = Way((), "Write entries below it: `NAME:`, not `- NAME`.")
         return cure_at(scene, text, entry, ("A section is a mapping of entries.",), way)
@@ -337,7 +339,8 @@ def of_missing(scene: Scenery, complaint: Complaint) -> Cure:
     near = nearest(key, [it.key for it in entry.value.entries or []])
     says = (f"{called[0].upper()}{called[1:]} has to have `{key}`, and `{entry.key}` has none.",)
     why = f"It has `{near}`." if near else ""
-    way = Way((add(scene.texts, text, entry, f"{key}: {stand_in}"),), f"Write `{key}:` below `{entry.key}`. {EXAMPLE}", why)
+    write = f"Write `{key}:` below `{entry.key}`. {EXAMPLE}"
+    way = Way((add(scene.texts, text, entry, f"{key}: {stand_in}"),), write, why)
     return Cure(says, True, (way, Way(out, way.write, why)), out, (entry.start, entry.end))
 
 
