@@ -6,6 +6,7 @@ import re
 
 EIGHTHS, SMALL_PARTS = 8, 32
 UNKNOWN = "0.125"  # one eighth, where nobody can know what was meant
+NO_POWER = "`{}` is no power. Write the part that the coil bears. With `0` the coil has no power."
 LESS = "If the coil bears less, write less."
 NAMES = r"(?:default_|max_)?(?:pulse|hold)_power"
 
@@ -19,19 +20,32 @@ def part(share: float, digits: int = 3) -> str:
     return f"{math.floor(share * 10**digits + 1e-6) / 10**digits:.{digits}f}".rstrip("0").removesuffix(".")
 
 
+def of_mask(setting: str, written: str) -> tuple[str, str]:
+    """A mask has a digit for each step of a short time: at a `1` the current is on."""
+    if not re.fullmatch(r"[01]{8}|[01]{32}", written):
+        return "0", NO_POWER.format(written)
+    ones = written.count("1")
+    right = part(ones / len(written))
+    return right, f"`{setting}: {written}` has {ones} ones in {len(written)} digits: that is `{right}`. {LESS}"
+
+
 def meant(setting: str, written: str) -> tuple[str, str]:
     """The part of full power to write for an old power, and why; no reason where it may stay as it is."""
+    if setting.endswith("pwm_mask"):
+        return of_mask(setting, written)
     found = re.fullmatch(r"(\d+\.?\d*|\.\d+)\s*(%?)", written)
     if not found:
-        return "0", f"`{written}` is no power. Write the part that the coil bears. With `0` the coil has no power."
+        return "0", NO_POWER.format(written or " ")
     number, is_percent = float(found[1]), bool(found[2])
     if is_percent and number <= 100:
         right = f"{part(number, 1)}%"
-        return (written, "") if re.fullmatch(r"\d+(\.\d)?%", written) else (right, "A percentage has one decimal.")
+        is_right = re.fullmatch(r"\d+(\.\d)?%", written)
+        return (written, "") if is_right else (right, f"Write `{right}`: a percentage has at most one decimal.")
     counts = SMALL_PARTS if setting.endswith("32") else EIGHTHS
     if not is_percent and number < 1:
         right = part(number)
-        return (written, "") if re.fullmatch(r"0(\.\d{1,3})?", written) else (right, "A power has three decimals.")
+        is_right = re.fullmatch(r"0(\.\d{1,3})?", written)
+        return (written, "") if is_right else (right, f"Write `{right}`: a power has at most three decimals.")
     if not is_percent and number <= counts:
         right = part(int(number) / counts) + (".0" if int(number) == counts else "")
         called = "eighths" if counts == EIGHTHS else "parts of 32"
