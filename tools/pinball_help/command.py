@@ -16,6 +16,10 @@ from .ways import Cure
 ABOUT = "Helps with the answers of pinball: it calls the program and reads what it says. It proves nothing."
 NO_PROOF = "These are hints, and nothing here is proved. The answer that counts is that of `pinball check`."
 
+LINE_NUMBERS = (
+    "Line numbers are those of your files now: begin with the last one, or run this again after each change."
+)
+
 
 def write_errors(asked: argparse.Namespace) -> int:
     tool = find(asked)
@@ -47,7 +51,9 @@ def counted(report: errors.Report, found: list[Finding]) -> str:
     more = f" {follows} more follow from these." if follows else ""
     if report.unsolved or not (report.answer and report.answer.accepted):
         more += " There may be others that come after the last of these: mend it, and look again."
-    return f"{len(found)} to mend, in this order or any other.{more}"
+    if len(found) < 2:
+        return f"{len(found)} to mend.{more}"
+    return f"{len(found)} to mend, in this order or any other.{more}\n{LINE_NUMBERS}"
 
 
 def kept_words(report: errors.Report, keep: Path) -> str:

@@ -29,15 +29,20 @@ class Report:
 
 
 class Progress:
-    """Says on standard error how far it is, once a second has passed."""
+    """Says how far it is, once a second has passed: on standard error, where that is a terminal."""
 
     def __init__(self, what: str):
-        self.what, self.next = what, time.monotonic() + 1
+        self.what, self.next, self.last = what, time.monotonic() + 1, ""
 
     def at(self, count: int) -> None:
-        if time.monotonic() >= self.next:
+        if time.monotonic() >= self.next and sys.stderr.isatty():
             self.next = time.monotonic() + 1
-            print(f".. {count} {self.what}", file=sys.stderr, flush=True)
+            self.last = f".. {count} {self.what}"
+            print(f"\r{self.last}", end="", file=sys.stderr, flush=True)
+
+    def end(self) -> None:
+        """Clears the line."""
+        print(f"\r{' ' * len(self.last)}\r" if self.last else "", end="", file=sys.stderr, flush=True)
 
 
 class Search:
@@ -56,6 +61,17 @@ class Search:
         self.progress = Progress("found")
 
     def run(self) -> Report:
+        try:
+            answer = self.mend_all()
+        finally:
+            self.progress.end()
+        self.report.texts, self.report.answer = self.scene.texts, answer
+        order = {name: at for at, name in enumerate(self.scene.texts)}
+        self.report.findings.sort(key=lambda it: (it.line == 0, order.get(it.text, -1), it.line))
+        return self.report
+
+    def mend_all(self) -> Answer:
+        """Mends one after the other, until all is accepted or nothing helps."""
         answer = self.ask(self.scene.texts)
         for _ in range(ROUNDS):
             if answer.accepted or not answer.complaints:
@@ -66,10 +82,7 @@ class Search:
                 break
             answer = following
             self.progress.at(len(self.report.findings))
-        self.report.texts, self.report.answer = self.scene.texts, answer
-        order = {name: at for at, name in enumerate(self.scene.texts)}
-        self.report.findings.sort(key=lambda it: (it.line == 0, order.get(it.text, -1), it.line))
-        return self.report
+        return answer
 
     def ask(self, texts: Texts) -> Answer:
         with tempfile.TemporaryDirectory(prefix="pinball-help-") as room:
@@ -86,7 +99,7 @@ class Search:
 
     def cure(self, complaint: Complaint) -> Cure:
         cure = cure_of(self.scene, complaint)
-        if self.leave_out and cure.out:
+        if self.leave_out and cure.out and not cure.stays:
             outs = (Way(cure.out),)
             if complaint.name == "Yaml":
                 outs = tuple(

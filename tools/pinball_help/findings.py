@@ -1,12 +1,16 @@
 """What is said of one complaint: its place in the user's file, the words, and what to write."""
 import re
 from dataclasses import asdict, dataclass
+from itertools import groupby
 
 from . import messages, ways_of_errors, ways_of_faults, ways_of_wholes, ways_of_yaml
 from .answers import Complaint
 from .scenery import Scenery
 from .texts import Edit, Line, Texts
 from .ways import Cure, Way
+
+MOST_SHOWN = 8  # further lines of a file
+OUT, OTHER, NEW, EMPTY = "a line is taken out", "a line becomes another", "a line is new", "an empty line is new"
 
 
 @dataclass(frozen=True)
@@ -33,6 +37,7 @@ class Finding:
     why: str
     write: str
     changes: tuple[Change, ...]  # what mends it, in the user's file
+    further: tuple[tuple[int, str], ...]  # the other lines of the text that the changes are about, as they are now
     part: str
     follows: bool = False  # from another finding, or from what a copy leaves out
 
@@ -102,6 +107,7 @@ def finding_of(scene: Scenery, complaint: Complaint, cure: Cure, way: Way | None
     start, end = cure.mark or mark_of(source, complaint.key)
     start = min(start, len(source))
     way = way or Way(())
+    changes = changes_of(scene, way.edits)
     return Finding(
         complaint.said if cure.at else with_number(
             complaint.said, complaint, number
@@ -109,8 +115,15 @@ def finding_of(scene: Scenery, complaint: Complaint, cure: Cure, way: Way | None
         max(1, min(end, len(source)) - start), source, cure.says if cure.whole else (
             says, *cure.says
         ), way.near, way.why, way.write or general,
-        changes_of(scene, way.edits), messages.link(complaint.message),
+        changes, further_of(changes, text, number, lines), messages.link(complaint.message),
     )
+
+
+def further_of(changes: tuple[Change, ...], text: str, number: int, lines: list[Line]) -> tuple[tuple[int, str], ...]:
+    """The lines of a text that the changes are about, but for the line that has a number."""
+    numbers = dict.fromkeys(it.line for it in changes if it.text == text and not it.is_new and it.line != number)
+    found = [(it, lines[it - 1].text.rstrip("\r")) for it in numbers if 0 < it <= len(lines)]
+    return tuple(it for it in found if it[1].strip())
 
 
 def mark_of(source: str, key: str) -> tuple[int, int]:
@@ -128,24 +141,44 @@ def printable(text: str) -> str:
 def shown(finding: Finding) -> list[str]:
     """The lines that a person reads."""
     where = f"{finding.text}:{finding.line}: " if finding.line and finding.text else ""
-    lines = [f"{where}{finding.said}"]
-    if finding.source.strip():
-        before = printable(finding.source[: finding.column - 1])
-        marked = printable(finding.source[finding.column - 1 :][: finding.width])
-        lines.append(f"  {finding.line:>5} | {printable(finding.source)}")
-        lines.append(f"        | {' ' * len(before)}{'^' * max(1, len(marked))}")
+    lines = [f"{where}{finding.said}", *shown_source(finding)]
     lines += [f"  {it}" for it in finding.says]
     lines += [f"  Near it: `{finding.near}`."] if finding.near else []
     lines += [f"  {finding.why}"] if finding.why else []
-    lines += [f"  To do: {finding.write}"]
-    lines += [
-        f"  {'' if it.is_new else it.line:>5} + {printable(it.new)}" for it in finding.changes if it.new.strip()
-    ][:4]
-    gone = [it.line for it in finding.changes if not it.new.strip()]
-    if gone and len(gone) == len(finding.changes):
-        lines.append(f"  {gone[0]:>5} - (taken out{f', up to line {gone[-1]}' if gone[1:] else ''})")
-    lines += [f"  More: {finding.part}"]
+    lines += [f"  To do: {finding.write}", *shown_changes(finding), f"  More: {finding.part}"]
     return lines
+
+
+def shown_source(finding: Finding) -> list[str]:
+    """The lines that a finding is about, with what is at fault underlined."""
+    start, width = finding.column - 1, finding.width
+    marked = [(finding.line, finding.source, start, start + width)] if finding.source.strip() else []
+    for number, text in finding.further[:MOST_SHOWN]:
+        marked.append((number, text, len(text) - len(text.lstrip()), len(text)))
+    lines = []
+    for number, text, first, last in sorted(marked):
+        before, part = printable(text[:first]), printable(text[first:last])
+        lines += [f"  {number:>5} | {printable(text)}", f"        | {' ' * len(before)}{'^' * max(1, len(part))}"]
+    return lines + (["     .. |"] if finding.further[MOST_SHOWN:] else [])
+
+
+def shown_changes(finding: Finding) -> list[str]:
+    """Each line of a change; lines that are taken out one after the other are joined."""
+    lines, text = [], finding.text
+    for (name, kind), group in groupby(finding.changes, lambda it: (it.text, kind_of(it))):
+        changes = list(group)
+        lines += [f"  In {name}:"] if name != text else []
+        text = name
+        if kind == OUT:
+            first, last = changes[0].line, changes[-1].line
+            lines.append(f"  {first:>5} - (taken out{f', up to line {last}' if last > first else ''})")
+        elif kind != EMPTY:
+            lines += [f"  {it.line if kind == OTHER else '':>5} + {printable(it.new)}" for it in changes]
+    return lines
+
+
+def kind_of(change: Change) -> str:
+    return (EMPTY if change.is_new else OUT) if not change.new.strip() else NEW if change.is_new else OTHER
 
 
 def as_json(finding: Finding) -> dict:

@@ -63,6 +63,7 @@ SECTIONS_RENAMED = {"scoring": "variable_player", "leds": "lights", "matrix_ligh
 
 # a setting of MPF, by section: the setting to write in place of it (empty: none), and a word on it
 RENAMED = "This is the name of the setting in older versions of MPF."
+OLDER = "This is a setting of older versions of MPF."
 GAME_ONLY = "The machine does this by itself."
 SETTINGS = {
     "switches": {
@@ -76,6 +77,10 @@ SETTINGS = {
         "pulse_ms": ("default_pulse_ms", RENAMED),
         "pulse_power": ("default_pulse_power", RENAMED),
         "hold_power": ("default_hold_power", RENAMED),
+        "pulse_power32": ("default_pulse_power", OLDER),
+        "pulse_pwm_mask": ("default_pulse_power", OLDER),
+        "hold_power32": ("default_hold_power", OLDER),
+        "hold_pwm_mask": ("default_hold_power", OLDER),
         "default_recycle": ("", "Take it out: a coil is ready again after twice the length of its pulse."),
         "recycle": ("", "Take it out: a coil is ready again after twice the length of its pulse."),
         "max_hold_duration": ("", "Take it out. A coil that may be held has to bear it for hours."),

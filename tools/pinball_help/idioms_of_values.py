@@ -7,9 +7,14 @@ A row holds for an entry of a section (or of several) whose key and raw value ma
     value B       its value becomes B
     keys          a mapping becomes the list of its keys
     first         a list becomes its first item
+    number        a formula becomes the first number in it
+    placeholder   an event with a placeholder becomes an event for each value, as an example
+    power         an old power becomes a part of full power: see powers.py
 
 `sample` is a text in which the program refuses the value; tools/test_help tries each row on its sample."""
 from dataclasses import dataclass
+
+from .powers import NAMES
 
 TIME = r"\d[\d.]*\s*(?:ms|s|m|h|d|msec|sec|secs|min|mins)?"
 EVENTS = r"\w*_events|events_when_\w+|events"
@@ -57,8 +62,16 @@ IDIOMS = (
     Idiom(
         "event_player", ANY, r"\([^)]*\)",
         "MPF writes a value in place of the brackets. Placeholders are not carried out here.",
-        "Write the names of the events themselves.",
-        ("sub", r"[\w.]*\([^)]*\)[\w.]*", "an_event"), "event_player:\n  a: (name)_hit",
+        "Write the names of the events themselves: for example a line for each value, with its condition. "
+        "The names below are examples.",
+        ("placeholder",), "event_player:\n  a: (name)_hit",
+    ),
+    Idiom(
+        "variable_player", ANY, r"^\d+ *\* *current_player\.\w+$|^current_player\.\w+ *\* *\d+$",
+        "MPF works out a formula here. A variable changes by a whole number that is written.",
+        "Write the number. This drops the multiplier. To keep it, write an entry for each value, under a condition: "
+        "`e{current_player.x == 2}:`.",
+        ("number",), "variable_player:\n  e:\n    score: 1000 * current_player.x",
     ),
     Idiom(
         "event_player", ANY, r"priority\s*:|^$",
@@ -94,9 +107,9 @@ IDIOMS = (
     Idiom(
         "variable_player", ANY, r"current_player|[*/()]|\d\s*[+-]\s*\d",
         "MPF works out a formula here. A variable changes by a whole number that is written.",
-        "Write the number. For steps that depend on another variable write an entry for each value, with a condition: "
-        "`e{current_player.x == 2}:`.",
-        ("value", "1000"), "variable_player:\n  e:\n    score: 1000 * current_player.x",
+        "Write a number: the one below is an example. This drops the formula. To keep it, write an entry for each "
+        "value, under a condition: `e{current_player.x == 2}:`.",
+        ("number",), "variable_player:\n  e:\n    score: current_player.x + current_player.y",
     ),
     Idiom(
         "variable_player", ANY, r"\|\s*block",
@@ -153,10 +166,10 @@ IDIOMS = (
         ("out",), "coils:\n  c: {default_pulse_ms: 6000}",
     ),
     Idiom(
-        "coils|coil_player", r"\w*(?:pulse|hold)_power", r"^[\d.]+$",
-        "A power is a part of full power, from 0 to 1. MPF before 0.50 counted in eighths.",
-        "Write a part, as `0.25` or `25%`.",
-        ("value", "0.25"), "coils:\n  c: {default_hold_power: 25}",
+        "coils|coil_player", NAMES, ANY,
+        "A power is a part of full power, from 0 to 1.",
+        "Write it as a part of full power.",
+        ("power",), "coils:\n  c: {default_hold_power: 25}",
     ),
     Idiom(
         "coil_player", ANY, r"^(?i:on|yes|true)$",
@@ -201,7 +214,8 @@ IDIOMS = (
     ),
     Idiom(
         "game", "balls_per_game", ANY,
-        "A player has from 1 to 99 balls. MPF may read it from its settings.", "Write the number.",
+        "A player has from 1 to 99 balls. MPF may read it from its settings.",
+        "Write the number, for example `3`.",
         ("value", "3"), "game:\n  balls_per_game: settings.balls_per_game",
     ),
     Idiom(
@@ -221,7 +235,8 @@ IDIOMS = (
     ),
     Idiom(
         "timers", r"\w+", r"current_player|settings|[*/(]",
-        "MPF works out a formula here. A timer takes a number that is written.", "Write the number.",
+        "MPF works out a formula here. A timer takes a number that is written.",
+        "Write the number, for example `10`.",
         ("value", "10"), "mode:\ntimers:\n  t: {start_value: current_player.x, start_running: yes}",
     ),
     Idiom(

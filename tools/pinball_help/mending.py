@@ -1,5 +1,6 @@
 """Edits of a copy: what takes an entry out, renames it, or gives it another value."""
 import re
+from typing import Callable
 
 from .outline import Entry, Node, indentation, is_item, without_comment
 from .texts import VERSION, Edit, Texts
@@ -68,14 +69,15 @@ def rename(texts: Texts, name: str, entry: Entry, new: str) -> Edit:
     return replace(texts, name, entry.line, entry.start, entry.end, new)
 
 
-def give(texts: Texts, name: str, entry: Entry, value: str) -> Edit:
-    """Gives an entry another value, on its line."""
+def give(texts: Texts, name: str, entry: Entry, value: str, key: str = "") -> Edit:
+    """Gives an entry another value, on its line; and another key, if there is one."""
     line = line_of(texts, name, entry.line)
+    key = key or line[entry.start : entry.end]
     if entry.in_braces:
-        return replace(texts, name, entry.line, entry.end, entry.value.end, f": {value}")
+        return replace(texts, name, entry.line, entry.start, entry.value.end, f"{key}: {value}")
     comment = line[len(without_comment(line)) :]
     last = max(entry.last, entry.line + 1)
-    new = f"{line[:entry.end]}: {value}{comment}"
+    new = f"{line[:entry.start]}{key}: {value}{comment}"
     return Edit(name, entry.line, last, (new,) + ("",) * (last - entry.line - 1))
 
 
@@ -91,7 +93,7 @@ def add(texts: Texts, name: str, entry: Entry, setting: str) -> Edit:
     return Edit(name, entry.line, entry.line + 1, (line, " " * depth + setting))
 
 
-def substitute(texts: Texts, name: str, entry: Entry, found: str, new: str) -> Edit:
+def substitute(texts: Texts, name: str, entry: Entry, found: str, new: str | Callable) -> Edit:
     """Replaces each match in the value of an entry; in the key too, where the match begins there."""
     last = max(entry.last, entry.line + 1)
     lines = [line_of(texts, name, at) for at in range(entry.line, last)]
@@ -99,7 +101,9 @@ def substitute(texts: Texts, name: str, entry: Entry, found: str, new: str) -> E
         line = lines[0]
         part = re.sub(found, new, line[entry.start : entry.value.end])
         return Edit(name, entry.line, entry.line + 1, (line[: entry.start] + part + line[entry.value.end :],))
-    return Edit(name, entry.line, last, tuple(re.sub(found, new, line) for line in lines))
+    contents = [without_comment(line) for line in lines]
+    changed = [re.sub(found, new, it) + line[len(it) :] for it, line in zip(contents, lines)]
+    return Edit(name, entry.line, last, tuple(changed))
 
 
 def commented(edit: Edit, texts: Texts, why: str) -> Edit:

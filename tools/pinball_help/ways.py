@@ -22,3 +22,4 @@ class Cure:
     out: tuple[Edit, ...] = ()  # what leaves it out of a copy
     mark: tuple[int, int] | None = None  # the columns of the line that are at fault
     at: tuple[str, int] | None = None  # the place, where the complaint names none: a text, and a line from 0
+    stays: bool = False  # a copy is mended even so: a coil without its low power may get full power

@@ -2,7 +2,7 @@
 import re
 from dataclasses import replace
 
-from . import profile
+from . import overwrites, powers, profile
 from .answers import Complaint
 from .idioms import SECTIONS, SECTIONS_RENAMED, SETTINGS
 from .idioms_of_values import ENTRY, IDIOMS, Idiom
@@ -12,6 +12,9 @@ from .outline import Entry, Node, unquoted
 from .scenery import Scenery, raw, section_of, setting_table
 from .texts import MACHINE, VERSION, Edit
 from .ways import Cure, Way
+
+EXAMPLE = "The value below is an example."
+PLACEHOLDER = r"\(([^)]*)\)"
 
 # what a copy gets for a setting that is required, so that what comes after it is checked too
 STAND_INS = {"action": "pulse", "int": "0", "states": "[{name: a_state}]", "ball_switches": "[]", "events": "[]"}
@@ -97,20 +100,39 @@ def of_setting(scene: Scenery, complaint: Complaint) -> Cure:
     instead, word = SETTINGS.get(table, {}).get(key, ("", ""))
     if word:
         word = word.format(mode=scene.owner(text))
-        edits = (rename(scene.texts, text, entry, instead),) if instead and instead not in siblings else out
-        write = f"Write `{instead}`. {word}" if instead else word
         why = "MPF has this setting, and it is not read here."
-        return Cure(says, True, (Way(edits, write, why, instead), Way(out)), out, mark)
+        if not instead:
+            if key in ("eos_switch", "use_eos") and "hold_coil" in siblings:
+                word = "Take it out: the flipper has its `hold_coil`."
+            told, edits = overwrites.moved(scene, text, entry)
+            ways = (Way((*out, *edits), f"{word} {told}".rstrip(), why), Way(out))
+            return Cure(says, True, ways, out, mark, stays=bool(edits))
+        if instead in siblings:
+            return Cure(says, True, (Way(out, f"Take it out: `{instead}` is there. {word}", why),), out, mark)
+        edit, named, reason = as_setting(scene, text, entry, instead)
+        write = f"Write `{named}`. {word}"
+        ways = (Way((edit,), write, f"{why} {reason}".rstrip(), instead), Way(out))
+        return Cure(says, True, ways, out, mark, stays=powers.is_power(instead))
     near = nearest(key, [*profile.settings(table), *profile.of_other_tools()])
     if near and near not in siblings:
-        edit = rename(scene.texts, text, entry, near)
-        return Cure(says, True, (Way((edit,), f"Write `{near}`.", near=near), Way(out, near=near)), out, mark)
+        edit, named, reason = as_setting(scene, text, entry, near)
+        way = Way((edit,), f"Write `{named}`.", reason, near)
+        return Cure(says, True, (way, Way(out, near=near)), out, mark, stays=powers.is_power(near))
     if key in profile.sections():
         return Cure(
             says, True, (Way(out, "Move it to the left edge.", "It is a section, and is indented."),), out, mark
         )
     others = ", ".join(f"`{name}`" for name in profile.settings(table))
     return Cure(says, True, (Way(out, f"Take it out. The settings are {others}."),), out, mark)
+
+
+def as_setting(scene: Scenery, text: str, entry: Entry, new: str) -> tuple[Edit, str, str]:
+    """Gives a setting its other name: the edit, what to write, and why. An old power gets another value too."""
+    value = unquoted(raw(scene.texts, text, entry))
+    right, reason = powers.meant(entry.key, value) if powers.is_power(new) else (value, "")
+    if reason:
+        return give(scene.texts, text, entry, right, new), f"{new}: {right}", reason
+    return rename(scene.texts, text, entry, new), new, ""
 
 
 def siblings_of(entry: Entry) -> list[Entry]:
@@ -131,6 +153,8 @@ def edits_of(scene: Scenery, text: str, entry: Entry, idiom: Idiom) -> tuple[Edi
         return (substitute(texts, text, entry, words[0], words[1]),)
     if kind == "value":
         return (give(texts, text, entry, words[0]),)
+    if kind == "power":
+        return (give(texts, text, entry, powers.meant(entry.key, unquoted(value))[0]),)
     if kind == "upper":
         return (give(texts, text, entry, unquoted(value).upper()),)
     if kind == "boolean":
@@ -138,6 +162,11 @@ def edits_of(scene: Scenery, text: str, entry: Entry, idiom: Idiom) -> tuple[Edi
     if kind == "keys":
         keys = [it.key for it in entry.value.entries or []] or names
         return (give(texts, text, entry, f"[{', '.join(keys)}]"),)
+    if kind == "number":
+        number = re.search(r"(?<![\w.])-?\d+(?![\w.])", value)
+        return (give(texts, text, entry, number[0] if number else "1"),)
+    if kind == "placeholder":
+        return (of_placeholder(scene, text, entry),)
     if kind == "first" and names:
         return (give(texts, text, entry, names[0]),)
     if kind == "states":
@@ -145,6 +174,20 @@ def edits_of(scene: Scenery, text: str, entry: Entry, idiom: Idiom) -> tuple[Edi
     if kind == "steps" and names:
         return (give(texts, text, entry, f"[{', '.join(names)}]"),)
     return (take_out(texts, text, entry),)
+
+
+def of_placeholder(scene: Scenery, text: str, entry: Entry) -> Edit:
+    """Events without placeholders, as an example: a line for each of two values of a variable, with its condition."""
+    value = raw(scene.texts, text, entry)
+    found = {*re.findall(PLACEHOLDER, value)}
+    variable = next(iter(found), "").strip()
+    by_value = len(found) == 1 and re.fullmatch(r"current_player\.\w+", variable) and "{" not in entry.key
+    if not by_value or entry.in_braces or entry.last > entry.line + 1:
+        return substitute(scene.texts, text, entry, PLACEHOLDER, lambda it: it[1] if it[1].isidentifier() else "1")
+    start = line_of(scene.texts, text, entry.line)[: entry.start] + entry.key
+    one, other = (f"{{{variable}=={it}}}: {re.sub(PLACEHOLDER, it, value)}" for it in ("1", "2"))
+    first = give(scene.texts, text, entry, one.partition(": ")[2], entry.key + one.partition(": ")[0])
+    return Edit(text, entry.line, entry.line + 1, (*first.lines, start + other))
 
 
 def idiom_of(scene: Scenery, text: str, entry: Entry) -> Idiom | None:
@@ -224,8 +267,10 @@ def of_entry(scene: Scenery, text: str, entry: Entry) -> Cure:
     """Where the value of an entry is at fault."""
     says = takes(entry)
     if idiom := idiom_of(scene, text, entry):
-        way = Way(edits_of(scene, text, entry, idiom), idiom.write, idiom.mpf)
-        return cure_at(scene, text, entry, says, way)
+        value = unquoted(raw(scene.texts, text, entry))
+        reason = powers.meant(entry.key, value)[1] if idiom.edit[0] == "power" else ""
+        way = Way(edits_of(scene, text, entry, idiom), idiom.write, f"{idiom.mpf} {reason}".rstrip())
+        return replace(cure_at(scene, text, entry, says, way), stays=idiom.edit[0] == "power")
     if not entry.path:
         way = Way((), "Write entries below it: `NAME:`, not `- NAME`.")
         return cure_at(scene, text, entry, ("A section is a mapping of entries.",), way)
@@ -294,7 +339,8 @@ def of_missing(scene: Scenery, complaint: Complaint) -> Cure:
     near = nearest(key, [it.key for it in entry.value.entries or []])
     says = (f"{called[0].upper()}{called[1:]} has to have `{key}`, and `{entry.key}` has none.",)
     why = f"It has `{near}`." if near else ""
-    way = Way((add(scene.texts, text, entry, f"{key}: {stand_in}"),), f"Write `{key}:` below `{entry.key}`.", why)
+    write = f"Write `{key}:` below `{entry.key}`. {EXAMPLE}"
+    way = Way((add(scene.texts, text, entry, f"{key}: {stand_in}"),), write, why)
     return Cure(says, True, (way, Way(out, way.write, why)), out, (entry.start, entry.end))
 
 

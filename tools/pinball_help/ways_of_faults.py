@@ -1,7 +1,8 @@
 """The ways to mend what the faults 1 to 6 say."""
+import dataclasses
 import re
 
-from . import values
+from . import powers, values
 from .answers import Complaint
 from .mending import add, give, replace, take_item_out, take_out
 from .near import nearest
@@ -216,11 +217,27 @@ def of_power(scene: Scenery, complaint: Complaint) -> Cure:
     for name, limit in pairs:
         used = limit_of(entry, (prefix + name,), "")
         if used[1] and (values.thousandths(used[1]) or 0) > (values.thousandths(limit[1]) or 0):
+            if not prefix and used[1] == "1":
+                return of_old_power(scene, complaint, used, limit, entry)
             return over(scene, complaint, used, limit, "", entry)
         if not used[1] and prefix and name == "pulse_power" and (values.thousandths(limit[1]) or 0) < 1000:
             return over(scene, complaint, ("default_pulse_power", "1.0"), limit, "", entry)
     out = (take_out(scene.texts, complaint.text, entry),)
     return Cure((), False, (Way(out, "Lower the power."),), out)
+
+
+def of_old_power(
+    scene: Scenery, complaint: Complaint, used: tuple[str, str], limit: tuple[str, str], entry: Entry
+) -> Cure:
+    """A power of `1` that is above its limit: full power, or one eighth where it was written for an older MPF."""
+    part, why = powers.meant(*used)
+    if (values.thousandths(part) or 0) > (values.thousandths(limit[1]) or 0):
+        part = limit[1]
+    cure = over(scene, complaint, used, limit, "", entry)
+    setting = next(it for it in entry.value.entries or [] if it.key == used[0])
+    write = f"Write `{used[0]}: {part}`; or up to `{limit[1]}`, if full power was meant and the coil bears it."
+    way = Way((give(scene.texts, complaint.text, setting, part),), write, why)
+    return dataclasses.replace(cure, ways=(way, *cure.ways[1:]))
 
 
 def of_hold(scene: Scenery, complaint: Complaint) -> Cure:

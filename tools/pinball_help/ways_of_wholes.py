@@ -9,6 +9,8 @@ from .ways import Cure, Way
 
 DEAREST = 5
 ROWS = ("counters", "accruals", "sequences", "timers", "flippers", "autofire_coils", "ball_devices", "shot_groups")
+BACK = "Take out one of these steps. This one leads back to the start:"
+EASIEST = "The easiest step to take out is"
 EASE = ("event_player", "hit_events", "is hit", "events of", "variable_player")
 
 
@@ -20,13 +22,15 @@ def of_cycle(scene: Scenery, complaint: Complaint) -> Cure:
     steps = {pair: graph.steps(*pair) for pair in pairs}
     says = tuple(f"{one} → {other}: {written(scene, steps[one, other])}" for one, other in pairs)
     mine = [pair for pair in pairs if steps[pair] and all(it.entry for it in steps[pair])]
-    mine.sort(key=lambda pair: (len(steps[pair]), ease(steps[pair][0])))
+    starts = starts_of(graph, events)
+    mine.sort(key=lambda pair: (pair[1] not in starts, len(steps[pair]), ease(steps[pair][0])))
     ways = []
     for pair in mine:
         words = " and ".join(written(scene, [it]) for it in steps[pair])
         edits = tuple(out_of(scene, it) for it in steps[pair])
         if len({(it.text, it.first) for it in edits}) == len(edits):
-            ways.append(Way(edits, f"The easiest step to take out is {pair[0]} → {pair[1]}: {words}."))
+            told = BACK if pair[1] in starts else EASIEST
+            ways.append(Way(edits, f"{told} {pair[0]} → {pair[1]}: {words}."))
     if not mine:
         return Cure(says)
     first = steps[mine[0]][0]
@@ -34,6 +38,19 @@ def of_cycle(scene: Scenery, complaint: Complaint) -> Cure:
         first.entry.start, first.entry.end
     ) if first.entry else None
     return Cure(says, False, tuple(ways), ways[0].edits if ways else (), mark, (first.text, first.line))
+
+
+def starts_of(graph: Graph, cycle: list[str]) -> set[str]:
+    """The events of a cycle to which something leads that does not itself come from the cycle."""
+    after: dict[str, set[str]] = {}
+    for post in graph.posts:
+        after.setdefault(post.event, set()).add(post.posts)
+    reached, waiting = {*cycle}, [*cycle]
+    while waiting:
+        new = after.get(waiting.pop(), set()) - reached
+        reached |= new
+        waiting += new
+    return {it.posts for it in graph.posts if it.posts in cycle and it.event not in reached}
 
 
 def written(scene: Scenery, posts: list[Post]) -> str:
