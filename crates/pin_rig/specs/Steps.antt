@@ -72,8 +72,8 @@ StepsAreRun =
     (c : CheckedView) (board : BoardView) (inputs : List Input) (trace : List Line) (new : RigView) → AreSteps inputs (at_rest c board) trace new
     → IsRunOf inputs (at_rest c board) trace new × TellsMore (commands_of trace) board.told new.board.told
 
--- So are steps with a last one at which the board has not taken a command. A board that tells its list has added just the
--- commands of the lines before, which are shown.
+-- So are steps with a last one at which the board has not taken a command. A board that tells its list has added just
+-- the commands of the lines before, which are shown.
 abbrev pub HaltedStepsAreRun : Type 0
 HaltedStepsAreRun =
     (c : CheckedView) (board : BoardView) (inputs : List Input) (last : Input) (trace shown : List Line) (new : RigView) → AreStepsToHalt inputs last (at_rest c board) trace shown new

@@ -60,10 +60,10 @@ pub fn check_text<R: Read, W: Write>(
 /// bundle's rows, then `yes` and the bound of the certificate's weights, or why they are refused
 /// and `no`.
 ///
-/// The whole bundle is read first, then the whole certificate, and then both are checked. Unless
-/// the bundle was read to its end and is within its limit, the reader of the certificate is left as
-/// it was. Nothing is written before the answer is known. The errors are those of [`check_text`]; a certificate of more than 1 MiB is
-/// `TooLong` too.
+/// The whole bundle is read first, then the whole certificate, and then both are checked. Unless the
+/// bundle was read to its end and is within its limit, the reader of the certificate is left as it
+/// was. Nothing is written before the answer is known. The errors are those of [`check_text`]; a
+/// certificate of more than 1 MiB is `TooLong` too.
 pub fn verify_text<R: Read, Q: Read, W: Write>(
     alloc: Global,
     bundle: &mut R,
