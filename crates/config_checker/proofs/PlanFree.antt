@@ -20,7 +20,7 @@ use Rattle.plan_tables.specs.declared.entries.EventId.{EventId}
 use Rattle.plan_tables.specs.declared.entries.ModeEvent.{ModeEvent}
 use Rattle.plan_tables.specs.declared.entries.ModeEvent.TheVariants.{WillStart, Starting, Started, Stopping, Stopped}
 use Rattle.plan_tables.specs.declared.entries.Action.{Action}
-use Rattle.plan_tables.specs.declared.entries.Action.TheVariants.{Post, Pulse, Enable, Disable, Change, Enter, Leave, Lose, Arrive}
+use Rattle.plan_tables.specs.declared.entries.Action.TheVariants.{Post, Pulse, Enable, Disable, Change as ChangeVariable, Enter, Leave, Lose, Arrive}
 use Rattle.plan_tables.specs.declared.entries.CoilId.{CoilId}
 use Rattle.plan_tables.specs.declared.entries.CoilLimits.{CoilLimits}
 use Rattle.plan_tables.specs.declared.entries.Owner.{Owner}
@@ -47,7 +47,7 @@ use Rattle.mpf_plan.proofs.DoneNames.{by_variable, done-named}
 use Rattle.mpf_plan.proofs.ModeEventNames.{free-by_name}
 use Rattle.mpf_plan.proofs.ValidPlan.{HasEntries-plan_at, own-plan_at, listeners-plan_at, limits-plan_at, IsValid-plan_at}
 use Rattle.mpf_plan.proofs.WithBalls.{ball_devices_own-plan_at, right_with_balls-plan_at}
-use Rattle.written_machine.specs.Allowed.{IsAllowed, ActionsAreAllowed}
+use Rattle.written_machine.specs.CoilActions.{KeepsLimits, ActionsKeepLimits}
 use Rattle.written_machine.specs.Accepted.{IsAccepted}
 use Rattle.plan_tables.specs.BallRows.{BookingsAreRight}
 use Rattle.written_machine.specs.CheckedView.{CheckedView}
@@ -155,7 +155,7 @@ module _ (rows : Rows) (none : faults_of_rows rows ≡ []) (plan : PlanView) (is
   action-free (Pulse coil ms power) by h = tt
   action-free (Enable coil power) by h = tt
   action-free (Disable coil) by h = tt
-  action-free (Change v action n e) by h = event-free e (subst (IsUnreserved rows) (sym by) h)
+  action-free (ChangeVariable v action n e) by h = event-free e (subst (IsUnreserved rows) (sym by) h)
   action-free (Enter r e drain) by h = event-free e h
   action-free (Leave r) by h = tt
   action-free (Lose r) by h = tt
@@ -197,28 +197,28 @@ module _ (rows : Rows) (none : faults_of_rows rows ≡ []) (plan : PlanView) (is
       ap (fold (latest_limits name) None) (coils_given rows) ∙ called_limits name (flat_map coils_in rows.machine) None ∙ ap (option_map limits_of_coil) called in
       get_or-map (λ (p : PlanCoil). p.limits) plan.coils c.0 no_coil no_limits within ∙ same_Some (coil_at plan c).limits (limits_of_coil x) (sym given ∙ own)
 
-  action-allowed : (a : Action) → IsActionWithin plan a → IsFine rows (effect_of plan a) → IsAllowed plan a
-  action-allowed (Post e) within h = tt
-  action-allowed (Pulse c ms power) within h =
+  action-keeps_limits : (a : Action) → IsActionWithin plan a → IsFine rows (effect_of plan a) → KeepsLimits plan a
+  action-keeps_limits (Post e) within h = tt
+  action-keeps_limits (Pulse c ms power) within h =
       let same = limits_are c within h.coil h.called in
       let pulse = h.such in
       (pulse.shortest, omega (arith, pulse.longest, ap (λ (l : CoilLimits). l.max_pulse_ms) same), omega (arith, pulse.greatest, ap (λ (l : CoilLimits). l.max_pulse_power) same))
-  action-allowed (Enable c power) within h =
+  action-keeps_limits (Enable c power) within h =
       let same = limits_are c within h.coil h.called in
       let hold = h.such in
       (ap (λ (l : CoilLimits). l.may_hold) same ∙ hold.allowed, omega (arith, hold.greatest, ap (λ (l : CoilLimits). l.max_hold_power) same))
-  action-allowed (Disable c) within h = tt
-  action-allowed (Change v action n e) within h = tt
-  action-allowed (Enter r e drain) within h = tt
-  action-allowed (Leave r) within h = tt
-  action-allowed (Lose r) within h = tt
-  action-allowed (Arrive r) within h = tt
+  action-keeps_limits (Disable c) within h = tt
+  action-keeps_limits (ChangeVariable v action n e) within h = tt
+  action-keeps_limits (Enter r e drain) within h = tt
+  action-keeps_limits (Leave r) within h = tt
+  action-keeps_limits (Lose r) within h = tt
+  action-keeps_limits (Arrive r) within h = tt
 
-  plan_allowed : ActionsAreAllowed plan
-  plan_allowed =
+  plan_keeps_limits : ActionsKeepLimits plan
+  plan_keeps_limits =
       let entries = HasEntries-plan_at rows plan is in
       let fine = done.lists in
-      λ i d inside j a within. action-allowed (get_or (get_or plan.lists i d) j a) (entries.lists i d inside j a within) (fine i d inside j a within)
+      λ i d inside j a within. action-keeps_limits (get_or (get_or plan.lists i d) j a) (entries.lists i d inside j a within) (fine i d inside j a within)
 
 -- a binding acts on a device of its own owner, and a device that listens is the machine's, and so is a ball device
 plan_own : (rows : Rows) → AreListsShort rows → (plan : PlanView) → plan_at rows ≡ Ok plan → ActsAreOwn plan
@@ -251,7 +251,7 @@ plan_accepted rows short few none c is verified = record {
   valid = IsValid-plan_at rows short few c.plan is;
   free = plan_free rows none c.plan is;
   own = plan_own rows short c.plan is;
-  allowed = plan_allowed rows none c.plan is;
+  limits = plan_keeps_limits rows none c.plan is;
   bookings = plan_bookings rows short none c.plan is;
   verified = verified;
 }

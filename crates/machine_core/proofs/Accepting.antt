@@ -5,7 +5,7 @@ use Rattle.plan_tables.specs.declared.entries.EventId.{EventId}
 use Rattle.plan_tables.specs.declared.entries.Listener.{Listener}
 use Rattle.plan_tables.specs.declared.entries.Owner.TheVariants as owners
 use Rattle.device_objects.specs.declared.device.Call.TheVariants as calls
-use Rattle.switch_core.specs.declared.change.Change.{Change as Acceptance}
+use Rattle.switch_core.specs.declared.change.Change.{Change}
 use Rattle.written_machine.specs.declared.line.Happening.TheVariants as lines
 use Rattle.written_machine.specs.Machine.{Machine, write, post, all_do, tell_listener, tell_listeners, confirm_on_playfield, do_accepted}
 use Rattle.machine_core.specs.Core.{CoreView, CanCall, HasRoom, after}
@@ -13,7 +13,7 @@ use Rattle.machine_core.proofs.Going.{Goes, goes-then, goes-can, goes-all, goes-
 use Rattle.machine_core.proofs.Listing.{grown}
 use Rattle.machine_core.proofs.Room.{room-before}
 
-module _ (plan : PlanView) (a : Acceptance) (now : CoreView) (room : HasRoom now.room (do_accepted plan a now.machine)) where
+module _ (plan : PlanView) (a : Change) (now : CoreView) (room : HasRoom now.room (do_accepted plan a now.machine)) where
   abbrev begun : Machine
   begun = write owners.Machine (lines.Switch a.switch a.active) now.machine
 

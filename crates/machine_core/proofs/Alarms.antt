@@ -8,7 +8,7 @@ use Rattle.device_objects.specs.declared.device.Call.TheVariants as calls
 use Rattle.device_objects.specs.declared.state.DeviceState.{DeviceState}
 use Rattle.device_objects.specs.DeviceStep.{due_of}
 use Rattle.device_objects.specs.Laws.{MayCome}
-use Rattle.switch_core.specs.declared.change.Change.{Change as Acceptance}
+use Rattle.switch_core.specs.declared.change.Change.{Change}
 use Rattle.switch_core.specs.Switches.{SwitchesView, next_due, IsNextDue, IsNothingDue, accept, accept_due, reported, after_fire, reported_by_fire}
 use Rattle.switch_core.proofs.NextDue.{next_due-is, next_due-is_due}
 use Rattle.switch_core.proofs.Lists.{due-within}
@@ -20,17 +20,17 @@ use Rattle.written_machine.proofs.Does.{due-row}
 use Rattle.written_machine.proofs.NextAlarms.{found-is_next, next_alarm-due}
 use Rattle.machine_core.specs.Core.{CoreView, IsCoreOf, HasRoom, after}
 
-same_Some : (a b : Acceptance) → Some a ≡ Some b → a ≡ b
+same_Some : (a b : Change) → Some a ≡ Some b → a ≡ b
 same_Some a b h = cc
 
-within-found : (s new : SwitchesView) (o : Option (ℕ × SwitchId)) (a : Acceptance) → MatchOption o (IsNothingDue s) (λ d. IsNextDue s d.0 d.1) → option_map (λ d. reported new d.1) o ≡ Some a → a.switch.0 < length s.states
+within-found : (s new : SwitchesView) (o : Option (ℕ × SwitchId)) (a : Change) → MatchOption o (IsNothingDue s) (λ d. IsNextDue s d.0 d.1) → option_map (λ d. reported new d.1) o ≡ Some a → a.switch.0 < length s.states
 within-found s new None a h is = cc
 within-found s new (Some d) a h is =
-    let number = ap (λ (t : Acceptance). t.switch.0) (same_Some (reported new d.1) a is) in
+    let number = ap (λ (t : Change). t.switch.0) (same_Some (reported new d.1) a is) in
     omega (arith, number, due-within s d.1 d.0 h.due)
 
 -- it is one of the plan's
-pub fired-within : (plan : PlanView) (c : CoreView) (a : Acceptance) → IsCoreOf plan c → reported_by_fire c.machine.switches ≡ Some a → a.switch.0 < length plan.switches
+pub fired-within : (plan : PlanView) (c : CoreView) (a : Change) → IsCoreOf plan c → reported_by_fire c.machine.switches ≡ Some a → a.switch.0 < length plan.switches
 fired-within plan c a core is =
     let s = c.machine.switches in
     let within = within-found s (after_fire s) (next_due s) a (next_due-is_due s) is in
@@ -67,7 +67,7 @@ next-of s source is = by (next_alarm s) refl is
 -- ---- the raw level of a switch is accepted
 
 module _ (plan : PlanView) (core : CoreView) (source : Source) (next : option_map (λ a. a.1) (next_alarm core.machine) ≡ Some source) (n : SwitchId) (source_is : source ≡ switch n)
-    (a : Acceptance) (reported_is : reported_by_fire core.machine.switches ≡ Some a) (now : CoreView) (now_is : now ≡ after (set_switches (after_fire core.machine.switches)) core) where
+    (a : Change) (reported_is : reported_by_fire core.machine.switches ≡ Some a) (now : CoreView) (now_is : now ≡ after (set_switches (after_fire core.machine.switches)) core) where
   abbrev switches : SwitchesView
   switches = core.machine.switches
 

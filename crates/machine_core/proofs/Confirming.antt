@@ -4,7 +4,7 @@ use Rattle.std.proofs.Common.{◌≡◌, ℕ, ◌+◌, ◌<◌, ◌≤◌, Bool,
 use Rattle.std.proofs.lemmas.Bool.{and_parts, false≢true}
 use Rattle.plan_tables.specs.PlanView.{PlanView, feeds, row_at, row_numbers}
 use Rattle.plan_tables.specs.declared.entries.Action.{Action}
-use Rattle.plan_tables.specs.declared.entries.Action.TheVariants.{Post, Pulse, Enable, Disable, Change, Enter, Leave, Lose, Arrive}
+use Rattle.plan_tables.specs.declared.entries.Action.TheVariants.{Post, Pulse, Enable, Disable, Change as ChangeVariable, Enter, Leave, Lose, Arrive}
 use Rattle.plan_tables.specs.declared.entries.Owner.{Owner}
 use Rattle.plan_tables.specs.declared.devices.BallTarget.{BallTarget}
 use Rattle.plan_tables.specs.declared.devices.BallTarget.TheVariants.{Device}
@@ -40,7 +40,7 @@ module _ (plan : PlanView) (owner : Owner) where
   action-parts confirm (Pulse coil ms power) s = refl
   action-parts confirm (Enable coil power) s = refl
   action-parts confirm (Disable coil) s = refl
-  action-parts confirm (Change v action n e) s = refl
+  action-parts confirm (ChangeVariable v action n e) s = refl
   action-parts confirm (Enter r e drain) s = entry-parts confirm r drain (origin_of r s.ledger) (post owner e (book owner (calls_of_ledger.Enter r) s))
   action-parts confirm (Leave r) s = refl
   action-parts confirm (Lose r) s = refl

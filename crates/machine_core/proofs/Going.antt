@@ -3,7 +3,7 @@ use Rattle.std.specs.Prelude.{◌&&◌}
 use Rattle.std.proofs.Common.{◌≡◌, ℕ, ℤ, ◌≤◌, Bool, true, false, if◌then◌else◌, Option, None, Some, List, [], ◌∷◌, length, length-append, refl, ◌∙◌, arith}
 use Rattle.plan_tables.specs.PlanView.{PlanView, actions_at, first_trough, game_event, list_of_row, row_at, switch_at, target_of}
 use Rattle.plan_tables.specs.declared.entries.Action.{Action}
-use Rattle.plan_tables.specs.declared.entries.Action.TheVariants.{Post, Pulse, Enable, Disable, Change, Enter, Leave, Lose, Arrive}
+use Rattle.plan_tables.specs.declared.entries.Action.TheVariants.{Post, Pulse, Enable, Disable, Change as ChangeVariable, Enter, Leave, Lose, Arrive}
 use Rattle.plan_tables.specs.declared.entries.EventId.{EventId}
 use Rattle.plan_tables.specs.declared.entries.GameEvent.TheVariants.{BallDrain}
 use Rattle.plan_tables.specs.declared.entries.Owner.{Owner}
@@ -23,7 +23,7 @@ use Rattle.device_objects.specs.declared.device.Call.{Call}
 use Rattle.device_objects.specs.declared.device.Call.TheVariants as calls
 use Rattle.player_game.specs.GameStep.{is_ball_on}
 use Rattle.player_game.specs.Players.{PlayersState, changed_to, after_change}
-use Rattle.switch_core.specs.declared.change.Change.{Change as Acceptance}
+use Rattle.switch_core.specs.declared.change.Change.{Change}
 use Rattle.written_machine.specs.declared.line.Happening.{Happening}
 use Rattle.written_machine.specs.declared.line.Happening.TheVariants as lines
 use Rattle.written_machine.specs.Devices.{HasDevices}
@@ -145,7 +145,7 @@ module _ (plan : PlanView) where
     goes-action_by owner (Pulse coil ms power) s = goes-asked owner (commands.Pulse coil ms power) s
     goes-action_by owner (Enable coil power) s = goes-asked owner (commands.Enable coil power) s
     goes-action_by owner (Disable coil) s = goes-asked owner (commands.Disable coil) s
-    goes-action_by owner (Change v action n e) s =
+    goes-action_by owner (ChangeVariable v action n e) s =
         let value = changed_to plan v action n s.players in
         goes-told owner s.players.current v e value (after_change plan v value s.players) s
     goes-action_by owner (Enter r e drain) s = goes-enter owner r e drain s
@@ -198,5 +198,5 @@ module _ (plan : PlanView) where
   goes-ask true s = goes-trough (first_trough plan) s
   goes-ask false s = goes-none s
 
-  pub goes-playfield : (a : Acceptance) (s : Machine) → Goes plan s (confirm_on_playfield plan a s)
+  pub goes-playfield : (a : Change) (s : Machine) → Goes plan s (confirm_on_playfield plan a s)
   goes-playfield a s = goes-if (a.active && (switch_at plan a.switch).confirms_playfield) s (confirm_first_away plan targets.Playfield s) (goes-confirm targets.Playfield s)

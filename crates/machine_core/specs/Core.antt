@@ -16,7 +16,7 @@ use Rattle.event_queue.specs.PlanOrder.{by_priority}
 use Rattle.written_machine.specs.Machine.{Machine, all_do, do_handler, home_of, set_game, set_players}
 use Rattle.written_machine.specs.Devices.{HasDevices}
 use Rattle.written_machine.specs.EventStep.{work_before, work_after, handlers_in}
-use Rattle.written_machine.specs.Run.{Stimulus, Change, Alarm, Wait}
+use Rattle.written_machine.specs.Run.{Stimulus, SwitchChange, Alarm, Wait}
 use Rattle.written_machine.specs.NextAlarm.{next_alarm}
 use Rattle.written_machine.specs.PlanOrder.{plan_steps}
 
@@ -91,7 +91,7 @@ TakesFirst (Some first) old new = (rest : List Posted) × (old.machine.waiting �
 
 -- the moment is not too late, a change is that of a switch which there is, and an alarm is the next one
 abbrev pub IsPlayable : CoreView → Stimulus → Type 0
-IsPlayable c (Change at switch level) = (at < 2 ^ 40) × (switch.0 < length c.machine.switches.kinds)
+IsPlayable c (SwitchChange at switch level) = (at < 2 ^ 40) × (switch.0 < length c.machine.switches.kinds)
 IsPlayable c (Alarm at source) = (at < 2 ^ 40) × (next_alarm c.machine ≡ Some (at, source))
 IsPlayable c (Wait at) = at < 2 ^ 40
 

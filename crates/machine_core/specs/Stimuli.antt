@@ -1,6 +1,6 @@
 -- What a stimulus is, and what an alarm comes from, to the written machine.
 use Rattle.std.specs.Prelude.{ℕ}
-use Rattle.written_machine.specs.Run.{Source, switch, device, Stimulus, Change, Alarm, Wait}
+use Rattle.written_machine.specs.Run.{Source, switch, device, Stimulus, SwitchChange, Alarm, Wait}
 use Rattle.machine_core.specs.declared.stimulus.Source.{Source as HeldSource}
 use Rattle.machine_core.specs.declared.stimulus.Source.TheVariants as held_source
 use Rattle.machine_core.specs.declared.stimulus.Stimulus.{Stimulus as HeldStimulus}
@@ -15,6 +15,6 @@ abbrev pub alarm_view : ℕ × HeldSource → ℕ × Source
 alarm_view a = (a.0, source_view a.1)
 
 abbrev pub stimulus_view : HeldStimulus → Stimulus
-stimulus_view (held.Change at n level) = Change at n level
+stimulus_view (held.SwitchChange at n level) = SwitchChange at n level
 stimulus_view (held.Alarm at source) = Alarm at (source_view source)
 stimulus_view (held.Wait at) = Wait at

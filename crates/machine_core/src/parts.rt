@@ -43,7 +43,7 @@ pub fn begin<D: Device>(plan: &Plan, core: &mut Core<'_, D>, stimulus: Stimulus)
 {
     core.arrive(stimulus.moment());
     match stimulus {
-        Stimulus::Change(at, switch, level) => change(plan, core, at, switch, level),
+        Stimulus::SwitchChange(at, switch, level) => change(plan, core, at, switch, level),
         Stimulus::Alarm(_, source) => fire(plan, core, source),
         Stimulus::Wait(_) => {}
     }

@@ -15,7 +15,7 @@ pub enum Source {
 #[derive(Clone, Copy)]
 pub enum Stimulus {
     /// From this moment on the switch has this raw level.
-    Change(u64, SwitchId, bool),
+    SwitchChange(u64, SwitchId, bool),
     /// The alarm that is due next comes, at its moment.
     Alarm(u64, Source),
     /// Nothing happens up to the moment.
@@ -32,7 +32,7 @@ impl Stimulus {
         ensures { result ≡ moment_of (stimulus_view self) }
     {
         match self {
-            Stimulus::Change(at, _, _) => at,
+            Stimulus::SwitchChange(at, _, _) => at,
             Stimulus::Alarm(at, _) => at,
             Stimulus::Wait(at) => at,
         }

@@ -11,7 +11,7 @@ use Rattle.written_machine.specs.declared.line.Line.{Line}
 use Rattle.written_machine.specs.Machine.{Machine}
 use Rattle.written_machine.specs.EventStep.{EventSteps}
 use Rattle.written_machine.specs.PlanOrder.{plan_steps}
-use Rattle.written_machine.specs.Run.{Stimulus, Change, Alarm, Wait, moment_of, IsAllowed, begin, IsReached}
+use Rattle.written_machine.specs.Run.{Stimulus, SwitchChange, Alarm, Wait, moment_of, IsAllowed, begin, IsReached}
 use Rattle.written_machine.specs.CheckedView.{CheckedView}
 use Rattle.written_machine.specs.Accepted.{IsAccepted}
 use Rattle.written_machine.proofs.PlanSteps.{plan_steps-event_steps}
@@ -34,7 +34,7 @@ use Rattle.pin_rig.proofs.Counting.{taken-no_fault, not_taken-fault}
 
 -- what a machine is asked for its core can do
 asked-playable : (rig : RigView) (core : CoreView) (stimulus : Stimulus) → rig.machine ≡ core.machine → length core.machine.switches.kinds ≡ length rig.checked.plan.switches → AsksFor rig stimulus → IsPlayable core stimulus
-asked-playable rig core (Change at switch level) is count asks = let within = asks.1 in (asks.0, omega arith)
+asked-playable rig core (SwitchChange at switch level) is count asks = let within = asks.1 in (asks.0, omega arith)
 asked-playable rig core (Alarm at source) is count asks = (asks.0, ap next_alarm (sym is) ∙ asks.1)
 asked-playable rig core (Wait at) is count asks = asks
 
@@ -81,7 +81,7 @@ module _ (c : CheckedView) (core : CoreView) (driver : DriverView) (shown : ℕ)
   early = by stimulus allowed
     where
       by : (x : Stimulus) → IsAllowed c.plan core.machine x → moment_of x < 2 ^ 40
-      by (Change at n level) h = h.0.early
+      by (SwitchChange at n level) h = h.0.early
       by (Alarm at source) h = h.1
       by (Wait at) h = h.early
 

@@ -6,7 +6,7 @@ use Rattle.plan_tables.specs.declared.entries.SwitchId.{SwitchId}
 use Rattle.plan_tables.specs.declared.entries.CoilId.{CoilId}
 use Rattle.plan_tables.specs.Valid.{IsValid}
 use Rattle.written_machine.specs.Machine.{Machine}
-use Rattle.written_machine.specs.Run.{Source, source_due, Stimulus, Change, Alarm, Wait, IsTimely, IsAllowed}
+use Rattle.written_machine.specs.Run.{Source, source_due, Stimulus, SwitchChange, Alarm, Wait, IsTimely, IsAllowed}
 use Rattle.written_machine.specs.NextAlarm.{next_alarm, is_due_by}
 use Rattle.written_machine.proofs.NextAlarms.{none-nothing, found-is_next, next-is_found, not_due-nothing, nothing-not_due}
 use Rattle.written_machine.proofs.Reached.{reached-not_late}
@@ -82,12 +82,12 @@ alarm-is s given (Some a) next h =
     (λ t k. record { at = a.0; source = a.1; given_is = ok_is (Alarm a.0 a.1) given k; next = next; early = leb-false (2 ^ 40) a.0 t }) h
 
 -- a change is that of a switch of the plan
-change-is : (rig : RigView) (at : ℕ) (switch : SwitchId) (level : Bool) (given : Stimulus) → cond (nat_lt switch.0 (length rig.checked.plan.switches)) (timely rig.machine at (Change at switch level)) (Err faults.NoSuchSwitch) ≡ Ok given
-    → IsTimely rig.machine at × (switch.0 < length rig.checked.plan.switches) × (Change at switch level ≡ given)
+change-is : (rig : RigView) (at : ℕ) (switch : SwitchId) (level : Bool) (given : Stimulus) → cond (nat_lt switch.0 (length rig.checked.plan.switches)) (timely rig.machine at (SwitchChange at switch level)) (Err faults.NoSuchSwitch) ≡ Ok given
+    → IsTimely rig.machine at × (switch.0 < length rig.checked.plan.switches) × (SwitchChange at switch level ≡ given)
 change-is rig at switch level given =
-    cond_both (nat_lt switch.0 (length rig.checked.plan.switches)) (timely rig.machine at (Change at switch level)) (Err faults.NoSuchSwitch)
-    (λ (r : Result Stimulus StepFault). r ≡ Ok given → IsTimely rig.machine at × (switch.0 < length rig.checked.plan.switches) × (Change at switch level ≡ given))
-    (λ t h. let (time, is) = timely-is rig.machine at (Change at switch level) given h in (time, ltb-true switch.0 (length rig.checked.plan.switches) t, is))
+    cond_both (nat_lt switch.0 (length rig.checked.plan.switches)) (timely rig.machine at (SwitchChange at switch level)) (Err faults.NoSuchSwitch)
+    (λ (r : Result Stimulus StepFault). r ≡ Ok given → IsTimely rig.machine at × (switch.0 < length rig.checked.plan.switches) × (SwitchChange at switch level ≡ given))
+    (λ t h. let (time, is) = timely-is rig.machine at (SwitchChange at switch level) given h in (time, ltb-true switch.0 (length rig.checked.plan.switches) t, is))
     (λ t h. cc)
 
 -- so it may come
@@ -112,7 +112,7 @@ in-of_input rig (inputs.Wait at) given h = let (time, is) = timely-is rig.machin
 
 -- what it asks for is there
 abbrev pub AsksFor : RigView → Stimulus → Type 0
-AsksFor rig (Change at switch level) = (at < 2 ^ 40) × (switch.0 < length rig.checked.plan.switches)
+AsksFor rig (SwitchChange at switch level) = (at < 2 ^ 40) × (switch.0 < length rig.checked.plan.switches)
 AsksFor rig (Alarm at source) = (at < 2 ^ 40) × (next_alarm rig.machine ≡ Some (at, source))
 AsksFor rig (Wait at) = at < 2 ^ 40
 
@@ -137,8 +137,8 @@ timely-ok s at stimulus time =
 allowed-in : (rig : RigView) (input : Input) (given : Stimulus) → IsOfInput input given → IsAllowed rig.checked.plan rig.machine given → stimulus_in rig.checked rig.machine input ≡ Ok given
 allowed-in rig (inputs.Change at switch level) given is allowed =
     let (time, within) = subst (IsAllowed rig.checked.plan rig.machine) is allowed in
-    cond-true (nat_lt switch.0 (length rig.checked.plan.switches)) (timely rig.machine at (Change at switch level)) (Err faults.NoSuchSwitch) (lt-ltb switch.0 (length rig.checked.plan.switches) within)
-    ∙ timely-ok rig.machine at (Change at switch level) time ∙ ap Ok (sym is)
+    cond-true (nat_lt switch.0 (length rig.checked.plan.switches)) (timely rig.machine at (SwitchChange at switch level)) (Err faults.NoSuchSwitch) (lt-ltb switch.0 (length rig.checked.plan.switches) within)
+    ∙ timely-ok rig.machine at (SwitchChange at switch level) time ∙ ap Ok (sym is)
 allowed-in rig inputs.Alarm given (at, source, is) allowed =
     let (next, early) = subst (IsAllowed rig.checked.plan rig.machine) is allowed in
     ap alarm_at (next-is_found rig.machine at source next)
@@ -195,8 +195,8 @@ timely-refuses s at stimulus = by (nat_lt at s.moment) (is_too_late at) (is_due_
 in-refuses : (rig : RigView) (input : Input) → Refuses (stimulus_in rig.checked rig.machine input)
 in-refuses rig (inputs.Change at switch level) = by (nat_lt switch.0 (length rig.checked.plan.switches))
   where
-    by : (there : Bool) → Refuses (if there then timely rig.machine at (Change at switch level) else Err faults.NoSuchSwitch)
-    by true = timely-refuses rig.machine at (Change at switch level)
+    by : (there : Bool) → Refuses (if there then timely rig.machine at (SwitchChange at switch level) else Err faults.NoSuchSwitch)
+    by true = timely-refuses rig.machine at (SwitchChange at switch level)
     by false = tt
 in-refuses rig inputs.Alarm = by (next_alarm rig.machine)
   where

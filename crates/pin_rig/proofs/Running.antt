@@ -159,7 +159,7 @@ module _ (c : CheckedView) (board : BoardView) (accepted : IsAccepted c) where
   steps-follow inputs trace new steps =
       let ran = steps-run inputs (at_rest c board) trace new refl steps in
       subst (λ s. Follows limits (sendings trace) s new.machine.moment) (sym (steps-agree inputs (at_rest c board) trace new refl steps))
-      (follows-run c.plan accepted.allowed accepted.valid ran.stimuli trace new.machine ran.run)
+      (follows-run c.plan accepted.limits accepted.valid ran.stimuli trace new.machine ran.run)
 
   pub halt-follow : (inputs : List Input) (last : Input) (trace shown : List Line) (new : RigView) → AreStepsToHalt inputs last (at_rest c board) trace shown new → Follows limits (sendings shown) new.sent new.machine.moment
   halt-follow inputs last trace shown new h =

@@ -10,7 +10,7 @@ use Rattle.written_machine.specs.declared.line.Happening.TheVariants as lines
 use Rattle.written_machine.specs.CheckedView.{CheckedView}
 use Rattle.written_machine.specs.Machine.{Machine}
 use Rattle.written_machine.specs.EventStep.{EventSteps}
-use Rattle.written_machine.specs.Run.{Source, source_due, Stimulus, Change, Alarm, Wait, IsAllowed, begin, IsReached}
+use Rattle.written_machine.specs.Run.{Source, source_due, Stimulus, SwitchChange, Alarm, Wait, IsAllowed, begin, IsReached}
 use Rattle.written_machine.specs.NextAlarm.{next_alarm, is_due_by}
 use Rattle.written_machine.specs.PlanOrder.{settled}
 use Rattle.coil_driver.specs.Board.{BoardView, HasTakenAll, HasNotTaken, commands_of, after_lines}
@@ -46,7 +46,7 @@ alarm_at (Some a) = if is_too_late a.0 then Err faults.TooLate else Ok (Alarm a.
 -- what the input is to the machine
 abbrev pub stimulus_in : CheckedView → Machine → Input → Result Stimulus StepFault
 stimulus_in checked s (inputs.Change at switch level) =
-    if nat_lt switch.0 (length checked.plan.switches) then timely s at (Change at switch level) else Err faults.NoSuchSwitch
+    if nat_lt switch.0 (length checked.plan.switches) then timely s at (SwitchChange at switch level) else Err faults.NoSuchSwitch
 stimulus_in checked s inputs.Alarm = alarm_at (next_alarm s)
 stimulus_in checked s (inputs.Wait at) = timely s at (Wait at)
 

@@ -10,7 +10,7 @@ use Rattle.written_machine.specs.declared.line.Line.{Line}
 use Rattle.written_machine.specs.CheckedView.{CheckedView}
 use Rattle.written_machine.specs.Accepted.{IsAccepted}
 use Rattle.written_machine.specs.Machine.{initial}
-use Rattle.written_machine.specs.Run.{Source, Stimulus, Change, Alarm, Wait, IsAllowed, IsRun}
+use Rattle.written_machine.specs.Run.{Source, Stimulus, SwitchChange, Alarm, Wait, IsAllowed, IsRun}
 use Rattle.written_machine.specs.Sent.{sendings}
 use Rattle.coil_driver.specs.Board.{BoardView, commands_of, TellsMore}
 use Rattle.coil_driver.specs.ShutDown.{is_faulted}
@@ -47,7 +47,7 @@ at_rest c board = record {
 
 -- the stimulus that an input is: which alarm comes, the run itself says
 abbrev pub IsOfInput : Input → Stimulus → Type 0
-IsOfInput (inputs.Change at switch level) stimulus = stimulus ≡ Change at switch level
+IsOfInput (inputs.Change at switch level) stimulus = stimulus ≡ SwitchChange at switch level
 IsOfInput inputs.Alarm stimulus = (at : ℕ) × (source : Source) × (stimulus ≡ Alarm at source)
 IsOfInput (inputs.Wait at) stimulus = stimulus ≡ Wait at
 

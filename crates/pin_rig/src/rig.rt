@@ -239,7 +239,7 @@ impl<'c, D: Device, B: Board> Rig<'c, D, B> {
                 if switch.0 as usize >= self.checked.plan().switch_count() {
                     return Err(StepFault::NoSuchSwitch);
                 }
-                self.judge_moment(at, Stimulus::Change(at, switch, level))
+                self.judge_moment(at, Stimulus::SwitchChange(at, switch, level))
             }
             Input::Alarm => self.judge_alarm(),
             Input::Wait { at } => self.judge_moment(at, Stimulus::Wait(at)),

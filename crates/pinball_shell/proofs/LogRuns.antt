@@ -7,7 +7,7 @@ use Rattle.plan_tables.specs.PlanView.{PlanView, switch_named}
 use Rattle.plan_tables.specs.declared.entries.SwitchId.{SwitchId}
 use Rattle.written_machine.specs.declared.line.Line.{Line}
 use Rattle.written_machine.specs.Machine.{Machine, initial}
-use Rattle.written_machine.specs.Run.{Source, Stimulus, Change, Alarm, Wait, moment_of, IsNoAlarmDueBy, IsAllowed, begin, IsReached}
+use Rattle.written_machine.specs.Run.{Source, Stimulus, SwitchChange, Alarm, Wait, moment_of, IsNoAlarmDueBy, IsAllowed, begin, IsReached}
 use Rattle.written_machine.specs.NextAlarm.{most_alarms}
 use Rattle.written_machine.specs.AlarmsBy.{alarms_by, state_after}
 use Rattle.written_machine.specs.CheckedView.{CheckedView}
@@ -34,7 +34,7 @@ use Rattle.pinball_shell.proofs.Stimuli.{state_after-append, trace_of-append}
 
 -- a change of a switch of the plan, or a wait, at a moment that does not go back and is not too late
 abbrev pub IsGivenInTime : PlanView → ℕ → Stimulus → Type 0
-IsGivenInTime plan now (Change at n level) = (now ≤ at) × (at < 2 ^ 40) × (n.0 < length plan.switches)
+IsGivenInTime plan now (SwitchChange at n level) = (now ≤ at) × (at < 2 ^ 40) × (n.0 < length plan.switches)
 IsGivenInTime plan now (Alarm at source) = ⊥
 IsGivenInTime plan now (Wait at) = (now ≤ at) × (at < 2 ^ 40)
 
@@ -63,7 +63,7 @@ module _ (plan : PlanView) (now : ℕ) where
   given-change : (at : ℕ) (o : Option SwitchId) (level : Bool) (stimulus : Stimulus) → ((switch : SwitchId) → o ≡ Some switch → switch.0 < length plan.switches) → change_of now at o level ≡ Ok (Some stimulus) → IsGivenInTime plan now stimulus
   given-change at None level stimulus within h = cc
   given-change at (Some switch) level stimulus within h =
-      let (forward, early, is) = in_time now at (Change at switch level) stimulus h in
+      let (forward, early, is) = in_time now at (SwitchChange at switch level) stimulus h in
       subst (IsGivenInTime plan now) is (forward, early, within switch refl)
 
   pub given-in_time : (line : Said) (stimulus : Stimulus) → given_by_line plan now line ≡ Ok (Some stimulus) → IsGivenInTime plan now stimulus
@@ -76,12 +76,12 @@ module _ (plan : PlanView) (now : ℕ) where
 
 -- in time, and nothing is due any more: it may come
 pub may_come : (plan : PlanView) (now : ℕ) (s : Machine) (stimulus : Stimulus) → IsGivenInTime plan now stimulus → s.moment ≤ moment_of stimulus → IsNoAlarmDueBy s (moment_of stimulus) → IsAllowed plan s stimulus
-may_come plan now s (Change at n level) (forward, early, within) ahead quiet = (record { forward = ahead; early = early; quiet = quiet }, within)
+may_come plan now s (SwitchChange at n level) (forward, early, within) ahead quiet = (record { forward = ahead; early = early; quiet = quiet }, within)
 may_come plan now s (Alarm at source) none ahead quiet = absurd none
 may_come plan now s (Wait at) (forward, early) ahead quiet = record { forward = ahead; early = early; quiet = quiet }
 
 pub in_time-early : (plan : PlanView) (now : ℕ) (stimulus : Stimulus) → IsGivenInTime plan now stimulus → (now ≤ moment_of stimulus) × (moment_of stimulus < 2 ^ 40)
-in_time-early plan now (Change at n level) (forward, early, within) = (forward, early)
+in_time-early plan now (SwitchChange at n level) (forward, early, within) = (forward, early)
 in_time-early plan now (Alarm at source) none = absurd none
 in_time-early plan now (Wait at) (forward, early) = (forward, early)
 
@@ -89,7 +89,7 @@ in_time-early plan now (Wait at) (forward, early) = (forward, early)
 
 without_alarms-append : (xs ys : List Stimulus) → without_alarms (xs ++ ys) ≡ without_alarms xs ++ without_alarms ys
 without_alarms-append [] ys = refl
-without_alarms-append (Change at n level ∷ xs) ys = ap (λ (given : List Stimulus). Change at n level ∷ given) (without_alarms-append xs ys)
+without_alarms-append (SwitchChange at n level ∷ xs) ys = ap (λ (given : List Stimulus). SwitchChange at n level ∷ given) (without_alarms-append xs ys)
 without_alarms-append (Alarm at source ∷ xs) ys = without_alarms-append xs ys
 without_alarms-append (Wait at ∷ xs) ys = ap (λ (given : List Stimulus). Wait at ∷ given) (without_alarms-append xs ys)
 
@@ -112,7 +112,7 @@ in_order-push plan (x ∷ xs) old trace s (first, (k, (idle_first, (rest, run, i
     (first, (k, (idle_first, (rest ++ t.lines, in_order-push plan xs mid rest s run stimulus allowed n idle, ap (λ (ls : List Line). ls ++ t.lines) is ∙ append_assoc mid.lines rest t.lines))))
 
 abbrev is_alarm : Stimulus → Bool
-is_alarm (Change at n level) = false
+is_alarm (SwitchChange at n level) = false
 is_alarm (Alarm at source) = true
 is_alarm (Wait at) = false
 
@@ -134,12 +134,12 @@ no_alarm_last stimuli none before at source is = differ (sym none ∙ ap (ends_w
 
 -- what comes in time is no alarm
 in_time-given : (plan : PlanView) (now : ℕ) (stimulus : Stimulus) → IsGivenInTime plan now stimulus → without_alarms (stimulus ∷ []) ≡ stimulus ∷ []
-in_time-given plan now (Change at n level) time = refl
+in_time-given plan now (SwitchChange at n level) time = refl
 in_time-given plan now (Alarm at source) none = absurd none
 in_time-given plan now (Wait at) time = refl
 
 in_time-no_alarm : (plan : PlanView) (now : ℕ) (stimulus : Stimulus) → IsGivenInTime plan now stimulus → is_alarm stimulus ≡ false
-in_time-no_alarm plan now (Change at n level) time = refl
+in_time-no_alarm plan now (SwitchChange at n level) time = refl
 in_time-no_alarm plan now (Alarm at source) none = absurd none
 in_time-no_alarm plan now (Wait at) time = refl
 

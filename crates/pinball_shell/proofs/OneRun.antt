@@ -6,7 +6,7 @@ use Rattle.plan_tables.specs.Valid.{IsValid}
 use Rattle.written_machine.specs.declared.line.Line.{Line}
 use Rattle.written_machine.specs.Machine.{Machine, initial}
 use Rattle.written_machine.specs.PlanOrder.{plan_steps}
-use Rattle.written_machine.specs.Run.{Source, IsNoAlarmDueBy, IsNothingLate, IsNextAlarm, Stimulus, Change, Alarm, Wait, moment_of, IsAllowed, begin}
+use Rattle.written_machine.specs.Run.{Source, IsNoAlarmDueBy, IsNothingLate, IsNextAlarm, Stimulus, SwitchChange, Alarm, Wait, moment_of, IsAllowed, begin}
 use Rattle.written_machine.proofs.Alarms.{moment-after, not_late-after}
 use Rattle.written_machine.proofs.NextAlarms.{next-unique}
 use Rattle.written_machine.proofs.PlanSteps.{plan_steps-event_steps, plan_steps-enough}
@@ -21,12 +21,12 @@ no_last-more first more h before at source is = h (first ∷ before) at source (
 
 none_given : (xs : List Stimulus) → without_alarms xs ≡ [] → NoAlarmLast xs → xs ≡ []
 none_given [] e h = refl
-none_given (Change at n level ∷ more) e h = cc
+none_given (SwitchChange at n level ∷ more) e h = cc
 none_given (Alarm at source ∷ more) e h = absurd (h [] at source (ap (λ (xs : List Stimulus). Alarm at source ∷ xs) (none_given more e (no_last-more (Alarm at source) more h))))
 none_given (Wait at ∷ more) e h = cc
 
 given-rest : (x : Stimulus) (xs ys : List Stimulus) → without_alarms (x ∷ xs) ≡ without_alarms (x ∷ ys) → without_alarms xs ≡ without_alarms ys
-given-rest (Change at n level) xs ys e = cc
+given-rest (SwitchChange at n level) xs ys e = cc
 given-rest (Alarm at source) xs ys e = e
 given-rest (Wait at) xs ys e = cc
 
@@ -65,10 +65,10 @@ module _ (plan : PlanView) (valid : IsValid plan) where
   -- nothing that was given comes before the moment of the state
   later : (xs : List Stimulus) (s : Machine) (trace : List Line) (end : Machine) → IsRunInOrder plan xs s trace end → IsNothingLate s → (g : Stimulus) (rest : List Stimulus) → without_alarms xs ≡ g ∷ rest → s.moment ≤ moment_of g
   later [] s trace end run ahead g rest e = cc
-  later (Change at n level ∷ more) s trace end (allowed, after) ahead g rest e =
+  later (SwitchChange at n level ∷ more) s trace end (allowed, after) ahead g rest e =
       let same : at ≡ moment_of g = ap (λ (o : Stimulus). moment_of o) (first_is e) in let on = allowed.0.forward in omega (arith, same, on)
     where
-      first_is : Change at n level ∷ without_alarms more ≡ g ∷ rest → Change at n level ≡ g
+      first_is : SwitchChange at n level ∷ without_alarms more ≡ g ∷ rest → SwitchChange at n level ≡ g
       first_is e = cc
   later (Alarm at source ∷ more) s trace end (allowed, (n, (idle, (lines, run, is)))) ahead g rest e =
       let mid = plan_steps plan n (begin plan (Alarm at source) s) in
@@ -85,13 +85,13 @@ module _ (plan : PlanView) (valid : IsValid plan) where
       → ((g : Stimulus) (rest : List Stimulus) → without_alarms ys ≡ g ∷ rest → moment_of y ≤ moment_of g)
       → without_alarms (x ∷ xs) ≡ without_alarms (y ∷ ys) → x ≡ y
   same_first s (Alarm at n) (Alarm at' n') xs ys a b la lb is = next-same s at at' n n' a.0 b.0
-  same_first s (Alarm at n) (Change at' n' level) xs ys a b la lb is = absurd (early_alarm s at at' n a.0 b.0.quiet (la (Change at' n' level) (without_alarms ys) is))
+  same_first s (Alarm at n) (SwitchChange at' n' level) xs ys a b la lb is = absurd (early_alarm s at at' n a.0 b.0.quiet (la (SwitchChange at' n' level) (without_alarms ys) is))
   same_first s (Alarm at n) (Wait at') xs ys a b la lb is = absurd (early_alarm s at at' n a.0 b.quiet (la (Wait at') (without_alarms ys) is))
-  same_first s (Change at n level) (Alarm at' n') xs ys a b la lb is = absurd (early_alarm s at' at n' b.0 a.0.quiet (lb (Change at n level) (without_alarms xs) (sym is)))
+  same_first s (SwitchChange at n level) (Alarm at' n') xs ys a b la lb is = absurd (early_alarm s at' at n' b.0 a.0.quiet (lb (SwitchChange at n level) (without_alarms xs) (sym is)))
   same_first s (Wait at) (Alarm at' n') xs ys a b la lb is = absurd (early_alarm s at' at n' b.0 a.quiet (lb (Wait at) (without_alarms xs) (sym is)))
-  same_first s (Change at n level) (Change at' n' level') xs ys a b la lb is = cc
-  same_first s (Change at n level) (Wait at') xs ys a b la lb is = cc
-  same_first s (Wait at) (Change at' n' level') xs ys a b la lb is = cc
+  same_first s (SwitchChange at n level) (SwitchChange at' n' level') xs ys a b la lb is = cc
+  same_first s (SwitchChange at n level) (Wait at') xs ys a b la lb is = cc
+  same_first s (Wait at) (SwitchChange at' n' level') xs ys a b la lb is = cc
   same_first s (Wait at) (Wait at') xs ys a b la lb is = cc
 
   one_run : (xs ys : List Stimulus) (s t : Machine) (trace trace' : List Line) (end end' : Machine) → s ≡ t → IsRunInOrder plan xs s trace end → IsRunInOrder plan ys t trace' end'

@@ -7,7 +7,7 @@ use Rattle.coil_guard.specs.declared.command.Command.{Command}
 use Rattle.written_machine.specs.declared.line.Line.{Line}
 use Rattle.written_machine.specs.declared.line.Happening.TheVariants as happenings
 use Rattle.written_machine.specs.Accepted.{IsAccepted}
-use Rattle.written_machine.specs.Run.{Stimulus, Change, Alarm, Wait, moment_of}
+use Rattle.written_machine.specs.Run.{Stimulus, SwitchChange, Alarm, Wait, moment_of}
 use Rattle.written_machine.specs.NextAlarm.{is_due_by}
 use Rattle.written_machine.specs.AlarmsBy.{state_after}
 use Rattle.coil_driver.specs.Board.{BoardView}
@@ -28,7 +28,7 @@ use Rattle.pinball_shell.specs.Ends.{IsServed, IsHalted, IsEnd}
 
 -- what a rig is given for a stimulus: which alarm comes, it says itself
 abbrev pub input_of : Stimulus → Input
-input_of (Change at switch level) = inputs.Change at switch level
+input_of (SwitchChange at switch level) = inputs.Change at switch level
 input_of (Alarm at source) = inputs.Alarm
 input_of (Wait at) = inputs.Wait at
 

@@ -7,7 +7,7 @@ use Rattle.plan_tables.specs.Valid.{IsValid}
 use Rattle.written_machine.specs.declared.line.Line.{Line}
 use Rattle.written_machine.specs.Machine.{Machine, initial}
 use Rattle.written_machine.specs.PlanOrder.{plan_steps}
-use Rattle.written_machine.specs.Run.{Source, Stimulus, Change, Alarm, Wait, moment_of, IsAllowed, begin, IsReached}
+use Rattle.written_machine.specs.Run.{Source, Stimulus, SwitchChange, Alarm, Wait, moment_of, IsAllowed, begin, IsReached}
 use Rattle.pinball_shell.specs.declared.refusal.Refusal.{Refusal}
 use Rattle.pinball_shell.specs.LogText.{said}
 use Rattle.pinball_shell.specs.RunOfLog.{given_by_line}
@@ -36,7 +36,7 @@ stimuli_of = map (λ s. s.0)
 -- stimuli without the alarms among them
 abbrev pub without_alarms : List Stimulus → List Stimulus
 without_alarms [] = []
-without_alarms (Change at switch level ∷ more) = Change at switch level ∷ without_alarms more
+without_alarms (SwitchChange at switch level ∷ more) = SwitchChange at switch level ∷ without_alarms more
 without_alarms (Alarm at source ∷ more) = without_alarms more
 without_alarms (Wait at ∷ more) = Wait at ∷ without_alarms more
 

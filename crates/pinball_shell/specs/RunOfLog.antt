@@ -5,7 +5,7 @@ use Rattle.plan_tables.specs.PlanView.{PlanView, switch_named}
 use Rattle.plan_tables.specs.declared.entries.SwitchId.{SwitchId}
 use Rattle.written_machine.specs.declared.line.Line.{Line}
 use Rattle.written_machine.specs.Machine.{Machine, initial}
-use Rattle.written_machine.specs.Run.{Stimulus, Change, Wait, moment_of}
+use Rattle.written_machine.specs.Run.{Stimulus, SwitchChange, Wait, moment_of}
 use Rattle.written_machine.specs.NextAlarm.{most_alarms}
 use Rattle.written_machine.specs.AlarmsBy.{alarms_by, state_after}
 use Rattle.written_machine.specs.PlanOrder.{settled}
@@ -27,7 +27,7 @@ if_admitted (Err fault) what = Err (Step fault)
 -- a change of the switch that has the name, if there is one
 abbrev pub change_of : ℕ → ℕ → Option SwitchId → Bool → Result (Option Stimulus) Refusal
 change_of now at None level = Err (Step NoSuchSwitch)
-change_of now at (Some switch) level = if_admitted (admitted now at) (Change at switch level)
+change_of now at (Some switch) level = if_admitted (admitted now at) (SwitchChange at switch level)
 
 -- what a line gives where the latest stimulus came at `now`: nothing, a stimulus, or why it is refused
 abbrev pub given_by_line : PlanView → ℕ → Said → Result (Option Stimulus) Refusal

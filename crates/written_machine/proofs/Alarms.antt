@@ -28,7 +28,7 @@ use Rattle.written_machine.specs.Devices.{HasDevices}
 use Rattle.written_machine.specs.EventStep.{taken, EventStep, EventSteps}
 use Rattle.written_machine.specs.PlanOrder.{settled}
 use Rattle.written_machine.specs.AlarmsEnd.{IsPartDone}
-use Rattle.written_machine.specs.Run.{Source, switch, device, source_due, part_due, IsNothingLate, IsNextAlarm, Stimulus, Change, Alarm, Wait, moment_of, IsAllowed, arrived, begin, IsRun}
+use Rattle.written_machine.specs.Run.{Source, switch, device, source_due, part_due, IsNothingLate, IsNextAlarm, Stimulus, SwitchChange, Alarm, Wait, moment_of, IsAllowed, arrived, begin, IsRun}
 use Rattle.cascade_rank.specs.Cost.{Cost}
 use Rattle.written_machine.specs.Moves.{Move, Wrote, Sent, Switched, Began, Ended, Marked, Turned, Asked, Booked, Varied, Stepped, do_move, Does, TakesPart, Begins, IsMachine, ordinary, working, MayWork}
 use Rattle.written_machine.proofs.Does.{start-by, stop-by, book-by, does-keeps, due-row, off-has_coils, HasStates, moment-move, moment-does, has_states-does, switches-does}
@@ -162,13 +162,13 @@ module _ (plan : PlanView) where
   -- ---- what stimuli do with the switches
 
   abbrev pub switched : Stimulus → SwitchesView → SwitchesView
-  switched (Change at n level) v = after_change n level at v
+  switched (SwitchChange at n level) v = after_change n level at v
   switched (Alarm at (switch n)) v = accept n v
   switched (Alarm at (device r)) v = v
   switched (Wait at) v = v
 
   pub switches-begin : (stimulus : Stimulus) (s : Machine) → (begin plan stimulus s).switches ≡ switched stimulus s.switches
-  switches-begin (Change at n level) s =
+  switches-begin (SwitchChange at n level) s =
       switches-does plan (ordinary plan IsMachine ⊥) (λ none. none) (does-if_accepted plan IsMachine ⊥ refl (reported_by_change n level at s.switches) (set_switches (after_change n level at s.switches) (arrived at s)))
   switches-begin (Alarm at (switch n)) s =
       switches-does plan (ordinary plan IsMachine ⊥) (λ none. none) (does-accepted plan IsMachine ⊥ refl (reported (accept n s.switches) n) (set_switches (accept n s.switches) (arrived at s)))
@@ -236,8 +236,8 @@ module _ (plan : PlanView) (valid : IsValid plan) where
   -- what a stimulus leaves due was due before it, or is due after its moment
   begin-arms_later : (stimulus : Stimulus) (s : Machine) (source : Source) (k due : ℕ) → part_due (begin plan stimulus s) source k ≡ Some due
       → (part_due s source k ≡ Some due) ⊎ (moment_of stimulus < due)
-  begin-arms_later (Change at n level) s (switch m) k due is =
-      changes_arm_later n level at s.switches m due (ap (λ (v : SwitchesView). due_of v m) (sym (switches-begin plan (Change at n level) s)) ∙ is)
+  begin-arms_later (SwitchChange at n level) s (switch m) k due is =
+      changes_arm_later n level at s.switches m due (ap (λ (v : SwitchesView). due_of v m) (sym (switches-begin plan (SwitchChange at n level) s)) ∙ is)
   begin-arms_later (Alarm at (switch n)) s (switch m) k due is =
       inl (accept-due n s.switches m due (ap (λ (v : SwitchesView). due_of v m) (sym (switches-begin plan (Alarm at (switch n)) s)) ∙ is))
   begin-arms_later (Alarm at (device r)) s (switch m) k due is =
@@ -327,7 +327,7 @@ module _ (plan : PlanView) (valid : IsValid plan) where
 
   -- and none before a stimulus that is allowed
   pub allowed-first : (stimulus : Stimulus) (s : Machine) → IsAllowed plan s stimulus → (source : Source) (due : ℕ) → source_due s source ≡ Some due → moment_of stimulus ≤ due
-  allowed-first (Change at n level) s allowed source due is = let after = allowed.0.quiet source due is in omega arith
+  allowed-first (SwitchChange at n level) s allowed source due is = let after = allowed.0.quiet source due is in omega arith
   allowed-first (Alarm at first) s allowed source due is = next-first s at first allowed.0 source due is
   allowed-first (Wait at) s allowed source due is = let after = allowed.quiet source due is in omega arith
 
@@ -358,7 +358,7 @@ module _ (plan : PlanView) (valid : IsValid plan) where
 
   -- so no stimulus goes backwards
   pub forward : (stimulus : Stimulus) (s : Machine) → IsNothingLate s → IsAllowed plan s stimulus → s.moment ≤ moment_of stimulus
-  forward (Change at n level) s h allowed = allowed.0.forward
+  forward (SwitchChange at n level) s h allowed = allowed.0.forward
   forward (Alarm at source) s h allowed = h source at allowed.0.due
   forward (Wait at) s h allowed = allowed.forward
   -- ---- every switch has a state

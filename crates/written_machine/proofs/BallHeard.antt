@@ -30,7 +30,7 @@ use Rattle.device_objects.specs.BallDevice.{empty, noted, turned, fire}
 use Rattle.device_objects.specs.BallDevice as balls
 use Rattle.device_objects.specs.DeviceStep as devices
 use Rattle.device_objects.proofs.BallMoments.{ball-parts_none, ball-parts_first}
-use Rattle.switch_core.specs.declared.change.Change.{Change as Acceptance}
+use Rattle.switch_core.specs.declared.change.Change.{Change}
 use Rattle.switch_core.specs.SwitchStep.{SwitchState, changed, accepted, awaited, is_taken, same_level}
 use Rattle.switch_core.specs.SwitchStep as switch_steps
 use Rattle.switch_core.specs.Switches.{SwitchesView, no_kind, kind_at, state_at, active_at, due_of, after_change, accept, reported}
@@ -45,7 +45,7 @@ use Rattle.written_machine.specs.Counted.{ball_switches, is_counted}
 use Rattle.written_machine.specs.EventStep.{EventStep}
 use Rattle.written_machine.specs.Devices.{ActsAreOwn}
 use Rattle.written_machine.specs.Machine.{Machine, initial, write, set_switches, set_device, world_of, device_at, called, confirm_entry, tell_listeners, do_accepted, do_if_accepted, call_device}
-use Rattle.written_machine.specs.Run.{Source, switch, device, source_due, IsNoAlarmDueBy, IsNothingLate, Stimulus, Change, Alarm, Wait, IsAllowed, arrived, begin, InEveryRun}
+use Rattle.written_machine.specs.Run.{Source, switch, device, source_due, IsNoAlarmDueBy, IsNothingLate, Stimulus, SwitchChange, Alarm, Wait, IsAllowed, arrived, begin, InEveryRun}
 use Rattle.written_machine.proofs.Does.{HasStates}
 use Rattle.written_machine.proofs.Alarms.{switches-steps, switches-begin, not_late-steps, not_late-begin, not_late-initial, allowed-first, forward, has_states-step, has_states-begin, has_states-initial}
 use Rattle.written_machine.proofs.Keeps.{run-keeps}
@@ -296,7 +296,7 @@ module _ (plan : PlanView) where
         (of_normal : quick_at n ≡ false → (due_of s.switches n ≡ Some at) × ((source : Source) (t : ℕ) → source_due s source ≡ Some t → at ≤ t))
         (its : active_at v n ≡ active) (turns : active_at v n ≡ not (active_at s.switches n))
         (others : (m : SwitchId) → (m.0 ≡ n.0 → ⊥) → active_at v m ≡ active_at s.switches m) (reads : AreRead v) where
-      abbrev acceptance : Acceptance
+      abbrev acceptance : Change
       acceptance = record { switch = n; active = active }
 
       abbrev written : Machine
@@ -550,7 +550,7 @@ module _ (plan : PlanView) where
         refl (accept-other_level s.switches n at h.heard.reads (switch_lists.due-within s.switches n at allowed.0.due) allowed.0.due)
         (active-other s.switches n (switch_steps.fired (kind_at s.switches n) (state_at s.switches n))) (accept-read s.switches n h.heard.reads)
         (switches-begin plan (Alarm at (switch n)) s)
-    begin-heard before (Change at n level) s allowed h = by (is_taken (kind_at s.switches n) level (state_at s.switches n)) refl (switches-begin plan (Change at n level) s)
+    begin-heard before (SwitchChange at n level) s allowed h = by (is_taken (kind_at s.switches n) level (state_at s.switches n)) refl (switches-begin plan (SwitchChange at n level) s)
       where
         ls : List Line
         ls = before ++ s.lines

@@ -8,7 +8,7 @@ use Rattle.plan_tables.specs.declared.devices.BallSettings.{BallSettings}
 use Rattle.device_objects.specs.declared.state.BallSwitch.{BallSwitch}
 use Rattle.device_objects.specs.BallDevice.{delay, empty, noted, turned}
 use Rattle.written_machine.specs.SwitchLines.{LevelChange}
-use Rattle.written_machine.specs.Counted.{counts_from, is_late, standing, level_after, counted_level}
+use Rattle.written_machine.specs.Counted.{counts_from, is_late, not_undone, level_after, counted_level}
 
 -- ---- one change more
 
@@ -43,17 +43,17 @@ module _ (d : BallSettings) where
   late-over false moment from c before late = le-leb from moment (let lt = ltb-true from c.at late in omega arith)
 
   -- Of those that stood, the ones for which the later change is late stand on, and it stands itself.
-  standing-push : (quick : Bool) (moment : ℕ) (past : List LevelChange) (c : LevelChange) → c.at ≤ moment
-      → filter (λ x. nat_le (counts_from d x) moment) (standing d quick (past ++ c ∷ []))
-      ≡ filter (λ x. is_late quick (counts_from d x) c) (standing d quick past) ++ filter (λ x. nat_le (counts_from d x) moment) (c ∷ [])
-  standing-push quick moment [] c before = refl
-  standing-push quick moment (p ∷ later) c before =
+  not_undone-push : (quick : Bool) (moment : ℕ) (past : List LevelChange) (c : LevelChange) → c.at ≤ moment
+      → filter (λ x. nat_le (counts_from d x) moment) (not_undone d quick (past ++ c ∷ []))
+      ≡ filter (λ x. is_late quick (counts_from d x) c) (not_undone d quick past) ++ filter (λ x. nat_le (counts_from d x) moment) (c ∷ [])
+  not_undone-push quick moment [] c before = refl
+  not_undone-push quick moment (p ∷ later) c before =
       let near : LevelChange → Bool = is_late quick (counts_from d p) in
       let f : LevelChange → Bool = λ x. nat_le (counts_from d x) moment in
       let g : LevelChange → Bool = λ x. is_late quick (counts_from d x) c in
-      let old = standing d quick later in
-      let new = standing d quick (later ++ c ∷ []) in
-      let rest : filter f new ≡ filter g old ++ filter f (c ∷ []) = standing-push quick moment later c before in
+      let old = not_undone d quick later in
+      let new = not_undone d quick (later ++ c ∷ []) in
+      let rest : filter f new ≡ filter g old ++ filter f (c ∷ []) = not_undone-push quick moment later c before in
       let stays : list_all near (later ++ c ∷ []) ≡ (list_all near later && g p) = list_all-append near later (c ∷ []) ∙ ap (λ b. list_all near later && b) (and-true (near c)) in
       let over : g p ≡ true → f p ≡ true = λ is. late-over quick moment (counts_from d p) c before is in
       filter-cond f (list_all near (later ++ c ∷ [])) (p ∷ new) new ∙ ap (λ b. cond b (cond (f p) (p ∷ filter f new) (filter f new)) (filter f new)) stays
@@ -62,13 +62,13 @@ module _ (d : BallSettings) where
 
   -- what counted when the later change came
   abbrev level_before : Bool → LevelChange → List LevelChange → Bool
-  level_before quick c past = level_after (last_or None (filter (λ x. is_late quick (counts_from d x) c) (standing d quick past)))
+  level_before quick c past = level_after (last_or None (filter (λ x. is_late quick (counts_from d x) c) (not_undone d quick past)))
 
   counted-push : (quick : Bool) (moment : ℕ) (past : List LevelChange) (c : LevelChange) → c.at ≤ moment
       → counted_level d quick moment (past ++ c ∷ []) ≡ cond (nat_le (counts_from d c) moment) c.active (level_before quick c past)
   counted-push quick moment past c before =
-      let changes = filter (λ x. is_late quick (counts_from d x) c) (standing d quick past) in
-      ap (λ (cs : List LevelChange). level_after (last_or None cs)) (standing-push quick moment past c before)
+      let changes = filter (λ x. is_late quick (counts_from d x) c) (not_undone d quick past) in
+      ap (λ (cs : List LevelChange). level_after (last_or None cs)) (not_undone-push quick moment past c before)
       ∙ level-push changes c (nat_le (counts_from d c) moment)
 
   -- at a normal switch that is what counted just before it
@@ -82,7 +82,7 @@ module _ (d : BallSettings) where
   before-normal : (c : LevelChange) (past : List LevelChange) (before : ℕ) → c.at ≡ before + 1 → level_before false c past ≡ counted_level d false before past
   before-normal c past before is =
       ap (λ (cs : List LevelChange). level_after (last_or None cs))
-      (filter_agree (λ x. is_late false (counts_from d x) c) (λ x. nat_le (counts_from d x) before) (λ x. less-le (counts_from d x) c.at before is) (standing d false past))
+      (filter_agree (λ x. is_late false (counts_from d x) c) (λ x. nat_le (counts_from d x) before) (λ x. less-le (counts_from d x) c.at before is) (not_undone d false past))
 
   -- ---- a ball switch follows its changes
 

@@ -53,7 +53,7 @@ use Rattle.mode_stack.specs.ModeStep.{starts, started, stopped, stop_answer, ent
 use Rattle.mode_stack.specs.Modes.{needs_game, mode_state, running_of}
 use Rattle.player_game.specs.Players.{is_met, changed_to, after_change, score_of}
 use Rattle.player_game.specs.GameStep.{GameStep, game_step}
-use Rattle.switch_core.specs.declared.change.Change.{Change as Acceptance}
+use Rattle.switch_core.specs.declared.change.Change.{Change}
 use Rattle.written_machine.specs.declared.line.Happening.{Happening}
 use Rattle.written_machine.specs.declared.line.Happening.TheVariants as lines
 use Rattle.plan_tables.specs.BallRows.{BooksNothing, actions_in, BooksRightly, IsNoBallDevice, IsOwnBallDevice, IsOffBalls, BookingsAreRight}
@@ -376,7 +376,7 @@ module _ (plan : PlanView) where
             | inr past ↦ subst (λ s. All (IsListenerWithin (length plan.rows)) s.listeners) (sym (get_or_past plan.switches n.0 no_switch past)) (All-nil (IsListenerWithin (length plan.rows)))
           ]
 
-      pub listeners-play : (a : Acceptance) (s : Machine) → ((l : Listener) → may (calls.Act (act_of_listener a.active l)))
+      pub listeners-play : (a : Change) (s : Machine) → ((l : Listener) → may (calls.Act (act_of_listener a.active l)))
           → Plays plan may s (tell_listeners plan a s)
       listeners-play a s allowed =
           all-play (tell_listener plan a.active) (IsListenerWithin (length plan.rows))
@@ -384,7 +384,7 @@ module _ (plan : PlanView) where
           (listeners_of plan a.switch) (listeners-within a.switch) s
 
       -- what follows when the devices that listen have been told
-      pub accepted-plays : (a : Acceptance) (s : Machine)
+      pub accepted-plays : (a : Change) (s : Machine)
           → Plays plan may s (all_do (post owners.Machine) (posts_of plan a.switch a.active) (confirm_on_playfield plan a s))
       accepted-plays a s =
           both (confirms (a.active && (switch_at plan a.switch).confirms_playfield))

@@ -23,14 +23,14 @@ use Rattle.device_objects.specs.declared.state.DeviceState.{DeviceState}
 use Rattle.device_objects.specs.BallDevice as balls
 use Rattle.device_objects.specs.DeviceStep.{due_of, first_state}
 use Rattle.device_objects.proofs.BallShapes.{first_ball-shape}
-use Rattle.switch_core.specs.declared.change.Change.{Change as Acceptance}
+use Rattle.switch_core.specs.declared.change.Change.{Change}
 use Rattle.switch_core.specs.Switches.{after_change, reported_by_change, accept, reported}
 use Rattle.written_machine.specs.declared.line.Happening.TheVariants as lines
 use Rattle.plan_tables.specs.BallRows.{BookingsAreRight}
 use Rattle.written_machine.specs.EventStep.{EventStep}
 use Rattle.written_machine.specs.Devices.{ActsAreOwn}
 use Rattle.written_machine.specs.Machine.{Machine, initial, write, set_switches, device_state, device_at, is_device_away, tell_listeners, do_accepted, do_if_accepted}
-use Rattle.written_machine.specs.Run.{switch, device, Stimulus, Change, Alarm, Wait, IsAllowed, arrived, begin, InEveryRun}
+use Rattle.written_machine.specs.Run.{switch, device, Stimulus, SwitchChange, Alarm, Wait, IsAllowed, arrived, begin, InEveryRun}
 use Rattle.written_machine.proofs.Keeps.{run-keeps}
 use Rattle.written_machine.proofs.BallSteps.{IsUsual}
 use Rattle.written_machine.proofs.BallFeeders.{filter-same}
@@ -119,13 +119,13 @@ module _ (plan : PlanView) where
         calm-other plan s t ledger (ap (λ (ds : List DeviceState). length ds) devices)
         (λ r d is. ap (λ (ds : List DeviceState). device_state ds r) devices) h
 
-    accepted-calm : (a : Acceptance) (s : Machine) → IsCalm plan no_lag s → IsCalm plan no_lag (do_accepted plan a s)
+    accepted-calm : (a : Change) (s : Machine) → IsCalm plan no_lag s → IsCalm plan no_lag (do_accepted plan a s)
     accepted-calm a s h =
         let written = write owners.Machine (lines.Switch a.switch a.active) s in
         let heard = plays-calm plan valid right {may = IsUsual} (λ call may. may) (listeners-play plan valid.entries own right IsUsual a written (usual-listener a.active)) (same-calm s written refl refl h) in
         plays-calm plan valid right request-usual (accepted-plays plan valid.entries own right IsRequest a (tell_listeners plan a written)) heard
 
-    if_accepted-calm : (o : Option Acceptance) (s : Machine) → IsCalm plan no_lag s → IsCalm plan no_lag (do_if_accepted plan o s)
+    if_accepted-calm : (o : Option Change) (s : Machine) → IsCalm plan no_lag s → IsCalm plan no_lag (do_if_accepted plan o s)
     if_accepted-calm None s h = h
     if_accepted-calm (Some a) s h = accepted-calm a s h
 
@@ -138,7 +138,7 @@ module _ (plan : PlanView) where
         ]
 
     pub begin-calm : (stimulus : Stimulus) (s : Machine) → IsAllowed plan s stimulus → IsCalm plan no_lag s → IsCalm plan no_lag (begin plan stimulus s)
-    begin-calm (Change at n level) s allowed h =
+    begin-calm (SwitchChange at n level) s allowed h =
         let changed = set_switches (after_change n level at s.switches) (arrived at s) in
         if_accepted-calm (reported_by_change n level at s.switches) changed (same-calm s changed refl refl h)
     begin-calm (Alarm at (switch n)) s allowed h =

@@ -4,7 +4,7 @@ use Rattle.plan_tables.specs.PlanView.{PlanView, work_of}
 use Rattle.plan_tables.specs.declared.entries.EventId.{EventId}
 use Rattle.plan_tables.specs.Valid.{HasEntries, IsValid}
 use Rattle.plan_tables.specs.declared.entries.SwitchId.{SwitchId}
-use Rattle.switch_core.specs.declared.change.Change.{Change as Acceptance}
+use Rattle.switch_core.specs.declared.change.Change.{Change}
 use Rattle.switch_core.specs.SwitchStep.{is_taken}
 use Rattle.switch_core.specs.Switches.{kind_at, state_at, after_change, accept, reported}
 use Rattle.switch_core.proofs.Lists.{due-within}
@@ -18,7 +18,7 @@ use Rattle.event_queue.specs.declared.queue.Posted.{Posted}
 use Rattle.event_queue.specs.PlanOrder.{by_priority}
 use Rattle.written_machine.specs.Machine.{Machine, initial, all_do, do_handler}
 use Rattle.written_machine.specs.EventStep.{taken, is_kept, before_handlers, handlers_in, EventStep, EventSteps, after_event}
-use Rattle.written_machine.specs.Run.{switch, device, Stimulus, Change, Alarm, Wait, IsAllowed, begin, InEveryRun}
+use Rattle.written_machine.specs.Run.{switch, device, Stimulus, SwitchChange, Alarm, Wait, IsAllowed, begin, InEveryRun}
 use Rattle.written_machine.specs.GoodRun.{cost_if_accepted, cost_of_stimulus, weigh, IsBounded}
 use Rattle.written_machine.specs.CheckedView.{CheckedView}
 use Rattle.cascade_rank.specs.Verified.{IsVerified}
@@ -44,12 +44,12 @@ module _ (plan : PlanView) (valid : IsValid plan) where
 
 -- a stimulus that may come costs at most what the dearest does
 module _ (plan : PlanView) (w : EventId → ℕ) where
-  accepted_cost : (n : SwitchId) (taken : Bool) (a : Acceptance) → a.switch ≡ n → n.0 < length plan.switches → price w (cost_if_accepted plan (if taken then Some a else None)) ≤ bound_of plan w
+  accepted_cost : (n : SwitchId) (taken : Bool) (a : Change) → a.switch ≡ n → n.0 < length plan.switches → price w (cost_if_accepted plan (if taken then Some a else None)) ≤ bound_of plan w
   accepted_cost n true a is l = subst (λ (m : SwitchId). price w (cost_of_acceptance plan m a.active) ≤ bound_of plan w) (sym is) (acceptance-within_bound plan w n a.active l)
   accepted_cost n false a is l = omega arith
 
   pub stimulus_cost : HasEntries plan → (s : Machine) (stimulus : Stimulus) → HasStates plan s → IsAllowed plan s stimulus → price w (cost_of_stimulus plan s stimulus) ≤ bound_of plan w
-  stimulus_cost entries s (Change at n level) h allowed =
+  stimulus_cost entries s (SwitchChange at n level) h allowed =
       accepted_cost n (is_taken (kind_at s.switches n) level (state_at s.switches n)) (reported (after_change n level at s.switches) n) refl allowed.1
   stimulus_cost entries s (Alarm at (switch n)) h allowed =
       let there = due-within s.switches n at allowed.0.due in
@@ -60,7 +60,7 @@ module _ (plan : PlanView) (w : EventId → ℕ) where
 
   -- a device that fires is one of the plan, and due
   fired : (entries : HasEntries plan) → (s : Machine) (stimulus : Stimulus) → HasStates plan s → IsAllowed plan s stimulus → IsFired plan entries w s stimulus
-  fired entries s (Change at n level) h allowed = tt
+  fired entries s (SwitchChange at n level) h allowed = tt
   fired entries s (Alarm at (switch n)) h allowed = tt
   fired entries s (Alarm at (device r)) h allowed = (due-row plan s r at h.devices allowed.0.due, allowed.0.due)
   fired entries s (Wait at) h allowed = tt

@@ -16,11 +16,11 @@ every_run_is_good c accepted = record {
   moments = timed-run c.plan;
   changes = changes-run c.plan accepted.valid accepted.own accepted.bookings;
   silent = stopped_is_silent c.plan accepted.valid accepted.free accepted.own;
-  limits = λ stimuli trace s run. (follows-run c.plan accepted.allowed accepted.valid stimuli trace s run).within;
-  stretches = stretches-run c.plan accepted.allowed accepted.valid;
-  skipped = skips-run c.plan accepted.allowed accepted.valid;
+  limits = λ stimuli trace s run. (follows-run c.plan accepted.limits accepted.valid stimuli trace s run).within;
+  stretches = stretches-run c.plan accepted.limits accepted.valid;
+  skipped = skips-run c.plan accepted.limits accepted.valid;
   released = λ stimuli trace s run m coil within is.
-      stopped_holds_nothing c.plan accepted.valid accepted.free accepted.own stimuli trace s run m coil within (holder-run c.plan accepted.allowed accepted.valid stimuli trace s run (owners.Mode m) coil is);
+      stopped_holds_nothing c.plan accepted.valid accepted.free accepted.own stimuli trace s run m coil within (holder-run c.plan accepted.limits accepted.valid stimuli trace s run (owners.Mode m) coil is);
   resting = stopped_is_resting c.plan accepted.valid accepted.free accepted.own;
   balls = balls-known c accepted;
 }

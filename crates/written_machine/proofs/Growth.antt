@@ -16,7 +16,7 @@ use Rattle.plan_tables.specs.declared.entries.BindingId.{BindingId}
 use Rattle.plan_tables.specs.declared.entries.Owner.{Owner}
 use Rattle.plan_tables.specs.declared.entries.Owner.TheVariants as owners
 use Rattle.plan_tables.specs.declared.entries.Action.{Action}
-use Rattle.plan_tables.specs.declared.entries.Action.TheVariants.{Post, Pulse, Enable, Disable, Change, Enter, Leave, Lose, Arrive}
+use Rattle.plan_tables.specs.declared.entries.Action.TheVariants.{Post, Pulse, Enable, Disable, Change as ChangeVariable, Enter, Leave, Lose, Arrive}
 use Rattle.plan_tables.specs.declared.entries.VariableId.{VariableId}
 use Rattle.player_game.specs.Players.{changed_to, after_change}
 use Rattle.plan_tables.specs.declared.devices.RowId.{RowId}
@@ -25,7 +25,7 @@ use Rattle.device_objects.specs.declared.device.Call.TheVariants as calls
 use Rattle.coil_guard.specs.declared.command.Command.{Command}
 use Rattle.coil_guard.specs.declared.command.Command.TheVariants as commands
 use Rattle.coil_guard.specs.Asked.{answer_asking}
-use Rattle.switch_core.specs.declared.change.Change.{Change as Acceptance}
+use Rattle.switch_core.specs.declared.change.Change.{Change}
 use Rattle.written_machine.specs.declared.line.Line.{Line}
 use Rattle.written_machine.specs.declared.line.Happening.TheVariants as lines
 use Rattle.event_queue.specs.declared.queue.Posted.{Posted}
@@ -92,7 +92,7 @@ module _ (plan : PlanView) where
     action-grows_by owner (Pulse coil ms power) s = asked-grows owner (commands.Pulse coil ms power) s
     action-grows_by owner (Enable coil power) s = asked-grows owner (commands.Enable coil power) s
     action-grows_by owner (Disable coil) s = asked-grows owner (commands.Disable coil) s
-    action-grows_by owner (Change v action n e) s =
+    action-grows_by owner (ChangeVariable v action n e) s =
         let value = changed_to plan v action n s.players in
         told-grows owner s.players.current v e value (set_players (after_change plan v value s.players) s)
     action-grows_by owner (Enter r e drain) s =
@@ -114,7 +114,7 @@ module _ (plan : PlanView) where
   pub call-grows : (call : Call) (r : RowId) (s : Machine) → Grows s (call_device plan call r s)
   call-grows call r s = grows-does plan (does-call plan (λ o. Unit {0}) ⊥ tt call r (λ own. tt) s)
 
-  pub playfield-grows : (a : Acceptance) (s : Machine) → Grows s (confirm_on_playfield plan a s)
+  pub playfield-grows : (a : Change) (s : Machine) → Grows s (confirm_on_playfield plan a s)
   playfield-grows a s = by (a.active && (switch_at plan a.switch).confirms_playfield)
     where
       by : (b : Bool) → Grows s (if b then confirm_first_away plan Playfield s else s)
@@ -122,7 +122,7 @@ module _ (plan : PlanView) where
       by false = (omega arith, omega arith)
 
   -- an acceptance adds its line
-  pub accepted-grows : (a : Acceptance) (s : Machine) → (length s.lines < length (do_accepted plan a s).lines) × (length s.waiting ≤ length (do_accepted plan a s).waiting)
+  pub accepted-grows : (a : Change) (s : Machine) → (length s.lines < length (do_accepted plan a s).lines) × (length s.waiting ≤ length (do_accepted plan a s).waiting)
   accepted-grows a s =
       let written : Line = record { moment = s.moment; owner = owners.Machine; happening = lines.Switch a.switch a.active } in
       let begun = write owners.Machine (lines.Switch a.switch a.active) s in

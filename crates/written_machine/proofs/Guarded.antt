@@ -31,7 +31,7 @@ use Rattle.ball_devices.specs.Bookings.{after_call as after_booking, booked}
 use Rattle.written_machine.specs.Machine.{Machine, initial, write, told, ask_coil, set_ledger, counts_of}
 use Rattle.written_machine.specs.EventStep.{taken, EventStep}
 use Rattle.written_machine.specs.Run.{Stimulus, moment_of, IsAllowed, IsNothingLate, arrived, begin, IsRun}
-use Rattle.written_machine.specs.Allowed.{ActionsAreAllowed}
+use Rattle.written_machine.specs.CoilActions.{ActionsKeepLimits}
 use Rattle.written_machine.specs.Sent.{sent_at, sent_in, sendings, IsIdle, AreSkippedIdle}
 use Rattle.written_machine.specs.Moves.{Move, Wrote, Sent, Switched, Began, Ended, Marked, Turned, Asked, Booked, Varied, Stepped, do_move, Licence, MayDo, Does, IsNoCommand, TakesPart, Begins, ordinary, working}
 use Rattle.written_machine.proofs.Does.{start-by, stop-by, book-by, does-keeps}
@@ -171,7 +171,7 @@ no-sending moment owner (lines.Final player score) is = refl
 
 -- ---- every move
 
-module _ (plan : PlanView) (allowed : ActionsAreAllowed plan) where
+module _ (plan : PlanView) (allowed : ActionsKeepLimits plan) where
   abbrev limits : List CoilLimits
   limits = limits_of plan
 

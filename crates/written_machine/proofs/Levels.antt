@@ -13,7 +13,7 @@ use Rattle.switch_core.proofs.DueMoments.{fire-accepts}
 use Rattle.switch_core.proofs.Following.{levels_are_accepted}
 use Rattle.written_machine.specs.declared.line.Line.{Line}
 use Rattle.written_machine.specs.Machine.{Machine, initial}
-use Rattle.written_machine.specs.Run.{switch, device, Stimulus, Change, Alarm, Wait, IsNothingLate, IsNoAlarmDueBy, begin, IsRun, InEveryRun}
+use Rattle.written_machine.specs.Run.{switch, device, Stimulus, SwitchChange, Alarm, Wait, IsNothingLate, IsNoAlarmDueBy, begin, IsRun, InEveryRun}
 use Rattle.written_machine.specs.SwitchCalls.{switch_calls}
 use Rattle.written_machine.proofs.Alarms.{switches-steps, switches-begin, moment-after, not_late-after, not_late-initial, forward}
 use Rattle.written_machine.proofs.NextAlarms.{next_alarm-due}
@@ -40,10 +40,10 @@ module _ (plan : PlanView) (valid : IsValid plan) where
     after = ap (λ (m : Machine). m.switches) (sym is);
     last = let same = ap (λ (m : Machine). m.moment) is in omega (arith, same);
   }
-  run-called ((Change at n level, k) ∷ more) s trace t (empty, allowed, (mid, rest, steps, run, lines)) on_time moment before =
-      let here = moment-after plan (Change at n level) s k mid steps in
-      let later = run-called more mid rest t run (not_late-after plan valid (Change at n level) s k mid allowed steps) at (omega (arith, here)) in
-      let there : after_call (calls.Change n level at) s.switches ≡ mid.switches = sym (switches-steps plan k (begin plan (Change at n level) s) mid steps ∙ switches-begin plan (Change at n level) s) in
+  run-called ((SwitchChange at n level, k) ∷ more) s trace t (empty, allowed, (mid, rest, steps, run, lines)) on_time moment before =
+      let here = moment-after plan (SwitchChange at n level) s k mid steps in
+      let later = run-called more mid rest t run (not_late-after plan valid (SwitchChange at n level) s k mid allowed steps) at (omega (arith, here)) in
+      let there : after_call (calls.Change n level at) s.switches ≡ mid.switches = sym (switches-steps plan k (begin plan (SwitchChange at n level) s) mid steps ∙ switches-begin plan (SwitchChange at n level) s) in
       let past = allowed.0.forward in
       let both = called-next moment (calls.Change n level at) (switch_calls more) s mid t (omega (arith, past, before)) (λ other due is. allowed.0.quiet (switch other) due is) there later.in_time later.after in
       record { in_time = both.0; after = both.1; last = later.last }

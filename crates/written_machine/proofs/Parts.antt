@@ -46,7 +46,7 @@ use Rattle.device_objects.specs.declared.device.Call.{Call}
 use Rattle.device_objects.specs.declared.device.Call.TheVariants as calls
 use Rattle.plan_tables.proofs.Owners.{is_owner-same}
 use Rattle.plan_tables.proofs.Worked.{work_found}
-use Rattle.switch_core.specs.declared.change.Change.{Change as Acceptance}
+use Rattle.switch_core.specs.declared.change.Change.{Change}
 use Rattle.switch_core.specs.SwitchStep.{changed, fired}
 use Rattle.switch_core.specs.Switches.{kind_at, state_at, after_change, reported_by_change, accept, reported}
 use Rattle.mode_stack.specs.ModeStep.{entered, ended}
@@ -58,10 +58,10 @@ use Rattle.cascade_rank.proofs.Within.{posts-below, mode_event-within}
 use Rattle.event_queue.specs.Handlers.{runs_at, handlers, IsHandlerOrder}
 use Rattle.written_machine.specs.Machine.{Machine, write, post, ask_coil, release_coil, release_coils, set_switches, set_mode, set_device, set_players, all_do, tell_change, post_game, write_final, write_finals, do_game, book, drain_if, after_entry, do_action_by, do_list_by, do_answer_by, call_device_by, first_away, no_confirm, confirm_of, confirm_first_away, confirm_entry, do_list, do_answer, world_of, device_at, called, call_device, call_devices, tell_listener, tell_listeners, confirm_on_playfield, ask_trough, ask_ball, do_target, do_handler, do_accepted, do_if_accepted}
 use Rattle.written_machine.specs.EventStep.{do_before, do_after, handlers_in}
-use Rattle.written_machine.specs.Run.{switch, device, Stimulus, Change, Alarm, Wait, moment_of, arrived, begin}
+use Rattle.written_machine.specs.Run.{switch, device, Stimulus, SwitchChange, Alarm, Wait, moment_of, arrived, begin}
 use Rattle.written_machine.specs.GoodRun.{cost_of_stimulus}
 use Rattle.written_machine.specs.Devices.{ActsAreOwn, IsOwnAct, IsOwnListener}
-use Rattle.written_machine.specs.Allowed.{IsAllowed, ActionsAreAllowed}
+use Rattle.written_machine.specs.CoilActions.{KeepsLimits, ActionsKeepLimits}
 use Rattle.written_machine.specs.FreePosts.{IsFree, IsFreeAction, IsFreeSwitch, PostsAreFree}
 use Rattle.written_machine.proofs.Feeding.{first_away-is, first_trough-is}
 use Rattle.written_machine.proofs.Listed.{binding-among, row-among, contains-at, enable-listed}
@@ -229,26 +229,26 @@ module _ (plan : PlanView) where
   abbrev pub listener_now : Bool → Listener → Machine → Cost
   listener_now active l s = call_now (calls.Act (act_of_listener active l)) l.row s
 
-  abbrev pub listeners_now : Acceptance → Machine → Cost
+  abbrev pub listeners_now : Change → Machine → Cost
   listeners_now a s = each_now (tell_listener plan a.active) (listener_now a.active) (listeners_of plan a.switch) s
 
   -- a ball that may have arrived on the playfield
-  abbrev pub playfield_now : Acceptance → Machine → Cost
+  abbrev pub playfield_now : Change → Machine → Cost
   playfield_now a s = if a.active && (switch_at plan a.switch).confirms_playfield then arrival_now Playfield s else Lines 0
 
-  abbrev pub accepted_now : Acceptance → Machine → Cost
+  abbrev pub accepted_now : Change → Machine → Cost
   accepted_now a s =
       let begun = write owners.Machine (lines.Switch a.switch a.active) s in
       Both (Lines 1)
       (Both (listeners_now a begun) (Both (playfield_now a (tell_listeners plan a begun)) (each_of cost_of_post (posts_of plan a.switch a.active))))
 
-  abbrev pub if_accepted_now : Option Acceptance → Machine → Cost
+  abbrev pub if_accepted_now : Option Change → Machine → Cost
   if_accepted_now None s = Lines 0
   if_accepted_now (Some a) s = accepted_now a s
 
   -- what the beginning of a stimulus costs
   abbrev pub stimulus_now : Stimulus → Machine → Cost
-  stimulus_now (Change at n level) s = if_accepted_now (reported_by_change n level at s.switches) (set_switches (after_change n level at s.switches) (arrived at s))
+  stimulus_now (SwitchChange at n level) s = if_accepted_now (reported_by_change n level at s.switches) (set_switches (after_change n level at s.switches) (arrived at s))
   stimulus_now (Alarm at (switch n)) s = accepted_now (reported (accept n s.switches) n) (set_switches (accept n s.switches) (arrived at s))
   stimulus_now (Alarm at (device r)) s = call_now calls.Fire r (arrived at s)
   stimulus_now (Wait at) s = cost_of_stimulus plan s (Wait at)
@@ -310,7 +310,7 @@ module _ (plan : PlanView) where
     record IsFit (owner : Owner) (a : Action) : Type 0 where
       within : HasEntries plan → IsActionWithin plan a
       free : PostsAreFree plan → IsFreeAction plan a
-      allowed : ActionsAreAllowed plan → IsAllowed plan a
+      limits : ActionsKeepLimits plan → KeepsLimits plan a
       own : IsItsOwn owner a
 
     may-hold : (owner : Owner) (coil : CoilId) (power : ℕ) → IsItsOwn owner (Enable coil power) → MayHold plan coil owner
@@ -346,9 +346,9 @@ module _ (plan : PlanView) where
 
       does-action_by : (owner : Owner) → (ActsAreOwn plan → by owner) → (a : Action) (s : Machine) → IsFit owner a → Does plan May (action_now_by confirm now owner a s) s (do_action_by plan confirm owner a s)
       does-action_by owner may (Post e) s h = moved (Sent owner e) s (may, h.within, λ valid free. inl (h.free free))
-      does-action_by owner may (Pulse coil ms power) s h = moved (Asked owner (commands.Pulse coil ms power)) s (may, h.allowed, tt)
-      does-action_by owner may (Enable coil power) s h = moved (Asked owner (commands.Enable coil power)) s (may, h.allowed, may-hold owner coil power h.own)
-      does-action_by owner may (Disable coil) s h = moved (Asked owner (commands.Disable coil)) s (may, h.allowed, tt)
+      does-action_by owner may (Pulse coil ms power) s h = moved (Asked owner (commands.Pulse coil ms power)) s (may, h.limits, tt)
+      does-action_by owner may (Enable coil power) s h = moved (Asked owner (commands.Enable coil power)) s (may, h.limits, may-hold owner coil power h.own)
+      does-action_by owner may (Disable coil) s h = moved (Asked owner (commands.Disable coil)) s (may, h.limits, tt)
       does-action_by owner may (ChangeVariable v action n e) s h =
           let value = changed_to plan v action n s.players in
           less (both (moved (Varied v value) s tt)
@@ -368,7 +368,7 @@ module _ (plan : PlanView) where
           (λ k d there. record {
             within = λ entries. of_list (IsActionWithin plan) entries.lists l k d there;
             free = λ free. of_list (IsFreeAction plan) free.lists l k d there;
-            allowed = λ allowed. of_list (IsAllowed plan) allowed l k d there;
+            limits = λ limits. of_list (KeepsLimits plan) limits l k d there;
             own = own k d there;
           }) s
 
@@ -435,14 +435,14 @@ module _ (plan : PlanView) where
         (λ k d there. (λ entries. within entries k d there, λ valid none. inl (free none k d there))) s
 
     -- the devices that listen
-    does-listeners : (a : Acceptance) (s : Machine) → Does plan May (listeners_now a s) s (tell_listeners plan a s)
+    does-listeners : (a : Change) (s : Machine) → Does plan May (listeners_now a s) s (tell_listeners plan a s)
     does-listeners a s =
         all_do-does_now plan May (tell_listener plan a.active) (listener_now a.active) (λ l. ActsAreOwn plan → IsOwnListener plan l)
         (λ l t h. does-call (calls.Act (act_of_listener a.active l)) l.row (λ own. subst by (sym (h own)) machine) t) (listeners_of plan a.switch)
         (λ k d there own. listener-own own a.switch k d there) s
 
     -- a ball that may have arrived on the playfield
-    does-playfield : (a : Acceptance) (s : Machine) → Does plan May (playfield_now a s) s (confirm_on_playfield plan a s)
+    does-playfield : (a : Change) (s : Machine) → Does plan May (playfield_now a s) s (confirm_on_playfield plan a s)
     does-playfield a s = by_switch (a.active && (switch_at plan a.switch).confirms_playfield)
       where
         by_switch : (b : Bool) → Does plan May (if b then arrival_now Playfield s else Lines 0) s (if b then confirm_first_away plan Playfield s else s)
@@ -450,7 +450,7 @@ module _ (plan : PlanView) where
         by_switch false = quiet
 
     -- an acceptance
-    pub does-accepted : (a : Acceptance) (s : Machine) → Does plan May (accepted_now a s) s (do_accepted plan a s)
+    pub does-accepted : (a : Change) (s : Machine) → Does plan May (accepted_now a s) s (do_accepted plan a s)
     does-accepted a s =
         let begun = write owners.Machine (lines.Switch a.switch a.active) s in
         let heard = tell_listeners plan a begun in
@@ -460,7 +460,7 @@ module _ (plan : PlanView) where
         (does-posts owners.Machine (λ own. machine) (posts_of plan a.switch a.active) (λ entries. posts-below plan entries a.switch a.active) (λ free. posts-free free a.switch a.active)
         (confirm_on_playfield plan a heard))))
 
-    pub does-if_accepted : (o : Option Acceptance) (s : Machine) → Does plan May (if_accepted_now o s) s (do_if_accepted plan o s)
+    pub does-if_accepted : (o : Option Change) (s : Machine) → Does plan May (if_accepted_now o s) s (do_if_accepted plan o s)
     does-if_accepted None s = quiet
     does-if_accepted (Some a) s = does-accepted a s
 
@@ -473,7 +473,7 @@ module _ (plan : PlanView) where
 
   -- what a stimulus does once it has arrived
   pub does-begin : (stimulus : Stimulus) (s : Machine) → Does plan (MayBegin plan stimulus) (stimulus_now stimulus s) (arrived (moment_of stimulus) s) (begin plan stimulus s)
-  does-begin (Change at n level) s =
+  does-begin (SwitchChange at n level) s =
       less (both (moved (Switched n (changed (kind_at s.switches n) at level (state_at s.switches n))) (arrived at s) tt)
       (does-if_accepted IsMachine (Unit {0}) refl (reported_by_change n level at s.switches) (set_switches (after_change n level at s.switches) (arrived at s)))) (λ w. omega arith)
   does-begin (Alarm at (switch n)) s =

@@ -27,7 +27,7 @@ use Rattle.plan_tables.specs.declared.entries.Owner.{Owner}
 use Rattle.coil_guard.specs.declared.command.Command.TheVariants as commands
 use Rattle.coil_guard.specs.CoilStep.{is_held_by}
 use Rattle.coil_guard.specs.Coils.{coil_at}
-use Rattle.switch_core.specs.declared.change.Change.{Change as Acceptance}
+use Rattle.switch_core.specs.declared.change.Change.{Change}
 use Rattle.switch_core.specs.Switches.{after_change, reported_by_change, accept, reported}
 use Rattle.written_machine.specs.declared.line.Happening.TheVariants as lines
 use Rattle.plan_tables.specs.declared.entries.EventId.{EventId}
@@ -61,7 +61,7 @@ use Rattle.cascade_rank.proofs.Prices.{price-dearest}
 use Rattle.cascade_rank.proofs.Rows.{length-rows, row_of}
 use Rattle.written_machine.specs.Machine.{Machine, write, post, set_switches, set_mode, set_device, set_players, all_do, ask_coil, release_coil, tell_change, book, drain_if, after_entry, do_action_by, do_list_by, do_answer_by, call_device_by, first_away, no_confirm, confirm_of, confirm_first_away, confirm_entry, world_of, device_at, called, call_device, call_devices, tell_listener, tell_listeners, home_of, write_finals, do_handler}
 use Rattle.written_machine.specs.Devices.{HasDevices}
-use Rattle.written_machine.specs.Run.{switch, device, source_due, Stimulus, Change, Alarm, Wait, arrived}
+use Rattle.written_machine.specs.Run.{switch, device, source_due, Stimulus, SwitchChange, Alarm, Wait, arrived}
 use Rattle.written_machine.specs.GoodRun.{cost_if_accepted, cost_of_stimulus}
 use Rattle.written_machine.specs.Moves.{Turned, Booked, Stepped, step_now, do_move}
 use Rattle.written_machine.proofs.Does.{each_now, has_devices-does, has_devices-move, HasCoils, asked-has_coils}
@@ -325,13 +325,13 @@ module _ (plan : PlanView) (entries : HasEntries plan) (w : EventId → ℕ) whe
 
   -- where a device fires it is one of the plan, and due
   abbrev pub IsFired : Machine → Stimulus → Type 0
-  IsFired s (Change at n level) = Unit {0}
+  IsFired s (SwitchChange at n level) = Unit {0}
   IsFired s (Alarm at (switch n)) = Unit {0}
   IsFired s (Alarm at (device r)) = (r.0 < length plan.rows) × (source_due s (device r) ≡ Some at)
   IsFired s (Wait at) = Unit {0}
 
   -- the devices that listen to a switch, and its acceptance
-  accepted-priced : (a : Acceptance) (s : Machine) → HasDevices plan s.devices → price w (accepted_now plan a s) ≤ price w (cost_of_acceptance plan a.switch a.active)
+  accepted-priced : (a : Change) (s : Machine) → HasDevices plan s.devices → price w (accepted_now plan a s) ≤ price w (cost_of_acceptance plan a.switch a.active)
   accepted-priced a s has =
       let begun = write owners.Machine (lines.Switch a.switch a.active) s in
       let listeners = each-priced (tell_listener plan a.active) (listener_now plan a.active) (cost_of_listener plan a.active) (λ l. l.row.0 < length plan.rows)
@@ -352,12 +352,12 @@ module _ (plan : PlanView) (entries : HasEntries plan) (w : EventId → ℕ) whe
             | inr past ↦ subst (λ sw. All (IsListenerWithin (length plan.rows)) sw.listeners) (sym (get_or_past plan.switches n.0 no_switch past)) (All-nil (IsListenerWithin (length plan.rows)))
           ]
 
-  if_accepted-priced : (o : Option Acceptance) (s : Machine) → HasDevices plan s.devices → price w (if_accepted_now plan o s) ≤ price w (cost_if_accepted plan o)
+  if_accepted-priced : (o : Option Change) (s : Machine) → HasDevices plan s.devices → price w (if_accepted_now plan o s) ≤ price w (cost_if_accepted plan o)
   if_accepted-priced None s has = omega arith
   if_accepted-priced (Some a) s has = accepted-priced a s has
 
   pub stimulus-priced : (stimulus : Stimulus) (s : Machine) → IsFired s stimulus → HasDevices plan s.devices → price w (stimulus_now plan stimulus s) ≤ price w (cost_of_stimulus plan s stimulus)
-  stimulus-priced (Change at n level) s fired has =
+  stimulus-priced (SwitchChange at n level) s fired has =
       if_accepted-priced (reported_by_change n level at s.switches) (set_switches (after_change n level at s.switches) (arrived at s)) has
   stimulus-priced (Alarm at (switch n)) s fired has = accepted-priced (reported (accept n s.switches) n) (set_switches (accept n s.switches) (arrived at s)) has
   stimulus-priced (Alarm at (device r)) s fired has = (call-priced calls.Fire r (arrived at s) fired.0 has (subst IsSome (sym fired.1) refl)).0

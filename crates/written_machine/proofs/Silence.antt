@@ -45,7 +45,7 @@ use Rattle.written_machine.specs.Devices.{ActsAreOwn}
 use Rattle.written_machine.specs.FreePosts.{IsFreeWork, PostsAreFree}
 use Rattle.written_machine.specs.Machine.{Machine, initial, post, set_mode, has_game, post_game, write_final, write_finals, ask_ball, ask_coil, release_coil, release_coils, stop_mode, all_do, do_game, device_state, call_devices, do_handler}
 use Rattle.written_machine.specs.EventStep.{taken, before_handlers, handlers_in, do_before, do_after}
-use Rattle.written_machine.specs.Run.{switch, device, source_due, Stimulus, Change, Alarm, Wait, moment_of, IsAllowed, arrived, begin, IsRun}
+use Rattle.written_machine.specs.Run.{switch, device, source_due, Stimulus, SwitchChange, Alarm, Wait, moment_of, IsAllowed, arrived, begin, IsRun}
 use Rattle.written_machine.specs.Silent.{HasStarted, IsSilent}
 use Rattle.written_machine.specs.Moves.{Move, Wrote, Sent, Switched, Began, Ended, Marked, Turned, Asked, Booked, Varied, Stepped, step_now, do_move, MayDo, Does, TakesPart, IsMachine, Begins, ordinary, MayHandle}
 use Rattle.written_machine.proofs.Does.{start-by, stop-by, book-by, does-keeps, off-has_coils}
@@ -442,7 +442,7 @@ module _ (plan : PlanView) (valid : IsValid plan) (free : PostsAreFree plan) (ow
 
   -- where the mode speaks at the beginning of a stimulus, it runs: a device of it is due
   begins-runs : (stimulus : Stimulus) (s : Machine) → IsAllowed plan s stimulus → Rests plan m s → Begins plan stimulus (owners.Mode m) → IsTaking s
-  begins-runs (Change at n level) s allowed h is = absurd (search (rules, is))
+  begins-runs (SwitchChange at n level) s allowed h is = absurd (search (rules, is))
   begins-runs (Alarm at (switch n)) s allowed h is = absurd (search (rules, is))
   begins-runs (Alarm at (device r)) s allowed h (inl is) = h.rests r at (sym is) allowed.0.due
   begins-runs (Alarm at (device r)) s allowed h (inr is) = absurd (search (rules, is))

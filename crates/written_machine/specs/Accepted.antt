@@ -4,7 +4,7 @@ use Rattle.cascade_rank.specs.Verified.{IsVerified}
 use Rattle.written_machine.specs.CheckedView.{CheckedView}
 use Rattle.written_machine.specs.FreePosts.{PostsAreFree}
 use Rattle.written_machine.specs.Devices.{ActsAreOwn}
-use Rattle.written_machine.specs.Allowed.{ActionsAreAllowed}
+use Rattle.written_machine.specs.CoilActions.{ActionsKeepLimits}
 use Rattle.plan_tables.specs.BallRows.{BookingsAreRight}
 
 -- The plan is valid, nothing posts an event at which the machine itself does something, but that of the start button,
@@ -15,6 +15,6 @@ pub record IsAccepted (c : CheckedView) : Type 0 where
   pub valid : IsValid c.plan
   pub free : PostsAreFree c.plan
   pub own : ActsAreOwn c.plan
-  pub allowed : ActionsAreAllowed c.plan
+  pub limits : ActionsKeepLimits c.plan
   pub bookings : BookingsAreRight c.plan
   pub verified : IsVerified c.plan c.weights c.bound

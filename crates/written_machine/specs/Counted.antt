@@ -60,20 +60,20 @@ counts_from d c = c.at + delay d c.active
 abbrev pub is_late : Bool → ℕ → LevelChange → Bool
 is_late quick moment later = if quick then nat_le moment later.at else nat_lt moment later.at
 
--- of changes in their order those that stand: no later one undoes them before they count
-abbrev pub standing : BallSettings → Bool → List LevelChange → List LevelChange
-standing d quick [] = []
-standing d quick (c ∷ later) = if list_all (is_late quick (counts_from d c)) later then c ∷ standing d quick later else standing d quick later
+-- of changes in their order those that no later one undoes before they count
+abbrev pub not_undone : BallSettings → Bool → List LevelChange → List LevelChange
+not_undone d quick [] = []
+not_undone d quick (c ∷ later) = if list_all (is_late quick (counts_from d c)) later then c ∷ not_undone d quick later else not_undone d quick later
 
 abbrev pub level_after : Option LevelChange → Bool
 level_after None = false
 level_after (Some c) = c.active
 
--- Whether a ball counts at a ball switch at a moment: by the last of its changes that stand and count by then, and
--- without one not.
+-- Whether a ball counts at a ball switch at a moment: by the last of its changes that are not undone and count by then,
+-- and without one not.
 abbrev pub counted_level : BallSettings → Bool → ℕ → List LevelChange → Bool
 counted_level d quick moment changes =
-    level_after (last_or None (filter (λ c. nat_le (counts_from d c) moment) (standing d quick changes)))
+    level_after (last_or None (filter (λ c. nat_le (counts_from d c) moment) (not_undone d quick changes)))
 
 -- the ball switches of a device
 abbrev pub ball_switches : PlanView → RowId → List SwitchId

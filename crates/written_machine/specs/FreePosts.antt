@@ -4,7 +4,7 @@ use Rattle.std.specs.List.{All}
 use Rattle.plan_tables.specs.PlanView.{PlanSwitch, PlanView, work_of}
 use Rattle.plan_tables.specs.declared.entries.EventId.{EventId}
 use Rattle.plan_tables.specs.declared.entries.Action.{Action}
-use Rattle.plan_tables.specs.declared.entries.Action.TheVariants.{Post, Pulse, Enable, Disable, Change, Enter, Leave, Lose, Arrive}
+use Rattle.plan_tables.specs.declared.entries.Action.TheVariants.{Post, Pulse, Enable, Disable, Change as ChangeVariable, Enter, Leave, Lose, Arrive}
 use Rattle.plan_tables.specs.declared.entries.Work.{Work}
 use Rattle.plan_tables.specs.declared.entries.Work.TheVariants.{Nothing, Mode, Game}
 use Rattle.plan_tables.specs.declared.entries.GameEvent.TheVariants.{SwStart}
@@ -24,7 +24,7 @@ IsFreeAction plan (Post e) = IsFree plan e
 IsFreeAction plan (Pulse coil ms power) = Unit {0}
 IsFreeAction plan (Enable coil power) = Unit {0}
 IsFreeAction plan (Disable coil) = Unit {0}
-IsFreeAction plan (Change v action n e) = IsFree plan e
+IsFreeAction plan (ChangeVariable v action n e) = IsFree plan e
 IsFreeAction plan (Enter r e drain) = IsFree plan e
 IsFreeAction plan (Leave r) = Unit {0}
 IsFreeAction plan (Lose r) = Unit {0}

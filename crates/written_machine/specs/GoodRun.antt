@@ -12,7 +12,7 @@ use Rattle.plan_tables.specs.declared.devices.BallSettings.{BallSettings}
 use Rattle.plan_tables.specs.declared.devices.Settings.TheVariants.{BallDevice}
 use Rattle.ball_devices.specs.Ledger.{IsBalanced, counted_in, transit_to}
 use Rattle.device_objects.specs.declared.device.Call.TheVariants as calls
-use Rattle.switch_core.specs.declared.change.Change.{Change as Acceptance}
+use Rattle.switch_core.specs.declared.change.Change.{Change}
 use Rattle.switch_core.specs.SwitchStep.{raw_at_rest}
 use Rattle.switch_core.specs.Switches.{active_at, accept, reported, reported_by_change}
 use Rattle.switch_core.specs.AcceptedLevel.{accepted_level}
@@ -22,7 +22,7 @@ use Rattle.cascade_rank.specs.Events.{weight_of}
 use Rattle.event_queue.specs.declared.queue.Posted.{Posted}
 use Rattle.written_machine.specs.Machine.{Machine, device_at, is_device_away}
 use Rattle.written_machine.specs.EventStep.{EventStep}
-use Rattle.written_machine.specs.Run.{Source, switch, device, source_due, Stimulus, Change, Alarm, Wait, IsNoAlarmDueBy, InEveryRun, InEveryCascade}
+use Rattle.written_machine.specs.Run.{Source, switch, device, source_due, Stimulus, SwitchChange, Alarm, Wait, IsNoAlarmDueBy, InEveryRun, InEveryCascade}
 use Rattle.written_machine.specs.SwitchCalls.{switch_calls}
 use Rattle.written_machine.specs.Silent.{HasStarted, IsSilent}
 use Rattle.written_machine.specs.Sent.{sendings, AreSkippedIdle}
@@ -36,7 +36,7 @@ use Rattle.plan_tables.specs.declared.entries.CoilId.{CoilId}
 use Rattle.written_machine.specs.CheckedView.{CheckedView}
 
 -- what the acceptance of a switch costs, if there is one
-abbrev pub cost_if_accepted : PlanView → Option Acceptance → Cost
+abbrev pub cost_if_accepted : PlanView → Option Change → Cost
 cost_if_accepted plan None = Lines 0
 cost_if_accepted plan (Some a) = cost_of_acceptance plan a.switch a.active
 
@@ -48,7 +48,7 @@ cost_of_alarm plan s (device r) = cost_of_call plan r calls.Fire
 -- What a stimulus costs: a change costs the acceptance of the switch where it is accepted at once, else nothing.
 -- A wait costs nothing.
 abbrev pub cost_of_stimulus : PlanView → Machine → Stimulus → Cost
-cost_of_stimulus plan s (Change at n level) = cost_if_accepted plan (reported_by_change n level at s.switches)
+cost_of_stimulus plan s (SwitchChange at n level) = cost_if_accepted plan (reported_by_change n level at s.switches)
 cost_of_stimulus plan s (Alarm at source) = cost_of_alarm plan s source
 cost_of_stimulus plan s (Wait at) = Lines 0
 

@@ -12,7 +12,7 @@ pub mod Silent
 pub mod Sent
 pub mod SwitchLines
 pub mod Counted
-pub mod Allowed
+pub mod CoilActions
 pub mod GoodRun
 pub mod FreePosts
 pub mod Accepted

@@ -9,7 +9,7 @@ use Rattle.plan_tables.specs.declared.entries.BindingId.{BindingId}
 use Rattle.plan_tables.specs.declared.entries.Owner.{Owner}
 use Rattle.plan_tables.specs.declared.entries.Owner.TheVariants as owners
 use Rattle.plan_tables.specs.declared.entries.Action.{Action}
-use Rattle.plan_tables.specs.declared.entries.Action.TheVariants.{Post, Pulse, Enable, Disable, Change, Enter, Leave, Lose, Arrive}
+use Rattle.plan_tables.specs.declared.entries.Action.TheVariants.{Post, Pulse, Enable, Disable, Change as ChangeVariable, Enter, Leave, Lose, Arrive}
 use Rattle.plan_tables.specs.declared.entries.VariableId.{VariableId}
 use Rattle.plan_tables.specs.declared.entries.VariableAction.{VariableAction}
 use Rattle.plan_tables.specs.declared.entries.GameEvent.{GameEvent}
@@ -39,7 +39,7 @@ use Rattle.ball_devices.specs.declared.booking.Origin.TheVariants.{Awaited, Foun
 use Rattle.ball_devices.specs.Ledger.{Ledger, no_balls, counted_in, all_counted, all_in_transit, origin_of, total}
 use Rattle.ball_devices.specs.Bookings.{LedgerCall, after_call, booked, can_book}
 use Rattle.ball_devices.specs.Bookings as calls_of_ledger
-use Rattle.switch_core.specs.declared.change.Change.{Change as Acceptance}
+use Rattle.switch_core.specs.declared.change.Change.{Change}
 use Rattle.switch_core.specs.Switches.{SwitchesView, all_idle, after_change, reported_by_change, accept, reported}
 use Rattle.mode_stack.specs.declared.phase.ModeState.{ModeState}
 use Rattle.mode_stack.specs.declared.phase.StopAnswer.{StopAnswer}
@@ -233,7 +233,7 @@ do_action_by plan confirm owner (Post e) s = post owner e s
 do_action_by plan confirm owner (Pulse coil ms power) s = ask_coil owner (commands.Pulse coil ms power) s
 do_action_by plan confirm owner (Enable coil power) s = ask_coil owner (commands.Enable coil power) s
 do_action_by plan confirm owner (Disable coil) s = ask_coil owner (commands.Disable coil) s
-do_action_by plan confirm owner (Change v action n e) s = change_variable plan owner v action n e s
+do_action_by plan confirm owner (ChangeVariable v action n e) s = change_variable plan owner v action n e s
 do_action_by plan confirm owner (Enter r e drain) s = enter_ball plan confirm owner r e drain s
 do_action_by plan confirm owner (Leave r) s = book owner (calls_of_ledger.Leave r (target_of plan r)) s
 do_action_by plan confirm owner (Lose r) s = book owner (calls_of_ledger.Lose r) s
@@ -372,21 +372,21 @@ abbrev pub tell_listener : PlanView → Bool → Listener → Machine → Machin
 tell_listener plan active l s = call_device plan (calls.Act (act_of_listener active l)) l.row s
 
 -- all that listen to a switch are told, in the order of their rows
-abbrev pub tell_listeners : PlanView → Acceptance → Machine → Machine
+abbrev pub tell_listeners : PlanView → Change → Machine → Machine
 tell_listeners plan a s = all_do (tell_listener plan a.active) (listeners_of plan a.switch) s
 
 -- A ball that presses a switch tagged `playfield_active` is on the playfield: the first device Away to it is told.
-abbrev pub confirm_on_playfield : PlanView → Acceptance → Machine → Machine
+abbrev pub confirm_on_playfield : PlanView → Change → Machine → Machine
 confirm_on_playfield plan a s = if a.active && (switch_at plan a.switch).confirms_playfield then confirm_first_away plan Playfield s else s
 
 -- A switch was accepted as active or inactive: its line is written, the devices that listen to it are told, and then its
 -- events are posted. Before these a ball may have arrived on the playfield.
-abbrev pub do_accepted : PlanView → Acceptance → Machine → Machine
+abbrev pub do_accepted : PlanView → Change → Machine → Machine
 do_accepted plan a s =
     all_do (post owners.Machine) (posts_of plan a.switch a.active)
     (confirm_on_playfield plan a (tell_listeners plan a (write owners.Machine (lines.Switch a.switch a.active) s)))
 
-abbrev pub do_if_accepted : PlanView → Option Acceptance → Machine → Machine
+abbrev pub do_if_accepted : PlanView → Option Change → Machine → Machine
 do_if_accepted plan None s = s
 do_if_accepted plan (Some a) s = do_accepted plan a s
 

@@ -28,7 +28,7 @@ use Rattle.coil_guard.specs.declared.command.Command.{Command}
 use Rattle.coil_guard.specs.declared.command.Command.TheVariants as commands
 use Rattle.coil_guard.specs.Limits.{IsWithin}
 use Rattle.coil_guard.specs.Asked.{limits_of}
-use Rattle.written_machine.specs.Allowed.{ActionsAreAllowed}
+use Rattle.written_machine.specs.CoilActions.{ActionsKeepLimits}
 use Rattle.written_machine.specs.Machine.{ask_coil, told, Machine, write, post, set_switches, set_mode, set_device, set_players, set_game, book, home_of, start_mode, stop_mode, called}
 use Rattle.written_machine.specs.Devices.{ActsAreOwn}
 use Rattle.written_machine.specs.FreePosts.{PostsAreFree, IsFree}
@@ -36,7 +36,7 @@ use Rattle.plan_tables.specs.declared.entries.Work.TheVariants.{Mode, Game}
 use Rattle.plan_tables.specs.declared.entries.Action.TheVariants.{Pulse, Enable, Disable}
 use Rattle.mode_stack.specs.Modes.{running_of}
 use Rattle.event_queue.specs.Handlers.{takes_part, handlers}
-use Rattle.written_machine.specs.Run.{switch, device, Stimulus, Change, Alarm, Wait}
+use Rattle.written_machine.specs.Run.{switch, device, Stimulus, SwitchChange, Alarm, Wait}
 
 -- ---- single changes
 
@@ -145,7 +145,7 @@ MayDo plan l (Began m) = HasEntries plan → m.0 < length plan.modes
 MayDo plan l (Ended m) = HasEntries plan → m.0 < length plan.modes
 MayDo plan l (Marked m state) = l.marks
 MayDo plan l (Turned call r) = ActsAreOwn plan → l.by (row_at plan r).owner
-MayDo plan l (Asked owner command) = (ActsAreOwn plan → l.by owner) × (ActionsAreAllowed plan → IsWithin (limits_of plan) command) × IsListed plan owner command
+MayDo plan l (Asked owner command) = (ActsAreOwn plan → l.by owner) × (ActionsKeepLimits plan → IsWithin (limits_of plan) command) × IsListed plan owner command
 MayDo plan l (Booked owner call) = ActsAreOwn plan → l.by owner
 MayDo plan l (Varied v value) = Unit {0}
 MayDo plan l (Stepped which) = Unit {0}
@@ -186,7 +186,7 @@ MayHandle plan s = MayDo plan (ordinary plan (TakesPart s) ⊥)
 
 -- who speaks at the beginning of a stimulus: the machine, and at the alarm of a device its owner too
 abbrev pub Begins : PlanView → Stimulus → Owner → Type 0
-Begins plan (Change at n level) owner = IsMachine owner
+Begins plan (SwitchChange at n level) owner = IsMachine owner
 Begins plan (Alarm at (switch n)) owner = IsMachine owner
 Begins plan (Alarm at (device r)) owner = (owner ≡ (row_at plan r).owner) ⊎ IsMachine owner
 Begins plan (Wait at) owner = IsMachine owner

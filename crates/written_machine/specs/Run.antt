@@ -53,13 +53,13 @@ pub record IsNextAlarm (s : Machine) (at : ℕ) (source : Source) : Type 0 where
 
 -- A switch changes its raw level, an alarm is due, or nothing happens up to a moment.
 pub data Stimulus : Type 0 where
-  Change : (at : ℕ) (switch : SwitchId) (level : Bool) → Stimulus
+  SwitchChange : (at : ℕ) (switch : SwitchId) (level : Bool) → Stimulus
   Alarm : (at : ℕ) (source : Source) → Stimulus
   Wait : (at : ℕ) → Stimulus
 
 -- the moment at which a stimulus comes
 abbrev pub moment_of : Stimulus → ℕ
-moment_of (Change at n level) = at
+moment_of (SwitchChange at n level) = at
 moment_of (Alarm at source) = at
 moment_of (Wait at) = at
 
@@ -71,7 +71,7 @@ pub record IsTimely (s : Machine) (at : ℕ) : Type 0 where
 
 -- what may come next
 abbrev pub IsAllowed : PlanView → Machine → Stimulus → Type 0
-IsAllowed plan s (Change at n level) = IsTimely s at × (n.0 < length plan.switches)
+IsAllowed plan s (SwitchChange at n level) = IsTimely s at × (n.0 < length plan.switches)
 IsAllowed plan s (Alarm at source) = IsNextAlarm s at source × (at < 2 ^ 40)
 IsAllowed plan s (Wait at) = IsTimely s at
 
@@ -86,7 +86,7 @@ fire plan (device r) s = call_device plan calls.Fire r s
 
 -- what a stimulus does before any event step
 abbrev pub begin : PlanView → Stimulus → Machine → Machine
-begin plan (Change at n level) s = change_switch plan at n level (arrived at s)
+begin plan (SwitchChange at n level) s = change_switch plan at n level (arrived at s)
 begin plan (Alarm at source) s = fire plan source (arrived at s)
 begin plan (Wait at) s = arrived at s
 

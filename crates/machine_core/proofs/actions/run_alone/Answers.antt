@@ -3,7 +3,7 @@ use Rattle.std.proofs.lemmas.Int.{to_z-of_z}
 use Rattle.plan_tables.specs.PlanView.{PlanView}
 use Rattle.plan_tables.specs.Valid.{IsActionWithin}
 use Rattle.plan_tables.specs.declared.entries.Action.{Action}
-use Rattle.plan_tables.specs.declared.entries.Action.TheVariants.{Change}
+use Rattle.plan_tables.specs.declared.entries.Action.TheVariants.{Change as ChangeVariable}
 use Rattle.written_machine.specs.Machine.{change_variable, do_action_by, no_confirm}
 use Rattle.machine_core.specs.Core.{HasRoom, after}
 use Rattle.machine_core.proofs.actions.run_alone.Goals as goal
@@ -11,7 +11,7 @@ use Rattle.machine_core.proofs.actions.run_alone.Goals as goal
 pub change_variable-requires-clause-variable : goal.change_variable-requires-clause-variable
 change_variable-requires-clause-variable g c =
     let x = c.in-Change in
-    let within : IsActionWithin c.args.plan.now (Change x.variable x.action x.number x.event) = subst (IsActionWithin c.args.plan.now) x.is c.requires.action in
+    let within : IsActionWithin c.args.plan.now (ChangeVariable x.variable x.action x.number x.event) = subst (IsActionWithin c.args.plan.now) x.is c.requires.action in
     subst (λ (p : PlanView). x.variable.0 < length p.variables) (sym c.requires.plan) within.0
 
 pub change_variable-requires-clause-room : goal.change_variable-requires-clause-room
