@@ -15,7 +15,7 @@ use Rattle.written_machine.specs.Accepted.{IsAccepted}
 use Rattle.written_machine.specs.PlanOrder.{plan_steps, settled}
 use Rattle.written_machine.proofs.Alarms.{settled-moment}
 use Rattle.written_machine.proofs.AlarmsEnd.{alarms_by-none, alarms_by-more, alarms_by-all}
-use Rattle.written_machine.proofs.Cascade.{verified-is_bounded}
+use Rattle.written_machine.proofs.Cascade.{verified-cascades_end}
 use Rattle.written_machine.proofs.PlanSteps.{settled-run, settled-idle, settled-steps}
 use Rattle.pin_rig.specs.declared.input.StepFault.{StepFault}
 use Rattle.pin_rig.specs.Refused.{admitted}
@@ -159,7 +159,7 @@ module _ (c : CheckedView) (accepted : IsAccepted c) where
   given-next : (given : List Stimulus) (alarm : Bool) (trace : List Line) (s : Machine) → IsRunGiven given alarm trace s → (stimulus : Stimulus) → IsAllowed c.plan s stimulus
       → (more : List Stimulus) → without_alarms (stimulus ∷ []) ≡ more → IsRunGiven (given ++ more) (is_alarm stimulus) (trace ++ (settled c.plan c.bound stimulus s).lines) (settled c.plan c.bound stimulus s)
   given-next given alarm trace s h stimulus allowed more is =
-      let good = verified-is_bounded c accepted.valid accepted.verified in
+      let good = verified-cascades_end c accepted.valid accepted.verified in
       let r = h.reached in
       let steps = settled-steps c good r.stimuli trace s r.run r.idle stimulus allowed in
       let idle = settled-idle c good r.stimuli trace s r.run r.idle stimulus allowed in

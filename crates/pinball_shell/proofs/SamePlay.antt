@@ -12,7 +12,7 @@ use Rattle.written_machine.specs.Accepted.{IsAccepted}
 use Rattle.written_machine.specs.PlanOrder.{settled}
 use Rattle.written_machine.proofs.Alarms.{settled-moment}
 use Rattle.written_machine.proofs.AlarmsEnd.{alarms_by-none, alarms_by-more, alarms_by-all}
-use Rattle.written_machine.proofs.Cascade.{verified-is_bounded}
+use Rattle.written_machine.proofs.Cascade.{verified-cascades_end}
 use Rattle.written_machine.proofs.PlanSteps.{settled-idle, settled-same}
 use Rattle.written_machine.proofs.Reached.{reached-initial, reached-next}
 use Rattle.pinball_shell.specs.declared.refusal.Refusal.{Refusal}
@@ -40,8 +40,8 @@ module _ (plan : PlanView) (ws vs : List ℕ) (a b : ℕ) where
     -- a stimulus leads to one state: no event waits in it
     settled-one : (s : Machine) → Reached s → (stimulus : Stimulus) → IsAllowed plan s stimulus → settled plan b stimulus s ≡ settled plan a stimulus s
     settled-one s (trace, h) stimulus allowed =
-        settled-same one (verified-is_bounded one one_is.valid one_is.verified) h.stimuli trace s h.run h.idle stimulus allowed b
-        (settled-idle other (verified-is_bounded other other_is.valid other_is.verified) h.stimuli trace s h.run h.idle stimulus allowed)
+        settled-same one (verified-cascades_end one one_is.valid one_is.verified) h.stimuli trace s h.run h.idle stimulus allowed b
+        (settled-idle other (verified-cascades_end other other_is.valid other_is.verified) h.stimuli trace s h.run h.idle stimulus allowed)
 
     -- these stimuli lead to one state, with the same lines
     record AreSame (s : Machine) (stimuli others : List Stimulus) : Type 0 where

@@ -1,4 +1,4 @@
--- Where weights fit, no event step raises the potential. So every run of an accepted plan is good.
+-- Where weights fit, no event step raises the potential. So each cascade ends within the bound.
 use Rattle.std.proofs.Common.{◌≡◌, ℕ, zero, suc, ◌+◌, ◌≤◌, ◌<◌, Bool, true, false, if◌then◌else◌, Some, None, List, [], ◌∷◌, length, refl, ap, sym, subst, arith, length-append}
 use Rattle.plan_tables.specs.PlanView.{PlanView, work_of}
 use Rattle.plan_tables.specs.declared.entries.EventId.{EventId}
@@ -19,7 +19,8 @@ use Rattle.event_queue.specs.PlanOrder.{by_priority}
 use Rattle.written_machine.specs.Machine.{Machine, initial, all_do, do_handler}
 use Rattle.written_machine.specs.EventStep.{taken, is_kept, before_handlers, handlers_in, EventStep, EventSteps, after_event}
 use Rattle.written_machine.specs.Run.{switch, device, Stimulus, SwitchChange, Alarm, Wait, IsAllowed, begin, InEveryRun}
-use Rattle.written_machine.specs.GoodRun.{cost_if_accepted, cost_of_stimulus, weigh, IsBounded}
+use Rattle.written_machine.specs.StimulusCost.{cost_if_accepted, cost_of_stimulus, weigh}
+use Rattle.written_machine.specs.GoodRun.{CascadesEnd}
 use Rattle.written_machine.specs.CheckedView.{CheckedView}
 use Rattle.cascade_rank.specs.Verified.{IsVerified}
 use Rattle.written_machine.proofs.Does.{potential, potential-does, AreOfPlan, WaitsInPlan, waits-does, HasStates, has_states-does, due-row, has_devices-does}
@@ -29,7 +30,6 @@ use Rattle.written_machine.proofs.Pricing.{handlers-priced, before-priced, after
 use Rattle.written_machine.proofs.Growth.{event-grows}
 use Rattle.written_machine.proofs.Order.{order_cost, plan_order-step}
 use Rattle.written_machine.proofs.Alarms.{has_states-step, has_states-begin, has_states-initial}
-use Rattle.written_machine.proofs.Levels.{levels-run}
 use Rattle.written_machine.proofs.Keeps.{step-keeps, steps-keep, run-keeps}
 
 module _ (plan : PlanView) (valid : IsValid plan) where
@@ -148,13 +148,12 @@ module _ (plan : PlanView) (valid : IsValid plan) (w : EventId → ℕ) (fits : 
       let fit = fits p.event h.0 in
       omega (arith, fit, waiting-weigh ps h.1)
 
--- where the weights fit and the bound is theirs, every run is bounded
-pub fitting-is_bounded : (c : CheckedView) → IsValid c.plan → IsFitting c.plan (weight_of c.weights) → c.bound ≡ bound_of c.plan (weight_of c.weights) → IsBounded c
-fitting-is_bounded c valid fits bound =
+-- where the weights fit and the bound is theirs, each cascade ends within it
+pub fitting-cascades_end : (c : CheckedView) → IsValid c.plan → IsFitting c.plan (weight_of c.weights) → c.bound ≡ bound_of c.plan (weight_of c.weights) → CascadesEnd c
+fitting-cascades_end c valid fits bound =
     let plan = c.plan in
     let w = weight_of c.weights in
     record {
-      cascade = λ stimuli trace s run empty stimulus allowed n t steps. (within-cascade plan valid w fits stimulus s empty (within-run plan valid w fits stimuli trace s run).states allowed n t steps).most;
       within = λ stimuli trace s run.
           let here = within-run plan valid w fits stimuli trace s run in
           let most = here.most in
@@ -168,9 +167,9 @@ fitting-is_bounded c valid fits bound =
           let cost = stimulus_cost plan w valid.entries s stimulus has allowed in
           let lines = steps-lines plan n (begin plan stimulus s) t steps in
           omega (arith, most, cost, lines, bound);
-      levels = levels-run plan valid;
+      cost = λ stimuli trace s run empty stimulus allowed n t steps. (within-cascade plan valid w fits stimulus s empty (within-run plan valid w fits stimuli trace s run).states allowed n t steps).most;
     }
 
--- So is every run of a plan whose weights were verified.
-pub verified-is_bounded : (c : CheckedView) → IsValid c.plan → IsVerified c.plan c.weights c.bound → IsBounded c
-verified-is_bounded c valid verified = fitting-is_bounded c valid verified.fits verified.bound_is
+-- So it is where the weights of a plan were verified.
+pub verified-cascades_end : (c : CheckedView) → IsValid c.plan → IsVerified c.plan c.weights c.bound → CascadesEnd c
+verified-cascades_end c valid verified = fitting-cascades_end c valid verified.fits verified.bound_is

@@ -42,7 +42,7 @@ use Rattle.ball_devices.specs.Bookings.{LedgerCall, after_call, booked, can_book
 use Rattle.written_machine.specs.declared.line.Happening.TheVariants as lines
 use Rattle.written_machine.specs.Machine.{told, Machine, write, post, set_ledger, counts_of, book, set_mode, home_of, has_game, is_post, post_if, start_mode, stop_mode, all_do, world_of, device_state, device_at, called}
 use Rattle.written_machine.specs.Devices.{HasDevices}
-use Rattle.written_machine.specs.GoodRun.{weigh}
+use Rattle.written_machine.specs.StimulusCost.{weigh}
 use Rattle.written_machine.specs.Moves.{Move, Wrote, Sent, Switched, Began, Ended, Marked, Turned, Asked, Booked, Varied, Stepped, do_move, cost_of_move, MayHold, IsListed, Licence, MayDo, Does, quiet, moved, both, less, Grows}
 
 -- what these cost one after another, where each finds the state that the one before it leaves

@@ -3,24 +3,32 @@ use Rattle.written_machine.specs.GoodRun.{IsGood}
 use Rattle.written_machine.specs.CheckedView.{CheckedView}
 use Rattle.written_machine.specs.Accepted.{IsAccepted}
 use Rattle.plan_tables.specs.declared.entries.Owner.TheVariants as owners
-use Rattle.written_machine.proofs.Cascade.{verified-is_bounded}
+use Rattle.written_machine.proofs.Cascade.{verified-cascades_end}
 use Rattle.written_machine.proofs.Guarded.{follows-run, skips-run, stretches-run, holder-run}
-use Rattle.written_machine.proofs.BallsKnown.{balls-known}
+use Rattle.written_machine.proofs.BallsAccountedFor.{balls-accounted_for}
 use Rattle.written_machine.proofs.BallHeard.{changes-run}
+use Rattle.written_machine.proofs.Levels.{levels-run}
 use Rattle.written_machine.proofs.Moments.{timed-run}
 use Rattle.written_machine.proofs.Silence.{stopped_is_silent, stopped_is_resting, stopped_holds_nothing}
 
 pub every_run_is_good : (c : CheckedView) → IsAccepted c → IsGood c
 every_run_is_good c accepted = record {
-  bounded = verified-is_bounded c accepted.valid accepted.verified;
-  moments = timed-run c.plan;
-  changes = changes-run c.plan accepted.valid accepted.own accepted.bookings;
-  silent = stopped_is_silent c.plan accepted.valid accepted.free accepted.own;
-  limits = λ stimuli trace s run. (follows-run c.plan accepted.limits accepted.valid stimuli trace s run).within;
-  stretches = stretches-run c.plan accepted.limits accepted.valid;
-  skipped = skips-run c.plan accepted.limits accepted.valid;
-  released = λ stimuli trace s run m coil within is.
-      stopped_holds_nothing c.plan accepted.valid accepted.free accepted.own stimuli trace s run m coil within (holder-run c.plan accepted.limits accepted.valid stimuli trace s run (owners.Mode m) coil is);
-  resting = stopped_is_resting c.plan accepted.valid accepted.free accepted.own;
-  balls = balls-known c accepted;
+  cascades = verified-cascades_end c accepted.valid accepted.verified;
+  coils = record {
+    limits = λ stimuli trace s run. (follows-run c.plan accepted.limits accepted.valid stimuli trace s run).within;
+    stretches = stretches-run c.plan accepted.limits accepted.valid;
+    skipped = skips-run c.plan accepted.limits accepted.valid;
+  };
+  modes = record {
+    silent = stopped_is_silent c.plan accepted.valid accepted.free accepted.own;
+    resting = stopped_is_resting c.plan accepted.valid accepted.free accepted.own;
+    released = λ stimuli trace s run m coil within is.
+        stopped_holds_nothing c.plan accepted.valid accepted.free accepted.own stimuli trace s run m coil within (holder-run c.plan accepted.limits accepted.valid stimuli trace s run (owners.Mode m) coil is);
+  };
+  balls = balls-accounted_for c accepted;
+  switches = record {
+    levels = levels-run c.plan accepted.valid;
+    changes = changes-run c.plan accepted.valid accepted.own accepted.bookings;
+    moments = timed-run c.plan;
+  };
 }

@@ -1,19 +1,17 @@
 -- The stimuli of a run are calls of the switches. So what is accepted after every list of calls is accepted in every
 -- run.
-use Rattle.std.proofs.Common.{◌≡◌, ℕ, ◌≤◌, ◌<◌, List, [], ◌∷◌, length, ap, sym, ◌∙◌, subst, arith}
-use Rattle.plan_tables.specs.PlanView.{PlanView, switch_at}
+use Rattle.std.proofs.Common.{◌≡◌, ℕ, ◌≤◌, List, [], ◌∷◌, ap, sym, ◌∙◌, subst, arith}
+use Rattle.plan_tables.specs.PlanView.{PlanView}
 use Rattle.plan_tables.specs.Valid.{IsValid}
-use Rattle.plan_tables.specs.declared.entries.SwitchId.{SwitchId}
-use Rattle.switch_core.specs.SwitchStep.{raw_at_rest}
 use Rattle.switch_core.specs.Switches.{SwitchesView, all_idle, active_at, IsNothingDueBy as IsNoSwitchDueBy}
-use Rattle.switch_core.specs.AcceptedLevel.{accepted_level}
-use Rattle.switch_core.specs.Calls.{SwitchCall, Fire, call_moment, after_call, after_calls, last_moment, IsInTime, AreInTime, raw_changes}
+use Rattle.switch_core.specs.Calls.{SwitchCall, Fire, call_moment, after_call, after_calls, last_moment, IsInTime, AreInTime}
 use Rattle.switch_core.specs.Calls as calls
 use Rattle.switch_core.proofs.DueMoments.{fire-accepts}
 use Rattle.switch_core.proofs.Following.{levels_are_accepted}
 use Rattle.written_machine.specs.declared.line.Line.{Line}
 use Rattle.written_machine.specs.Machine.{Machine, initial}
-use Rattle.written_machine.specs.Run.{switch, device, Stimulus, SwitchChange, Alarm, Wait, IsNothingLate, IsNoAlarmDueBy, begin, IsRun, InEveryRun}
+use Rattle.written_machine.specs.Run.{switch, device, Stimulus, SwitchChange, Alarm, Wait, IsNothingLate, begin, IsRun}
+use Rattle.written_machine.specs.GoodRun.{LevelsFollowRawChanges}
 use Rattle.written_machine.specs.SwitchCalls.{switch_calls}
 use Rattle.written_machine.proofs.Alarms.{switches-steps, switches-begin, moment-after, not_late-after, not_late-initial, forward}
 use Rattle.written_machine.proofs.NextAlarms.{next_alarm-due}
@@ -77,9 +75,7 @@ module _ (plan : PlanView) (valid : IsValid plan) where
       }
 
   -- where nothing is due each switch has the accepted level of its raw changes
-  pub levels-run : InEveryRun plan (λ stimuli trace s.
-      (at : ℕ) → s.moment ≤ at → IsNoAlarmDueBy s at → (n : SwitchId) → n.0 < length plan.switches →
-      active_at s.switches n ≡ accepted_level (switch_at plan n).kind at (raw_changes n (raw_at_rest (switch_at plan n).kind.contact) (switch_calls stimuli)))
+  pub levels-run : LevelsFollowRawChanges plan
   levels-run stimuli trace s run at after quiet n within =
       let called = run-called stimuli (initial plan) trace s run (not_late-initial plan valid) 0 (omega arith) in
       let there : after_calls (switch_calls stimuli) (all_idle plan) ≡ s.switches = called.after in

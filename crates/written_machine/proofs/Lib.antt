@@ -31,7 +31,7 @@ pub mod BallSteady
 pub mod BallFired
 pub mod BallListeners
 pub mod BallHeard
-pub mod BallsKnown
+pub mod BallsAccountedFor
 pub mod Good
 pub mod Listed
 pub mod Held

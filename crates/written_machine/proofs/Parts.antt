@@ -59,7 +59,7 @@ use Rattle.event_queue.specs.Handlers.{runs_at, handlers, IsHandlerOrder}
 use Rattle.written_machine.specs.Machine.{Machine, write, post, ask_coil, release_coil, release_coils, set_switches, set_mode, set_device, set_players, all_do, tell_change, post_game, write_final, write_finals, do_game, book, drain_if, after_entry, do_action_by, do_list_by, do_answer_by, call_device_by, first_away, no_confirm, confirm_of, confirm_first_away, confirm_entry, do_list, do_answer, world_of, device_at, called, call_device, call_devices, tell_listener, tell_listeners, confirm_on_playfield, ask_trough, ask_ball, do_target, do_handler, do_accepted, do_if_accepted}
 use Rattle.written_machine.specs.EventStep.{do_before, do_after, handlers_in}
 use Rattle.written_machine.specs.Run.{switch, device, Stimulus, SwitchChange, Alarm, Wait, moment_of, arrived, begin}
-use Rattle.written_machine.specs.GoodRun.{cost_of_stimulus}
+use Rattle.written_machine.specs.StimulusCost.{cost_of_stimulus}
 use Rattle.written_machine.specs.Devices.{ActsAreOwn, IsOwnAct, IsOwnListener}
 use Rattle.written_machine.specs.CoilActions.{KeepsLimits, ActionsKeepLimits}
 use Rattle.written_machine.specs.FreePosts.{IsFree, IsFreeAction, IsFreeSwitch, PostsAreFree}

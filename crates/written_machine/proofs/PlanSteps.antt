@@ -10,7 +10,7 @@ use Rattle.written_machine.specs.Machine.{Machine, initial}
 use Rattle.written_machine.specs.EventStep.{before_handlers, handlers_in, EventStep, EventSteps, after_event}
 use Rattle.written_machine.specs.PlanOrder.{plan_step_from, plan_step, plan_steps}
 use Rattle.written_machine.specs.Run.{Stimulus, IsAllowed, begin, IsRun}
-use Rattle.written_machine.specs.GoodRun.{IsBounded}
+use Rattle.written_machine.specs.GoodRun.{CascadesEnd}
 use Rattle.written_machine.specs.CheckedView.{CheckedView}
 use Rattle.written_machine.proofs.Order.{plan_order-step}
 
@@ -103,7 +103,7 @@ module _ (plan : PlanView) where
       (empty, first_allowed, (mid, rest ++ t.lines, went, IsRun-push more mid rest m stimulus n t run idle allowed steps, ap (λ (ls : List Line). ls ++ t.lines) lines ∙ append_assoc mid.lines rest t.lines))
 
 -- After a run of a good plan at whose end no event waits, and a stimulus that may come next:
-module _ (c : CheckedView) (good : IsBounded c) (stimuli : List (Stimulus × ℕ)) (trace : List Line) (s : Machine) (run : IsRun c.plan stimuli (initial c.plan) trace s) (empty : s.waiting ≡ []) (stimulus : Stimulus) (allowed : IsAllowed c.plan s stimulus) where
+module _ (c : CheckedView) (good : CascadesEnd c) (stimuli : List (Stimulus × ℕ)) (trace : List Line) (s : Machine) (run : IsRun c.plan stimuli (initial c.plan) trace s) (empty : s.waiting ≡ []) (stimulus : Stimulus) (allowed : IsAllowed c.plan s stimulus) where
   abbrev pub begun : Machine
   begun = begin c.plan stimulus s
 

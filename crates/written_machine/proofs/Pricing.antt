@@ -62,7 +62,7 @@ use Rattle.cascade_rank.proofs.Rows.{length-rows, row_of}
 use Rattle.written_machine.specs.Machine.{Machine, write, post, set_switches, set_mode, set_device, set_players, all_do, ask_coil, release_coil, tell_change, book, drain_if, after_entry, do_action_by, do_list_by, do_answer_by, call_device_by, first_away, no_confirm, confirm_of, confirm_first_away, confirm_entry, world_of, device_at, called, call_device, call_devices, tell_listener, tell_listeners, home_of, write_finals, do_handler}
 use Rattle.written_machine.specs.Devices.{HasDevices}
 use Rattle.written_machine.specs.Run.{switch, device, source_due, Stimulus, SwitchChange, Alarm, Wait, arrived}
-use Rattle.written_machine.specs.GoodRun.{cost_if_accepted, cost_of_stimulus}
+use Rattle.written_machine.specs.StimulusCost.{cost_if_accepted, cost_of_stimulus}
 use Rattle.written_machine.specs.Moves.{Turned, Booked, Stepped, step_now, do_move}
 use Rattle.written_machine.proofs.Does.{each_now, has_devices-does, has_devices-move, HasCoils, asked-has_coils}
 use Rattle.written_machine.proofs.Feeding.{first_away-is, first_trough-is}

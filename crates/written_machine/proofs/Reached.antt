@@ -11,7 +11,7 @@ use Rattle.written_machine.specs.PlanOrder.{plan_steps, settled}
 use Rattle.written_machine.specs.Run.{IsNothingLate, Stimulus, IsAllowed, begin, IsReached}
 use Rattle.written_machine.specs.CheckedView.{CheckedView}
 use Rattle.written_machine.specs.Accepted.{IsAccepted}
-use Rattle.written_machine.proofs.Cascade.{verified-is_bounded}
+use Rattle.written_machine.proofs.Cascade.{verified-cascades_end}
 use Rattle.written_machine.proofs.PlanSteps.{settled-run, settled-idle, settled-steps, settled-same, settling-within}
 use Rattle.written_machine.proofs.Does.{HasStates}
 use Rattle.written_machine.proofs.Alarms.{has_states-run, has_states-initial, complete, not_late-run, not_late-initial}
@@ -56,7 +56,7 @@ module _ (c : CheckedView) (accepted : IsAccepted c) (trace : List Line) (s : Ma
   -- after an allowed stimulus and its event steps too, with their lines at the end of the trace
   pub reached-next : IsReached c.plan (trace ++ (settled c.plan c.bound stimulus s).lines) (settled c.plan c.bound stimulus s)
   reached-next =
-      let good = verified-is_bounded c accepted.valid accepted.verified in
+      let good = verified-cascades_end c accepted.valid accepted.verified in
       record {
         stimuli = reached.stimuli ++ (stimulus, (settled-steps c good reached.stimuli trace s reached.run reached.idle stimulus allowed).0) ∷ [];
         run = settled-run c good reached.stimuli trace s reached.run reached.idle stimulus allowed;
@@ -65,8 +65,8 @@ module _ (c : CheckedView) (accepted : IsAccepted c) (trace : List Line) (s : Ma
 
   -- on the way there are never more lines and waiting events than the bound
   pub reached-within : (n : ℕ) → length (plan_steps c.plan n (begin c.plan stimulus s)).lines + length (plan_steps c.plan n (begin c.plan stimulus s)).waiting ≤ c.bound
-  reached-within n = settling-within c (verified-is_bounded c accepted.valid accepted.verified) reached.stimuli trace s reached.run reached.idle stimulus allowed n
+  reached-within n = settling-within c (verified-cascades_end c accepted.valid accepted.verified) reached.stimuli trace s reached.run reached.idle stimulus allowed n
 
   -- any number of event steps after which no event waits gives the same state
   pub reached-same : (n : ℕ) → (plan_steps c.plan n (begin c.plan stimulus s)).waiting ≡ [] → plan_steps c.plan n (begin c.plan stimulus s) ≡ settled c.plan c.bound stimulus s
-  reached-same n idle = settled-same c (verified-is_bounded c accepted.valid accepted.verified) reached.stimuli trace s reached.run reached.idle stimulus allowed n idle
+  reached-same n idle = settled-same c (verified-cascades_end c accepted.valid accepted.verified) reached.stimuli trace s reached.run reached.idle stimulus allowed n idle

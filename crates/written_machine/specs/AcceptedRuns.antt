@@ -1,11 +1,13 @@
 -- Every run of what is accepted is good, whoever found its weights.
+use Rattle.plan_tables.specs.PlanView.{PlanView}
 use Rattle.plan_tables.specs.Valid.{IsValid}
 use Rattle.cascade_rank.specs.Verified.{IsVerified}
 use Rattle.written_machine.specs.CheckedView.{CheckedView}
 use Rattle.written_machine.specs.Accepted.{IsAccepted}
-use Rattle.written_machine.specs.GoodRun.{IsBounded, IsGood}
+use Rattle.written_machine.specs.GoodRun.{CascadesEnd, LevelsFollowRawChanges, IsGood}
 
 pub record AcceptedIsGood : Type 0 where
   pub good : (c : CheckedView) → IsAccepted c → IsGood c
-  -- for its bounds it does not matter what the plan posts
-  pub bounded : (c : CheckedView) → IsValid c.plan → IsVerified c.plan c.weights c.bound → IsBounded c
+  -- For these two it does not matter what the plan posts.
+  pub cascades : (c : CheckedView) → IsValid c.plan → IsVerified c.plan c.weights c.bound → CascadesEnd c
+  pub levels : (plan : PlanView) → IsValid plan → LevelsFollowRawChanges plan

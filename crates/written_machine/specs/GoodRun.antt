@@ -1,8 +1,18 @@
--- What is promised of every run.
-use Rattle.std.specs.Prelude.{◌≡◌, ℕ, ◌+◌, ◌<◌, ◌≤◌, false, true, Option, Some, None, List, [], ◌∷◌, length}
+-- What is promised of every run of an accepted plan: `IsGood`, at the end of this file. Each clause of the headline is
+-- a record of its own, in the headline's order. A fifth record has what is promised besides.
+--
+-- To know what the words mean, read on in this order:
+-- 1. `Run`: what stimuli and runs are, and what `InEveryRun` and `InEveryCascade` say;
+-- 2. `EventStep`: how a waiting event is handled;
+-- 3. `Machine`: the state, and each change of it;
+-- 4. the words of one record each: `StimulusCost` of the first, `Sent` of the second, `Silent` of the third, `Counted`
+--    of the fourth, `SwitchCalls` and `SwitchLines` of the fifth;
+-- 5. the parts, in the crates below: weights in `cascade_rank`, coils in `coil_guard`, modes in `mode_stack`, devices
+--    in `device_objects`, the ledger in `ball_devices`, the game in `player_game`, switches in `switch_core`, handlers
+--    in `event_queue`.
+use Rattle.std.specs.Prelude.{◌≡◌, ℕ, ◌+◌, ◌<◌, ◌≤◌, false, true, Some, List, ◌∷◌, length}
 use Rattle.plan_tables.specs.PlanView.{PlanView, feeders_of, row_at, switch_at}
 use Rattle.plan_tables.specs.Valid.{IsTargetThere}
-use Rattle.plan_tables.specs.declared.entries.EventId.{EventId}
 use Rattle.plan_tables.specs.declared.entries.SwitchId.{SwitchId}
 use Rattle.plan_tables.specs.declared.entries.ModeId.{ModeId}
 use Rattle.plan_tables.specs.declared.entries.Owner.TheVariants as owners
@@ -11,18 +21,17 @@ use Rattle.plan_tables.specs.declared.devices.BallTarget.{BallTarget}
 use Rattle.plan_tables.specs.declared.devices.BallSettings.{BallSettings}
 use Rattle.plan_tables.specs.declared.devices.Settings.TheVariants.{BallDevice}
 use Rattle.ball_devices.specs.Ledger.{IsBalanced, counted_in, transit_to}
-use Rattle.device_objects.specs.declared.device.Call.TheVariants as calls
-use Rattle.switch_core.specs.declared.change.Change.{Change}
 use Rattle.switch_core.specs.SwitchStep.{raw_at_rest}
-use Rattle.switch_core.specs.Switches.{active_at, accept, reported, reported_by_change}
+use Rattle.switch_core.specs.Switches.{active_at}
 use Rattle.switch_core.specs.AcceptedLevel.{accepted_level}
 use Rattle.switch_core.specs.Calls.{raw_changes}
-use Rattle.cascade_rank.specs.Cost.{Cost, Lines, price, cost_of_acceptance, cost_of_call}
+use Rattle.cascade_rank.specs.Cost.{price}
 use Rattle.cascade_rank.specs.Events.{weight_of}
 use Rattle.event_queue.specs.declared.queue.Posted.{Posted}
 use Rattle.written_machine.specs.Machine.{Machine, device_at, is_device_away}
 use Rattle.written_machine.specs.EventStep.{EventStep}
-use Rattle.written_machine.specs.Run.{Source, switch, device, source_due, Stimulus, SwitchChange, Alarm, Wait, IsNoAlarmDueBy, InEveryRun, InEveryCascade}
+use Rattle.written_machine.specs.Run.{device, source_due, IsNoAlarmDueBy, InEveryRun, InEveryCascade}
+use Rattle.written_machine.specs.StimulusCost.{cost_of_stimulus, weigh}
 use Rattle.written_machine.specs.SwitchCalls.{switch_calls}
 use Rattle.written_machine.specs.Silent.{HasStarted, IsSilent}
 use Rattle.written_machine.specs.Sent.{sendings, AreSkippedIdle}
@@ -35,33 +44,8 @@ use Rattle.std.specs.List.{All, count_by}
 use Rattle.plan_tables.specs.declared.entries.CoilId.{CoilId}
 use Rattle.written_machine.specs.CheckedView.{CheckedView}
 
--- what the acceptance of a switch costs, if there is one
-abbrev pub cost_if_accepted : PlanView → Option Change → Cost
-cost_if_accepted plan None = Lines 0
-cost_if_accepted plan (Some a) = cost_of_acceptance plan a.switch a.active
-
--- what an alarm costs: that of a switch its acceptance, that of a device its dearest answer
-abbrev pub cost_of_alarm : PlanView → Machine → Source → Cost
-cost_of_alarm plan s (switch n) = cost_of_acceptance plan n (reported (accept n s.switches) n).active
-cost_of_alarm plan s (device r) = cost_of_call plan r calls.Fire
-
--- What a stimulus costs: a change costs the acceptance of the switch where it is accepted at once, else nothing.
--- A wait costs nothing.
-abbrev pub cost_of_stimulus : PlanView → Machine → Stimulus → Cost
-cost_of_stimulus plan s (SwitchChange at n level) = cost_if_accepted plan (reported_by_change n level at s.switches)
-cost_of_stimulus plan s (Alarm at source) = cost_of_alarm plan s source
-cost_of_stimulus plan s (Wait at) = Lines 0
-
--- the weights of the events that wait
-abbrev pub weigh : (EventId → ℕ) → List Posted → ℕ
-weigh w [] = 0
-weigh w (p ∷ ps) = w p.event + weigh w ps
-
--- Every run of the plan is within bounds, and each switch is read rightly.
-pub record IsBounded (c : CheckedView) : Type 0 where
-  -- After each event step the lines since the stimulus and the weights of the waiting events are at most its cost.
-  pub cascade : InEveryCascade c.plan (λ s stimulus n t.
-      length t.lines + weigh (weight_of c.weights) t.waiting ≤ price (weight_of c.weights) (cost_of_stimulus c.plan s stimulus))
+-- The cascade of each stimulus ends within the certificate's bound.
+pub record CascadesEnd (c : CheckedView) : Type 0 where
   -- Counted together, lines since the latest stimulus and events that wait are never more than the bound.
   pub within : InEveryRun c.plan (λ stimuli trace s. length s.lines + length s.waiting ≤ c.bound)
   -- As long as an event waits, some event step can come.
@@ -69,40 +53,12 @@ pub record IsBounded (c : CheckedView) : Type 0 where
       (first : Posted) (rest : List Posted) → s.waiting ≡ first ∷ rest → (t : Machine) × EventStep c.plan s t)
   -- No more event steps follow a stimulus than the bound.
   pub ends : InEveryCascade c.plan (λ s stimulus n t. n ≤ c.bound)
-  -- When nothing is due at or before a moment, each switch is active by the accepted level of its raw changes.
-  pub levels : InEveryRun c.plan (λ stimuli trace s.
-      (at : ℕ) → s.moment ≤ at → IsNoAlarmDueBy s at → (n : SwitchId) → n.0 < length c.plan.switches →
-      active_at s.switches n ≡ accepted_level (switch_at c.plan n).kind at (raw_changes n (raw_at_rest (switch_at c.plan n).kind.contact) (switch_calls stimuli)))
+  -- After each event step the lines since the stimulus and the weights of the waiting events are at most its cost.
+  pub cost : InEveryCascade c.plan (λ s stimulus n t.
+      length t.lines + weigh (weight_of c.weights) t.waiting ≤ price (weight_of c.weights) (cost_of_stimulus c.plan s stimulus))
 
--- In every run of the plan the ledger says where the known balls are.
-pub record AreBallsKnown (c : CheckedView) : Type 0 where
-  -- Each of its numbers follows from what it has booked, and where each ball came from that entered a device follows from
-  -- what was booked before. Each known ball is in a device, on its way, or on the playfield.
-  pub booked : InEveryRun c.plan (λ stimuli trace s. IsLedgerOf c.plan (bookings trace) s.ledger)
-  pub origins : InEveryRun c.plan (λ stimuli trace s. AreOriginsRight trace)
-  pub somewhere : InEveryRun c.plan (λ stimuli trace s. IsBalanced s.ledger)
-  -- What a line says of all balls is what the ledger says once it has booked what the line tells.
-  pub told : InEveryRun c.plan (λ stimuli trace s. AreCountsRight c.plan trace)
-  -- As many balls are in transit to a target as devices are Away to it.
-  pub away : InEveryRun c.plan (λ stimuli trace s.
-      (target : BallTarget) → IsTargetThere (length c.plan.rows) target →
-      transit_to s.ledger target ≡ count_by (λ r. is_device_away (device_at s r)) (feeders_of c.plan target))
-  -- When nothing is due at or before a moment, as many balls are in a device as it has ball switches at which one counts.
-  pub counted : InEveryRun c.plan (λ stimuli trace s.
-      (at : ℕ) → s.moment ≤ at → IsNoAlarmDueBy s at → (r : RowId) (d : BallSettings) → r.0 < length c.plan.rows →
-      (row_at c.plan r).settings ≡ BallDevice d →
-      counted_in s.ledger r ≡ count_by (is_counted c.plan d at trace) (ball_switches c.plan r))
-
--- Every run of the plan is good.
-pub record IsGood (c : CheckedView) : Type 0 where
-  pub bounded : IsBounded c
-  -- Each line since the latest stimulus has its moment.
-  pub moments : InEveryRun c.plan (λ stimuli trace s. All (λ l. l.moment ≡ s.moment) s.lines)
-  -- The lines of a switch are the changes of its level, from inactive on.
-  pub changes : InEveryRun c.plan (λ stimuli trace s.
-      (n : SwitchId) → n.0 < length c.plan.switches → LeadTo false (changes_of n trace) (active_at s.switches n))
-  -- Nothing comes from a stopped mode.
-  pub silent : InEveryRun c.plan (λ stimuli trace s. IsSilent c.plan trace)
+-- No coil is driven past its limits or held without permission.
+pub record CoilsStayWithinLimits (c : CheckedView) : Type 0 where
   -- Each command that was sent to a coil is within the coil's limits.
   pub limits : InEveryRun c.plan (λ stimuli trace s. All (λ q. IsWithin (limits_of c.plan) q.command) (sendings trace))
   -- A coil that may not be held is on at no more moments in a row than its greatest pulse has.
@@ -111,12 +67,61 @@ pub record IsGood (c : CheckedView) : Type 0 where
       (first count : ℕ) → IsOnThroughout (sendings trace) coil first count → count ≤ (limits_at (limits_of c.plan) coil).max_pulse_ms)
   -- No command was skipped for a limit, or for want of permission.
   pub skipped : InEveryRun c.plan (λ stimuli trace s. AreSkippedIdle trace)
-  -- A stopped mode holds no coil: where one holds a coil, it has started, and has not stopped since.
-  pub released : InEveryRun c.plan (λ stimuli trace s.
-      (m : ModeId) (coil : CoilId) → m.0 < length c.plan.modes →
-      is_held_for (sendings trace) (owners.Mode m) coil ≡ true → HasStarted c.plan m trace)
+
+-- A stopped mode causes nothing.
+pub record StoppedModesAreSilent (c : CheckedView) : Type 0 where
+  -- A stopped mode writes no line: before each line of a mode it has started, and has not stopped since.
+  pub silent : InEveryRun c.plan (λ stimuli trace s. IsSilent c.plan trace)
   -- No device of a stopped mode is due: where one is due, its mode has started, and has not stopped since.
   pub resting : InEveryRun c.plan (λ stimuli trace s.
       (m : ModeId) (r : RowId) (due : ℕ) → r.0 < length c.plan.rows → (row_at c.plan r).owner ≡ owners.Mode m →
       source_due s (device r) ≡ Some due → HasStarted c.plan m trace)
-  pub balls : AreBallsKnown c
+  -- A stopped mode holds no coil: where one holds a coil, it has started, and has not stopped since.
+  pub released : InEveryRun c.plan (λ stimuli trace s.
+      (m : ModeId) (coil : CoilId) → m.0 < length c.plan.modes →
+      is_held_for (sendings trace) (owners.Mode m) coil ≡ true → HasStarted c.plan m trace)
+
+-- The known balls are exactly those in devices, on their way between them, and on the playfield.
+pub record BallsAreAccountedFor (c : CheckedView) : Type 0 where
+  -- Each known ball is in a device, on its way, or on the playfield.
+  pub somewhere : InEveryRun c.plan (λ stimuli trace s. IsBalanced s.ledger)
+  -- Each number of the ledger follows from what it has booked.
+  pub booked : InEveryRun c.plan (λ stimuli trace s. IsLedgerOf c.plan (bookings trace) s.ledger)
+  -- Where each ball came from that entered a device follows from what was booked before.
+  pub origins : InEveryRun c.plan (λ stimuli trace s. AreOriginsRight trace)
+  -- What a line says of all balls is what the ledger says once it has booked what the line tells.
+  pub told : InEveryRun c.plan (λ stimuli trace s. AreCountsRight c.plan trace)
+  -- When nothing is due at or before a moment, as many balls are in a device as it has ball switches at which one
+  -- counts.
+  pub counted : InEveryRun c.plan (λ stimuli trace s.
+      (at : ℕ) → s.moment ≤ at → IsNoAlarmDueBy s at → (r : RowId) (d : BallSettings) → r.0 < length c.plan.rows →
+      (row_at c.plan r).settings ≡ BallDevice d →
+      counted_in s.ledger r ≡ count_by (is_counted c.plan d at trace) (ball_switches c.plan r))
+  -- As many balls are in transit to a target as devices are Away to it.
+  pub away : InEveryRun c.plan (λ stimuli trace s.
+      (target : BallTarget) → IsTargetThere (length c.plan.rows) target →
+      transit_to s.ledger target ≡ count_by (λ r. is_device_away (device_at s r)) (feeders_of c.plan target))
+
+-- When nothing is due at or before a moment, each switch is active by the accepted level of its raw changes.
+abbrev pub LevelsFollowRawChanges : PlanView → Type 0
+LevelsFollowRawChanges plan =
+    InEveryRun plan (λ stimuli trace s.
+    (at : ℕ) → s.moment ≤ at → IsNoAlarmDueBy s at → (n : SwitchId) → n.0 < length plan.switches →
+    active_at s.switches n ≡ accepted_level (switch_at plan n).kind at (raw_changes n (raw_at_rest (switch_at plan n).kind.contact) (switch_calls stimuli)))
+
+-- Besides the headline: switches are read rightly, and lines have their moments.
+pub record SwitchesAreRead (c : CheckedView) : Type 0 where
+  pub levels : LevelsFollowRawChanges c.plan
+  -- The lines of a switch are the changes of its level, from inactive on.
+  pub changes : InEveryRun c.plan (λ stimuli trace s.
+      (n : SwitchId) → n.0 < length c.plan.switches → LeadTo false (changes_of n trace) (active_at s.switches n))
+  -- Each line since the latest stimulus has its moment.
+  pub moments : InEveryRun c.plan (λ stimuli trace s. All (λ l. l.moment ≡ s.moment) s.lines)
+
+-- Every run of the plan is good.
+pub record IsGood (c : CheckedView) : Type 0 where
+  pub cascades : CascadesEnd c
+  pub coils : CoilsStayWithinLimits c
+  pub modes : StoppedModesAreSilent c
+  pub balls : BallsAreAccountedFor c
+  pub switches : SwitchesAreRead c

@@ -8,6 +8,7 @@ pub mod PlanOrder
 pub mod AlarmsBy
 pub mod AlarmsEnd
 pub mod CheckedView
+pub mod StimulusCost
 pub mod Silent
 pub mod Sent
 pub mod SwitchLines

@@ -1,6 +1,7 @@
-use Rattle.written_machine.proofs.Cascade.{verified-is_bounded}
+use Rattle.written_machine.proofs.Cascade.{verified-cascades_end}
 use Rattle.written_machine.proofs.Good.{every_run_is_good}
+use Rattle.written_machine.proofs.Levels.{levels-run}
 use Rattle.written_machine.proofs.law.accepted_is_good.Goals as goal
 
 pub returns : goal.returns
-returns c = record { good = every_run_is_good; bounded = verified-is_bounded }
+returns c = record { good = every_run_is_good; cascades = verified-cascades_end; levels = levels-run }
