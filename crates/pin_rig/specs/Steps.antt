@@ -96,6 +96,8 @@ is_left_on shown rig coil = is_on (sendings shown) coil rig.machine.moment || is
 abbrev pub PutsOffWhatIsOn : RigView → List Line → Type 0
 PutsOffWhatIsOn rig shown = coils_to_put_off rig ≡ filter (is_left_on shown rig) (coil_numbers rig.checked.plan)
 
+-- So it is after any steps of a new rig (`steps`), and after steps with a last one at which the board has not taken a
+-- command (`halt`).
 pub record OffIsByCommands : Type 0 where
   pub steps : (c : CheckedView) (board : BoardView) (inputs : List Input) (trace : List Line) (new : RigView) → IsAccepted c → AreSteps inputs (at_rest c board) trace new
       → PutsOffWhatIsOn new trace
