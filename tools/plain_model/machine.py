@@ -12,6 +12,13 @@ LOG_LINE = re.compile(rb"([0-9]{1,20})(?:[ \t]+([^ \t]+)[ \t]+([01]))?")
 SIGNS = {"==": "__eq__", "!=": "__ne__", "<": "__lt__", "<=": "__le__", ">": "__gt__", ">=": "__ge__"}
 
 
+MOST_LINES = 20_000
+
+
+class TooLong(Exception):
+    """The run prints too much to be worth it."""
+
+
 class Player:
     def __init__(self, number: int):
         self.variables = {"number": number}
@@ -56,6 +63,8 @@ class Machine:
 
     def print(self, owner: str, what: str) -> None:
         self.lines.append(f"{self.now} {owner} {what}")
+        if len(self.lines) > MOST_LINES:
+            raise TooLong
 
     def post(self, owner: str, *events: str) -> None:
         self.waiting += [(owner, event) for event in events]
@@ -352,8 +361,8 @@ class Machine:
     def log(self, data: bytes) -> bool:
         """Runs a log, and shuts down. Whether no line was refused."""
         all_run = True
-        for number, line in enumerate(data.split(b"\n"), 1):
-            line = line.removesuffix(b"\r")
+        *whole, last = data.split(b"\n")
+        for number, line in enumerate([*(line.removesuffix(b"\r") for line in whole), last], 1):
             if line and not line.startswith(b"#"):
                 why = self.log_line(line)
                 if why:
