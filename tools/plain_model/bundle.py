@@ -133,7 +133,7 @@ class Reader:
     """Reads the texts one after the other. `taken` has the sections and names of entries in the texts before."""
 
     def __init__(self) -> None:
-        self.taken: dict[tuple[str, str], str] = {}
+        self.taken: set[tuple[str, str]] = set()
         self.modes: list[Word] = []
 
     def section(self, part: Part, key: Scalar, node: Node) -> list[Entry]:
@@ -143,12 +143,7 @@ class Reader:
             return [player_entry(section, name, value) for name, value in written]
         if section in ONE_ENTRY:
             return [Entry(section, key, settings(written, SETTINGS[section], key.line, IGNORED))]
-        found = []
-        for name, value in written:
-            if self.taken.setdefault((section, name.text), part.text) != part.text:
-                raise Fault(8, "Duplicate", name.line, name.text)
-            found.append(entry(section, name, value))
-        return found
+        return [entry(section, name, value) for name, value in written]
 
     def text(self, part: Part, root: Node) -> list[Note]:
         """Reads a text into its part, and gives its notes, each with its place."""
@@ -163,7 +158,16 @@ class Reader:
                 part.sections[key.text] = self.section(part, key, node)
             else:
                 raise Fault(4, "UnknownSection", key.line, key.text)
+        self.take(part)
         return notes
+
+    def take(self, part: Part) -> None:
+        """Compares the entries with those of the texts before."""
+        for section, entries in part.sections.items():
+            for entry in entries if section not in (*PLAYERS, *ONE_ENTRY) else []:
+                if (section, entry.name) in self.taken:
+                    raise Fault(8, "Duplicate", entry.key.line, entry.name)
+                self.taken.add((section, entry.name))
 
     def part(self, owner: str, name: str, data: bytes) -> tuple[Part, list[Note]]:
         part = Part(owner, name)
@@ -171,6 +175,27 @@ class Reader:
             return part, self.text(part, tree(name, data))
         except Fault as fault:
             raise ConfigFault(fault.number, fault.name, name, fault.line, fault.key) from None
+
+
+def mode_names(machine: bytes) -> list[str] | None:
+    """The modes that a machine text lists, or None if it has an error."""
+    reader = Reader()
+    try:
+        reader.part("machine", MACHINE_TEXT, machine)
+    except ConfigFault:
+        return None
+    return [mode.text for mode in reader.modes]
+
+
+def joined(files: dict[str, bytes]) -> bytes:
+    """The bundle of a folder with these files."""
+    names = [MACHINE_TEXT, *(mode_text(mode) for mode in mode_names(files[MACHINE_TEXT]) or [])]
+    parts = []
+    for name in names:
+        if name in files:
+            text = files[name]
+            parts.append(f"@ {name}\n".encode() + text + (b"\n" if text and not text.endswith(b"\n") else b""))
+    return b"".join(parts)
 
 
 def in_place(notes: list[Note]) -> list[str]:

@@ -1,4 +1,4 @@
-"""Small machines whose cascades are long: what `check` and `verify` say of their weights, against a model of these alone.
+"""Small machines whose cascades are long: what `check` and `verify` say of their weights.
 
 Each is a bundle with up to two switches, two modes and two coils, and events that post each other. `check` has to print
 the least weights and the bound of the model, or `fault 9 Bound` if one of these is above the limit, or a cycle of the

@@ -1,6 +1,7 @@
 """Compares the program with the model, on one drawn machine after the other."""
 import random
 import re
+import shutil
 import subprocess
 import time
 from collections import Counter
@@ -9,9 +10,11 @@ from pathlib import Path
 
 from . import cascades, certificate, damage, draw, logs, plant
 from .answers import Answer, Judged, judge
+from .bundle import ConfigFault, joined, split_bundle
 from .machine import TooLong
 
 SECONDS = 2.0
+MOST_LINES = 200  # of an answer, in a report
 FORMS = re.compile(
     rb"""(?:(?:
     [0-9]+\ [^ ]+\ (?:
@@ -65,12 +68,15 @@ class Difference:
     def report(self) -> str:
         wanted, got = (answer[0].decode(errors="replace").splitlines() for answer in (self.wanted, self.got))
         at = next((at for at, pair in enumerate(zip(wanted, got)) if pair[0] != pair[1]), min(len(wanted), len(got)))
-        first = [f"line {at + 1}, model:   {line}" for line in wanted[at : at + 1] or ["(no line)"]]
-        first += [f"line {at + 1}, program: {line}" for line in got[at : at + 1] or ["(no line)"]]
-        file = [f"--- {'certificate' if self.command == 'verify' else 'log'}:", self.file.decode(errors="replace")]
-        parts = [f"machine {self.seed}, {self.command}: {self.what}", *first, "--- bundle:", self.bundle.decode(errors="replace")]
-        parts += file if self.command != "check" else []
-        parts += ["--- model:", *wanted[:200], f"status {self.wanted[1]}", "--- program:", *got[:200], f"status {self.got[1]}"]
+        parts = [f"machine {self.seed}, {self.command}: {self.what}"]
+        parts += [f"line {at + 1}, model:   {line}" for line in wanted[at : at + 1] or ["(no line)"]]
+        parts += [f"line {at + 1}, program: {line}" for line in got[at : at + 1] or ["(no line)"]]
+        parts += ["--- bundle:", self.bundle.decode(errors="replace")]
+        if self.command != "check":
+            file = "certificate" if self.command == "verify" else "log"
+            parts += [f"--- {file}:", self.file.decode(errors="replace")]
+        parts += ["--- model:", *wanted[:MOST_LINES], f"status {self.wanted[1]}"]
+        parts += ["--- program:", *got[:MOST_LINES], f"status {self.got[1]}"]
         return "\n".join(parts) + "\n"
 
     def keep(self, folder: Path) -> None:
@@ -82,6 +88,14 @@ class Difference:
         (room / "report").write_text(self.report())
 
 
+def kind_of_line(line: str) -> str:
+    """What a line of a play is: `line: coil pulse`, or the like."""
+    words = line.split(" ")
+    if words[0] == "refused":
+        return f"line: refused {words[-1]}"
+    return f"line: {words[2]} {words[4]}" if words[2] in ("coil", "skip", "switch") else f"line: {words[2]}"
+
+
 class Comparison:
     """Asks the program about drawn machines. `room` is a folder for its files."""
 
@@ -89,12 +103,14 @@ class Comparison:
         self.program, self.room, self.found = program, room, Found()
         self.seed = ""
 
-    def ask(self, command: str, bundle: bytes, file: bytes = b"") -> Answer:
+    def ask(self, command: str, bundle: bytes, file: bytes = b"", folder: Path | None = None) -> Answer:
+        """What the program answers of a bundle, or of a folder."""
         (self.room / "bundle").write_bytes(bundle)
         words = [str(self.program), command]
         if command != "check":
             (self.room / "file").write_bytes(file)
             words.append(str(self.room / "file"))
+        words += [str(folder)] if folder else []
         begun = time.monotonic()
         with open(self.room / "bundle", "rb") as text:
             try:
@@ -107,9 +123,9 @@ class Comparison:
         self.found.counts["answers"] += 1
         return run.stdout, run.returncode
 
-    def compare(self, command: str, bundle: bytes, file: bytes, wanted: Answer) -> None:
+    def compare(self, command: str, bundle: bytes, file: bytes, wanted: Answer, folder: Path | None = None) -> None:
         begun = time.monotonic()
-        got = self.ask(command, bundle, file)
+        got = self.ask(command, bundle, file, folder)
         if time.monotonic() - begun > SECONDS:
             self.differ(command, bundle, file, wanted, got, f"it took more than {SECONDS} seconds")
         elif not FORMS.fullmatch(got[0]):
@@ -139,6 +155,8 @@ class Comparison:
         self.played(drawing, judged, logs.log(drawing, drawn))
         for _ in range(2):
             self.damaged(drawing, drawn, bundle)
+        if drawing.random() < 0.1:
+            self.foldered(drawing, bundle)
 
     def checked(self, judged: Judged) -> None:
         answer = judged.check()
@@ -148,7 +166,7 @@ class Comparison:
             if words[0] in ("yes", "no"):
                 self.count(f"check: {words[0]}")
             elif words[0] == "note":
-                self.count(f"note {words[-2]}")
+                self.count(f"note {next(word for word in words if word in ('skipped', 'absent', 'unlisted'))}")
             elif words[0] in ("error", "fault"):
                 self.count(" ".join(words[:3]))
             if words[0] == "error" and words[1] == "3":
@@ -178,6 +196,7 @@ class Comparison:
             self.compare("play", judged.bundle, text, answer)
             self.count("play" if judged.is_accepted else "play: refused", *seen)
             if judged.is_accepted:
+                self.count(*{kind_of_line(line) for line in answer[0].decode(errors="replace").splitlines()})
                 self.found.counts["lines of plays"] += answer[0].count(b"\n")
 
     def damaged(self, drawing: random.Random, drawn: draw.Drawn, bundle: bytes) -> None:
@@ -187,6 +206,24 @@ class Comparison:
             self.count("damaged bundle: yes")
             self.played(drawing, judged, logs.log(drawing, drawn))
         self.checked(judged)
+
+    def foldered(self, drawing: random.Random, bundle: bytes) -> None:
+        """The texts of a bundle as files of a folder, one perhaps damaged."""
+        try:
+            files = dict(split_bundle(bundle))
+        except ConfigFault:
+            return
+        files = {name: text for name, text in files.items() if re.fullmatch(r"(modes/[\w.-]+/)?config/[\w.-]+", name)}
+        name = drawing.choice([*files])
+        files[name] = drawing.choice([files[name], damage.damaged(drawing, files[name])])
+        folder = self.room / "folder"
+        for name, text in files.items():
+            (folder / name).parent.mkdir(parents=True, exist_ok=True)
+            (folder / name).write_bytes(text)
+        judged = judge(joined(files))
+        self.compare("check", judged.bundle, b"", judged.check(), folder)
+        self.count("folder")
+        shutil.rmtree(folder)
 
     def cascade(self, seed: str) -> None:
         """A machine of long cascades, by the model that knows these alone."""

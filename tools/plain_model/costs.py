@@ -101,8 +101,9 @@ class Costs:
 
     def enabled(self, mode: str) -> set[str]:
         """The coils that the coil players of a mode enable."""
-        drives = [binding.target[1] for binding in self.plan.bindings if binding.owner == mode and binding.target[0] == "drive"]
-        return {coil for drive in drives for coil, action, *_ in drive if action == "enable"}
+        targets = [binding.target for binding in self.plan.bindings if binding.owner == mode]
+        drives = [drive for kind, *what in targets if kind == "drive" for drive in what[0]]
+        return {coil for coil, action, *_ in drives if action == "enable"}
 
     def game_works(self) -> dict[str, Cost]:
         trough = next((row for row in self.balls if row.is_trough), None)

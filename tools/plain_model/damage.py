@@ -1,9 +1,11 @@
-"""Damages bundles, certificates and logs: bytes that are others, texts that are cut, lines that are doubled or moved."""
+"""Damages bundles, certificates and logs: other bytes, other words, texts that are cut, lines doubled or moved."""
 import random
 import re
 
-MARKS = [b":", b" ", b"\n", b"  ", b"\t", b"[", b"]", b"{", b"}", b",", b"'", b'"', b"#", b"-", b"@", b"a", b"\r\n", b"- "]
-MARKS += [b"&", b"|", b"?", b": ", b" #", b"\\", b"0", b"1", b"%", b"\xc3\xa4", b"\xff", b"\0", b"\xef\xbb\xbf", b"\r", b"=="]
+MARKS = [b":", b" ", b"\n", b"  ", b"\t", b"[", b"]", b"{", b"}", b",", b"'", b'"', b"#", b"-", b"@", b"a", b"\r\n"]
+MARKS += [b"- ", b"&", b"|", b"?", b": ", b" #", b"\\", b"0", b"1", b"%", b"\xc3\xa4", b"\xff", b"\0", b"\r", b"=="]
+MARKS += [b"\xef\xbb\xbf", b"\xc2\x85", b"\xe2\x80\xa8", b"---\n", b"...\n", b"''", b"\\n", b"[[", b"}}", b"? "]
+ODD_LINES = ["", "event", "event a", "event a/b 1", "event  1", "switch a 1", "bound 1", "event a\t1", "#"]
 
 
 def lines_of(data: bytes) -> list[bytes]:
@@ -41,7 +43,8 @@ def damage_lines(draw: random.Random, data: bytes) -> bytes:
     elif kind == 3:
         lines[one] = draw.choice([b" ", b"  ", b"\t", b"- ", b"# "]) + lines[one]
     else:
-        lines[one] = lines[one].strip() + draw.choice([b" ", b": ", b""]) + (lines[other] if draw.random() < 0.5 else b"\n")
+        joined = draw.choice([b" ", b": ", b""]) + (lines[other] if draw.random() < 0.5 else b"\n")
+        lines[one] = lines[one].strip() + joined
     return b"".join(lines)
 
 
@@ -78,7 +81,7 @@ def certificate(draw: random.Random, text: bytes) -> bytes:
         words[-1] = draw.choice(["01", "", "x", "4294967295", "4294967296", "-1", "0", "10000", "10001", "1 1", " 1"])
         lines[at] = " ".join(words)
     elif kind == 4:
-        lines[at] = draw.choice(["", "event", "event a", "event a/b 1", "event  1", "switch a 1", "bound 1", "event a\t1", "#"])
+        lines[at] = draw.choice(ODD_LINES)
     elif kind == 5:
         lines[1] = f"bound {draw.choice([0, 1, 3, 10, 9_999, 10_000, 10_001, 4_294_967_295])}"
     elif kind == 6:

@@ -62,18 +62,29 @@ class Drawing:
         self.profiles: dict[str, int] = {}
         self.free_shots: dict[str, list[tuple[str, str]]] = {}  # by owner: shots in no group, and their profiles
         self.count = 0
+        self.names: dict[str, set[str]] = {}  # by section
 
     def chance(self, share: float) -> bool:
         return self.draw.random() < share
 
-    def name(self, kind: str) -> str:
+    def name(self, kind: str, section: str = "") -> str:
+        """A new name, or one that only other sections have."""
         self.count += 1
-        return f"{kind}{self.draw.choice(['', '', '_', '-', '.'])}{self.count}"
+        name = f"{kind}{self.draw.choice(['', '', '_', '-', '.'])}{self.count}"
+        if self.chance(0.01):
+            name = name.ljust(64, self.draw.choice("x_."))
+        taken = self.names.setdefault(section, set())
+        others = sorted(set().union(*self.names.values()) - taken)
+        if section and others and self.chance(0.04):
+            name = self.draw.choice(others)
+        taken.add(name)
+        return name
 
     # Events
 
     def add_events(self, *events: str) -> None:
-        self.events += [event for event in events if event not in self.events]
+        """At the end of the list. What is too long for a name cannot be handled or posted."""
+        self.events += [event for event in events if event not in self.events and len(event) <= 64]
 
     def condition(self) -> str:
         variable = self.draw.choice([*VARIABLES, "score", "ball", "number"])
@@ -87,8 +98,13 @@ class Drawing:
         if self.at in self.modes and self.chance(0.2):
             near = [f"mode_{self.at}_{what}" for what in ("started", "started", "starting", "stopping")]
         event = self.draw.choice(near or ["never"])
-        self.mark = max(self.mark, self.events.index(event) if event in self.events else -1)
+        self.follow(event)
         return event + (self.condition() if self.chance(0.12) else "")
+
+    def follow(self, event: str) -> None:
+        """This entry handles this event."""
+        if event in self.events:
+            self.mark = max(self.mark, self.events.index(event))
 
     def some(self, least: int, most: int) -> Names:
         return Names(self.handled() for _ in range(self.draw.randint(least, most)))
@@ -154,8 +170,8 @@ class Drawing:
         self.section("machine", "switches")[name] = self.settle(entry)
 
     def switches(self) -> None:
-        names = [self.name(self.draw.choice(["s_", "lane", "S"])) for _ in range(self.draw.randint(1, 6))]
-        self.balls = [self.name("b") for _ in range(self.draw.choice([0, 0, 2, 3, 4, 6]))]
+        names = [self.name(self.draw.choice(["s_", "lane", "S"]), "switches") for _ in range(self.draw.randint(1, 6))]
+        self.balls = [self.name("b", "switches") for _ in range(self.draw.choice([0, 0, 2, 3, 4, 6]))]
         self.add_events(*(f"{name}_active" for name in names))
         self.near = len(self.events)
         if self.chance(0.8):
@@ -173,7 +189,7 @@ class Drawing:
         self.others = names
 
     def coil(self) -> str:
-        name = self.name("c")
+        name = self.name("c", "coils")
         entry: Data = {"number": "1"}
         self.optional(entry, 0.5, default_pulse_ms=self.one("10", "20ms", "30", "0.04s"))
         self.optional(entry, 0.3, default_pulse_power=self.one("0.5", "50%", "0.25", "1"))
@@ -231,6 +247,12 @@ class Drawing:
                     self.optional(drives[name], 0.3, hold_power=self.one("0.1", "5%"))
         self.section(owner, "coil_player")[event] = drives
 
+    def hold_in_mode(self) -> None:
+        """A coil that a mode holds from its start on."""
+        mode, coil = self.draw.choice([*self.modes, None]), self.holding_coil()
+        if mode and coil:
+            self.section(mode, "coil_player").setdefault(f"mode_{mode}_started", {})[coil] = "enable"
+
     def block(self, entry: Data) -> Data:
         answers = self.one("yes", "no", "no", "false")
         self.optional(entry, 0.35, reset_on_complete=answers, disable_on_complete=answers)
@@ -244,7 +266,7 @@ class Drawing:
         self.add_events(*(f"logicblock_{name}_{what}" for what in ("updated", "hit", "complete")))
 
     def counter(self) -> None:
-        owner, name = self.owner(), self.name(self.draw.choice(["c", "count"]))
+        owner, name = self.owner(), self.name(self.draw.choice(["c", "count"]), "counters")
         entry: Data = {"count_events": self.some(1, 2)}
         if self.chance(0.8):
             entry["count_complete_value"] = self.draw.choice(["1", "2", "3", "-2", "0"])
@@ -254,7 +276,7 @@ class Drawing:
         self.block_events(name)
 
     def steps(self, section: str) -> None:
-        owner, name = self.owner(), self.name(self.draw.choice(["q", "lit"]))
+        owner, name = self.owner(), self.name(self.draw.choice(["q", "lit"]), section)
         steps = [self.some(1, 2) for _ in range(self.draw.choice([0, 1, 2, 2, 3, 3]))]
         self.section(owner, section)[name] = self.block({"events": steps})
         self.block_events(name)
@@ -262,7 +284,7 @@ class Drawing:
     def timer(self) -> None:
         if not self.modes:
             self.mode()
-        owner, name = self.draw.choice([*self.modes]), self.name("t")
+        owner, name = self.draw.choice([*self.modes]), self.name("t", "timers")
         self.at = owner
         entry: Data = {}
         self.optional(entry, 0.7, tick_interval=lambda: self.draw.choice(TIMES))
@@ -273,7 +295,7 @@ class Drawing:
         if self.chance(0.3):
             entry |= {"direction": "down", "start_value": str(self.draw.randint(6, 9))}
         if self.chance(0.6):
-            entry["control_events"] = [self.control() for _ in range(self.draw.randint(0, 4))]
+            entry["control_events"] = [self.control() for _ in range(self.draw.randint(0, 5))]
         self.section(owner, "timers")[name] = self.settle(entry)
         self.add_events(*(f"timer_{name}_{what}" for what in ("started", "stopped", "paused", "tick", "complete")))
 
@@ -293,14 +315,14 @@ class Drawing:
         hold = self.holding_coil()
         if hold and self.chance(0.6):
             entry["hold_coil"] = hold
-        self.section("machine", "flippers")[self.name("f")] = self.rules(entry)
+        self.section("machine", "flippers")[self.name("f", "flippers")] = self.rules(entry)
 
     def autofire(self) -> None:
         entry: Data = {"switch": self.draw.choice(self.others), "coil": self.some_coil()}
-        self.section("machine", "autofire_coils")[self.name("af")] = self.rules(entry)
+        self.section("machine", "autofire_coils")[self.name("af", "autofire_coils")] = self.rules(entry)
 
     def profile(self) -> None:
-        name = self.name("p")
+        name = self.name("p", "shot_profiles")
         count = self.draw.choice([1, 2, 2, 3])
         entry: Data = {"states": [{"name": f"{letter}{self.count}"} for letter in "abc"[:count]]}
         self.optional(entry, 0.4, loop=self.one("yes", "no", "yes"), advance_on_hit=self.one("yes", "yes", "no"))
@@ -310,7 +332,7 @@ class Drawing:
         self.profiles[name] = count
 
     def shot(self, owner: str = "", profile: str = "") -> tuple[str, str]:
-        owner, name = owner or self.owner(), self.name("x")
+        owner, name = owner or self.owner(), self.name("x", "shots")
         entry: Data = {}
         if not profile and self.chance(0.4):
             if self.chance(0.5) or not self.profiles:
@@ -320,8 +342,7 @@ class Drawing:
             entry["profile"] = profile
         if self.chance(0.8):
             entry["switch"] = self.draw.choice(self.others)
-            event = f"{entry['switch']}_active"
-            self.mark = max(self.mark, self.events.index(event))
+            self.follow(f"{entry['switch']}_active")
         self.optional(entry, 0.3, hit_events=lambda: self.some(0, 2), advance_events=lambda: self.some(0, 2))
         self.optional(entry, 0.15, reset_events=lambda: self.some(0, 2))
         self.optional(entry, 0.15, enable_events=lambda: self.some(0, 2), disable_events=lambda: self.some(0, 2))
@@ -331,7 +352,7 @@ class Drawing:
         return name, profile or "default"
 
     def group(self) -> None:
-        owner, name = self.owner(), self.name("g")
+        owner, name = self.owner(), self.name("g", "shot_groups")
         free = self.free_shots.setdefault(owner, [])
         first = free[0] if free and self.chance(0.7) else self.shot(owner)
         members = [shot for shot in free if shot[1] == first[1]][:3]
@@ -352,7 +373,7 @@ class Drawing:
         section = self.section("machine", "ball_devices") if free else {}
         while free and len(names) < 4:
             taken = [free.pop(0) for _ in range(min(len(free), self.draw.choice([1, 1, 2, 3])))]
-            name = self.name(self.draw.choice(["plunger", "trough", "lock"]))
+            name = self.name(self.draw.choice(["plunger", "trough", "lock"]), "ball_devices")
             tags = [tag for tag in ("trough", "home", "drain") if self.chance(0.6)]
             entry: Data = {"ball_switches": Names(taken)}
             if self.chance(0.8) or "trough" in tags:
@@ -365,7 +386,8 @@ class Drawing:
             if target != "playfield" or self.chance(0.1):
                 entry["eject_targets"] = target
             self.optional(entry, 0.4, eject_timeouts=self.one("2s", "5s", "1000"))
-            self.optional(entry, 0.25, entrance_count_delay=self.one("1", "100", "0.5s"), exit_count_delay=self.one("1", "200"))
+            self.optional(entry, 0.25, entrance_count_delay=self.one("1", "100", "0.5s"))
+            self.optional(entry, 0.25, exit_count_delay=self.one("1", "200"))
             self.optional(entry, 0.4, max_eject_attempts=self.one("0", "1", "2", "3"))
             section[name] = self.settle(entry)
             names.append(name)
@@ -374,7 +396,7 @@ class Drawing:
             self.add_events(*(f"balldevice_{name}_{what}" for what in whats))
 
     def mode(self) -> None:
-        name = self.name("m")
+        name = self.name("m", "modes")
         events = [f"mode_{name}_{what}" for what in MODE_EVENTS]
         self.modes[name] = {}
         entry: Data = {}
@@ -408,8 +430,11 @@ class Drawing:
         if not self.drawn.balls and self.chance(0.95) or self.chance(0.4):
             self.section("machine", "machine")["min_balls"] = self.draw.choice(["0", "0", "0", "1"])
         whats = [self.mode, self.event_player, self.event_player, self.variable_player, self.coil_player, self.counter]
-        whats += [lambda: self.steps("accruals"), lambda: self.steps("sequences"), self.timer, self.timer, self.flipper]
-        whats += [self.autofire, self.shot, self.shot, self.group, self.group, self.mode]
+        whats += [lambda: self.steps("accruals"), lambda: self.steps("sequences"), self.timer, self.timer, self.timer]
+        whats += [self.autofire, self.flipper, self.shot, self.shot, self.group, self.group, self.mode]
+        whats += [self.variable_player] * self.has_game
+        if self.chance(0.3):
+            whats += [self.hold_in_mode]
         for _ in range(self.draw.randint(self.size // 2, self.size)):
             self.mark, self.at = -1, "machine"
             self.draw.choice(whats)()
@@ -429,7 +454,8 @@ class Drawing:
                 text[self.draw.choice(SKIPPED)] = self.draw.choice(["", "a", {"l1": {"number": "1"}}, ["x", {"a": ""}]])
         self.drawn.texts = {MACHINE_TEXT: self.machine} | {mode_text(mode): text for mode, text in self.modes.items()}
         if self.chance(0.06):
-            self.drawn.texts[self.draw.choice(["modes/old/config/old.yaml", "readme", "config/other.yaml"])] = {"a": "b"}
+            other = self.draw.choice(["modes/old/config/old.yaml", "readme", "config/other.yaml"])
+            self.drawn.texts[other] = {"a": "b"}
         for name, text in self.drawn.texts.items():
             self.drawn.texts[name] = self.shuffled(text)
         self.drawn.order = [*self.drawn.texts]

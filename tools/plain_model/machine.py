@@ -3,7 +3,7 @@ import re
 from collections import Counter
 from copy import copy
 
-from .devices import BallDevice, Device, World, clamped
+from .devices import BallDevice, Device, ShotBank, World, clamped
 from .plan import Binding, Plan, Switch
 from .values import Condition
 
@@ -86,7 +86,8 @@ class Machine:
 
     def run_lists(self, device: Device, lists: list[int]) -> None:
         for number in lists:
-            self.seen[f"{device.kind}, list {number}" if device.kind not in ("shot", "group") else f"{device.kind} hit"] += 1
+            is_bank = isinstance(device, ShotBank)
+            self.seen[f"{device.kind} hit" if is_bank else f"{device.kind}, list {number}"] += 1
             self.run_list(device, number)
 
     def run_list(self, device: Device, number: int) -> None:
@@ -308,6 +309,7 @@ class Machine:
             if home >= self.plan.config.machine.only("machine")["min_balls"]:
                 self.game_phase, self.players = "Between", []
                 self.games += 1
+                self.seen["a second game" if self.games > 1 else "a game"] += 1
                 self.post("machine", "game_will_start")
         elif self.game_phase == "Ball" and self.players[self.current - 1].get("ball") == 1:
             if len(self.players) < max_players:
@@ -318,6 +320,7 @@ class Machine:
             self.post("machine", "game_will_end")
             return
         self.current = self.current + 1 if self.current < len(self.players) else min(1, len(self.players))
+        self.seen["a turn of another player" if len(self.players) > 1 else "another turn"] += 1
         self.post("machine", "player_turn_will_start")
 
     # Stimuli
@@ -366,12 +369,10 @@ class Machine:
             if line and not line.startswith(b"#"):
                 why = self.log_line(line)
                 if why:
-                    self.seen[f"refused {why}"] += 1
                     self.lines.append(f"refused {number} {why}")
                     all_run = False
         for coil in self.coils.values():
             if coil.is_on(self.now):
-                self.seen["off"] += 1
                 self.print("machine", f"off {coil.name}")
         return all_run
 

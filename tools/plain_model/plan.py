@@ -142,8 +142,11 @@ class Plan:
     def drive(self, name: str, value: dict[str, Any]) -> tuple[str, str, int, int]:
         coil = self.coils[name]
         ms = coil.pulse_ms if value["pulse_ms"] is None else value["pulse_ms"]
-        setting, power = {"enable": ("hold_power", coil.hold_power)}.get(value["action"], ("pulse_power", coil.pulse_power))
-        return name, value["action"], ms, power if value[setting] is None else value[setting]
+        holds = value["action"] == "enable"
+        power = value["hold_power" if holds else "pulse_power"]
+        if power is None:
+            power = coil.hold_power if holds else coil.pulse_power
+        return name, value["action"], ms, power
 
     def entry(self, entry: Entry, owner: str, priority: int) -> None:
         """What an entry numbers and binds, in the order of its settings; then what its lists post."""

@@ -164,9 +164,7 @@ def states(node: Node) -> list[str]:
     values.within(len(node.items), 1, 16)
     found = []
     for item in node.items:
-        if not isinstance(item, Entries):
-            raise BadValue
-        found.append(settings(item.entries, STATE, item.line, None)["name"].text)
+        found.append(settings(mapping_of(item), STATE, item.line, None)["name"].text)
     if len({*found}) < len(found):
         raise BadValue
     return found
@@ -181,9 +179,7 @@ def control_events(node: Node) -> list[dict[str, Any]]:
         raise values.TooMany
     found = []
     for item in node.items:
-        if not isinstance(item, Entries):
-            raise BadValue
-        found.append(settings(item.entries, CONTROL, item.line, []))
+        found.append(settings(mapping_of(item), CONTROL, item.line, []))
     return found
 
 

@@ -206,7 +206,7 @@ def is_entry(line: Line) -> bool:
     """Whether a key and its colon are at the front of the line."""
     text, at = line.text, line.column
     if text[at] in "'\"":
-        quoted = re.compile(r"'(?:''|[^'])*'" if text[at] == "'" else r'"(?:\\.|[^"\\])*"').match(text, at)
+        quoted = re.compile(r"'(?:''|[^'])*'" if text[at] == "'" else r'"(?:\\[\\"nt]|[^"\\])*"').match(text, at)
         if not quoted:
             return False
         at = quoted.end()
