@@ -31,11 +31,13 @@ def table(found: Found) -> str:
     """What came up, and how often."""
     lines = [f"{count:9} {what}" for what, count in sorted(found.counts.items())]
     differences = f"{len(found.differences)} differ" if found.differences else "none differs"
-    return "\n".join([*lines, f"{found.counts['answers']} answers, {differences}; the slowest took {found.slowest:.3f} s"])
+    last = f"{found.counts['answers']} answers, {differences}; the slowest took {found.slowest:.3f} s"
+    return "\n".join([*lines, last])
 
 
 def rare(found: Found, count: int) -> list[str]:
     """What came up too rarely with so many machines."""
-    least = {" ".join(what.split()): int(share * count / 500) for share, whats in SHARES.items() for what in whats.split("|")}
-    least |= {f"cascades: {kind}": CASCADES * count // 20 for kind in cascades.KINDS}
+    least = {f"cascades: {kind}": CASCADES * count // 20 for kind in cascades.KINDS}
+    for share, whats in SHARES.items():
+        least |= {" ".join(what.split()): int(share * count / 500) for what in whats.split("|")}
     return [f"{found.counts[what]} {what}, of {few}" for what, few in least.items() if found.counts[what] < few]

@@ -33,12 +33,13 @@ class Drawn:
     start: str | None = None
     balls: dict[str, list[str]] = field(default_factory=dict)
     planted: list[str] = field(default_factory=list)
+    versions: dict[str, str] = field(default_factory=dict)  # of texts that have an odd first line
 
     def bundle(self, draw: random.Random) -> bytes:
         written = []
         for name in self.order:
             layout = Layout(draw)
-            text = layout.text(self.texts[name])
+            text = layout.text(self.texts[name], self.versions.get(name))
             at = draw.choice(["@ ", "@ ", "@\t", "@   "]) + name + draw.choice(["", "", " "])
             written.append(f"{at}{layout.ends}{text}" + ("" if text.endswith("\n") else "\n"))
         return "".join(written).encode()
@@ -301,7 +302,9 @@ class Drawing:
 
     def control(self) -> Data:
         action = self.draw.choice("start start stop stop pause pause reset restart add add subtract jump".split())
-        entry: Data = {"event": self.handled(), "action": action}
+        event = self.handled() if self.chance(0.5) else self.draw.choice(self.events[: self.near] or ["never"])
+        self.follow(event)
+        entry: Data = {"event": event, "action": action}
         self.optional(entry, 0.6, value=self.one("0", "1", "2", "9", "-3"))
         return self.settle(entry, 0)
 

@@ -17,6 +17,10 @@ class Names(list):
     """A list of texts that may be written as a list or as one text."""
 
 
+class Raw(str):
+    """A scalar, or what looks like none, that is written as it is."""
+
+
 def may_be_text(data) -> bool:
     return isinstance(data, Names) and all(isinstance(item, str) for item in data)
 
@@ -43,9 +47,10 @@ class Layout:
     def odd(self, share: float = 1.0) -> bool:
         return self.draw.random() < share * (1 - self.plainness)
 
-    def text(self, data: dict) -> str:
+    def text(self, data: dict, version: str | None = None) -> str:
         """The text of a mapping, under its version."""
-        lines = ["#config_version=6" + (self.draw.choice(["  ", "\t"]) if self.odd(0.1) else "")]
+        blanks = self.draw.choice(["  ", "\t"]) if self.odd(0.1) else ""
+        lines = ["#config_version=6" + blanks if version is None else version]
         lines += self.mapping(data, self.draw.choice([0, 0, 0, 1, 3]) if self.odd(0.3) else 0)
         decorated = []
         for line in lines:
@@ -63,7 +68,7 @@ class Layout:
         return self.draw.choice([" ", "  ", "\t", "    "]) if self.odd(0.1) else " "
 
     def scalar(self, text: str, flow: bool) -> str:
-        if is_plain(text, flow) and not self.odd(0.3):
+        if isinstance(text, Raw) or is_plain(text, flow) and not self.odd(0.3):
             return text
         if self.draw.random() < 0.5 and "\n" not in text:
             return "'" + text.replace("'", "''") + "'"

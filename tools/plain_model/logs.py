@@ -92,6 +92,8 @@ class Log:
 
 def log(draw: random.Random, drawn: Drawn) -> bytes:
     found = Log(draw, drawn)
+    if draw.random() < 0.04:
+        found.now = (1 << 40) - draw.choice([1, 5, 500, 3_000, 20_000])
     if draw.random() < 0.7:
         found.fill()
     found.begin()

@@ -5,7 +5,7 @@ from typing import Any
 
 from .bundle import MACHINE_TEXT
 from .draw import Data, Drawn
-from .layout import Names
+from .layout import Names, Raw
 from .plan import GAME_EVENTS
 from .sections import PLAYERS, SETTINGS
 
@@ -21,6 +21,7 @@ JUNK += [Names(), ["a", ["b"]], ["a", ""], {}, {"a": "b"}, [{"name": "a"}], [{}]
 JUNK += [["a"] * 17, ["a"] * 1_024, ["a"] * 1_025, ["a"] * 1_025, ["a"] * 1_025]
 BAD_NAMES = ["playfield", "default", "a b", "", "a/b", "x" * 65, "a\\b", "a{b}", 'a"b', "ä", "a\x01", "a'b", "-"]
 BAD_SECTIONS = ["coil", "timers", "mode", "modes", "ball_saves", "multiballs", "", "game", "ball_devices", "a\nb"]
+VERSIONS = ["#config_version=5", "# config_version=6", " #config_version=6", "#config_version=6 #", ""]
 BAD_SETTINGS = ["nope", "", "Number", "tag", "switch", "a\tb", "value", "show", "use_wait_queue"]
 
 
@@ -276,6 +277,24 @@ class Planter:
     def wait_queue(self) -> None:
         self.anywhere("mode", modes=True)["use_wait_queue"] = self.draw.choice(["yes", "no"])
 
+    def depth(self) -> None:
+        """What is as deep as a text may be, or deeper; or a key as long as it may be, or longer."""
+        kind, text = self.draw.randrange(3), self.draw.choice([*self.drawn.texts.values()])
+        data: Any = "a"
+        if kind == 0:
+            for level in range(self.draw.randint(28, 33)):
+                data = {"a": data} if self.chance(0.8) else [data]
+        elif kind == 1:
+            depth = self.draw.randint(7, 10)
+            data = Raw("[" * depth + "a" + "]" * depth)
+        else:
+            data = {"k" * self.draw.choice([1_021, 1_022, 1_024, 1_025, 1_026]): "a", "b": ""}
+        text[self.draw.choice(["lights", "shows"])] = data
+
+    def version(self) -> None:
+        """Another first line."""
+        self.drawn.versions[self.draw.choice(self.drawn.order)] = self.draw.choice(VERSIONS)
+
     def texts(self) -> None:
         """A text twice, a text less, or one of a mode that is not listed."""
         kind, name = self.draw.randrange(3), self.draw.choice(self.drawn.order)
@@ -290,9 +309,9 @@ class Planter:
 
 # In the order in which they are planted: those that leave something else than they found come last.
 KINDS = """wrong_name unknown_member reserved_post reserved_variable group pulse power hold timer route cycle bound
-    limit wait_queue inner_setting modes texts setting missing twice bad_name section junk""".split()
-SHARES = {"limit": 2.0, "wait_queue": 0.3, "texts": 0.4, "inner_setting": 0.5, "section": 0.5, "junk": 1.5}
-SHARES |= {"cycle": 1.5, "bound": 2.0, "hold": 1.5, "timer": 1.5, "pulse": 1.5}
+    limit wait_queue depth version inner_setting modes texts setting missing twice bad_name section junk""".split()
+SHARES = {"limit": 2.0, "wait_queue": 0.3, "version": 0.3, "depth": 0.7, "texts": 0.4, "inner_setting": 0.5}
+SHARES |= {"section": 0.5, "junk": 1.5, "cycle": 1.5, "bound": 2.0, "hold": 1.5, "timer": 1.5, "pulse": 1.5}
 
 
 def plant(draw: random.Random, drawn: Drawn) -> None:
