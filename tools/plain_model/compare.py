@@ -161,6 +161,9 @@ class Comparison:
         self.checked(judged)
         if judged.plan:
             self.verified(drawing, judged)
+        elif drawing.random() < 0.2:
+            self.compare("verify", bundle, b"?", judged.check())
+            self.count("verify: refused")
         self.played(drawing, judged, logs.log(drawing, drawn))
         for _ in range(2):
             self.damaged(drawing, drawn, bundle)

@@ -9,6 +9,9 @@ BLANKS = " \t"
 BRACKETS = ",[]{}"
 NO_PLAIN_START = set(",[]{}#&*!|>'\"%@`")
 ESCAPES = {"\\": "\\", '"': '"', "n": "\n", "t": "\t"}
+# Where a plain scalar ends. In flow, a colon before a bracket ends it too, and is at fault.
+BLOCK_END = re.compile(r"(?<=[ \t])#|:(?=[ \t]|\Z)")
+FLOW_END = re.compile(r"(?<=[ \t])#|:(?=[ \t,\[\]{}]|\Z)|[,\[\]{}]")
 BAD_CHARACTER = re.compile("[\0-\x08\x0b\x0c\x0e-\x1f\x7f-\x9f\ufeff\ufffe\uffff]|\r(?!\n)")
 
 
@@ -43,6 +46,7 @@ class Entries:
     line: int
     column: int
     entries: list[tuple[Scalar, "Node"]] = field(default_factory=list)
+    keys: set[str] = field(default_factory=set)
 
 
 Node = Scalar | Items | Entries
@@ -116,12 +120,10 @@ class Words:
             self.fault("Flow")
         if first in NO_PLAIN_START or first in "-?:" and blank_or_end(self.text, start + 1):
             self.fault("Flow" if flow and first in BRACKETS else "NotInSubset")
-        while self.at < len(self.text) and not is_comment(self.text, self.at) and not self.at_colon():
-            if flow and self.text[self.at] in BRACKETS:
-                break
-            if flow and self.text[self.at] == ":" and self.text[self.at + 1] in BRACKETS:
-                self.fault("Flow")
-            self.at += 1
+        end = (FLOW_END if flow else BLOCK_END).search(self.text, start)
+        self.at = end.start() if end else len(self.text)
+        if self.here(":") and not self.at_colon():
+            self.fault("Flow")
         return Scalar(self.text[start : self.at].rstrip(BLANKS), self.number, start)
 
     def flow_scalar(self, ends: str) -> Scalar:
@@ -191,8 +193,9 @@ class Words:
 
 def take_key(words: Words, mapping: Entries, key: Scalar) -> None:
     """Goes past the colon of a key, which has to be new and not too long."""
-    if any(key.text == other.text for other, _ in mapping.entries):
+    if key.text in mapping.keys:
         words.fault("DuplicateKey", key.column)
+    mapping.keys.add(key.text)
     if words.at - key.column > KEY_LENGTH:
         words.fault("NotInSubset")
     words.at += 1
@@ -213,13 +216,8 @@ def is_entry(line: Line) -> bool:
         while at < len(text) and text[at] in BLANKS:
             at += 1
         return at < len(text) and text[at] == ":" and blank_or_end(text, at + 1)
-    if text[at] in NO_PLAIN_START:
-        return False
-    while at < len(text) and not is_comment(text, at):
-        if text[at] == ":" and blank_or_end(text, at + 1):
-            return True
-        at += 1
-    return False
+    end = BLOCK_END.search(text, at)
+    return text[at] not in NO_PLAIN_START and end is not None and end[0] == ":"
 
 
 class Blocks:
