@@ -169,6 +169,7 @@ class Comparison:
             self.damaged(drawing, drawn, bundle)
         if drawing.random() < 0.1:
             self.foldered(drawing, bundle)
+        self.count("machines")
 
     def checked(self, judged: Judged) -> None:
         answer = judged.check()

@@ -37,7 +37,7 @@ def table(found: Found) -> str:
 
 def rare(found: Found, count: int) -> list[str]:
     """What came up too rarely with so many machines."""
-    least = {f"cascades: {kind}": CASCADES * count // 20 for kind in cascades.KINDS}
+    least = {"machines": count} | {f"cascades: {kind}": CASCADES * count // 20 for kind in cascades.KINDS}
     for share, whats in SHARES.items():
         least |= {" ".join(what.split()): int(share * count / 500) for what in whats.split("|")}
     return [f"{found.counts[what]} {what}, of {few}" for what, few in least.items() if found.counts[what] < few]
