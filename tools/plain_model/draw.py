@@ -358,14 +358,14 @@ class Drawing:
         owner, name = self.owner(), self.name("g", "shot_groups")
         free = self.free_shots.setdefault(owner, [])
         first = free[0] if free and self.chance(0.7) else self.shot(owner)
-        members = [shot for shot in free if shot[1] == first[1]][:3]
-        while len(members) < 3 and self.chance(0.6):
+        members = [shot for shot in free if shot[1] == first[1]][:4]
+        while len(members) < 4 and self.chance(0.75):
             members.append(self.shot(owner, first[1]))
         self.draw.shuffle(members)
         self.free_shots[owner] = [shot for shot in free if shot not in members]
         entry: Data = {"shots": Names(shot for shot, _ in members)}
-        self.optional(entry, 0.3, rotate_events=lambda: self.some(0, 2), rotate_left_events=lambda: self.some(0, 2))
-        self.optional(entry, 0.2, rotate_right_events=lambda: self.some(0, 2), reset_events=lambda: self.some(0, 2))
+        self.optional(entry, 0.4, rotate_events=lambda: self.some(0, 2), rotate_left_events=lambda: self.some(0, 2))
+        self.optional(entry, 0.3, rotate_right_events=lambda: self.some(0, 2), reset_events=lambda: self.some(0, 2))
         section = self.section(owner, "shot_groups")
         section[name] = self.settle(entry)
         self.add_events(f"{name}_hit", f"{name}_complete", f"{name}_lit_complete")
@@ -438,6 +438,8 @@ class Drawing:
         whats += [self.variable_player] * self.has_game
         if self.chance(0.3):
             whats += [self.hold_in_mode]
+        if self.chance(0.5):  # more of a few kinds
+            whats = [self.mode, self.event_player, *self.draw.sample(whats, 3)]
         for _ in range(self.draw.randint(self.size // 2, self.size)):
             self.mark, self.at = -1, "machine"
             self.draw.choice(whats)()
