@@ -1,0 +1,20 @@
+"""A plain model of `pinball check`, `verify` and `play`, which tools/random_machines compares with the built program.
+
+It was written from the description of the profile alone, without a look at the code in crates/, and in the shortest way
+that says what has to come out: it reads each text as a whole, keeps everything in lists, and computes each thing anew
+where it is wanted. A module is one subject:
+
+    yaml_text   the YAML subset: a text and its tree
+    values      names, numbers, times, powers, lists, handled events
+    sections    what each section may hold
+    bundle      texts, entries, notes, and the errors of a configuration
+    plan        numbers by first use, rows, bindings
+    devices     one class a kind of device: its lists, what it may answer, and what it does
+    faults      faults 1 to 6
+    costs       weights, bounds, cycles
+    certificate the text of a certificate
+    machine     the run of a log
+    answers     what the three commands print
+
+and, to draw what is compared: `draw` (machines), `layout` (their texts), `logs`, `damage`, `cascades`.
+"""

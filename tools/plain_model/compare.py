@@ -1,0 +1,255 @@
+"""Compares the program with the model, on one drawn machine after the other."""
+import random
+import re
+import resource
+import shutil
+import subprocess
+from collections import Counter
+from dataclasses import dataclass, field
+from pathlib import Path
+
+from . import cascades, certificate, damage, draw, logs, plant
+from .answers import Answer, Judged, judge
+from .bundle import ConfigFault, joined, split_bundle
+from .layout import means
+from .machine import TooLong
+from .yaml_text import read
+
+SECONDS, MOST_SECONDS = 2.0, 60.0  # of the processor for an answer, and by the clock
+MOST_LINES = 200  # of an answer, in a report
+FORMS = re.compile(
+    rb"""(?:(?:
+    [0-9]+\ [^ ]+\ (?:
+        switch\ [^ ]+\ (?:active|inactive) | event\ [^ ]+
+        | coil\ [^ ]+\ (?:pulse\ [0-9]+\ [0-9]+|enable\ [0-9]+|disable) | skip\ [^ ]+\ (?:pulse|enable|disable)
+        | player\ [1-4]\ [^ ]+\ -?[0-9]+ | balls\ [0-9]+\ [0-9]+\ [0-9]+\ [0-9]+ | final\ [1-4]\ -?[0-9]+ | off\ [^ ]+)
+    | refused\ [0-9]+\ (?:1\ Backwards|2\ TooLate|3\ NoSuchSwitch|8\ BadLine)
+    | note\ .*\ [0-9]+\ (?:skipped|absent|unlisted)\ .*
+    | error\ (?:1\ Bundle|2\ Version|3\ Yaml|4\ UnknownSection|5\ UnknownSetting|6\ BadValue|7\ Missing|8\ Duplicate
+        |9\ Limit)\ .*\ [0-9]+\ .*
+    | fault\ (?:1\ Name|2\ PulseLimit|3\ PowerLimit|4\ HoldNotAllowed|5\ TimerAtEnd|6\ BallRoute)\ [^ ]+\ [0-9]+\ [^ ]+
+    | fault\ 7\ Limit\ (?:events|bindings|switches|coils|variables|rows)
+    | fault\ 8\ Cycle(?:\ [^ ]+)+ | fault\ 9\ Bound
+    | fault\ 10\ Certificate\ (?:Line\ [0-9]+|Events|Short\ [^ ]+\ [0-9]+|Bound\ [0-9]+)
+    | pinball-certificate\ 1 | bound\ [0-9]+ | event\ [^ ]+\ [0-9]+ | yes | no
+    )\n)*""",
+    re.VERBOSE,
+)
+
+
+class Differs(Exception):
+    """The program answers something else than the model."""
+
+
+@dataclass
+class Found:
+    """What was compared: how many inputs, and what came up in how many of them. `differences` are full reports."""
+
+    counts: Counter[str] = field(default_factory=Counter)
+    slowest: float = 0.0
+    differences: list["Difference"] = field(default_factory=list)
+
+    def add(self, other: "Found") -> None:
+        self.counts += other.counts
+        self.slowest = max(self.slowest, other.slowest)
+        self.differences += other.differences
+
+
+@dataclass
+class Difference:
+    """An input, and the two answers."""
+
+    seed: str
+    command: str
+    bundle: bytes
+    file: bytes
+    wanted: Answer
+    got: Answer
+    what: str
+
+    def report(self) -> str:
+        wanted, got = (answer[0].decode(errors="replace").splitlines() for answer in (self.wanted, self.got))
+        at = next((at for at, pair in enumerate(zip(wanted, got)) if pair[0] != pair[1]), min(len(wanted), len(got)))
+        parts = [f"machine {self.seed}, {self.command}: {self.what}"]
+        parts += [f"line {at + 1}, model:   {line}" for line in wanted[at : at + 1] or ["(no line)"]]
+        parts += [f"line {at + 1}, program: {line}" for line in got[at : at + 1] or ["(no line)"]]
+        parts += ["--- bundle:", self.bundle.decode(errors="replace")]
+        if self.command != "check":
+            file = "certificate" if self.command == "verify" else "log"
+            parts += [f"--- {file}:", self.file.decode(errors="replace")]
+        parts += ["--- model:", *wanted[:MOST_LINES], f"status {self.wanted[1]}"]
+        parts += ["--- program:", *got[:MOST_LINES], f"status {self.got[1]}"]
+        return "\n".join(parts) + "\n"
+
+    def keep(self, folder: Path) -> None:
+        room = folder / f"{self.seed.replace('/', '_')}_{self.command}"
+        room.mkdir(parents=True, exist_ok=True)
+        texts = {"bundle": self.bundle, "file": self.file, "model": self.wanted[0], "program": self.got[0]}
+        for name, text in texts.items():
+            (room / name).write_bytes(text)
+        (room / "report").write_text(self.report())
+
+
+def kind_of_line(line: str) -> str:
+    """What a line of a play is: `line: coil pulse`, or the like."""
+    words = line.split(" ")
+    if words[0] == "refused":
+        return f"line: refused {words[-1]}"
+    return f"line: {words[2]} {words[4]}" if words[2] in ("coil", "skip", "switch") else f"line: {words[2]}"
+
+
+def seconds_of_children() -> float:
+    """What the processes that have ended took of the processor."""
+    used = resource.getrusage(resource.RUSAGE_CHILDREN)
+    return used.ru_utime + used.ru_stime
+
+
+class Comparison:
+    """Asks the program about drawn machines. `room` is a folder for its files."""
+
+    def __init__(self, program: Path, room: Path):
+        self.program, self.room, self.found = program, room, Found()
+        self.seed, self.took = "", 0.0
+
+    def ask(self, command: str, bundle: bytes, file: bytes = b"", folder: Path | None = None) -> Answer:
+        """What the program answers of a bundle, or of a folder."""
+        (self.room / "bundle").write_bytes(bundle)
+        words = [str(self.program), command]
+        if command != "check":
+            (self.room / "file").write_bytes(file)
+            words.append(str(self.room / "file"))
+        words += [str(folder)] if folder else []
+        before = seconds_of_children()
+        with open(self.room / "bundle", "rb") as text:
+            output = {"stdout": subprocess.PIPE, "stderr": subprocess.STDOUT}
+            try:
+                run = subprocess.run(words, stdin=text, timeout=MOST_SECONDS, close_fds=False, **output)
+            except subprocess.TimeoutExpired:
+                return b"", -1
+        self.took = seconds_of_children() - before
+        self.found.slowest = max(self.found.slowest, self.took)
+        self.found.counts["answers"] += 1
+        return run.stdout, run.returncode
+
+    def compare(self, command: str, bundle: bytes, file: bytes, wanted: Answer, folder: Path | None = None) -> None:
+        got = self.ask(command, bundle, file, folder)
+        if self.took > SECONDS:
+            self.differ(command, bundle, file, wanted, got, f"it took {self.took:.1f} seconds")
+        elif not FORMS.fullmatch(got[0]):
+            self.differ(command, bundle, file, wanted, got, "a line has no form of a line")
+        elif got != wanted:
+            self.differ(command, bundle, file, wanted, got, "another answer")
+
+    def differ(self, command: str, bundle: bytes, file: bytes, wanted: Answer, got: Answer, what: str) -> None:
+        self.found.differences.append(Difference(self.seed, command, bundle, file, wanted, got, what))
+
+    def count(self, *what: str) -> None:
+        self.found.counts.update(what)
+
+    # One machine
+
+    def machine(self, seed: str) -> None:
+        self.seed = seed
+        drawing = random.Random(seed)
+        drawn = draw.machine(drawing)
+        if drawing.random() < 0.4:
+            plant.plant(drawing, drawn)
+        bundle = drawn.bundle(drawing)
+        if not drawn.planted and drawing.random() < 0.2:
+            assert all(means(read(text), drawn.texts[name]) for name, text in split_bundle(bundle)), seed
+        judged = judge(bundle)
+        self.checked(judged)
+        if judged.plan:
+            self.verified(drawing, judged)
+        elif drawing.random() < 0.2:
+            self.compare("verify", bundle, b"?", judged.check())
+            self.count("verify: refused")
+        self.played(drawing, judged, logs.log(drawing, drawn))
+        for _ in range(2):
+            self.damaged(drawing, drawn, bundle)
+        if drawing.random() < 0.1:
+            self.foldered(drawing, bundle)
+        self.count("machines")
+
+    def checked(self, judged: Judged) -> None:
+        answer = judged.check()
+        self.compare("check", judged.bundle, b"", answer)
+        for line in answer[0].decode(errors="replace").splitlines():
+            words = line.split(" ")
+            if words[0] in ("yes", "no"):
+                self.count(f"check: {words[0]}")
+            elif words[0] == "note":
+                self.count(f"note {next(word for word in words if word in ('skipped', 'absent', 'unlisted'))}")
+            elif words[0] in ("error", "fault"):
+                self.count(" ".join(words[:3]))
+            if words[0] == "error" and words[1] == "3":
+                self.count(f"Yaml {words[-1]}")
+
+    def verified(self, drawing: random.Random, judged: Judged) -> None:
+        if isinstance(judged.least, dict):
+            right = judged.certificate().encode()
+        else:
+            weights = {event: drawing.choice([1, 2, 5, 50]) for event in judged.plan.events}
+            right = certificate.text(judged.costs.bound(weights), weights).encode()
+        for text in (right, damage.certificate(drawing, right)):
+            answer = judged.verify(text)
+            self.compare("verify", judged.bundle, text, answer)
+            said = next(line for line in answer[0].decode().splitlines() if not line.startswith("note"))
+            self.count(" ".join(["verify:", *said.split()[:4]][: 5 if "Certificate" in said else 3]))
+
+    def played(self, drawing: random.Random, judged: Judged, log: bytes) -> None:
+        texts = [log, damage.damaged(drawing, log)] if judged.is_accepted else [log]
+        for text in texts:
+            seen: Counter[str] = Counter()
+            try:
+                answer = judged.play(text, seen)
+            except TooLong:
+                self.count("play: too long to compare")
+                continue
+            self.compare("play", judged.bundle, text, answer)
+            self.count("play" if judged.is_accepted else "play: refused", *seen)
+            if judged.is_accepted:
+                self.count(*{kind_of_line(line) for line in answer[0].decode(errors="replace").splitlines()})
+                self.found.counts["lines of plays"] += answer[0].count(b"\n")
+
+    def damaged(self, drawing: random.Random, drawn: draw.Drawn, bundle: bytes) -> None:
+        judged = judge(damage.damaged(drawing, bundle))
+        self.count("damaged bundle")
+        if judged.is_accepted:
+            self.count("damaged bundle: yes")
+            self.played(drawing, judged, logs.log(drawing, drawn))
+        self.checked(judged)
+
+    def foldered(self, drawing: random.Random, bundle: bytes) -> None:
+        """The texts of a bundle as files of a folder, one perhaps damaged."""
+        try:
+            files = dict(split_bundle(bundle))
+        except ConfigFault:
+            return
+        files = {name: text for name, text in files.items() if re.fullmatch(r"(modes/[\w.-]+/)?config/[\w.-]+", name)}
+        name = drawing.choice([*files])
+        files[name] = drawing.choice([files[name], damage.damaged(drawing, files[name])])
+        folder = self.room / "folder"
+        for name, text in files.items():
+            (folder / name).parent.mkdir(parents=True, exist_ok=True)
+            (folder / name).write_bytes(text)
+        judged = judge(joined(files))
+        self.compare("check", judged.bundle, b"", judged.check(), folder)
+        self.count("folder")
+        shutil.rmtree(folder)
+
+    def cascade(self, seed: str) -> None:
+        """A machine of long cascades, by the model that knows these alone."""
+        self.seed = seed
+        machine = cascades.Machine(random.Random(seed))
+        asked: list[tuple[str, bytes, bytes, Answer]] = []
+
+        def ask(command: str, bundle: bytes, file: bytes) -> bytes:
+            asked.append((command, bundle, file, self.ask(command, bundle, file)))
+            return asked[-1][-1][0]
+
+        try:
+            self.count(f"cascades: {cascades.compare(ask, machine)}")
+        except (AssertionError, ValueError, IndexError) as other:
+            command, bundle, file, got = asked[-1]
+            self.differ(command, bundle, file, (b"", 0), got, f"another answer than the model of cascades: {other}")

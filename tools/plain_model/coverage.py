@@ -1,0 +1,43 @@
+"""How often each thing has to come up in a comparison."""
+from . import cascades
+from .compare import Found
+
+CASCADES = 4  # machines of cascades for each other machine
+# About how often things come up with 100 machines. They are too rare where they come up less than a fifth of that.
+SHARES: dict[float, str] = {
+    100: """check: yes | check: no | play | damaged bundle | line: event | line: switch active | line: switch inactive
+        | line: balls | line: coil pulse | ball device, alarm | ball device, list 0 | ball not awaited | a game""",
+    50: """verify: yes | error 3 Yaml | error 5 UnknownSetting | ball device, list 1 | ball device, list 2
+        | ball device, list 3 | ball device, list 4 | ball device, list 5 | ball device, list 6 | condition false
+        | line: refused BadLine | line: refused NoSuchSwitch | line: refused Backwards | play: refused""",
+    20: """fault 1 Name | error 6 BadValue | Yaml Indent | Yaml NotInSubset | accrual, list 0 | accrual, list 1
+        | counter, list 0 | counter, list 1 | sequence, list 0 | sequence, list 1 | flipper, list 0 | flipper, list 1
+        | autofire, list 0 | timer, list 0 | timer, list 3 | timer, alarm | shot hit | group hit | kept stop
+        | condition true | a turn of another player | line: skip pulse | verify: fault 10 Certificate Line
+        | damaged bundle: yes | note absent""",
+    10: """error 4 UnknownSection | accrual, list 2 | counter, list 2 | sequence, list 2 | timer, list 4 | ball awaited
+        | a second game | another turn | line: coil enable | line: coil disable | line: final | line: player
+        | line: refused TooLate | line: off | note skipped | note unlisted | verify: fault 10 Certificate Short
+        | verify: fault 10 Certificate Bound | verify: fault 10 Certificate Events | folder""",
+    5: """error 1 Bundle | error 2 Version | error 7 Missing | Yaml DuplicateKey | Yaml Flow | Yaml NotUtf8
+        | line: skip enable | line: skip disable""",
+    2: """error 8 Duplicate | error 9 Limit | fault 2 PulseLimit | fault 3 PowerLimit | fault 4 HoldNotAllowed
+        | fault 5 TimerAtEnd | fault 6 BallRoute | fault 7 Limit | fault 8 Cycle | fault 9 Bound | Yaml Quote | Yaml Tab
+        | timer, list 1 | timer, list 2 | release | verify: fault 9""",
+}
+
+
+def table(found: Found) -> str:
+    """What came up, and how often."""
+    lines = [f"{count:9} {what}" for what, count in sorted(found.counts.items())]
+    differences = f"{len(found.differences)} differ" if found.differences else "none differs"
+    last = f"{found.counts['answers']} answers, {differences}; the slowest took {found.slowest:.3f} s"
+    return "\n".join([*lines, last])
+
+
+def rare(found: Found, count: int) -> list[str]:
+    """What came up too rarely with so many machines."""
+    least = {"machines": count} | {f"cascades: {kind}": CASCADES * count // 20 for kind in cascades.KINDS}
+    for share, whats in SHARES.items():
+        least |= {" ".join(what.split()): int(share * count / 500) for what in whats.split("|")}
+    return [f"{found.counts[what]} {what}, of {few}" for what, few in least.items() if found.counts[what] < few]

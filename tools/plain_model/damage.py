@@ -1,0 +1,91 @@
+"""Damages bundles, certificates and logs: other bytes, other words, texts that are cut, lines doubled or moved."""
+import random
+import re
+
+MARKS = [b":", b" ", b"\n", b"  ", b"\t", b"[", b"]", b"{", b"}", b",", b"'", b'"', b"#", b"-", b"@", b"a", b"\r\n"]
+MARKS += [b"- ", b"&", b"|", b"?", b": ", b" #", b"\\", b"0", b"1", b"%", b"\xc3\xa4", b"\xff", b"\0", b"\r", b"=="]
+MARKS += [b"\xef\xbb\xbf", b"\xc2\x85", b"\xe2\x80\xa8", b"---\n", b"...\n", b"''", b"\\n", b"[[", b"}}", b"? "]
+ODD_LINES = ["", "event", "event a", "event a/b 1", "event  1", "switch a 1", "bound 1", "event a\t1", "#"]
+
+
+def lines_of(data: bytes) -> list[bytes]:
+    return re.findall(rb"[^\n]*\n|[^\n]+$", data)
+
+
+def damage_bytes(draw: random.Random, data: bytes) -> bytes:
+    at = draw.randrange(len(data) + 1)
+    kind = draw.randrange(6)
+    if kind == 0:
+        return data[:at] + bytes([draw.randrange(256)]) + data[at + 1 :]
+    if kind == 1:
+        return data[:at] + draw.choice(MARKS) + data[at:]
+    if kind == 2:
+        return data[:at] + draw.choice(MARKS) + data[at + 1 :]
+    if kind == 3:
+        return data[:at] + data[at + draw.choice([1, 1, 2, 5, 40]) :]
+    if kind == 4:
+        return data[:at] + bytes([data[at] ^ 1 << draw.randrange(8)]) + data[at + 1 :] if at < len(data) else data
+    return data[:at] if draw.random() < 0.3 else data[:-1]
+
+
+def damage_lines(draw: random.Random, data: bytes) -> bytes:
+    lines = lines_of(data)
+    if not lines:
+        return data
+    one, other = draw.randrange(len(lines)), draw.randrange(len(lines))
+    kind = draw.randrange(5)
+    if kind == 0:
+        lines.insert(one, lines[other])
+    elif kind == 1:
+        lines[one], lines[other] = lines[other], lines[one]
+    elif kind == 2:
+        del lines[one : one + draw.choice([1, 1, 2, 5])]
+    elif kind == 3:
+        lines[one] = draw.choice([b" ", b"  ", b"\t", b"- ", b"# "]) + lines[one]
+    else:
+        joined = draw.choice([b" ", b": ", b""]) + (lines[other] if draw.random() < 0.5 else b"\n")
+        lines[one] = lines[one].strip() + joined
+    return b"".join(lines)
+
+
+def damage_words(draw: random.Random, data: bytes) -> bytes:
+    """A word in place of another one, or another number."""
+    words = [*re.finditer(rb"[\w.-]+", data)]
+    if not words:
+        return data
+    one, other = draw.choice(words), draw.choice(words)[0]
+    if one[0].isdigit() and draw.random() < 0.7:
+        other = str(max(0, int(one[0]) + draw.choice([-1, 1, 1, 2, 9, 1_000]))).encode()
+    return data[: one.start()] + other + data[one.end() :]
+
+
+def damaged(draw: random.Random, data: bytes) -> bytes:
+    """The data with one damage or some."""
+    for _ in range(draw.choice([1, 1, 1, 2, 3])):
+        data = draw.choice([damage_bytes, damage_lines, damage_words])(draw, data)
+    return data
+
+
+def certificate(draw: random.Random, text: bytes) -> bytes:
+    """A certificate with other numbers, another line, or another damage."""
+    lines = text.decode().splitlines()
+    kind = draw.randrange(8)
+    if kind == 0 or kind < 5 and len(lines) < 3:
+        return damaged(draw, text)
+    at = draw.randrange(1, len(lines)) if kind > 2 else draw.randrange(2, len(lines))
+    words = lines[at].split(" ")
+    if kind in (1, 2):
+        words[-1] = str(max(0, int(words[-1]) + draw.choice([-1, 1, 1, 5, -2, 9_000])))
+        lines[at] = " ".join(words)
+    elif kind == 3:
+        words[-1] = draw.choice(["01", "", "x", "4294967295", "4294967296", "-1", "0", "10000", "10001", "1 1", " 1"])
+        lines[at] = " ".join(words)
+    elif kind == 4:
+        lines[at] = draw.choice(ODD_LINES)
+    elif kind == 5:
+        lines[1] = f"bound {draw.choice([0, 1, 3, 10, 9_999, 10_000, 10_001, 4_294_967_295])}"
+    elif kind == 6:
+        del lines[at:]
+    else:
+        lines[0] = draw.choice(["pinball-certificate 2", "pinball-certificate 1 ", "pinball-certificate", ""])
+    return "".join(f"{line}\n" for line in lines).encode()

@@ -1,0 +1,323 @@
+"""Plants faults in drawn machines, of every kind that `check` answers."""
+import random
+from collections.abc import Callable, Iterator
+from typing import Any
+
+from .bundle import MACHINE_TEXT
+from .draw import Data, Drawn
+from .layout import Names, Raw
+from .plan import GAME_EVENTS
+from .sections import PLAYERS, SETTINGS
+
+NAMING = {"main_coil", "hold_coil", "coil", "eject_coil", "activation_switch", "switch", "profile", "eject_targets"}
+REQUIRED = {"main_coil", "activation_switch", "coil", "switch", "ball_switches", "count_events", "events", "shots"}
+REQUIRED |= {"states", "name", "int", "action", "event"}
+SWITCH_POSTS = ["events_when_activated", "events_when_deactivated"]
+BLOCK_POSTS = ["events_when_hit", "events_when_complete"]
+JUNK: list[Any] = ["", "no", "x y", "-1", "0", "1.5", "1.0001", "101%", "100.0%", "1e3", "maybe", "9999999999", "a{b}"]
+JUNK += ["a{current_player.b==1}", "a{current_player.b=1}", "Ä", "x" * 64, "x" * 65, "1,2", "@", "5001", "4294967296"]
+JUNK += ["1000000001", "-1000000000", "01", "+1", "1 h", "0.5ms", ".5", "1.", "YES", "yEs", "{", "a\nb", "\x7f"]
+JUNK += [Names(), ["a", ["b"]], ["a", ""], {}, {"a": "b"}, [{"name": "a"}], [{}]]
+JUNK += [["a"] * 17, ["a"] * 1_024, ["a"] * 1_025, ["a"] * 1_025, ["a"] * 1_025]
+BAD_NAMES = ["playfield", "default", "a b", "", "a/b", "x" * 65, "a\\b", "a{b}", 'a"b', "ä", "a\x01", "a'b", "-"]
+BAD_SECTIONS = ["coil", "timers", "mode", "modes", "ball_saves", "multiballs", "", "game", "ball_devices", "a\nb"]
+VERSIONS = ["#config_version=5", "# config_version=6", " #config_version=6", "#config_version=6 #", ""]
+BAD_SETTINGS = ["nope", "", "Number", "tag", "switch", "a\tb", "value", "show", "use_wait_queue"]
+
+
+class Planter:
+    """Changes the data of a drawn machine."""
+
+    def __init__(self, draw: random.Random, drawn: Drawn):
+        self.draw, self.drawn = draw, drawn
+
+    def chance(self, share: float) -> bool:
+        return self.draw.random() < share
+
+    def entries(self, *sections: str) -> list[tuple[Data, str]]:
+        """The sections of these names, each with the name of an entry."""
+        texts = self.drawn.texts.values()
+        found = [text[section] for text in texts for section in sections if isinstance(text.get(section), dict)]
+        return [(section, name) for section in found for name in section]
+
+    def one(self, *sections: str, wanted: Callable[[Any], bool] = lambda value: isinstance(value, dict)) -> Any:
+        """Some entry of these sections, or None."""
+        found = [section[name] for section, name in self.entries(*sections) if wanted(section[name])]
+        return self.draw.choice(found) if found else None
+
+    def machine(self, section: str) -> Data:
+        return self.drawn.texts[MACHINE_TEXT].setdefault(section, {})
+
+    def anywhere(self, section: str, modes: bool = False) -> Data:
+        """This section of some text; of a mode's text if there is one and it has to be."""
+        names = [name for name in self.drawn.texts if name.endswith(".yaml")]
+        names = [name for name in names if modes and name != MACHINE_TEXT] or names
+        found = self.drawn.texts[self.draw.choice(names)].setdefault(section, {})
+        return found if isinstance(found, dict) else {}
+
+    def event(self) -> str:
+        return self.draw.choice([f"{switch}_active" for switch in self.drawn.switches] or ["a"])
+
+    def coil(self) -> tuple[str, Data]:
+        """A coil, perhaps a new one."""
+        coils = self.machine("coils")
+        name = self.draw.choice([*coils, "weak"])
+        return name, coils.setdefault(name, {})
+
+    def drive(self, name: str, action: Any) -> None:
+        self.anywhere("coil_player").setdefault(self.event(), {})[name] = action
+
+    # Faults 1 to 6
+
+    def wrong_name(self) -> None:
+        entries = [entry for section, name in self.entries(*SETTINGS) if isinstance(entry := section[name], dict)]
+        places = [(entry, setting) for entry in entries for setting in sorted(NAMING & entry.keys())]
+        if places and self.chance(0.7):
+            entry, setting = self.draw.choice(places)
+            entry[setting] = "nowhere"
+        else:
+            self.drive("nowhere", self.draw.choice(["pulse", "enable", {"action": "enable", "pulse_ms": "99"}]))
+
+    def unknown_member(self) -> None:
+        entry = self.one("ball_devices", "shot_groups") or {}
+        more = self.draw.choice([["nowhere"], ["nowhere", "nowhere"], ["playfield"]])
+        for setting in sorted({"ball_switches", "shots"} & entry.keys()):
+            entry[setting] = Names([*entry[setting], *more])
+            self.draw.shuffle(entry[setting])
+
+    def reserved_post(self) -> None:
+        modes = [mode for mode in self.drawn.texts[MACHINE_TEXT].get("modes", []) if isinstance(mode, str)]
+        events = GAME_EVENTS + [f"mode_{mode}_{what}" for mode in modes for what in ("started", "stopped", "will_stop")]
+        event = self.draw.choice(events)
+        switch, block = self.one("switches"), self.one("counters", "accruals", "sequences")
+        if switch is not None and self.chance(0.3):
+            switch[self.draw.choice(SWITCH_POSTS)] = Names([event, "a", event])
+        elif block is not None and self.chance(0.5):
+            block[self.draw.choice(BLOCK_POSTS)] = Names(["a", event])
+        else:
+            self.anywhere("event_player").setdefault(self.event(), Names()).insert(0, event)
+
+    def reserved_variable(self) -> None:
+        variable = self.draw.choice(["ball", "number", "added", "turn_will_start", "turn_ended", "added"])
+        self.anywhere("variable_player").setdefault(self.event(), {})[variable] = self.draw.choice(["1", {"int": "0"}])
+
+    def group(self) -> None:
+        """A shot twice in a group, in two, of another owner, or of another profile."""
+        entry, shots = self.one("shot_groups"), [name for _, name in self.entries("shots")]
+        if entry and shots and self.chance(0.6):
+            entry["shots"] = Names([*entry["shots"], self.draw.choice([*shots, *entry["shots"]])])
+        elif shots:
+            self.anywhere("shot_groups")["planted"] = {"shots": Names([self.draw.choice(shots)])}
+        if shots and self.chance(0.3):
+            self.machine("shot_profiles").setdefault("planted", {"states": [{"name": "a"}]})
+            self.one("shots")["profile"] = "planted"
+
+    def pulse(self) -> None:
+        name, coil = self.coil()
+        if self.chance(0.6):
+            coil["max_pulse_ms"] = self.draw.choice(["30", "0.02s"])
+            action = self.draw.choice(["pulse", "disable"])
+            self.drive(name, {"action": action, "pulse_ms": self.draw.choice(["31", "5s", "20"])})
+        else:
+            coil |= {"max_pulse_ms": "5", "default_pulse_ms": self.draw.choice(["6", "5"])}
+
+    def power(self) -> None:
+        name, coil = self.coil()
+        powers = {"pulse_power": "0.9", "hold_power": "0.95"}
+        if self.chance(0.6):
+            coil["max_pulse_power"] = self.draw.choice(["0.8", "0.9"])
+            chosen = self.draw.sample([*powers], self.draw.randint(1, 2))
+            self.drive(name, {"action": "pulse"} | {setting: powers[setting] for setting in chosen})
+        else:
+            hold = {"max_hold_power": "0.1", "default_hold_power": "0.5"}
+            coil |= self.draw.choice([{"max_pulse_power": "0.1"}, hold])
+
+    def hold(self) -> None:
+        flipper, (name, coil) = self.one("flippers"), self.coil()
+        if self.chance(0.7):
+            coil.pop("allow_enable", None)
+            coil.pop("default_hold_power", None)
+        if flipper and self.chance(0.4):
+            flipper["hold_coil"] = name
+        else:
+            self.drive(name, self.draw.choice(["enable", {"action": "enable"}]))
+
+    def timer(self) -> None:
+        ends = [{"direction": "down"}, {"start_value": "5", "end_value": "5"}, {"end_value": "-1"}]
+        ends += [{"direction": "down", "start_value": "0"}, {"direction": "down", "start_value": "1"}]
+        timers = self.anywhere("timers", modes=True)
+        timers.setdefault(self.draw.choice([*timers, "planted"]), {}).update(self.draw.choice(ends))
+
+    def route(self) -> None:
+        devices = self.machine("ball_devices")
+        if not devices:
+            devices["planted"] = {}
+        for entry in devices.values():
+            entry.setdefault("ball_switches", Names())
+        one, other = (devices[self.draw.choice([*devices])] for _ in range(2))
+        kind = self.draw.randrange(5)
+        if kind == 0:
+            one["eject_targets"] = self.draw.choice([*devices, "nowhere"])
+        elif kind == 1:
+            one["ball_switches"] = Names([*one["ball_switches"], *other["ball_switches"]])
+        elif kind == 2:
+            one.pop("eject_coil", None)
+        elif kind == 3:
+            one.pop("eject_coil", None)
+            one["mechanical_eject"] = "no"
+        else:
+            one["tags"] = Names(["trough"])
+
+    # Faults 7 to 9
+
+    def limit(self) -> None:
+        """A table at its limit, or above it."""
+        kind, more = self.draw.choices(range(6), [5, 5, 5, 1, 1, 0.5])[0], self.draw.choice([0, 1, 1])
+        if kind < 2:
+            section = self.machine(["switches", "coils"][kind])
+            for number in range(256 + more - len(section)):
+                section[f"z{number}"] = ""
+        elif kind == 2:
+            self.anywhere("variable_player")[self.event()] = {f"z{number}": "1" for number in range(250 + more * 6)}
+        elif kind == 3:
+            section = self.machine("sequences")
+            for number in range(1_000 + more * 25):
+                section[f"z{number}"] = {"events": ""}
+        elif kind == 4:
+            for part in range(4):
+                names = Names(f"z{number}" for number in range(part * 1_000, part * 1_000 + 950 + more * 70))
+                self.anywhere("event_player")[f"z{part}"] = names
+        else:
+            for part in range(16 + more):
+                self.machine("shots")[f"z{part}"] = {"hit_events": Names(["z"] * 1_020)}
+
+    def cycle(self) -> None:
+        """Two events that post each other, or one that posts itself."""
+        section = self.anywhere("event_player")
+        handled = self.draw.choice([*section, self.event()])
+        first = handled.split("{")[0]
+        posted = self.draw.choice([first, self.event(), "around"])
+        section[handled] = Names([*(section.get(handled) or []), posted])
+        if posted != first:
+            other = self.anywhere("event_player")
+            other[posted] = Names([*(other.get(posted) or []), first])
+
+    def bound(self) -> None:
+        """A chain that fans out, to a weight or a bound about the limit."""
+        section, width = self.anywhere("event_player"), self.draw.choice([9, 10, 10, 21])
+        for step in range(4 if width < 20 else 3):
+            section[f"fan{step}"] = Names([f"fan{step + 1}"] * width)
+        if self.chance(0.5):
+            self.anywhere("event_player")[self.event()] = Names(["fan0"])
+
+    # Errors
+
+    def section(self) -> None:
+        text = self.draw.choice([*self.drawn.texts.values()])
+        text[self.draw.choice(BAD_SECTIONS)] = self.draw.choice(["", {}, {"a": ""}, "a", []])
+
+    def setting(self) -> None:
+        entry = self.one(*SETTINGS)
+        if entry is not None:
+            entry[self.draw.choice(BAD_SETTINGS)] = "1"
+
+    def inner_setting(self) -> None:
+        for entry, setting in self.places():
+            if isinstance(entry[setting], dict) and entry[setting] and self.chance(0.5):
+                entry[setting][self.draw.choice(["number", "nope", "int", "action"])] = self.draw.choice(["1", "pulse"])
+                return
+
+    def places(self) -> Iterator[tuple[Any, Any]]:
+        """All containers with their keys, in some order."""
+        found: list[tuple[Any, Any]] = []
+        waiting: list[Any] = [*self.drawn.texts.values()]
+        while waiting:
+            data = waiting.pop()
+            for key in data if isinstance(data, dict) else range(len(data)):
+                found.append((data, key))
+                if not isinstance(data[key], str):
+                    waiting.append(data[key])
+        yield from self.draw.sample(found, len(found))
+
+    def junk(self) -> None:
+        """Something else in place of a value."""
+        data, key = next(self.places(), (None, None))
+        if data is not None:
+            data[key] = self.draw.choice(JUNK)
+
+    def missing(self) -> None:
+        for data, key in self.places():
+            if isinstance(data, dict) and key in REQUIRED:
+                del data[key]
+                return
+
+    def twice(self) -> None:
+        """An entry in two texts."""
+        sections = [section for section in SETTINGS if section not in ("mode", "game", "machine")]
+        found = [(section, name) for section in sections for _, name in self.entries(section)]
+        if found:
+            section, name = self.draw.choice(found)
+            other = self.draw.choice([*self.drawn.texts.values()]).setdefault(section, {})
+            if isinstance(other, dict):
+                other.setdefault(name, self.draw.choice(["", {"label": "a"}]))
+
+    def bad_name(self) -> None:
+        found = self.entries(*SETTINGS, *PLAYERS)
+        if found:
+            section, name = self.draw.choice(found)
+            section[self.draw.choice(BAD_NAMES)] = section.pop(name)
+
+    def modes(self) -> None:
+        modes = self.drawn.texts[MACHINE_TEXT].get("modes", Names())
+        if isinstance(modes, list):
+            many = [f"z{number}" for number in range(64)]
+            new = self.draw.choice([["machine"], [*modes][:1], ["a b"], ["absent"], many, many, [""]])
+            self.drawn.texts[MACHINE_TEXT]["modes"] = Names([*modes, *new])
+
+    def wait_queue(self) -> None:
+        self.anywhere("mode", modes=True)["use_wait_queue"] = self.draw.choice(["yes", "no"])
+
+    def depth(self) -> None:
+        """What is as deep as a text may be, or deeper; or a key as long as it may be, or longer."""
+        kind, text = self.draw.randrange(3), self.draw.choice([*self.drawn.texts.values()])
+        data: Any = "a"
+        if kind == 0:
+            for level in range(self.draw.randint(28, 33)):
+                data = {"a": data} if self.chance(0.8) else [data]
+        elif kind == 1:
+            depth = self.draw.randint(7, 10)
+            data = Raw("[" * depth + "a" + "]" * depth)
+        else:
+            data = {"k" * self.draw.choice([1_021, 1_022, 1_024, 1_025, 1_026]): "a", "b": ""}
+        text[self.draw.choice(["lights", "shows"])] = data
+
+    def version(self) -> None:
+        """Another first line."""
+        self.drawn.versions[self.draw.choice(self.drawn.order)] = self.draw.choice(VERSIONS)
+
+    def texts(self) -> None:
+        """A text twice, a text less, or one of a mode that is not listed."""
+        kind, name = self.draw.randrange(3), self.draw.choice(self.drawn.order)
+        if kind == 0:
+            self.drawn.order.append(name)
+        elif kind == 1:
+            self.drawn.order.remove(name)
+        else:
+            self.drawn.order.append("modes/nowhere/config/nowhere.yaml")
+            self.drawn.texts["modes/nowhere/config/nowhere.yaml"] = {"nope": ""}
+
+
+# In the order in which they are planted: those that leave something else than they found come last.
+KINDS = """wrong_name unknown_member reserved_post reserved_variable group pulse power hold timer route cycle bound
+    limit wait_queue depth version inner_setting modes texts setting missing twice bad_name section junk""".split()
+SHARES = {"limit": 2.0, "wait_queue": 0.3, "version": 0.3, "depth": 0.7, "texts": 0.4, "inner_setting": 0.5}
+SHARES |= {"section": 0.5, "junk": 1.5, "cycle": 1.5, "bound": 2.0, "hold": 1.5, "timer": 1.5, "pulse": 1.5}
+
+
+def plant(draw: random.Random, drawn: Drawn) -> None:
+    """Plants one fault or some."""
+    planter = Planter(draw, drawn)
+    shares = [SHARES.get(kind, 1.0) for kind in KINDS]
+    drawn.planted = draw.choices(KINDS, shares, k=draw.choice([1, 1, 1, 2, 4]))
+    for kind in sorted(drawn.planted, key=KINDS.index):
+        getattr(planter, kind)()
