@@ -5,7 +5,7 @@ use std::test::Fail;
 
 const CHECKS: &str = "
 === names in ball devices that nothing defines
-In a line they come in the order of the settings' table, and the device after them.
+In a line they come as they are written, and the device after them.
 --- check
 @ config/config.yaml
 #config_version=6
@@ -25,10 +25,10 @@ fault 6 BallRoute config/config.yaml 5 d
 fault 1 Name config/config.yaml 8 s_no
 fault 1 Name config/config.yaml 9 nowhere
 fault 1 Name config/config.yaml 10 c_no
+fault 1 Name config/config.yaml 11 none
+fault 1 Name config/config.yaml 11 c_e
 fault 1 Name config/config.yaml 11 t_no
 fault 1 Name config/config.yaml 11 u_no
-fault 1 Name config/config.yaml 11 c_e
-fault 1 Name config/config.yaml 11 none
 fault 6 BallRoute config/config.yaml 11 e
 fault 1 Name config/config.yaml 12 c_no
 no

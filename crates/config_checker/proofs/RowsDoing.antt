@@ -29,9 +29,10 @@ use Rattle.plan_rows.specs.Members.{members_of}
 use Rattle.plan_contributions.specs.Contributions.{texts, tag_event}
 use Rattle.plan_contributions.specs.Doing.{IsSwitchDoing, IsPlayerDoing, IsDeviceDoing, IsEntryDoing, IsCoilPlayerDoing, IsVariablePlayerDoing, IsShotDoing, IsShotGroupDoing, has_target, IsBallDeviceDoing, IsDoing, IsMachineDoing, AreDoing}
 use Rattle.plan_contributions.proofs.Before.{All-flat_map}
-use Rattle.row_faults.specs.Reserved.{is_reserved, switch_posts, player_posts, block_posts, counter_posts, step_posts, posts_in, posts_of}
+use Rattle.row_faults.specs.Reserved.{is_reserved, switch_posts, player_posts, counter_posts, step_posts, posts_in, posts_of}
 use Rattle.row_faults.specs.Sound.{ChangesNothingBarred, IsChangeFree, IsItemSound, IsCoilSound, IsCoilSuch, IsCoilPlayerSound, IsFlipperSound, IsAutofireSound, IsShotSound, IsShotGroupSound, IsBallDeviceSound, IsSectionSound, IsSound}
 use Rattle.row_faults.specs.Routes.{switch_names}
+use Rattle.row_faults.proofs.AsWritten.{switch-posts, counter-posts, step-posts}
 use Rattle.row_faults.specs.BallFaults.{is_place}
 use Rattle.config_checker.proofs.FreeNames.{active-free, inactive-free, tag-free, block-free, timer-free, ball-free, shot-free, group_hit-free, group_complete-free}
 use Rattle.config_checker.proofs.CoilDeeds.{IsDeedSound, item_deed, pulse_deed, flipper_doing, autofire_doing}
@@ -104,7 +105,7 @@ module _ (rows : Rows) where
 
   switch-doing : (s : Switch) → All IsFreePost (switch_posts s) → IsSwitchDoing IsFine IsUnreserved IsThere s
   switch-doing s h =
-      let parts = all-parts IsFreePost s.activated s.deactivated h in (
+      let parts = switch-posts IsFreePost s h in (
         All-cons IsUnreserved (s.name.text ++ codes "_active") (map tag_event s.tags ++ texts s.activated) (active-free s.name.text rows)
             (All-append IsUnreserved (map tag_event s.tags) (texts s.activated) (tags-free s.tags) (written-free s.activated parts.0)),
         All-cons IsUnreserved (s.name.text ++ codes "_inactive") (texts s.deactivated) (inactive-free s.name.text rows) (written-free s.deactivated parts.1),
@@ -130,9 +131,8 @@ module _ (rows : Rows) where
   one e h = All-cons IsFine e [] h (All-nil IsFine)
 
   -- what the effect lists of a block post
-  block-lists : (name : List ℕ) (b : Block) → All IsFreePost (block_posts b) → All (All IsFine) (block_lists name b)
-  block-lists name b h =
-      let parts = all-parts IsFreePost b.hit b.complete h in
+  block-lists : (name : List ℕ) (b : Block) → All IsFreePost b.hit × All IsFreePost b.complete → All (All IsFine) (block_lists name b)
+  block-lists name b parts =
       let updated = posts (block_event name (codes "_updated")) ∷ [] in
       let hit = map posts (or_own b.hit (block_event name (codes "_hit"))) in
       let complete = map posts (or_own b.complete (block_event name (codes "_complete"))) in
@@ -169,10 +169,10 @@ module _ (rows : Rows) where
       es = entries_in s.content
 
       steps : (settings : StepSettings → Settings) (e : Entry) → All IsFreePost (step_posts (step_block_of e)) → IsEntry (Some (step_device (settings (step_settings (step_block_of e))) (step_block_of e)))
-      steps settings e h = record { lists = block-lists (step_block_of e).name.text (step_block_of e).block h; listens = All-nil IsThere }
+      steps settings e h = record { lists = block-lists (step_block_of e).name.text (step_block_of e).block (step-posts IsFreePost (step_block_of e) h); listens = All-nil IsThere }
 
       counter : (e : Entry) → All IsFreePost (counter_posts (counter_of e)) → IsEntry (Some (counter_device (counter_of e)))
-      counter e h = record { lists = block-lists (counter_of e).name.text (counter_of e).block h; listens = All-nil IsThere }
+      counter e h = record { lists = block-lists (counter_of e).name.text (counter_of e).block (counter-posts IsFreePost (counter_of e) h); listens = All-nil IsThere }
 
       by : (c a q t : Bool) → (c ≡ true → All (λ e. All IsFreePost (counter_posts (counter_of e))) es) → (a ≡ true → All (λ e. All IsFreePost (step_posts (step_block_of e))) es) → (q ≡ true → All (λ e. All IsFreePost (step_posts (step_block_of e))) es)
           → All (λ e. IsEntry (if c then Some (counter_device (counter_of e))

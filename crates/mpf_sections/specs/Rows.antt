@@ -1,4 +1,5 @@
--- The rows of a section, apart from where they lie in memory.
+-- The rows of a section, apart from where they lie in memory. Where an entry has an `order`, it is that of its settings
+-- that are written: their places in the section's table, as they are written.
 use Rattle.std.specs.Prelude.{ℕ, ℤ, Bool, List, Option}
 use Rattle.mpf_sections.specs.declared.words.Contact.{Contact}
 use Rattle.mpf_sections.specs.declared.words.Debounce.{Debounce}
@@ -16,6 +17,7 @@ pub record Switch : Type 0 where
   pub tags : List Written
   pub activated : List Written
   pub deactivated : List Written
+  pub order : List ℕ
 
 -- an entry of `event_player`
 pub record EventPlayer : Type 0 where
@@ -73,6 +75,7 @@ pub record Flipper : Type 0 where
   pub switch : Written
   pub enables : List Handled
   pub disables : List Handled
+  pub order : List ℕ
 
 -- an entry of `autofire_coils`: its coil, its switch, and the events that enable and disable it
 pub record Autofire : Type 0 where
@@ -81,6 +84,7 @@ pub record Autofire : Type 0 where
   pub switch : Written
   pub enables : List Handled
   pub disables : List Handled
+  pub order : List ℕ
 
 -- An entry of `ball_devices`: its ball switches, the coil that ejects a ball, if there is one, and where it ejects its
 -- balls to; how many milliseconds an attempt to eject a ball lasts, and how many a ball switch has to be active before
@@ -97,6 +101,7 @@ pub record BallDevice : Type 0 where
   pub mechanical : Bool
   pub max_attempts : ℕ
   pub tags : List Written
+  pub order : List ℕ
 
 -- what `mode` says of a mode: the events that start and stop it, its priority, whether it runs only in a game, and
 -- whether it stops with the ball
@@ -132,12 +137,14 @@ pub record Counter : Type 0 where
   pub direction : Direction
   pub window : ℕ
   pub block : Block
+  pub order : List ℕ
 
 -- an entry of `accruals` or `sequences`: its steps, each with the events that do it
 pub record StepBlock : Type 0 where
   pub name : Written
   pub steps : List (List Handled)
   pub block : Block
+  pub order : List ℕ
 
 -- an event that controls a timer: what it does, and with which value
 pub record Control : Type 0 where
@@ -169,6 +176,7 @@ pub record Shot : Type 0 where
   pub resets : List Handled
   pub enables : List Handled
   pub disables : List Handled
+  pub order : List ℕ
 
 -- an entry of `shot_groups`: its shots, and the events that rotate their states, rotate them to the right and to the
 -- left, and reset them

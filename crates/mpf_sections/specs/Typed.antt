@@ -32,6 +32,14 @@ setting_of table key row = value_in (found_in setting_key key table) row
 abbrev pub field_of : List Field → List ℕ → List Plain → Option Plain
 field_of table key values = value_in (found_in field_key key table) values
 
+-- the place of a setting in a table, by its key; the one after the last where the table has no such setting
+abbrev pub place_in : {T : Type 0} → Option (ℕ × T) → ℕ → ℕ
+place_in None otherwise = otherwise
+place_in (Some found) otherwise = found.0
+
+abbrev pub place_of : List Setting → List ℕ → ℕ
+place_of table key = place_in (found_in setting_key key table) (length table)
+
 -- values of the kinds that their tables say; the last line of each is for rows that no table gives
 
 abbrev pub listed_names : Option Value → List Written
@@ -151,6 +159,7 @@ switch_of e = record {
   tags = listed_names (setting_of tables.switches (codes "tags") e.values);
   activated = listed_posts (setting_of tables.switches (codes "events_when_activated") e.values);
   deactivated = listed_posts (setting_of tables.switches (codes "events_when_deactivated") e.values);
+  order = e.order;
 }
 
 -- ---- `counters`, `accruals` and `sequences`
@@ -183,6 +192,7 @@ counter_of e = record {
   direction = direction_of (word_of (setting_of tables.counters (codes "direction") e.values));
   window = time_of (setting_of tables.counters (codes "multiple_hit_window") e.values);
   block = block_of tables.counters e.values;
+  order = e.order;
 }
 
 -- `accruals` and `sequences` have the same settings
@@ -191,6 +201,7 @@ step_block_of e = record {
   name = e.name;
   steps = listed_steps (setting_of tables.step_blocks (codes "events") e.values);
   block = block_of tables.step_blocks e.values;
+  order = e.order;
 }
 
 -- ---- `timers`

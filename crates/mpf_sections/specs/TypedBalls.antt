@@ -27,6 +27,7 @@ ball_device_of e = record {
   mechanical = flag_of (setting_of tables.ball_devices (codes "mechanical_eject") e.values);
   max_attempts = natural_within 0 1000 0 (setting_of tables.ball_devices (codes "max_eject_attempts") e.values);
   tags = listed_names (setting_of tables.ball_devices (codes "tags") e.values);
+  order = e.order;
 }
 
 -- ---- tags

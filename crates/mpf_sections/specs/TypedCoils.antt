@@ -78,6 +78,7 @@ flipper_of e = record {
   switch = needed_name tables.flippers (codes "activation_switch") e;
   enables = listed_events (setting_of tables.flippers (codes "enable_events") e.values);
   disables = listed_events (setting_of tables.flippers (codes "disable_events") e.values);
+  order = e.order;
 }
 
 unfoldable pub autofire_of : Entry → Autofire
@@ -87,6 +88,7 @@ autofire_of e = record {
   switch = needed_name tables.autofire_coils (codes "switch") e;
   enables = listed_events (setting_of tables.autofire_coils (codes "enable_events") e.values);
   disables = listed_events (setting_of tables.autofire_coils (codes "disable_events") e.values);
+  order = e.order;
 }
 
 -- ---- sections

@@ -27,6 +27,7 @@ shot_of e = record {
   resets = shot_handlers (codes "reset_events") e;
   enables = shot_handlers (codes "enable_events") e;
   disables = shot_handlers (codes "disable_events") e;
+  order = e.order;
 }
 
 -- ---- `shot_groups`

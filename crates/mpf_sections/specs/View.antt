@@ -53,6 +53,7 @@ switch_view s = record {
   tags = map name_view s.tags.now;
   activated = map name_view s.activated.now;
   deactivated = map name_view s.deactivated.now;
+  order = s.order.now;
 }
 
 abbrev pub event_player_view : typed_players.EventPlayer → EventPlayer
@@ -90,10 +91,11 @@ counter_view c = record {
   direction = c.direction;
   window = c.window;
   block = block_view c.block;
+  order = c.order.now;
 }
 
 abbrev pub step_block_view : typed_steps.StepBlock → StepBlock
-step_block_view b = record { name = name_view b.name.now; steps = map handlers_view b.steps.now; block = block_view b.block }
+step_block_view b = record { name = name_view b.name.now; steps = map handlers_view b.steps.now; block = block_view b.block; order = b.order.now }
 
 abbrev pub control_view : typed_controls.Control → Control
 control_view c = record { event = handled_at_view c.event; action = c.action; value = c.value }
@@ -151,6 +153,7 @@ flipper_view f = record {
   switch = name_at_view f.switch;
   enables = map handler_view f.enables.now;
   disables = map handler_view f.disables.now;
+  order = f.order.now;
 }
 
 abbrev pub autofire_view : typed_autofires.Autofire → Autofire
@@ -160,6 +163,7 @@ autofire_view a = record {
   switch = name_at_view a.switch;
   enables = map handler_view a.enables.now;
   disables = map handler_view a.disables.now;
+  order = a.order.now;
 }
 
 abbrev pub shot_view : typed_shots.Shot → Shot
@@ -172,6 +176,7 @@ shot_view s = record {
   resets = map handler_view s.resets.now;
   enables = map handler_view s.enables.now;
   disables = map handler_view s.disables.now;
+  order = s.order.now;
 }
 
 abbrev pub shot_group_view : typed_groups.ShotGroup → ShotGroup
@@ -204,4 +209,5 @@ ball_device_view d = record {
   mechanical = d.mechanical;
   max_attempts = d.max_attempts;
   tags = map name_view d.tags.now;
+  order = d.order.now;
 }

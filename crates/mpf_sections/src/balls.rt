@@ -35,14 +35,21 @@ pub struct BallDevice<'a> {
     pub max_attempts: u16,
     /// Its tags, of which `trough`, `home` and `drain` say what it is for.
     pub tags: &'a [Name],
+    /// The settings that are written, by their places in the table, in the order in which they are
+    /// written.
+    pub order: &'a [usize],
 }
 
 // The places of the settings in the section's table.
-const BALL_SWITCHES: usize = 0;
 
-const EJECT_COIL: usize = 1;
+/// The place of `ball_switches` in the table of `ball_devices`.
+pub const BALL_SWITCHES: usize = 0;
 
-const EJECT_TARGETS: usize = 2;
+/// The place of `eject_coil` in the table of `ball_devices`.
+pub const EJECT_COIL: usize = 1;
+
+/// The place of `eject_targets` in the table of `ball_devices`.
+pub const EJECT_TARGETS: usize = 2;
 
 const EJECT_TIMEOUTS: usize = 3;
 
@@ -92,6 +99,7 @@ pub fn as_ball_device(entry: &Entry) -> BallDevice<'_>
         mechanical: flag(row, MECHANICAL_EJECT),
         max_attempts: attempts(row, MAX_EJECT_ATTEMPTS),
         tags: names(row, TAGS),
+        order: entry.order.as_slice(),
     }
 }
 

@@ -50,6 +50,9 @@ pub struct Counter<'a> {
     /// For how many milliseconds after a hit no other counts: 0 by default.
     pub window: u32,
     pub block: Block<'a>,
+    /// The settings that are written, by their places in the table, in the order in which they are
+    /// written.
+    pub order: &'a [usize],
 }
 
 /// An entry of `accruals`, or of `sequences`.
@@ -59,6 +62,9 @@ pub struct StepBlock<'a> {
     /// The steps, each with the events that do it: at most 16.
     pub steps: &'a [Vec<Handler>],
     pub block: Block<'a>,
+    /// The settings that are written, by their places in the table, in the order in which they are
+    /// written.
+    pub order: &'a [usize],
 }
 
 // The places of the settings in the table of `counters`.
@@ -76,10 +82,22 @@ const MULTIPLE_HIT_WINDOW: usize = 5;
 
 const BLOCK_OF_COUNTER: usize = 6;
 
+/// The place of `events_when_hit` in the table of `counters`.
+pub const COUNTER_HIT: usize = 13;
+
+/// The place of `events_when_complete` in the table of `counters`.
+pub const COUNTER_COMPLETE: usize = 14;
+
 // The places in the table of `accruals` and `sequences`.
 const EVENTS: usize = 0;
 
 const BLOCK_OF_STEPS: usize = 1;
+
+/// The place of `events_when_hit` in the table of `accruals` and `sequences`.
+pub const STEPS_HIT: usize = 8;
+
+/// The place of `events_when_complete` in the table of `accruals` and `sequences`.
+pub const STEPS_COMPLETE: usize = 9;
 
 // The settings that all logic blocks have, from this place on in a row.
 fn as_block(row: &[Value], first: usize) -> Block<'_>
@@ -114,6 +132,7 @@ pub fn as_counter(entry: &Entry) -> Counter<'_>
         direction: direction(row, DIRECTION),
         window: milliseconds(row, MULTIPLE_HIT_WINDOW),
         block: as_block(row, BLOCK_OF_COUNTER),
+        order: entry.order.as_slice(),
     }
 }
 
@@ -127,5 +146,6 @@ pub fn as_step_block(entry: &Entry) -> StepBlock<'_>
         name: &entry.name,
         steps: steps(row, EVENTS),
         block: as_block(row, BLOCK_OF_STEPS),
+        order: entry.order.as_slice(),
     }
 }

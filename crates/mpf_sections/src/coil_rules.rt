@@ -23,6 +23,9 @@ pub struct Flipper<'a> {
     pub enables: &'a [Handler],
     /// The events that disable it: by default `ball_will_end`, at line 0.
     pub disables: &'a [Handler],
+    /// The settings that are written, by their places in the table, in the order in which they are
+    /// written.
+    pub order: &'a [usize],
 }
 
 /// An entry of `autofire_coils`.
@@ -36,23 +39,31 @@ pub struct Autofire<'a> {
     pub enables: &'a [Handler],
     /// The events that disable it: by default `ball_will_end`, at line 0.
     pub disables: &'a [Handler],
+    /// The settings that are written, by their places in the table, in the order in which they are
+    /// written.
+    pub order: &'a [usize],
 }
 
-// The places of the settings in the table of `flippers`.
-const MAIN_COIL: usize = 0;
+// The places of the settings in the two tables.
 
-const HOLD_COIL: usize = 1;
+/// The place of `main_coil` in the table of `flippers`.
+pub const MAIN_COIL: usize = 0;
 
-const ACTIVATION_SWITCH: usize = 2;
+/// The place of `hold_coil` in the table of `flippers`.
+pub const HOLD_COIL: usize = 1;
+
+/// The place of `activation_switch` in the table of `flippers`.
+pub const ACTIVATION_SWITCH: usize = 2;
 
 const FLIPPER_ENABLES: usize = 3;
 
 const FLIPPER_DISABLES: usize = 4;
 
-// Those in the table of `autofire_coils`.
-const COIL: usize = 0;
+/// The place of `coil` in the table of `autofire_coils`.
+pub const COIL: usize = 0;
 
-const SWITCH: usize = 1;
+/// The place of `switch` in the table of `autofire_coils`.
+pub const SWITCH: usize = 1;
 
 const AUTOFIRE_ENABLES: usize = 2;
 
@@ -85,6 +96,7 @@ pub fn as_flipper(entry: &Entry) -> Flipper<'_>
         switch: needed_name(entry, ACTIVATION_SWITCH),
         enables: handlers(row, FLIPPER_ENABLES),
         disables: handlers(row, FLIPPER_DISABLES),
+        order: entry.order.as_slice(),
     }
 }
 
@@ -100,5 +112,6 @@ pub fn as_autofire(entry: &Entry) -> Autofire<'_>
         switch: needed_name(entry, SWITCH),
         enables: handlers(row, AUTOFIRE_ENABLES),
         disables: handlers(row, AUTOFIRE_DISABLES),
+        order: entry.order.as_slice(),
     }
 }

@@ -29,6 +29,9 @@ pub struct Shot<'a> {
     pub enables: &'a [Handler],
     /// The events that disable it.
     pub disables: &'a [Handler],
+    /// The settings that are written, by their places in the table, in the order in which they are
+    /// written.
+    pub order: &'a [usize],
 }
 
 /// An entry of `shot_groups`.
@@ -61,12 +64,15 @@ pub struct ShotProfile<'a> {
     pub loops: bool,
 }
 
-// The places of the settings in the table of `shots`.
-const SWITCH: usize = 0;
+// The places of the settings in the three tables.
+
+/// The place of `switch` in the table of `shots`.
+pub const SWITCH: usize = 0;
 
 const HITS: usize = 1;
 
-const PROFILE: usize = 2;
+/// The place of `profile` in the table of `shots`.
+pub const PROFILE: usize = 2;
 
 const ADVANCES: usize = 3;
 
@@ -120,6 +126,7 @@ pub fn as_shot(entry: &Entry) -> Shot<'_>
         resets: handlers(row, SHOT_RESETS),
         enables: handlers(row, ENABLES),
         disables: handlers(row, DISABLES),
+        order: entry.order.as_slice(),
     }
 }
 

@@ -40,6 +40,9 @@ pub struct Switch<'a> {
     pub activated: &'a [Name],
     /// Also posted when it becomes inactive: `events_when_deactivated`.
     pub deactivated: &'a [Name],
+    /// The settings that are written, by their places in the table, in the order in which they are
+    /// written.
+    pub order: &'a [usize],
 }
 
 /// An entry of `event_player`: when the event is handled, the others are posted, in order.
@@ -86,9 +89,11 @@ const DEBOUNCE: usize = 1;
 
 const TAGS: usize = 2;
 
-const ACTIVATED: usize = 3;
+/// The place of `events_when_activated` in the table of `switches`.
+pub const ACTIVATED: usize = 3;
 
-const DEACTIVATED: usize = 4;
+/// The place of `events_when_deactivated` in the table of `switches`.
+pub const DEACTIVATED: usize = 4;
 
 const CLOSED: &[u8] = b"NC";
 
@@ -132,6 +137,7 @@ pub fn as_switch(entry: &Entry) -> Switch<'_>
         tags: names(row, TAGS),
         activated: posts_at(row, ACTIVATED),
         deactivated: posts_at(row, DEACTIVATED),
+        order: entry.order.as_slice(),
     }
 }
 

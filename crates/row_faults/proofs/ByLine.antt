@@ -7,7 +7,7 @@ use Rattle.std.specs.declared.cmp.Ordering.TheVariants.{Less, Equal, Greater}
 use Rattle.std.proofs.lemmas.Bool.{cases_lt, le-ltb, lt-ltb, cases_Bool}
 use Rattle.std.proofs.lemmas.List.Elements.{All-nil, All-cons, All-head, All-tail, All-weaker}
 use Rattle.std.proofs.lemmas.List.Sorted.{IsNonDecreasingBy-from_sort}
-use Rattle.row_faults.specs.RowFaults.{put_by, ordered_by}
+use Rattle.row_faults.specs.AsWritten.{put_by, ordered_by}
 
 less-is : (less same : Bool) → is_lt (cond less Less (cond same Equal Greater)) ≡ less
 less-is true same = refl

@@ -7,7 +7,8 @@ use Rattle.mpf_sections.specs.Rows.{Written}
 use Rattle.row_faults.specs.declared.fault.RowFaultKind.{RowFaultKind}
 use Rattle.row_faults.specs.FaultView.{RowFaultView}
 use Rattle.row_faults.specs.CoilFaults.{fault_at, fault_if}
-use Rattle.row_faults.specs.RowFaults.{put_by, ordered_by, listed_once}
+use Rattle.row_faults.specs.AsWritten.{put_by, ordered_by}
+use Rattle.row_faults.specs.RowFaults.{listed_once}
 
 pub filled : {X : Type 0} (x : X) (xs : List X) → x ∷ xs ≡ [] → ⊥
 filled x xs e = cc

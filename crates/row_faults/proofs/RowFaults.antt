@@ -30,7 +30,8 @@ use Rattle.machine_definitions.specs.Players.{player_event, is_set_by_game}
 use Rattle.row_faults.specs.declared.fault.RowFaultKind.TheVariants.{Name}
 use Rattle.row_faults.specs.CoilFaults.{fault_if}
 use Rattle.row_faults.specs.Reserved.{mode_events, events_of_modes, posts_in}
-use Rattle.row_faults.specs.RowFaults.{fault_line, fault_number, ordered_by, name_fault, starts_at_end, timer_fault, coil_faults_in, section_faults, written_faults, text_faults, mode_faults, is_none_taken, faults_by, listed_once}
+use Rattle.row_faults.specs.AsWritten.{ordered_by}
+use Rattle.row_faults.specs.RowFaults.{fault_line, fault_number, name_fault, starts_at_end, timer_fault, coil_faults_in, section_faults, written_faults, text_faults, mode_faults, is_none_taken, faults_by, listed_once}
 use Rattle.row_faults.specs.ShotFaults.{shot_faults, listed_in, listed_of, is_own_shot, taken_after, misplaced}
 use Rattle.row_faults.specs.View.{row_fault_view, row_faults_view}
 

@@ -1,9 +1,10 @@
 -- Rows without faults are sound.
-use Rattle.std.proofs.Common.{◌≡◌, ℕ, ◌≤◌, nat_lt, get_or, Bool, true, false, not, ◌&&◌, ◌||◌, List, [], ◌∷◌, ◌++◌, map, filter, Option, Some, None, IfSome, is_some, unwrap_or, refl}
+use Rattle.std.proofs.Common.{◌≡◌, ℕ, ◌≤◌, nat_lt, get_or, Bool, true, false, not, ◌&&◌, ◌||◌, List, [], ◌∷◌, ◌++◌, map, filter, Option, Some, None, IfSome, is_some, unwrap_or, codes, refl, arith}
 use Rattle.std.specs.Option.{is_none}
 use Rattle.std.specs.List.{All, flat_map}
 use Rattle.std.proofs.lemmas.Bool.{ltb-false, not-false}
 use Rattle.std.proofs.lemmas.List.Elements.{All-nil, All-cons, All-weaker}
+use Rattle.mpf_tables.specs.SectionTables as tables
 use Rattle.mpf_sections.specs.declared.words.CoilAction.{CoilAction}
 use Rattle.mpf_sections.specs.declared.words.CoilAction.TheVariants.{Pulse, Enable, Disable}
 use Rattle.mpf_sections.specs.Rows.{Written, Coil, CoilItem, CoilPlayer, Flipper, Autofire, VariableItem, VariablePlayer, Shot, ShotGroup, BallDevice, SectionRows}
@@ -20,15 +21,18 @@ use Rattle.mpf_config.specs.BundleText.{machine_name, mode_text_name}
 use Rattle.machine_definitions.specs.Definitions.{coil_called, has_switch, ball_devices_of}
 use Rattle.machine_definitions.specs.Shots.{shot_called, has_profile}
 use Rattle.machine_definitions.proofs.Called.{called-such}
+use Rattle.row_faults.specs.FaultView.{RowFaultView}
 use Rattle.row_faults.specs.declared.fault.RowFaultKind.TheVariants.{Name, PulseLimit, PowerLimit, HoldNotAllowed}
 use Rattle.row_faults.specs.Reserved.{events_of_modes, mode_names, is_reserved_by, posts_in, posts_of, reserved_among}
 use Rattle.row_faults.specs.CoilFaults.{fault_at, fault_if, is_above, is_enable, coil_name_faults, switch_name_faults, coil_faults, item_faults_by, item_faults, coil_player_faults, hold_faults_by, hold_faults, flipper_faults, autofire_faults}
-use Rattle.row_faults.specs.RowFaults.{fault_line, fault_number, ordered_by, name_fault, starts_at_end, timer_fault, coil_faults_in, section_faults, written_faults, all_faults, text_faults, mode_faults, is_none_taken, faults_by, row_faults}
-use Rattle.row_faults.specs.BallFaults.{is_place, eject_coil_faults, ball_device_faults, route_faults}
-use Rattle.row_faults.specs.ShotFaults.{shot_switch_faults, shot_faults, Listed, first_shot, listed_by, listed_in, listed_of, is_own_shot, are_of_two_profiles, is_misplaced, taken_with, taken_after, kept_if, misplaced}
+use Rattle.row_faults.specs.AsWritten.{ordered_by}
+use Rattle.row_faults.specs.RowFaults.{fault_line, fault_number, name_fault, starts_at_end, timer_fault, coil_faults_in, section_faults, written_faults, all_faults, text_faults, mode_faults, is_none_taken, faults_by, row_faults}
+use Rattle.row_faults.specs.BallFaults.{is_place, eject_coil_faults, target_faults, ball_device_faults, route_faults}
+use Rattle.row_faults.specs.ShotFaults.{shot_switch_faults, profile_faults, shot_faults, Listed, first_shot, listed_by, listed_in, listed_of, is_own_shot, are_of_two_profiles, is_misplaced, taken_with, taken_after, kept_if, misplaced}
 use Rattle.row_faults.specs.Sound.{ChangesNothingBarred, IsHoldWithin, IsCoilSound, IsCoilSuch, IsActionWithin, IsItemSound, IsCoilPlayerSound, IsFlipperSound, IsAutofireSound, IsShotSound, IsShotGroupSound, IsBallDeviceSound, IsSectionSound, IsSound}
 use Rattle.row_faults.proofs.None.{filled, fault_if-none, or-none, map-none, append-none, flat_map-none, filter-none, ordered-none, once-none, All-each, each-All, map-All}
 use Rattle.row_faults.proofs.Called.{machine-called, mode-called}
+use Rattle.row_faults.proofs.AsWritten.{written-none}
 use Rattle.row_faults.proofs.Routed.{route_faults-none}
 
 -- ---- tests that find nothing
@@ -44,6 +48,12 @@ weaker-some P Q (Some n) f h = f n h
 taken : (P : ℕ → Type 0) (o : Option ℕ) (d : ℕ) → IfSome o P → P d → P (unwrap_or o d)
 taken P None d h p = p
 taken P (Some n) d h p = h
+
+-- ---- settings
+
+-- a setting that is none
+abbrev no_part : List ℕ × List RowFaultView
+no_part = ([], [])
 
 -- ---- coils
 
@@ -127,16 +137,19 @@ module _ (machine : List SectionRows) (all : All IsCoilSound (flat_map coils_in 
 
   flipper-sound : (f : Flipper) → flipper_faults machine text f ≡ [] → IsFlipperSound machine f
   flipper-sound f e =
-      let main = coil_name_faults machine text f.main_coil in
-      let hold = hold_faults machine text f f.hold_coil in
-      let parts = append-none (main ++ hold) (switch_name_faults machine text f.switch) e in
-      let coils = append-none main hold parts.0 in
-      record { main_coil = named-sound f.main_coil coils.0; hold_coil = hold-sound f f.hold_coil coils.1; switch = switch-sound f.switch parts.1 }
+      let parts = (codes "main_coil", coil_name_faults machine text f.main_coil) ∷ (codes "hold_coil", hold_faults machine text f f.hold_coil) ∷ (codes "activation_switch", switch_name_faults machine text f.switch) ∷ [] in
+      let none = written-none tables.flippers f.order parts e in
+      record {
+        main_coil = named-sound f.main_coil (none 0 no_part (omega arith));
+        hold_coil = hold-sound f f.hold_coil (none 1 no_part (omega arith));
+        switch = switch-sound f.switch (none 2 no_part (omega arith));
+      }
 
   autofire-sound : (a : Autofire) → autofire_faults machine text a ≡ [] → IsAutofireSound machine a
   autofire-sound a e =
-      let parts = append-none (coil_name_faults machine text a.coil) (switch_name_faults machine text a.switch) e in
-      record { coil = named-sound a.coil parts.0; switch = switch-sound a.switch parts.1 }
+      let parts = (codes "coil", coil_name_faults machine text a.coil) ∷ (codes "switch", switch_name_faults machine text a.switch) ∷ [] in
+      let none = written-none tables.autofire_coils a.order parts e in
+      record { coil = named-sound a.coil (none 0 no_part (omega arith)); switch = switch-sound a.switch (none 1 no_part (omega arith)) }
 
   -- ---- ball devices
 
@@ -147,22 +160,25 @@ module _ (machine : List SectionRows) (all : All IsCoilSound (flat_map coils_in 
   ball_device-sound : (d : BallDevice) → ball_device_faults machine text d ≡ [] → IsBallDeviceSound machine d
   ball_device-sound d e =
       let switches = flat_map (switch_name_faults machine text) d.switches in
-      let coil = eject_coil_faults machine text d.eject_coil in
-      let parts = append-none (switches ++ coil) (fault_if (not (is_place machine d.target.text)) Name text d.target) e in
-      let names = append-none switches coil parts.0 in
-      let none = flat_map-none (switch_name_faults machine text) d.switches names.0 in
+      let parts = (codes "ball_switches", switches) ∷ (codes "eject_coil", eject_coil_faults machine text d.eject_coil) ∷ (codes "eject_targets", target_faults machine text d.target) ∷ [] in
+      let none = written-none tables.ball_devices d.order parts e in
+      let each = flat_map-none (switch_name_faults machine text) d.switches (none 0 no_part (omega arith)) in
       record {
-        switches = λ i x within. switch-sound (get_or d.switches i x) (none i x within);
-        eject_coil = eject-sound d.eject_coil names.1;
-        target = not-false (is_place machine d.target.text) (fault_if-none _ Name text d.target parts.1);
+        switches = λ i x within. switch-sound (get_or d.switches i x) (each i x within);
+        eject_coil = eject-sound d.eject_coil (none 1 no_part (omega arith));
+        target = not-false (is_place machine d.target.text) (fault_if-none _ Name text d.target (none 2 no_part (omega arith)));
       }
 
 -- ---- shots, and the shots that groups list
 
 shot-sound : (rows : Rows) (text : List ℕ) (s : Shot) → shot_faults rows text s ≡ [] → IsShotSound rows s
 shot-sound rows text s e =
-    let parts = append-none (shot_switch_faults rows.machine text s.switch) (fault_if (not (has_profile rows s.profile.text)) Name text s.profile) e in
-    record { switch = hit-sound s.switch parts.0; profile = not-false (has_profile rows s.profile.text) (fault_if-none _ Name text s.profile parts.1) }
+    let parts = (codes "switch", shot_switch_faults rows.machine text s.switch) ∷ (codes "profile", profile_faults rows text s.profile) ∷ [] in
+    let none = written-none tables.shots s.order parts e in
+    record {
+      switch = hit-sound s.switch (none 0 no_part (omega arith));
+      profile = not-false (has_profile rows s.profile.text) (fault_if-none _ Name text s.profile (none 1 no_part (omega arith)));
+    }
   where
     hit-sound : (o : Option Written) → shot_switch_faults rows.machine text o ≡ [] → IfSome o (λ w. has_switch rows.machine w.text ≡ true)
     hit-sound None e = tt

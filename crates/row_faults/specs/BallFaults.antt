@@ -1,13 +1,15 @@
 -- What is wrong with ball devices. Here `machine` is the sections of the machine text, and `text` is the name of the
 -- text.
-use Rattle.std.specs.Prelude.{ℕ, Bool, false, not, ◌||◌, List, [], ◌∷◌, ◌++◌, Option, Some, None, is_some}
+use Rattle.std.specs.Prelude.{ℕ, Bool, false, not, ◌||◌, List, [], ◌∷◌, ◌++◌, Option, Some, None, is_some, codes}
 use Rattle.std.specs.List.{flat_map}
 use Rattle.std.specs.Str.{bytes_eq}
+use Rattle.mpf_tables.specs.SectionTables as tables
 use Rattle.mpf_sections.specs.Rows.{Written, BallDevice, SectionRows}
 use Rattle.mpf_sections.specs.TypedBalls.{playfield}
 use Rattle.machine_definitions.specs.Definitions.{ball_device_called}
 use Rattle.row_faults.specs.declared.fault.RowFaultKind.TheVariants.{Name, BallRoute}
 use Rattle.row_faults.specs.FaultView.{RowFaultView}
+use Rattle.row_faults.specs.AsWritten.{as_written}
 use Rattle.row_faults.specs.CoilFaults.{fault_if, coil_name_faults, switch_name_faults}
 use Rattle.row_faults.specs.Routes.{leads_to_playfield, lacks_coil, switch_names, all_taken, is_one_taken}
 
@@ -21,12 +23,17 @@ abbrev pub eject_coil_faults : List SectionRows → List ℕ → Option Written 
 eject_coil_faults machine text None = []
 eject_coil_faults machine text (Some w) = coil_name_faults machine text w
 
--- names that no entry defines, in the order of the section's table
+abbrev pub target_faults : List SectionRows → List ℕ → Written → List RowFaultView
+target_faults machine text w = fault_if (not (is_place machine w.text)) Name text w
+
+-- names that no entry defines, as the settings are written
 abbrev pub ball_device_faults : List SectionRows → List ℕ → BallDevice → List RowFaultView
 ball_device_faults machine text d =
-    flat_map (switch_name_faults machine text) d.switches
-    ++ eject_coil_faults machine text d.eject_coil
-    ++ fault_if (not (is_place machine d.target.text)) Name text d.target
+    as_written tables.ball_devices d.order
+    ((codes "ball_switches", flat_map (switch_name_faults machine text) d.switches)
+    ∷ (codes "eject_coil", eject_coil_faults machine text d.eject_coil)
+    ∷ (codes "eject_targets", target_faults machine text d.target)
+    ∷ [])
 
 -- ---- the ways of balls
 

@@ -1,8 +1,9 @@
 -- What is wrong with coils, and with what is said of them elsewhere. Here `machine` is the sections of the machine
 -- text, which define the coils and the switches, and `text` is the name of the text.
-use Rattle.std.specs.Prelude.{ℕ, nat_lt, Bool, true, false, not, ◌&&◌, ◌||◌, List, [], ◌∷◌, ◌++◌, Option, Some, None}
+use Rattle.std.specs.Prelude.{ℕ, nat_lt, Bool, true, false, not, ◌&&◌, ◌||◌, List, [], ◌∷◌, ◌++◌, Option, Some, None, codes}
 use Rattle.std.specs.List.{flat_map}
 use Rattle.std.specs.Option.{is_none}
+use Rattle.mpf_tables.specs.SectionTables as tables
 use Rattle.mpf_sections.specs.declared.words.CoilAction.{CoilAction}
 use Rattle.mpf_sections.specs.declared.words.CoilAction.TheVariants.{Pulse, Enable, Disable}
 use Rattle.mpf_sections.specs.Rows.{Written, Coil, CoilItem, CoilPlayer, Flipper, Autofire, SectionRows}
@@ -10,6 +11,7 @@ use Rattle.machine_definitions.specs.Definitions.{coil_called, has_switch}
 use Rattle.row_faults.specs.declared.fault.RowFaultKind.{RowFaultKind}
 use Rattle.row_faults.specs.declared.fault.RowFaultKind.TheVariants.{Name, PulseLimit, PowerLimit, HoldNotAllowed}
 use Rattle.row_faults.specs.FaultView.{RowFaultView}
+use Rattle.row_faults.specs.AsWritten.{as_written}
 
 -- a fault of this kind at a name
 abbrev pub fault_at : RowFaultKind → List ℕ → Written → RowFaultView
@@ -74,10 +76,15 @@ abbrev pub hold_faults : List SectionRows → List ℕ → Flipper → Option Wr
 hold_faults machine text f None = []
 hold_faults machine text f (Some w) = hold_faults_by text f w (coil_called machine w.text)
 
--- names in the order of the section's table
+-- what is wrong with the settings of an entry, as they are written
 abbrev pub flipper_faults : List SectionRows → List ℕ → Flipper → List RowFaultView
 flipper_faults machine text f =
-    coil_name_faults machine text f.main_coil ++ hold_faults machine text f f.hold_coil ++ switch_name_faults machine text f.switch
+    as_written tables.flippers f.order
+    ((codes "main_coil", coil_name_faults machine text f.main_coil)
+    ∷ (codes "hold_coil", hold_faults machine text f f.hold_coil)
+    ∷ (codes "activation_switch", switch_name_faults machine text f.switch)
+    ∷ [])
 
 abbrev pub autofire_faults : List SectionRows → List ℕ → Autofire → List RowFaultView
-autofire_faults machine text a = coil_name_faults machine text a.coil ++ switch_name_faults machine text a.switch
+autofire_faults machine text a =
+    as_written tables.autofire_coils a.order ((codes "coil", coil_name_faults machine text a.coil) ∷ (codes "switch", switch_name_faults machine text a.switch) ∷ [])

@@ -1,5 +1,6 @@
 pub mod FaultView
 pub mod FaultText
+pub mod AsWritten
 pub mod Reserved
 pub mod CoilFaults
 pub mod ShotFaults
@@ -10,4 +11,5 @@ pub mod RowFaults
 pub mod Sound
 pub mod View
 -- what contracts of the functions inside this crate see
+pub mod Named
 pub mod Numbers

@@ -2,10 +2,13 @@
 use Rattle.std.specs.Prelude.{ℕ, Bool, ◌||◌, List, [], ◌∷◌, ◌++◌, map, filter, codes}
 use Rattle.std.specs.List.{flat_map}
 use Rattle.yaml_subset.specs.Keys.{is_among}
+use Rattle.section_tables.specs.Kinds.{Setting}
+use Rattle.mpf_tables.specs.SectionTables as tables
 use Rattle.mpf_sections.specs.Rows.{Written, Switch, EventPlayer, Block, Counter, StepBlock, SectionRows}
 use Rattle.mpf_config.specs.Rows.{Rows}
 use Rattle.machine_definitions.specs.GameEvents.{reserved_game_events}
 use Rattle.mpf_sections.specs.Typed.{switches_in, event_players_in, counters_in, accruals_in, sequences_in, listed_modes}
+use Rattle.row_faults.specs.AsWritten.{as_written}
 
 -- ---- reserved events
 
@@ -34,22 +37,23 @@ is_reserved rows name = is_reserved_by (events_of_modes (mode_names rows)) name
 
 -- ---- posts as written
 
--- of a switch those of its becoming active are before those of its becoming inactive
+-- when a switch becomes active, and when it becomes inactive
 abbrev pub switch_posts : Switch → List Written
-switch_posts s = s.activated ++ s.deactivated
+switch_posts s =
+    as_written tables.switches s.order ((codes "events_when_activated", s.activated) ∷ (codes "events_when_deactivated", s.deactivated) ∷ [])
 
 abbrev pub player_posts : EventPlayer → List Written
 player_posts p = p.posts
 
--- of a block those that it posts in place of its own: first when it is hit, then when it completes
-abbrev pub block_posts : Block → List Written
-block_posts b = b.hit ++ b.complete
+-- what a block posts in place of its own when it is hit, and when it completes
+abbrev pub block_posts : List Setting → List ℕ → Block → List Written
+block_posts table order b = as_written table order ((codes "events_when_hit", b.hit) ∷ (codes "events_when_complete", b.complete) ∷ [])
 
 abbrev pub counter_posts : Counter → List Written
-counter_posts c = block_posts c.block
+counter_posts c = block_posts tables.counters c.order c.block
 
 abbrev pub step_posts : StepBlock → List Written
-step_posts s = block_posts s.block
+step_posts s = block_posts tables.step_blocks s.order s.block
 
 -- what a section posts, entry by entry as written
 abbrev pub posts_in : SectionRows → List Written

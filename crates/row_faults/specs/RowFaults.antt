@@ -1,5 +1,5 @@
 -- The faults of rows, in the order in which a report lists them.
-use Rattle.std.specs.Prelude.{ℕ, ℤ, nat_lt, int_le, Bool, false, if◌then◌else◌, List, [], ◌∷◌, ◌++◌, Option, None, Some, map, filter}
+use Rattle.std.specs.Prelude.{ℕ, ℤ, int_le, Bool, false, if◌then◌else◌, List, [], ◌∷◌, ◌++◌, Option, None, Some, map, filter}
 use Rattle.std.specs.List.{flat_map}
 use Rattle.yaml_subset.specs.Keys.{is_among}
 use Rattle.mpf_sections.specs.declared.words.Direction.{Direction}
@@ -12,6 +12,7 @@ use Rattle.mpf_config.specs.BundleText.{machine_name, mode_text_name}
 use Rattle.row_faults.specs.declared.fault.RowFaultKind.TheVariants.{Name, TimerAtEnd}
 use Rattle.row_faults.specs.FaultView.{RowFaultView}
 use Rattle.row_faults.specs.FaultText.{row_fault_number, row_fault_line}
+use Rattle.row_faults.specs.AsWritten.{ordered_by}
 use Rattle.row_faults.specs.Reserved.{events_of_modes, mode_names, posts_in, reserved_among}
 use Rattle.row_faults.specs.VariableFaults.{variable_faults}
 use Rattle.row_faults.specs.CoilFaults.{fault_at, coil_faults, coil_player_faults, flipper_faults, autofire_faults}
@@ -69,16 +70,6 @@ written_faults modes rows is_own is_taken text (s ∷ ss) =
     ++ written_faults modes rows is_own (taken_after is_taken (listed_in rows s)) text ss
 
 -- ---- by line
-
--- an item before the first one of no lower number
-abbrev pub put_by : {X : Type 0} → (X → ℕ) → X → List X → List X
-put_by number x [] = x ∷ []
-put_by number x (y ∷ ys) = if nat_lt (number y) (number x) then y ∷ put_by number x ys else x ∷ y ∷ ys
-
--- items by their numbers, lowest first, equal ones as they are
-abbrev pub ordered_by : {X : Type 0} → (X → ℕ) → List X → List X
-ordered_by number [] = []
-ordered_by number (x ∷ xs) = put_by number x (ordered_by number xs)
 
 -- the line of a fault, and the number of its kind
 abbrev pub fault_line : RowFaultView → ℕ

@@ -1,14 +1,16 @@
 -- What is wrong with shots, and with the shots that groups list. Here `rows` are those of all texts, and `text` is the
 -- name of the text.
-use Rattle.std.specs.Prelude.{ℕ, Bool, true, false, not, ◌||◌, List, [], ◌∷◌, ◌++◌, map, Option, Some, None}
+use Rattle.std.specs.Prelude.{ℕ, Bool, true, false, not, ◌||◌, List, [], ◌∷◌, map, Option, Some, None, codes}
 use Rattle.std.specs.List.{flat_map, list_any}
 use Rattle.std.specs.Str.{bytes_eq}
+use Rattle.mpf_tables.specs.SectionTables as tables
 use Rattle.mpf_sections.specs.Rows.{Written, Shot, ShotGroup, SectionRows}
 use Rattle.mpf_sections.specs.TypedShots.{shots_in, shot_groups_in}
 use Rattle.mpf_config.specs.Rows.{Rows}
 use Rattle.machine_definitions.specs.Shots.{shot_called, has_profile}
 use Rattle.row_faults.specs.declared.fault.RowFaultKind.TheVariants.{Name}
 use Rattle.row_faults.specs.FaultView.{RowFaultView}
+use Rattle.row_faults.specs.AsWritten.{as_written}
 use Rattle.row_faults.specs.CoilFaults.{fault_if, switch_name_faults}
 
 -- ---- entries of `shots`
@@ -17,10 +19,13 @@ abbrev pub shot_switch_faults : List SectionRows → List ℕ → Option Written
 shot_switch_faults machine text None = []
 shot_switch_faults machine text (Some w) = switch_name_faults machine text w
 
--- a switch or a profile that no entry defines, in the order of the section's table
+abbrev pub profile_faults : Rows → List ℕ → Written → List RowFaultView
+profile_faults rows text w = fault_if (not (has_profile rows w.text)) Name text w
+
+-- a switch or a profile that no entry defines, as the settings are written
 abbrev pub shot_faults : Rows → List ℕ → Shot → List RowFaultView
 shot_faults rows text s =
-    shot_switch_faults rows.machine text s.switch ++ fault_if (not (has_profile rows s.profile.text)) Name text s.profile
+    as_written tables.shots s.order ((codes "switch", shot_switch_faults rows.machine text s.switch) ∷ (codes "profile", profile_faults rows text s.profile) ∷ [])
 
 -- ---- the shots that groups list
 

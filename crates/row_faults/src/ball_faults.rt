@@ -5,14 +5,16 @@ ghost use Rattle.std.specs.List.{flat_map};
 ghost use Rattle.mpf_sections.specs.TypedBalls.{ball_device_of, ball_devices_in};
 ghost use Rattle.mpf_sections.specs.View.{name_view, name_at_view, entry_view, section_view, ball_device_view};
 ghost use Rattle.row_faults.specs.CoilFaults.{switch_name_faults};
-ghost use Rattle.row_faults.specs.BallFaults.{is_place, eject_coil_faults, ball_device_faults};
+ghost use Rattle.row_faults.specs.BallFaults.{is_place, eject_coil_faults, target_faults, ball_device_faults};
 ghost use Rattle.row_faults.specs.View.{row_faults_view};
 
 use crate::adding::{add_if, at};
+use crate::as_written::{Named, add_as_written};
 use crate::coil_faults::{add_coil_name, add_switch_name};
 use crate::fault::{RowFault, RowFaultKind};
 use machine_definitions::Definitions;
 use mpf_config::{Entry, Name, NameAt, Section};
+use mpf_sections::balls::{BALL_SWITCHES, EJECT_COIL, EJECT_TARGETS};
 use mpf_sections::{BallDevice, as_ball_device};
 use mpf_tables::tables::{BALL_DEVICES_NAME, PLAYFIELD};
 use std::alloc::{AllocError, Global};
@@ -63,21 +65,16 @@ fn add_ball_device(
 ) -> Result<(), AllocError>
     ensures { OnOk result (row_faults_view faults.new.items ≡ row_faults_view faults.old.items ++ ball_device_faults definitions.now.machine text.now (ball_device_view device.entry)) }
 {
-    add_switches(alloc, faults, definitions, text, device.switches)?;
-    add_eject_coil(alloc, faults, definitions, text, device.eject_coil)?;
-    let unknown = !is_place(definitions, device.target.text);
-    add_if(
-        alloc,
-        faults,
-        unknown,
-        RowFaultKind::Name,
-        text,
-        device.target,
-    )
+    let parts = [
+        (BALL_SWITCHES, Named::Switches(device.switches)),
+        (EJECT_COIL, Named::Coil(device.eject_coil)),
+        (EJECT_TARGETS, Named::Target(device.target)),
+    ];
+    add_as_written(alloc, faults, definitions, text, device.order, &parts)
 }
 
-/// Adds a fault for each of these ball switches that no entry defines.
-fn add_switches(
+/// Adds a fault for each of these switches that no entry defines.
+pub(crate) fn add_switches(
     alloc: Global,
     faults: &mut Vec<RowFault>,
     definitions: &Definitions<'_>,
@@ -92,8 +89,8 @@ fn add_switches(
     Ok(())
 }
 
-/// Adds a fault where a ball device has an eject coil that no entry defines.
-fn add_eject_coil(
+/// Adds a fault where a setting names a coil that no entry defines.
+pub(crate) fn add_named_coil(
     alloc: Global,
     faults: &mut Vec<RowFault>,
     definitions: &Definitions<'_>,
@@ -106,6 +103,20 @@ fn add_eject_coil(
         Some(name) => add_coil_name(alloc, faults, definitions, text, name),
         None => Ok(()),
     }
+}
+
+/// Adds a fault where balls cannot be ejected to a place of this name.
+pub(crate) fn add_target(
+    alloc: Global,
+    faults: &mut Vec<RowFault>,
+    definitions: &Definitions<'_>,
+    text: &[u8],
+    target: NameAt<'_>,
+) -> Result<(), AllocError>
+    ensures { OnOk result (row_faults_view faults.new.items ≡ row_faults_view faults.old.items ++ target_faults definitions.now.machine text.now (name_at_view target.entry)) }
+{
+    let unknown = !is_place(definitions, target.text);
+    add_if(alloc, faults, unknown, RowFaultKind::Name, text, target)
 }
 
 /// Whether balls can be ejected to a place of this name.

@@ -3,18 +3,20 @@
 ghost use Rattle.std.specs.Prelude.{◌≡◌, ◌++◌, ◌||◌, ◌&&◌, not, nat_lt, Some, map, option_map, OnOk};
 ghost use Rattle.std.specs.List.{flat_map};
 ghost use Rattle.mpf_sections.specs.TypedCoils.{coil_of, coil_item_of, coil_player_of, flipper_of, autofire_of};
-ghost use Rattle.mpf_sections.specs.View.{keyed_view, entry_view, player_view, section_view, name_at_view, coil_view, coil_item_view, flipper_view};
+ghost use Rattle.mpf_sections.specs.View.{keyed_view, entry_view, player_view, section_view, name_at_view, coil_view, coil_item_view, flipper_view, autofire_view};
 ghost use Rattle.row_faults.specs.CoilFaults.{is_above, is_enable, coil_name_faults, switch_name_faults, coil_faults, item_faults_by, item_faults, coil_player_faults, hold_faults_by, hold_faults, flipper_faults, autofire_faults};
 ghost use Rattle.row_faults.specs.RowFaults.{coil_faults_in};
 ghost use Rattle.row_faults.specs.View.{row_faults_view};
 
 use crate::adding::{add_if, at};
+use crate::as_written::{Named, add_as_written};
 use crate::fault::{RowFault, RowFaultKind};
 use machine_definitions::Definitions;
 use mpf_config::{
-    Coil, CoilAction, CoilItem, Entry, Flipper, Keyed, NameAt, Player, Section, as_autofire,
-    as_coil, as_coil_item, as_coil_player, as_flipper,
+    Autofire, Coil, CoilAction, CoilItem, Entry, Flipper, Keyed, NameAt, Player, Section,
+    as_autofire, as_coil, as_coil_item, as_coil_player, as_flipper,
 };
+use mpf_sections::coil_rules::{ACTIVATION_SWITCH, COIL, HOLD_COIL, MAIN_COIL, SWITCH};
 use mpf_tables::tables::{AUTOFIRE_COILS_NAME, COIL_PLAYER_NAME, COILS_NAME, FLIPPERS_NAME};
 use std::alloc::{AllocError, Global};
 
@@ -275,13 +277,16 @@ fn add_flipper(
 ) -> Result<(), AllocError>
     ensures { OnOk result (row_faults_view faults.new.items ≡ row_faults_view faults.old.items ++ flipper_faults definitions.now.machine text.now (flipper_view flipper.entry)) }
 {
-    add_coil_name(alloc, faults, definitions, text, flipper.main_coil)?;
-    add_hold_coil(alloc, faults, definitions, text, flipper)?;
-    add_switch_name(alloc, faults, definitions, text, flipper.switch)
+    let parts = [
+        (MAIN_COIL, Named::Coil(Some(flipper.main_coil))),
+        (HOLD_COIL, Named::HoldCoil(flipper)),
+        (ACTIVATION_SWITCH, Named::Switch(Some(flipper.switch))),
+    ];
+    add_as_written(alloc, faults, definitions, text, flipper.order, &parts)
 }
 
 /// Adds the fault of a flipper's hold coil, if it has one.
-fn add_hold_coil(
+pub(crate) fn add_hold_coil(
     alloc: Global,
     faults: &mut Vec<RowFault>,
     definitions: &Definitions<'_>,
@@ -345,9 +350,24 @@ fn add_autofires(
     ensures { OnOk result (row_faults_view faults.new.items ≡ row_faults_view faults.old.items ++ flat_map (autofire_faults definitions.now.machine text.now) (map autofire_of (map entry_view entries.now))) }
 {
     for entry in entries {
-        let autofire = as_autofire(entry);
-        add_coil_name(alloc, faults, definitions, text, autofire.coil)?;
-        add_switch_name(alloc, faults, definitions, text, autofire.switch)?;
+        add_autofire(alloc, faults, definitions, text, as_autofire(entry))?;
     }
     Ok(())
+}
+
+/// Adds the faults of an autofire coil.
+fn add_autofire(
+    alloc: Global,
+    faults: &mut Vec<RowFault>,
+    definitions: &Definitions<'_>,
+    text: &[u8],
+    autofire: Autofire<'_>,
+) -> Result<(), AllocError>
+    ensures { OnOk result (row_faults_view faults.new.items ≡ row_faults_view faults.old.items ++ autofire_faults definitions.now.machine text.now (autofire_view autofire.entry)) }
+{
+    let parts = [
+        (COIL, Named::Coil(Some(autofire.coil))),
+        (SWITCH, Named::Switch(Some(autofire.switch))),
+    ];
+    add_as_written(alloc, faults, definitions, text, autofire.order, &parts)
 }

@@ -4,6 +4,7 @@
 #![tactic(auto)]
 
 mod adding;
+mod as_written;
 mod ball_faults;
 mod coil_faults;
 pub mod fault;

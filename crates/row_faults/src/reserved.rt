@@ -6,13 +6,17 @@ ghost use Rattle.yaml_subset.specs.Keys.{is_among};
 ghost use Rattle.mpf_sections.specs.View.{name_view, entry_view, player_view, section_view};
 ghost use Rattle.mpf_config.specs.View.{mode_view};
 ghost use Rattle.mpf_sections.specs.Typed.{switch_of, event_player_of, counter_of, step_block_of};
+ghost use Rattle.row_faults.specs.AsWritten.{in_order};
 ghost use Rattle.row_faults.specs.Reserved.{mode_events, events_of_modes, is_reserved_by, switch_posts, player_posts, counter_posts, step_posts, posts_in, reserved_among};
 ghost use Rattle.row_faults.specs.View.{keys_view, written_view};
 
+use crate::as_written::as_written;
 use machine_definitions::is_reserved_game_event;
 use mpf_config::{
     Entry, ModeText, Name, Player, Section, as_counter, as_event_player, as_step_block, as_switch,
 };
+use mpf_sections::blocks::{COUNTER_COMPLETE, COUNTER_HIT, STEPS_COMPLETE, STEPS_HIT};
+use mpf_sections::typed::{ACTIVATED, DEACTIVATED};
 use mpf_tables::tables::{
     ACCRUALS_NAME, COUNTERS_NAME, EVENT_PLAYER_NAME, SEQUENCES_NAME, SWITCHES_NAME,
 };
@@ -94,28 +98,30 @@ pub(crate) fn reserved_posts<'a>(
     ensures { IfOk result (λ found. written_view found.items ≡ reserved_among (keys_view modes.now) (posts_in (section_view section.now))) }
 {
     let mut found: Vec<&'a Name> = Vec::new(alloc);
-    add_section(&mut found, modes, section)?;
+    add_section(alloc, &mut found, modes, section)?;
     Ok(found)
 }
 
 /// Adds the reserved events that a section posts, entry by entry as written.
 #[tactic(auto, unfolding(mpf_sections::specs::Typed::switches_in, mpf_sections::specs::Typed::event_players_in, mpf_sections::specs::Typed::counters_in, mpf_sections::specs::Typed::accruals_in, mpf_sections::specs::Typed::sequences_in))]
 fn add_section<'a>(
+    alloc: Global,
     found: &mut Vec<&'a Name>,
     modes: &ModeEvents,
     section: &'a Section,
 ) -> Result<(), AllocError>
     ensures { OnOk result (written_view found.new.items ≡ written_view found.old.items ++ reserved_among (keys_view modes.now) (posts_in (section_view section.now))) }
 {
-    add_switches(found, modes, section.entries_of(SWITCHES_NAME))?;
+    add_switches(alloc, found, modes, section.entries_of(SWITCHES_NAME))?;
     add_players(found, modes, section.players_of(EVENT_PLAYER_NAME))?;
-    add_counters(found, modes, section.entries_of(COUNTERS_NAME))?;
-    add_step_blocks(found, modes, section.entries_of(ACCRUALS_NAME))?;
-    add_step_blocks(found, modes, section.entries_of(SEQUENCES_NAME))
+    add_counters(alloc, found, modes, section.entries_of(COUNTERS_NAME))?;
+    add_step_blocks(alloc, found, modes, section.entries_of(ACCRUALS_NAME))?;
+    add_step_blocks(alloc, found, modes, section.entries_of(SEQUENCES_NAME))
 }
 
 /// Adds those that switches post.
 fn add_switches<'a>(
+    alloc: Global,
     found: &mut Vec<&'a Name>,
     modes: &ModeEvents,
     entries: &'a [Entry],
@@ -124,8 +130,11 @@ fn add_switches<'a>(
 {
     for entry in entries {
         let switch = as_switch(entry);
-        add_names(found, modes, switch.activated)?;
-        add_names(found, modes, switch.deactivated)?;
+        let parts = [
+            (ACTIVATED, switch.activated),
+            (DEACTIVATED, switch.deactivated),
+        ];
+        add_as_written(alloc, found, modes, switch.order, &parts)?;
     }
     Ok(())
 }
@@ -147,6 +156,7 @@ fn add_players<'a>(
 
 /// Adds those that counters post.
 fn add_counters<'a>(
+    alloc: Global,
     found: &mut Vec<&'a Name>,
     modes: &ModeEvents,
     entries: &'a [Entry],
@@ -154,15 +164,19 @@ fn add_counters<'a>(
     ensures { OnOk result (written_view found.new.items ≡ written_view found.old.items ++ reserved_among (keys_view modes.now) (flat_map counter_posts (map counter_of (map entry_view entries.now)))) }
 {
     for entry in entries {
-        let block = as_counter(entry).block;
-        add_names(found, modes, block.hit)?;
-        add_names(found, modes, block.complete)?;
+        let counter = as_counter(entry);
+        let parts = [
+            (COUNTER_HIT, counter.block.hit),
+            (COUNTER_COMPLETE, counter.block.complete),
+        ];
+        add_as_written(alloc, found, modes, counter.order, &parts)?;
     }
     Ok(())
 }
 
 /// Adds those that accruals or sequences post.
 fn add_step_blocks<'a>(
+    alloc: Global,
     found: &mut Vec<&'a Name>,
     modes: &ModeEvents,
     entries: &'a [Entry],
@@ -170,9 +184,41 @@ fn add_step_blocks<'a>(
     ensures { OnOk result (written_view found.new.items ≡ written_view found.old.items ++ reserved_among (keys_view modes.now) (flat_map step_posts (map step_block_of (map entry_view entries.now)))) }
 {
     for entry in entries {
-        let block = as_step_block(entry).block;
-        add_names(found, modes, block.hit)?;
-        add_names(found, modes, block.complete)?;
+        let steps = as_step_block(entry);
+        let parts = [
+            (STEPS_HIT, steps.block.hit),
+            (STEPS_COMPLETE, steps.block.complete),
+        ];
+        add_as_written(alloc, found, modes, steps.order, &parts)?;
+    }
+    Ok(())
+}
+
+/// Adds the reserved ones of the names that settings have, in the order in which the settings are
+/// written.
+fn add_as_written<'a>(
+    alloc: Global,
+    found: &mut Vec<&'a Name>,
+    modes: &ModeEvents,
+    order: &[usize],
+    parts: &[(usize, &'a [Name])],
+) -> Result<(), AllocError>
+    ensures { OnOk result (written_view found.new.items ≡ written_view found.old.items ++ reserved_among (keys_view modes.now) (in_order order.now (map (λ part. (part.0, map name_view part.1.now)) parts.now))) }
+{
+    let sorted = as_written(alloc, order, parts)?;
+    add_parts(found, modes, &sorted)?;
+    Ok(())
+}
+
+fn add_parts<'a>(
+    found: &mut Vec<&'a Name>,
+    modes: &ModeEvents,
+    parts: &[(usize, &'a [Name])],
+) -> Result<(), AllocError>
+    ensures { OnOk result (written_view found.new.items ≡ written_view found.old.items ++ reserved_among (keys_view modes.now) (flat_map (λ part. map name_view part.1.now) parts.now)) }
+{
+    for part in parts {
+        add_names(found, modes, part.1)?;
     }
     Ok(())
 }

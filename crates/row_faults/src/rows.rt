@@ -5,7 +5,8 @@ ghost use Rattle.std.specs.List.{filter, flat_map};
 ghost use Rattle.mpf_sections.specs.Typed.{timer_of, timers_in};
 ghost use Rattle.mpf_sections.specs.View.{entry_view, section_view, timer_view};
 ghost use Rattle.mpf_config.specs.View.{mode_view, rows_view};
-ghost use Rattle.row_faults.specs.RowFaults.{name_fault, has_reached, starts_at_end, timer_fault, section_faults, written_faults, ordered_by, fault_line, fault_number, text_faults, mode_faults, faults_by, row_faults};
+ghost use Rattle.row_faults.specs.AsWritten.{ordered_by};
+ghost use Rattle.row_faults.specs.RowFaults.{name_fault, has_reached, starts_at_end, timer_fault, section_faults, written_faults, fault_line, fault_number, text_faults, mode_faults, faults_by, row_faults};
 ghost use Rattle.row_faults.specs.ShotFaults.{listed_in, listed_of, taken_after};
 ghost use Rattle.row_faults.specs.Sound.{IsSound};
 ghost use Rattle.machine_definitions.specs.Found.{is_found};
@@ -30,8 +31,9 @@ use std::alloc::{AllocError, Global};
 use std::collections::BTreeSet;
 
 /// The faults of the rows of a configuration, in the order in which a report lists them: by text,
-/// line and number. Those that print the same line are listed once. Rows without any are sound: no
-/// coil is sent what goes past its limits, and the balls of each ball device come to the playfield.
+/// line and number, and those of one line and number as they are written. Those that print the same
+/// line are listed once. Rows without any are sound: no coil is sent what goes past its limits, and
+/// the balls of each ball device come to the playfield.
 ///
 /// # Errors
 ///

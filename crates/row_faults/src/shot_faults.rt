@@ -6,14 +6,16 @@ ghost use Rattle.std.specs.Str.{bytes_eq};
 ghost use Rattle.mpf_sections.specs.TypedShots.{shot_of, shot_group_of, shots_in};
 ghost use Rattle.mpf_sections.specs.View.{name_view, name_at_view, entry_view, section_view, shot_view, shot_group_view};
 ghost use Rattle.machine_definitions.specs.Found.{is_found};
-ghost use Rattle.row_faults.specs.ShotFaults.{shot_switch_faults, shot_faults, first_shot, listed_with, listed_by, listed_in, is_own_shot, are_of_two_profiles, is_misplaced, taken_after, kept_if, misplaced};
+ghost use Rattle.row_faults.specs.ShotFaults.{shot_switch_faults, profile_faults, shot_faults, first_shot, listed_with, listed_by, listed_in, is_own_shot, are_of_two_profiles, is_misplaced, taken_after, kept_if, misplaced};
 ghost use Rattle.row_faults.specs.View.{row_faults_view, written_view};
 
 use crate::adding::add_if;
+use crate::as_written::{Named, add_as_written};
 use crate::coil_faults::add_switch_name;
 use crate::fault::{RowFault, RowFaultKind};
 use machine_definitions::Definitions;
 use mpf_config::{Entry, Name, NameAt, Section, Shot, ShotGroup, as_shot, as_shot_group};
+use mpf_sections::shots::{PROFILE, SWITCH};
 use mpf_tables::tables::{SHOT_GROUPS_NAME, SHOTS_NAME};
 use std::alloc::{AllocError, Global};
 use std::collections::BTreeSet;
@@ -69,20 +71,29 @@ fn add_shot(
 ) -> Result<(), AllocError>
     ensures { OnOk result (row_faults_view faults.new.items ≡ row_faults_view faults.old.items ++ shot_faults definitions.now text.now (shot_view shot.entry)) }
 {
-    add_switch(alloc, faults, definitions, text, shot.switch)?;
-    let unknown = !definitions.has_profile(shot.profile.text);
-    add_if(
-        alloc,
-        faults,
-        unknown,
-        RowFaultKind::Name,
-        text,
-        shot.profile,
-    )
+    let parts = [
+        (SWITCH, Named::Switch(shot.switch)),
+        (PROFILE, Named::Profile(shot.profile)),
+    ];
+    add_as_written(alloc, faults, definitions, text, shot.order, &parts)
 }
 
-/// Adds a fault where a shot has a switch that no entry defines.
-fn add_switch(
+/// Adds a fault where no entry defines the profile of this name.
+pub(crate) fn add_profile(
+    alloc: Global,
+    faults: &mut Vec<RowFault>,
+    definitions: &Definitions<'_>,
+    text: &[u8],
+    profile: NameAt<'_>,
+) -> Result<(), AllocError>
+    ensures { OnOk result (row_faults_view faults.new.items ≡ row_faults_view faults.old.items ++ profile_faults definitions.now text.now (name_at_view profile.entry)) }
+{
+    let unknown = !definitions.has_profile(profile.text);
+    add_if(alloc, faults, unknown, RowFaultKind::Name, text, profile)
+}
+
+/// Adds a fault where a setting names a switch that no entry defines.
+pub(crate) fn add_named_switch(
     alloc: Global,
     faults: &mut Vec<RowFault>,
     definitions: &Definitions<'_>,

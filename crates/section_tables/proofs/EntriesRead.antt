@@ -8,7 +8,7 @@ use Rattle.section_tables.specs.Rows.{Written, Plain, Value, Entry, Player}
 use Rattle.section_tables.specs.Kinds.{at_least, Setting, PlayerKinds}
 use Rattle.section_tables.specs.Entries.{pairs_below, is_ignored, written_at}
 use Rattle.section_tables.specs.Tables.{setting_key, setting_default, setting_lacks}
-use Rattle.section_tables.specs.EntryOf.{IsWritten, IsSetting, IsOneOf, IsEntry, IsOtherEntry, AreEntries, IsPlayer, ArePlayers, AreNamesListed}
+use Rattle.section_tables.specs.EntryOf.{IsWritten, IsSetting, IsOneOf, places_written, IsEntry, IsOtherEntry, AreEntries, IsPlayer, ArePlayers, AreNamesListed}
 use Rattle.section_tables.specs.Reading.{most_items, IsReadOr, IsReadOrLong, ◌>>=◌, Spot, rows_fault_at, key_spot, expect, each_read, scalar_of, value_at, setting_at, values_at, is_one_of, entry_at, other_entry_at, entries_at, player_at, players_at, written_in, names_at}
 use Rattle.section_tables.proofs.Steps.{bind_ok, guard_true, guard_false, ok_is, expected}
 use Rattle.section_tables.proofs.Outcomes.{then_or, each_sound, each_or}
@@ -22,22 +22,23 @@ use Rattle.section_tables.proofs.ValuesRead.{value_sound, value_complete}
 setting_sound : (s : Setting) (spot : Spot) (node : Node) (v : Value) → setting_at s spot node ≡ Ok v → IsSetting 1024 s node v
 setting_sound s spot node v e = value_sound s.kind spot node v e
 
-abbrev entry_made : Pair → List Value → Entry
-entry_made p row = record { name = written_at p.line p.key; values = row }
+abbrev entry_made : List Setting → Pair → List Pair → List Value → Entry
+entry_made table p pairs row = record { name = written_at p.line p.key; values = row; order = places_written table pairs }
 
 pub entry_sound : (text : List ℕ) (table : List Setting) (p : Pair) (e : Entry) → entry_at text table p ≡ Ok e → IsEntry 1024 table p e
 unfolding entry_at
 entry_sound text table p e is =
     let spot = key_spot text p in
-    let a = guard_true (is_name p.key) (expect spot (pairs_below p.value) >>= λ pairs. values_at spot table pairs >>= λ row. Ok (entry_made p row)) (rows_fault_at BadValue spot) e is in
-    let b = bind_ok (expect spot (pairs_below p.value)) (λ pairs. values_at spot table pairs >>= λ row. Ok (entry_made p row)) e a.1 in
-    let c = bind_ok (values_at spot table b.0) (λ row. Ok (entry_made p row)) e b.2 in
+    let a = guard_true (is_name p.key) (expect spot (pairs_below p.value) >>= λ pairs. values_at spot table pairs >>= λ row. Ok (entry_made table p pairs row)) (rows_fault_at BadValue spot) e is in
+    let b = bind_ok (expect spot (pairs_below p.value)) (λ pairs. values_at spot table pairs >>= λ row. Ok (entry_made table p pairs row)) e a.1 in
+    let c = bind_ok (values_at spot table b.0) (λ row. Ok (entry_made table p b.0 row)) e b.2 in
     let s = row_sound setting_key setting_at (IsSetting 1024) is_ignored setting_sound setting_default setting_lacks spot table b.0 c.0 c.1 in
-    subst (IsEntry 1024 table p) (ok_is (entry_made p c.0) e c.2)
+    subst (IsEntry 1024 table p) (ok_is (entry_made table p b.0 c.0) e c.2)
     (record {
       is_name = IsName-from_is_name p.key a.0;
       name = refl;
       row = record { pairs = b.0; has = expected spot (pairs_below p.value) b.0 b.1; overwritten = s.0; whole = s.1 };
+      order = refl;
     })
 
 pub entry_complete : (text : List ℕ) (table : List Setting) (p : Pair) (longest : ℕ) (e : Entry) → IsEntry longest table p e → IsReadOrLong longest (entry_at text table p) e
@@ -47,7 +48,8 @@ entry_complete text table p longest e h =
     let row = row_complete setting_key setting_at (IsSetting longest) is_ignored longest (λ s at n v. value_complete longest s.kind at n v) setting_default setting_lacks spot table h.row.pairs e.values
     h.row.overwritten h.row.whole in
     rw (is_name-from_IsName p.key h.is_name, h.row.has)
-    (then_or (most_items < longest) (values_at spot table h.row.pairs) (λ r. Ok (entry_made p r)) e.values e row (inl (λ i. Ok (record { name = sym h.name i; values = e.values }))))
+    (then_or (most_items < longest) (values_at spot table h.row.pairs) (λ r. Ok (entry_made table p h.row.pairs r)) e.values e row
+    (inl (λ i. Ok (record { name = sym h.name i; values = e.values; order = sym h.order i }))))
 
 other_sound : (text : List ℕ) (barred : List (List ℕ)) (table : List Setting) (p : Pair) (e : Entry) → other_entry_at text barred table p ≡ Ok e → IsOtherEntry 1024 barred table p e
 unfolding other_entry_at

@@ -6,7 +6,7 @@ use Rattle.yaml_subset.specs.View.{line_of, text_in}
 use Rattle.mpf_values.specs.Reading.{is_name}
 use Rattle.mpf_values.proofs.NameTexts.{IsName-from_is_name, is_name-from_IsName}
 use Rattle.section_tables.specs.declared.fault.FaultKind.TheVariants.{BadValue}
-use Rattle.section_tables.specs.Rows.{Written, Handled, Plain, Fields, Keyed, Value, one, names, posts, events, steps, maps, keyed, RowsFault}
+use Rattle.section_tables.specs.Rows.{Handled, Plain, Fields, Keyed, Value, one, names, posts, events, steps, maps, keyed, RowsFault}
 use Rattle.section_tables.specs.Kinds.{Scalar, Bounds, at_least, fits, Field, Kind, single, name_list, post_list, event_list, step_list, map_list, named_maps, keyed_maps}
 use Rattle.section_tables.specs.Entries.{pairs_below, written_at}
 use Rattle.section_tables.specs.Tables.{field_key, field_default, field_lacks}

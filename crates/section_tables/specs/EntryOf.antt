@@ -1,6 +1,6 @@
 -- What the row of an entry is, by the table of its section, however it is read.
 use Rattle.std.specs.Prelude.{◌≡◌, ◌≢◌, ℕ, ℤ, ◌≤◌, Bool, true, false, ◌&&◌, int_le, List, [], ◌∷◌, length, map, Option, Some, None, set, ◌⊎◌}
-use Rattle.std.specs.List.{AllZip, AllPairs}
+use Rattle.std.specs.List.{AllZip, AllPairs, flat_map}
 use Rattle.yaml_subset.specs.Node.{Node, Pair}
 use Rattle.yaml_subset.specs.View.{line_of, text_in}
 use Rattle.mpf_values.specs.Booleans.{IsBoolean}
@@ -159,11 +159,22 @@ IsSetting longest s node v = IsValue longest s.kind node v
 
 -- ---- entries
 
--- An entry of a section with this table: a name, and the row of its mapping.
+-- the place in a table that is found, if one is
+abbrev pub place_found : {T : Type 0} → Option (ℕ × T) → List ℕ
+place_found None = []
+place_found (Some found) = found.0 ∷ []
+
+-- the settings that pairs write, by their places in the table, in the order of the pairs
+abbrev pub places_written : List Setting → List Pair → List ℕ
+places_written table pairs = flat_map (λ p. place_found (found_in setting_key p.key table)) pairs
+
+-- An entry of a section with this table: a name, the row of its mapping, and the settings that are written, as they are
+-- written.
 pub record IsEntry (longest : ℕ) (table : List Setting) (p : Pair) (e : Entry) : Type 0 where
   pub is_name : IsName p.key
   pub name : e.name ≡ written_at p.line p.key
   pub row : IsRow setting_key (IsSetting longest) is_ignored setting_default setting_lacks table p.value e.values
+  pub order : e.order ≡ places_written table row.pairs
 
 -- the same, under another name than these
 pub record IsOtherEntry (longest : ℕ) (barred : List (List ℕ)) (table : List Setting) (p : Pair) (e : Entry) : Type 0 where

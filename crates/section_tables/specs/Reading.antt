@@ -14,7 +14,7 @@ use Rattle.section_tables.specs.Rows.{Written, Handled, Plain, flag, number, tim
 use Rattle.section_tables.specs.Kinds.{Scalar, a_flag, number_within, time_within, a_power, one_of, a_name, an_event, Bounds, at_least, fits, Field, Kind, single, name_list, post_list, event_list, step_list, map_list, named_maps, keyed_maps, Setting, PlayerKinds}
 use Rattle.section_tables.specs.Entries.{pairs_below, nodes_below, is_ignored, written_at, handled_at}
 use Rattle.section_tables.specs.Tables.{found_in, field_key, field_default, field_lacks, setting_key, setting_default, setting_lacks}
-use Rattle.section_tables.specs.EntryOf.{within, pass, own_name}
+use Rattle.section_tables.specs.EntryOf.{within, pass, own_name, places_written}
 
 -- where a fault stands: in which text, at which line, and with which key
 pub record Spot : Type 0 where
@@ -207,7 +207,9 @@ values_at = row_at setting_key setting_at is_ignored setting_default setting_lac
 unfoldable pub entry_at : List ℕ → List Setting → Pair → Result Entry RowsFault
 entry_at text table p =
     if is_name p.key
-    then (expect (key_spot text p) (pairs_below p.value) >>= λ pairs. values_at (key_spot text p) table pairs >>= λ row. Ok (record { name = written_at p.line p.key; values = row }))
+    then
+    (expect (key_spot text p) (pairs_below p.value) >>= λ pairs. values_at (key_spot text p) table pairs
+    >>= λ row. Ok (record { name = written_at p.line p.key; values = row; order = places_written table pairs }))
     else refused BadValue (key_spot text p)
 
 -- the same, under another name than these

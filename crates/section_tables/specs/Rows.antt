@@ -44,10 +44,12 @@ pub data Value : Type 0 where
   maps : List Fields → Value
   keyed : List Keyed → Value
 
--- an entry: its name, and the values of its settings in the order of the section's table
+-- an entry: its name, the values of its settings in the order of the section's table, and the places in the table of
+-- the settings that are written, in the order in which they are written
 pub record Entry : Type 0 where
   pub name : Written
   pub values : List Value
+  pub order : List ℕ
 
 -- an entry of a player: the event that its key is, and its value
 pub record Player : Type 0 where

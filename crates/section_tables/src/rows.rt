@@ -87,6 +87,9 @@ const _: () = prove!(size_of::<Handler>() <= 48);
 pub struct Entry {
     pub name: Name,
     pub values: Vec<Value>,
+    /// The settings that are written, by their places in the table, in the order in which they are
+    /// written. A key that the table does not have is not among them.
+    pub order: Vec<usize>,
 }
 
 /// An entry of a player: the event that its key is, by its name or as a handled event, and its

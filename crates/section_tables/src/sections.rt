@@ -36,9 +36,14 @@ fn read_entry(
         return Err(ConfigFault::Bundle(spot.fault(alloc, FaultKind::BadValue)?));
     }
     let pairs = pairs(alloc, spot, &pair.1)?;
-    let values = values(alloc, spot, table, pairs)?;
+    let mut order = Vec::with_capacity(alloc, pairs.len())?;
+    let values = values(alloc, spot, table, pairs, &mut order)?;
     let name = name_of(alloc, key.line, &key.text)?;
-    Ok(Entry { name, values })
+    Ok(Entry {
+        name,
+        values,
+        order,
+    })
 }
 
 // The same, under another name than these; or BadValue, or the first fault.

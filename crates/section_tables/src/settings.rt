@@ -1,11 +1,12 @@
 //! The settings of an entry, read by the table of its section.
 
-ghost use Rattle.std.specs.Prelude.{◌≡◌, ◌<◌, List, [], ◌∷◌, length, map, None, IfOk, IfSome};
+ghost use Rattle.std.specs.Prelude.{◌≡◌, ◌<◌, List, [], ◌∷◌, ◌++◌, length, map, None, IfOk, IfSome, OnOk};
 ghost use Rattle.std.specs.List.{list_any};
 ghost use Rattle.std.specs.Str.{bytes_eq};
 ghost use Rattle.yaml_subset.specs.View.{node_view, option_slice};
 ghost use Rattle.section_tables.specs.Entries.{is_ignored, written_at, handled_at};
 ghost use Rattle.section_tables.specs.Kinds.{at_least};
+ghost use Rattle.section_tables.specs.EntryOf.{place_found, places_written};
 ghost use Rattle.section_tables.specs.Tables.{found_in, value_default, setting_key, setting_default, value_lacks, setting_lacks};
 ghost use Rattle.section_tables.specs.Reading.{most_items, put_at, overwritten_at, lacking, handled_in, listed_at, nodes_at, value_at, setting_at, values_at};
 ghost use Rattle.section_tables.specs.TableView.{bounds_view, kind_view, without_view, setting_view, table_view};
@@ -214,16 +215,19 @@ pub fn value(alloc: Global, spot: Spot<'_>, kind: Kind, tree: &Tree) -> Result<V
     }
 }
 
-// Puts the value of a pair into a row; or UnknownSetting, or the fault of the value.
+// Puts the value of a pair into a row, and adds its place in the table to the order; or
+// UnknownSetting, or the fault of the value.
 fn put(
     alloc: Global,
     spot: Spot<'_>,
     table: &[Setting],
     tree: &Tree,
     row: &mut [Value],
+    order: &mut Vec<usize>,
 ) -> Result<(), ConfigFault>
     requires { length row.old ≡ length table.now }
-    ensures { GivesRows (λ _. values_view row.new) result (put_at setting_at (is_ignored spot.entry.key.now) (spot_view spot.entry) (node_view tree.now) (values_view row.old) (found_in setting_key spot.entry.key.now (table_view table.now))) }
+    ensures order { OnOk result (order.new.items ≡ order.old.items ++ place_found (found_in setting_key spot.entry.key.now (table_view table.now))) }
+    ensures row { GivesRows (λ _. values_view row.new) result (put_at setting_at (is_ignored spot.entry.key.now) (spot_view spot.entry) (node_view tree.now) (values_view row.old) (found_in setting_key spot.entry.key.now (table_view table.now))) }
 {
     let Some((at, setting)) = setting_of(table, spot.key) else {
         if is_ignored(spot.key) {
@@ -232,40 +236,46 @@ fn put(
         return Err(ConfigFault::Bundle(spot.fault(alloc, FaultKind::UnknownSetting)?));
     };
     row[at] = value(alloc, spot, setting.kind, tree)?;
+    order.push(at)?;
     Ok(())
 }
 
-// Overwrites a row by pairs, one after the other; or the first fault.
+// Overwrites a row by pairs, one after the other, and adds their places to the order; or the first
+// fault.
 fn overwrite(
     alloc: Global,
     text: &[u8],
     table: &[Setting],
     pairs: &[(Key, Tree)],
     row: &mut [Value],
+    order: &mut Vec<usize>,
 ) -> Result<(), ConfigFault>
     requires { length row.old ≡ length table.now }
-    ensures { GivesRows (λ _. values_view row.new) result (overwritten_at setting_key setting_at is_ignored text.now (table_view table.now) (pairs_view pairs.now) (values_view row.old)) }
+    ensures order { OnOk result (order.new.items ≡ order.old.items ++ places_written (table_view table.now) (pairs_view pairs.now)) }
+    ensures row { GivesRows (λ _. values_view row.new) result (overwritten_at setting_key setting_at is_ignored text.now (table_view table.now) (pairs_view pairs.now) (values_view row.old)) }
 {
     for pair in pairs {
-        put(alloc, spot_of(text, &pair.0), table, &pair.1, row)?;
+        put(alloc, spot_of(text, &pair.0), table, &pair.1, row, order)?;
     }
     Ok(())
 }
 
-/// The row of the pairs of an entry; or the first fault: those of the settings as they are written,
-/// and then `Missing` at the spot, with the first key of the table that is required and not
-/// written.
+/// The row of the pairs of an entry, whose places in the table are added to the order; or the first
+/// fault: those of the settings as they are written, and then `Missing` at the spot, with the first
+/// key of the table that is required and not written.
 #[tactic(auto, unfolding(crate::specs::Reading::row_at))]
 pub fn values(
     alloc: Global,
     spot: Spot<'_>,
     table: &[Setting],
     pairs: &[(Key, Tree)],
+    order: &mut Vec<usize>,
 ) -> Result<Vec<Value>, ConfigFault>
-    ensures { GivesRows (λ row. values_view row.items) result (values_at (spot_view spot.entry) (table_view table.now) (pairs_view pairs.now)) }
+    ensures order { OnOk result (order.new.items ≡ order.old.items ++ places_written (table_view table.now) (pairs_view pairs.now)) }
+    ensures row { GivesRows (λ row. values_view row.items) result (values_at (spot_view spot.entry) (table_view table.now) (pairs_view pairs.now)) }
 {
     let mut row = bare_row(alloc, table)?;
-    overwrite(alloc, spot.text, table, pairs, &mut row)?;
+    overwrite(alloc, spot.text, table, pairs, &mut row, order)?;
     if let Some(key) = first_lacking(table, &row) {
         let missing = Spot { key, ..spot };
         return Err(ConfigFault::Bundle(missing.fault(alloc, FaultKind::Missing)?));

@@ -4,7 +4,8 @@ use Rattle.machine_definitions.specs.Definitions.{ball_devices_of}
 use Rattle.machine_definitions.specs.Found.{is_found}
 use Rattle.row_faults.specs.FaultView.{RowFaultView}
 use Rattle.row_faults.specs.BallFaults.{route_faults}
-use Rattle.row_faults.specs.RowFaults.{fault_line, fault_number, ordered_by, written_faults}
+use Rattle.row_faults.specs.AsWritten.{ordered_by}
+use Rattle.row_faults.specs.RowFaults.{fault_line, fault_number, written_faults}
 use Rattle.row_faults.specs.ShotFaults.{is_own_shot}
 use Rattle.row_faults.specs.View.{keys_view}
 use Rattle.row_faults.proofs.rows.faults_of_text.Goals as goal

@@ -1,5 +1,6 @@
-use Rattle.std.proofs.Common.{◌≡◌, drop, length, map}
+use Rattle.std.proofs.Common.{◌≡◌, ◌++◌, drop, length, map}
 use Rattle.section_tables.specs.Entries.{is_ignored}
+use Rattle.section_tables.specs.EntryOf.{places_written}
 use Rattle.section_tables.specs.Tables.{setting_key}
 use Rattle.section_tables.specs.Reading.{setting_at, overwritten_at}
 use Rattle.section_tables.specs.TableView.{setting_view}
@@ -11,3 +12,4 @@ invariant-loop-pair l =
     (length l.row ≡ length l.table)
     × (overwritten_at setting_key setting_at is_ignored l.text (map setting_view l.table) (pairs_view (drop l.pair-index l.pairs)) (values_view l.row)
     ≡ overwritten_at setting_key setting_at is_ignored l.text (map setting_view l.table) (pairs_view l.pairs) (values_view l.fn.row))
+    × (l.order.items ++ places_written (map setting_view l.table) (pairs_view (drop l.pair-index l.pairs)) ≡ l.fn.order.items ++ places_written (map setting_view l.table) (pairs_view l.pairs))

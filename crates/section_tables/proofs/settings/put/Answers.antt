@@ -9,4 +9,7 @@ use Rattle.section_tables.proofs.settings.put.Goals as goal
 pub returns : goal.returns
 returns c =
     let found : found_in setting_key c.args.spot.key.now (map setting_view c.args.table.now) ≡ Some (c.in-Some.at, setting_view c.in-Some.setting.now) = sym c.in-Some.ensures.found in
-    rw (found, c.in_ok-row.ensures) (ap (λ (row : List Value). Ok row) (sym (map-set value_view c.args.row.now c.in-Some.at c.in_ok-row.field-0)))
+    record {
+      order = rw found c.in_ok-push.ensures.items;
+      row = rw (found, c.in_ok-row.ensures) (ap (λ (row : List Value). Ok row) (sym (map-set value_view c.args.row.now c.in-Some.at c.in_ok-row.field-0)));
+    }

@@ -1,0 +1,68 @@
+-- What settings have, in the order in which they are written.
+use Rattle.std.proofs.Common.{◌≡◌, ℕ, List, [], ◌∷◌, ◌++◌, map, codes, refl, ap, ◌∙◌, arith}
+use Rattle.std.specs.List.{All, flat_map}
+use Rattle.section_tables.specs.Kinds.{Setting}
+use Rattle.mpf_tables.specs.SectionTables as tables
+use Rattle.mpf_sections.specs.Rows.{Written, Switch, Block, Counter, StepBlock}
+use Rattle.mpf_sections.specs.Typed.{place_of}
+use Rattle.row_faults.specs.AsWritten.{ordered_by, written_before, in_order, as_written}
+use Rattle.row_faults.specs.Reserved.{switch_posts, block_posts, counter_posts, step_posts}
+use Rattle.row_faults.proofs.None.{flat_map-none, each-All, map-All}
+use Rattle.row_faults.proofs.ByLine.{ordered-all, ordered-seen}
+
+-- what is of each item of what settings have is of all that each has
+module _ {X : Type 0} (table : List Setting) (order : List ℕ) (parts : List (List ℕ × List X)) where
+  abbrev placed : List ℕ × List X → ℕ × List X
+  placed part = (place_of table part.0, part.1)
+
+  abbrev before : ℕ × List X → ℕ
+  before part = written_before order part.0
+
+  pub written-none : as_written table order parts ≡ [] → All (λ part. part.1 ≡ []) parts
+  unfolding in_order
+  written-none e =
+      let none : ℕ × List X → Type 0 = λ part. part.1 ≡ [] in
+      map-All none placed parts (ordered-all before none (map placed parts) (flat_map-none (λ (part : ℕ × List X). part.1) (ordered_by before (map placed parts)) e))
+
+  pub written-all : (P : X → Type 0) → All P (as_written table order parts) → All (λ part. All P part.1) parts
+  unfolding in_order
+  written-all P h =
+      let all : ℕ × List X → Type 0 = λ part. All P part.1 in
+      map-All all placed parts (ordered-all before all (map placed parts) (each-All P (λ (part : ℕ × List X). part.1) (ordered_by before (map placed parts)) h))
+
+-- what is of all posts of a switch or of a block is of those of each setting
+module _ (P : Written → Type 0) where
+  abbrev no_posts : List ℕ × List Written
+  no_posts = ([], [])
+
+  pub switch-posts : (s : Switch) → All P (switch_posts s) → All P s.activated × All P s.deactivated
+  switch-posts s h =
+      let each = written-all tables.switches s.order ((codes "events_when_activated", s.activated) ∷ (codes "events_when_deactivated", s.deactivated) ∷ []) P h in
+      (each 0 no_posts (omega arith), each 1 no_posts (omega arith))
+
+  block-posts : (table : List Setting) (order : List ℕ) (b : Block) → All P (block_posts table order b) → All P b.hit × All P b.complete
+  block-posts table order b h =
+      let each = written-all table order ((codes "events_when_hit", b.hit) ∷ (codes "events_when_complete", b.complete) ∷ []) P h in
+      (each 0 no_posts (omega arith), each 1 no_posts (omega arith))
+
+  pub counter-posts : (c : Counter) → All P (counter_posts c) → All P c.block.hit × All P c.block.complete
+  counter-posts c h = block-posts tables.counters c.order c.block h
+
+  pub step-posts : (s : StepBlock) → All P (step_posts s) → All P s.block.hit × All P s.block.complete
+  step-posts s h = block-posts tables.step_blocks s.order s.block h
+
+-- what is put in order, and then seen
+module _ {A X : Type 0} (see : A → List X) (order : List ℕ) where
+  abbrev seen : ℕ × A → ℕ × List X
+  seen part = (part.0, see part.1)
+
+  seen-each : (parts : List (ℕ × A)) → flat_map (λ (part : ℕ × A). see part.1) parts ≡ flat_map (λ (part : ℕ × List X). part.1) (map seen parts)
+  seen-each [] = refl
+  seen-each (p ∷ ps) = ap (λ (xs : List X). see p.1 ++ xs) (seen-each ps)
+
+  pub seen-in_order : (parts : List (ℕ × A)) → flat_map (λ part. see part.1) (ordered_by (λ part. written_before order part.0) parts) ≡ in_order order (map (λ part. (part.0, see part.1)) parts)
+  unfolding in_order
+  seen-in_order parts =
+      let before : ℕ × List X → ℕ = λ part. written_before order part.0 in
+      seen-each (ordered_by (λ part. written_before order part.0) parts)
+      ∙ ap (flat_map (λ (part : ℕ × List X). part.1)) (ordered-seen seen before parts)

@@ -1,0 +1,14 @@
+use Rattle.std.proofs.Common.{rules, ap, ◌∙◌}
+use Rattle.std.proofs.lemmas.Fn.{always_returns_same}
+use Rattle.row_faults.specs.AsWritten.{ordered_by, written_before}
+use Rattle.row_faults.proofs.ByLine.{sorted-is}
+use Rattle.row_faults.proofs.as_written.as_written.Goals as goal
+
+pub returns : goal.returns
+returns g c =
+    let sort = c.in_ok-sort_by_key.ensures in
+    let order = c.args.order.now in
+    sorted-is (λ part. written_before order part.0) c.in_ok-sorted.sorted.items c.sort_by_key.new.self.items
+    (sort.sorted (λ part. written_before order part.0) (always_returns_same _ _ _ (λ a r q k. search rules)))
+    (sort.stable (λ part. written_before order part.0) (always_returns_same _ _ _ (λ a r q k. search rules)))
+    ∙ ap (ordered_by (λ part. written_before order part.0)) c.in_ok-sorted.ensures.items

@@ -1,0 +1,111 @@
+//! What is wrong with the settings of an entry, in the order in which the settings are written.
+
+ghost use Rattle.std.specs.Prelude.{◌≡◌, ◌==◌, ◌++◌, map, position, IfOk, OnOk};
+ghost use Rattle.std.specs.List.{flat_map};
+ghost use Rattle.row_faults.specs.AsWritten.{ordered_by, written_before, in_order};
+ghost use Rattle.row_faults.specs.Named.{named_faults};
+ghost use Rattle.row_faults.specs.View.{row_faults_view};
+
+use crate::ball_faults::{add_named_coil, add_switches, add_target};
+use crate::coil_faults::add_hold_coil;
+use crate::fault::RowFault;
+use crate::shot_faults::{add_named_switch, add_profile};
+use machine_definitions::Definitions;
+use mpf_config::{Flipper, Name, NameAt};
+use std::alloc::{AllocError, Global};
+
+/// What a setting of an entry names.
+#[derive(Clone, Copy)]
+pub(crate) enum Named<'a> {
+    /// A coil, if it names one.
+    Coil(Option<NameAt<'a>>),
+    /// The coil that holds this flipper up, if it has one for that.
+    HoldCoil(Flipper<'a>),
+    /// A switch, if it names one.
+    Switch(Option<NameAt<'a>>),
+    Switches(&'a [Name]),
+    /// The profile of a shot.
+    Profile(NameAt<'a>),
+    /// The place to which a ball device ejects its balls.
+    Target(NameAt<'a>),
+}
+
+/// How many settings are written before the one at this place, if it is written.
+fn place_in(order: &[usize], place: usize) -> Option<usize>
+    ensures { result ≡ position (λ p. p == place) order.now }
+{
+    order.iter().position(|p| *p == place)
+}
+
+/// The same; all that are written, where it is not.
+fn written_before(order: &[usize], place: usize) -> usize
+    ensures { result ≡ written_before order.now place }
+{
+    place_in(order, place).unwrap_or(order.len())
+}
+
+/// What settings have, each with the place of the setting, in the order in which the settings are
+/// written; what is not written comes last.
+pub(crate) fn as_written<T: Copy>(
+    alloc: Global,
+    order: &[usize],
+    parts: &[(usize, T)],
+) -> Result<Vec<(usize, T)>, AllocError>
+    ensures { IfOk result (λ sorted. sorted.items ≡ ordered_by (λ part. written_before order.now part.0) parts.now) }
+{
+    let mut sorted = Vec::from_slice(alloc, parts)?;
+    sorted.sort_by_key(|part| written_before(order, part.0))?;
+    Ok(sorted)
+}
+
+/// Adds what is wrong with the names that settings have, in the order in which the settings are
+/// written.
+pub(crate) fn add_as_written(
+    alloc: Global,
+    faults: &mut Vec<RowFault>,
+    definitions: &Definitions<'_>,
+    text: &[u8],
+    order: &[usize],
+    parts: &[(usize, Named<'_>)],
+) -> Result<(), AllocError>
+    ensures { OnOk result (row_faults_view faults.new.items ≡ row_faults_view faults.old.items ++ in_order order.now (map (λ part. (part.0, named_faults definitions.now text.now part.1)) parts.now)) }
+{
+    let sorted = as_written(alloc, order, parts)?;
+    add_parts(alloc, faults, definitions, text, &sorted)?;
+    Ok(())
+}
+
+fn add_parts(
+    alloc: Global,
+    faults: &mut Vec<RowFault>,
+    definitions: &Definitions<'_>,
+    text: &[u8],
+    parts: &[(usize, Named<'_>)],
+) -> Result<(), AllocError>
+    ensures { OnOk result (row_faults_view faults.new.items ≡ row_faults_view faults.old.items ++ flat_map (λ part. named_faults definitions.now text.now part.1) parts.now) }
+{
+    for part in parts {
+        add_named(alloc, faults, definitions, text, part.1)?;
+    }
+    Ok(())
+}
+
+/// Adds what is wrong with what a setting names.
+fn add_named(
+    alloc: Global,
+    faults: &mut Vec<RowFault>,
+    definitions: &Definitions<'_>,
+    text: &[u8],
+    named: Named<'_>,
+) -> Result<(), AllocError>
+    ensures { OnOk result (row_faults_view faults.new.items ≡ row_faults_view faults.old.items ++ named_faults definitions.now text.now named.entry) }
+{
+    match named {
+        Named::Coil(coil) => add_named_coil(alloc, faults, definitions, text, coil),
+        Named::HoldCoil(flipper) => add_hold_coil(alloc, faults, definitions, text, flipper),
+        Named::Switch(switch) => add_named_switch(alloc, faults, definitions, text, switch),
+        Named::Switches(switches) => add_switches(alloc, faults, definitions, text, switches),
+        Named::Profile(profile) => add_profile(alloc, faults, definitions, text, profile),
+        Named::Target(target) => add_target(alloc, faults, definitions, text, target),
+    }
+}
