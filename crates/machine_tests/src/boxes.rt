@@ -141,27 +141,61 @@ fn add_rig<D: Device>(
     }
 }
 
+/// Adds a box with this counter.
+fn add_box(
+    alloc: Global,
+    boxes: &mut Vec<Box<dyn Device>>,
+    counter: Counter,
+    all: &mut Vec<Rc<Counts>>,
+) -> Result<(), AllocError> {
+    let counted = with_counts(alloc, counter, all)?;
+    let counted: Box<dyn Device> = Box::new(alloc, counted)?;
+    boxes.push(counted)?;
+    Ok(())
+}
+
+/// The boxes of the rows that the words name.
+fn boxes_of(
+    alloc: Global,
+    checked: &Checked,
+    words: &str,
+    all: &mut Vec<Rc<Counts>>,
+) -> Result<Vec<Box<dyn Device>>, AllocError> {
+    let mut boxes = Vec::new(alloc);
+    for word in words.split_whitespace() {
+        if let Some(counter) = counter_of(checked, word) {
+            add_box(alloc, &mut boxes, counter, all)?;
+        }
+    }
+    Ok(boxes)
+}
+
 /// Adds whether the boxes of the rows that the words name make a rig, and what has become of each
 /// box at the end. The first word says how the rig ends: `dropped`, or `shut_down`.
+fn add_boxed(
+    alloc: Global,
+    out: &mut String,
+    checked: &Checked,
+    words: &str,
+) -> Result<(), AllocError> {
+    let (end, words) = words.split_once(' ').unwrap_or((words, ""));
+    let mut all = Vec::new(alloc);
+    let boxes = boxes_of(alloc, checked, words, &mut all)?;
+    add_rig(alloc, out, checked, boxes, (&all, end == "dropped"))?;
+    add_counts(out, &all)
+}
+
+/// Answers to boxes, of a configuration that is accepted.
 pub(crate) fn boxed(
     alloc: Global,
     out: &mut String,
     config: &Config,
     words: &str,
 ) -> Result<(), AllocError> {
-    let Ok(checked) = check(alloc, config) else {
-        return out.push_str("refused");
-    };
-    let (end, words) = words.split_once(' ').unwrap_or((words, ""));
-    let mut all: Vec<Rc<Counts>> = Vec::new(alloc);
-    let mut boxes: Vec<Box<dyn Device>> = Vec::new(alloc);
-    for word in words.split_whitespace() {
-        if let Some(counter) = counter_of(&checked, word) {
-            boxes.push(Box::new(alloc, with_counts(alloc, counter, &mut all)?)?)?;
-        }
+    match check(alloc, config) {
+        Ok(checked) => add_boxed(alloc, out, &checked, words),
+        Err(_) => out.push_str("refused"),
     }
-    add_rig(alloc, out, &checked, boxes, (&all, end == "dropped"))?;
-    add_counts(out, &all)
 }
 
 // Row 0 is the machine's, 1 and 2 are of a mode. A pair has the stops and the drops of a box: those of

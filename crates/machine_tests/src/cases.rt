@@ -58,15 +58,34 @@ fn ask(alloc: Global, out: &mut String, config: &Config, question: &str) -> Resu
     }
 }
 
+/// The answer to a question.
+fn answer(alloc: Global, config: &Config, question: &str) -> Result<String, AllocError> {
+    let mut found = String::new(alloc);
+    ask(alloc, &mut found, config, question)?;
+    Ok(found)
+}
+
 /// Adds a row that has another answer. In its question and its answer `¶` stands for the end of a
 /// line.
 fn add_row(alloc: Global, out: &mut String, config: &Config, row: &str) -> Result<(), AllocError> {
     let row = row.replace(alloc, '¶', "\n")?;
     let (question, want) = row.split_once(" => ").unwrap_or((&row, ""));
-    let mut found = String::new(alloc);
-    ask(alloc, &mut found, config, question)?;
-    if found.trim_matches(' ') != want {
-        writeln!(out, "{question} => {found}")?;
+    let found = answer(alloc, config, question)?;
+    if found.trim_matches(' ') == want {
+        return Ok(());
+    }
+    writeln!(out, "{question} => {found}")
+}
+
+/// Adds the rows that have another answer.
+fn add_rows(
+    alloc: Global,
+    out: &mut String,
+    config: &Config,
+    rows: &str,
+) -> Result<(), AllocError> {
+    for row in rows.lines() {
+        add_row(alloc, out, config, row)?;
     }
     Ok(())
 }
@@ -74,23 +93,26 @@ fn add_row(alloc: Global, out: &mut String, config: &Config, row: &str) -> Resul
 /// Adds the rows of a case that have another answer.
 fn add_case(alloc: Global, out: &mut String, case: &str) -> Result<(), AllocError> {
     let (bundle, rows) = case.split_once("?\n").unwrap_or((case, "no row"));
-    let Ok(config) = read_bundle(alloc, bundle.as_bytes()) else {
-        return out.push_str("a case that cannot be read");
-    };
-    for row in rows.lines() {
-        add_row(alloc, out, &config, row)?;
+    match read_bundle(alloc, bundle.as_bytes()) {
+        Ok(config) => add_rows(alloc, out, &config, rows),
+        Err(_) => out.push_str("a case that cannot be read"),
     }
-    Ok(())
+}
+
+/// The text of a case, with what it repeats.
+fn text_of(alloc: Global, case: &str) -> Result<String, AllocError> {
+    let mut text = String::from_str(alloc, "@ config/config.yaml\n#config_version=6\n")?;
+    for part in case.split('»') {
+        add_part(&mut text, part)?;
+    }
+    Ok(text)
 }
 
 /// The rows of a table that have another answer, each with this answer.
 pub(crate) fn wrong_rows(alloc: Global, table: &str) -> Result<String, AllocError> {
     let mut out = String::new(alloc);
     for case in table.split("\n\n") {
-        let mut text = String::from_str(alloc, "@ config/config.yaml\n#config_version=6\n")?;
-        for part in case.split('»') {
-            add_part(&mut text, part)?;
-        }
+        let text = text_of(alloc, case)?;
         add_case(alloc, &mut out, &text)?;
     }
     Ok(out)

@@ -22,6 +22,21 @@ fn put(room: &mut [u8], answer: &Result<Checked, Report>) -> Option<usize> {
     Some(writer.position() as usize)
 }
 
+/// Adds what is written to the room, if there is room for it.
+fn add_written(
+    out: &mut String,
+    room: &mut [u8],
+    answer: &Result<Checked, Report>,
+) -> Result<(), AllocError> {
+    match put(room, answer) {
+        Some(count) => {
+            let text = std::str::from_utf8(room.get(..count).unwrap_or(&[]));
+            out.push_str(text.unwrap_or("no UTF-8"))
+        }
+        None => out.push_str("fails"),
+    }
+}
+
 /// Answers to how many bytes can be written, and a certificate, or `-` for none.
 pub(crate) fn checked(
     alloc: Global,
@@ -36,13 +51,7 @@ pub(crate) fn checked(
     } else {
         check_with(alloc, config, certificate.as_bytes())
     };
-    match put(&mut room, &answer) {
-        Some(count) => {
-            let text = std::str::from_utf8(room.get(..count).unwrap_or(&[]));
-            out.push_str(text.unwrap_or("no UTF-8"))
-        }
-        None => out.push_str("fails"),
-    }
+    add_written(out, &mut room, &answer)
 }
 
 const CHECKS: &str = "\

@@ -2,7 +2,7 @@
 
 use crate::cases::{add, wrong_rows};
 use coil_guard::{Board, MemoryBoard};
-use config_checker::check;
+use config_checker::{Checked, check};
 use device_objects::Device;
 use logic_blocks::Counter;
 use mpf_config::Config;
@@ -34,21 +34,45 @@ pub(crate) fn input_of(text: &str) -> Input {
     }
 }
 
-/// Adds for each input its lines, or the number and the name of its refusal; then the latest moment,
-/// and that of the alarm that is due next. At the end stand the lines of the latest stimulus.
+/// Adds the lines of an input, or the number and the name of its refusal.
+fn add_step<D: Device, B: Board>(
+    out: &mut String,
+    rig: &mut Rig<'_, D, B>,
+    input: Input,
+) -> Result<(), AllocError> {
+    match rig.step(input) {
+        Ok(lines) => add(out, &lines),
+        Err(fault) => write!(out, "{} {fault} ", fault.number()),
+    }
+}
+
+/// Adds what comes of each input; then the latest moment, and that of the alarm that is due next. At
+/// the end stand the lines of the latest stimulus.
 fn add_steps<D: Device, B: Board>(
     out: &mut String,
     rig: &mut Rig<'_, D, B>,
     inputs: &str,
 ) -> Result<(), AllocError> {
     for text in inputs.split(',') {
-        match rig.step(input_of(text)) {
-            Ok(lines) => add(out, &lines)?,
-            Err(fault) => write!(out, "{} {fault} ", fault.number())?,
-        }
+        add_step(out, rig, input_of(text))?;
         add(out, &(rig.now(), rig.next_due()))?;
     }
     add(out, &rig.trace())
+}
+
+/// Answers to inputs, in a machine without devices.
+fn stepped_by(
+    alloc: Global,
+    out: &mut String,
+    checked: &Checked,
+    inputs: &str,
+) -> Result<(), AllocError> {
+    let board = MemoryBoard::new(alloc)?;
+    let devices: Vec<Counter> = Vec::new(alloc);
+    match Rig::new(alloc, checked, devices, board) {
+        Ok(mut rig) => add_steps(out, &mut rig, inputs),
+        Err(_) => out.push_str("no rig"),
+    }
 }
 
 /// Answers to inputs, in a machine of the configuration.
@@ -58,13 +82,9 @@ pub(crate) fn stepped(
     config: &Config,
     inputs: &str,
 ) -> Result<(), AllocError> {
-    let Ok(checked) = check(alloc, config) else {
-        return out.push_str("refused");
-    };
-    let devices: Vec<Counter> = Vec::new(alloc);
-    match Rig::new(alloc, &checked, devices, MemoryBoard::new(alloc)?) {
-        Ok(mut rig) => add_steps(out, &mut rig, inputs),
-        Err(_) => out.push_str("no rig"),
+    match check(alloc, config) {
+        Ok(checked) => stepped_by(alloc, out, &checked, inputs),
+        Err(_) => out.push_str("refused"),
     }
 }
 
