@@ -9,6 +9,7 @@ use Rattle.std.proofs.lemmas.List.Sums.{sum_by-le}
 use Rattle.std.proofs.lemmas.Slice.Zip.{firsts-zip, seconds-zip}
 use Rattle.mpf_config.specs.Rows.{Rows}
 use Rattle.mpf_config.specs.Reading.{rows_at}
+use Rattle.mpf_config.proofs.RowNames.{rows_are_named, modes_are_named}
 use Rattle.mpf_config.proofs.ShortRows.{rows_are_short, rows_are_few}
 use Rattle.plan_tables.specs.PlanView.{PlanView}
 use Rattle.cascade_rank.specs.Weights.{greatest}
@@ -69,4 +70,5 @@ text-few c accepted few =
 -- Where the rows are those of a bundle, the certificate of what is accepted is not longer than that.
 pub certificate-few : (rows : Rows) (bundle : List ℕ) (c : CheckedView) → rows_at bundle ≡ Ok rows → checked_at rows ≡ Ok c → length (certificate_text c) ≤ 2 ^ 20
 certificate-few rows bundle c read is =
-    text-few c (found_is_accepted rows (rows_are_short bundle rows read) (rows_are_few bundle rows read) c is) (subst (λ (p : PlanView). All (λ name. length name ≤ 198) p.events) (sym (found-plan rows c is)) (events_are_few bundle rows read))
+    let few = events_are_few rows (rows_are_named bundle rows read) (modes_are_named bundle rows read) in
+    text-few c (found_is_accepted rows (rows_are_short bundle rows read) (rows_are_few bundle rows read) c is) (subst (λ (p : PlanView). All (λ name. length name ≤ 198) p.events) (sym (found-plan rows c is)) few)

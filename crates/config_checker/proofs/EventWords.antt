@@ -1,15 +1,14 @@
--- The names of a plan's events are words of few bytes, where its rows are those of a bundle.
-use Rattle.std.proofs.Common.{◌≡◌, ◌≢◌, ℕ, ◌+◌, ◌<◌, ◌≤◌, Bool, true, ◌&&◌, ◌||◌, eqb, nat_lt, List, [], ◌∷◌, ◌++◌, length, Ok, refl, ap, arith, length-append, codes}
+-- The names of a plan's events are words of few bytes, where every name in its rows is one.
+use Rattle.std.proofs.Common.{◌≡◌, ◌≢◌, ℕ, ◌+◌, ◌<◌, ◌≤◌, Bool, true, ◌&&◌, ◌||◌, eqb, nat_lt, List, [], ◌∷◌, ◌++◌, length, refl, ap, arith, length-append, codes}
 use Rattle.std.specs.List.{All, list_all}
 use Rattle.std.proofs.lemmas.Bool.{ne_eqb, or_from, not_from_false, and_parts, ltb-true}
 use Rattle.std.proofs.lemmas.List.Elements.{All-nil, All-cons, All-append, All-weaker, All-from_recursion}
 use Rattle.std.proofs.lemmas.List.Sums.{AllPass-from_list_all}
 use Rattle.yaml_bytes.specs.Bytes.{is_blank}
 use Rattle.mpf_config.specs.Rows.{Rows}
-use Rattle.mpf_sections.specs.Named.{IsName}
-use Rattle.mpf_config.specs.Reading.{rows_at}
+use Rattle.mpf_sections.specs.Named.{IsName, IsNamed}
+use Rattle.mpf_config.specs.Named.{IsNamedMode}
 use Rattle.mpf_sections.proofs.RowNames.{name_bytes}
-use Rattle.mpf_config.proofs.RowNames.{rows_are_named, modes_are_named}
 use Rattle.plan_tables.specs.declared.entries.ModeEvent.{ModeEvent}
 use Rattle.plan_tables.specs.declared.entries.ModeEvent.TheVariants.{WillStart, Starting, Started, Stopping, Stopped}
 use Rattle.machine_definitions.specs.GameEvents.{game_event_names}
@@ -204,7 +203,7 @@ game-words = All-weaker (λ text. is_short_word text ≡ true) IsEventWord short
 
 -- ---- the events of the plan
 
-module _ (bundle : List ℕ) (rows : Rows) (read : rows_at bundle ≡ Ok rows) where
+module _ (rows : Rows) (machine : All IsNamed rows.machine) (modes : All IsNamedMode rows.modes) where
   events_are_named : All IsEventWord (plan_of rows).events
   events_are_named = event_names IsEventWord (record {
     name = name-word;
@@ -221,7 +220,7 @@ module _ (bundle : List ℕ) (rows : Rows) (read : rows_at bundle ≡ Ok rows) w
     ball_device = ball-words;
     shot = shot-words;
     group = λ name state n s. (group-words 4 (codes "_hit") name state (omega arith) hit n s, group-words 9 (codes "_complete") name state (omega arith) complete n s);
-  }) rows (rows_are_named bundle rows read) (modes_are_named bundle rows read)
+  }) rows machine modes
 
   pub events_are_words : All IsWord (plan_of rows).events
   events_are_words = All-weaker IsEventWord IsWord (λ name h. h.word) (plan_of rows).events events_are_named

@@ -1,13 +1,20 @@
 -- What was accepted is accepted again with the text of its certificate.
+use mathlib.Core.Bool.{Bool-set}
 use Rattle.std.proofs.Common.{◌≡◌, ℕ, ◌<◌, ◌≤◌, ◌^◌, Bool, true, false, ◌==◌, if◌then◌else◌, List, [], ◌∷◌, length, Option, Some, None, Result, Ok, Err, refl, sym, ap, subst, arith}
 use Rattle.std.specs.List.{All, zip}
+use Rattle.std.proofs.Math.Logic.{∥∥₁_elim}
 use Rattle.std.proofs.lemmas.Bool.{not-false, eqb-true}
 use Rattle.std.proofs.lemmas.List.Elements.{All-weaker}
 use Rattle.std.proofs.lemmas.Slice.Zip.{firsts-zip, seconds-zip}
+use Rattle.mpf_sections.specs.Named.{IsNamed}
+use Rattle.mpf_config.specs.declared.config.Config.{Config}
 use Rattle.mpf_config.specs.Rows.{Rows}
+use Rattle.mpf_config.specs.View.{rows_view}
+use Rattle.mpf_config.specs.Named.{IsNamedMode}
 use Rattle.mpf_config.specs.FewModes.{AreFewModes}
 use Rattle.mpf_config.specs.Short.{AreListsShort}
 use Rattle.mpf_config.specs.Reading.{rows_at}
+use Rattle.mpf_config.proofs.RowNames.{rows_are_named, modes_are_named}
 use Rattle.plan_tables.specs.PlanView.{PlanView}
 use Rattle.plan_tables.specs.declared.entries.EventId.{EventId}
 use Rattle.mpf_plan.specs.PlanOf.{plan_at, plan_of, PlanRefusal, no_such_name, above_limit}
@@ -119,7 +126,7 @@ module _ (rows : Rows) where
       let from = checked-plan weighed_plan (plan_at rows) c (first-ok (faults_of_rows rows) (checked weighed_plan (plan_at rows)) c is).1 in
       weighed-verified from.0 (found_at from.0) c from.1 refl from.2
 
-  pub found-again : (c : CheckedView) → checked_at rows ≡ Ok c → All IsWord c.plan.events → IsReadAgain rows c
+  found-again : (c : CheckedView) → checked_at rows ≡ Ok c → All IsWord c.plan.events → IsReadAgain rows c
   found-again c is words =
       let from = found_is_verified c is in
       verified-again c (found-none c is) from.0 from.1 words
@@ -133,9 +140,13 @@ module _ (rows : Rows) where
       let from = found_is_verified c is in
       plan_accepted rows short few (found-none c is) c from.0 from.1
 
-  -- where the rows are those of a bundle, the names of its events are words
+  -- where every name in the rows is one, those of their plan's events are words
+  named-words : (c : CheckedView) → checked_at rows ≡ Ok c → All IsNamed rows.machine → All IsNamedMode rows.modes → All IsWord c.plan.events
+  named-words c is machine modes = subst (λ (p : PlanView). All IsWord p.events) (sym (found-plan c is)) (events_are_words rows machine modes)
+
+  -- it is so in the rows of a bundle
   pub read-again : (bundle : List ℕ) (c : CheckedView) → rows_at bundle ≡ Ok rows → checked_at rows ≡ Ok c → IsReadAgain rows c
-  read-again bundle c read is = found-again c is (subst (λ (p : PlanView). All IsWord p.events) (sym (found-plan c is)) (events_are_words bundle rows read))
+  read-again bundle c read is = found-again c is (named-words c is (rows_are_named bundle rows read) (modes_are_named bundle rows read))
 
   -- ---- weights of a certificate
 
@@ -165,3 +176,12 @@ module _ (rows : Rows) where
 
   pub given-again : (text : List ℕ) (c : CheckedView) → checked_with_at rows text ≡ Ok c → IsReadAgain rows c
   given-again text c is = subst (λ (t : List ℕ). checked_with_at rows t ≡ Ok c) (sym (given-text text c is)) is
+
+words_prop : (events : List (List ℕ)) → IsProp (All IsWord events)
+words_prop events = hlevel (Bool-set)
+
+-- and it is so in those of a `Config`
+pub config-again : (config : Config) (c : CheckedView) → checked_at (rows_view config) ≡ Ok c → IsReadAgain (rows_view config) c
+config-again config c is =
+    let words = ∥∥₁_elim config.all_named (words_prop c.plan.events) (λ named. named-words (rows_view config) c is named.0 named.1) in
+    found-again (rows_view config) c is words

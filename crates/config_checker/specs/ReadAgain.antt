@@ -1,25 +1,25 @@
 -- A certificate that is written is read again.
 use Rattle.std.specs.Prelude.{◌≡◌, ℕ, List, Ok}
-use Rattle.std.specs.List.{All}
+use Rattle.mpf_config.specs.declared.config.Config.{Config}
 use Rattle.mpf_config.specs.Rows.{Rows}
+use Rattle.mpf_config.specs.View.{rows_view}
 use Rattle.mpf_config.specs.Reading.{rows_at}
 use Rattle.written_machine.specs.CheckedView.{CheckedView}
 use Rattle.config_checker.specs.CertificateText.{certificate_text}
-use Rattle.config_checker.specs.CertificateOf.{IsWord}
 use Rattle.config_checker.specs.Checking.{checked_at, checked_with_at}
 
 -- With the text of its certificate what was accepted is accepted again, with the same weights and the same bound.
 abbrev pub IsReadAgain : Rows → CheckedView → Type 0
 IsReadAgain rows c = checked_with_at rows (certificate_text c) ≡ Ok c
 
--- where the weights were found, and every event's name is a word
+-- where the weights were found, whoever made the configuration
 abbrev pub FoundIsReadAgain : Type 0
-FoundIsReadAgain = (rows : Rows) (c : CheckedView) → checked_at rows ≡ Ok c → All IsWord c.plan.events → IsReadAgain rows c
+FoundIsReadAgain = (config : Config) (c : CheckedView) → checked_at (rows_view config) ≡ Ok c → IsReadAgain (rows_view config) c
 
--- and where they were those of a certificate
+-- where they were those of a certificate, whatever the rows are
 abbrev pub GivenIsReadAgain : Type 0
 GivenIsReadAgain = (rows : Rows) (text : List ℕ) (c : CheckedView) → checked_with_at rows text ≡ Ok c → IsReadAgain rows c
 
--- Of rows that are read from a bundle nothing is asked of the names: those of their plan's events are words.
+-- and where they were found for the rows of a bundle
 abbrev pub ReadIsReadAgain : Type 0
 ReadIsReadAgain = (bundle : List ℕ) (rows : Rows) (c : CheckedView) → rows_at bundle ≡ Ok rows → checked_at rows ≡ Ok c → IsReadAgain rows c

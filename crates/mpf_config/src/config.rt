@@ -3,8 +3,10 @@
 ghost use Rattle.std.specs.Prelude.{map};
 ghost use Rattle.std.specs.List.{All};
 ghost use Rattle.mpf_config.specs.FewModes.{AreFewModes};
+ghost use Rattle.mpf_sections.specs.Named.{IsNamed};
 ghost use Rattle.mpf_sections.specs.Short.{IsShortSection};
 ghost use Rattle.mpf_sections.specs.SectionView.{section_view};
+ghost use Rattle.mpf_config.specs.Named.{IsNamedMode};
 ghost use Rattle.mpf_config.specs.Short.{IsShortMode};
 ghost use Rattle.mpf_config.specs.ModeView.{mode_view};
 
@@ -50,7 +52,8 @@ pub struct Note {
 }
 
 /// The rows of a bundle. No list in them has more than 1,024 items. There are at most 64 modes, and
-/// no two have the same name.
+/// no two have the same name. Every name of a mode, of an entry or in an entry has 1 to 64 letters,
+/// digits, `_`, `-` and `.`.
 #[derive(Drop)]
 pub struct Config {
     /// The machine text.
@@ -61,4 +64,5 @@ pub struct Config {
     pub notes: Vec<Note>,
     ghost lists_short: { All IsShortSection (map section_view machine.sections.items) × All IsShortMode (map mode_view modes.items) },
     ghost few_modes: { AreFewModes (map mode_view modes.items) },
+    ghost all_named: { ∥ All IsNamed (map section_view machine.sections.items) × All IsNamedMode (map mode_view modes.items) ∥₁ },
 }

@@ -1,8 +1,8 @@
-use Rattle.config_checker.proofs.ReadBack.{found-again, given-again, read-again}
+use Rattle.config_checker.proofs.ReadBack.{config-again, given-again, read-again}
 use Rattle.config_checker.proofs.law.certificate_is_read_again.Goals as goal
 
 pub returns-clause-found : goal.returns-clause-found
-returns-clause-found c = found-again
+returns-clause-found c = config-again
 
 pub returns-clause-given : goal.returns-clause-given
 returns-clause-given c = given-again

@@ -3,12 +3,14 @@ use Rattle.std.specs.List.{All}
 use Rattle.mpf_sections.specs.declared.section.Section.{Section}
 use Rattle.mpf_config.specs.Rows.{Written}
 use Rattle.mpf_sections.specs.View.{section_view}
+use Rattle.mpf_config.specs.Named.{IsNamedMode}
 use Rattle.mpf_config.specs.Short.{IsShortMode}
 use Rattle.mpf_config.specs.FewModes.{AreFewModes}
 use Rattle.mpf_config.specs.Reading.{modes_in_texts, found_of, rows_from}
 use Rattle.mpf_sections.specs.Typed.{listed_modes}
 use Rattle.mpf_config.specs.Inside.{texts_view, modes_view, machine_read_view, found_modes_view}
 use Rattle.mpf_config.proofs.Theorem.{rows_again}
+use Rattle.mpf_config.proofs.RowNames.{rows_are_named, modes_are_named}
 use Rattle.mpf_config.proofs.ShortRows.{rows_are_short, rows_are_few}
 use Rattle.mpf_config.proofs.bundle.read_exactly.Goals as goal
 
@@ -24,4 +26,8 @@ invariant_of-result c =
     let rows = rows_from texts machine (found_of found) in
     let short = rows_are_short bundle rows is in
     let same = sym c.in_ok-modes.ensures.modes in
-    record { lists_short = (short.0, subst (All IsShortMode) same short.1); few_modes = subst AreFewModes same (rows_are_few bundle rows is) }
+    record {
+      lists_short = (short.0, subst (All IsShortMode) same short.1);
+      few_modes = subst AreFewModes same (rows_are_few bundle rows is);
+      all_named = ∣ (rows_are_named bundle rows is, subst (All IsNamedMode) same (modes_are_named bundle rows is)) ∣₁;
+    }
