@@ -126,6 +126,18 @@ event player_turn_ended 7
 event game_will_end 5
 event game_ending 4
 event game_ended 3
+
+=== variable player of 1,025 variables, none of which has a number
+--- check
+@ config/config.yaml
+#config_version=6
+variable_player:
+  x:
+--- 1025 times
+    v№:
+=> Refused
+error 9 Limit config/config.yaml 3 x
+no
 ";
 
 const PLAYS: &str = "

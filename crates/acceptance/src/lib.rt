@@ -41,4 +41,6 @@ mod row;
 #[cfg(test)]
 mod shot_rows;
 #[cfg(test)]
+mod three_machines;
+#[cfg(test)]
 mod words;

@@ -38,6 +38,8 @@ help play => usage
 --help => usage
 check -h => usage
 --version => usage
+-V => usage
+check --version => usage
 -- check => usage";
 
 fn words_of(alloc: Global, texts: &str) -> Result<Vec<String>, AllocError> {

@@ -32,9 +32,9 @@ verify_app = path_app (new_app (codes "verify"))
 abbrev pub play_app : App
 play_app = path_app (new_app (codes "play"))
 
--- no word is the program's name, and what is to be done has to be named
+-- no word is the program's name, what is to be done has to be named, and the program has a version
 abbrev pub program_app : App
-program_app = on_top (λ s. record s { no_binary_name = true; subcommand_required = true }) (new_app (codes "pinball"))
+program_app = on_top (λ s. record s { no_binary_name = true; subcommand_required = true; has_version = true }) (new_app (codes "pinball"))
 
 -- `check`, `verify` and the path of a certificate, or `play` and the path of a log; and then a folder, if there is one
 unfoldable pub pinball_app : App

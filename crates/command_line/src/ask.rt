@@ -10,6 +10,20 @@ use clap::error::ErrorKind;
 use clap::{Arg, ArgAction, ArgMatches, Command, Error};
 use std::alloc::{AllocError, Global};
 
+/// What `--version` shows after the name of the program.
+const VERSION: &str = "0.1.0";
+/// What the help of the program ends with.
+const STATUSES_AND_EXAMPLES: &str = "\
+Exit status:
+  0  yes, or every line of the log was played
+  1  the configuration, its certificate, or a line of the log was refused
+  2  the words are not a command, or ask for help or for the version
+  3  the command could not finish: standard error says why
+
+Examples:
+  pinball check .                 checks the machine in this folder
+  pinball play my.log my_machine  plays the log my.log on the machine in the folder my_machine";
+
 /// What is asked for.
 #[derive(Debug, Drop)]
 pub enum Ask {
@@ -40,7 +54,7 @@ pub enum AskFault {
     /// Memory ran out.
     #[error("NoMemory")]
     NoMemory,
-    /// The words are not a command, or ask for help. This is the text to show.
+    /// The words are not a command, or ask for help or for the version. This is the text to show.
     #[error("{0}")]
     Usage(String),
 }
@@ -58,7 +72,7 @@ impl From<AllocError> for AskFault {
 ///
 /// # Errors
 ///
-/// - `Usage`: the words are not one of these, or ask for help.
+/// - `Usage`: the words are not one of these, or ask for help or for the version.
 /// - `NoMemory`: memory ran out.
 pub fn command(alloc: Global, words: Vec<String>) -> Result<Ask, AskFault>
     ensures asked { IfOk result (λ ask. asked_at (map string_bytes words.items) ≡ Some (ask_view ask)) }
@@ -91,7 +105,8 @@ fn pinball<'a>(alloc: Global) -> Result<Command<'a>, AllocError>
     ensures { IfOk result (λ command. app_of command ≡ pinball_app) }
 {
     let check = check_command(alloc)?;
-    let command = program(alloc).subcommand(check)?;
+    let top = program(alloc)?;
+    let command = top.subcommand(check)?;
     let verify = path_command(
         alloc,
         "verify",
@@ -108,13 +123,17 @@ fn pinball<'a>(alloc: Global) -> Result<Command<'a>, AllocError>
     command.subcommand(play)
 }
 
-fn program<'a>(alloc: Global) -> Command<'a>
-    ensures { app_of result ≡ program_app }
+/// What stands above the subcommands. By `bin_name` their usage lines begin with the program's name.
+fn program<'a>(alloc: Global) -> Result<Command<'a>, AllocError>
+    ensures { IfOk result (λ command. app_of command ≡ program_app) }
 {
     Command::new(alloc, "pinball")
         .about("Checks and plays configurations of pinball machines")
+        .version(VERSION)
+        .after_help(STATUSES_AND_EXAMPLES)
         .no_binary_name(true)
         .subcommand_required(true)
+        .bin_name("pinball")
 }
 
 fn check_command<'a>(alloc: Global) -> Result<Command<'a>, AllocError>
@@ -149,7 +168,7 @@ fn folder_argument<'a>(alloc: Global) -> Arg<'a>
     ensures local { result.global ≡ false }
 {
     Arg::new(alloc, "folder")
-        .help("The folder of the configuration; if there is none, its bundle is on standard input")
+        .help("The folder of the machine; without DIR, a bundle is read from standard input")
         .value_name("DIR")
         .action(ArgAction::Set)
 }

@@ -24,13 +24,19 @@ use std::{env, fs};
 const USAGE: u8 = 2;
 /// The status where a file, reading, writing, a size or memory failed.
 const FAULT: u8 = 3;
+/// What is said besides the failure, where the text of the machine in DIR cannot be read.
+const HINT: &str =
+    "hint: DIR is a folder with config/config.yaml in it. Without DIR, standard input is read.";
 
 fn main(rt: HostRuntime) -> ExitCode {
     match asked(&rt) {
         Ok(ask) => {
-            let answer = answer(&rt, ask);
+            let answer = answer(&rt, &ask);
             if let Err(failure) = &answer {
                 let _ = failure.write(&mut io::writer(&rt.stderr()));
+                if is_of_machine_text(failure, folder_of(&ask)) {
+                    let _ = eprintln!(&rt; "{HINT}");
+                }
             }
             ExitCode::from(status(&answer.map_err(|failure| failure.fault)))
         }
@@ -57,18 +63,43 @@ fn asked<R: Env + AllocGlobal>(rt: &R) -> Result<Ask, AskFault> {
     }
 }
 
+/// The folder of the configuration, where one is given.
+fn folder_of(ask: &Ask) -> Option<&str> {
+    let folder = match ask {
+        Ask::Check { folder } => folder,
+        Ask::Verify { folder, .. } => folder,
+        Ask::Play { folder, .. } => folder,
+    };
+    match folder {
+        Some(folder) => Some(folder.as_str()),
+        None => None,
+    }
+}
+
+/// Whether the text of the machine in this folder could not be read.
+fn is_of_machine_text(failure: &Failure, folder: Option<&str>) -> bool {
+    match name_of_file(failure, folder) {
+        Some(name) => failure.fault == ShellFault::Read && name == MACHINE_NAME,
+        None => false,
+    }
+}
+
+/// The name of the text that is at fault, where that is a file of this folder.
+fn name_of_file<'a>(failure: &'a Failure, folder: Option<&str>) -> Option<&'a [u8]> {
+    let path = failure.file.as_ref()?.as_bytes();
+    path.strip_prefix(folder?.as_bytes())?.strip_prefix(b"/")
+}
+
 /// Does what is asked. Output is buffered. It has been written out if this answers a verdict.
-fn answer<R: Files + Input + Print + AllocGlobal>(rt: &R, ask: Ask) -> Result<Verdict, Failure> {
+fn answer<R: Files + Input + Print + AllocGlobal>(rt: &R, ask: &Ask) -> Result<Verdict, Failure> {
     let Ok(mut writer) = BufWriter::new(rt.alloc(), io::writer(rt)) else {
         return Err(Failure::from(ShellFault::NoMemory));
     };
+    let bundle = bundle_of(rt, folder_of(ask))?;
     let verdict = match ask {
-        Ask::Check { folder } => check(rt, folder, &mut writer)?,
-        Ask::Verify {
-            certificate,
-            folder,
-        } => verify(rt, certificate, folder, &mut writer)?,
-        Ask::Play { log, folder } => play(rt, log, folder, &mut writer)?,
+        Ask::Check { .. } => check_text(rt.alloc(), &mut bundle.as_slice(), &mut writer)?,
+        Ask::Verify { certificate, .. } => verify(rt, certificate.as_str(), &bundle, &mut writer)?,
+        Ask::Play { log, .. } => play(rt, log.as_str(), &bundle, &mut writer)?,
     };
     match writer.flush() {
         Ok(()) => Ok(verdict),
@@ -76,48 +107,37 @@ fn answer<R: Files + Input + Print + AllocGlobal>(rt: &R, ask: Ask) -> Result<Ve
     }
 }
 
-fn check<R: Files + Input + AllocGlobal, W: Write>(
+/// Verifies the certificate of a file on the bundle. The bundle has been read before the file is
+/// opened: where standard input is closed, the file takes its place.
+fn verify<R: Files + AllocGlobal, W: Write>(
     rt: &R,
-    folder: Option<String>,
+    path: &str,
+    mut bundle: &[u8],
     writer: &mut W,
 ) -> Result<Verdict, Failure> {
-    let bundle = bundle_of(rt, folder)?;
-    Ok(check_text(rt.alloc(), &mut bundle.as_slice(), writer)?)
-}
-
-/// Verifies the certificate of a file on the bundle. The bundle is read before the file is opened:
-/// where standard input is closed, the file takes its place.
-fn verify<R: Files + Input + AllocGlobal, W: Write>(
-    rt: &R,
-    path: String,
-    folder: Option<String>,
-    writer: &mut W,
-) -> Result<Verdict, Failure> {
-    let bundle = bundle_of(rt, folder)?;
-    let Ok(mut certificate) = fs::open(rt, &path) else {
-        return Err(Failure::at(ShellFault::Read, path));
+    let named = String::from_str(rt.alloc(), path)?;
+    let Ok(mut certificate) = fs::open(rt, path) else {
+        return Err(Failure::at(ShellFault::Read, named));
     };
-    let mut text = bundle.as_slice();
-    verify_text(rt.alloc(), &mut text, &mut certificate, writer).map_err(|fault| Failure::at(
-        fault, path,
-    ))
+    let answer = verify_text(rt.alloc(), &mut bundle, &mut certificate, writer);
+    answer.map_err(|fault| Failure::at(fault, named))
 }
 
 /// Loads the bundle, and plays the log only where it is accepted.
-fn play<R: Files + Input + AllocGlobal, W: Write>(
+fn play<R: Files + AllocGlobal, W: Write>(
     rt: &R,
-    path: String,
-    folder: Option<String>,
+    path: &str,
+    mut bundle: &[u8],
     writer: &mut W,
 ) -> Result<Verdict, Failure> {
-    let bundle = bundle_of(rt, folder)?;
-    let Some(checked) = load_text(rt.alloc(), &mut bundle.as_slice(), writer)? else {
+    let named = String::from_str(rt.alloc(), path)?;
+    let Some(checked) = load_text(rt.alloc(), &mut bundle, writer)? else {
         return Ok(Verdict::Refused);
     };
-    let Ok(mut log) = fs::open(rt, &path) else {
-        return Err(Failure::at(ShellFault::Read, path));
+    let Ok(mut log) = fs::open(rt, path) else {
+        return Err(Failure::at(ShellFault::Read, named));
     };
-    play_log(rt.alloc(), &checked, &mut log, writer).map_err(|fault| Failure::at(fault, path))
+    play_log(rt.alloc(), &checked, &mut log, writer).map_err(|fault| Failure::at(fault, named))
 }
 
 /// Plays the log on a machine whose devices are made here, one for each row of the plan. Its board is
@@ -163,10 +183,10 @@ fn boxed<D: Device>(alloc: Global, device: D) -> Result<Box<D>, AllocError> {
 /// The bundle of the configuration in this folder; or the one on standard input.
 fn bundle_of<R: Files + Input + AllocGlobal>(
     rt: &R,
-    folder: Option<String>,
+    folder: Option<&str>,
 ) -> Result<Vec<u8>, Failure> {
     match folder {
-        Some(folder) => folder_bundle(rt, &folder),
+        Some(folder) => folder_bundle(rt, folder),
         None => Ok(read_all(rt.alloc(), &mut rt.reader(), BUNDLE_LIMIT)?),
     }
 }
