@@ -164,13 +164,13 @@ ball-arms_later d call now s limits k due is =
     let later = step-later d now limits s call s ((λ i m at. inl at), (λ m at. inl at), refl) in
     elim (which_part next.switches (timeout_of next.eject) k due is) [
       | inl switch ↦ elim (later.0 k due switch.1) [
-          | inl before ↦ inl (switch-is_part s.switches (timeout_of s.eject) k due before)
-          | inr after ↦ inr after
-        ]
+        | inl before ↦ inl (switch-is_part s.switches (timeout_of s.eject) k due before)
+        | inr after ↦ inr after
+      ]
       | inr attempt ↦ elim (later.1 due attempt.1) [
-          | inl before ↦ inl (part-at_attempt s k (attempt.0 ∙ later.2) ∙ before)
-          | inr after ↦ inr after
-        ]
+        | inl before ↦ inl (part-at_attempt s k (attempt.0 ∙ later.2) ∙ before)
+        | inr after ↦ inr after
+      ]
     ]
 
 -- ---- what is due first is a part
@@ -457,19 +457,17 @@ module _ (d : BallSettings) (now : ℕ) (s : BallState) where
           → DoesFirst (if test then time_out d now s.eject s else count d now a.1 s) (min a.0 t)
       one_of true is =
           let before : t < a.0 = ltb-true t a.0 is in
-          let least : t ≡ min a.0 t = omega (arith, before) in
-          (
+          let least : t ≡ min a.0 t = omega (arith, before) in (
             length s.switches,
             subst (λ m. IsFirstPart (states.BallDevice s) m (length s.switches)) least (attempt-first t over (after_first before)),
             attempt-fires,
           )
       one_of false is =
           let before : a.0 ≤ t = ltb-false t a.0 is in
-          let least : a.0 ≡ min a.0 t = omega (arith, before) in
-          (
+          let least : a.0 ≡ min a.0 t = omega (arith, before) in (
             a.1,
             subst (λ m. IsFirstPart (states.BallDevice s) m a.1) least
-            (switch-first a at (λ m due. let same : t ≡ m = same_Some t m (sym over ∙ due) in omega (arith, before, same))),
+                (switch-first a at (λ m due. let same : t ≡ m = same_Some t m (sym over ∙ due) in omega (arith, before, same))),
             switch-fires a at,
           )
 
