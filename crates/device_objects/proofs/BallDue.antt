@@ -1,9 +1,10 @@
--- Which ball switch of a ball device is due first.
-use Rattle.std.proofs.Common.{◌≡◌, ℕ, zero, suc, ◌+◌, ◌≤◌, ◌⊎◌, inl, inr, Bool, true, false, Option, None, Some, List, [], ◌∷◌, map, option_map, get_or, nat_le, if◌then◌else◌, refl, sym, ap, arith}
-use Rattle.std.proofs.lemmas.Bool.{leb-true, leb-false}
+-- Which part of a ball device is due first.
+use Rattle.std.proofs.Common.{◌≡◌, ℕ, zero, suc, ◌+◌, ◌<◌, ◌≤◌, ◌⊎◌, inl, inr, Bool, true, false, Option, None, Some, List, [], ◌∷◌, length, map, option_map, get_or, nat_le, if◌then◌else◌, refl, sym, ap, ◌∙◌, arith}
+use Rattle.std.proofs.lemmas.Bool.{cases_lt, leb-true, leb-false}
+use Rattle.std.proofs.lemmas.List.{get_or_past}
 use Rattle.std.proofs.lemmas.Option.{none-some, same_Some}
 use Rattle.device_objects.specs.declared.state.BallSwitch.{BallSwitch}
-use Rattle.device_objects.specs.BallDevice.{empty, sooner, first_due_from, not_due}
+use Rattle.device_objects.specs.BallDevice.{empty, sooner, first_due_from, parts, not_due}
 
 -- ---- what is first is due
 
@@ -35,6 +36,35 @@ first_due-is_due i (b ∷ bs) a is =
       | inr there ↦
           let at = first_due-is_due (suc i) bs a there in
           (suc at.0, omega (arith, at.1), at.2)
+    ]
+
+-- ---- no ball switch of a lower number is due at the same moment
+
+-- the first argument stays the sooner where both moments are one
+sooner-keeps_first : (m i : ℕ) (y : Option (ℕ × ℕ)) (a : ℕ × ℕ) → sooner (Some (m, i)) y ≡ Some a → m ≡ a.0 → a.1 ≡ i
+sooner-keeps_first m i None a is same = ap (λ p. p.1) (sym (same_Some (m, i) a is))
+sooner-keeps_first m i (Some r) a is same = one_of (nat_le m r.0) refl is
+  where
+    one_of : (test : Bool) → nat_le m r.0 ≡ test → (if test then Some (m, i) else Some r) ≡ Some a → a.1 ≡ i
+    one_of true le first = ap (λ p. p.1) (sym (same_Some (m, i) a first))
+    one_of false le second =
+        let moment : r.0 ≡ a.0 = ap (λ p. p.0) (same_Some r a second) in
+        absurd (omega (arith, leb-false m r.0 le, moment, same))
+
+lowest_here : (i : ℕ) (due : Option ℕ) (y : Option (ℕ × ℕ)) (a : ℕ × ℕ) → sooner (option_map (λ t. (t, i)) due) y ≡ Some a
+    → due ≡ Some a.0 → a.1 ≡ i
+lowest_here i None y a is at = absurd (none-some a.0 at)
+lowest_here i (Some t) y a is at = sooner-keeps_first t i y a is (same_Some t a.0 at)
+
+pub first_due-is_lowest : (i : ℕ) (bs : List BallSwitch) (j : ℕ) (a : ℕ × ℕ) → first_due_from i bs ≡ Some a
+    → (get_or bs j empty).due ≡ Some a.0 → a.1 ≤ i + j
+first_due-is_lowest i [] j a is at = absurd (none-some a is)
+first_due-is_lowest i (b ∷ bs) zero a is at =
+    let here : a.1 ≡ i = lowest_here i b.due (first_due_from (suc i) bs) a is at in omega (arith, here)
+first_due-is_lowest i (b ∷ bs) (suc j) a is at =
+    elim (sooner-is_one (option_map (λ due. (due, i)) b.due) (first_due_from (suc i) bs) a is) [
+      | inl here ↦ (let found = first_here i b.due a here in omega (arith, found.0))
+      | inr there ↦ (let low = first_due-is_lowest (suc i) bs j a there at in omega (arith, low))
     ]
 
 -- ---- and no other is due before it
@@ -84,3 +114,46 @@ pub not_due-none : (bs : List BallSwitch) (i : ℕ) → (get_or (map not_due bs)
 not_due-none [] i = refl
 not_due-none (b ∷ bs) zero = refl
 not_due-none (b ∷ bs) (suc i) = not_due-none bs i
+
+-- ---- the parts: the ball switches, then the attempt
+
+-- one that is due is there
+pub due-inside : (bs : List BallSwitch) (i t : ℕ) → (get_or bs i empty).due ≡ Some t → i < length bs
+due-inside bs i t is =
+    elim (cases_lt i (length bs)) [
+      | inl within ↦ within
+      | inr past ↦ absurd (none-some t (sym (ap (λ b. b.due) (get_or_past bs i empty past)) ∙ is))
+    ]
+
+pub part-of_switch : (bs : List BallSwitch) (timeout : Option ℕ) (i : ℕ) → i < length bs
+    → get_or (parts bs timeout) i None ≡ (get_or bs i empty).due
+part-of_switch [] timeout i within = absurd (omega (arith, within))
+part-of_switch (b ∷ bs) timeout zero within = refl
+part-of_switch (b ∷ bs) timeout (suc i) within = part-of_switch bs timeout i (omega (arith, within))
+
+pub part-of_attempt : (bs : List BallSwitch) (timeout : Option ℕ) → get_or (parts bs timeout) (length bs) None ≡ timeout
+part-of_attempt [] timeout = refl
+part-of_attempt (b ∷ bs) timeout = part-of_attempt bs timeout
+
+pub part-past : (bs : List BallSwitch) (timeout : Option ℕ) (k : ℕ) → length bs < k → get_or (parts bs timeout) k None ≡ None
+part-past [] timeout zero past = absurd (omega (arith, past))
+part-past [] timeout (suc k) past = refl
+part-past (b ∷ bs) timeout zero past = absurd (omega (arith, past))
+part-past (b ∷ bs) timeout (suc k) past = part-past bs timeout k (omega (arith, past))
+
+-- a ball switch that is due is a part that is
+pub switch-is_part : (bs : List BallSwitch) (timeout : Option ℕ) (i t : ℕ) → (get_or bs i empty).due ≡ Some t
+    → get_or (parts bs timeout) i None ≡ Some t
+switch-is_part bs timeout i t is = part-of_switch bs timeout i (due-inside bs i t is) ∙ is
+
+-- a part that is due is a ball switch, or the attempt
+pub which_part : (bs : List BallSwitch) (timeout : Option ℕ) (k t : ℕ) → get_or (parts bs timeout) k None ≡ Some t
+    → ((k < length bs) × ((get_or bs k empty).due ≡ Some t)) ⊎ ((k ≡ length bs) × (timeout ≡ Some t))
+which_part [] timeout zero t is = inr (refl, is)
+which_part [] timeout (suc k) t is = absurd (none-some t is)
+which_part (b ∷ bs) timeout zero t is = inl (omega arith, is)
+which_part (b ∷ bs) timeout (suc k) t is =
+    elim (which_part bs timeout k t is) [
+      | inl switch ↦ inl (omega (arith, switch.0), switch.1)
+      | inr attempt ↦ inr (ap suc attempt.0, attempt.1)
+    ]

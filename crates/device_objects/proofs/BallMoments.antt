@@ -1,11 +1,12 @@
 -- When ball devices are due.
-use Rattle.std.proofs.Common.{◌≡◌, ℕ, zero, suc, ◌+◌, ◌<◌, ◌≤◌, min, ◌⊎◌, inl, inr, Bool, true, false, Option, None, Some, IfSome, is_some, List, [], ◌∷◌, ◌&&◌, length, get_or, set, option_map, nat_lt, nat_le, if◌then◌else◌, refl, sym, ap, ◌∙◌, arith}
-use Rattle.std.proofs.lemmas.Bool.{cases_lt, ltb-true, ltb-false, false≢true}
-use Rattle.std.proofs.lemmas.List.{get_or_past}
+use Rattle.std.proofs.Common.{◌≡◌, ℕ, zero, suc, ◌+◌, ◌<◌, ◌≤◌, min, ◌⊎◌, inl, inr, Bool, true, false, Option, None, Some, IfSome, is_some, List, [], ◌∷◌, ◌&&◌, length, get_or, set, option_map, nat_lt, nat_le, if◌then◌else◌, refl, sym, ap, ◌∙◌, subst, arith}
+use Rattle.std.proofs.lemmas.Bool.{cases_lt, le-ltb, lt-ltb, ltb-true, ltb-false, false≢true}
+use Rattle.std.proofs.lemmas.List.{length-map, length-set}
 use Rattle.std.proofs.lemmas.Option.{IfSome_then, MatchOption-from_none, none-some, same_Some}
 use Rattle.plan_tables.specs.declared.devices.Act.{Act}
 use Rattle.plan_tables.specs.declared.devices.Act.TheVariants as acts
 use Rattle.plan_tables.specs.declared.devices.BallSettings.{BallSettings}
+use Rattle.plan_tables.specs.declared.devices.Settings.TheVariants as kinds
 use Rattle.plan_tables.specs.Devices.{IsBallDeviceWithin}
 use Rattle.device_objects.specs.declared.device.Call.{Call}
 use Rattle.device_objects.specs.declared.device.Call.TheVariants as calls
@@ -15,9 +16,11 @@ use Rattle.device_objects.specs.declared.state.BallState.{BallState}
 use Rattle.device_objects.specs.declared.state.Eject.{Eject}
 use Rattle.device_objects.specs.declared.state.Eject.TheVariants.{Idle, Pulsing, Away}
 use Rattle.device_objects.specs.declared.state.DeviceState.TheVariants as states
-use Rattle.device_objects.specs.BallDevice.{empty, switch_at, set_switch, first_due, first_due_from, timeout_of, earlier, due_of, part_due, is_timeout_first, entered, left, lost, failed, attempt, can_begin, begin, after, ended, stuck, may_try_again, time_out, confirm, delay, counts_otherwise, noted, switched, turned, gone, count, count_due, fire, requested, act_step, halted, ball_step}
-use Rattle.device_objects.specs.Laws.{IsDone}
-use Rattle.device_objects.proofs.BallDue.{not_due-none, first_due-none, first_due-is_due, first_due-is_first}
+use Rattle.device_objects.specs.declared.state.World.{World}
+use Rattle.device_objects.specs.BallDevice.{empty, switch_at, set_switch, first_due, first_due_from, timeout_of, earlier, due_of, parts, part_due, is_timeout_first, entered, left, lost, failed, attempt, can_begin, begin, after, ended, stuck, may_try_again, time_out, confirm, delay, counts_otherwise, noted, switched, turned, gone, count, count_due, fire, fire_part, requested, act_step, halted, not_due, ball_step}
+use Rattle.device_objects.specs.DeviceStep.{ball_answer}
+use Rattle.device_objects.specs.Laws.{IsDone, IsFirstPart, FiresFirstPart}
+use Rattle.device_objects.proofs.BallDue.{not_due-none, first_due-none, first_due-is_due, first_due-is_first, first_due-is_lowest, due-inside, part-of_switch, part-of_attempt, part-past, switch-is_part, which_part}
 
 -- ---- what a step arms
 
@@ -30,6 +33,11 @@ after_set (c ∷ bs) zero (suc j) b = inr refl
 after_set (c ∷ bs) (suc i) zero b = inr refl
 after_set (c ∷ bs) (suc i) (suc j) b = after_set bs i j b
 
+-- the part after the last ball switch is the attempt
+part-at_attempt : (s : BallState) (k : ℕ) → k ≡ length s.switches → part_due s k ≡ timeout_of s.eject
+part-at_attempt s k is =
+    ap (λ n. get_or (parts s.switches (timeout_of s.eject)) n None) is ∙ part-of_attempt s.switches (timeout_of s.eject)
+
 module _ (d : BallSettings) (now : ℕ) (limits : IsBallDeviceWithin d) (old : BallState) where
   -- the parts are due when they were before, or later than now
   abbrev IsEjectLater : Eject → Type 0
@@ -40,7 +48,7 @@ module _ (d : BallSettings) (now : ℕ) (limits : IsBallDeviceWithin d) (old : B
       (i due : ℕ) → (get_or bs i empty).due ≡ Some due → ((get_or old.switches i empty).due ≡ Some due) ⊎ (now < due)
 
   abbrev IsLater : BallState → Type 0
-  IsLater s = AreSwitchesLater s.switches × IsEjectLater s.eject
+  IsLater s = AreSwitchesLater s.switches × IsEjectLater s.eject × (length s.switches ≡ length old.switches)
 
   either : (test : Bool) (x y : BallState × List ℕ) → IsLater x.0 → IsLater y.0 → IsLater (if test then x else y).0
   either true x y first second = first
@@ -58,29 +66,29 @@ module _ (d : BallSettings) (now : ℕ) (limits : IsBallDeviceWithin d) (old : B
       inr (let same : now + d.timeout ≡ due = same_Some (now + d.timeout) due is in omega (arith, limits.timeout, same))
 
   begin-later : (s : BallState) → IsLater s → IsLater (begin d now s).0
-  begin-later s h = either (can_begin d s) (attempt d 1 now s) (s, []) (h.0, armed) h
+  begin-later s h = either (can_begin d s) (attempt d 1 now s) (s, []) (h.0, armed, h.2) h
 
   stuck-later : (a : Attempt) (s : BallState) → IsLater s → IsLater (stuck d now a s).0
   stuck-later a s h =
       either (may_try_again d.max_attempts a.number)
       (after (failed ∷ []) (attempt d (min (suc a.number) 1000) now s))
-      (record s { eject = Idle; wanted = 0 }, failed ∷ []) (h.0, armed) (h.0, idle)
+      (record s { eject = Idle; wanted = 0 }, failed ∷ []) (h.0, armed, h.2) (h.0, idle, h.2)
 
   time_out-later : (eject : Eject) (s : BallState) → IsLater s → IsLater (time_out d now eject s).0
   time_out-later Idle s h = h
   time_out-later (Pulsing a) s h = stuck-later a s h
-  time_out-later (Away a) s h = begin-later (ended s) (h.0, idle)
+  time_out-later (Away a) s h = begin-later (ended s) (h.0, idle, h.2)
 
   confirm-later : (eject : Eject) (s : BallState) → IsLater s → IsLater (confirm d now eject s).0
   confirm-later Idle s h = h
   confirm-later (Pulsing a) s h = h
-  confirm-later (Away a) s h = begin-later (ended s) (h.0, idle)
+  confirm-later (Away a) s h = begin-later (ended s) (h.0, idle, h.2)
 
   gone-later : (eject : Eject) (s : BallState) → IsEjectLater eject → IsLater s → IsLater (gone d now eject s).0
   gone-later Idle s e h =
       let first : Attempt = record { number = 1; timeout = now + d.timeout } in
-      either d.mechanical (record s { eject = Away first }, left ∷ []) (s, lost ∷ []) (h.0, armed) h
-  gone-later (Pulsing a) s e h = (h.0, e)
+      either d.mechanical (record s { eject = Away first }, left ∷ []) (s, lost ∷ []) (h.0, armed, h.2) h
+  gone-later (Pulsing a) s e h = (h.0, e, h.2)
   gone-later (Away a) s e h = h
 
   set-later : (i : ℕ) (b : BallSwitch) (bs : List BallSwitch) → ((due : ℕ) → b.due ≡ Some due → now < due)
@@ -95,7 +103,8 @@ module _ (d : BallSettings) (now : ℕ) (limits : IsBallDeviceWithin d) (old : B
   count-later i s h =
       let b : BallSwitch = turned (switch_at s i) in
       let t : BallState = set_switch i b s in
-      let still : IsLater t = (set-later i b s.switches (λ due is. absurd (none-some due is)) h.0, h.1) in
+      let still : IsLater t =
+      (set-later i b s.switches (λ due is. absurd (none-some due is)) h.0, h.1, length-set s.switches i b ∙ h.2) in
       either (switch_at s i).counted (gone d now s.eject t) (after (entered ∷ []) (begin d now t))
       (gone-later s.eject t h.1 still) (begin-later t still)
 
@@ -123,7 +132,8 @@ module _ (d : BallSettings) (now : ℕ) (limits : IsBallDeviceWithin d) (old : B
   switched-later i active s h =
       let b : BallSwitch = noted d active now (switch_at s i) in
       one_state (nat_lt i d.switches) (set_switch i b s) s
-      (set-later i b s.switches (noted-later active (counts_otherwise active (switch_at s i))) h.0, h.1) h
+      (set-later i b s.switches (noted-later active (counts_otherwise active (switch_at s i))) h.0, h.1, length-set s.switches i b ∙ h.2)
+      h
 
   requested-later : (n : ℕ) (s : BallState) → IsLater s → IsLater (requested d n now s).0
   requested-later n s h =
@@ -137,21 +147,31 @@ module _ (d : BallSettings) (now : ℕ) (limits : IsBallDeviceWithin d) (old : B
   act-later (acts.Request n) s h = requested-later n s h
   act-later _ s h = h
 
-  halted-later : (s : BallState) → IsLater (halted s)
-  halted-later s = ((λ i due is. absurd (none-some due (sym (not_due-none s.switches i) ∙ is))), idle)
+  halted-later : (s : BallState) → IsLater s → IsLater (halted s)
+  halted-later s h =
+      ((λ i due is. absurd (none-some due (sym (not_due-none s.switches i) ∙ is))), idle, length-map s.switches not_due ∙ h.2)
 
   step-later : (call : Call) (s : BallState) → IsLater s → IsLater (ball_step d call now s).0
   step-later calls.ModeStart s h = h
-  step-later calls.ModeStop s h = halted-later s
+  step-later calls.ModeStop s h = halted-later s h
   step-later calls.Fire s h = fire-later s h
   step-later (calls.Act act) s h = act-later act s h
 
 pub ball-arms_later : (d : BallSettings) (call : Call) (now : ℕ) (s : BallState) → IsBallDeviceWithin d → (k due : ℕ)
     → part_due (ball_step d call now s).0 k ≡ Some due → (part_due s k ≡ Some due) ⊎ (now < due)
-ball-arms_later d call now s limits zero due is =
-    (step-later d now limits s call s ((λ i m at. inl at), (λ m at. inl at))).1 due is
-ball-arms_later d call now s limits (suc i) due is =
-    (step-later d now limits s call s ((λ j m at. inl at), (λ m at. inl at))).0 i due is
+ball-arms_later d call now s limits k due is =
+    let next : BallState = (ball_step d call now s).0 in
+    let later = step-later d now limits s call s ((λ i m at. inl at), (λ m at. inl at), refl) in
+    elim (which_part next.switches (timeout_of next.eject) k due is) [
+      | inl switch ↦ elim (later.0 k due switch.1) [
+        | inl before ↦ inl (switch-is_part s.switches (timeout_of s.eject) k due before)
+        | inr after ↦ inr after
+      ]
+      | inr attempt ↦ elim (later.1 due attempt.1) [
+        | inl before ↦ inl (part-at_attempt s k (attempt.0 ∙ later.2) ∙ before)
+        | inr after ↦ inr after
+      ]
+    ]
 
 -- ---- what is due first is a part
 
@@ -161,16 +181,20 @@ switch-is_due s a is =
     let number : a.1 ≡ at.0 = omega (arith, at.1) in
     ap (λ k. (get_or s.switches k empty).due) number ∙ at.2
 
+first-is_part : (s : BallState) (a : ℕ × ℕ) → first_due s ≡ Some a → part_due s a.1 ≡ Some a.0
+first-is_part s a is = switch-is_part s.switches (timeout_of s.eject) a.1 a.0 (switch-is_due s a is)
+
 part-one : (s : BallState) (first : Option (ℕ × ℕ)) (timeout : Option ℕ) → first_due s ≡ first
     → timeout_of s.eject ≡ timeout
     → IfSome (earlier (option_map (λ a. a.0) first) timeout) (λ due. (k : ℕ) × (part_due s k ≡ Some due))
 part-one s None None at over = tt
-part-one s None (Some t) at over = (0, over)
-part-one s (Some a) None at over = (suc a.1, switch-is_due s a at)
+part-one s None (Some t) at over = (length s.switches, part-at_attempt s (length s.switches) refl ∙ over)
+part-one s (Some a) None at over = (a.1, first-is_part s a at)
 part-one s (Some a) (Some t) at over =
     elim (cases_lt t a.0) [
-      | inl before ↦ (0, over ∙ ap Some (omega (arith, before)))
-      | inr after ↦ (suc a.1, switch-is_due s a at ∙ ap Some (omega (arith, after)))
+      | inl before ↦
+          (length s.switches, part-at_attempt s (length s.switches) refl ∙ over ∙ ap Some (omega (arith, before)))
+      | inr after ↦ (a.1, first-is_part s a at ∙ ap Some (omega (arith, after)))
     ]
 
 pub ball-parts_one : (s : BallState) → IfSome (due_of s) (λ due. (k : ℕ) × (part_due s k ≡ Some due))
@@ -221,6 +245,15 @@ module _ (d : BallSettings) (now : ℕ) (limits : IsBallDeviceWithin d) where
   gone-switches (Pulsing a) s = refl
   gone-switches (Away a) s = refl
 
+  time_out-switches : (eject : Eject) (s : BallState) → (time_out d now eject s).0.switches ≡ s.switches
+  time_out-switches Idle s = refl
+  time_out-switches (Pulsing a) s =
+      either_switches s.switches (may_try_again d.max_attempts a.number)
+      (after (failed ∷ []) (attempt d (min (suc a.number) 1000) now s))
+      (record s { eject = Idle; wanted = 0 }, failed ∷ []) refl refl
+  time_out-switches (Away a) s =
+      either_switches s.switches (can_begin d (ended s)) (attempt d 1 now (ended s)) (ended s, []) refl refl
+
   counted-switches : (i : ℕ) (s : BallState) → (count d now i s).0.switches ≡ set s.switches i (turned (switch_at s i))
   counted-switches i s =
       let t : BallState = set_switch i (turned (switch_at s i)) s in
@@ -229,22 +262,31 @@ module _ (d : BallSettings) (now : ℕ) (limits : IsBallDeviceWithin d) where
 
   timeout-done : (s : BallState) (t due : ℕ) → timeout_of s.eject ≡ Some t → due ≡ t
       → IsDone now due (states.BallDevice s) (states.BallDevice (time_out d now s.eject s).0)
-  timeout-done s t due is same = record {
-    part = 0;
-    due = is ∙ ap Some (sym same);
-    done = time_out-after s.eject s (ap is_some is);
-  }
+  timeout-done s t due is same =
+      let next : BallState = (time_out d now s.eject s).0 in
+      let at : part_due next (length s.switches) ≡ timeout_of next.eject =
+      part-at_attempt next (length s.switches) (ap length (sym (time_out-switches s.eject s))) in
+      record {
+        part = length s.switches;
+        due = part-at_attempt s (length s.switches) refl ∙ is ∙ ap Some (sym same);
+        done = subst (λ (o : Option ℕ). IfSome o (λ later. now < later)) (sym at) (time_out-after s.eject s (ap is_some is));
+      }
 
   count-done : (s : BallState) (a : ℕ × ℕ) (due : ℕ) → first_due s ≡ Some a → due ≡ a.0
       → IsDone now due (states.BallDevice s) (states.BallDevice (count d now a.1 s).0)
   count-done s a due is same =
-      let quiet : (switch_at (count d now a.1 s).0 a.1).due ≡ None =
-      ap (λ bs. (get_or bs a.1 empty).due) (counted-switches a.1 s)
+      let next : BallState = (count d now a.1 s).0 in
+      let within : a.1 < length s.switches = due-inside s.switches a.1 a.0 (switch-is_due s a is) in
+      let long : length next.switches ≡ length s.switches =
+      ap length (counted-switches a.1 s) ∙ length-set s.switches a.1 (turned (switch_at s a.1)) in
+      let quiet : (switch_at next a.1).due ≡ None =
+      ap (λ switches. (get_or switches a.1 empty).due) (counted-switches a.1 s)
       ∙ turned-quiet s.switches a.1 (turned (switch_at s a.1)) refl in
       record {
-        part = suc a.1;
-        due = switch-is_due s a is ∙ ap Some (sym same);
-        done = MatchOption-from_none (switch_at (count d now a.1 s).0 a.1).due (λ later. now < later) quiet;
+        part = a.1;
+        due = first-is_part s a is ∙ ap Some (sym same);
+        done = MatchOption-from_none (part_due next a.1) (λ later. now < later)
+            (part-of_switch next.switches (timeout_of next.eject) a.1 (omega (arith, within, long)) ∙ quiet);
       }
 
   -- of both, that is done which is due first
@@ -288,18 +330,30 @@ none-due bs i None none is = refl
 none-due bs i (Some t) none is = let c = first_due-is_first 0 bs i t is in absurd (none-some c.0 (sym none ∙ c.1))
 
 pub ball-parts_none : (s : BallState) → due_of s ≡ None → (k : ℕ) → part_due s k ≡ None
-ball-parts_none s is zero = (earlier-none (option_map (λ a. a.0) (first_due s)) (timeout_of s.eject) is).1
-ball-parts_none s is (suc i) =
-    none-due s.switches i (switch_at s i).due
-    (no_moment (first_due s) (earlier-none (option_map (λ a. a.0) (first_due s)) (timeout_of s.eject) is).0) refl
+ball-parts_none s is k = none_of (part_due s k) refl
+  where
+    neither : (option_map (λ a. a.0) (first_due s) ≡ None) × (timeout_of s.eject ≡ None)
+    neither = earlier-none (option_map (λ a. a.0) (first_due s)) (timeout_of s.eject) is
+
+    none_of : (due : Option ℕ) → part_due s k ≡ due → due ≡ None
+    none_of None at = refl
+    none_of (Some t) at =
+        elim (which_part s.switches (timeout_of s.eject) k t at) [
+          | inl switch ↦
+              absurd (none-some t (sym (none-due s.switches k (switch_at s k).due (no_moment (first_due s) neither.0) refl) ∙ switch.1))
+          | inr attempt ↦ absurd (none-some t (sym neither.1 ∙ attempt.1))
+        ]
 
 -- a part that is due is the attempt, or is due when the first ball switch is, or later
 abbrev IsPart : Option (ℕ × ℕ) → Option ℕ → ℕ → Type 0
 IsPart first timeout other = (timeout ≡ Some other) ⊎ ((c : ℕ × ℕ) × (first ≡ Some c) × (c.0 ≤ other))
 
 part-is : (s : BallState) (k other : ℕ) → part_due s k ≡ Some other → IsPart (first_due s) (timeout_of s.eject) other
-part-is s zero other is = inl is
-part-is s (suc i) other is = inr (first_due-is_first 0 s.switches i other is)
+part-is s k other is =
+    elim (which_part s.switches (timeout_of s.eject) k other is) [
+      | inl switch ↦ inr (first_due-is_first 0 s.switches k other switch.1)
+      | inr attempt ↦ inl attempt.1
+    ]
 
 first-is_least : (first : Option (ℕ × ℕ)) (timeout : Option ℕ)
     → IfSome (earlier (option_map (λ a. a.0) first) timeout)
@@ -325,8 +379,103 @@ ball-parts_first s =
     (λ due least k other is. least other (part-is s k other is))
 
 pub ball-parts_few : (s : BallState) (k : ℕ) → length s.switches ≡ 16 → 17 ≤ k → part_due s k ≡ None
-ball-parts_few s zero long past = absurd (omega (arith, past))
-ball-parts_few s (suc i) long past = ap (λ b. b.due) (get_or_past s.switches i empty (omega (arith, long, past)))
+ball-parts_few s k long past = part-past s.switches (timeout_of s.eject) k (omega (arith, long, past))
+
+-- ---- which part fires
+
+module _ (d : BallSettings) (now : ℕ) (s : BallState) where
+  -- a ball switch that is due first is the first part, unless the attempt is over before
+  switch-first : (a : ℕ × ℕ) → first_due s ≡ Some a → ((t : ℕ) → timeout_of s.eject ≡ Some t → a.0 ≤ t)
+      → IsFirstPart (states.BallDevice s) a.0 a.1
+  switch-first a is before = record {
+    due = first-is_part s a is;
+    earliest = λ other at found. elim (which_part s.switches (timeout_of s.eject) other at found) [
+      | inl switch ↦
+          let by = first_due-is_first 0 s.switches other at switch.1 in
+          let same : a.0 ≡ by.0.0 = ap (λ p. p.0) (same_Some a by.0 (sym is ∙ by.1)) in
+          omega (arith, same, by.2)
+      | inr attempt ↦ before at attempt.1
+    ];
+    lowest = λ other found. elim (which_part s.switches (timeout_of s.eject) other a.0 found) [
+      | inl switch ↦ (let low = first_due-is_lowest 0 s.switches other a is switch.1 in omega (arith, low))
+      | inr attempt ↦
+          let within = due-inside s.switches a.1 a.0 (switch-is_due s a is) in omega (arith, within, attempt.0)
+    ];
+  }
+
+  -- the attempt is the first part if it is over before any ball switch is due
+  attempt-first : (t : ℕ) → timeout_of s.eject ≡ Some t → ((i at : ℕ) → (switch_at s i).due ≡ Some at → t < at)
+      → IsFirstPart (states.BallDevice s) t (length s.switches)
+  attempt-first t is before = record {
+    due = part-at_attempt s (length s.switches) refl ∙ is;
+    earliest = λ other at found. elim (which_part s.switches (timeout_of s.eject) other at found) [
+      | inl switch ↦ (let later = before other at switch.1 in omega (arith, later))
+      | inr attempt ↦ (let same : t ≡ at = same_Some t at (sym is ∙ attempt.1) in omega (arith, same))
+    ];
+    lowest = λ other found. elim (which_part s.switches (timeout_of s.eject) other t found) [
+      | inl switch ↦ (let later = before other t switch.1 in absurd (omega (arith, later)))
+      | inr attempt ↦ omega (arith, attempt.0)
+    ];
+  }
+
+  of_test : (k : ℕ) (test : Bool) → nat_lt k (length s.switches) ≡ test
+      → fire_part d k now s ≡ (if test then count d now k s else time_out d now s.eject s)
+  of_test k test is = ap (λ (t : Bool). if t then count d now k s else time_out d now s.eject s) is
+
+  attempt-fires : time_out d now s.eject s ≡ fire_part d (length s.switches) now s
+  attempt-fires = sym (of_test (length s.switches) false (le-ltb (length s.switches) (length s.switches) (omega arith)))
+
+  switch-fires : (a : ℕ × ℕ) → first_due s ≡ Some a → count d now a.1 s ≡ fire_part d a.1 now s
+  switch-fires a is =
+      sym (of_test a.1 true (lt-ltb a.1 (length s.switches) (due-inside s.switches a.1 a.0 (switch-is_due s a is))))
+
+  -- what is done, if the first ball switch and the attempt are due then, is what the first part does
+  abbrev DoesFirst : BallState × List ℕ → ℕ → Type 0
+  DoesFirst answer due =
+      (part : ℕ) × IsFirstPart (states.BallDevice s) due part × (answer ≡ fire_part d part now s)
+
+  fires : (first : Option (ℕ × ℕ)) (timeout : Option ℕ) → first_due s ≡ first → timeout_of s.eject ≡ timeout
+      → IfSome (earlier (option_map (λ a. a.0) first) timeout)
+      (DoesFirst (if is_timeout_first first timeout then time_out d now s.eject s else count_due d now first s))
+  fires None None at over = tt
+  fires None (Some t) at over = (
+    length s.switches,
+    attempt-first t over (λ i m due. let by = first_due-is_first 0 s.switches i m due in absurd (none-some by.0 (sym at ∙ by.1))),
+    attempt-fires,
+  )
+  fires (Some a) None at over =
+      (a.1, switch-first a at (λ t due. absurd (none-some t (sym over ∙ due))), switch-fires a at)
+  fires (Some a) (Some t) at over = one_of (nat_lt t a.0) refl
+    where
+      after_first : t < a.0 → (i m : ℕ) → (switch_at s i).due ≡ Some m → t < m
+      after_first before i m due =
+          let by = first_due-is_first 0 s.switches i m due in
+          let same : a.0 ≡ by.0.0 = ap (λ p. p.0) (same_Some a by.0 (sym at ∙ by.1)) in
+          omega (arith, before, same, by.2)
+
+      one_of : (test : Bool) → nat_lt t a.0 ≡ test
+          → DoesFirst (if test then time_out d now s.eject s else count d now a.1 s) (min a.0 t)
+      one_of true is =
+          let before : t < a.0 = ltb-true t a.0 is in
+          let least : t ≡ min a.0 t = omega (arith, before) in (
+            length s.switches,
+            subst (λ m. IsFirstPart (states.BallDevice s) m (length s.switches)) least (attempt-first t over (after_first before)),
+            attempt-fires,
+          )
+      one_of false is =
+          let before : a.0 ≤ t = ltb-false t a.0 is in
+          let least : a.0 ≡ min a.0 t = omega (arith, before) in (
+            a.1,
+            subst (λ m. IsFirstPart (states.BallDevice s) m a.1) least
+                (switch-first a at (λ m due. let same : t ≡ m = same_Some t m (sym over ∙ due) in omega (arith, before, same))),
+            switch-fires a at,
+          )
+
+pub ball-fires_first : (d : BallSettings) (now : ℕ) (world : World) (s : BallState)
+    → IfSome (due_of s) (FiresFirstPart (kinds.BallDevice d) now world (states.BallDevice s))
+ball-fires_first d now world s =
+    IfSome_then (due_of s) (fires d now s (first_due s) (timeout_of s.eject) refl refl)
+    (λ due does. record { part = does.0; first = does.1; step = ap ball_answer does.2 })
 
 -- ---- when its mode has stopped
 

@@ -1,4 +1,5 @@
 pub mod Marks
+pub mod FlagLemmas
 pub mod Slots
 pub mod Flat
 pub mod Among

@@ -1,5 +1,5 @@
 -- When devices are due.
-use Rattle.std.proofs.Common.{◌≡◌, ℕ, zero, suc, ◌+◌, ◌<◌, ◌≤◌, ◌⊎◌, inl, inr, Bool, true, false, if◌then◌else◌, Option, None, Some, IfSome, List, [], ◌∷◌, pos, ◌+ℤ◌, ◌-ℤ◌, refl, arith}
+use Rattle.std.proofs.Common.{◌≡◌, ℕ, zero, suc, ◌+◌, ◌<◌, ◌≤◌, ◌⊎◌, inl, inr, Bool, true, false, if◌then◌else◌, Option, None, Some, IfSome, List, [], ◌∷◌, pos, ◌+ℤ◌, ◌-ℤ◌, refl, sym, ◌∙◌, arith}
 use Rattle.std.proofs.lemmas.Option.{IfSome_then, none-some, same_Some}
 use Rattle.plan_tables.specs.declared.devices.Act.{Act}
 use Rattle.plan_tables.specs.declared.devices.Act.TheVariants as acts
@@ -16,8 +16,8 @@ use Rattle.device_objects.specs.declared.state.World.{World}
 use Rattle.device_objects.specs.Values.{clamped, is_at_end, moved}
 use Rattle.device_objects.specs.Timer as timer
 use Rattle.device_objects.specs.DeviceStep.{due_of, part_due, first_state, device_step}
-use Rattle.device_objects.specs.Laws.{ArmsLaterMoments, DevicesAreDueWithTheirParts, HasShape, IsDone, NothingIsDue}
-use Rattle.device_objects.proofs.BallMoments.{ball-arms_later, ball-fired, ball-parts_none, ball-parts_one, ball-parts_first, ball-parts_few, ball-stopped_quiet}
+use Rattle.device_objects.specs.Laws.{ArmsLaterMoments, DevicesAreDueWithTheirParts, FiresFirstPart, FirstPartsFire, HasShape, IsDone, IsFirstPart, NothingIsDue}
+use Rattle.device_objects.proofs.BallMoments.{ball-arms_later, ball-fired, ball-fires_first, ball-parts_none, ball-parts_one, ball-parts_first, ball-parts_few, ball-stopped_quiet}
 
 -- a timer that is due at a moment at which it was due before, or later than now
 module _ (t : TimerSettings) (now : ℕ) (some : 1 ≤ t.interval) (Before : ℕ → Type 0) where
@@ -113,6 +113,32 @@ fired-done (kinds.Sequence q) now world (states.Sequence slots) limits shape = t
 fired-done kinds.Flipper now world (states.Flipper s) limits shape = tt
 fired-done kinds.Autofire now world (states.Autofire s) limits shape = tt
 fired-done _ now world _ limits shape = elim shape [ ]
+
+-- ---- which part fires
+
+-- a timer has one part
+timer-first : (s : TimerState) (due : ℕ) → s.due ≡ Some due → IsFirstPart (states.Timer s) due 0
+timer-first s due is = record {
+  due = is;
+  earliest = elim [
+    | zero ↦ (λ at found. let same : due ≡ at = same_Some due at (sym is ∙ found) in omega (arith, same))
+    | suc k ↦ (λ at found. absurd (none-some at found))
+  ];
+  lowest = λ other found. omega arith;
+}
+
+pub first_parts_fire : FirstPartsFire
+first_parts_fire (kinds.Timer t) now world (states.Timer s) shape =
+    if_some s.due (FiresFirstPart (kinds.Timer t) now world (states.Timer s))
+    (λ due is. record { part = 0; first = timer-first s due is; step = refl })
+first_parts_fire (kinds.BallDevice d) now world (states.BallDevice s) shape = ball-fires_first d now world s
+first_parts_fire (kinds.Counter c) now world (states.Counter slots) shape = tt
+first_parts_fire (kinds.Accrual a) now world (states.Accrual slots) shape = tt
+first_parts_fire (kinds.Bank b) now world (states.Bank slots) shape = tt
+first_parts_fire (kinds.Sequence q) now world (states.Sequence slots) shape = tt
+first_parts_fire kinds.Flipper now world (states.Flipper s) shape = tt
+first_parts_fire kinds.Autofire now world (states.Autofire s) shape = tt
+first_parts_fire _ now world _ shape = elim shape [ ]
 
 pub arms_later_moments : ArmsLaterMoments
 arms_later_moments = record { step = arms-later; fired = fired-done }

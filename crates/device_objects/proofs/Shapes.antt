@@ -26,7 +26,7 @@ use Rattle.device_objects.specs.Accrual as accrual
 use Rattle.device_objects.specs.Sequence as sequence
 use Rattle.device_objects.specs.Bank as bank
 use Rattle.device_objects.specs.DeviceStep.{first_state, device_step}
-use Rattle.device_objects.specs.Laws.{HasBankShape, HasShape, StatesKeepTheirShape}
+use Rattle.device_objects.specs.Laws.{HasBankShape, HasMarks, HasShape, StatesKeepTheirShape}
 use Rattle.device_objects.proofs.Slots.{step_in_use-length, step_in_use-all, All-at}
 use Rattle.device_objects.proofs.BallShapes.{first_ball-shape, ball_step-shape}
 
@@ -42,8 +42,6 @@ counter_step-length c calls.Fire now world slots = refl
 counter_step-length c (calls.Act act) now world slots = step_in_use-length (λ slot. counter.slot_step c act now (counter.current c world slot)) slots (slot_in_use c.block.persist world)
 
 -- each accrual slot keeps its 16 marks
-abbrev HasMarks : AccrualSlot → Type 0
-HasMarks slot = length slot.done ≡ 16
 
 completed-marks : (a : StepSettings) (slot : AccrualSlot) (reset : Bool) → HasMarks slot → length (if reset then accrual.none_done else slot.done) ≡ 16
 completed-marks a slot true marks = refl

@@ -1,11 +1,11 @@
 -- Steps of slots.
-use Rattle.std.proofs.Common.{◌≡◌, ℕ, ◌-◌, ◌==◌, Bool, true, false, Option, None, Some, List, [], ◌∷◌, length, slice_get, if◌then◌else◌, get_or, refl, sym, ap, subst, ◌∙◌, arith}
+use Rattle.std.proofs.Common.{◌≡◌, ℕ, ◌-◌, ◌≤◌, ◌==◌, Bool, true, false, Option, None, Some, List, [], ◌∷◌, length, map, option_map, set, slice_get, if◌then◌else◌, get_or, refl, sym, ap, subst, ◌∙◌, arith}
 use Rattle.std.specs.List.{All}
-use Rattle.std.proofs.lemmas.List.{length-set}
-use Rattle.std.proofs.lemmas.Option.{slice_get_within, slice_get-get_or}
+use Rattle.std.proofs.lemmas.List.{length-map, length-set, map-set}
+use Rattle.std.proofs.lemmas.Option.{slice_get_past, slice_get_within, slice_get-get_or, slice_get-map}
 use Rattle.std.proofs.lemmas.List.Elements.{All-set}
 use Rattle.device_objects.specs.declared.state.World.{World}
-use Rattle.device_objects.specs.Slots.{slot_in_use, step_at, step_in_use}
+use Rattle.device_objects.specs.Slots.{slot_in_use, put_at, step_at, step_in_use}
 
 -- a step of a slot leaves their number
 step_at-length : {S : Type 0} (step : S → S × List ℕ) (i : ℕ) (slots : List S) (slot : Option S) → length (step_at step i slots slot).0 ≡ length slots
@@ -69,3 +69,26 @@ module _ {S : Type 0} (P : List ℕ → Type 0) (step : S → S × List ℕ) (ea
   pub in_use-answers : (persist : Bool) (world : World) (slots : List S) → length slots ≡ 4 → (persist ≡ true → P []) → P (step_in_use step slots (slot_in_use persist world)).1
   in_use-answers true world slots four none = of_player (world.player == 0) slots (world.player - 1) (none refl)
   in_use-answers false world slots four none = at_first slots four
+
+-- ---- slots that are seen otherwise than they are kept
+
+module _ {S V : Type 0} (seen : S → V) (step : V → V × List ℕ) where
+  -- the slot in use is stepped, and the others stay
+  pub seen-step : (slots : List S) (at : Option ℕ) (i : ℕ) (slot new : S) (lists : List ℕ) → at ≡ Some i
+      → slice_get slots i ≡ Some slot → seen new ≡ (step (seen slot)).0 → lists ≡ (step (seen slot)).1
+      → (map seen (set slots i new) ≡ (step_in_use step (map seen slots) at).0)
+      × (lists ≡ (step_in_use step (map seen slots) at).1)
+  seen-step slots at i slot new lists is here becomes answers =
+      let there : slice_get (map seen slots) i ≡ Some (seen slot) = slice_get-map seen slots i ∙ ap (option_map seen) here in
+      let steps : step_in_use step (map seen slots) at ≡ put_at i (map seen slots) (step (seen slot)) =
+      ap (step_in_use step (map seen slots)) is ∙ ap (step_at step i (map seen slots)) there in (
+        map-set seen slots i new ∙ ap (set (map seen slots) i) becomes ∙ sym (ap (λ a. a.0) steps),
+        answers ∙ sym (ap (λ a. a.1) steps),
+      )
+
+  -- where there is no such slot, nothing is done
+  pub seen-past : (slots : List S) (at : Option ℕ) (i : ℕ) → at ≡ Some i → length slots ≤ i
+      → step_in_use step (map seen slots) at ≡ (map seen slots, [])
+  seen-past slots at i is past =
+      ap (step_in_use step (map seen slots)) is
+      ∙ ap (step_at step i (map seen slots)) (slice_get_past (map seen slots) i (omega (arith, past, length-map slots seen)))

@@ -1,6 +1,6 @@
 -- A ball device, such as a trough or a plunger. A ball lies at each ball switch that is counted. The device ejects one
 -- ball at a time.
-use Rattle.std.specs.Prelude.{ℕ, zero, suc, ◌+◌, ◌-◌, nat_lt, nat_le, min, Bool, true, false, not, ◌&&◌, ◌||◌, if◌then◌else◌, Option, None, Some, List, [], ◌∷◌, ◌++◌, map, option_map, replicate, slice_index_or, slice_set}
+use Rattle.std.specs.Prelude.{ℕ, suc, ◌+◌, ◌-◌, nat_lt, nat_le, min, Bool, true, false, not, ◌&&◌, ◌||◌, if◌then◌else◌, Option, None, Some, List, [], ◌∷◌, ◌++◌, length, map, option_map, replicate, slice_index_or, slice_set}
 use Rattle.std.specs.List.{list_any}
 use Rattle.plan_tables.specs.declared.devices.Act.{Act}
 use Rattle.plan_tables.specs.declared.devices.Act.TheVariants as acts
@@ -98,10 +98,12 @@ earlier (Some a) (Some b) = Some (min a b)
 abbrev pub due_of : BallState → Option ℕ
 due_of s = earlier (option_map (λ a. a.0) (first_due s)) (timeout_of s.eject)
 
--- When its parts are due: part 0 is the attempt, and part i + 1 is ball switch i.
+-- When its parts are due: each ball switch by its number, and after the last of the 16 its attempt.
+abbrev pub parts : List BallSwitch → Option ℕ → List (Option ℕ)
+parts switches timeout = map (λ b. b.due) switches ++ timeout ∷ []
+
 abbrev pub part_due : BallState → ℕ → Option ℕ
-part_due s zero = timeout_of s.eject
-part_due s (suc i) = (switch_at s i).due
+part_due s k = slice_index_or (parts s.switches (timeout_of s.eject)) k None
 
 -- ---- ejecting
 
@@ -224,6 +226,10 @@ fire d now s =
     if is_timeout_first (first_due s) (timeout_of s.eject)
     then time_out d now s.eject s
     else count_due d now (first_due s) s
+
+-- what a part does when its moment has come: a ball switch counts, or the attempt is over
+abbrev pub fire_part : BallSettings → ℕ → ℕ → BallState → BallState × List ℕ
+fire_part d k now s = if nat_lt k (length s.switches) then count d now k s else time_out d now s.eject s
 
 -- A trough is to eject this many more balls. A request that would make more than 255 is ignored.
 abbrev pub requested : BallSettings → ℕ → ℕ → BallState → BallState × List ℕ

@@ -1,8 +1,9 @@
 -- What a device of each kind remembers at first, and what is done with it.
-use Rattle.std.specs.Prelude.{ℕ, zero, suc, Option, None, List, []}
+use Rattle.std.specs.Prelude.{ℕ, zero, suc, Option, None, Some, List, []}
 use Rattle.plan_tables.specs.declared.devices.Settings.{Settings}
 use Rattle.plan_tables.specs.declared.devices.Settings.TheVariants as kinds
 use Rattle.device_objects.specs.declared.device.Call.{Call}
+use Rattle.device_objects.specs.declared.device.Call.TheVariants as calls
 use Rattle.device_objects.specs.declared.state.World.{World}
 use Rattle.device_objects.specs.declared.state.TimerState.{TimerState}
 use Rattle.device_objects.specs.declared.state.CounterSlot.{CounterSlot}
@@ -34,18 +35,64 @@ first_state kinds.Flipper = states.Flipper flipper.first_state
 first_state kinds.Autofire = states.Autofire autofire.first_state
 first_state (kinds.BallDevice d) = states.BallDevice balls.first_state
 
--- the moment at which the device is due, if there is one
+-- The moment at which the device is due, if there is one. Only timers and ball devices are ever due.
 abbrev pub due_of : DeviceState → Option ℕ
+due_of (states.Counter slots) = None
+due_of (states.Accrual slots) = None
+due_of (states.Sequence slots) = None
 due_of (states.Timer s) = s.due
+due_of (states.Bank slots) = None
+due_of (states.Flipper s) = None
+due_of (states.Autofire s) = None
 due_of (states.BallDevice s) = balls.due_of s
-due_of _ = None
 
 -- The moment at which a part of the device is due, by the part's number. A timer has just one part.
 abbrev pub part_due : DeviceState → ℕ → Option ℕ
+part_due (states.Counter slots) k = None
+part_due (states.Accrual slots) k = None
+part_due (states.Sequence slots) k = None
 part_due (states.Timer s) zero = s.due
 part_due (states.Timer s) (suc k) = None
+part_due (states.Bank slots) k = None
+part_due (states.Flipper s) k = None
+part_due (states.Autofire s) k = None
 part_due (states.BallDevice s) k = balls.part_due s k
-part_due _ k = None
+
+-- ---- what a state holds, if it is one of this kind
+
+abbrev pub counter_slots : DeviceState → Option (List CounterSlot)
+counter_slots (states.Counter slots) = Some slots
+counter_slots _ = None
+
+abbrev pub accrual_slots : DeviceState → Option (List AccrualSlot)
+accrual_slots (states.Accrual slots) = Some slots
+accrual_slots _ = None
+
+abbrev pub sequence_slots : DeviceState → Option (List SequenceSlot)
+sequence_slots (states.Sequence slots) = Some slots
+sequence_slots _ = None
+
+abbrev pub timer_state : DeviceState → Option TimerState
+timer_state (states.Timer s) = Some s
+timer_state _ = None
+
+abbrev pub bank_slots : DeviceState → Option (List BankSlot)
+bank_slots (states.Bank slots) = Some slots
+bank_slots _ = None
+
+abbrev pub flipper_state : DeviceState → Option FlipperState
+flipper_state (states.Flipper s) = Some s
+flipper_state _ = None
+
+abbrev pub autofire_state : DeviceState → Option AutofireState
+autofire_state (states.Autofire s) = Some s
+autofire_state _ = None
+
+abbrev pub ball_state : DeviceState → Option BallState
+ball_state (states.BallDevice s) = Some s
+ball_state _ = None
+
+-- ---- steps
 
 abbrev pub counter_answer : List CounterSlot × List ℕ → DeviceState × List ℕ
 counter_answer a = (states.Counter a.0, a.1)
@@ -71,14 +118,39 @@ autofire_answer a = (states.Autofire a.0, a.1)
 abbrev pub ball_answer : BallState × List ℕ → DeviceState × List ℕ
 ball_answer a = (states.BallDevice a.0, a.1)
 
--- The next state, and the numbers of the effect lists that are to run, in order. A state of another kind stays.
+-- the answer of what the state holds, if it is of the device's kind; a state of another kind stays
+abbrev pub of_kind : {S : Type 0} → (S × List ℕ → DeviceState × List ℕ) → (S → S × List ℕ) → DeviceState → Option S
+    → DeviceState × List ℕ
+of_kind answer step state None = (state, [])
+of_kind answer step state (Some s) = answer (step s)
+
+-- The next state, and the numbers of the effect lists that are to run, in order.
 abbrev pub device_step : Settings → Call → ℕ → World → DeviceState → DeviceState × List ℕ
-device_step (kinds.Counter c) call now world (states.Counter slots) = counter_answer (counter.counter_step c call now world slots)
-device_step (kinds.Accrual a) call now world (states.Accrual slots) = accrual_answer (accrual.accrual_step a call world slots)
-device_step (kinds.Sequence q) call now world (states.Sequence slots) = sequence_answer (sequence.sequence_step q call world slots)
-device_step (kinds.Timer t) call now world (states.Timer s) = timer_answer (timer.timer_step t call now s)
-device_step (kinds.Bank b) call now world (states.Bank slots) = bank_answer (bank.bank_step b call world slots)
-device_step kinds.Flipper call now world (states.Flipper s) = flipper_answer (flipper.flipper_step call s)
-device_step kinds.Autofire call now world (states.Autofire s) = autofire_answer (autofire.autofire_step call s)
-device_step (kinds.BallDevice d) call now world (states.BallDevice s) = ball_answer (balls.ball_step d call now s)
-device_step _ call now world state = (state, [])
+device_step (kinds.Counter c) call now world state =
+    of_kind counter_answer (counter.counter_step c call now world) state (counter_slots state)
+device_step (kinds.Accrual a) call now world state =
+    of_kind accrual_answer (accrual.accrual_step a call world) state (accrual_slots state)
+device_step (kinds.Sequence q) call now world state =
+    of_kind sequence_answer (sequence.sequence_step q call world) state (sequence_slots state)
+device_step (kinds.Timer t) call now world state =
+    of_kind timer_answer (timer.timer_step t call now) state (timer_state state)
+device_step (kinds.Bank b) call now world state =
+    of_kind bank_answer (bank.bank_step b call world) state (bank_slots state)
+device_step kinds.Flipper call now world state =
+    of_kind flipper_answer (flipper.flipper_step call) state (flipper_state state)
+device_step kinds.Autofire call now world state =
+    of_kind autofire_answer (autofire.autofire_step call) state (autofire_state state)
+device_step (kinds.BallDevice d) call now world state =
+    of_kind ball_answer (balls.ball_step d call now) state (ball_state state)
+
+-- What a part does when its moment has come, by the part's number: a timer ticks, a ball switch counts, an attempt is
+-- over. Other devices have no such parts.
+abbrev pub fire_part : Settings → ℕ → ℕ → DeviceState → DeviceState × List ℕ
+fire_part (kinds.Counter c) k now state = (state, [])
+fire_part (kinds.Accrual a) k now state = (state, [])
+fire_part (kinds.Sequence q) k now state = (state, [])
+fire_part (kinds.Timer t) k now state = of_kind timer_answer (timer.timer_step t calls.Fire now) state (timer_state state)
+fire_part (kinds.Bank b) k now state = (state, [])
+fire_part kinds.Flipper k now state = (state, [])
+fire_part kinds.Autofire k now state = (state, [])
+fire_part (kinds.BallDevice d) k now state = of_kind ball_answer (balls.fire_part d k now) state (ball_state state)

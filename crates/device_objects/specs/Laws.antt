@@ -1,5 +1,5 @@
 -- What holds of every step of a device.
-use Rattle.std.specs.Prelude.{◌≡◌, ℕ, ◌<◌, ◌≤◌, max, ◌⊎◌, true, None, Some, IsSome, IfSome, List, length, Contains, drop}
+use Rattle.std.specs.Prelude.{◌≡◌, ℕ, ◌<◌, ◌≤◌, max, ◌⊎◌, true, None, Some, IsSome, IsSomeAnd, IfSome, List, length, Contains, drop}
 use Rattle.std.specs.Option.{option_map_or}
 use Rattle.std.specs.List.{All}
 use Rattle.plan_tables.specs.declared.devices.BallSettings.{BallSettings}
@@ -10,15 +10,19 @@ use Rattle.plan_tables.specs.Devices.{IsWithinLimits, list_count}
 use Rattle.device_objects.specs.declared.device.Call.{Call}
 use Rattle.device_objects.specs.declared.device.Call.TheVariants as calls
 use Rattle.device_objects.specs.declared.state.World.{World}
+use Rattle.device_objects.specs.declared.state.AccrualSlot.{AccrualSlot}
 use Rattle.device_objects.specs.declared.state.BankSlot.{BankSlot}
 use Rattle.device_objects.specs.declared.state.BallState.{BallState}
 use Rattle.device_objects.specs.declared.state.Eject.{Eject}
 use Rattle.device_objects.specs.declared.state.Eject.TheVariants.{Idle, Pulsing, Away}
 use Rattle.device_objects.specs.declared.state.DeviceState.{DeviceState}
-use Rattle.device_objects.specs.declared.state.DeviceState.TheVariants as states
 use Rattle.device_objects.specs.BallDevice.{empty}
-use Rattle.device_objects.specs.DeviceStep.{first_state, due_of, part_due, device_step}
+use Rattle.device_objects.specs.DeviceStep.{first_state, due_of, part_due, counter_slots, accrual_slots, sequence_slots, timer_state, bank_slots, flipper_state, autofire_state, ball_state, device_step, fire_part}
 use Rattle.device_objects.specs.Outcomes.{may_eject, outcomes, silent}
+
+-- a slot of an accrual: with 16 marks
+abbrev pub HasMarks : AccrualSlot → Type 0
+HasMarks slot = length slot.done ≡ 16
 
 -- a slot of a bank: with as many flags as its settings have, and 16 states, each one of the profile
 abbrev pub HasBankShape : BankSettings → BankSlot → Type 0
@@ -42,17 +46,19 @@ pub record HasBallShape (d : BallSettings) (s : BallState) : Type 0 where
   pub eject : IsEjectOf d s.eject
   pub wanted : s.wanted ≤ 255
 
--- a state of the shape that the settings ask for: of their kind, with four slots, and 16 marks in each of an accrual
+-- A state of the shape that the settings ask for: of their kind, with four slots, and in each as many marks, flags and
+-- states as a slot has. What the device acts on is within the settings. What it passes over may be anything: a mark of a
+-- step that an accrual does not have, and a next step that a sequence does not have.
 abbrev pub HasShape : Settings → DeviceState → Type 0
-HasShape (kinds.Counter c) (states.Counter slots) = length slots ≡ 4
-HasShape (kinds.Accrual a) (states.Accrual slots) = (length slots ≡ 4) × All (λ s. length s.done ≡ 16) slots
-HasShape (kinds.Sequence q) (states.Sequence slots) = length slots ≡ 4
-HasShape (kinds.Timer t) (states.Timer s) = Unit {0}
-HasShape (kinds.Bank b) (states.Bank slots) = (length slots ≡ 4) × All (HasBankShape b) slots
-HasShape kinds.Flipper (states.Flipper s) = Unit {0}
-HasShape kinds.Autofire (states.Autofire s) = Unit {0}
-HasShape (kinds.BallDevice d) (states.BallDevice s) = HasBallShape d s
-HasShape _ _ = ⊥
+HasShape (kinds.Counter c) state = IsSomeAnd (counter_slots state) (λ slots. length slots ≡ 4)
+HasShape (kinds.Accrual a) state =
+    IsSomeAnd (accrual_slots state) (λ slots. (length slots ≡ 4) × All HasMarks slots)
+HasShape (kinds.Sequence q) state = IsSomeAnd (sequence_slots state) (λ slots. length slots ≡ 4)
+HasShape (kinds.Timer t) state = IsSomeAnd (timer_state state) (λ s. Unit {0})
+HasShape (kinds.Bank b) state = IsSomeAnd (bank_slots state) (λ slots. (length slots ≡ 4) × All (HasBankShape b) slots)
+HasShape kinds.Flipper state = IsSomeAnd (flipper_state state) (λ s. Unit {0})
+HasShape kinds.Autofire state = IsSomeAnd (autofire_state state) (λ s. Unit {0})
+HasShape (kinds.BallDevice d) state = IsSomeAnd (ball_state state) (HasBallShape d)
 
 -- The first state has the shape of its settings, and each step leaves it so.
 pub record StatesKeepTheirShape : Type 0 where
@@ -62,8 +68,10 @@ pub record StatesKeepTheirShape : Type 0 where
 
 -- a call that may come in this state: a device fires only while it is due
 abbrev pub MayCome : Call → DeviceState → Type 0
+MayCome calls.ModeStart state = Unit {0}
+MayCome calls.ModeStop state = Unit {0}
 MayCome calls.Fire state = IsSome (due_of state)
-MayCome _ state = Unit {0}
+MayCome (calls.Act act) state = Unit {0}
 
 -- No state answers anything but one of the outcomes.
 abbrev pub AnswersAreOutcomes : Type 0
@@ -90,6 +98,25 @@ pub record DevicesAreDueWithTheirParts : Type 0 where
   pub one : (state : DeviceState) → IfSome (due_of state) (λ due. (k : ℕ) × (part_due state k ≡ Some due))
   pub first : (state : DeviceState) → IfSome (due_of state) (λ due. (k other : ℕ) → part_due state k ≡ Some other → due ≤ other)
   pub few : (settings : Settings) (state : DeviceState) (k : ℕ) → HasShape settings state → 17 ≤ k → part_due state k ≡ None
+
+-- The part is due at the moment, no part is due before it, and no part with a lower number is due at it.
+pub record IsFirstPart (state : DeviceState) (moment part : ℕ) : Type 0 where
+  pub due : part_due state part ≡ Some moment
+  pub earliest : (other at : ℕ) → part_due state other ≡ Some at → moment ≤ at
+  pub lowest : (other : ℕ) → part_due state other ≡ Some moment → part ≤ other
+
+-- A device that fires does what this part of it does, and the part is the first that is due.
+pub record FiresFirstPart (settings : Settings) (now : ℕ) (world : World) (state : DeviceState) (moment : ℕ) : Type 0 where
+  pub part : ℕ
+  pub first : IsFirstPart state moment part
+  pub step : device_step settings calls.Fire now world state ≡ fire_part settings part now state
+
+-- Of the parts of a device that are due at one moment the one with the lowest number fires first: so of a ball device
+-- the ball switches by their numbers, then the attempt.
+abbrev pub FirstPartsFire : Type 0
+FirstPartsFire =
+    (settings : Settings) (now : ℕ) (world : World) (state : DeviceState) → HasShape settings state
+    → IfSome (due_of state) (FiresFirstPart settings now world state)
 
 -- A part was due at this moment. In the next state it is due later than now, or not at all.
 pub record IsDone (now moment : ℕ) (state next : DeviceState) : Type 0 where

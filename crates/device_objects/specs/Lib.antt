@@ -1,5 +1,6 @@
 pub mod Values
 pub mod Slots
+pub mod Flags
 pub mod Counter
 pub mod Accrual
 pub mod Sequence

@@ -1,6 +1,6 @@
 //! What holds of every step of a device.
 
-ghost use Rattle.device_objects.specs.Laws.{AnswersAreOutcomes, ArmsLaterMoments, DevicesAreDueWithTheirParts, NothingIsDue, OutcomesAreOfTheRow, OutcomesComeAbout, StatesKeepTheirShape, StopsAreSilent};
+ghost use Rattle.device_objects.specs.Laws.{AnswersAreOutcomes, ArmsLaterMoments, DevicesAreDueWithTheirParts, FirstPartsFire, NothingIsDue, OutcomesAreOfTheRow, OutcomesComeAbout, StatesKeepTheirShape, StopsAreSilent};
 
 /// The first state of a device has the shape of its row, and each step leaves it so.
 ///
@@ -44,6 +44,15 @@ pub fn devices_are_due_with_their_parts()
 /// It does nothing: its contract is the law, over all steps.
 pub fn arms_later_moments()
     ensures { ArmsLaterMoments }
+{}
+
+/// When a device fires, the part of it fires that is due first. Of parts that are due at one moment it is
+/// the one with the lowest number: so of a ball device the ball switches by their numbers, from 0 to 15,
+/// and then the attempt to eject a ball, which is part 16.
+///
+/// It does nothing: its contract is the law, over all steps.
+pub fn first_parts_fire()
+    ensures { FirstPartsFire }
 {}
 
 /// Nothing of a device is due at first, and nothing after its mode has stopped.

@@ -29,6 +29,7 @@ use Rattle.device_objects.specs.declared.state.DeviceState.TheVariants as states
 use Rattle.device_objects.specs.BallDevice.{empty, noted, turned, fire}
 use Rattle.device_objects.specs.BallDevice as balls
 use Rattle.device_objects.specs.DeviceStep as devices
+use Rattle.device_objects.proofs.BallDue.{switch-is_part}
 use Rattle.device_objects.proofs.BallMoments.{ball-parts_none, ball-parts_first}
 use Rattle.switch_core.specs.declared.change.Change.{Change}
 use Rattle.switch_core.specs.SwitchStep.{SwitchState, changed, accepted, awaited, is_taken, same_level}
@@ -209,15 +210,17 @@ module _ (plan : PlanView) where
       state : device_at s r ≡ states.BallDevice ball
       state = (calm.shapes r d (row-within r d is) is).is
 
-      here : balls.part_due ball (suc i) ≡ Some at
-      here = ap (λ (x : DeviceState). (get_or (ball_of x).switches i empty).due) (sym state) ∙ due
+      here : balls.part_due ball i ≡ Some at
+      here =
+          switch-is_part ball.switches (balls.timeout_of ball.eject) i at
+          (ap (λ (x : DeviceState). (get_or (ball_of x).switches i empty).due) (sym state) ∙ due)
 
       by : (o : Option ℕ) → balls.due_of ball ≡ o → (first : ℕ) × (source_due s (device r) ≡ Some first) × (first ≤ at)
-      by None none = absurd (none-some at (sym (ball-parts_none ball none (suc i)) ∙ here))
+      by None none = absurd (none-some at (sym (ball-parts_none ball none i) ∙ here))
       by (Some first) some =
           let least : IfSome (Some first) (λ (m : ℕ). (k other : ℕ) → balls.part_due ball k ≡ Some other → m ≤ other) =
           subst (λ (o : Option ℕ). IfSome o (λ (m : ℕ). (k other : ℕ) → balls.part_due ball k ≡ Some other → m ≤ other)) some (ball-parts_first ball) in
-          (first, ap (λ (x : DeviceState). devices.due_of x) state ∙ some, least (suc i) at here)
+          (first, ap (λ (x : DeviceState). devices.due_of x) state ∙ some, least i at here)
 
   -- ---- at first
 

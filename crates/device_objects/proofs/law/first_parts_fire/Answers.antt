@@ -1,0 +1,5 @@
+use Rattle.device_objects.proofs.Moments.{first_parts_fire}
+use Rattle.device_objects.proofs.law.first_parts_fire.Goals as goal
+
+pub returns : goal.returns
+returns c = first_parts_fire
