@@ -1,12 +1,11 @@
--- The least alarm is the one that the definition computes, and stays so where a row's due moment is set.
-use Rattle.std.proofs.Common.{◌≡◌, ◌≢◌, ℕ, zero, suc, ◌+◌, ◌<◌, ◌≤◌, ◌⊎◌, true, false, Option, Some, None, MatchOption, IfSome, List, [], ◌∷◌, length, replicate, slice_index_or, slice_set, refl, ap, ap₂, sym, subst, ◌∙◌, inl, inr, arith}
-use Rattle.std.proofs.lemmas.Bool.{cases_eq, cases_lt, cond_both, eqb-false}
+-- The least alarm is the one that the definition computes.
+use Rattle.std.proofs.Common.{◌≡◌, ℕ, zero, suc, ◌+◌, ◌<◌, ◌≤◌, ◌⊎◌, true, false, Option, Some, None, MatchOption, IfSome, List, [], ◌∷◌, length, slice_index_or, refl, ap, sym, subst, ◌∙◌, inl, inr, arith}
+use Rattle.std.proofs.lemmas.Bool.{cases_lt, cond_both}
 use Rattle.std.proofs.lemmas.Bool.Decides.{nat_tests}
 use Rattle.std.proofs.lemmas.Option.{none-some, same_Some}
-use Rattle.std.proofs.lemmas.List.{get_or_past, get_or-set_other, get_or-set_same}
+use Rattle.std.proofs.lemmas.List.{get_or_past}
 use Rattle.plan_tables.specs.declared.devices.RowId.{RowId}
 use Rattle.event_queue.specs.Alarms.{due_of, comes_before, first_of, alarm_of, least_from, least_of, IsLeast, AlarmsGiveTheLeast}
-use Rattle.event_queue.specs.Inside.{is_of}
 
 -- ---- the least alarm among some
 
@@ -19,20 +18,6 @@ pub record IsLeastOf (Is : ℕ → ℕ → Type 0) (moment row : ℕ) : Type 0 w
 
 abbrev pub LeastAmong : (ℕ → ℕ → Type 0) → Option (ℕ × RowId) → Type 0
 LeastAmong Is o = MatchOption o ((r t : ℕ) → Is r t → ⊥) (λ a. IsLeastOf Is a.0 a.1.0)
-
--- there is one at most
-unique : (Is : ℕ → ℕ → Type 0) (a b : Option (ℕ × RowId)) → LeastAmong Is a → LeastAmong Is b → a ≡ b
-unique Is None None p q = refl
-unique Is None (Some b) p q = absurd (p b.1.0 b.0 q.is)
-unique Is (Some a) None p q = absurd (q a.1.0 a.0 p.is)
-unique Is (Some a) (Some b) p q =
-    let below = p.earliest b.1.0 b.0 q.is in
-    let above = q.earliest a.1.0 a.0 p.is in
-    let same : a.0 ≡ b.0 = omega arith in
-    let lower = p.lowest b.1.0 b.0 q.is same in
-    let higher = q.lowest a.1.0 a.0 p.is (sym same) in
-    let row : a.1.0 ≡ b.1.0 = omega arith in
-    ap₂ (λ (moment number : ℕ). Some (moment, record { 0 = number })) same row
 
 -- it is the least among the same ones, said in another way
 agree : (P R : ℕ → ℕ → Type 0) (o : Option (ℕ × RowId)) → ((r t : ℕ) → P r t → R r t) → ((r t : ℕ) → R r t → P r t) → LeastAmong P o → LeastAmong R o
@@ -131,77 +116,6 @@ least_of-least dues =
     agree (IsFrom 0 dues) (IsDue dues) (least_of dues)
     (λ r t h. let at : r ≡ h.place = let is = h.at in omega arith in ap (λ n. slice_index_or dues n None) at ∙ h.due)
     (λ r t h. record { place = r; at = omega arith; due = h }) (least_from-least 0 dues)
-
-pub least_of-is : (dues : List (Option ℕ)) (o : Option (ℕ × RowId)) → LeastAmong (IsDue dues) o → o ≡ least_of dues
-least_of-is dues o least = unique (IsDue dues) o (least_of dues) least (least_of-least dues)
-
--- ---- a walk over the rows
-
--- the least among the rows below the i-th
-abbrev pub LeastBelow : List (Option ℕ) → ℕ → Option (ℕ × RowId) → Type 0
-LeastBelow dues i o = LeastAmong (λ r t. (r < i) × IsDue dues r t) o
-
-pub least_below-none : (dues : List (Option ℕ)) → LeastBelow dues 0 None
-least_below-none dues = λ r t h. let below = h.0 in absurd (omega arith)
-
-below-more : (dues : List (Option ℕ)) (i r t : ℕ) (due : Option ℕ) → due ≡ slice_index_or dues i None → (r < i + 1) × IsDue dues r t → ((r < i) × IsDue dues r t) ⊎ ((r ≡ i) × (due ≡ Some t))
-below-more dues i r t due at h =
-    let below = h.0 in
-    elim (cases_lt r i) [
-      | inl less ↦ inl (less, h.1)
-      | inr reached ↦ let here : r ≡ i = omega arith in inr (here, at ∙ ap (λ n. slice_index_or dues n None) (sym here) ∙ h.1)
-    ]
-
-pub least_below-more : (dues : List (Option ℕ)) (i : ℕ) (o : Option (ℕ × RowId)) (due : Option ℕ) → due ≡ slice_index_or dues i None → LeastBelow dues i o → LeastBelow dues (i + 1) (first_of o (alarm_of (record { 0 = i }) due))
-least_below-more dues i o due at least =
-    first_of-least (λ r t. (r < i) × IsDue dues r t) (λ r t. (r ≡ i) × (due ≡ Some t)) (λ r t. (r < i + 1) × IsDue dues r t)
-    (λ r t h. let below = h.0 in (omega arith, h.1))
-    (λ r t h. let here = h.0 in (omega arith, ap (λ n. slice_index_or dues n None) here ∙ sym at ∙ h.1))
-    (λ r t h. below-more dues i r t due at h)
-    o (alarm_of (record { 0 = i }) due) least (alarm_of-least (record { 0 = i }) due)
-
-pub least_below-all : (dues : List (Option ℕ)) (i : ℕ) (o : Option (ℕ × RowId)) → length dues ≤ i → LeastBelow dues i o → o ≡ least_of dues
-least_below-all dues i o past least =
-    least_of-is dues o
-    (agree (λ r t. (r < i) × IsDue dues r t) (IsDue dues) o (λ r t h. h.1)
-    (λ r t h. let within = due_within dues r t h in (omega arith, h)) least)
-
--- ---- a row is set that was not the least
-
-others-least : (dues : List (Option ℕ)) (row : RowId) (o : Option (ℕ × RowId)) → is_of o row ≡ false → LeastAmong (IsDue dues) o → LeastAmong (λ r t. (r ≢ row.0) × IsDue dues r t) o
-others-least dues row None not p = λ r t h. p r t h.1
-others-least dues row (Some a) not p = record {
-  is = (eqb-false a.1.0 row.0 not, p.is);
-  earliest = λ r t h. p.earliest r t h.1;
-  lowest = λ r t h. p.lowest r t h.1;
-}
-
-module _ (dues : List (Option ℕ)) (row : RowId) (due : Option ℕ) (within : row.0 < length dues) where
-  set-cases : (r t : ℕ) → IsDue (slice_set dues row.0 due) r t → ((r ≢ row.0) × IsDue dues r t) ⊎ ((r ≡ row.0) × (due ≡ Some t))
-  set-cases r t h =
-      elim (cases_eq r row.0) [
-        | inl here ↦ inr (here, sym (get_or-set_same dues row.0 due None within) ∙ ap (λ n. slice_index_or (slice_set dues row.0 due) n None) (sym here) ∙ h)
-        | inr other ↦ inl (other, sym (get_or-set_other dues row.0 r due None other) ∙ h)
-      ]
-
-  pub set-least : (o : Option (ℕ × RowId)) → is_of o row ≡ false → o ≡ least_of dues → first_of o (alarm_of row due) ≡ least_of (slice_set dues row.0 due)
-  set-least o not is =
-      least_of-is (slice_set dues row.0 due) (first_of o (alarm_of row due))
-      (first_of-least (λ r t. (r ≢ row.0) × IsDue dues r t) (λ r t. (r ≡ row.0) × (due ≡ Some t)) (IsDue (slice_set dues row.0 due))
-      (λ r t h. get_or-set_other dues row.0 r due None h.0 ∙ h.1)
-      (λ r t h. ap (λ n. slice_index_or (slice_set dues row.0 due) n None) h.0 ∙ get_or-set_same dues row.0 due None within ∙ h.1)
-      set-cases
-      o (alarm_of row due)
-      (others-least dues row o not (subst (LeastAmong (IsDue dues)) (sym is) (least_of-least dues))) (alarm_of-least row due))
-
--- ---- no row is due
-
-none_from : (k n : ℕ) → least_from k (replicate n None) ≡ None
-none_from k zero = refl
-none_from k (suc n) = none_from (k + 1) n
-
-pub none_of : (n : ℕ) → None ≡ least_of (replicate n None)
-none_of n = sym (none_from 0 n)
 
 -- ---- the row that `least` gives
 

@@ -1,11 +1,11 @@
 pub mod Sort
-mod Filtered
+mod Put
 pub mod PlanOrder
 pub mod NoneRunning
 pub mod Least
+mod InOrder
 mod FirstOut
-mod Counted
 mod OfEvent
-mod Ordered
-mod Sorted
-mod Walk
+mod Joined
+mod Handling
+mod Owned

@@ -1,17 +1,18 @@
 -- Handlers by priority are in plan order, and no other order of them is.
-use Rattle.std.proofs.Common.{◌≡◌, ℕ, zero, suc, ◌+◌, ◌<◌, ◌≤◌, ◌⊎◌, nat_lt, Bool, true, ◌==◌, List, [], ◌∷◌, length, map, filter, get_or, refl, ap₂, sym, subst, ◌∙◌, inl, inr, arith}
+use Rattle.std.proofs.Common.{◌≡◌, ℕ, zero, suc, ◌+◌, ◌<◌, ◌≤◌, ◌⊎◌, nat_lt, Bool, ◌==◌, List, [], ◌∷◌, length, map, filter, get_or, refl, ap₂, sym, subst, ◌∙◌, inl, inr, arith}
 use Rattle.std.specs.List.{All, AllPairs, range_with_len}
-use Rattle.std.specs.List.Sorted.{IsPermutation}
 use Rattle.std.proofs.lemmas.Bool.{cases_lt, cond_both, ltb-true, ltb-false}
 use Rattle.std.proofs.lemmas.List.Elements.{All-cons, All-map}
 use Rattle.std.proofs.lemmas.List.Kept.{AllPairs-cons, AllPairs-filter}
-use Rattle.std.proofs.lemmas.List.Sorted.{IsPermutation-sym, All-permutation}
+use Rattle.std.proofs.lemmas.List.{length-map}
+use Rattle.std.proofs.lemmas.List.FromFn.{length-range_with_len}
+use Rattle.std.proofs.lemmas.List.Sorted.{IsPermutation-sym, All-permutation, length_permutation}
 use Rattle.plan_tables.specs.declared.entries.EventId.{EventId}
 use Rattle.plan_tables.specs.declared.entries.BindingId.{BindingId}
 use Rattle.plan_tables.specs.PlanView.{PlanView, binding_at, places_of}
 use Rattle.event_queue.specs.Handlers.{runs_at, handlers, priority_at}
-use Rattle.event_queue.specs.PlanOrder.{RunsBefore, IsPlanOrder, insert_place, by_priority, in_order, bound_in_order, handlers_from, HandlersAreInPlanOrder}
-use Rattle.event_queue.proofs.Filtered.{where-All, All-where}
+use Rattle.event_queue.specs.PlanOrder.{RunsBefore, IsPlanOrder, insert_place, by_priority, in_order, HandlersAreInPlanOrder}
+use Rattle.event_queue.specs.Inside.{all_places}
 use Rattle.event_queue.proofs.Sort.{insert_place-permutes, by_priority-permutes, by_priority-is_order}
 
 -- ---- places in their own order
@@ -35,6 +36,9 @@ places-increase (n ∷ ns) h =
     AllPairs-cons IsBelow (record { 0 = n }) (map (λ m. record { 0 = m }) ns)
     (All-map (IsBelow (record { 0 = n })) (λ m. record { 0 = m }) ns (λ k d within. h 0 (suc k) d (omega arith) (omega arith)))
     (places-increase ns (λ i j d before within. h (suc i) (suc j) d (omega arith) (omega arith)))
+
+pub all_places-increase : (plan : PlanView) → AllPairs IsBelow (all_places plan)
+all_places-increase plan = places-increase (range_with_len 0 (length plan.bindings)) (range-increases (length plan.bindings) 0)
 
 pub places_of-increase : (plan : PlanView) (e : EventId) → AllPairs IsBelow (places_of plan e)
 places_of-increase plan e =
@@ -136,35 +140,35 @@ module _ (plan : PlanView) where
       (λ P all. All-permutation P places qs b.permutation (All-permutation P ps places (IsPermutation-sym places ps a.permutation) all))
       (λ P all. All-permutation P places ps a.permutation (All-permutation P qs places (IsPermutation-sym places qs b.permutation) all))
 
-  -- the places of all that is bound to an event are in plan order, and so are those of its handlers
-  pub bound_in_order-is : (e : EventId) → IsPlanOrder plan (places_of plan e) (bound_in_order plan e)
-  bound_in_order-is e = record { permutation = by_priority-permutes plan (places_of plan e); ordered = by_priority-ordered (places_of plan e) (places_of-increase plan e) }
-
+  -- an event's handlers are in plan order
   pub in_order-is : (running : List Bool) (e : EventId) → IsPlanOrder plan (handlers plan running e) (in_order plan running e)
   in_order-is running e = record { permutation = by_priority-permutes plan (handlers plan running e); ordered = by_priority-ordered (handlers plan running e) (handlers-increase plan running e) }
-
-  -- the handlers among what is bound to an event, which is in plan order, are all of them in plan order
-  module _ (running : List Bool) (e : EventId) where
-    among : (ps qs : List BindingId) → IsPermutation ps qs → AreAmong (filter (runs_at plan running) ps) (filter (runs_at plan running) qs)
-    among ps qs same P all =
-        let runs = runs_at plan running in
-        All-where runs P qs (All-permutation (λ p. runs p ≡ true → P p) ps qs same (where-All runs P ps all))
-
-    pub walk-all : handlers_from plan running e 0 ≡ in_order plan running e
-    walk-all =
-        let runs = runs_at plan running in
-        let places = places_of plan e in
-        let own = bound_in_order-is e in
-        let all = in_order-is running e in
-        let hs = handlers plan running e in
-        one_order (filter runs (bound_in_order plan e)) (in_order plan running e) (AllPairs-filter (RunsBefore plan) runs (bound_in_order plan e) own.ordered) all.ordered
-        (λ P h. All-permutation P hs (in_order plan running e) all.permutation (among (bound_in_order plan e) places (IsPermutation-sym places (bound_in_order plan e) own.permutation) P h))
-        (λ P h. among places (bound_in_order plan e) own.permutation P (All-permutation P (in_order plan running e) hs (IsPermutation-sym hs (in_order plan running e) all.permutation) h))
 
 pub handlers_are_in_plan_order : HandlersAreInPlanOrder
 handlers_are_in_plan_order = record {
   is = in_order-is;
   only = λ plan running e order is. plan_order-only plan (handlers plan running e) order (in_order plan running e) is (in_order-is plan running e);
   descends = λ plan running e. by_priority-is_order plan (handlers plan running e);
-  walk = walk-all;
 }
+
+-- ---- an event has no more handlers than the plan has bindings
+
+pub filter-shorter : {X : Type 0} (p : X → Bool) (xs : List X) → length (filter p xs) ≤ length xs
+filter-shorter p [] = omega arith
+filter-shorter p (x ∷ xs) =
+    let rest = filter-shorter p xs in
+    cond_both (p x) (x ∷ filter p xs) (filter p xs) (λ ys. length ys ≤ suc (length xs)) (λ _. omega arith) (λ _. omega arith)
+
+module _ (plan : PlanView) where
+  pub priority-length : (ps : List BindingId) → length (by_priority plan ps) ≡ length ps
+  priority-length ps = length_permutation ps (by_priority plan ps) (by_priority-permutes plan ps)
+
+  pub in_order-count : (running : List Bool) (e : EventId) → length (in_order plan running e) ≤ length plan.bindings
+  in_order-count running e =
+      let all = priority-length (handlers plan running e) in
+      let running-of = filter-shorter (runs_at plan running) (places_of plan e) in
+      let on : ℕ → Bool = λ n. (binding_at plan (record { 0 = n })).event.0 == e.0 in
+      let places = length-map {B = BindingId} (filter on (range_with_len 0 (length plan.bindings))) (λ n. record { 0 = n }) in
+      let bound = filter-shorter on (range_with_len 0 (length plan.bindings)) in
+      let count = length-range_with_len 0 (length plan.bindings) in
+      omega arith

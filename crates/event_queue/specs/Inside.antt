@@ -1,17 +1,82 @@
--- What the handlers of a plan hold, and what setting an alarm asks.
-use Rattle.std.specs.Prelude.{◌≡◌, ℕ, ◌==◌, Bool, false, Option, None, Some, List, length, map, Vec}
-use Rattle.std.specs.List.{range_with_len}
+-- What the functions inside this crate see: items in order, and what alarms and handlers hold.
+use Rattle.std.specs.Prelude.{◌≡◌, ℕ, ◌+◌, ◌<◌, ◌≤◌, nat_lt, ◌==◌, ◌&&◌, ◌||◌, if◌then◌else◌, not, Bool, true, false, Option, None, Some, List, [], ◌∷◌, length, map, filter, slice_index_or, Vec, vec_capacity}
+use Rattle.std.specs.List.{AllPairs, range_with_len}
+use Rattle.std.specs.List.Sorted.{IsPartitionPoint}
 use Rattle.std.specs.Global.{Global}
 use Rattle.plan_tables.specs.declared.entries.BindingId.{BindingId}
+use Rattle.plan_tables.specs.declared.entries.EventId.{EventId}
+use Rattle.plan_tables.specs.declared.entries.ModeId.{ModeId}
+use Rattle.plan_tables.specs.declared.entries.Owner.TheVariants.{Mode}
 use Rattle.plan_tables.specs.declared.devices.RowId.{RowId}
-use Rattle.plan_tables.specs.PlanView.{PlanView}
-use Rattle.event_queue.specs.PlanOrder.{bound_in_order}
+use Rattle.plan_tables.specs.PlanView.{PlanView, binding_at, is_owner, places_of}
+use Rattle.event_queue.specs.Alarms.{comes_before, alarm_of}
+use Rattle.event_queue.specs.Handlers.{priority_at}
+use Rattle.event_queue.specs.PlanOrder.{by_priority}
 
--- for each event of a plan the places of what is bound to it, in plan order
-abbrev pub HasOrders : PlanView → List (Vec BindingId Global) → Type 0
-HasOrders plan orders = map (λ v. v.items) orders ≡ map (λ e. bound_in_order plan (record { 0 = e })) (range_with_len 0 (length plan.events))
+-- ---- items in order
 
--- whether there is an alarm, and it is that of the row
-abbrev pub is_of : Option (ℕ × RowId) → RowId → Bool
-is_of None row = false
-is_of (Some alarm) row = alarm.1.0 == row.0
+-- an item put into a list, before the first one that does not come before it
+abbrev pub put : {X : Type 0} → (X → X → Bool) → X → List X → List X
+put before x [] = x ∷ []
+put before x (y ∷ ys) = if before y x then y ∷ put before x ys else x ∷ y ∷ ys
+
+-- no item comes before one that stands before it
+abbrev pub IsOrdered : {X : Type 0} → (X → X → Bool) → List X → Type 0
+IsOrdered before xs = AllPairs (λ x y. before y x ≡ false) xs
+
+-- so many items, the first ones, come before x, and no other does
+abbrev pub IsPlaceOf : {X : Type 0} → (X → X → Bool) → X → List X → ℕ → Type 0
+IsPlaceOf before x xs k = (k ≤ length xs) × IsPartitionPoint (λ y. before y x ≡ true) (λ y. before y x ≡ false) xs k
+
+-- ---- alarms
+
+-- an alarm, where there is one, put into alarms
+abbrev pub put_alarm : Option (ℕ × RowId) → List (ℕ × RowId) → List (ℕ × RowId)
+put_alarm None alarms = alarms
+put_alarm (Some alarm) alarms = put comes_before alarm alarms
+
+-- the alarms of rows that are numbered from the number on, each before all that do not come before it
+abbrev pub ordered_from : ℕ → List (Option ℕ) → List (ℕ × RowId)
+ordered_from number [] = []
+ordered_from number (due ∷ dues) = put_alarm (alarm_of (record { 0 = number }) due) (ordered_from (number + 1) dues)
+
+-- the alarms of these due moments, in order
+abbrev pub ordered_alarms : List (Option ℕ) → List (ℕ × RowId)
+ordered_alarms dues = ordered_from 0 dues
+
+-- ---- the orders of handlers
+
+-- whether the binding at p runs before the one at q
+abbrev pub runs_before : PlanView → BindingId → BindingId → Bool
+runs_before plan p q = nat_lt (priority_at plan q) (priority_at plan p) || ((priority_at plan p == priority_at plan q) && nat_lt p.0 q.0)
+
+-- the order of those places of an event that take part, with room for all that is bound to it
+pub record IsOrderOf (plan : PlanView) (takes : BindingId → Bool) (e : EventId) (order : Vec BindingId Global) : Type 0 where
+  pub places : order.items ≡ by_priority plan (filter takes (places_of plan e))
+  pub room : length (places_of plan e) ≤ vec_capacity order
+
+-- for each event of a plan the order of what takes part
+pub record HasOrders (plan : PlanView) (takes : BindingId → Bool) (orders : List (Vec BindingId Global)) : Type 0 where
+  pub count : length orders ≡ length plan.events
+  pub each : (e : ℕ) (d : Vec BindingId Global) → e < length plan.events → IsOrderOf plan takes (record { 0 = e }) (slice_index_or orders e d)
+
+-- what takes part, and the binding at the place
+abbrev pub also : (BindingId → Bool) → BindingId → BindingId → Bool
+also takes place p = takes p || (place.0 == p.0)
+
+-- what takes part, but for the binding at the place
+abbrev pub without : (BindingId → Bool) → BindingId → BindingId → Bool
+without takes place p = takes p && not (place.0 == p.0)
+
+-- the places of all bindings of a plan
+abbrev pub all_places : PlanView → List BindingId
+all_places plan = map (λ n. record { 0 = n }) (range_with_len 0 (length plan.bindings))
+
+-- the places of a mode's bindings
+abbrev pub places_in : PlanView → ModeId → List BindingId
+places_in plan m = filter (λ p. is_owner (Mode m) (binding_at plan p).owner) (all_places plan)
+
+-- for each mode of a plan the places of its bindings
+pub record HasOwned (plan : PlanView) (owned : List (Vec BindingId Global)) : Type 0 where
+  pub count : length owned ≡ length plan.modes
+  pub each : (m : ℕ) (d : Vec BindingId Global) → m < length plan.modes → (slice_index_or owned m d).items ≡ places_in plan (record { 0 = m })

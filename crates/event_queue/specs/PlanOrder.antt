@@ -1,11 +1,11 @@
 -- Plan order: higher priorities first, and of equal priorities the lower place.
-use Rattle.std.specs.Prelude.{◌≡◌, ℕ, ◌+◌, ◌<◌, nat_lt, if◌then◌else◌, ◌⊎◌, Bool, List, [], ◌∷◌, filter, drop, Option, Some, None}
+use Rattle.std.specs.Prelude.{◌≡◌, ◌<◌, nat_lt, if◌then◌else◌, ◌⊎◌, Bool, List, [], ◌∷◌}
 use Rattle.std.specs.List.{AllPairs}
 use Rattle.std.specs.List.Sorted.{IsPermutation}
 use Rattle.plan_tables.specs.declared.entries.EventId.{EventId}
 use Rattle.plan_tables.specs.declared.entries.BindingId.{BindingId}
-use Rattle.plan_tables.specs.PlanView.{PlanView, places_of}
-use Rattle.event_queue.specs.Handlers.{runs_at, handlers, priority_at, IsHandlerOrder}
+use Rattle.plan_tables.specs.PlanView.{PlanView}
+use Rattle.event_queue.specs.Handlers.{handlers, priority_at, IsHandlerOrder}
 
 -- ---- what it is
 
@@ -34,36 +34,10 @@ by_priority plan (p ∷ ps) = insert_place plan p (by_priority plan ps)
 abbrev pub in_order : PlanView → List Bool → EventId → List BindingId
 in_order plan running e = by_priority plan (handlers plan running e)
 
--- ---- a walk over them
-
--- the places of all that is bound to an event, whether it runs or not, in plan order
-abbrev pub bound_in_order : PlanView → EventId → List BindingId
-bound_in_order plan e = by_priority plan (places_of plan e)
-
--- of these places, which are numbered from i on, the first at which a binding runs, and the number after its own
-abbrev pub first_running : PlanView → List Bool → ℕ → List BindingId → Option (BindingId × ℕ)
-first_running plan running i [] = None
-first_running plan running i (p ∷ ps) = if runs_at plan running p then Some (p, i + 1) else first_running plan running (i + 1) ps
-
--- the first handler of an event from the i-th place of what is bound to it on, and the number after that place
-abbrev pub next_handler : PlanView → List Bool → EventId → ℕ → Option (BindingId × ℕ)
-next_handler plan running e i = first_running plan running i (drop i (bound_in_order plan e))
-
--- the handlers of an event in plan order, from the i-th place of what is bound to it on
-abbrev pub handlers_from : PlanView → List Bool → EventId → ℕ → List BindingId
-handlers_from plan running e i = filter (runs_at plan running) (drop i (bound_in_order plan e))
-
--- a walk at the i-th place goes on with this handler, and then at the place of this number; with none it has come to its end
-abbrev pub GoesOn : PlanView → List Bool → EventId → ℕ → Option (BindingId × ℕ) → Type 0
-GoesOn plan running e i None = handlers_from plan running e i ≡ []
-GoesOn plan running e i (Some step) = handlers_from plan running e i ≡ step.0 ∷ handlers_from plan running e step.1
-
 -- ---- the law
 
--- That is plan order, and no other order of the handlers is. It is one of the orders in which handlers may run. A walk from
--- the first place on meets all of them.
+-- That is plan order, and no other order of the handlers is. It is one of the orders in which handlers may run.
 pub record HandlersAreInPlanOrder : Type 0 where
   pub is : (plan : PlanView) (running : List Bool) (e : EventId) → IsPlanOrder plan (handlers plan running e) (in_order plan running e)
   pub only : (plan : PlanView) (running : List Bool) (e : EventId) (order : List BindingId) → IsPlanOrder plan (handlers plan running e) order → order ≡ in_order plan running e
   pub descends : (plan : PlanView) (running : List Bool) (e : EventId) → IsHandlerOrder plan (handlers plan running e) (in_order plan running e)
-  pub walk : (plan : PlanView) (running : List Bool) (e : EventId) → handlers_from plan running e 0 ≡ in_order plan running e

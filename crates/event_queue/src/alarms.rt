@@ -1,11 +1,13 @@
 //! The alarms of devices, which wait for their moments.
 
-ghost use Rattle.std.specs.Prelude.{◌≡◌, ◌<◌, ◌^◌, length};
-ghost use Rattle.event_queue.specs.Alarms.{comes_before, first_of, alarm_of, least_of};
-ghost use Rattle.event_queue.specs.Inside.{is_of};
+ghost use Rattle.std.specs.Prelude.{◌≡◌, ◌≤◌, ◌<◌, ℕ, List, length};
+ghost use Rattle.std.specs.VecDeque.{deque_capacity};
+ghost use Rattle.event_queue.specs.Alarms.{comes_before, alarm_of};
+ghost use Rattle.event_queue.specs.Inside.{put_alarm, IsOrdered, IsPlaceOf};
 
 use plan_tables::RowId;
 use std::alloc::{AllocError, Global};
+use std::collections::VecDeque;
 use std::marker::Model;
 
 /// The moment at which each device is due, if it is, by the number of its row. Moments are
@@ -13,8 +15,10 @@ use std::marker::Model;
 #[derive(Drop)]
 pub struct Alarms {
     dues: Vec<Option<u64>>,
-    /// The least due moment, and its row. All rows are looked through only where this row is set.
-    least: Option<(u64, RowId)>,
+    /// Every row that is due, with its moment: lower moments first, and of equal ones lower rows.
+    /// There is room for all rows. It is a queue of two ends, since most alarms are taken out in
+    /// front, and put in near the end.
+    ordered: VecDeque<(u64, RowId)>,
 }
 
 impl Model for Alarms {
@@ -24,10 +28,11 @@ impl Model for Alarms {
 
     ghost view = { λ a. a.dues.items };
 
-    ghost use Rattle.std.specs.Prelude.{◌≡◌, ◌<◌, ◌^◌, length};
-    ghost use Rattle.event_queue.specs.Alarms.{least_of};
+    ghost use Rattle.std.specs.Prelude.{◌≡◌, ◌≤◌, ◌<◌, ◌^◌, length};
+    ghost use Rattle.std.specs.VecDeque.{deque_capacity};
+    ghost use Rattle.event_queue.specs.Inside.{ordered_alarms};
 
-    ghost invariant = { λ a. (length a.dues.items < 2 ^ 16) × (a.least ≡ least_of a.dues.items) };
+    ghost invariant = { λ a. (length a.dues.items < 2 ^ 16) × (a.ordered.items ≡ ordered_alarms a.dues.items) × (length a.dues.items ≤ deque_capacity a.ordered) };
 }
 
 impl Alarms {
@@ -40,23 +45,21 @@ impl Alarms {
     {
         Ok(Alarms {
             dues: vec![in alloc; None; rows as usize]?,
-            least: None,
+            ordered: VecDeque::with_capacity(alloc, rows as usize)?,
         })
     }
 
-    /// From now on a row is due at this moment, or not at all. Nothing else changes. This looks
-    /// through all rows only where the row is the one that `least` gives.
+    /// From now on a row is due at this moment, or not at all. Nothing else changes. The place of
+    /// an alarm is found by halving, and of the others those move that are on the shorter side.
     pub fn set(&mut self, row: RowId, due: Option<u64>)
         requires { row.0 < length self.old }
         ensures { self.new ≡ slice_set self.old row.0 due }
     {
-        let Alarms { dues, least } = self;
+        let Alarms { dues, ordered } = self;
+        let was = dues[row.0 as usize];
         dues[row.0 as usize] = due;
-        *least = if is_of(*least, row) {
-            find_least(dues)
-        } else {
-            first_of(*least, alarm_of(row, due))
-        };
+        take_out(ordered, alarm_of(row, was));
+        put_in(ordered, alarm_of(row, due));
     }
 
     /// The least moment at which a row is due, and of the rows that are due then the lowest. None
@@ -65,21 +68,46 @@ impl Alarms {
         ensures least { result ≡ least_of self.now }
         ensures within { IfSome result (λ alarm. alarm.1.0 < length self.now) }
     {
-        self.least
+        self.ordered.front().copied()
     }
 }
 
-/// The least of these due moments, and its row.
-fn find_least(dues: &[Option<u64>]) -> Option<(u64, RowId)>
-    requires { length dues.now < 2 ^ 16 }
-    ensures { result ≡ least_of dues.now }
+/// Puts an alarm, where there is one, among those in order. There has to be room for it.
+fn put_in(ordered: &mut VecDeque<(u64, RowId)>, alarm: Option<(u64, RowId)>)
+    requires ordered { IsOrdered comes_before ordered.old.items }
+    requires room { length ordered.old.items < deque_capacity ordered.old }
+    ensures items { ordered.new.items ≡ put_alarm alarm ordered.old.items }
+    ensures capacity { deque_capacity ordered.old ≤ deque_capacity ordered.new }
 {
-    let mut least = None;
-    for (number, due) in dues.iter().enumerate() {
-        let alarm = alarm_of(RowId(number as u16), *due);
-        least = first_of(least, alarm);
+    let Some(alarm) = alarm else {
+        return;
+    };
+    let place = place_of(ordered, alarm);
+    match ordered.insert(place, alarm) {
+        Ok(()) => {}
+        Err(_) => unreachable!(),
     }
-    least
+}
+
+/// Takes an alarm, where there is one, out of those in order, of which it is one.
+fn take_out(ordered: &mut VecDeque<(u64, RowId)>, alarm: Option<(u64, RowId)>)
+    requires { (rest : List (ℕ × RowId)) × IsOrdered comes_before rest × (ordered.old.items ≡ put_alarm alarm rest) }
+    ensures items { (rest : List (ℕ × RowId)) → ordered.old.items ≡ put_alarm alarm rest → ordered.new.items ≡ rest }
+    ensures capacity { deque_capacity ordered.new ≡ deque_capacity ordered.old }
+{
+    let Some(alarm) = alarm else {
+        return;
+    };
+    let place = place_of(ordered, alarm);
+    let _taken = ordered.remove(place);
+}
+
+/// How many alarms come before this one, found by halving.
+fn place_of(ordered: &VecDeque<(u64, RowId)>, alarm: (u64, RowId)) -> usize
+    requires { IsOrdered comes_before ordered.now.items }
+    ensures { IsPlaceOf comes_before alarm ordered.now.items result }
+{
+    ordered.partition_point(|other| comes_before(*other, alarm))
 }
 
 /// The alarm of a row that is due at this moment, or none where it is not due.
@@ -88,27 +116,6 @@ fn alarm_of(row: RowId, due: Option<u64>) -> Option<(u64, RowId)>
 {
     let moment = due?;
     Some((moment, row))
-}
-
-/// Whether there is an alarm, and it is that of the row.
-fn is_of(alarm: Option<(u64, RowId)>, row: RowId) -> bool
-    ensures { result ≡ is_of alarm row }
-{
-    match alarm {
-        None => false,
-        Some((_, of)) => of.0 == row.0,
-    }
-}
-
-/// Of two alarms the one that comes first.
-fn first_of(a: Option<(u64, RowId)>, b: Option<(u64, RowId)>) -> Option<(u64, RowId)>
-    ensures { result ≡ first_of a b }
-{
-    match (a, b) {
-        (None, _) => b,
-        (_, None) => a,
-        (Some(one), Some(other)) => if comes_before(other, one) { b } else { a },
-    }
 }
 
 /// Whether an alarm has the lesser moment, or the same moment and the lower row.

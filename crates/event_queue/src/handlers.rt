@@ -1,10 +1,7 @@
 //! What handles an event, in the order in which it runs.
 
-ghost use Rattle.std.specs.Prelude.{◌≡◌};
-ghost use Rattle.event_queue.specs.Handlers.{takes_part};
-
-use crate::orders::orders;
-use plan_tables::{BindingId, EventId, ModeId, Owner, Plan};
+use crate::orders::{add_place, drop_place, first_orders, owned_places};
+use plan_tables::{BindingId, EventId, ModeId, Plan};
 use std::alloc::{AllocError, Global};
 use std::marker::Model;
 
@@ -16,7 +13,10 @@ pub struct Handlers<'p> {
     plan: &'p Plan,
     /// For each mode, whether it runs.
     running: Vec<bool>,
-    /// For each event the places of what is bound to it, in plan order.
+    /// For each mode the places of its bindings.
+    owned: Vec<Vec<BindingId>>,
+    /// For each event the places of its handlers, in plan order. There is room for all that is
+    /// bound to it.
     orders: Vec<Vec<BindingId>>,
 }
 
@@ -28,43 +28,73 @@ impl<'p> Model for Handlers<'p> {
     ghost view = { λ h. record { plan = h.plan.now; running = h.running.items } };
 
     ghost use Rattle.std.specs.Prelude.{◌≡◌, length};
-    ghost use Rattle.event_queue.specs.Inside.{HasOrders};
+    ghost use Rattle.event_queue.specs.Handlers.{runs_at};
+    ghost use Rattle.event_queue.specs.Inside.{HasOrders, HasOwned};
 
-    ghost invariant = { λ h. (length h.running.items ≡ length h.plan.now.modes) × HasOrders h.plan.now h.orders.items };
+    ghost invariant = { λ h. (length h.running.items ≡ length h.plan.now.modes) × HasOwned h.plan.now h.owned.items × HasOrders h.plan.now (runs_at h.plan.now h.running.items) h.orders.items };
 }
 
 impl<'p> Handlers<'p> {
-    ghost use Rattle.std.specs.Prelude.{◌≡◌, ◌<◌, ◌≤◌, true, false, length, slice_get, IfOk, IfSome};
+    ghost use Rattle.std.specs.Prelude.{◌≡◌, ◌<◌, true, false, length, slice_get, IfOk, IfSome};
     ghost use Rattle.std.specs.List.{All};
-    ghost use Rattle.plan_tables.specs.Valid.{IsValid};
-    ghost use Rattle.event_queue.specs.Handlers.{none_running, set_running, runs_at};
-    ghost use Rattle.event_queue.specs.PlanOrder.{bound_in_order, in_order, next_handler, GoesOn};
+    ghost use Rattle.event_queue.specs.Handlers.{none_running, set_running};
+    ghost use Rattle.event_queue.specs.PlanOrder.{in_order};
 
     /// The handlers of a plan. No mode runs. Fails only by memory.
     pub fn new(alloc: Global, plan: &'p Plan) -> Result<Handlers<'p>, AllocError>
         ensures { IfOk result (λ h. h ≡ record { plan = plan.now; running = none_running plan.now }) }
     {
+        let running = vec![in alloc; false; plan.mode_count()]?;
+        let owned = owned_places(alloc, plan)?;
+        let orders = first_orders(alloc, plan, &running)?;
         Ok(Handlers {
             plan,
-            running: vec![in alloc; false; plan.mode_count()]?,
-            orders: orders(alloc, plan)?,
+            running,
+            owned,
+            orders,
         })
     }
 
-    /// From now on this mode runs: its bindings are handlers. Nothing else changes.
+    /// From now on this mode runs: its bindings are handlers. Nothing else changes. This looks at
+    /// the mode's own bindings, and at the handlers of their events, alone.
     pub fn add_owner(&mut self, mode: ModeId)
         requires { mode.0 < length self.old.plan.modes }
         ensures { self.new ≡ set_running self.old mode true }
     {
-        self.running[mode.0 as usize] = true;
+        let Handlers {
+            plan,
+            running,
+            owned,
+            orders,
+        } = self;
+        if running[mode.0 as usize] {
+            return;
+        }
+        for place in &owned[mode.0 as usize] {
+            add_place(orders, plan, *place);
+        }
+        running[mode.0 as usize] = true;
     }
 
-    /// From now on this mode does not run. Nothing else changes.
+    /// From now on this mode does not run. Nothing else changes. This looks at the mode's own
+    /// bindings, and at the handlers of their events, alone.
     pub fn drop_owner(&mut self, mode: ModeId)
         requires { mode.0 < length self.old.plan.modes }
         ensures { self.new ≡ set_running self.old mode false }
     {
-        self.running[mode.0 as usize] = false;
+        let Handlers {
+            plan,
+            running,
+            owned,
+            orders,
+        } = self;
+        if !running[mode.0 as usize] {
+            return;
+        }
+        for place in &owned[mode.0 as usize] {
+            drop_place(orders, plan, *place);
+        }
+        running[mode.0 as usize] = false;
     }
 
     /// The place of the `k`-th handler of an event, counted from 0, in plan order: higher
@@ -74,40 +104,13 @@ impl<'p> Handlers<'p> {
         ensures handler { result ≡ slice_get (in_order self.now.plan self.now.running event) k }
         ensures within { IfSome result (λ b. b.0 < length self.now.plan.bindings) }
     {
-        let mut left = k;
-        for place in self.bound(event) {
-            if self.runs(*place) {
-                if left == 0 {
-                    return Some(*place);
-                }
-                left -= 1;
-            }
-        }
-        None
+        self.handlers(event).get(k).copied()
     }
 
-    /// The next handler of an event, for a walk over them all in plan order. The walk goes over
-    /// what is bound to the event, whether it runs or not. It begins with `from` as 0. Each call
-    /// gives the place of a handler, and what `from` is in the call after it. None at the end.
-    pub fn next(&self, event: EventId, from: usize) -> Option<(BindingId, usize)>
-        ensures next { result ≡ next_handler self.now.plan self.now.running event from }
-        ensures walk { GoesOn self.now.plan self.now.running event from result }
-        ensures further { IfSome result (λ step. (from < step.1) × (step.1 ≤ length (bound_in_order self.now.plan event))) }
-        ensures within { IfSome result (λ step. step.0.0 < length self.now.plan.bindings) }
-    {
-        let places = self.bound(event);
-        for i in from..places.len() {
-            if self.runs(places[i]) {
-                return Some((places[i], i + 1));
-            }
-        }
-        None
-    }
-
-    /// The places of what is bound to an event, in plan order: none where the plan has no such
+    /// The places of the handlers of an event, in plan order: none where the plan has no such
     /// event.
-    fn bound(&self, event: EventId) -> &[BindingId]
-        ensures places { result.now ≡ bound_in_order self.now.plan event }
+    fn handlers(&self, event: EventId) -> &[BindingId]
+        ensures places { result.now ≡ in_order self.now.plan self.now.running event }
         ensures within { All (λ p. p.0 < length self.now.plan.bindings) result.now }
     {
         if (event.0 as usize) < self.plan.event_count() {
@@ -115,23 +118,5 @@ impl<'p> Handlers<'p> {
         } else {
             &[]
         }
-    }
-
-    /// Whether the binding at a place runs.
-    fn runs(&self, place: BindingId) -> bool
-        requires { place.0 < length self.now.plan.bindings }
-        ensures { result ≡ runs_at self.now.plan self.now.running place }
-    {
-        takes_part(&self.running, self.plan.binding(place).owner)
-    }
-}
-
-/// Whether the bindings of an owner run.
-fn takes_part(running: &[bool], owner: Owner) -> bool
-    ensures { result ≡ takes_part running.now owner }
-{
-    match owner {
-        Owner::Machine => true,
-        Owner::Mode(mode) => running.get(mode.0 as usize).copied().unwrap_or(false),
     }
 }

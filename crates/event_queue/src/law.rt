@@ -17,7 +17,7 @@ pub fn first_in_first_out()
 
 /// The law of `Handlers`, for every plan, whichever of its modes run, and every event: the order
 /// that `nth` gives is plan order, and no other order of the same places is. No priority comes
-/// after a lower one. A walk by `next` from 0 on gives the same places in the same order.
+/// after a lower one.
 ///
 /// It does nothing: its contract is the law, over the order that `nth` gives.
 pub fn handlers_are_in_plan_order()

@@ -1,9 +1,9 @@
 //! The state of a machine, with room for the events that wait and the lines.
 
-ghost use Rattle.std.specs.Prelude.{◌≡◌, ◌^◌, ◌<◌, ◌≤◌, ℕ, [], None, Some, true, false, IfOk, IfSome, IsSome, length, map, option_map, replicate, vec_capacity};
+ghost use Rattle.std.specs.Prelude.{◌≡◌, ◌^◌, ◌<◌, ◌≤◌, ℕ, [], None, Some, true, false, IfOk, IfSome, IsSome, length, map, option_map, replicate, slice_get, vec_capacity};
 ghost use Rattle.event_queue.specs.Handlers.{none_running, set_running};
 ghost use Rattle.event_queue.specs.Queue.{empty};
-ghost use Rattle.event_queue.specs.PlanOrder.{bound_in_order, GoesOn};
+ghost use Rattle.event_queue.specs.PlanOrder.{in_order};
 ghost use Rattle.mode_stack.specs.ModeStep.{starts, started, stopped, stop_answer, entered, ended};
 ghost use Rattle.mode_stack.specs.Modes.{idle_modes, needs_game, mode_state};
 ghost use Rattle.switch_core.specs.Switches.{IsComplete, all_idle, after_change, reported_by_change, next_due, after_fire, reported_by_fire};
@@ -270,14 +270,13 @@ impl<'p, D: Device> Core<'p, D> {
         self.queue.take()
     }
 
-    /// The place of the next handler of an event in plan order, and where the walk over them goes
-    /// on. It begins with `from` as 0.
-    pub(crate) fn handler(&self, event: EventId, from: usize) -> Option<(BindingId, usize)>
-        ensures walk { GoesOn self.now.handlers.plan self.now.handlers.running event from result }
-        ensures further { IfSome result (λ step. (from < step.1) × (step.1 ≤ length (bound_in_order self.now.handlers.plan event))) }
-        ensures within { IfSome result (λ step. step.0.0 < length self.now.handlers.plan.bindings) }
+    /// The place of the `k`-th handler of an event, counted from 0, in plan order. None if the
+    /// event has fewer.
+    pub(crate) fn handler(&self, event: EventId, k: usize) -> Option<BindingId>
+        ensures handler { result ≡ slice_get (in_order self.now.handlers.plan self.now.handlers.running event) k }
+        ensures within { IfSome result (λ place. place.0 < length self.now.handlers.plan.bindings) }
     {
-        self.handlers.next(event, from)
+        self.handlers.nth(event, k)
     }
 
     /// A mode is told to start. Reports whether it starts.

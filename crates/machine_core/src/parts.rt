@@ -312,10 +312,10 @@ fn handle<D: Device>(plan: &Plan, core: &mut Core<'_, D>, event: EventId)
     requires room { HasRoom core.old.room (all_do (do_handler plan.now) (in_order plan.now (running_of core.old.machine.modes) event) core.old.machine) }
     ensures { core.new ≡ after (all_do (do_handler plan.now) (in_order plan.now (running_of core.old.machine.modes) event)) core.old }
 {
-    let mut from = 0;
-    while let Some((place, next)) = core.handler(event, from) {
+    let mut k = 0;
+    while let Some(place) = core.handler(event, k) {
         run_binding(plan, core, plan.binding(place));
-        from = next;
+        k += 1;
     }
 }
 

@@ -1,26 +1,43 @@
-use Rattle.std.proofs.Common.{◌≡◌, ◌<◌, slice_set, length, sym, ap, ◌∙◌, arith}
+use Rattle.std.proofs.Common.{◌<◌, length, sym, subst, ap, ◌∙◌, arith}
 use Rattle.std.proofs.lemmas.List.{length-set}
-use Rattle.event_queue.specs.Alarms.{first_of, least_of}
-use Rattle.event_queue.proofs.Least.{set-least}
+use Rattle.event_queue.specs.Alarms.{comes_before}
+use Rattle.event_queue.specs.Inside.{IsOrdered, put_alarm}
+use Rattle.event_queue.proofs.InOrder.{others, others-ordered, others-put, others-was, others-room}
 use Rattle.event_queue.proofs.alarms.Alarms.set.Goals as goal
-use Rattle.event_queue.proofs.alarms.Alarms.set.Goals.{then-is_of, else-is_of}
+
+pub take_out-requires : goal.take_out-requires
+take_out-requires c =
+    let dues = c.self.inside.dues.items in
+    let row = c.args.row in
+    let within : row.0 < length dues = omega (arith, c.requires, ap length c.self.view_is) in (
+      others dues row within,
+      others-ordered dues row within,
+      c.self.invariant.1 ∙ others-was dues row within c.index-was.result.now c.index-was.ensures ∙ ap (λ o. put_alarm o (others dues row within)) (sym c.alarm_of.ensures),
+    )
+
+pub put_in-requires-clause-ordered : goal.put_in-requires-clause-ordered
+put_in-requires-clause-ordered c =
+    let dues = c.self.inside.dues.items in
+    let row = c.args.row in
+    let within : row.0 < length dues = omega (arith, c.requires, ap length c.self.view_is) in
+    let taken = c.take_out.ensures.items (others dues row within) (c.self.invariant.1 ∙ others-was dues row within c.index-was.result.now c.index-was.ensures ∙ ap (λ o. put_alarm o (others dues row within)) (sym c.alarm_of.ensures)) in
+    subst (IsOrdered comes_before) (sym taken) (others-ordered dues row within)
+
+pub put_in-requires-clause-room : goal.put_in-requires-clause-room
+put_in-requires-clause-room c =
+    let dues = c.self.inside.dues.items in
+    let row = c.args.row in
+    let within : row.0 < length dues = omega (arith, c.requires, ap length c.self.view_is) in
+    let taken = c.take_out.ensures.items (others dues row within) (c.self.invariant.1 ∙ others-was dues row within c.index-was.result.now c.index-was.ensures ∙ ap (λ o. put_alarm o (others dues row within)) (sym c.alarm_of.ensures)) in
+    omega (arith, ap length taken, others-room dues row within, c.take_out.ensures.capacity, c.self.invariant.2)
 
 pub invariant_of-self : goal.invariant_of-self
 invariant_of-self c =
     let dues = c.self.inside.dues.items in
     let row = c.args.row in
-    let due = c.args.due in
     let within : row.0 < length dues = omega (arith, c.requires, ap length c.self.view_is) in
-    elim c.if-is_of.branch [
-      | then-is_of w ↦
-          let now : c.if-is_of.self-inside.1.0.items ≡ slice_set dues row.0 due = ap (λ x. x.1.0.items) w.self-inside-is in (
-            omega (arith, c.self.invariant.0, length-set dues row.0 due, ap length now),
-            w.least-is ∙ w.find_least.ensures ∙ ap least_of (w.deref.ensures.value ∙ sym now),
-          )
-      | else-is_of w ↦
-          let now : c.if-is_of.self-inside.1.0.items ≡ slice_set dues row.0 due = ap (λ x. x.1.0.items) w.self-inside-is in (
-            omega (arith, c.self.invariant.0, length-set dues row.0 due, ap length now),
-            w.least-is ∙ w.first_of.ensures ∙ ap (first_of c.self.inside.least) w.alarm_of.ensures
-                ∙ set-least dues row due within c.self.inside.least (sym c.is_of.ensures ∙ w.if-is_of.false) c.self.invariant.1 ∙ ap least_of (sym now),
-          )
-    ]
+    let taken = c.take_out.ensures.items (others dues row within) (c.self.invariant.1 ∙ others-was dues row within c.index-was.result.now c.index-was.ensures ∙ ap (λ o. put_alarm o (others dues row within)) (sym c.alarm_of.ensures)) in (
+      omega (arith, c.self.invariant.0, length-set dues row.0 c.args.due),
+      c.put_in.ensures.items ∙ ap (put_alarm c.alarm_of-2.result) taken ∙ ap (λ o. put_alarm o (others dues row within)) c.alarm_of-2.ensures ∙ others-put dues row within c.args.due,
+      omega (arith, c.self.invariant.2, length-set dues row.0 c.args.due, c.take_out.ensures.capacity, c.put_in.ensures.capacity),
+    )

@@ -1,0 +1,196 @@
+-- For each event the order of what takes part: as it is made, and where one more takes part, or one less.
+use Rattle.std.proofs.Common.{◌≡◌, ◌≢◌, ℕ, ◌+◌, ◌<◌, ◌≤◌, nat_lt, ◌==◌, ◌&&◌, Bool, true, false, List, [], ◌∷◌, ◌++◌, Some, length, filter, get_or, slice_get, slice_set, Vec, Global, vec_capacity, refl, ap, sym, subst, ◌∙◌, inl, inr, arith}
+use Rattle.std.specs.List.{All}
+use Rattle.std.proofs.lemmas.Bool.{cases_eq, cases_lt, eq-eqb, lt-ltb, le-ltb, and_from, and_left, and_right, or_right}
+use Rattle.std.proofs.lemmas.Bool.Decides.{nat_tests}
+use Rattle.std.proofs.lemmas.List.{length-set, get_or-set_same, get_or-set_other, get_or_append_left, get_or_push, length_push}
+use Rattle.std.proofs.lemmas.Option.{get_or_from_slice_get}
+use Rattle.std.proofs.lemmas.List.Kept.{AllPairs-filter}
+use Rattle.plan_tables.specs.declared.entries.BindingId.{BindingId}
+use Rattle.plan_tables.specs.declared.entries.EventId.{EventId}
+use Rattle.plan_tables.specs.declared.entries.Binding.{Binding}
+use Rattle.plan_tables.specs.PlanView.{PlanView, no_binding, binding_at, places_of}
+use Rattle.plan_tables.specs.Valid.{IsValid}
+use Rattle.plan_tables.proofs.BoundTo.{places_of-within, places_of-on}
+use Rattle.event_queue.specs.Handlers.{runs_at}
+use Rattle.event_queue.specs.PlanOrder.{by_priority}
+use Rattle.event_queue.specs.Inside.{put, IsOrdered, runs_before, IsOrderOf, HasOrders, also, without}
+use Rattle.event_queue.proofs.Put.{length-put}
+use Rattle.event_queue.proofs.PlanOrder.{IsBelow, places_of-increase, filter-shorter, priority-length}
+use Rattle.event_queue.proofs.Joined.{filter-agree, also-other, without-other, without-itself, without-also, place-same, by_priority-in_order, joined}
+use Rattle.event_queue.proofs.Owned.{has-event}
+
+abbrev event : ℕ → EventId
+event n = record { 0 = n }
+
+module _ (plan : PlanView) where
+  module _ (takes : BindingId → Bool) (orders : List (Vec BindingId Global)) (has : HasOrders plan takes orders) where
+    -- it is that of any test that agrees
+    pub orders-agree : (other : BindingId → Bool) → ((p : BindingId) → p.0 < length plan.bindings → takes p ≡ other p) → HasOrders plan other orders
+    orders-agree other agree = record {
+      count = has.count;
+      each = λ e d within.
+          let was = has.each e d within in
+          record {
+            places = was.places ∙ ap (by_priority plan) (filter-agree takes other (places_of plan (event e)) (λ k c there. agree (get_or (places_of plan (event e)) k c) (places_of-within plan (event e) k c there)));
+            room = was.room;
+          };
+    }
+
+    pub order-in_order : (e : EventId) (d : Vec BindingId Global) → e.0 < length plan.events → IsOrdered (runs_before plan) (get_or orders e.0 d).items
+    order-in_order e d within =
+        subst (IsOrdered (runs_before plan)) (sym (has.each e.0 d within).places)
+        (by_priority-in_order plan (filter takes (places_of plan e)) (AllPairs-filter IsBelow takes (places_of plan e) (places_of-increase plan e)))
+
+  -- ---- a binding, and its event
+
+  module _ (q : BindingId) (b : Binding) (valid : IsValid plan) (there : q.0 < length plan.bindings) (is : slice_get plan.bindings q.0 ≡ Some b) where
+    pub binding-event : (binding_at plan q).event.0 ≡ b.event.0
+    binding-event = ap (λ (c : Binding). c.event.0) (get_or_from_slice_get plan.bindings q.0 b no_binding is)
+
+    pub event-known : b.event.0 < length plan.events
+    event-known =
+        let on = binding-event in
+        let known = (valid.entries.bindings q.0 no_binding there).0 in
+        omega arith
+
+  module _ (q : BindingId) (e : EventId) (there : q.0 < length plan.bindings) (on : (binding_at plan q).event.0 ≡ e.0) (known : e.0 < length plan.events) where
+    -- it is bound to no other event
+    elsewhere : (n : ℕ) → n ≢ e.0 → All (λ p. p.0 ≢ q.0) (places_of plan (event n))
+    elsewhere n other k d within same =
+        let p = get_or (places_of plan (event n)) k d in
+        other (sym (places_of-on plan (event n) k d within) ∙ ap (λ (r : BindingId). (binding_at plan r).event.0) (place-same p q same) ∙ on)
+
+    joins-event : (takes : BindingId → Bool) → takes q ≡ false → put (runs_before plan) q (by_priority plan (filter takes (places_of plan e))) ≡ by_priority plan (filter (also takes q) (places_of plan e))
+    joins-event takes fresh = joined plan takes q fresh (places_of plan e) (places_of-increase plan e) (has-event plan e q there on)
+
+    -- its event's order has room for it, where it does not take part
+    pub order-room : (takes : BindingId → Bool) (orders : List (Vec BindingId Global)) → HasOrders plan takes orders → (d : Vec BindingId Global) → takes q ≡ false → length (get_or orders e.0 d).items < vec_capacity (get_or orders e.0 d)
+    order-room takes orders has d fresh =
+        let one = length-put (runs_before plan) q (by_priority plan (filter takes (places_of plan e))) in
+        let more = ap length (joins-event takes fresh) in
+        let all = priority-length plan (filter (also takes q) (places_of plan e)) in
+        let fewer = filter-shorter (also takes q) (places_of plan e) in
+        let same = ap length (has.each e.0 d known).places in
+        let room = (has.each e.0 d known).room in
+        omega arith
+
+    -- and where it takes part, is this put into the order of the others
+    pub others-in_order : (takes : BindingId → Bool) → IsOrdered (runs_before plan) (by_priority plan (filter (without takes q) (places_of plan e)))
+    others-in_order takes =
+        by_priority-in_order plan (filter (without takes q) (places_of plan e)) (AllPairs-filter IsBelow (without takes q) (places_of plan e) (places_of-increase plan e))
+
+    pub order-with : (takes : BindingId → Bool) (orders : List (Vec BindingId Global)) → HasOrders plan takes orders → (d : Vec BindingId Global) → takes q ≡ true → (get_or orders e.0 d).items ≡ put (runs_before plan) q (by_priority plan (filter (without takes q) (places_of plan e)))
+    order-with takes orders has d took =
+        (has.each e.0 d known).places
+        ∙ ap (by_priority plan) (filter-agree takes (also (without takes q) q) (places_of plan e) (λ k c inside. without-also takes q took (get_or (places_of plan e) k c)))
+        ∙ sym (joins-event (without takes q) (without-itself takes q))
+
+    module _ (orders : List (Vec BindingId Global)) (v : Vec BindingId Global) where
+      -- another order at the event alone
+      changed : (takes other : BindingId → Bool) → HasOrders plan takes orders → ((p : BindingId) → p.0 ≢ q.0 → other p ≡ takes p) → IsOrderOf plan other e v → HasOrders plan other (slice_set orders e.0 v)
+      changed takes other has agree is = record {
+        count = length-set orders e.0 v ∙ has.count;
+        each = λ n d within.
+            elim (cases_eq n e.0) [
+              | inl same ↦
+                  subst (λ (k : ℕ). IsOrderOf plan other (event k) (get_or (slice_set orders e.0 v) k d)) (sym same)
+                  (subst (IsOrderOf plan other e) (sym (get_or-set_same orders e.0 v d (omega (arith, known, has.count)))) is)
+              | inr apart ↦
+                  let was = has.each n d within in
+                  let places = was.places ∙ sym (ap (by_priority plan) (filter-agree other takes (places_of plan (event n)) (λ k c inside. agree (get_or (places_of plan (event n)) k c) (elsewhere n apart k c inside)))) in
+                  subst (IsOrderOf plan other (event n)) (sym (get_or-set_other orders e.0 n v d apart)) (record { places = places; room = was.room })
+            ];
+      }
+
+      module _ (takes : BindingId → Bool) (has : HasOrders plan takes orders) (d : Vec BindingId Global) (grown : vec_capacity (get_or orders e.0 d) ≤ vec_capacity v) where
+        room : length (places_of plan e) ≤ vec_capacity v
+        room = let was = (has.each e.0 d known).room in omega arith
+
+        -- the binding takes part from now on
+        pub order-added : takes q ≡ false → v.items ≡ put (runs_before plan) q (get_or orders e.0 d).items → HasOrders plan (also takes q) (slice_set orders e.0 v)
+        order-added fresh is =
+            changed takes (also takes q) has (also-other takes q)
+            (record { places = is ∙ ap (put (runs_before plan) q) (has.each e.0 d known).places ∙ joins-event takes fresh; room = room })
+
+        -- the binding takes part no more
+        pub order-dropped : takes q ≡ true → ((rest : List BindingId) → (get_or orders e.0 d).items ≡ put (runs_before plan) q rest → v.items ≡ rest) → HasOrders plan (without takes q) (slice_set orders e.0 v)
+        order-dropped took is =
+            changed takes (without takes q) has (without-other takes q)
+            (record { places = is (by_priority plan (filter (without takes q) (places_of plan e))) (order-with takes orders has d took); room = room })
+
+  -- ---- no binding takes part
+
+  none-pass : (ps : List BindingId) → filter (λ p. false) ps ≡ []
+  none-pass [] = refl
+  none-pass (p ∷ ps) = none-pass ps
+
+  -- so many events have room
+  pub record HasFirstRooms (n : ℕ) (orders : List (Vec BindingId Global)) : Type 0 where
+    pub count : length orders ≡ n
+    pub each : (e : ℕ) (d : Vec BindingId Global) → e < n → IsOrderOf plan (λ p. false) (record { 0 = e }) (get_or orders e d)
+
+  pub rooms-none : HasFirstRooms 0 []
+  rooms-none = record { count = refl; each = λ e d within. absurd (omega arith) }
+
+  pub rooms-more : (n : ℕ) (orders : List (Vec BindingId Global)) (v : Vec BindingId Global) → HasFirstRooms n orders → v.items ≡ [] → length (places_of plan (record { 0 = n })) ≤ vec_capacity v → HasFirstRooms (n + 1) (orders ++ v ∷ [])
+  rooms-more n orders v has empty room = record {
+    count = let one = length_push orders v in let count = has.count in omega arith;
+    each = λ e d within.
+        elim (cases_lt e n) [
+          | inl less ↦ subst (IsOrderOf plan (λ p. false) (event e)) (sym (get_or_append_left orders (v ∷ []) d e (omega (arith, less, has.count)))) (has.each e d less)
+          | inr reached ↦
+              let same : e ≡ n = omega arith in
+              subst (λ (k : ℕ). IsOrderOf plan (λ p. false) (event k) (get_or (orders ++ v ∷ []) k d)) (sym same)
+              (subst (IsOrderOf plan (λ p. false) (event n)) (sym (get_or_push orders v d n has.count))
+              (record { places = empty ∙ sym (ap (by_priority plan) (none-pass (places_of plan (event n)))); room = room }))
+        ];
+  }
+
+  pub rooms-all : (orders : List (Vec BindingId Global)) → HasFirstRooms (length plan.events) orders → HasOrders plan (λ p. false) orders
+  rooms-all orders has = record { count = has.count; each = has.each }
+
+  -- ---- what takes part from the start on
+
+  module _ (running : List Bool) where
+    -- of the bindings below n those whose owner runs
+    abbrev pub first_of : ℕ → BindingId → Bool
+    first_of n p = runs_at plan running p && nat_lt p.0 n
+
+    pub first-none : (p : BindingId) → false ≡ first_of 0 p
+    first-none p = sym (and_right (runs_at plan running p) (nat_lt p.0 0) (le-ltb p.0 0 (omega arith)))
+
+    pub first-all : (n : ℕ) (p : BindingId) → length plan.bindings ≤ n → p.0 < length plan.bindings → first_of n p ≡ runs_at plan running p
+    first-all n p all within = ap (λ b. runs_at plan running p && b) (lt-ltb p.0 n (omega arith)) ∙ by (runs_at plan running p)
+      where
+        by : (b : Bool) → (b && true) ≡ b
+        by true = refl
+        by false = refl
+
+    module _ (n : ℕ) where
+      abbrev here : BindingId
+      here = record { 0 = n }
+
+      pub first-fresh : first_of n here ≡ false
+      first-fresh = and_right (runs_at plan running here) (nat_lt n n) (le-ltb n n (omega arith))
+
+      apart : (p : BindingId) → p.0 ≢ n → first_of n p ≡ first_of (n + 1) p
+      apart p other = let same : nat_lt p.0 n ≡ nat_lt p.0 (n + 1) = grind (arith, nat_tests) in ap (λ b. runs_at plan running p && b) same
+
+      pub first-more : runs_at plan running here ≡ true → (p : BindingId) → also (first_of n) here p ≡ first_of (n + 1) p
+      first-more runs p =
+          elim (cases_eq p.0 n) [
+            | inl same ↦
+                or_right (first_of n p) (n == p.0) (eq-eqb n p.0 (sym same))
+                ∙ sym (and_from (runs_at plan running p) (nat_lt p.0 (n + 1)) (ap (runs_at plan running) (place-same p here same) ∙ runs) (lt-ltb p.0 (n + 1) (omega arith)))
+            | inr other ↦ also-other (first_of n) here p other ∙ apart p other
+          ]
+
+      pub first-same : runs_at plan running here ≡ false → (p : BindingId) → first_of n p ≡ first_of (n + 1) p
+      first-same rests p =
+          elim (cases_eq p.0 n) [
+            | inl same ↦
+                let no = ap (runs_at plan running) (place-same p here same) ∙ rests in
+                and_left (runs_at plan running p) (nat_lt p.0 n) no ∙ sym (and_left (runs_at plan running p) (nat_lt p.0 (n + 1)) no)
+            | inr other ↦ apart p other
+          ]
