@@ -14,7 +14,7 @@ use Rattle.written_machine.specs.Machine.{device_state}
 module _ {A : Type 0} (row : A → DeviceRow) (state : A → DeviceState) (plan : PlanView) (items : List A) (at : RowId) (old new : A)
     (rows : map row items ≡ plan.rows) (read : old ≡ get_or items at.0 old) (within : at.0 < length items) where
   -- it is the device of its row, in the state that the machine has
-  row-is : row old ≡ row_at plan at
+  pub row-is : row old ≡ row_at plan at
   row-is = ap row read ∙ sym (get_or-map row items at.0 old no_row within) ∙ ap (λ (rs : List DeviceRow). get_or rs at.0 no_row) rows
 
   pub state-is : state old ≡ device_state (map state items) at

@@ -1,6 +1,7 @@
 pub mod Alarms
 pub mod Room
 pub mod Calling
+pub mod Exchanging
 pub mod Going
 pub mod Listing
 pub mod Fitting

@@ -11,9 +11,10 @@ ghost use Rattle.coil_guard.specs.Asked.{limits_of};
 ghost use Rattle.coil_guard.specs.Coils.{all_off, after_release, answer_release};
 ghost use Rattle.coil_guard.specs.SentCommands.{coil_of};
 ghost use Rattle.device_objects.specs.Laws.{MayCome};
-ghost use Rattle.written_machine.specs.Machine.{initial, write, post, set_switches, set_mode, set_device, set_coils, ask_coil, book, device_at, called, change_variable, has_game, is_post, write_final};
+ghost use Rattle.written_machine.specs.Machine.{initial, write, post, set_switches, set_mode, set_device, set_coils, ask_coil, book, device_at, called, change_variable, has_game, is_post, world_of, write_final};
 ghost use Rattle.written_machine.specs.Run.{arrived};
 ghost use Rattle.device_objects.specs.DeviceStep.{device_step};
+ghost use Rattle.plan_tables.specs.PlanView.{row_at};
 ghost use Rattle.plan_tables.specs.Valid.{IsConditionWithin};
 ghost use Rattle.player_game.specs.GameStep.{is_ball_on};
 ghost use Rattle.player_game.specs.Players.{is_met, no_players};
@@ -28,6 +29,7 @@ ghost use Rattle.machine_core.specs.Stimuli.{alarm_view};
 ghost use Rattle.machine_core.specs.Stopping.{stopped_state};
 
 use crate::balls::{BallCall, book, can_book, counts_of, home};
+use crate::exchange::put_in_place;
 use crate::fault::CoreFault;
 use crate::fit::first_wrong;
 use crate::stimulus::Source;
@@ -487,6 +489,25 @@ impl<'p, D: Device> Core<'p, D> {
         let mut devices = self.devices;
         stop_all(&mut devices, self.moment, world);
         devices
+    }
+
+    /// Puts a device in the place of the device of a row, which has to be one of the plan. It has to be a
+    /// device of that row, in the state that `state` gives. The core stays as it is, and takes no
+    /// memory. Gives the device that was there, after it was told, at the moment of the latest
+    /// stimulus, which has to be before 2^40 ms, that its mode stops. What it answers is left out.
+    pub fn exchange(&mut self, row: RowId, device: D) -> D
+        requires there { row.0 < length self.old.machine.devices }
+        requires moment { self.old.machine.moment < 2 ^ 40 }
+        requires row { D.row_of device ≡ row_at self.old.handlers.plan row }
+        requires state { D.state_of device ≡ device_at self.old.machine row }
+        ensures same { self.new ≡ self.old }
+        ensures row { D.row_of result ≡ row_at self.old.handlers.plan row }
+        ensures stopped { D.state_of result ≡ stopped_state self.old.machine.moment (world_of self.old.machine) (row_at self.old.handlers.plan row) (device_at self.old.machine row) }
+    {
+        let world = self.game.world(&self.players);
+        let mut taken = put_in_place(&mut self.devices, row, device);
+        stop_one(&mut taken, self.moment, world);
+        taken
     }
 
     /// The raw level of the switch that is due next is accepted, which one must be.

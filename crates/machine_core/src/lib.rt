@@ -6,6 +6,7 @@ mod arrivals;
 mod balls;
 mod calls;
 pub mod core_state;
+mod exchange;
 pub mod fault;
 mod fit;
 pub mod parts;
