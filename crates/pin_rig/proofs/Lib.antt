@@ -2,3 +2,4 @@ pub mod Judging
 pub mod Counting
 pub mod Acting
 pub mod Running
+pub mod Exchanging

@@ -2,11 +2,12 @@
 
 ghost use Rattle.std.specs.Prelude.{◌≡◌};
 
+use crate::exchange::Refusal;
 use crate::input::{Input, RigFault, StepFault, check_moment};
 use coil_driver::{Driver, ShutReport};
 use coil_guard::{Board, Coils};
 use config_checker::Checked;
-use device_objects::{Device, DeviceState};
+use device_objects::{Device, DeviceState, is_same_row, is_same_state};
 use machine_core::{Core, Stimulus, begin, settle};
 use plan_tables::RowId;
 use std::alloc::Global;
@@ -56,7 +57,7 @@ impl<'c, D: Device, B: Board> Drop for Rig<'c, D, B> {
 }
 
 impl<'c, D: Device, B: Board> Rig<'c, D, B> {
-    ghost use Rattle.std.specs.Prelude.{◌≡◌, ℕ, map, slice_get, Err, IfOk, IsOk, MatchResult, option_map, []};
+    ghost use Rattle.std.specs.Prelude.{◌≡◌, ℕ, map, slice_get, Err, IfErr, IfOk, IsOk, MatchResult, option_map, []};
     ghost use Rattle.std.specs.Borrow.{sem};
     ghost use Rattle.written_machine.specs.Run.{IsReached};
     ghost use Rattle.written_machine.specs.NextAlarm.{next_alarm};
@@ -73,6 +74,7 @@ impl<'c, D: Device, B: Board> Rig<'c, D, B> {
     ghost use Rattle.machine_core.specs.Fit.{IsFit, IsFirstWrong};
     ghost use Rattle.machine_core.specs.Stopping.{AreStopped};
     ghost use Rattle.pin_rig.specs.Lending.{IsStepped};
+    ghost use Rattle.pin_rig.specs.Exchange.{IsRefused, IsTakenOut, MayTakePlace};
 
     /// The machine of an accepted configuration, as it begins: at moment 0, with all switches
     /// inactive, all coils off, no ball known, no game and no event waiting. It has a device for each
@@ -176,6 +178,54 @@ impl<'c, D: Device, B: Board> Rig<'c, D, B> {
         ensures reached { IsOfRun self.now }
     {
         &self.core.lines()[..self.shown]
+    }
+
+    /// Puts a device in the place of the device of a row, while the machine runs. It has to be a
+    /// device of that row, in the state that `state` gives. Apart from that nothing changes: each later
+    /// call answers what it would have answered without the exchange. Gives the device that was
+    /// there, after it was told, at the moment of the latest stimulus, that its mode stops. So
+    /// nothing of it is due, and it ejects no ball. What it answers is left out. No memory is taken.
+    ///
+    /// # Errors
+    ///
+    /// The first of these that applies, with the device that was to take the place, as it was.
+    ///
+    /// - `Halted`: the board has not taken a command of an earlier step.
+    /// - `NoSuchRow`: the plan has no row of this number.
+    /// - `WrongRow`: the device is one of another row.
+    /// - `WrongState`: the device is in another state than the one of the row.
+    pub fn exchange(&mut self, row: RowId, device: D) -> Result<D, (Refusal, D)>
+        ensures same { self.new ≡ self.old }
+        ensures may { IfOk result (λ taken. MayTakePlace self.old row (D.row_of device) (D.state_of device)) }
+        ensures taken { IfOk result (λ taken. IsTakenOut self.old row (D.row_of taken) (D.state_of taken)) }
+        ensures refused { IfErr result (λ refused. IsRefused self.old row (D.row_of device) (D.state_of device) refused.0) }
+        ensures kept { IfErr result (λ refused. refused.1 ≡ device) }
+    {
+        match self.judge_device(row, &device) {
+            Ok(()) => Ok(self.core.exchange(row, device)),
+            Err(refusal) => Err((refusal, device)),
+        }
+    }
+
+    /// Whether a device may take the place of the one of a row, or why not.
+    fn judge_device(&self, row: RowId, device: &D) -> Result<(), Refusal>
+        ensures { MatchResult result (λ _. MayTakePlace self.now row (D.row_of device.now) (D.state_of device.now)) (λ refusal. IsRefused self.now row (D.row_of device.now) (D.state_of device.now) refusal) }
+    {
+        let is_halted = self.driver.is_halted();
+        let plan = self.checked.plan();
+        if is_halted {
+            return Err(Refusal::Halted);
+        }
+        if row.0 as usize >= plan.rows().len() {
+            return Err(Refusal::NoSuchRow);
+        }
+        if !is_same_row(&device.row(), &plan.row(row)) {
+            return Err(Refusal::WrongRow);
+        }
+        if !is_same_state(&device.state(), &self.core.state(row)) {
+            return Err(Refusal::WrongState);
+        }
+        Ok(())
     }
 
     /// Ends the machine, and gives the board back. The devices stop. Then a disable is sent, in the
