@@ -2,13 +2,12 @@
 
 ghost use Rattle.std.specs.Prelude.{◌≡◌};
 ghost use Rattle.std.specs.List.{list_all};
-ghost use Rattle.device_objects.specs.Accrual.{first_slot, is_step_open, are_all_done, completed, stepped, slot_step, current, accrual_step};
-ghost use Rattle.device_objects.specs.declared.device.Call.TheVariants as calls;
+ghost use Rattle.device_objects.specs.Accrual.{first_slot, is_step_open, are_all_done, completed, stepped, slot_step, current};
 ghost use Rattle.plan_tables.specs.declared.devices.Act.TheVariants as acts;
 ghost use Rattle.plan_tables.specs.declared.devices.Settings.TheVariants as kinds;
 
 use crate::lists::{hit, reset, silent};
-use crate::slots::{is_of_other_game, slot_in_use};
+use device_objects::slot::{SlotStep, is_of_other_game, slot_in_use, step_in_use};
 use device_objects::{AccrualSlot, Device, DeviceState, Outcome, World};
 use plan_tables::{Act, DeviceRow, Settings, StepSettings};
 
@@ -83,7 +82,34 @@ impl Device for Accrual {
     }
 
     fn act(&mut self, act: Act, _now: u64, world: World) -> Outcome {
-        step_slots(&self.settings, &mut self.slots, act, world)
+        let at = slot_in_use(self.settings.block.persist, world);
+        let step = ActInWorld {
+            settings: self.settings,
+            act,
+            world,
+        };
+        step_in_use(&mut self.slots, at, &step)
+    }
+}
+
+/// An act, in this world.
+#[derive(Clone, Copy)]
+struct ActInWorld {
+    settings: StepSettings,
+    act: Act,
+    world: World,
+}
+
+impl SlotStep<AccrualSlot> for ActInWorld {
+    type Seen = AccrualSlot;
+
+    ghost seen = { λ slot. slot };
+
+    ghost step_of = { λ s slot. slot_step s.settings s.act (current s.settings s.world slot) };
+
+    fn step(&self, slot: &mut AccrualSlot) -> Outcome {
+        *slot = current(&self.settings, self.world, *slot);
+        step(&self.settings, slot, self.act)
     }
 }
 
@@ -189,27 +215,6 @@ fn step(settings: &StepSettings, slot: &mut AccrualSlot, act: Act) -> Outcome
             slot.done = [false; 16];
             slot.enabled = true;
             reset()
-        }
-        _ => silent(),
-    }
-}
-
-/// What an act does to the slot in use.
-fn step_slots(
-    settings: &StepSettings,
-    slots: &mut [AccrualSlot; 4],
-    act: Act,
-    world: World,
-) -> Outcome
-    ensures slots { slots.new ≡ (accrual_step settings.now (calls.Act act) world slots.old).0 }
-    ensures outcome { result.items ≡ (accrual_step settings.now (calls.Act act) world slots.old).1 }
-{
-    match slot_in_use(settings.block.persist, world) {
-        Some(i) if i < 4 => {
-            let mut slot = current(settings, world, slots[i]);
-            let lists = step(settings, &mut slot, act);
-            slots[i] = slot;
-            lists
         }
         _ => silent(),
     }

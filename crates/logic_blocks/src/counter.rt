@@ -1,13 +1,12 @@
 //! A counter.
 
 ghost use Rattle.std.specs.Prelude.{◌≡◌, ◌<◌, ◌^◌};
-ghost use Rattle.device_objects.specs.Counter.{first_slot, is_early, completed, counted, slot_step, current, counter_step};
-ghost use Rattle.device_objects.specs.declared.device.Call.TheVariants as calls;
+ghost use Rattle.device_objects.specs.Counter.{first_slot, is_early, completed, counted, slot_step, current};
 ghost use Rattle.plan_tables.specs.declared.devices.Act.TheVariants as acts;
 ghost use Rattle.plan_tables.specs.declared.devices.Settings.TheVariants as kinds;
 
 use crate::lists::{hit, reset, silent};
-use crate::slots::{is_of_other_game, slot_in_use};
+use device_objects::slot::{SlotStep, is_of_other_game, slot_in_use, step_in_use};
 use device_objects::values::{is_at_end, moved};
 use device_objects::{CounterSlot, Device, DeviceState, Outcome, World};
 use plan_tables::{Act, CounterSettings, DeviceRow, Settings};
@@ -83,7 +82,37 @@ impl Device for Counter {
     }
 
     fn act(&mut self, act: Act, now: u64, world: World) -> Outcome {
-        step_slots(&self.settings, &mut self.slots, act, now, world)
+        let at = slot_in_use(self.settings.block.persist, world);
+        let step = ActInWorld {
+            settings: self.settings,
+            act,
+            now,
+            world,
+        };
+        step_in_use(&mut self.slots, at, &step)
+    }
+}
+
+/// An act, in this world.
+#[derive(Clone, Copy)]
+struct ActInWorld {
+    settings: CounterSettings,
+    act: Act,
+    now: u64,
+    world: World,
+    ghost moment: { now < 2 ^ 40 },
+}
+
+impl SlotStep<CounterSlot> for ActInWorld {
+    type Seen = CounterSlot;
+
+    ghost seen = { λ slot. slot };
+
+    ghost step_of = { λ s slot. slot_step s.settings s.act s.now (current s.settings s.world slot) };
+
+    fn step(&self, slot: &mut CounterSlot) -> Outcome {
+        *slot = current(&self.settings, self.world, *slot);
+        step(&self.settings, slot, self.act, self.now)
     }
 }
 
@@ -186,27 +215,4 @@ fn count(settings: &CounterSettings, slot: &mut CounterSlot, now: u64) -> Outcom
     slot.value = moved(settings.direction, settings.interval, slot.value);
     slot.last_hit = Some(now);
     counted(settings, slot)
-}
-
-/// What an act does to the slot in use.
-fn step_slots(
-    settings: &CounterSettings,
-    slots: &mut [CounterSlot; 4],
-    act: Act,
-    now: u64,
-    world: World,
-) -> Outcome
-    requires { now < 2 ^ 40 }
-    ensures slots { slots.new ≡ (counter_step settings.now (calls.Act act) now world slots.old).0 }
-    ensures outcome { result.items ≡ (counter_step settings.now (calls.Act act) now world slots.old).1 }
-{
-    match slot_in_use(settings.block.persist, world) {
-        Some(i) if i < 4 => {
-            let mut slot = current(settings, world, slots[i]);
-            let lists = step(settings, &mut slot, act, now);
-            slots[i] = slot;
-            lists
-        }
-        _ => silent(),
-    }
 }

@@ -4,11 +4,12 @@
 pub mod accrual;
 pub mod counter;
 mod lists;
+pub mod mask_accrual;
 pub mod sequence;
-mod slots;
 pub mod timer;
 
 pub use accrual::Accrual;
 pub use counter::Counter;
+pub use mask_accrual::MaskAccrual;
 pub use sequence::Sequence;
 pub use timer::Timer;
