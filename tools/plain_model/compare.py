@@ -152,7 +152,7 @@ class Comparison:
         self.seed = seed
         drawing = random.Random(seed)
         drawn = draw.machine(drawing)
-        if drawing.random() < 0.4:
+        if drawing.random() < 0.5:
             plant.plant(drawing, drawn)
         bundle = drawn.bundle(drawing)
         if not drawn.planted and drawing.random() < 0.2:

@@ -136,17 +136,20 @@ def split_list(text: str) -> list[str]:
     return items
 
 
-def words(node: Node) -> list[Word]:
-    """The items of a list, empty ones dropped."""
+def words(node: Node, limit: int = LIST_LIMIT) -> list[Word]:
+    """The items of a list, empty ones dropped. They are counted before they are judged."""
     if isinstance(node, Scalar):
         found = [Word(item, node.line, node.column, place) for place, item in enumerate(split_list(node.text))]
     elif isinstance(node, Items):
-        found = [Word(text_of(item), item.line, item.column) for item in node.items]
+        texts = [item.text if isinstance(item, Scalar) else None for item in node.items]
+        found = [Word(text, item.line, item.column) for text, item in zip(texts, node.items)]
     else:
         raise BadValue
-    found = [word for word in found if word.text]
-    if len(found) > LIST_LIMIT:
+    found = [word for word in found if word.text != ""]
+    if len(found) > limit:
         raise TooMany
+    if any(word.text is None for word in found):
+        raise BadValue
     return found
 
 
