@@ -3,6 +3,7 @@ import random
 from collections.abc import Callable, Iterator
 from typing import Any
 
+from . import odd
 from .bundle import MACHINE_TEXT
 from .draw import Data, Drawn
 from .layout import Names, Raw
@@ -14,9 +15,7 @@ REQUIRED = {"main_coil", "activation_switch", "coil", "switch", "ball_switches",
 REQUIRED |= {"states", "name", "int", "action", "event"}
 SWITCH_POSTS = ["events_when_activated", "events_when_deactivated"]
 BLOCK_POSTS = ["events_when_hit", "events_when_complete"]
-JUNK: list[Any] = ["", "no", "x y", "-1", "0", "1.5", "1.0001", "101%", "100.0%", "1e3", "maybe", "9999999999", "a{b}"]
-JUNK += ["a{current_player.b==1}", "a{current_player.b=1}", "Ä", "x" * 64, "x" * 65, "1,2", "@", "5001", "4294967296"]
-JUNK += ["1000000001", "-1000000000", "01", "+1", "1 h", "0.5ms", ".5", "1.", "YES", "yEs", "{", "a\nb", "\x7f"]
+JUNK: list[Any] = ["", "no", "x y", "-1", "0", "@", "5001", "Ä", "{", "a\nb", "\x7f"]
 JUNK += [Names(), ["a", ["b"]], ["a", ""], {}, {"a": "b"}, [{"name": "a"}], [{}]]
 JUNK += [["a"] * 17, ["a"] * 1_024, ["a"] * 1_025, ["a"] * 1_025, ["a"] * 1_025]
 BAD_NAMES = ["playfield", "default", "a b", "", "a/b", "x" * 65, "a\\b", "a{b}", 'a"b', "ä", "a\x01", "a'b", "-"]
@@ -246,7 +245,7 @@ class Planter:
         """Something else in place of a value."""
         data, key = next(self.places(), (None, None))
         if data is not None:
-            data[key] = self.draw.choice(JUNK)
+            data[key] = self.draw.choice(JUNK if self.chance(0.5) else odd.VALUES)
 
     def missing(self) -> None:
         for data, key in self.places():

@@ -9,7 +9,7 @@ from .yaml_text import Items, Node, Scalar
 NAME = re.compile(r"[A-Za-z0-9_.-]{1,64}")
 COMPARED = r"current_player\.([A-Za-z0-9_.-]{1,64})[ \t]*(==|!=|<=|<|>=|>)[ \t]*(-?[0-9]+)"
 HANDLED = re.compile(r"([A-Za-z0-9_.-]{1,64})(?:\{[ \t]*" + COMPARED + r"[ \t]*\})?")
-TIME = re.compile(r"([0-9]+)(?:\.([0-9]{1,3}))?(?:[ \t]*(ms|s|m|h|d))?")
+TIME = re.compile(r"([0-9]+)(?:\.([0-9]{1,3}))?[ \t]*(ms|s|m|h|d)?")
 UNITS = {None: 1, "ms": 1, "s": 1_000, "m": 60_000, "h": 3_600_000, "d": 86_400_000}
 POWER = re.compile(r"([0-9]+)(?:\.([0-9]{1,3}))?")
 PERCENT = re.compile(r"([0-9]+)(?:\.([0-9]))?%")
