@@ -116,9 +116,7 @@ def tree(name: str, data: bytes) -> Node:
 
 def modes_of(node: Node, line: int) -> list[Word]:
     """The listed modes."""
-    found = judged(values.words, node, line, "modes")
-    if len(found) > MODE_LIMIT:
-        raise Fault(9, "Limit", line, "modes")
+    found = judged(lambda node: values.words(node, MODE_LIMIT), node, line, "modes")
     seen: set[str] = set()
     for word in found:
         if not values.NAME.fullmatch(word.text) or word.text == "machine":

@@ -8,9 +8,9 @@ from collections import Counter
 from dataclasses import dataclass, field
 from pathlib import Path
 
-from . import cascades, certificate, damage, draw, logs, plant
+from . import cascades, certificate, damage, draw, logs, odd, plant
 from .answers import Answer, Judged, judge
-from .bundle import ConfigFault, joined, split_bundle
+from .bundle import MACHINE_TEXT, VERSION, ConfigFault, joined, split_bundle
 from .layout import means
 from .machine import TooLong
 from .yaml_text import read
@@ -152,7 +152,7 @@ class Comparison:
         self.seed = seed
         drawing = random.Random(seed)
         drawn = draw.machine(drawing)
-        if drawing.random() < 0.4:
+        if drawing.random() < 0.5:
             plant.plant(drawing, drawn)
         bundle = drawn.bundle(drawing)
         if not drawn.planted and drawing.random() < 0.2:
@@ -169,6 +169,8 @@ class Comparison:
             self.damaged(drawing, drawn, bundle)
         if drawing.random() < 0.1:
             self.foldered(drawing, bundle)
+        if drawing.random() < 0.3:
+            self.checked(judge(f"@ {MACHINE_TEXT}\n{VERSION}\n{drawing.choice(odd.TEXTS)}".encode()))
         self.count("machines")
 
     def checked(self, judged: Judged) -> None:

@@ -220,6 +220,16 @@ class Drawing:
         owner, event = self.owner(), self.handled()
         self.section(owner, "event_player")[event] = self.posts()
 
+    def dear_event(self) -> None:
+        """One event that posts much. So the bound says what may post it."""
+        event = self.draw.choice(self.events)
+        self.section(self.owner(), "event_player")[event] = Names(["much"] * self.draw.choice([20, 50, 100]))
+
+    def start_again(self) -> None:
+        """The end of a ball, a turn or a game presses the start button."""
+        event = self.draw.choice(GAME_EVENTS[GAME_EVENTS.index("ball_drain") :])
+        self.section("machine", "event_player").setdefault(event, Names()).append("sw_start")
+
     def variable_player(self) -> None:
         owner, event = self.owner(), self.handled()
         free = [name for name in VARIABLES if f"player_{name}" not in self.events[: self.mark + 1]]
@@ -443,6 +453,10 @@ class Drawing:
         for _ in range(self.draw.randint(self.size // 2, self.size)):
             self.mark, self.at = -1, "machine"
             self.draw.choice(whats)()
+        if self.chance(0.2):
+            self.dear_event()
+        if self.has_game and self.chance(0.1):
+            self.start_again()
         self.finish()
         return self.drawn
 

@@ -3,6 +3,7 @@ import random
 from collections.abc import Callable, Iterator
 from typing import Any
 
+from . import odd
 from .bundle import MACHINE_TEXT
 from .draw import Data, Drawn
 from .layout import Names, Raw
@@ -14,9 +15,7 @@ REQUIRED = {"main_coil", "activation_switch", "coil", "switch", "ball_switches",
 REQUIRED |= {"states", "name", "int", "action", "event"}
 SWITCH_POSTS = ["events_when_activated", "events_when_deactivated"]
 BLOCK_POSTS = ["events_when_hit", "events_when_complete"]
-JUNK: list[Any] = ["", "no", "x y", "-1", "0", "1.5", "1.0001", "101%", "100.0%", "1e3", "maybe", "9999999999", "a{b}"]
-JUNK += ["a{current_player.b==1}", "a{current_player.b=1}", "Ä", "x" * 64, "x" * 65, "1,2", "@", "5001", "4294967296"]
-JUNK += ["1000000001", "-1000000000", "01", "+1", "1 h", "0.5ms", ".5", "1.", "YES", "yEs", "{", "a\nb", "\x7f"]
+JUNK: list[Any] = ["", "no", "x y", "-1", "0", "@", "5001", "Ä", "{", "a\nb", "\x7f"]
 JUNK += [Names(), ["a", ["b"]], ["a", ""], {}, {"a": "b"}, [{"name": "a"}], [{}]]
 JUNK += [["a"] * 17, ["a"] * 1_024, ["a"] * 1_025, ["a"] * 1_025, ["a"] * 1_025]
 BAD_NAMES = ["playfield", "default", "a b", "", "a/b", "x" * 65, "a\\b", "a{b}", 'a"b', "ä", "a\x01", "a'b", "-"]
@@ -155,7 +154,7 @@ class Planter:
         for entry in devices.values():
             entry.setdefault("ball_switches", Names())
         one, other = (devices[self.draw.choice([*devices])] for _ in range(2))
-        kind = self.draw.randrange(5)
+        kind = self.draw.randrange(6)
         if kind == 0:
             one["eject_targets"] = self.draw.choice([*devices, "nowhere"])
         elif kind == 1:
@@ -165,8 +164,11 @@ class Planter:
         elif kind == 3:
             one.pop("eject_coil", None)
             one["mechanical_eject"] = "no"
-        else:
+        elif kind == 4:
             one["tags"] = Names(["trough"])
+        else:
+            one.pop("eject_coil", None)
+            one |= {"mechanical_eject": "yes", "tags": Names(["trough"])}
 
     # Faults 7 to 9
 
@@ -243,13 +245,27 @@ class Planter:
         """Something else in place of a value."""
         data, key = next(self.places(), (None, None))
         if data is not None:
-            data[key] = self.draw.choice(JUNK)
+            data[key] = self.draw.choice(JUNK if self.chance(0.5) else odd.VALUES)
 
     def missing(self) -> None:
         for data, key in self.places():
             if isinstance(data, dict) and key in REQUIRED:
                 del data[key]
                 return
+
+    def long_list(self) -> None:
+        """A list that is as long as it may be, or longer."""
+        items = Names(["a"] * self.draw.choice([1_024, 1_025, 1_025]))
+        entry, setting = self.draw.choice(
+            [
+                (self.anywhere("event_player"), self.event()),
+                (self.one("counters", "accruals", "sequences") or {}, "enable_events"),
+                (self.one("switches") or {}, "tags"),
+                (self.one("ball_devices") or {}, "ball_switches"),
+                (self.one("shot_groups") or {}, "shots"),
+            ]
+        )
+        entry[setting] = items
 
     def twice(self) -> None:
         """An entry in two texts."""
@@ -309,15 +325,17 @@ class Planter:
 
 # In the order in which they are planted: those that leave something else than they found come last.
 KINDS = """wrong_name unknown_member reserved_post reserved_variable group pulse power hold timer route cycle bound
-    limit wait_queue depth version inner_setting modes texts setting missing twice bad_name section junk""".split()
+    limit wait_queue depth version inner_setting modes texts setting missing long_list twice bad_name section
+    junk""".split()
 SHARES = {"limit": 2.0, "wait_queue": 0.3, "version": 0.3, "depth": 0.7, "texts": 0.4, "inner_setting": 0.5}
-SHARES |= {"section": 0.5, "junk": 1.5, "cycle": 1.5, "bound": 2.0, "hold": 1.5, "timer": 1.5, "pulse": 1.5}
+SHARES |= {"section": 0.5, "long_list": 0.7, "junk": 1.5, "twice": 2.0, "missing": 1.5}
+SHARES |= {"cycle": 1.5, "bound": 2.0, "hold": 1.5, "timer": 1.5, "pulse": 1.5, "route": 1.5}
 
 
 def plant(draw: random.Random, drawn: Drawn) -> None:
     """Plants one fault or some."""
     planter = Planter(draw, drawn)
     shares = [SHARES.get(kind, 1.0) for kind in KINDS]
-    drawn.planted = draw.choices(KINDS, shares, k=draw.choice([1, 1, 1, 2, 4]))
+    drawn.planted = draw.choices(KINDS, shares, k=draw.choice([1, 1, 1, 1, 2, 3]))
     for kind in sorted(drawn.planted, key=KINDS.index):
         getattr(planter, kind)()

@@ -9,7 +9,7 @@ from .yaml_text import Items, Node, Scalar
 NAME = re.compile(r"[A-Za-z0-9_.-]{1,64}")
 COMPARED = r"current_player\.([A-Za-z0-9_.-]{1,64})[ \t]*(==|!=|<=|<|>=|>)[ \t]*(-?[0-9]+)"
 HANDLED = re.compile(r"([A-Za-z0-9_.-]{1,64})(?:\{[ \t]*" + COMPARED + r"[ \t]*\})?")
-TIME = re.compile(r"([0-9]+)(?:\.([0-9]{1,3}))?(?:[ \t]*(ms|s|m|h|d))?")
+TIME = re.compile(r"([0-9]+)(?:\.([0-9]{1,3}))?[ \t]*(ms|s|m|h|d)?")
 UNITS = {None: 1, "ms": 1, "s": 1_000, "m": 60_000, "h": 3_600_000, "d": 86_400_000}
 POWER = re.compile(r"([0-9]+)(?:\.([0-9]{1,3}))?")
 PERCENT = re.compile(r"([0-9]+)(?:\.([0-9]))?%")
@@ -136,17 +136,20 @@ def split_list(text: str) -> list[str]:
     return items
 
 
-def words(node: Node) -> list[Word]:
-    """The items of a list, empty ones dropped."""
+def words(node: Node, limit: int = LIST_LIMIT) -> list[Word]:
+    """The items of a list, empty ones dropped. They are counted before they are judged."""
     if isinstance(node, Scalar):
         found = [Word(item, node.line, node.column, place) for place, item in enumerate(split_list(node.text))]
     elif isinstance(node, Items):
-        found = [Word(text_of(item), item.line, item.column) for item in node.items]
+        texts = [item.text if isinstance(item, Scalar) else None for item in node.items]
+        found = [Word(text, item.line, item.column) for text, item in zip(texts, node.items)]
     else:
         raise BadValue
-    found = [word for word in found if word.text]
-    if len(found) > LIST_LIMIT:
+    found = [word for word in found if word.text != ""]
+    if len(found) > limit:
         raise TooMany
+    if any(word.text is None for word in found):
+        raise BadValue
     return found
 
 

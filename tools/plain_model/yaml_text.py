@@ -163,7 +163,7 @@ class Words:
             if self.here(","):
                 self.at += 1
             elif not self.here(closing):
-                self.fault("Flow")
+                self.fault("NotInSubset" if self.at_colon() else "Flow")
 
     def flow_value(self, depth: int, ends: str) -> Node:
         if self.nothing_more() or self.here(",]}"):
