@@ -1,6 +1,6 @@
 """growing.py PROGRAM: what a line of `play` costs as the plan grows, in instructions. bench/instructions starts it.
 
-PROGRAM is pinball. For each size of a plan it plays a log, and then an empty one, under `valgrind --tool=callgrind`.
+PROGRAM is pinball, proved: of an unproved build valgrind reports no count. For each size of a plan it plays a log, and then an empty one, under `valgrind --tool=callgrind`.
 The difference is what the lines of the log took, so that reading the configuration and making the machine are left out.
 Each line of output has the size, the lines of output, the instructions for each of them, and their ratio to those of
 the smallest size. It ends with status 1 where a ratio is above its bar. Counts of instructions do not change with the
@@ -82,9 +82,10 @@ def counted(program: str, machine: pathlib.Path, log: pathlib.Path) -> tuple[int
     command = ["valgrind", "--tool=callgrind", "--callgrind-out-file=/dev/null", program, "play", str(log)]
     with machine.open("rb") as text:
         done = subprocess.run(command, stdin=text, stdout=subprocess.PIPE, stderr=subprocess.PIPE, text=True)
-    if done.returncode != 0:
+    found = COLLECTED.search(done.stderr)
+    if done.returncode != 0 or not found:
         sys.exit(f"{' '.join(command)}: status {done.returncode}\n{done.stdout[:1000]}{done.stderr}")
-    return int(COLLECTED.search(done.stderr)[1]), done.stdout.count("\n")
+    return int(found[1]), done.stdout.count("\n")
 
 
 def of_a_line(program: str, folder: pathlib.Path, growing: Growing, size: int) -> float:
