@@ -1,10 +1,10 @@
 """growing.py PROGRAM: what a line of `play` costs as the plan grows, in instructions. bench/instructions starts it.
 
-PROGRAM is pinball, proved: of an unproved build valgrind reports no count. For each size of a plan it plays a log, and then an empty one, under `valgrind --tool=callgrind`.
-The difference is what the lines of the log took, so that reading the configuration and making the machine are left out.
-Each line of output has the size, the lines of output, the instructions for each of them, and their ratio to those of
-the smallest size. It ends with status 1 where a ratio is above its bar. Counts of instructions do not change with the
-other work of a machine, but may with the compiler."""
+PROGRAM is pinball, proved: of an unproved build valgrind reports no count. For each size of a plan it plays a log, and
+then an empty one, under `valgrind --tool=callgrind`. The difference is what the lines of the log took, so that reading
+the configuration and making the machine are left out. Each line of output has the size, the lines of output, the
+instructions for each of them, and their ratio to those of the smallest size. It ends with status 1 where a ratio is
+above its bar. Counts of instructions do not change with the other work of a machine, but may with the compiler."""
 import dataclasses
 import pathlib
 import re
