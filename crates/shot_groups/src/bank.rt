@@ -4,12 +4,10 @@ ghost use Rattle.std.specs.Prelude.{◌≡◌, ◌<◌, ◌↔◌, IsTrue, slice
 ghost use Rattle.plan_tables.specs.Devices.{IsWithinLimits};
 ghost use Rattle.plan_tables.specs.declared.devices.Act.TheVariants as acts;
 ghost use Rattle.plan_tables.specs.declared.devices.Settings.TheVariants as kinds;
-ghost use Rattle.device_objects.specs.Bank.{advance_where, bank_step, current, first_slot, hit, slot_step};
-ghost use Rattle.device_objects.specs.declared.device.Call.TheVariants as calls;
-ghost use Rattle.device_objects.specs.Slots.{slot_in_use};
+ghost use Rattle.device_objects.specs.Bank.{advance_where, current, first_slot, slot_step};
 
-use crate::shots::{go_on, is_complete, rotate_left, rotate_right};
-use device_objects::bank::{group_complete, hit_lists, next_state};
+use crate::shots::{go_on, hit, rotate_left, rotate_right};
+use device_objects::slot::{SlotStep, slot_in_use, step_in_use};
 use device_objects::{BankSlot, Device, DeviceState, Outcome, World};
 use plan_tables::{Act, BankSettings, DeviceRow, Settings};
 
@@ -84,12 +82,40 @@ impl Device for ShotBank {
     }
 
     fn act(&mut self, act: Act, _now: u64, world: World) -> Outcome {
-        step_slots(&self.settings, &mut self.slots, act, world)
+        let at = slot_in_use(true, world);
+        let step = ActInWorld {
+            settings: self.settings,
+            act,
+            world,
+        };
+        step_in_use(&mut self.slots, at, &step)
+    }
+}
+
+/// An act, in this world.
+#[derive(Clone, Copy)]
+struct ActInWorld {
+    settings: BankSettings,
+    act: Act,
+    world: World,
+    ghost limits: { IsWithinLimits (kinds.Bank settings) },
+}
+
+impl SlotStep<BankSlot> for ActInWorld {
+    type Seen = BankSlot;
+
+    ghost seen = { λ slot. slot };
+
+    ghost step_of = { λ s slot. slot_step s.settings s.act (current s.settings s.world slot) };
+
+    fn step(&self, slot: &mut BankSlot) -> Outcome {
+        *slot = current(&self.settings, self.world, *slot);
+        step(&self.settings, slot, self.act)
     }
 }
 
 /// Whether a plan can have such a bank.
-fn is_within(settings: &BankSettings) -> bool
+pub(crate) fn is_within(settings: &BankSettings) -> bool
     ensures { IsTrue result ↔ IsWithinLimits (kinds.Bank settings.now) }
 {
     settings.shots <= 16 && settings.last_state <= 15
@@ -117,33 +143,6 @@ fn current(settings: &BankSettings, world: World, slot: BankSlot) -> BankSlot
     }
 }
 
-/// The slot of the current player, if there is one.
-fn slot_in_use(world: World) -> Option<usize>
-    ensures { result ≡ slot_in_use true world }
-{
-    if world.player == 0 {
-        return None;
-    }
-    Some(world.player - 1)
-}
-
-/// A shot is hit in this state.
-fn hit(settings: &BankSettings, slot: &mut BankSlot, shot: usize, state: u8) -> Outcome
-    requires limits { IsWithinLimits (kinds.Bank settings.now) }
-    requires shot { shot < settings.now.shots }
-    ensures slot { slot.new ≡ (hit settings.now shot state slot.old).0 }
-    ensures outcome { result.items ≡ (hit settings.now shot state slot.old).1 }
-{
-    let mut lists = hit_lists(settings, shot, state);
-    if settings.advance_on_hit {
-        go_on(settings, &mut slot.states, shot, state);
-        if is_complete(settings, state, &slot.states) {
-            lists.push(group_complete(settings, next_state(settings, state)));
-        }
-    }
-    lists
-}
-
 /// A shot of this number is hit, which does nothing where it is disabled.
 fn take_hit(settings: &BankSettings, slot: &mut BankSlot, shot: usize) -> Outcome
     requires { IsWithinLimits (kinds.Bank settings.now) }
@@ -157,7 +156,7 @@ fn take_hit(settings: &BankSettings, slot: &mut BankSlot, shot: usize) -> Outcom
     if state > settings.last_state {
         return Outcome::new();
     }
-    hit(settings, slot, shot, state)
+    hit(settings, &mut slot.states, shot, state)
 }
 
 /// A shot goes on, whether it is enabled or not.
@@ -188,21 +187,4 @@ fn step(settings: &BankSettings, slot: &mut BankSlot, act: Act) -> Outcome
         _ => {}
     }
     Outcome::new()
-}
-
-/// What an act does to the slot in use.
-fn step_slots(settings: &BankSettings, slots: &mut [BankSlot; 4], act: Act, world: World) -> Outcome
-    requires { IsWithinLimits (kinds.Bank settings.now) }
-    ensures slots { slots.new ≡ (bank_step settings.now (calls.Act act) world slots.old).0 }
-    ensures outcome { result.items ≡ (bank_step settings.now (calls.Act act) world slots.old).1 }
-{
-    match slot_in_use(world) {
-        Some(i) if i < 4 => {
-            let mut slot = current(settings, world, slots[i]);
-            let lists = step(settings, &mut slot, act);
-            slots[i] = slot;
-            lists
-        }
-        _ => Outcome::new(),
-    }
 }

@@ -2,6 +2,8 @@
 #![tactic(auto)]
 
 pub mod bank;
+pub mod mask_bank;
 mod shots;
 
 pub use bank::ShotBank;
+pub use mask_bank::MaskBank;

@@ -1,12 +1,13 @@
 //! The states of a bank's shots, and what moves them.
 
-ghost use Rattle.std.specs.Prelude.{◌≡◌, ◌<◌, ◌-◌, ◌==◌};
+ghost use Rattle.std.specs.Prelude.{◌≡◌, ◌<◌, ◌-◌, ◌==◌, ◌++◌, if◌then◌else◌};
 ghost use Rattle.std.specs.List.{list_all};
 ghost use Rattle.plan_tables.specs.Devices.{IsWithinLimits};
 ghost use Rattle.plan_tables.specs.declared.devices.Settings.TheVariants as kinds;
-ghost use Rattle.device_objects.specs.Bank.{are_all_in, gone_on, is_complete, turned};
+ghost use Rattle.device_objects.specs.Bank.{are_all_in, complete_lists, gone_on, hit_lists, is_complete, turned};
 
-use device_objects::bank::next_state;
+use device_objects::Outcome;
+use device_objects::bank::{group_complete, hit_lists, next_state};
 use plan_tables::BankSettings;
 
 /// A shot goes on from this state.
@@ -33,12 +34,29 @@ fn are_all_in(settings: &BankSettings, state: u8, states: &[u8; 16]) -> bool
 }
 
 /// Whether a hit of a shot in this state, which left the states so, has completed the group.
-pub(crate) fn is_complete(settings: &BankSettings, state: u8, states: &[u8; 16]) -> bool
+fn is_complete(settings: &BankSettings, state: u8, states: &[u8; 16]) -> bool
     requires { IsWithinLimits (kinds.Bank settings.now) }
     ensures { result ≡ is_complete settings.now state states.now }
 {
     let next = next_state(settings, state);
     settings.group && next != state && are_all_in(settings, next, states)
+}
+
+/// A shot is hit in this state, and goes on if hits move shots. Gives the lists of the hit.
+pub(crate) fn hit(settings: &BankSettings, states: &mut [u8; 16], shot: usize, state: u8) -> Outcome
+    requires limits { IsWithinLimits (kinds.Bank settings.now) }
+    requires shot { shot < settings.now.shots }
+    ensures states { states.new ≡ if settings.now.advance_on_hit then gone_on settings.now shot state states.old else states.old }
+    ensures outcome { result.items ≡ if settings.now.advance_on_hit then hit_lists settings.now shot state ++ complete_lists settings.now state (gone_on settings.now shot state states.old) else hit_lists settings.now shot state }
+{
+    let mut lists = hit_lists(settings, shot, state);
+    if settings.advance_on_hit {
+        go_on(settings, states, shot, state);
+        if is_complete(settings, state, states) {
+            lists.push(group_complete(settings, next_state(settings, state)));
+        }
+    }
+    lists
 }
 
 /// Each shot's state goes to the next shot, and the last one's to the first.
