@@ -12,6 +12,8 @@ mod blocks;
 #[cfg(test)]
 mod calls;
 #[cfg(test)]
+mod masks;
+#[cfg(test)]
 mod plain;
 #[cfg(test)]
 mod scripts;

@@ -7,14 +7,14 @@ use crate::settings::{draw, draw_device};
 use device_objects::{Device, World};
 
 /// What is called how often: blocks and timers, coils, and banks.
-const OF_BLOCKS: &[u8] = b"BEFFFFFFeeddraahiwugggqpmmlljccccccccccssssssssssssss";
+pub(crate) const OF_BLOCKS: &[u8] = b"BEFFFFFFeeddraahiwugggqpmmlljccccccccccssssssssssssss";
 
 const OF_COILS: &[u8] = b"BEFeeedaiiiiooih";
 
-const OF_BANKS: &[u8] = b"BEnbyxrtusehhhhhhhhhh";
+pub(crate) const OF_BANKS: &[u8] = b"BEnbyxrtusehhhhhhhhhh";
 
 /// The world changes now and then. Without a game there is no player.
-fn change_world(state: &mut u64, world: &mut World) {
+pub(crate) fn change_world(state: &mut u64, world: &mut World) {
     if draw(state, 6) == 0 {
         world.player = draw(state, 5) as usize;
     }
@@ -49,7 +49,7 @@ fn draw_change(state: &mut u64) -> i64 {
 }
 
 /// The letter and the number of a call. In an orderly walk it is most often a hit of this shot.
-fn draw_call(state: &mut u64, list: &[u8], orderly: bool, shot: i64) -> (u8, i64) {
+pub(crate) fn draw_call(state: &mut u64, list: &[u8], orderly: bool, shot: i64) -> (u8, i64) {
     if orderly && draw(state, 40) != 0 {
         return (b'h', shot);
     }
