@@ -7,13 +7,13 @@ use coil_rules::{Autofire, Flipper};
 use command_line::{Ask, AskFault, command};
 use config_checker::Checked;
 use device_objects::Device;
-use logic_blocks::{Accrual, Counter, Sequence, Timer};
+use logic_blocks::{Counter, MaskAccrual, Sequence, Timer};
 use mpf_config::{ConfigFault, MACHINE_NAME, mode_names, mode_text_name};
 use pinball_shell::{
     BUNDLE_LIMIT, Failure, ShellFault, Verdict, check_text, join, load_text, play_text, read_all,
     status, verify_text,
 };
-use shot_groups::ShotBank;
+use shot_groups::MaskBank;
 use std::alloc::{AllocError, Global};
 use std::io::{self, BufWriter, ErrorKind, Read, Write};
 use std::process::ExitCode;
@@ -152,13 +152,13 @@ fn play_log<L: Read, W: Write>(
     for row in checked.plan().rows() {
         let device: Box<dyn Device> = if let Some(counter) = Counter::new(row) {
             boxed(alloc, counter)?
-        } else if let Some(accrual) = Accrual::new(row) {
+        } else if let Some(accrual) = MaskAccrual::new(row) {
             boxed(alloc, accrual)?
         } else if let Some(sequence) = Sequence::new(row) {
             boxed(alloc, sequence)?
         } else if let Some(timer) = Timer::new(row) {
             boxed(alloc, timer)?
-        } else if let Some(bank) = ShotBank::new(row) {
+        } else if let Some(bank) = MaskBank::new(row) {
             boxed(alloc, bank)?
         } else if let Some(flipper) = Flipper::new(row) {
             boxed(alloc, flipper)?
