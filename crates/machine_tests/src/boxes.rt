@@ -15,7 +15,7 @@ use std::test::Fail;
 
 /// How often a device has been stopped, and how often it has been dropped.
 #[derive(Drop)]
-struct Counts {
+pub(crate) struct Counts {
     stops: Cell<u32>,
     drops: Cell<u32>,
 }
@@ -107,7 +107,7 @@ fn with_counts(
 }
 
 /// Adds for each box how often it has been stopped, and how often dropped.
-fn add_counts(out: &mut String, all: &[Rc<Counts>]) -> Result<(), AllocError> {
+pub(crate) fn add_counts(out: &mut String, all: &[Rc<Counts>]) -> Result<(), AllocError> {
     for counts in all {
         add(out, &(counts.stops.get(), counts.drops.get()))?;
     }
@@ -154,8 +154,8 @@ fn add_box(
     Ok(())
 }
 
-/// The boxes of the rows that the words name.
-fn boxes_of(
+/// The boxes of the rows that the words name. Their counts are added to the others.
+pub(crate) fn boxes_of(
     alloc: Global,
     checked: &Checked,
     words: &str,

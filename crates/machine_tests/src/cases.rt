@@ -5,6 +5,7 @@
 use crate::boards::boarded;
 use crate::boxes::boxed;
 use crate::checks::checked;
+use crate::exchanges::{exchanged, swapped};
 use crate::plans::{planned, queued};
 use crate::steps::{number_at, stepped};
 use mpf_config::{Config, read_bundle};
@@ -48,6 +49,8 @@ fn ask(alloc: Global, out: &mut String, config: &Config, question: &str) -> Resu
         "queue" => queued(alloc, out, rest),
         "check" => checked(alloc, out, config, rest),
         "boxes" => boxed(alloc, out, config, rest),
+        "exchange" => exchanged(alloc, out, config, rest),
+        "swap" => swapped(alloc, out, config, rest),
         "boards" => boarded(alloc, out, config, rest),
         "steps" => stepped(alloc, out, config, rest),
         "moments" => {

@@ -1,5 +1,5 @@
 //! Tests of the machine's layers, each over its public calls: plans, queues, weights, checks with
-//! their certificates, and rigs: their boxes, their steps and their boards.
+//! their certificates, and rigs: their boxes, their steps, their boards and their exchanges.
 #![tactic(auto)]
 
 #[cfg(test)]
@@ -10,6 +10,10 @@ mod boxes;
 mod cases;
 #[cfg(test)]
 mod checks;
+#[cfg(test)]
+mod exchanged_runs;
+#[cfg(test)]
+mod exchanges;
 #[cfg(test)]
 mod plans;
 #[cfg(test)]
