@@ -29,15 +29,13 @@ fn add_entry(out: &mut String, plan: &Plan, word: &str, number: u16) -> Result<(
     }
 }
 
-/// Adds the first two handlers of the event of this name, or of an event that no plan has, and the
-/// first step of a walk over them.
+/// Adds the first two handlers of the event of this name, or of an event that no plan has.
 fn handled(alloc: Global, out: &mut String, plan: &Plan, name: &str) -> Result<(), AllocError> {
     let handlers = Handlers::new(alloc, plan)?;
     let event = plan
         .find_event(name.as_bytes())
         .unwrap_or(EventId(u16::MAX));
-    let [first, second] = [handlers.nth(event, 0), handlers.nth(event, 1)];
-    add(out, &(first, second, handlers.next(event, 0)))
+    add(out, &(handlers.nth(event, 0), handlers.nth(event, 1)))
 }
 
 /// Adds the least weights, up to the first event that has none, or why there are none.
@@ -287,10 +285,10 @@ event_player:
   a: x
   b: x
 ?
-handlers a => (Some(BindingId(0)), None, Some((BindingId(0), 1)))
-handlers b => (Some(BindingId(1)), None, Some((BindingId(1), 1)))
-handlers x => (None, None, None)
-handlers none => (None, None, None)";
+handlers a => (Some(BindingId(0)), None)
+handlers b => (Some(BindingId(1)), None)
+handlers x => (None, None)
+handlers none => (None, None)";
 
 const QUEUES: &str = "\
 ?
