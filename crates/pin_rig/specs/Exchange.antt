@@ -1,4 +1,4 @@
--- Which device may take the place of another one, what the one that comes out is, and what exchanges change.
+-- Which device may take the place of another one, what comes out, and that exchanges leave the steps as they are.
 use Rattle.std.specs.Prelude.{◌≡◌, ◌≢◌, ℕ, ◌<◌, ◌≤◌, None, List, [], ◌∷◌, ◌++◌, length, codes}
 use Rattle.plan_tables.specs.PlanView.{row_at}
 use Rattle.plan_tables.specs.declared.devices.DeviceRow.{DeviceRow}
@@ -16,14 +16,14 @@ use Rattle.pin_rig.specs.declared.input.Input.{Input}
 use Rattle.pin_rig.specs.Rig.{RigView, RigStep}
 use Rattle.pin_rig.specs.Steps.{AreSteps}
 
--- the number with which it is printed
+-- its number
 abbrev pub refusal_number : Refusal → ℕ
 refusal_number Halted = 1
 refusal_number NoSuchRow = 2
 refusal_number WrongRow = 3
 refusal_number WrongState = 4
 
--- the name with which it is printed
+-- its name
 abbrev pub refusal_name : Refusal → List ℕ
 refusal_name Halted = codes "Halted"
 refusal_name NoSuchRow = codes "NoSuchRow"
@@ -64,8 +64,9 @@ EjectsNothing (states.Flipper s) = Unit {0}
 EjectsNothing (states.Autofire s) = Unit {0}
 EjectsNothing (states.BallDevice s) = s.eject ≡ Idle
 
--- A device of this row, in this state, is the one that was there, after it was told, at the moment of the latest stimulus,
--- that its mode stops. Nothing of it is due.
+-- A device of this row, in this state, may be the one that was there, once it has stopped: it has the same row, and
+-- the state to which the stop of its mode leads at the moment of the latest stimulus. Nothing of it is due, and it
+-- ejects no ball.
 pub record IsTakenOut (rig : RigView) (number : RowId) (row : DeviceRow) (state : DeviceState) : Type 0 where
   pub row_is : row ≡ row_at rig.checked.plan number
   pub state_is : state ≡ stopped_state rig.machine.moment (world_of rig.machine) (row_at rig.checked.plan number) (device_at rig.machine number)

@@ -1,4 +1,4 @@
-//! Why a device is not exchanged, and what exchanges change.
+//! Why a device is not exchanged, and that exchanges leave the steps as they are.
 
 ghost use Rattle.std.specs.Prelude.{◌≡◌};
 ghost use Rattle.pin_rig.specs.Exchange.{refusal_number, refusal_name, ExchangesLeaveTheSteps};
@@ -21,7 +21,7 @@ pub enum Refusal {
 }
 
 impl Refusal {
-    /// The number with which it is printed.
+    /// Its number, from 1 to 4.
     pub fn number(&self) -> u32
         ensures { result ≡ refusal_number self.now }
     {
@@ -33,7 +33,7 @@ impl Refusal {
         }
     }
 
-    /// The name with which it is printed.
+    /// Its name.
     pub fn name(&self) -> &'static str
         ensures { result.now ≡ refusal_name self.now }
     {

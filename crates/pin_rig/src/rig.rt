@@ -180,11 +180,11 @@ impl<'c, D: Device, B: Board> Rig<'c, D, B> {
         &self.core.lines()[..self.shown]
     }
 
-    /// Puts a device in the place of the device of a row, while the machine runs. It has to be a
-    /// device of that row, in the state that `state` gives. Apart from that nothing changes: each later
-    /// call answers what it would have answered without the exchange. Gives the device that was
-    /// there, after it was told, at the moment of the latest stimulus, that its mode stops. So
-    /// nothing of it is due, and it ejects no ball. What it answers is left out. No memory is taken.
+    /// Puts a device in the place of the device of a row, while the machine runs. The new one has to
+    /// be a device of that row, in the state that `state` gives. Nothing else changes: each later call
+    /// answers what it would have answered without the exchange. The device that was there is told
+    /// that its mode stops, at the moment of the latest stimulus, and is given back. So nothing of it
+    /// is due, and it ejects no ball. What it answers to that is left out. No memory is taken.
     ///
     /// # Errors
     ///
