@@ -9,12 +9,16 @@ where it is wanted. A module is one subject:
     sections    what each section may hold
     bundle      texts, entries, notes, and the errors of a configuration
     plan        numbers by first use, rows, bindings
-    devices     one class a kind of device: its lists, what it may answer, and what it does
+    devices     a class for each kind of device: its lists, what it may answer, and what it does
+    coils       what a coil may do, and what it does
     faults      faults 1 to 6
     costs       weights, bounds, cycles
     certificate the text of a certificate
     machine     the run of a log
     answers     what the three commands print
 
-and, to draw what is compared: `draw` (machines), `layout` (their texts), `logs`, `damage`, `cascades`.
+These draw what is compared: `draw` (machines), `plant` (faults in them), `odd` (values and texts that are seldom
+right), `layout` (the texts of a machine), `logs`, and `damage` (of bundles, certificates and logs). `cascades` draws
+small machines, and has a model of its own for them. `compare` asks the program and the model, and `coverage` says how
+often each thing has to come up.
 """

@@ -36,7 +36,7 @@ class Accepted:
 
 
 class Machine:
-    """The state of a run, and the lines that it has printed. `seen` counts what came up, for who wants to know."""
+    """The state of a run, and the lines that it has printed. `seen` counts what came up."""
 
     def __init__(self, plan: Plan):
         self.plan, self.now = plan, 0

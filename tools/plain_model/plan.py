@@ -59,7 +59,7 @@ class Plan:
         self.bindings: list[Binding] = []
         self.coils = {name: Coil(entry) for name, entry in config.named("coils").items()}
         self.modes = {part.owner: part for part in config.parts[1:]}
-        self.banks: dict[str, tuple[Device, int]] = {}  # of a grouped shot: its bank, and its place in that
+        self.banks: dict[str, tuple[Device, int]] = {}  # of a grouped shot: its bank, and its place in it
         self.profiles = config.named("shot_profiles")
         self.make_groups()
         for part in config.parts:
@@ -172,7 +172,7 @@ class Plan:
             self.rows.append(device)
 
     def device(self, entry: Entry, owner: str) -> tuple[Device | None, int | None]:
-        """The device of an entry, and its place in that if it is a shot of a group."""
+        """The device of an entry, and the place of the entry in it, if that is a shot of a group."""
         simple = {"counters": Counter, "accruals": Accrual, "sequences": Sequence, "timers": Timer}
         if entry.section in simple:
             return simple[entry.section](owner, entry), None
