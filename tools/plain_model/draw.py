@@ -263,7 +263,8 @@ class Drawing:
         """A coil that a mode holds from its start on."""
         mode, coil = self.draw.choice([*self.modes, None]), self.holding_coil()
         if mode and coil:
-            self.section(mode, "coil_player").setdefault(f"mode_{mode}_started", {})[coil] = "enable"
+            for what in self.draw.choice([["started"], ["started", "stopping"]]):
+                self.section(mode, "coil_player").setdefault(f"mode_{mode}_{what}", {})[coil] = "enable"
 
     def block(self, entry: Data) -> Data:
         answers = self.one("yes", "no", "no", "false")
