@@ -222,7 +222,8 @@ class Drawing:
 
     def dear_event(self) -> None:
         """One event that posts much. So the bound says what may post it."""
-        event = self.draw.choice(self.events)
+        of_balls = [event for event in self.events if event.startswith("balldevice_")]
+        event = self.draw.choice(of_balls if of_balls and self.chance(0.4) else self.events)
         self.section(self.owner(), "event_player")[event] = Names(["much"] * self.draw.choice([20, 50, 100]))
 
     def start_again(self) -> None:
@@ -262,7 +263,8 @@ class Drawing:
         """A coil that a mode holds from its start on."""
         mode, coil = self.draw.choice([*self.modes, None]), self.holding_coil()
         if mode and coil:
-            self.section(mode, "coil_player").setdefault(f"mode_{mode}_started", {})[coil] = "enable"
+            for what in self.draw.choice([["started"], ["started", "stopping"]]):
+                self.section(mode, "coil_player").setdefault(f"mode_{mode}_{what}", {})[coil] = "enable"
 
     def block(self, entry: Data) -> Data:
         answers = self.one("yes", "no", "no", "false")
@@ -401,7 +403,7 @@ class Drawing:
             self.optional(entry, 0.4, eject_timeouts=self.one("2s", "5s", "1000"))
             self.optional(entry, 0.25, entrance_count_delay=self.one("1", "100", "0.5s"))
             self.optional(entry, 0.25, exit_count_delay=self.one("1", "200"))
-            self.optional(entry, 0.4, max_eject_attempts=self.one("0", "1", "2", "3"))
+            self.optional(entry, 0.5, max_eject_attempts=self.one("0", "1", "1", "2", "3"))
             section[name] = self.settle(entry)
             names.append(name)
             self.drawn.balls[name] = taken

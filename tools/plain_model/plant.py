@@ -8,7 +8,7 @@ from .bundle import MACHINE_TEXT
 from .draw import Data, Drawn
 from .layout import Names, Raw
 from .plan import GAME_EVENTS
-from .sections import PLAYERS, SETTINGS
+from .sections import MACHINE_ONLY, PLAYERS, SETTINGS
 
 NAMING = {"main_coil", "hold_coil", "coil", "eject_coil", "activation_switch", "switch", "profile", "eject_targets"}
 REQUIRED = {"main_coil", "activation_switch", "coil", "switch", "ball_switches", "count_events", "events", "shots"}
@@ -154,7 +154,7 @@ class Planter:
         for entry in devices.values():
             entry.setdefault("ball_switches", Names())
         one, other = (devices[self.draw.choice([*devices])] for _ in range(2))
-        kind = self.draw.randrange(6)
+        kind = self.draw.randrange(5)
         if kind == 0:
             one["eject_targets"] = self.draw.choice([*devices, "nowhere"])
         elif kind == 1:
@@ -164,11 +164,11 @@ class Planter:
         elif kind == 3:
             one.pop("eject_coil", None)
             one["mechanical_eject"] = "no"
-        elif kind == 4:
-            one["tags"] = Names(["trough"])
         else:
-            one.pop("eject_coil", None)
-            one |= {"mechanical_eject": "yes", "tags": Names(["trough"])}
+            one["tags"] = Names(["trough"])
+            if self.chance(0.6):
+                one.pop("eject_coil", None)
+                one["mechanical_eject"] = "yes"
 
     # Faults 7 to 9
 
@@ -206,7 +206,7 @@ class Planter:
 
     def bound(self) -> None:
         """A chain that fans out, to a weight or a bound about the limit."""
-        section, width = self.anywhere("event_player"), self.draw.choice([9, 10, 10, 21])
+        section, width = self.anywhere("event_player"), self.draw.choice([9, 10, 10, 10, 21])
         for step in range(4 if width < 20 else 3):
             section[f"fan{step}"] = Names([f"fan{step + 1}"] * width)
         if self.chance(0.5):
@@ -269,13 +269,14 @@ class Planter:
 
     def twice(self) -> None:
         """An entry in two texts."""
-        sections = [section for section in SETTINGS if section not in ("mode", "game", "machine")]
-        found = [(section, name) for section in sections for _, name in self.entries(section)]
+        sections = [section for section in SETTINGS if section not in (*MACHINE_ONLY, "mode")]
+        found = [(section, entries, name) for section in sections for entries, name in self.entries(section)]
         if found:
-            section, name = self.draw.choice(found)
-            other = self.draw.choice([*self.drawn.texts.values()]).setdefault(section, {})
+            section, entries, name = self.draw.choice(found)
+            others = [text for text in self.drawn.texts.values() if text.get(section) is not entries]
+            other = self.draw.choice(others or [{}]).setdefault(section, {})
             if isinstance(other, dict):
-                other.setdefault(name, self.draw.choice(["", {"label": "a"}]))
+                other.setdefault(name, self.draw.choice([entries[name], entries[name], "", {"label": "a"}]))
 
     def bad_name(self) -> None:
         found = self.entries(*SETTINGS, *PLAYERS)
@@ -329,7 +330,7 @@ KINDS = """wrong_name unknown_member reserved_post reserved_variable group pulse
     junk""".split()
 SHARES = {"limit": 2.0, "wait_queue": 0.3, "version": 0.3, "depth": 0.7, "texts": 0.4, "inner_setting": 0.5}
 SHARES |= {"section": 0.5, "long_list": 0.7, "junk": 1.5, "twice": 2.0, "missing": 1.5}
-SHARES |= {"cycle": 1.5, "bound": 2.0, "hold": 1.5, "timer": 1.5, "pulse": 1.5, "route": 1.5}
+SHARES |= {"cycle": 1.5, "bound": 3.0, "hold": 1.5, "timer": 1.5, "pulse": 1.5, "route": 1.5}
 
 
 def plant(draw: random.Random, drawn: Drawn) -> None:
