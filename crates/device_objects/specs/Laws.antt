@@ -46,9 +46,10 @@ pub record HasBallShape (d : BallSettings) (s : BallState) : Type 0 where
   pub eject : IsEjectOf d s.eject
   pub wanted : s.wanted ≤ 255
 
--- A state of the shape that the settings ask for: of their kind, with four slots, and in each as many marks, flags and
--- states as a slot has. What the device acts on is within the settings. What it passes over may be anything: a mark of a
--- step that an accrual does not have, and a next step that a sequence does not have.
+-- A state of the shape that the settings ask for. It is of their kind. A block or a bank has four slots, in each of
+-- which an accrual has 16 marks, and a bank its flags and 16 states of its profile. `HasBallShape` says what a ball
+-- device has. All else may be anything, such as a mark of a step that an accrual does not have, or a next step that a
+-- sequence does not have.
 abbrev pub HasShape : Settings → DeviceState → Type 0
 HasShape (kinds.Counter c) state = IsSomeAnd (counter_slots state) (λ slots. length slots ≡ 4)
 HasShape (kinds.Accrual a) state =

@@ -1,4 +1,4 @@
--- The slots of a logic block: one a player, or one for all.
+-- The slots of a device: one for each player, or one for all.
 use Rattle.std.specs.Prelude.{ℕ, ◌-◌, ◌==◌, Bool, not, ◌&&◌, if◌then◌else◌, Option, None, Some, List, [], slice_get, slice_set}
 use Rattle.device_objects.specs.declared.state.World.{World}
 

@@ -7,7 +7,7 @@ use crate::device::Outcome;
 use crate::state::World;
 
 /// The slot on which a device acts: the current player's, where each player has one, and else the first.
-/// None where there is no current player.
+/// None where each player has a slot and there is no current player.
 pub fn slot_in_use(persist: bool, world: World) -> Option<usize>
     ensures { result ≡ slot_in_use persist world }
 {

@@ -36,7 +36,7 @@ in_order plan running e = by_priority plan (handlers plan running e)
 
 -- ---- the law
 
--- That is plan order, and no other order of the handlers is. It is one of the orders in which handlers may run.
+-- `in_order` is plan order, and no other order of the handlers is. It is one of the orders in which handlers may run.
 pub record HandlersAreInPlanOrder : Type 0 where
   pub is : (plan : PlanView) (running : List Bool) (e : EventId) → IsPlanOrder plan (handlers plan running e) (in_order plan running e)
   pub only : (plan : PlanView) (running : List Bool) (e : EventId) (order : List BindingId) → IsPlanOrder plan (handlers plan running e) order → order ≡ in_order plan running e

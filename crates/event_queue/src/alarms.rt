@@ -50,7 +50,7 @@ impl Alarms {
     }
 
     /// From now on a row is due at this moment, or not at all. Nothing else changes. The place of
-    /// an alarm is found by halving, and of the others those move that are on the shorter side.
+    /// an alarm is found by halving. Only the alarms on the shorter side of it move.
     pub fn set(&mut self, row: RowId, due: Option<u64>)
         requires { row.0 < length self.old }
         ensures { self.new ≡ slice_set self.old row.0 due }

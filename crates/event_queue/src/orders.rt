@@ -64,7 +64,7 @@ fn rooms(alloc: Global, plan: &Plan) -> Result<Vec<Vec<BindingId>>, AllocError>
     Ok(orders)
 }
 
-/// The binding at a place, which did not take part, does so.
+/// The binding at a place takes part from now on. It did not before.
 pub(crate) fn add_place(orders: &mut Vec<Vec<BindingId>>, plan: &Plan, place: BindingId)
     requires place { place.0 < length plan.now.bindings }
     requires orders { (takes : Place → Bool) × HasOrders plan.now takes orders.old.items × (takes place ≡ false) }
@@ -74,7 +74,7 @@ pub(crate) fn add_place(orders: &mut Vec<Vec<BindingId>>, plan: &Plan, place: Bi
     put_in(&mut orders[event.0 as usize], plan, place);
 }
 
-/// The binding at a place, which took part, does so no more.
+/// The binding at a place takes part no more. It did before.
 pub(crate) fn drop_place(orders: &mut Vec<Vec<BindingId>>, plan: &Plan, place: BindingId)
     requires place { place.0 < length plan.now.bindings }
     requires orders { (takes : Place → Bool) × HasOrders plan.now takes orders.old.items × (takes place ≡ true) }

@@ -491,10 +491,11 @@ impl<'p, D: Device> Core<'p, D> {
         devices
     }
 
-    /// Puts a device in the place of the device of a row, which has to be one of the plan. It has to be a
-    /// device of that row, in the state that `state` gives. The core stays as it is, and takes no
-    /// memory. Gives the device that was there, after it was told, at the moment of the latest
-    /// stimulus, which has to be before 2^40 ms, that its mode stops. What it answers is left out.
+    /// Puts a device in the place of the device of a row. The plan has to have this row. The new one has
+    /// to be a device of that row, in the state that `state` gives. The moment of the latest stimulus
+    /// has to be before 2^40 ms: at this moment the device that was there is told that its mode stops.
+    /// Then it is given back, and what it answers is left out. The core stays as it is, and takes no
+    /// memory.
     pub fn exchange(&mut self, row: RowId, device: D) -> D
         requires there { row.0 < length self.old.machine.devices }
         requires moment { self.old.machine.moment < 2 ^ 40 }

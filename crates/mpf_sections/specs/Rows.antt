@@ -1,5 +1,5 @@
--- The rows of a section, apart from where they lie in memory. Where an entry has an `order`, it is that of its settings
--- that are written: their places in the section's table, as they are written.
+-- The rows of a section, apart from where they lie in memory. The `order` of an entry has the places in the section's
+-- table of the settings that are written, in the order in which they are written.
 use Rattle.std.specs.Prelude.{ℕ, ℤ, Bool, List, Option}
 use Rattle.mpf_sections.specs.declared.words.Contact.{Contact}
 use Rattle.mpf_sections.specs.declared.words.Debounce.{Debounce}

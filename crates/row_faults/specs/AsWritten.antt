@@ -18,14 +18,14 @@ ordered_by number (x ∷ xs) = put_by number x (ordered_by number xs)
 
 -- ---- settings, by their places in the section's table
 
--- how many settings are written before the one at a place; all that are written, where it is not
+-- how many settings are written before the one at a place; if that one is not written, how many are written
 abbrev pub written_before : List ℕ → ℕ → ℕ
 written_before order place = unwrap_or (position (λ p. p == place) order) (length order)
 
--- what settings have, each with its place: first that of the setting that is written first
+-- what settings have, each given with its place, in the order in which the settings are written
 unfoldable pub in_order : {X : Type 0} → List ℕ → List (ℕ × List X) → List X
 in_order order parts = flat_map (λ part. part.1) (ordered_by (λ part. written_before order part.0) parts)
 
--- the same, each with the key of the setting
+-- the same, where each is given with the key of its setting
 abbrev pub as_written : {X : Type 0} → List Setting → List ℕ → List (List ℕ × List X) → List X
 as_written table order parts = in_order order (map (λ part. (place_of table part.0, part.1)) parts)

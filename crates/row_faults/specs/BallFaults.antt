@@ -26,7 +26,7 @@ eject_coil_faults machine text (Some w) = coil_name_faults machine text w
 abbrev pub target_faults : List SectionRows → List ℕ → Written → List RowFaultView
 target_faults machine text w = fault_if (not (is_place machine w.text)) Name text w
 
--- names that no entry defines, as the settings are written
+-- names that no entry defines, in the order in which the settings are written
 abbrev pub ball_device_faults : List SectionRows → List ℕ → BallDevice → List RowFaultView
 ball_device_faults machine text d =
     as_written tables.ball_devices d.order

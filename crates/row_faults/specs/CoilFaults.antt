@@ -76,7 +76,7 @@ abbrev pub hold_faults : List SectionRows → List ℕ → Flipper → Option Wr
 hold_faults machine text f None = []
 hold_faults machine text f (Some w) = hold_faults_by text f w (coil_called machine w.text)
 
--- what is wrong with the settings of an entry, as they are written
+-- what is wrong with the settings of an entry, in the order in which they are written
 abbrev pub flipper_faults : List SectionRows → List ℕ → Flipper → List RowFaultView
 flipper_faults machine text f =
     as_written tables.flippers f.order

@@ -10,7 +10,7 @@ use Rattle.row_faults.specs.CoilFaults.{switch_name_faults, hold_faults}
 use Rattle.row_faults.specs.ShotFaults.{shot_switch_faults, profile_faults}
 use Rattle.row_faults.specs.BallFaults.{eject_coil_faults, target_faults}
 
--- what is wrong with it
+-- what is wrong with what a setting names
 abbrev pub named_faults : Rows → List ℕ → Named → List RowFaultView
 named_faults rows text (named.Coil w) = eject_coil_faults rows.machine text (option_map name_at_view w)
 named_faults rows text (named.HoldCoil f) = hold_faults rows.machine text (flipper_view f) (flipper_view f).hold_coil

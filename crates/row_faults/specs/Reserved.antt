@@ -37,7 +37,7 @@ is_reserved rows name = is_reserved_by (events_of_modes (mode_names rows)) name
 
 -- ---- posts as written
 
--- when a switch becomes active, and when it becomes inactive
+-- what a switch posts besides its own events, when it becomes active and when it becomes inactive
 abbrev pub switch_posts : Switch → List Written
 switch_posts s =
     as_written tables.switches s.order ((codes "events_when_activated", s.activated) ∷ (codes "events_when_deactivated", s.deactivated) ∷ [])

@@ -23,6 +23,7 @@ pub(crate) enum Named<'a> {
     HoldCoil(Flipper<'a>),
     /// A switch, if it names one.
     Switch(Option<NameAt<'a>>),
+    /// Switches.
     Switches(&'a [Name]),
     /// The profile of a shot.
     Profile(NameAt<'a>),
@@ -37,7 +38,8 @@ fn place_in(order: &[usize], place: usize) -> Option<usize>
     order.iter().position(|p| *p == place)
 }
 
-/// The same; all that are written, where it is not.
+/// How many settings are written before the one at this place; if it is not written, how many are
+/// written.
 fn written_before(order: &[usize], place: usize) -> usize
     ensures { result ≡ written_before order.now place }
 {

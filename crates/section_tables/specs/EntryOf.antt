@@ -168,8 +168,8 @@ place_found (Some found) = found.0 ∷ []
 abbrev pub places_written : List Setting → List Pair → List ℕ
 places_written table pairs = flat_map (λ p. place_found (found_in setting_key p.key table)) pairs
 
--- An entry of a section with this table: a name, the row of its mapping, and the settings that are written, as they are
--- written.
+-- An entry of a section with this table: a name, the row of its mapping, and the places of the settings that are
+-- written, in the order in which they are written.
 pub record IsEntry (longest : ℕ) (table : List Setting) (p : Pair) (e : Entry) : Type 0 where
   pub is_name : IsName p.key
   pub name : e.name ≡ written_at p.line p.key

@@ -260,9 +260,9 @@ fn overwrite(
     Ok(())
 }
 
-/// The row of the pairs of an entry, whose places in the table are added to the order; or the first
-/// fault: those of the settings as they are written, and then `Missing` at the spot, with the first
-/// key of the table that is required and not written.
+/// The row of the pairs of an entry. The places in the table of the settings that are written are
+/// added to the order. Or the first fault: those of the settings as they are written, and then
+/// `Missing` at the spot, with the first key of the table that is required and not written.
 #[tactic(auto, unfolding(crate::specs::Reading::row_at))]
 pub fn values(
     alloc: Global,

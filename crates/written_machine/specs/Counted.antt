@@ -69,8 +69,8 @@ abbrev pub level_after : Option LevelChange → Bool
 level_after None = false
 level_after (Some c) = c.active
 
--- Whether a ball counts at a ball switch at a moment: by the last of its changes that are not undone and count by then,
--- and without one not.
+-- Whether a ball counts at a ball switch at a moment: what the last of its changes says that are not undone and count by
+-- then. If there is none, no ball counts.
 abbrev pub counted_level : BallSettings → Bool → ℕ → List LevelChange → Bool
 counted_level d quick moment changes =
     level_after (last_or None (filter (λ c. nat_le (counts_from d c) moment) (not_undone d quick changes)))

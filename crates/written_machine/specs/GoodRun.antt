@@ -1,5 +1,5 @@
--- What is promised of every run of an accepted plan: `IsGood`, at the end of this file. Each clause of the headline is
--- a record of its own, in the headline's order. A fifth record has what is promised besides.
+-- What is promised of every run of an accepted plan: `IsGood`, at the end of this file. Each clause of the headline
+-- (docs/promises.md) is a record of its own, in the headline's order. A fifth record has what is promised besides.
 --
 -- To know what the words mean, read on in this order:
 -- 1. `Run`: what stimuli and runs are, and what `InEveryRun` and `InEveryCascade` say;
@@ -81,7 +81,7 @@ pub record StoppedModesAreSilent (c : CheckedView) : Type 0 where
       (m : ModeId) (coil : CoilId) → m.0 < length c.plan.modes →
       is_held_for (sendings trace) (owners.Mode m) coil ≡ true → HasStarted c.plan m trace)
 
--- The known balls are exactly those in devices, on their way between them, and on the playfield.
+-- The known balls are exactly those in devices, on their way, and on the playfield.
 pub record BallsAreAccountedFor (c : CheckedView) : Type 0 where
   -- Each known ball is in a device, on its way, or on the playfield.
   pub somewhere : InEveryRun c.plan (λ stimuli trace s. IsBalanced s.ledger)

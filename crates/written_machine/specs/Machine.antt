@@ -214,11 +214,11 @@ book owner call s =
 abbrev pub drain_if : PlanView → Owner → Bool → Machine → Machine
 drain_if plan owner drain s = if drain && is_ball_on s.game.phase then post owner (game_event plan BallDrain) s else s
 
--- Most functions from here to `call_device` come twice: as `.._by`, with an argument `confirm`, and without it. An effect
--- list acts on another device in one case alone: a ball enters a device, and the device that has ejected it is told. That
--- device answers with lists too, but by these no ball enters a device. So lists nest one deep, and nothing here calls
--- itself: `call_device` is `call_device_by` where `confirm` is `confirm_entry`, which calls the other device by
--- `call_device_by` where `confirm` is `no_confirm`.
+-- An effect list acts on another device in one case alone: a ball enters a device, and the first device that is Away
+-- to it is told. In accepted plans no ball enters a device by what that one answers. So lists nest one deep, and
+-- nothing here calls itself. `do_action`, `do_list`, `do_answer` and `call_device` come twice. With `_by` at the end
+-- they have an argument `confirm`, which tells the other device. Without it, `confirm` is `confirm_entry`. This calls
+-- the other device by `call_device_by`, where `confirm` is `no_confirm`, which tells nobody.
 
 -- After a ball has entered a device: where it was on its way there, that is confirmed; else it may have drained.
 abbrev pub after_entry : PlanView → (RowId → Machine → Machine) → Owner → RowId → Bool → Origin → Machine → Machine

@@ -4,14 +4,15 @@ ghost use Rattle.written_machine.specs.AcceptedRuns.{AcceptedIsGood};
 ghost use Rattle.written_machine.specs.Devices.{DevicesKeepTheirShape};
 ghost use Rattle.written_machine.specs.AlarmsEnd.{StimuliArmLater, AlarmsAreDone, AlarmsEnd};
 
-/// The law of what is accepted, for every valid plan, weights and bound. If each event has a
-/// weight, the weights fit, the bound is theirs, and neither a weight nor the bound is above
-/// 10,000, then every run of the plan is good, as `check` promises it.
+/// The law of what is accepted, for every plan, weights and bound: if they are accepted
+/// (`IsAccepted`), as `check` and `check_with` promise of what they give, every run of the plan is
+/// good. It does not matter who found the weights.
 ///
-/// It does not matter who found the weights. Any weights that `cascade_rank::verify` takes for a
-/// plan bound every run of it. After each event step, the lines since the stimulus and the weights
-/// of the waiting events add up to no more than what the stimulus costs by these weights. No
-/// stimulus causes more lines or event steps than the bound that `verify` gives.
+/// Two parts of that ask for less. Any weights that `cascade_rank::verify` takes for a valid plan
+/// bound every run of it. After each event step, the lines since the stimulus and the weights of the
+/// waiting events add up to no more than what the stimulus costs by these weights. No stimulus causes
+/// more lines or event steps than the bound that `verify` gives (`cascades`). And in every run of a
+/// valid plan each switch has the level that follows from its raw changes (`levels`).
 ///
 /// It does nothing: its contract is the law, over all runs of the written machine.
 pub fn accepted_is_good()
