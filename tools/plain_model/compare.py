@@ -37,10 +37,6 @@ FORMS = re.compile(
 )
 
 
-class Differs(Exception):
-    """The program answers something else than the model."""
-
-
 @dataclass
 class Found:
     """What was compared: how many inputs, and what came up in how many of them. `differences` are full reports."""

@@ -8,7 +8,6 @@ import re
 
 from .yaml_text import Entries, Items, Node, Scalar
 
-Data = "str | dict[str, Data] | list[Data]"
 STEPS = [2, 2, 2, 4, 1, 3]
 COMMENTS = ["# left: right", "#", "# a 'note\"", "# [1, {2", "#\ttabs\t"]
 
