@@ -1,6 +1,6 @@
--- An action, and then what it confirms; and the first device that is Away to a target.
-use Rattle.std.specs.Prelude.{◌&&◌, find}
-use Rattle.std.proofs.Common.{◌≡◌, ℕ, ◌+◌, ◌<◌, ◌≤◌, Bool, true, false, if◌then◌else◌, cond, Option, None, Some, List, length, filter, drop, refl, ap, sym, ◌∙◌, subst}
+-- An action, and then what it confirms; and the first device that is Away to a target, which is due.
+use Rattle.std.specs.Prelude.{◌&&◌, find, is_some}
+use Rattle.std.proofs.Common.{◌≡◌, ℕ, ◌+◌, ◌<◌, ◌≤◌, Bool, true, false, if◌then◌else◌, cond, Option, None, Some, option_map, List, [], ◌∷◌, length, map, filter, drop, refl, ap, sym, ◌∙◌, subst}
 use Rattle.std.proofs.lemmas.Bool.{and_parts, false≢true}
 use Rattle.plan_tables.specs.PlanView.{PlanView, feeds, row_at, row_numbers}
 use Rattle.plan_tables.specs.declared.entries.Action.{Action}
@@ -9,12 +9,21 @@ use Rattle.plan_tables.specs.declared.entries.Owner.{Owner}
 use Rattle.plan_tables.specs.declared.devices.BallTarget.{BallTarget}
 use Rattle.plan_tables.specs.declared.devices.BallTarget.TheVariants.{Device}
 use Rattle.plan_tables.specs.declared.devices.RowId.{RowId}
+use Rattle.device_objects.specs.declared.state.Eject.{Eject}
+use Rattle.device_objects.specs.declared.state.Eject.TheVariants.{Idle, Pulsing, Away}
+use Rattle.device_objects.specs.declared.state.DeviceState.{DeviceState}
+use Rattle.device_objects.specs.declared.state.DeviceState.TheVariants as states
+use Rattle.device_objects.specs.BallDevice.{is_away, first_due, timeout_of, earlier}
+use Rattle.device_objects.specs.DeviceStep.{due_of}
+use Rattle.event_queue.specs.Alarms.{least_of}
+use Rattle.event_queue.proofs.Least.{alarms_give_the_least}
 use Rattle.ball_devices.specs.declared.booking.Origin.{Origin}
 use Rattle.ball_devices.specs.declared.booking.Origin.TheVariants.{Awaited, Found, New}
 use Rattle.ball_devices.specs.Ledger.{origin_of}
 use Rattle.ball_devices.specs.Bookings.{is_awaited}
 use Rattle.ball_devices.specs.Bookings as calls_of_ledger
-use Rattle.written_machine.specs.Machine.{Machine, post, book, after_entry, do_action_by, do_action, no_confirm, confirm_first_away, confirm_entry, device_at, is_device_away}
+use Rattle.written_machine.specs.Machine.{Machine, post, book, after_entry, do_action_by, do_action, no_confirm, confirm_first_away, confirm_entry, device_at, first_away, is_device_away}
+use Rattle.written_machine.proofs.NextAlarms.{dues-at}
 use Rattle.machine_core.specs.Balls.{awaited_entry}
 use Rattle.machine_core.specs.Core.{CoreView, CanCall, HasRoom, after}
 use Rattle.machine_core.proofs.Going.{Goes, goes-none, goes-can, goes-confirm, goes-action_by, goes-no_confirm}
@@ -77,6 +86,42 @@ module _ (plan : PlanView) (owner : Owner) where
       pub done-alone : awaited_entry a old.machine ≡ None → now ≡ after (do_action plan owner a) old
       done-alone is =
           now_is ∙ ap (λ (s : Machine). after (λ t. s) old) (sym (action-parts (confirm_entry plan) a old.machine ∙ ap (λ (entry : Option RowId). confirmed (confirm_entry plan) entry alone) is))
+
+-- ---- a device that is Away is due
+
+and-false : (b : Bool) → false ≡ (b && false)
+and-false true = refl
+and-false false = refl
+
+-- it waits no longer than its timeout
+eject-due : (due : Option ℕ) (e : Eject) → is_away e ≡ (is_some (earlier due (timeout_of e)) && is_away e)
+eject-due due Idle = and-false (is_some (earlier due None))
+eject-due due (Pulsing a) = and-false (is_some (earlier due (Some a.timeout)))
+eject-due None (Away a) = refl
+eject-due (Some moment) (Away a) = refl
+
+pub away-due : (s : DeviceState) → is_device_away s ≡ (is_some (due_of s) && is_device_away s)
+away-due (states.Counter slots) = refl
+away-due (states.Accrual slots) = refl
+away-due (states.Sequence slots) = refl
+away-due (states.Timer s) = and-false (is_some s.due)
+away-due (states.Bank slots) = refl
+away-due (states.Flipper s) = refl
+away-due (states.Autofire s) = refl
+away-due (states.BallDevice s) = eject-due (option_map (λ a. a.0) (first_due s)) s.eject
+
+find-nothing : (p : RowId → Bool) (rows : List RowId) → ((r : RowId) → p r ≡ false) → find p rows ≡ None
+find-nothing p [] none = refl
+find-nothing p (r ∷ rows) none = ap (λ (b : Bool). cond b (Some r) (find p rows)) (none r) ∙ find-nothing p rows none
+
+-- where no device is due, none is Away
+pub none-away : (plan : PlanView) (target : BallTarget) (s : Machine) → least_of (map due_of s.devices) ≡ None → first_away plan target s ≡ None
+none-away plan target s none = find-nothing (λ r. is_device_away (device_at s r)) (filter (λ r. feeds target (row_at plan r).settings) (row_numbers plan)) not_away
+  where
+    not_away : (r : RowId) → is_device_away (device_at s r) ≡ false
+    not_away r =
+        let not_due : due_of (device_at s r) ≡ None = sym (dues-at s r) ∙ alarms_give_the_least.none (map due_of s.devices) none r in
+        away-due (device_at s r) ∙ ap (λ (due : Option ℕ). is_some due && is_device_away (device_at s r)) not_due
 
 -- ---- the first device that is Away to a target
 

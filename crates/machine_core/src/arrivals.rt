@@ -29,12 +29,16 @@ pub(crate) fn confirm<D: Device>(plan: &Plan, core: &mut Core<'_, D>, target: Ba
     }
 }
 
-/// The first device whose ball is on its way to the target.
+/// The first device whose ball is on its way to the target. It waits for the ball until its timeout,
+/// and so it is due: where no device is, none is looked at.
 fn first_away<D: Device>(plan: &Plan, core: &Core<'_, D>, target: BallTarget) -> Option<RowId>
     requires { HasDevices plan.now core.now.machine.devices }
     ensures first { result ≡ first_away plan.now target core.now.machine }
     ensures there { IfSome result (λ row. row.0 < length plan.now.rows) }
 {
+    if core.device_due().is_none() {
+        return None;
+    }
     for number in 0..plan.rows().len() {
         let row = RowId(number as u16);
         if is_away_to(plan, core, row, target) {
@@ -44,13 +48,14 @@ fn first_away<D: Device>(plan: &Plan, core: &Core<'_, D>, target: BallTarget) ->
     None
 }
 
-/// Whether the device's ball is on its way to the target.
+/// Whether the device's ball is on its way to the target. A state is large: only that of a device that
+/// is due is looked at.
 fn is_away_to<D: Device>(plan: &Plan, core: &Core<'_, D>, row: RowId, target: BallTarget) -> bool
     requires row { row.0 < length plan.now.rows }
     requires devices { HasDevices plan.now core.now.machine.devices }
     ensures { result ≡ (feeds target (row_at plan.now row).settings && is_device_away (device_at core.now.machine row)) }
 {
-    plan.row(row).settings.feeds(target) && is_away(&core.state(row))
+    plan.row(row).settings.feeds(target) && core.is_due(row) && is_away(&core.state(row))
 }
 
 /// Whether the ball that a device has ejected is on its way.

@@ -1,8 +1,9 @@
 //! The state of a machine, with room for the events that wait and the lines.
 
-ghost use Rattle.std.specs.Prelude.{◌≡◌, ◌^◌, ◌<◌, ◌≤◌, ℕ, [], None, Some, true, false, IfOk, IfSome, IsSome, length, map, option_map, replicate, slice_get, vec_capacity};
+ghost use Rattle.std.specs.Prelude.{◌≡◌, ◌^◌, ◌<◌, ◌≤◌, ℕ, [], None, Some, true, false, IfOk, IfSome, IsSome, is_some, length, map, option_map, replicate, slice_get, vec_capacity};
 ghost use Rattle.event_queue.specs.Handlers.{none_running, set_running};
 ghost use Rattle.event_queue.specs.Queue.{empty};
+ghost use Rattle.event_queue.specs.Alarms.{least_of};
 ghost use Rattle.event_queue.specs.PlanOrder.{in_order};
 ghost use Rattle.mode_stack.specs.ModeStep.{starts, started, stopped, stop_answer, entered, ended};
 ghost use Rattle.mode_stack.specs.Modes.{idle_modes, needs_game, mode_state};
@@ -13,7 +14,7 @@ ghost use Rattle.coil_guard.specs.SentCommands.{coil_of};
 ghost use Rattle.device_objects.specs.Laws.{MayCome};
 ghost use Rattle.written_machine.specs.Machine.{initial, write, post, set_switches, set_mode, set_device, set_coils, ask_coil, book, device_at, called, change_variable, has_game, is_post, world_of, write_final};
 ghost use Rattle.written_machine.specs.Run.{arrived};
-ghost use Rattle.device_objects.specs.DeviceStep.{device_step};
+ghost use Rattle.device_objects.specs.DeviceStep.{device_step, due_of};
 ghost use Rattle.plan_tables.specs.PlanView.{row_at};
 ghost use Rattle.plan_tables.specs.Valid.{IsConditionWithin};
 ghost use Rattle.player_game.specs.GameStep.{is_ball_on};
@@ -220,7 +221,14 @@ impl<'p, D: Device> Core<'p, D> {
     pub fn due(&self) -> Option<(u64, Source)>
         ensures { option_map alarm_view result ≡ next_alarm self.now.machine }
     {
-        first_of(self.switches.due(), self.alarms.least())
+        first_of(self.switches.due(), self.device_due())
+    }
+
+    /// The alarm of a device that comes next, if a device is due at all.
+    pub(crate) fn device_due(&self) -> Option<(u64, RowId)>
+        ensures { result ≡ least_of (map due_of self.now.machine.devices) }
+    {
+        self.alarms.least()
     }
 
     /// Whether an alarm is due at or before this moment, in milliseconds.
@@ -348,6 +356,14 @@ impl<'p, D: Device> Core<'p, D> {
         ensures { result ≡ device_at self.now.machine row }
     {
         self.devices[row.0 as usize].state()
+    }
+
+    /// Whether the device of a row, which has to be one of the plan, is due at some moment.
+    pub(crate) fn is_due(&self, row: RowId) -> bool
+        requires { row.0 < length self.now.machine.devices }
+        ensures { result ≡ is_some (due_of (device_at self.now.machine row)) }
+    {
+        self.devices[row.0 as usize].due().is_some()
     }
 
     /// A device that there is is called, and goes on to its next state. Reports the effect lists

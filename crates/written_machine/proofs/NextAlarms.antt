@@ -49,10 +49,10 @@ next-unique s at other source first a b =
 
 -- ---- what is due of the devices
 
-abbrev dues : Machine → List (Option ℕ)
+abbrev pub dues : Machine → List (Option ℕ)
 dues s = map devices.due_of s.devices
 
-dues-at : (s : Machine) (r : RowId) → due_of (dues s) r ≡ source_due s (device r)
+pub dues-at : (s : Machine) (r : RowId) → due_of (dues s) r ≡ source_due s (device r)
 dues-at s r =
     elim (cases_lt r.0 (length s.devices)) [
       | inl there ↦ get_or-map devices.due_of s.devices r.0 (devices.first_state no_row.settings) None there

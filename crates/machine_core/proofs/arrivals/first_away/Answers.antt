@@ -1,5 +1,5 @@
 use Rattle.std.proofs.Common.{◌<◌, ◌≤◌, length, ap, sym, ◌∙◌, arith}
-use Rattle.machine_core.proofs.Confirming.{away-here, away-later, away-end}
+use Rattle.machine_core.proofs.Confirming.{none-away, away-here, away-later, away-end}
 use Rattle.machine_core.proofs.arrivals.first_away.Goals as goal
 
 pub loop-number-preserved : goal.loop-number-preserved
@@ -21,3 +21,7 @@ returns-clause-first g c =
     let plan = c.args.plan.now in
     let past : length plan.rows ≤ c.loop-number.number = omega (arith, c.loop-number-test.false, ap (λ rows. length rows) c.rows-number-end.ensures.rows) in
     sym (away-end plan c.args.target c.args.core.now.machine c.loop-number.number past) ∙ c.loop-number.invariant
+
+pub returns-then-is_none-clause-first : goal.returns-then-is_none-clause-first
+returns-then-is_none-clause-first g c =
+    sym (none-away c.args.plan.now c.args.target c.args.core.now.machine (sym c.device_due.ensures ∙ c.is_none.ensures))

@@ -1,8 +1,6 @@
-use Rattle.std.proofs.Common.{option_map, ap, ◌∙◌}
-use Rattle.event_queue.specs.Alarms.{least_of}
+use Rattle.std.proofs.Common.{option_map, ◌∙◌}
 use Rattle.written_machine.specs.Run.{switch, device}
 use Rattle.written_machine.specs.NextAlarm.{first_of}
-use Rattle.machine_core.proofs.Alarms.{dues-are}
 use Rattle.machine_core.proofs.core_state.Core.due.Goals as goal
 
 pub returns : goal.returns
@@ -10,4 +8,4 @@ returns g c =
     rw (← c.self.view_is)
     (c.first_of.ensures
     ∙ (λ i. first_of (option_map (λ d. (d.0, switch d.1)) (c.due.ensures.next i))
-    (option_map (λ d. (d.0, device d.1)) ((c.least.ensures.least ∙ ap least_of (c.self.invariant.5 ∙ dues-are g.D.Device.state_of c.self.inside.devices.items)) i))))
+    (option_map (λ d. (d.0, device d.1)) (c.device_due.ensures i))))
