@@ -18,7 +18,8 @@ use Rattle.mpf_plan.specs.Uses.{first_uses, names_from}
 use Rattle.plan_tables.specs.Limits.{entry_count, limit_of, order_of, tables_in_order, first_above}
 use Rattle.mpf_plan.specs.PlanOf.{plan_from}
 use Rattle.plan_tables.specs.NamesKept.{names_of, names_kept}
-use Rattle.mpf_plan.specs.Numbering.{with_name, IsNameTableOf, AreNameTablesOf, bindings_given, binding_count, rows_given, row_count, IsCount, HasFound}
+use Rattle.first_names.specs.FirstNames.{with_name, IsNameTableOf}
+use Rattle.mpf_plan.specs.Numbering.{AreNameTablesOf, bindings_given, binding_count, rows_given, row_count, IsCount, HasFound}
 use Rattle.mpf_plan.proofs.Firsts.{with_names-all}
 use Rattle.mpf_plan.proofs.Counts.{count_of}
 use Rattle.mpf_plan.proofs.Drafted.{count-from}

@@ -20,7 +20,8 @@ use Rattle.plan_contributions.specs.UsedNames.{given, name_in_table, given_names
 use Rattle.plan_tables.specs.Limits.{order_of, tables_in_order}
 use Rattle.plan_rows.specs.View.{row_view, row_list_view}
 use Rattle.plan_tables.specs.NamesKept.{names_of}
-use Rattle.mpf_plan.specs.Numbering.{with_name, HoldGivenNames}
+use Rattle.first_names.specs.FirstNames.{with_name}
+use Rattle.mpf_plan.specs.Numbering.{HoldGivenNames}
 use Rattle.mpf_plan.proofs.Firsts.{with_names-all}
 use Rattle.mpf_plan.proofs.ByTable.{place_within, each_changed}
 

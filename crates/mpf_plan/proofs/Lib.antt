@@ -1,5 +1,4 @@
 pub mod Firsts
-pub mod FirstNames
 pub mod Steps
 pub mod Taken
 pub mod Counts

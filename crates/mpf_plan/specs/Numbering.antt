@@ -1,9 +1,8 @@
 -- What the pass that numbers the names has found.
-use Rattle.std.specs.Prelude.{◌≡◌, ℕ, ◌<◌, ◌≤◌, ◌⊎◌, true, false, List, [], ◌∷◌, ◌++◌, None, Some, Result, Ok, Err, if◌then◌else◌, length, slice_get, fold, Vec}
+use Rattle.std.specs.Prelude.{◌≡◌, ℕ, ◌<◌, ◌≤◌, ◌⊎◌, true, false, List, [], None, Some, Result, Ok, Err, length, slice_get, fold, Vec}
 use Rattle.std.specs.Global.{Global}
 use Rattle.indexmap.specs.IndexSet.{IndexSet}
-use Rattle.std.specs.List.{list_any, sum_by}
-use Rattle.std.specs.Str.{bytes_eq}
+use Rattle.std.specs.List.{sum_by}
 use Rattle.plan_tables.specs.declared.names.NameTable.{NameTable}
 use Rattle.plan_tables.specs.declared.names.NameSets.{NameSets}
 use Rattle.mpf_plan.specs.declared.fault.PlanFault.{PlanFault}
@@ -17,17 +16,8 @@ use Rattle.mpf_plan.specs.Uses.{names_from, lacks_name}
 use Rattle.plan_tables.specs.Limits.{limit_of, order_of, tables_in_order, first_above}
 use Rattle.mpf_plan.specs.PlanOf.{plan_from}
 use Rattle.plan_tables.specs.NamesKept.{names_of}
+use Rattle.first_names.specs.FirstNames.{with_name, IsNameTableOf}
 use Rattle.plan_tables.specs.Inside.{name_sets_view}
-
--- the names after one more use: a new name goes last
-abbrev pub with_name : List (List ℕ) → List ℕ → List (List ℕ)
-with_name names name = if list_any (λ n. bytes_eq name n) names then names else names ++ name ∷ []
-
--- a table has all names, and they are within its limit; or there are more than that
-abbrev pub IsNameTableOf : List (List ℕ) → NameTable → Type 0
-IsNameTableOf all t =
-    ((t.above ≡ true) × (t.limit < length all))
-    ⊎ ((t.above ≡ false) × (names_of t.set.keys ≡ all) × (length all ≤ t.limit))
 
 -- how many bindings a contribution gives, and how many all do
 abbrev pub bindings_given : Contribution → ℕ

@@ -10,11 +10,12 @@ ghost use Rattle.mpf_plan.specs.PlanOf.{plan_from};
 ghost use Rattle.plan_tables.specs.NamesKept.{names_of};
 ghost use Rattle.plan_contributions.specs.View.{parts_text, contribution_view, contributions_view};
 ghost use Rattle.plan_rows.specs.View.{row_list_view};
-ghost use Rattle.mpf_plan.specs.Numbering.{with_name, IsNameTableOf, AreNameTablesOf, bindings_given, rows_given, IsCount, HoldGivenNames, HasFound, Numbered};
+ghost use Rattle.mpf_plan.specs.Numbering.{AreNameTablesOf, bindings_given, rows_given, IsCount, HoldGivenNames, HasFound, Numbered};
 ghost use Rattle.plan_tables.specs.Inside.{name_sets_view};
 
 use crate::fault::PlanFault;
 use crate::first_uses::Found;
+use first_names::note_name;
 use machine_definitions::Definitions;
 use plan_contributions::{Contribution, Parts, collect_row, given, used, write_name};
 use plan_rows::Row;
@@ -192,26 +193,7 @@ fn note_one(
         return Ok(());
     };
     write_name(text, name)?;
-    note(alloc, &mut found.tables[table.index()], text)
-}
-
-/// A name that is new goes last. Only then it is copied, and only up to the limit.
-fn note(alloc: Global, table: &mut NameTable, name: &[u8]) -> Result<(), AllocError>
-    ensures limit { OnOk result (table.new.limit ≡ table.old.limit) }
-    ensures names { OnOk result ((all : List (List ℕ)) → IsNameTableOf all table.old → IsNameTableOf (with_name all name.now) table.new) }
-{
-    if table.above {
-        return Ok(());
-    }
-    if table.set.contains(name) {
-        return Ok(());
-    }
-    if table.set.len() >= table.limit {
-        table.above = true;
-        return Ok(());
-    }
-    table.set.insert(Vec::from_slice(alloc, name)?)?;
-    Ok(())
+    note_name(alloc, &mut found.tables[table.index()], text)
 }
 
 /// How many bindings there are with that of the contribution, or more than a plan may have.

@@ -4,7 +4,7 @@ use Rattle.std.proofs.lemmas.List.{append-nil, take_all, length-set}
 use Rattle.plan_contributions.specs.View.{parts_text, named_view, contributions_view}
 use Rattle.mpf_plan.specs.Numbering.{HoldGivenNames}
 use Rattle.mpf_plan.proofs.Collected.{one_more}
-use Rattle.mpf_plan.proofs.FirstNames.{use_inserted}
+use Rattle.first_names.proofs.FirstNames.{use_inserted}
 use Rattle.mpf_plan.proofs.Lacking.{given_nameless, given_named}
 use Rattle.mpf_plan.proofs.numbering.note_given.Goals.{in-Some+in_ok-write_name+in_ok-insert, in_default}
 use Rattle.mpf_plan.proofs.numbering.note_given.Goals as goal

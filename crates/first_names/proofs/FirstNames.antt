@@ -5,7 +5,7 @@ use Rattle.std.specs.List.{list_any}
 use Rattle.std.proofs.lemmas.List.{map-append, length_push, length-map}
 use Rattle.plan_tables.specs.declared.names.NameTable.{NameTable}
 use Rattle.plan_tables.specs.NamesKept.{names_of}
-use Rattle.mpf_plan.specs.Numbering.{with_name, IsNameTableOf}
+use Rattle.first_names.specs.FirstNames.{with_name, IsNameTableOf}
 
 list_any-map : {X Y : Type 0} (p : Y → Bool) (f : X → Y) (xs : List X) → list_any p (map f xs) ≡ list_any (λ x. p (f x)) xs
 list_any-map p f [] = refl

@@ -1,6 +1,6 @@
 use Rattle.std.proofs.Common.{true, refl, sym, ◌∙◌, arith}
-use Rattle.mpf_plan.proofs.FirstNames.{table_there, table_full, table_more}
-use Rattle.mpf_plan.proofs.numbering.note.Goals as goal
+use Rattle.first_names.proofs.FirstNames.{table_there, table_full, table_more}
+use Rattle.first_names.proofs.note_name.Goals as goal
 
 pub returns-then-contains-clause-names : goal.returns-then-contains-clause-names
 returns-then-contains-clause-names c all is = table_there all c.args.name.now c.args.table.now c.if-table.false (sym c.contains.ensures ∙ c.if-contains.true) is
