@@ -4,18 +4,16 @@ PROGRAM is pinball, proved: of an unproved build valgrind reports no count. For 
 then an empty one, under `valgrind --tool=callgrind`. The difference is what the lines of the log took, so that reading
 the configuration and making the machine are left out. Each line of output has the size, the lines of output, the
 instructions for each of them, and their ratio to those of the smallest size. It ends with status 1 where a ratio is
-above its bar. Counts of instructions do not change with the other work of a machine, but may with the compiler."""
+above its bar."""
 import dataclasses
 import pathlib
-import re
-import subprocess
 import sys
 import tempfile
 from collections.abc import Callable
 
+from counting import counted
 from texts import VERSION, bundle
 
-COLLECTED = re.compile(r"Collected : (\d+)")
 SWITCHES = "switches:\n  s: {number: 1, debounce: quick}\n  t: {number: 2, debounce: quick}\n"
 MODE = "mode:\n  start_events: s_active\n  stop_events: never\n  game_mode: no\n  stop_on_ball_end: no\n"
 TICKS = 10_000
@@ -77,26 +75,17 @@ ALL = (
 )
 
 
-def counted(program: str, machine: pathlib.Path, log: pathlib.Path) -> tuple[int, int]:
-    """The instructions of a play, and the lines that it writes."""
-    command = ["valgrind", "--tool=callgrind", "--callgrind-out-file=/dev/null", program, "play", str(log)]
-    with machine.open("rb") as text:
-        done = subprocess.run(command, stdin=text, stdout=subprocess.PIPE, stderr=subprocess.PIPE, text=True)
-    found = COLLECTED.search(done.stderr)
-    if done.returncode != 0 or not found:
-        sys.exit(f"{' '.join(command)}: status {done.returncode}\n{done.stdout[:1000]}{done.stderr}")
-    return int(found[1]), done.stdout.count("\n")
-
-
 def of_a_line(program: str, folder: pathlib.Path, growing: Growing, size: int) -> float:
     """The instructions for each line that the log makes the program write."""
     machine, log, empty = folder / "machine", folder / "log", folder / "empty"
     machine.write_bytes(growing.machine(size))
     log.write_text(growing.log(size))
     empty.write_text("")
-    (whole, lines), (start, _) = counted(program, machine, log), counted(program, machine, empty)
-    each = (whole - start) / lines
-    print(f"{size:6} {lines:8} lines {each:10.0f} instructions a line", end="")
+    whole, start = (counted([program, "play", str(played)], machine) for played in (log, empty))
+    if whole.status != 0:
+        sys.exit(f"{growing.what}, {size}: status {whole.status}")
+    each = (whole.instructions - start.instructions) / whole.lines
+    print(f"{size:6} {whole.lines:8} lines {each:10.0f} instructions a line", end="")
     return each
 
 

@@ -1,0 +1,57 @@
+"""What valgrind and the kernel count of a whole process: its instructions, its processor time, its peak memory."""
+import ctypes
+import dataclasses
+import os
+import pathlib
+import re
+import subprocess
+import sys
+
+from measuring import KIB
+
+VALGRIND = ["valgrind", "--tool=callgrind", "--callgrind-out-file=/dev/null"]
+COLLECTED = re.compile(r"Collected : (\d+)")
+# How `check` and `play` end where they have an answer.
+ANSWERED = (0, 1)
+# Of Linux's prctl: what a child of ours leaves behind becomes a child of ours.
+PR_SET_CHILD_SUBREAPER = 36
+LEAVE = 'exec "$@" <"$0" >/dev/null 2>&1 &'
+
+
+@dataclasses.dataclass(frozen=True)
+class Counted:
+    instructions: int
+    status: int
+    lines: int
+
+
+@dataclasses.dataclass(frozen=True)
+class Used:
+    seconds: float
+    memory: int
+    status: int
+
+
+def counted(command: list[str], path: pathlib.Path) -> Counted:
+    """The instructions of a command with a file as its input, its exit status, and the lines that it writes. Their
+    number does not change with the other work of a machine, but may with the compiler."""
+    with path.open("rb") as text:
+        done = subprocess.run(VALGRIND + command, stdin=text, stdout=subprocess.PIPE, stderr=subprocess.PIPE)
+    found = COLLECTED.search(done.stderr.decode())
+    if done.returncode not in ANSWERED or not found:
+        sys.exit(f"{command}: status {done.returncode}\n{done.stdout[:1000].decode()}{done.stderr.decode()}")
+    return Counted(int(found[1]), done.returncode, done.stdout.count(b"\n"))
+
+
+def used(command: list[str], path: pathlib.Path) -> Used:
+    """The processor time in seconds and the peak memory in bytes of a command with a file as its input, as the kernel
+    keeps account of them. The account of a process begins with the peak of the one that starts it. So a shell does,
+    which is small, and leaves it behind for us to wait for."""
+    if ctypes.CDLL(None).prctl(PR_SET_CHILD_SUBREAPER, 1, 0, 0, 0) != 0:
+        sys.exit("this kernel gives no account of a process that its parent leaves behind")
+    subprocess.run(["/bin/sh", "-c", LEAVE, str(path), *command], check=True)
+    _, status, usage = os.wait4(-1, 0)
+    status = os.waitstatus_to_exitcode(status)
+    if status not in ANSWERED:
+        sys.exit(f"{command}: status {status}")
+    return Used(usage.ru_utime + usage.ru_stime, usage.ru_maxrss * KIB, status)
