@@ -75,33 +75,34 @@ def ordinary(part: int = 1) -> str:
     return front + "".join(lights(draw, MIB // part - len(front)))
 
 
-def filled(front: str, unit: str, size: int = MIB) -> str:
+def filled(front: str, unit: str, size: int) -> str:
     return (front + unit * (size // len(unit) + 1))[:size]
 
 
-def keys() -> str:
-    """As many keys as fit into 1 MiB, no two of which are equal."""
+def keys(size: int) -> str:
+    """As many keys as fit into so many bytes, no two of which are equal."""
     parts, length, n = [VERSION + "lights:\n"], 0, 0
-    while length < MIB:
+    while length < size:
         parts.append(f"  a{n}:\n")
         length += len(parts[-1])
         n += 1
-    return "".join(parts)[:MIB].rsplit("\n", 1)[0] + "\n"
+    return "".join(parts)[:size].rsplit("\n", 1)[0] + "\n"
 
 
-def hostile() -> dict[str, str]:
-    """Texts of 1 MiB, each made of one thing."""
+def hostile(part: int = 1) -> dict[str, str]:
+    """Texts of 1 MiB, or of one `part`-th of it, each made of one thing."""
+    size = MIB // part
     return {
-        "opening brackets": filled(VERSION + "lights: ", "["),
-        "opening brackets, a line each": filled(VERSION + "lights:\n", "- [\n"),
-        "one key with a digit more": keys(),
-        "spaces": filled(VERSION, " "),
-        "nested items": filled(VERSION + "lights: \n", "- "),
-        "quotes": filled(VERSION + "lights: ", '"'),
-        "single quotes": filled(VERSION + "lights: ", "'"),
-        "one flow list": filled(VERSION + "lights: [", "a,", MIB - 1) + "]",
-        "colons": filled(VERSION + "lights: ", ":"),
-        "deeper lines": VERSION + "".join(" " * n + "a:\n" for n in range(DEPTH)),
+        "opening brackets": filled(VERSION + "lights: ", "[", size),
+        "opening brackets, a line each": filled(VERSION + "lights:\n", "- [\n", size),
+        "one key with a digit more": keys(size),
+        "spaces": filled(VERSION, " ", size),
+        "nested items": filled(VERSION + "lights: \n", "- ", size),
+        "quotes": filled(VERSION + "lights: ", '"', size),
+        "single quotes": filled(VERSION + "lights: ", "'", size),
+        "one flow list": filled(VERSION + "lights: [", "a,", size - 1) + "]",
+        "colons": filled(VERSION + "lights: ", ":", size),
+        "deeper lines": VERSION + "".join(" " * n + "a:\n" for n in range(int(DEPTH / part**0.5))),
     }
 
 

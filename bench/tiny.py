@@ -1,0 +1,79 @@
+"""Texts of tiny entries. An entry of a few bytes has all settings of its kind, and its events have names. So a program
+that makes all of these before it counts them takes much more time and memory than for other texts of that size."""
+import itertools
+import string
+from collections.abc import Iterator
+
+import stacked
+from texts import VERSION, bundle, filled
+
+LETTERS = string.ascii_letters + string.digits + "_"
+STEPS = ",".join(LETTERS[:16])  # the most that an accrual has
+POSTS = ",".join(itertools.islice(itertools.cycle(LETTERS), 1024))  # the most names that a list has
+STATES = "".join(f"    - name: {letter}\n" for letter in LETTERS[:16])  # the most that a profile has
+PROFILE = f"shot_profiles:\n  p:\n    states:\n{STATES}"
+PARTS = "switches:\n  s:\ncoils:\n  c:\n"
+# What comes before the entries of a machine text, and after the name of each.
+ENTRIES = {
+    "shots": ("shots:\n", ":"),
+    "shots of 16 states": (f"{PROFILE}shots:\n", ": {profile: p}"),
+    "groups of one shot": ("shots:\n  x:\nshot_groups:\n", ": {shots: x}"),
+    "switches": ("switches:\n", ":"),
+    "coils": ("coils:\n", ":"),
+    "flippers": (f"{PARTS}flippers:\n", ": {main_coil: c, activation_switch: s}"),
+    "autofire coils": (f"{PARTS}autofire_coils:\n", ": {coil: c, switch: s}"),
+    "ball devices": ("ball_devices:\n", ": {ball_switches: []}"),
+    "counters": ("counters:\n", ": {count_events: a}"),
+    "accruals of 16 steps": ("accruals:\n", f": {{events: [{STEPS}]}}"),
+    "events that post nothing": ("event_player:\n", ":"),
+    "events that post one event": ("event_player:\n", ": a"),
+    "events under a condition": ("event_player:\n", "{current_player.a>1}: a"),
+    "events that post 1,024 letters": ("event_player:\n", f": [{POSTS}]"),
+    "events that change a variable": ("variable_player:\n", ": {a: 1}"),
+    "events that pulse a coil": ("coils:\n  c:\ncoil_player:\n", ": {c: pulse}"),
+}
+# What fills a machine text from its second line on.
+FILLED = {
+    "items with a key": ("lights:\n", "- a:\n"),
+    "empty items": ("lights:\n", "-\n"),
+    "comments": ("", "#\n"),
+}
+# What is between the brackets of one list.
+LISTED = {"empty lists": "[],", "empty mappings": "{},", "empty texts": "'',"}
+MODES = 7
+
+
+def names(length: int) -> Iterator[str]:
+    """All names of so many characters."""
+    return map("".join, itertools.product(LETTERS, repeat=length))
+
+
+def entries(front: str, named: Iterator[str], rest: str, size: int) -> str:
+    """As many entries as fit into so many bytes together with what comes before them: each is a name and this rest."""
+    parts, length = [VERSION, front], len(VERSION) + len(front)
+    while (length := length + len(entry := f" {next(named)}{rest}\n")) <= size:
+        parts.append(entry)
+    return "".join(parts)
+
+
+def texts(size: int) -> dict[str, bytes]:
+    """Bundles of texts of so many bytes, or a little less, each of which is of one kind of entry. The entries of the
+    last bundle are in seven modes, so that it is seven times as long."""
+    made = {kind: bundle(entries(front, names(3), rest, size)) for kind, (front, rest) in ENTRIES.items()}
+    made |= {kind: bundle(filled(VERSION + front, unit, size)) for kind, (front, unit) in FILLED.items()}
+    made |= {kind: bundle(listed(unit, size)) for kind, unit in LISTED.items()}
+    made["timers of a mode"] = of_modes("timers:\n", 3, 1, size)
+    made[f"shots of {MODES} modes"] = of_modes("shots:\n", 4, MODES, size)
+    return made
+
+
+def listed(unit: str, size: int) -> str:
+    front = VERSION + "lights: ["
+    return front + unit * ((size - len(front) - 1) // len(unit)) + "]"
+
+
+def of_modes(front: str, length: int, count: int, size: int) -> bytes:
+    """Entries of so many modes, no two with the same name."""
+    modes, named = [f"m_{n}" for n in range(count)], names(length)
+    machine = f"{VERSION}modes: {', '.join(modes)}\n"
+    return stacked.bundle(machine, {mode: entries(front, named, ":", size) for mode in modes})
