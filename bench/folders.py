@@ -27,6 +27,12 @@ def folder(path: pathlib.Path, count: int) -> None:
         write(path / "modes" / name / "config" / f"{name}.yaml", front + "".join(lights))
 
 
+def read(path: pathlib.Path) -> bytes:
+    """The bundle of a folder: the text of the machine, and those of its modes."""
+    modes = {mode.parent.parent.name: mode.read_text() for mode in sorted(path.glob("modes/*/config/*.yaml"))}
+    return stacked.bundle((path / "config" / "config.yaml").read_text(), modes)
+
+
 def write(path: pathlib.Path, text: str) -> None:
     path.parent.mkdir(parents=True, exist_ok=True)
     path.write_text(text)

@@ -56,14 +56,14 @@ def entries(front: str, named: Iterator[str], rest: str, size: int) -> str:
     return "".join(parts)
 
 
-def texts(size: int) -> dict[str, bytes]:
-    """Bundles of texts of so many bytes, or a little less, each of which is of one kind of entry. The entries of the
-    last bundle are in seven modes, so that it is seven times as long."""
+def texts(size: int, of_seven: int) -> dict[str, bytes]:
+    """Bundles of texts of so many bytes, or a little less, each of which is of one kind of entry. The last bundle has
+    seven modes with texts of another size."""
     made = {kind: bundle(entries(front, names(3), rest, size)) for kind, (front, rest) in ENTRIES.items()}
     made |= {kind: bundle(filled(VERSION + front, unit, size)) for kind, (front, unit) in FILLED.items()}
     made |= {kind: bundle(listed(unit, size)) for kind, unit in LISTED.items()}
     made["timers of a mode"] = of_modes("timers:\n", 3, 1, size)
-    made[f"shots of {MODES} modes"] = of_modes("shots:\n", 4, MODES, size)
+    made[f"shots of {MODES} modes"] = of_modes("shots:\n", 4, MODES, of_seven)
     return made
 
 

@@ -1,0 +1,179 @@
+"""bars.py PROGRAM COMPLETE: dear texts, sizes that double, and long plays, each against its bar. bench/hostile starts
+it.
+
+PROGRAM is pinball, proved: of an unproved build valgrind reports no count. COMPLETE is the folder of examples/complete.
+Instructions are counted by valgrind. Processor time and peak memory are those of the kernel's account. A status in
+brackets is how the program ended. It ends with status 1 where a bar is not met."""
+import pathlib
+import statistics
+import sys
+import tempfile
+from collections.abc import Callable
+
+import folders
+import games
+import limits
+import texts
+import tiny
+from counting import Used, counted, used
+from measuring import KIB, MIB
+
+NOTHING = pathlib.Path("/dev/null")
+# The instructions of a text are counted at one size, as those of a dear text take long to count, and its memory at
+# another, the most that a text has: there the program itself weighs little.
+COUNTED = 256 * KIB
+WEIGHED = MIB
+PARTS = (4, 2, 1)
+LOGS = (8 * MIB, 16 * MIB)
+RUNS = 3
+# The bars.
+TIMES_ORDINARY = 5
+MEMORY_OF_TEXT = 40  # bytes for each byte of a bundle
+DOUBLED = 2.05
+DOUBLED_LOG = 2.1
+MEMORY_OF_LOG = 1.2  # bytes for each byte of a log
+
+
+class Bars:
+    """How many bars are met, and the lines of those that are not."""
+
+    def __init__(self) -> None:
+        self.met = 0
+        self.missed: list[str] = []
+
+    def judged(self, what: str, value: float, bar: float) -> str:
+        if value <= bar:
+            self.met += 1
+            return "met    "
+        self.missed.append(what)
+        return "not met"
+
+
+def made(size: int, of_seven: int) -> dict[str, bytes]:
+    """Bundles of texts of so many bytes, of which the first is ordinary, and the last has seven modes."""
+    part = MIB // size
+    bundles = {"an ordinary text": texts.bundle(texts.ordinary(part))}
+    bundles |= {what: texts.bundle(text) for what, text in texts.hostile(part).items()}
+    return bundles | tiny.texts(size, of_seven)
+
+
+def dear_texts(program: str, path: pathlib.Path, bars: Bars) -> None:
+    """A line for each text: its instructions for each byte, beside those of the ordinary text, and its memory."""
+    print(f"check of texts: instructions for each byte of {COUNTED} bytes, bar {TIMES_ORDINARY} times the ordinary text;")
+    print(f"and bytes of memory for each of {WEIGHED} bytes, bar {MEMORY_OF_TEXT}")
+    ordinary = 0.0
+    large = made(WEIGHED, WEIGHED)
+    for what, bundle in made(COUNTED, COUNTED // tiny.MODES).items():
+        path.write_bytes(bundle)
+        count = counted([program, "check"], path)
+        each = count.instructions / len(bundle)
+        print(f"{f'{what} ({count.status})':38} {each:7.0f} ", end="")
+        if ordinary:
+            ratio = each / ordinary
+            print(f"{ratio:6.2f} {bars.judged(f'{what}, instructions', ratio, TIMES_ORDINARY)}", end="")
+        else:
+            ordinary = each
+            print(" " * 14, end="")
+        path.write_bytes(large[what])
+        cost = used([program, "check"], path)
+        memory = cost.memory / len(large[what])
+        print(f" {memory:7.1f} B a byte {bars.judged(f'{what}, memory', memory, MEMORY_OF_TEXT)}", end="")
+        print(f" {cost.seconds * 1000:7.0f} ms", flush=True)
+
+
+def doubles(bars: Bars, what: str, size: int, count: Callable[[int], int]) -> None:
+    """Instructions of parts of a configuration, each twice as large as the one before."""
+    print(f"\ncheck of {what}: millions of instructions, bar {DOUBLED} times those of half as many")
+    before = None
+    for part in PARTS:
+        instructions = count(part)
+        print(f"{size // part:6} {instructions / 1e6:10.1f}", end="")
+        if before:
+            ratio = instructions / before
+            print(f" {ratio:6.2f} {bars.judged(f'{what}, {size // part}', ratio, DOUBLED)}", end="")
+        print(flush=True)
+        before = instructions
+
+
+def accepted(command: list[str], path: pathlib.Path) -> int:
+    """The instructions of a check whose answer is yes."""
+    count = counted(command, path)
+    if count.status != 0:
+        sys.exit(f"{command} with {path}: status {count.status}")
+    return count.instructions
+
+
+def all_that_doubles(program: str, room: pathlib.Path, bars: Bars) -> None:
+    def of_folder(part: int) -> int:
+        path = room / f"folder_{part}"
+        folders.folder(path, folders.MODES // part)
+        return accepted([program, "check", str(path)], NOTHING)
+
+    def of_bundle(bundle: bytes) -> int:
+        path = room / "bundle"
+        path.write_bytes(bundle)
+        return accepted([program, "check"], path)
+
+    doubles(bars, "a folder of modes", folders.MODES, of_folder)
+    doubles(bars, "modes with events of their own", folders.MODES, lambda part: of_bundle(folders.modes(part)))
+    devices = folders.BALL_DEVICES
+    doubles(bars, "ball devices among counters", devices, lambda part: of_bundle(folders.ball_devices(part)))
+
+
+def long_plays(program: str, room: pathlib.Path, complete: pathlib.Path, bars: Bars) -> None:
+    plays = {
+        "examples/complete": (folders.read(complete), games.COMPLETE, 1),
+        "a machine at the limits of the plan": (limits.machine(), limits.switches(), limits.BALLS),
+    }
+    for what, (bundle, switches, balls) in plays.items():
+        path = room / "bundle"
+        path.write_bytes(bundle)
+        print(f"\nplay on {what}, a bundle of {len(bundle)} bytes: processor time, bar {DOUBLED_LOG} times that of half")
+        print(f"the log; and memory, bar {MEMORY_OF_LOG} bytes for each of the log and {MEMORY_OF_TEXT} of the bundle")
+        logs = [room / f"log_{size}" for size in LOGS]
+        for log, size in zip(logs, LOGS):
+            log.write_text(games.log(switches, balls, size))
+        half, whole = played(program, path, logs)
+        show_play(logs[0], half, len(bundle), bars, what)
+        show_play(logs[1], whole, len(bundle), bars, what)
+        ratio = whole.seconds / half.seconds
+        print(f"{ratio:.2f} times the time {bars.judged(f'{what}, time', ratio, DOUBLED_LOG)}", flush=True)
+
+
+def played(program: str, bundle: pathlib.Path, logs: list[pathlib.Path]) -> list[Used]:
+    """The median time and the greatest memory of plays of these logs. Each is played once, and then all of them again:
+    so where the machine's speed changes, it changes for all."""
+    results = [[used([program, "play", str(log)], bundle) for log in logs] for _ in range(RUNS)]
+    costs = []
+    for runs in zip(*results):
+        if any(cost.status != 0 for cost in runs):
+            sys.exit(f"play on {bundle} is refused")
+        costs.append(Used(statistics.median(cost.seconds for cost in runs), max(cost.memory for cost in runs), 0))
+    return costs
+
+
+def show_play(log: pathlib.Path, cost: Used, bundle: int, bars: Bars, what: str) -> None:
+    size = log.stat().st_size
+    bar = MEMORY_OF_LOG * size + MEMORY_OF_TEXT * bundle
+    print(
+        f"{size:9} bytes {cost.seconds * 1000:10.0f} ms {cost.memory / MIB:8.1f} MiB of {bar / MIB:.1f} "
+        f"{bars.judged(f'{what}, memory with {size} bytes', cost.memory, bar)}"
+    )
+
+
+def main() -> None:
+    if len(sys.argv) != 3:
+        sys.exit(__doc__)
+    program, bars = sys.argv[1], Bars()
+    with tempfile.TemporaryDirectory(prefix="pinball_bench") as name:
+        room = pathlib.Path(name)
+        dear_texts(program, room / "bundle", bars)
+        all_that_doubles(program, room, bars)
+        long_plays(program, room, pathlib.Path(sys.argv[2]), bars)
+    print(f"\n{bars.met} bars are met, and {len(bars.missed)} are not")
+    for what in bars.missed:
+        print(f"not met: {what}")
+    sys.exit(1 if bars.missed else 0)
+
+
+main()
