@@ -27,9 +27,7 @@ pub(crate) fn play_log(
     sink: &mut Sink,
 ) {
     let mut devices = Vec::new(pen.alloc);
-    for row in checked.plan().rows() {
-        add_device(pen, &mut devices, row);
-    }
+    add_devices(pen, &mut devices, checked.plan().rows());
     let played = match board.trim_ascii().split_once(' ') {
         None => play(pen, checked, devices, log, sink),
         Some((word, number)) => {
@@ -42,34 +40,42 @@ pub(crate) fn play_log(
     }
 }
 
-/// Adds the device of a row.
-fn add_device(pen: &mut Pen, devices: &mut Devices, row: &DeviceRow) {
-    add(pen, devices, Counter::new(row));
-    add(pen, devices, Accrual::new(row));
-    add(pen, devices, Sequence::new(row));
-    add(pen, devices, Timer::new(row));
-    add(pen, devices, ShotBank::new(row));
-    add(pen, devices, Flipper::new(row));
-    add(pen, devices, Autofire::new(row));
-    add(pen, devices, BallDevice::new(row));
-}
-
-/// Adds a device, where there is one.
-fn add<D: Device + 'static>(pen: &mut Pen, devices: &mut Devices, device: Option<D>) {
-    if let Some(device) = device
-        && push(pen.alloc, devices, device).is_err()
-    {
-        pen.is_lost = true;
+/// Adds a device for each row.
+fn add_devices(pen: &mut Pen, devices: &mut Devices, rows: &[DeviceRow]) {
+    for row in rows {
+        if add_device(pen.alloc, devices, row).is_err() {
+            pen.is_lost = true;
+        }
     }
 }
 
-fn push<D: Device + 'static>(
-    alloc: Global,
-    devices: &mut Devices,
-    device: D,
-) -> Result<(), AllocError> {
-    let device: Box<dyn Device> = Box::new(alloc, device)?;
+/// Adds the device of a row.
+fn add_device(alloc: Global, devices: &mut Devices, row: &DeviceRow) -> Result<(), AllocError> {
+    let device: Box<dyn Device> = if let Some(counter) = Counter::new(row) {
+        boxed(alloc, counter)?
+    } else if let Some(accrual) = Accrual::new(row) {
+        boxed(alloc, accrual)?
+    } else if let Some(sequence) = Sequence::new(row) {
+        boxed(alloc, sequence)?
+    } else if let Some(timer) = Timer::new(row) {
+        boxed(alloc, timer)?
+    } else if let Some(bank) = ShotBank::new(row) {
+        boxed(alloc, bank)?
+    } else if let Some(flipper) = Flipper::new(row) {
+        boxed(alloc, flipper)?
+    } else if let Some(autofire) = Autofire::new(row) {
+        boxed(alloc, autofire)?
+    } else if let Some(device) = BallDevice::new(row) {
+        boxed(alloc, device)?
+    } else {
+        return Ok(());
+    };
     Ok(devices.push(device)?)
+}
+
+/// A box of a device.
+fn boxed<D: Device>(alloc: Global, device: D) -> Result<Box<D>, AllocError> {
+    Ok(Box::new(alloc, device)?)
 }
 
 /// Plays a log on a board in memory.

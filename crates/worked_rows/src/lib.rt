@@ -4,14 +4,14 @@
 //! Each answer is written with a `Pen`. What a row asks for is up to the crate of the tests (`Answers`).
 #![tactic(auto)]
 
-mod named;
 mod pen;
 mod row;
 mod sink;
 mod source;
+mod texts;
 
-pub use named::named;
 pub use pen::Pen;
 pub use row::{Answers, Row, answered, wrong_rows};
 pub use sink::Sink;
 pub use source::Source;
+pub use texts::named;

@@ -11,14 +11,14 @@
 //!
 //! A text is written line by line. A `\` at the end of a line takes the line end away, as in every
 //! text of Rattle. What stands behind `--- N times` comes so often, each time with its number, from
-//! 0, in place of `№`. A text in parentheses is the name of a text (`named`) or of a reader
+//! 0, in place of `№`. A text in parentheses is the name of a text (`texts`) or of a reader
 //! (`Source::of`). Behind the answer stands how many commands a board took that may fault, and how
 //! often each reader or writer was called that may fail.
 
-use crate::named::named;
 use crate::pen::Pen;
 use crate::sink::Sink;
 use crate::source::Source;
+use crate::texts::named;
 use std::alloc::Global;
 
 /// The parts of a row.
