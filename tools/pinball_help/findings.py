@@ -10,6 +10,7 @@ from .texts import Edit, Line, Texts
 from .ways import Cure, Way
 
 MOST_SHOWN = 8  # further lines of a file
+TAB = "→"
 OUT, OTHER, NEW, EMPTY = "a line is taken out", "a line becomes another", "a line is new", "an empty line is new"
 
 
@@ -38,7 +39,8 @@ class Finding:
     write: str
     changes: tuple[Change, ...]  # what mends it, in the user's file
     further: tuple[tuple[int, str], ...]  # the other lines of the text that the changes are about, as they are now
-    part: str
+    part: str  # of docs/faults.md
+    recipe: str  # the part of docs/from_mpf.md that has more, where one does
     follows: bool = False  # from another finding, or from what a copy leaves out
 
 
@@ -116,6 +118,7 @@ def finding_of(scene: Scenery, complaint: Complaint, cure: Cure, way: Way | None
             says, *cure.says
         ), way.near, way.why, way.write or general,
         changes, further_of(changes, text, number, lines), messages.link(complaint.message),
+        messages.part_of(messages.FROM_MPF, way.recipe) if way.recipe else "",
     )
 
 
@@ -135,7 +138,8 @@ def mark_of(source: str, key: str) -> tuple[int, int]:
 
 
 def printable(text: str) -> str:
-    return "".join(it if it.isprintable() else "?" for it in text.replace("\t", "    "))
+    """The text with its tabs made visible, and four columns wide."""
+    return "".join(it if it.isprintable() else "?" for it in text.replace("\t", f"{TAB:4}"))
 
 
 def shown(finding: Finding) -> list[str]:
@@ -145,7 +149,8 @@ def shown(finding: Finding) -> list[str]:
     lines += [f"  {it}" for it in finding.says]
     lines += [f"  Near it: `{finding.near}`."] if finding.near else []
     lines += [f"  {finding.why}"] if finding.why else []
-    lines += [f"  To do: {finding.write}", *shown_changes(finding), f"  More: {finding.part}"]
+    more = ", ".join(it for it in (finding.recipe, finding.part) if it)
+    lines += [f"  To do: {finding.write}", *shown_changes(finding), f"  More: {more}"]
     return lines
 
 
@@ -159,22 +164,39 @@ def shown_source(finding: Finding) -> list[str]:
     for number, text, first, last in sorted(marked):
         before, part = printable(text[:first]), printable(text[first:last])
         lines += [f"  {number:>5} | {printable(text)}", f"        | {' ' * len(before)}{'^' * max(1, len(part))}"]
-    return lines + (["     .. |"] if finding.further[MOST_SHOWN:] else [])
+    lines += ["     .. |"] if finding.further[MOST_SHOWN:] else []
+    return lines + ([f"  `{TAB}` is a tab."] if any("\t" in text for _, text, _, _ in marked) else [])
 
 
 def shown_changes(finding: Finding) -> list[str]:
     """Each line of a change; lines that are taken out one after the other are joined."""
-    lines, text = [], finding.text
-    for (name, kind), group in groupby(finding.changes, lambda it: (it.text, kind_of(it))):
-        changes = list(group)
-        lines += [f"  In {name}:"] if name != text else []
-        text = name
+    lines, here = [], (finding.text, finding.line)
+    for _, group in groupby(enumerate(finding.changes), lambda it: run_of(*it)):
+        changes = [it for _, it in group]
+        kind = kind_of(changes[0])
+        lines += place_of(changes[0], here)
+        here = (changes[-1].text, changes[-1].line)
         if kind == OUT:
             first, last = changes[0].line, changes[-1].line
             lines.append(f"  {first:>5} - (taken out{f', up to line {last}' if last > first else ''})")
         elif kind != EMPTY:
             lines += [f"  {it.line if kind == OTHER else '':>5} + {printable(it.new)}" for it in changes]
     return lines
+
+
+def run_of(at: int, change: Change) -> tuple:
+    """What changes have in common that are shown together: new lines their place, and lines taken out that no gap is
+    between them."""
+    kind = kind_of(change)
+    return (change.text, kind, change.line - at if kind == OUT else change.line if kind == NEW else 0)
+
+
+def place_of(change: Change, here: tuple[str, int]) -> list[str]:
+    """Where a change is, if that is in another text than the last line, or comes after another line."""
+    words = [f"in {change.text}"] if change.text != here[0] else []
+    words += [f"after line {change.line}"] if kind_of(change) == NEW and (change.text, change.line) != here else []
+    told = ", ".join(words)
+    return [f"  {told[:1].upper()}{told[1:]}:"] if told else []
 
 
 def kind_of(change: Change) -> str:

@@ -10,7 +10,7 @@ SECTIONS = {
     "ball_routings": "Write the way of the balls as `eject_targets` of the `ball_devices`.",
     "ball_saves": "Take it out: no ball is saved here. Each ball that drains counts.",
     "ball_locks": "Take it out: locks are not carried out.",
-    "combo_switches": "Write an accrual of the two switches' events: `events: [s_a_active, s_b_active]` as its steps.",
+    "combo_switches": "Write a mode that runs while one switch is active, and that handles the event of the other one.",
     "config": "Take the list of files out, and write their sections into this text: a text includes no other.",
     "credits": "Take it out: there is no coin door here.",
     "digital_outputs": "Write an output that is driven as a coil below `coils`, with its limits.",
@@ -41,7 +41,8 @@ SECTIONS = {
     "psus": "Take it out: power supplies are not planned here.",
     "queue_event_player": "Write an `event_player`: no event waits for another here.",
     "queue_relay_player": "Write an `event_player`: no event waits for another here.",
-    "random_event_player": "Write an `event_player` with one of the events: nothing is drawn at random here.",
+    "random_event_player": "Write an `event_player` with one of the events, or let them come in turn: nothing is drawn "
+    "at random here.",
     "scoring": "Name the section `variable_player`: this is its name in older versions of MPF.",
     "score_reels": "Take it out: score reels are not driven here.",
     "scriptlets": "Take it out: no Python runs here.",
@@ -61,13 +62,37 @@ SECTIONS = {
 # what those sections are called here that have another name
 SECTIONS_RENAMED = {"scoring": "variable_player", "leds": "lights", "matrix_lights": "lights"}
 
+# the headings of docs/from_mpf.md that have a text to write in place of a section, or of a setting of a section
+HELD, HOLD = "A button that is held", "A coil that is held for a time"
+FIRST_VALUE = "A variable that does not begin at 0"
+RECIPES_OF_SECTIONS = {
+    "combo_switches": HELD,
+    "diverters": HOLD,
+    "magnets": HOLD,
+    "player_vars": FIRST_VALUE,
+    "random_event_player": "One of several events",
+    "sequence_shots": "A shot of two switches",
+    "timed_switches": HELD,
+}
+RECIPES = {
+    ("switches", "ignore_window_ms"): "Hits that come too soon",
+    ("coils", "max_hold_duration"): HOLD,
+    ("coils", "default_timed_enable_ms"): HOLD,
+    ("ball_devices", "player_controlled_eject_event"): "A launch button",
+    ("counters", "control_events"): "A counter in a condition",
+    ("mode", "player_vars"): FIRST_VALUE,
+    ("game", "player_vars"): FIRST_VALUE,
+}
+
 # a setting of MPF, by section: the setting to write in place of it (empty: none), and a word on it
 RENAMED = "This is the name of the setting in older versions of MPF."
 OLDER = "This is a setting of older versions of MPF."
+OLDER_NAMES = (RENAMED, OLDER)
 GAME_ONLY = "The machine does this by itself."
 SETTINGS = {
     "switches": {
-        "ignore_window_ms": ("", "Take it out. `debounce: normal` forgets what lasts for less than 5 ms."),
+        "ignore_window_ms": ("", "Take it out. To forget hits that come too soon, count them by a counter with a "
+                             "`multiple_hit_window`, and handle the event of the counter."),
         "debounce_open": ("", "Take it out: write `debounce: normal` or `quick`."),
         "debounce_close": ("", "Take it out: write `debounce: normal` or `quick`."),
         "activation_events": ("events_when_activated", RENAMED),

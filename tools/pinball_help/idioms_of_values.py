@@ -11,7 +11,8 @@ A row holds for an entry of a section (or of several) whose key and raw value ma
     placeholder   an event with a placeholder becomes an event for each value, as an example
     power         an old power becomes a part of full power: see powers.py
 
-`sample` is a text in which the program refuses the value; tools/test_help tries each row on its sample."""
+`sample` is a text in which the program refuses the value; tools/test_help tries each row on its sample. `recipe` is the
+heading of docs/from_mpf.md that has a text to write instead, where one does."""
 from dataclasses import dataclass
 
 from .powers import NAMES
@@ -19,6 +20,18 @@ from .powers import NAMES
 TIME = r"\d[\d.]*\s*(?:ms|s|m|h|d|msec|sec|secs|min|mins)?"
 EVENTS = r"\w*_events|events_when_\w+|events"
 GAME = "game:\n"
+
+# headings of docs/from_mpf.md
+DELAY, COUNTER, TWO_CONDITIONS = "An event after a time", "A counter in a condition", "Two conditions at once"
+HOLD, COMPUTED = "A coil that is held for a time", "A score that is computed"
+
+ACTS_LATER = "To keep the delay, let the event start a mode with a timer, and write the event that this mode posts."
+POSTED_LATER = "it is then posted at once. To keep the delay, let a mode with a timer post it."
+FROM_ZERO = "A variable is 0 until an entry changes it, so think of 0 too."
+ONLY_VARIABLES = "A condition compares a variable of the current player with a whole number, and nothing else."
+IN_VARIABLE = "Keep what it asks for in a variable: `{current_player.x == 1}`."
+ONE_COMPARISON = "A condition has one comparison."
+TWO_COMPARISONS = "For `and`, let one event lead to another, with a condition at each; for `or`, write two entries."
 
 
 @dataclass(frozen=True)
@@ -30,6 +43,7 @@ class Idiom:
     write: str
     edit: tuple[str, ...]
     sample: str
+    recipe: str = ""
 
 
 ANY = ".*"
@@ -38,20 +52,20 @@ IDIOMS = (
     Idiom(
         "event_player", ANY, rf"\|\s*{TIME}",
         "MPF posts the event after a time. Delays are not carried out here.",
-        "Post it without the delay; or let the event start a mode with a timer, as docs/from_mpf.md shows.",
-        ("sub", rf"\|\s*{TIME}", ""), "event_player:\n  a: b|2s",
+        f"Write the event without the time: {POSTED_LATER}",
+        ("sub", rf"\|\s*{TIME}", ""), "event_player:\n  a: b|2s", DELAY,
     ),
     Idiom(
         ANY, r"events_when_\w+", rf"\w\s*\|\s*{TIME}",
         "MPF posts the event after a time. Delays are not carried out here.",
-        "Write the event without the time.",
-        ("sub", rf"\|\s*{TIME}", ""), "switches:\n  s:\n    events_when_activated: a|100ms",
+        f"Write the event without the time: {POSTED_LATER}",
+        ("sub", rf"\|\s*{TIME}", ""), "switches:\n  s:\n    events_when_activated: a|100ms", DELAY,
     ),
     Idiom(
         ANY, EVENTS, rf"[\w}}]\s*\|\s*{TIME}",
         "MPF handles the event after a time. Delays are not carried out here.",
-        "Write the event without the time.",
-        ("sub", rf"\|\s*{TIME}", ""), "counters:\n  c:\n    count_events: a|2s",
+        f"Write the event without the time: it then acts at once. {ACTS_LATER}",
+        ("sub", rf"\|\s*{TIME}", ""), "counters:\n  c:\n    count_events: a|2s", DELAY,
     ),
     Idiom(
         "event_player", ANY, r"\w\s*\{[^}]*\}",
@@ -63,15 +77,15 @@ IDIOMS = (
         "event_player", ANY, r"\([^)]*\)",
         "MPF writes a value in place of the brackets. Placeholders are not carried out here.",
         "Write the names of the events themselves: for example a line for each value, with its condition. "
-        "The names below are examples.",
+        f"The names below are examples. {FROM_ZERO}",
         ("placeholder",), "event_player:\n  a: (name)_hit",
     ),
     Idiom(
         "variable_player", ANY, r"^\d+ *\* *current_player\.\w+$|^current_player\.\w+ *\* *\d+$",
         "MPF works out a formula here. A variable changes by a whole number that is written.",
         "Write the number. This drops the multiplier. To keep it, write an entry for each value, under a condition: "
-        "`e{current_player.x == 2}:`.",
-        ("number",), "variable_player:\n  e:\n    score: 1000 * current_player.x",
+        f"`e{{current_player.x == 2}}:`. {FROM_ZERO}",
+        ("number",), "variable_player:\n  e:\n    score: 1000 * current_player.x", COMPUTED,
     ),
     Idiom(
         "event_player", ANY, r"priority\s*:|^$",
@@ -82,13 +96,17 @@ IDIOMS = (
     Idiom(
         ANY, EVENTS, r"^\{?\s*[\w.]+\s*:",
         "MPF takes an event with a delay, as `e: 1s`. Delays are not carried out here.",
-        "Write a list of the events' names.",
-        ("keys",), "counters:\n  c:\n    count_events: a\n    reset_events: {e: 1s}",
+        f"Write a list of the events' names: they then act at once. {ACTS_LATER}",
+        ("keys",), "counters:\n  c:\n    count_events: a\n    reset_events: {e: 1s}", DELAY,
+    ),
+    Idiom(
+        ANY, EVENTS + "|control_events", r"\{[^}]*\bdevice\.counters\b[^}]*\}",
+        ONLY_VARIABLES, "Count in a variable too, and compare it: `{current_player.x == 1}`.",
+        ("sub", r"\{[^}]*\}", ""), "shots:\n  s: {hit_events: 'a{device.counters.laps.value==3}'}", COUNTER,
     ),
     Idiom(
         ANY, EVENTS + "|control_events", r"\{[^}]*\b(?:device|mode|settings|machine|players?)\b[^}]*\}",
-        "A condition compares a variable of the current player with a whole number, and nothing else.",
-        "Keep what it asks for in a variable: `{current_player.x == 1}`.",
+        ONLY_VARIABLES, IN_VARIABLE,
         ("sub", r"\{[^}]*\}", ""), "shots:\n  s: {hit_events: 'a{mode.base.active}'}",
     ),
     Idiom(
@@ -99,17 +117,16 @@ IDIOMS = (
     ),
     Idiom(
         ANY, EVENTS, r"\{[^}]*\b(?:and|or|not)\b[^}]*\}",
-        "A condition has one comparison.",
-        "For `and`, let one event lead to another, with a condition at each; for `or`, write two entries.",
+        ONE_COMPARISON, TWO_COMPARISONS,
         ("sub", r"\s+(?:and|or)\b[^}]*\}", "}"),
-        "counters:\n  c:\n    count_events: a{current_player.x==1 and current_player.y==2}",
+        "counters:\n  c:\n    count_events: a{current_player.x==1 and current_player.y==2}", TWO_CONDITIONS,
     ),
     Idiom(
         "variable_player", ANY, r"current_player|[*/()]|\d\s*[+-]\s*\d",
         "MPF works out a formula here. A variable changes by a whole number that is written.",
         "Write a number: the one below is an example. This drops the formula. To keep it, write an entry for each "
-        "value, under a condition: `e{current_player.x == 2}:`.",
-        ("number",), "variable_player:\n  e:\n    score: current_player.x + current_player.y",
+        f"value, under a condition: `e{{current_player.x == 2}}:`. {FROM_ZERO}",
+        ("number",), "variable_player:\n  e:\n    score: current_player.x + current_player.y", COMPUTED,
     ),
     Idiom(
         "variable_player", ANY, r"\|\s*block",
@@ -194,7 +211,7 @@ IDIOMS = (
     Idiom(
         "coil_player", "action", r"timed_enable|flash|blink",
         "There is no such action here.", "Write `enable`, and `disable` at another event; or `pulse`.",
-        ("value", "pulse"), "coils:\n  c:\ncoil_player:\n  e:\n    c: {action: timed_enable}",
+        ("value", "pulse"), "coils:\n  c:\ncoil_player:\n  e:\n    c: {action: timed_enable}", HOLD,
     ),
     Idiom(
         "ball_devices", "eject_targets", r"[,\s\[]|^$",
@@ -238,6 +255,7 @@ IDIOMS = (
         "MPF works out a formula here. A timer takes a number that is written.",
         "Write the number, for example `10`.",
         ("value", "10"), "mode:\ntimers:\n  t: {start_value: current_player.x, start_running: yes}",
+        "A timer with more time",
     ),
     Idiom(
         "timers", r"\w+_value", r"\.\d",

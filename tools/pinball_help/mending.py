@@ -3,6 +3,7 @@ import re
 from typing import Callable
 
 from .outline import Entry, Node, indentation, is_item, without_comment
+from .profile import PLAYERS, SINGLE
 from .texts import VERSION, Edit, Texts
 
 
@@ -40,8 +41,18 @@ def cut(line: str, start: int, end: int) -> str:
     return before.removesuffix(",") + (" " if after.startswith("#") else "") + after
 
 
+def emptied(entry: Entry) -> Entry:
+    """What has nothing left where an entry is taken out: its section, or the event of a player; else the entry."""
+    outer = entry.path[-1] if entry.path else entry
+    of_section = len(entry.path) == 1 and outer.key not in SINGLE
+    of_event = len(entry.path) == 2 and entry.path[0].key in PLAYERS
+    lone = len(outer.value.entries or []) == 1
+    return emptied(outer) if lone and (of_section or of_event) else entry
+
+
 def take_out(texts: Texts, name: str, entry: Entry) -> Edit:
-    """Takes an entry out, with all that is below it."""
+    """Takes an entry out, with all that is below it; and with what is around it, where that has nothing else."""
+    entry = emptied(entry)
     line = line_of(texts, name, entry.line)
     if entry.in_braces:
         return Edit(name, entry.line, entry.line + 1, (cut(line, entry.start, entry.value.end),))

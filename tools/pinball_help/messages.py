@@ -8,7 +8,8 @@ from dataclasses import dataclass
 from functools import cache
 from pathlib import Path
 
-PAGE = Path(__file__).resolve().parents[2] / "docs/faults.md"
+TOP = Path(__file__).resolve().parents[2]
+FAULTS, FROM_MPF = "docs/faults.md", "docs/from_mpf.md"
 
 
 @dataclass(frozen=True)
@@ -190,13 +191,17 @@ MESSAGES = {
 
 
 @cache
-def headings() -> list[str]:
-    return re.findall(r"^#+ (.*)$", PAGE.read_text(), re.M)
+def headings(page: str) -> list[str]:
+    return re.findall(r"^#+ (.*)$", (TOP / page).read_text(), re.M)
+
+
+def part_of(page: str, start: str) -> str:
+    """The part of a page whose heading begins so."""
+    heading = next((it for it in headings(page) if it.startswith(start)), "")
+    anchor = re.sub(r"[^\w\- ]", "", heading.lower()).replace(" ", "-")
+    return f"{page}#{anchor}" if heading else page
 
 
 def link(message: str) -> str:
     """The part of docs/faults.md that is about a message."""
-    part = MESSAGES[message].part
-    heading = next((it for it in headings() if it.startswith(part)), "")
-    anchor = re.sub(r"[^\w\- ]", "", heading.lower()).replace(" ", "-")
-    return f"docs/faults.md#{anchor}" if heading else "docs/faults.md"
+    return part_of(FAULTS, MESSAGES[message].part)

@@ -103,6 +103,11 @@ def section_of(entry: Entry) -> str:
     return entry.path[0].key if entry.path else entry.key
 
 
+def action_of(coil: Entry) -> str:
+    """What a coil does in an entry of a `coil_player`."""
+    return (coil.value.at("action") or coil.value).text
+
+
 def setting_table(entry: Entry) -> str:
     """The section whose table has the setting `entry`."""
     inside = [it.key for it in entry.path]

@@ -12,6 +12,7 @@ class Way:
     write: str = ""
     why: str = ""  # what it means in MPF or YAML, or why it is refused
     near: str = ""  # the name that was meant, where one is near
+    recipe: str = ""  # the heading of docs/from_mpf.md that has more, where one does
 
 
 @dataclass(frozen=True)

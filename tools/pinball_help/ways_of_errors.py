@@ -2,10 +2,11 @@
 import re
 from dataclasses import replace
 
-from . import overwrites, powers, profile
+from . import drop_targets, overwrites, powers, profile
 from .answers import Complaint
-from .idioms import SECTIONS, SECTIONS_RENAMED, SETTINGS
-from .idioms_of_values import ENTRY, IDIOMS, Idiom
+from .idioms import OLDER_NAMES, RECIPES, RECIPES_OF_SECTIONS, SECTIONS, SECTIONS_RENAMED, SETTINGS
+from .idioms_of_values import ACTS_LATER, COUNTER, DELAY, ENTRY, IDIOMS, IN_VARIABLE, ONE_COMPARISON, ONLY_VARIABLES
+from .idioms_of_values import TWO_COMPARISONS, TWO_CONDITIONS, Idiom
 from .mending import add, blanks, block_end, give, line_of, rename, substitute, take_item_out, take_out
 from .near import nearest
 from .outline import Entry, Node, unquoted
@@ -78,12 +79,16 @@ def of_section(scene: Scenery, complaint: Complaint) -> Cure:
 
 def of_section_of_mpf(scene: Scenery, text: str, entry: Entry) -> Cure:
     why = f"`{entry.key}` is a section of MPF that is not read here."
-    cure = taken_out(scene, text, entry, SECTIONS[entry.key], why)
+    write = SECTIONS[entry.key]
+    if entry.key in ("drop_targets", "drop_target_banks"):
+        write = drop_targets.told(scene, entry, write)
+    cure = taken_out(scene, text, entry, write, why)
+    way = replace(cure.ways[0], recipe=RECIPES_OF_SECTIONS.get(entry.key, ""))
     new = SECTIONS_RENAMED.get(entry.key)
     if not new or any(it.key == new for it in scene.outlines[text].entries or []):
-        return cure
-    renamed = replace(cure.ways[0], edits=(rename(scene.texts, text, entry, new),))
-    return replace(cure, ways=(renamed, *cure.ways))
+        return replace(cure, ways=(way,))
+    renamed = replace(way, edits=(rename(scene.texts, text, entry, new),))
+    return replace(cure, ways=(renamed, way))
 
 
 def of_setting(scene: Scenery, complaint: Complaint) -> Cure:
@@ -99,20 +104,7 @@ def of_setting(scene: Scenery, complaint: Complaint) -> Cure:
     siblings = {it.key for it in siblings_of(entry)}
     instead, word = SETTINGS.get(table, {}).get(key, ("", ""))
     if word:
-        word = word.format(mode=scene.owner(text))
-        why = "MPF has this setting, and it is not read here."
-        if not instead:
-            if key in ("eos_switch", "use_eos") and "hold_coil" in siblings:
-                word = "Take it out: the flipper has its `hold_coil`."
-            told, edits = overwrites.moved(scene, text, entry)
-            ways = (Way((*out, *edits), f"{word} {told}".rstrip(), why), Way(out))
-            return Cure(says, True, ways, out, mark, stays=bool(edits))
-        if instead in siblings:
-            return Cure(says, True, (Way(out, f"Take it out: `{instead}` is there. {word}", why),), out, mark)
-        edit, named, reason = as_setting(scene, text, entry, instead)
-        write = f"Write `{named}`. {word}"
-        ways = (Way((edit,), write, f"{why} {reason}".rstrip(), instead), Way(out))
-        return Cure(says, True, ways, out, mark, stays=powers.is_power(instead))
+        return of_setting_of_mpf(scene, text, entry, Cure(says, True, (), out, mark), instead, word)
     near = nearest(key, [*profile.settings(table), *profile.of_other_tools()])
     if near and near not in siblings:
         edit, named, reason = as_setting(scene, text, entry, near)
@@ -124,6 +116,27 @@ def of_setting(scene: Scenery, complaint: Complaint) -> Cure:
         )
     others = ", ".join(f"`{name}`" for name in profile.settings(table))
     return Cure(says, True, (Way(out, f"Take it out. The settings are {others}."),), out, mark)
+
+
+def of_setting_of_mpf(scene: Scenery, text: str, entry: Entry, cure: Cure, instead: str, word: str) -> Cure:
+    """A setting that MPF has: `instead` is the setting to write in its place, and `word` the words of its row."""
+    key, out, siblings = entry.key, cure.out, {it.key for it in siblings_of(entry)}
+    recipe = RECIPES.get((setting_table(entry), key), "")
+    word = word.format(mode=scene.owner(text))
+    why = "MPF has this setting, and it is not read here."
+    if word in OLDER_NAMES:
+        word, why = "", word
+    if not instead:
+        if key in ("eos_switch", "use_eos") and "hold_coil" in siblings:
+            word = "Take it out: the flipper has its `hold_coil`."
+        move = overwrites.moved(scene, text, entry)
+        way = Way((*out, *move.edits), f"{word} {move.told}".rstrip(), why, recipe=recipe)
+        return replace(cure, ways=(way, Way(out)), out=(*out, *move.lowering))
+    if instead in siblings:
+        return replace(cure, ways=(Way(out, f"Take it out: `{instead}` is there. {word}".rstrip(), why),))
+    edit, named, reason = as_setting(scene, text, entry, instead)
+    way = Way((edit,), f"Write `{named}`. {word}".rstrip(), f"{why} {reason}".rstrip(), instead, recipe)
+    return replace(cure, ways=(way, Way(out)), stays=powers.is_power(instead))
 
 
 def as_setting(scene: Scenery, text: str, entry: Entry, new: str) -> tuple[Edit, str, str]:
@@ -177,7 +190,7 @@ def edits_of(scene: Scenery, text: str, entry: Entry, idiom: Idiom) -> tuple[Edi
 
 
 def of_placeholder(scene: Scenery, text: str, entry: Entry) -> Edit:
-    """Events without placeholders, as an example: a line for each of two values of a variable, with its condition."""
+    """Events without placeholders, as an example: a line for 0 and for 1 of a variable, each with its condition."""
     value = raw(scene.texts, text, entry)
     found = {*re.findall(PLACEHOLDER, value)}
     variable = next(iter(found), "").strip()
@@ -185,7 +198,7 @@ def of_placeholder(scene: Scenery, text: str, entry: Entry) -> Edit:
     if not by_value or entry.in_braces or entry.last > entry.line + 1:
         return substitute(scene.texts, text, entry, PLACEHOLDER, lambda it: it[1] if it[1].isidentifier() else "1")
     start = line_of(scene.texts, text, entry.line)[: entry.start] + entry.key
-    one, other = (f"{{{variable}=={it}}}: {re.sub(PLACEHOLDER, it, value)}" for it in ("1", "2"))
+    one, other = (f"{{{variable}=={it}}}: {re.sub(PLACEHOLDER, it, value)}" for it in ("0", "1"))
     first = give(scene.texts, text, entry, one.partition(": ")[2], entry.key + one.partition(": ")[0])
     return Edit(text, entry.line, entry.line + 1, (*first.lines, start + other))
 
@@ -225,25 +238,28 @@ def of_names(scene: Scenery, text: str, entry: Entry) -> Cure | None:
         return of_condition(scene, text, entry)
     right = as_name(key.split("|")[0])
     why = "A name has letters without accents, digits, `_`, `-` and `.` alone, at most 64 of them."
+    write, recipe = f"Write `{right}`.", ""
     if "|" in key:
         why = "MPF handles the event after a time. Delays are not carried out here."
+        write, recipe = f"Write `{right}`: it then acts at once. {ACTS_LATER}", DELAY
     taken = any(it.key == right for it in siblings_of(entry))
-    ways = () if taken else (Way((rename(scene.texts, text, entry, right),), f"Write `{right}`.", why),)
+    ways = () if taken else (Way((rename(scene.texts, text, entry, right),), write, why, recipe=recipe),)
     return cure_at(scene, text, entry, (f"`{key}` is no name.",), *ways, whole=True)
 
 
 def of_condition(scene: Scenery, text: str, entry: Entry) -> Cure:
     """A handled event with a condition that is not read."""
     name, gap, inside = re.match(r"([^\s{]+)(\s*)\{(.*)\}$", entry.key).groups()  # type: ignore[union-attr]
-    right, why = name, "A condition compares a variable of the current player with a whole number, and nothing else."
-    write = "Keep what it asks for in a variable: `{current_player.x == 1}`."
+    right, why, write, recipe = name, ONLY_VARIABLES, IN_VARIABLE, COUNTER if "device.counters" in inside else ""
+    if re.search(r"\b(and|or|not)\b", inside):
+        why, write, recipe = ONE_COMPARISON, TWO_COMPARISONS, TWO_CONDITIONS
     if gap:
         right, why = f"{name}{{{inside}}}", "No blank may come before the brace."
         write = f"Write `{right}`."
     elif re.match(r"\s*(?!current_player\.)\w+\s*[=!<>]=?\s*-?\d+\s*$", inside):
         right, why = f"{name}{{current_player.{inside.strip()}}}", "A condition names a variable of the current player."
         write = f"Write `{right}`."
-    way = Way((rename(scene.texts, text, entry, right),), write, why)
+    way = Way((rename(scene.texts, text, entry, right),), write, why, recipe=recipe if right == name else "")
     return cure_at(scene, text, entry, (f"`{entry.key}` is not read as an event with a condition.",), way, whole=True)
 
 
@@ -269,7 +285,8 @@ def of_entry(scene: Scenery, text: str, entry: Entry) -> Cure:
     if idiom := idiom_of(scene, text, entry):
         value = unquoted(raw(scene.texts, text, entry))
         reason = powers.meant(entry.key, value)[1] if idiom.edit[0] == "power" else ""
-        way = Way(edits_of(scene, text, entry, idiom), idiom.write, f"{idiom.mpf} {reason}".rstrip())
+        why = f"{idiom.mpf} {reason}".rstrip()
+        way = Way(edits_of(scene, text, entry, idiom), idiom.write, why, recipe=idiom.recipe)
         return replace(cure_at(scene, text, entry, says, way), stays=idiom.edit[0] == "power")
     if not entry.path:
         way = Way((), "Write entries below it: `NAME:`, not `- NAME`.")

@@ -6,12 +6,18 @@ from . import powers, values
 from .answers import Complaint
 from .mending import add, give, replace, take_item_out, take_out
 from .near import nearest
+from .idioms import HOLD
 from .outline import Entry, entries
-from .scenery import Place, Scenery, section_of
+from .scenery import Place, Scenery, action_of, section_of
 from .ways import Cure, Way
 
 FREE = "The game or the mode posts it by itself. You may handle it, but not post it."
 ENDS = " Nothing in a text can end a ball or a game: a ball ends when it drains."
+PULSE_OR_HOLD = (
+    "Pulse it, as below, if {} ms are enough: a pulse holds nothing. If it has to hold, keep `enable`, and write "
+    "`default_hold_power` at the coil, with the power that it bears for hours. `allow_enable: yes` alone allows full "
+    "power."
+)
 RESERVED_VARIABLES = "The game sets this variable, or its change would post an event of the game."
 # what a name is, by the section and the setting that it is written in
 KINDS = {
@@ -254,9 +260,21 @@ def of_hold(scene: Scenery, complaint: Complaint) -> Cure:
         write = "If it is the holding winding of a flipper, made to stay on, write `allow_enable: yes` at the coil."
         ways = (Way((add(scene.texts, coil[0], coil[1], "allow_enable: yes"),), write), Way(out))
     else:
-        write = "Pulse it; or write `default_hold_power` at the coil, with the power that it bears for hours."
-        ways = (Way((give(scene.texts, complaint.text, entry, "pulse"),), write), Way(out))
+        length = plain_ms(limit_of(coil[1], ("default_pulse_ms",), "10")[1])
+        write = f"{PULSE_OR_HOLD.format(length)} {end_of_hold(scene, complaint)}".rstrip()
+        way = Way((give(scene.texts, complaint.text, entry, "pulse"),), write, recipe=HOLD)
+        ways = (way, Way(out))
     return Cure((says,), False, ways, out, (entry.start, entry.end))
+
+
+def end_of_hold(scene: Scenery, complaint: Complaint) -> str:
+    """What is said of a coil that is enabled, and that no entry disables."""
+    coil, owner = complaint.key, scene.owner(complaint.text)
+    played = [it for _, entry in scene.entries_of("coil_player") for it in entry.value.entries or []]
+    if any(it.key == coil and action_of(it) == "disable" for it in played):
+        return ""
+    until = "for good" if owner == "machine" else f"until the mode `{owner}` stops"
+    return f"No entry disables `{coil}`: it would then be on {until}."
 
 
 def of_timer(scene: Scenery, complaint: Complaint) -> Cure:

@@ -229,4 +229,5 @@ def cure_of(scene: Scenery, text: str, at: int, fault: str) -> Cure:
         )
     end = block_end(scene.texts, text, at) if at < len(scene.texts[text]) else at
     out = (blanks(text, at, end),) if end > at else ()
-    return Cure(ways=(*ways, Way((blanks(text, at, at + 1),)), Way(out)), out=out)
+    tabs = re.search(r"\t+", line_of(scene.texts, text, at)) if fault == "Tab" else None
+    return Cure(ways=(*ways, Way((blanks(text, at, at + 1),)), Way(out)), out=out, mark=tabs.span() if tabs else None)

@@ -1,7 +1,7 @@
 -- An action, and then what it confirms; and the first device that is Away to a target, which is due.
 use Rattle.std.specs.Prelude.{◌&&◌, find, is_some}
 use Rattle.std.proofs.Common.{◌≡◌, ℕ, ◌+◌, ◌<◌, ◌≤◌, Bool, true, false, if◌then◌else◌, cond, Option, None, Some, option_map, List, [], ◌∷◌, length, map, filter, drop, refl, ap, sym, ◌∙◌, subst}
-use Rattle.std.proofs.lemmas.Bool.{and_parts, false≢true}
+use Rattle.std.proofs.lemmas.Bool.{and_parts, false≢true, true≢false}
 use Rattle.plan_tables.specs.PlanView.{PlanView, feeds, row_at, row_numbers}
 use Rattle.plan_tables.specs.declared.entries.Action.{Action}
 use Rattle.plan_tables.specs.declared.entries.Action.TheVariants.{Post, Pulse, Enable, Disable, Change as ChangeVariable, Enter, Leave, Lose, Arrive}
@@ -113,6 +113,10 @@ away-due (states.BallDevice s) = eject-due (option_map (λ a. a.0) (first_due s)
 find-nothing : (p : RowId → Bool) (rows : List RowId) → ((r : RowId) → p r ≡ false) → find p rows ≡ None
 find-nothing p [] none = refl
 find-nothing p (r ∷ rows) none = ap (λ (b : Bool). cond b (Some r) (find p rows)) (none r) ∙ find-nothing p rows none
+
+pub unless-some : {A : Type 0} (o : Option A) → is_some o ≡ false → o ≡ None
+unless-some None e = refl
+unless-some (Some a) e = absurd (true≢false e)
 
 -- where no device is due, none is Away
 pub none-away : (plan : PlanView) (target : BallTarget) (s : Machine) → least_of (map due_of s.devices) ≡ None → first_away plan target s ≡ None

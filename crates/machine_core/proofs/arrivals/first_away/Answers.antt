@@ -1,5 +1,5 @@
-use Rattle.std.proofs.Common.{◌<◌, ◌≤◌, length, ap, sym, ◌∙◌, arith}
-use Rattle.machine_core.proofs.Confirming.{none-away, away-here, away-later, away-end}
+use Rattle.std.proofs.Common.{not, ◌<◌, ◌≤◌, length, ap, sym, ◌∙◌, arith}
+use Rattle.machine_core.proofs.Confirming.{unless-some, none-away, away-here, away-later, away-end}
 use Rattle.machine_core.proofs.arrivals.first_away.Goals as goal
 
 pub loop-number-preserved : goal.loop-number-preserved
@@ -24,4 +24,4 @@ returns-clause-first g c =
 
 pub returns-then-is_none-clause-first : goal.returns-then-is_none-clause-first
 returns-then-is_none-clause-first g c =
-    sym (none-away c.args.plan.now c.args.target c.args.core.now.machine (sym c.device_due.ensures ∙ c.is_none.ensures))
+    sym (none-away c.args.plan.now c.args.target c.args.core.now.machine (sym c.device_due.ensures ∙ unless-some c.device_due.result (c.is_none.ensures ∙ ap not c.if-is_none.true)))

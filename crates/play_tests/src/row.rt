@@ -1,0 +1,33 @@
+//! What answers rows: the calls that load a bundle and play a log.
+
+use crate::machine::play_log;
+use pinball_shell::load_text;
+use std::process::Abort;
+use worked_rows::{Answers, Pen, Row, Sink, Source, wrong_rows};
+
+/// Each row of the table is answered and printed as it says.
+pub(crate) fn assert_rows<R: Abort + AllocGlobal>(rt: &R, table: &str) {
+    let wrong = wrong_rows(rt.alloc(), &Player, table);
+    assert_eq!(rt; wrong.end(), "");
+}
+
+/// Plays logs on bundles, or prints why a bundle is refused.
+#[derive(Clone, Copy)]
+pub(crate) struct Player;
+
+impl Answers for Player {
+    fn answer(
+        &self,
+        pen: &mut Pen,
+        row: &Row<'_>,
+        bundle: &mut Source<'_>,
+        log: &mut Source<'_>,
+        sink: &mut Sink,
+    ) {
+        match load_text(pen.alloc, bundle, sink) {
+            Ok(Some(checked)) => play_log(pen, &checked, row.board, log, sink),
+            Ok(None) => pen.put("Refused"),
+            Err(fault) => pen.put(fault.name()),
+        }
+    }
+}

@@ -1,0 +1,17 @@
+//! Tables of worked rows for tests: what their parts are, what runs them, and readers and writers that fail. `row`
+//! says how a row is written.
+//!
+//! Each answer is written with a `Pen`. What a row asks for is up to the crate of the tests (`Answers`).
+#![tactic(auto)]
+
+mod pen;
+mod row;
+mod sink;
+mod source;
+mod texts;
+
+pub use pen::Pen;
+pub use row::{Answers, Row, answered, wrong_rows};
+pub use sink::Sink;
+pub use source::Source;
+pub use texts::named;

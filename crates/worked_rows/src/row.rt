@@ -1,0 +1,137 @@
+//! Tables of worked rows, and what runs them.
+//!
+//! A row stands behind an empty line. It begins with `=== ` and its title, which may go on with the
+//! reason for the row. Below stand its parts, each behind a line of its own:
+//!
+//! - `--- check`, `--- verify` or `--- play`: what is done, with this bundle;
+//! - `--- certificate` or `--- log`: what is verified or played on it;
+//! - `--- board`: how the board faults, where it does;
+//! - `--- writer`: how the writer fails, where it does (`Sink::of`);
+//! - `=> Yes`, `=> Refused` or a fault: the answer, with all that is printed.
+//!
+//! A text is written line by line. A `\` at the end of a line takes the line end away, as in every
+//! text of Rattle. What stands behind `--- N times` comes so often, each time with its number, from
+//! 0, in place of `№`. A text in parentheses is the name of a text (`texts`) or of a reader
+//! (`Source::of`). Behind the answer stands how many commands a board took that may fault, and how
+//! often each reader or writer was called that may fail.
+
+use crate::pen::Pen;
+use crate::sink::Sink;
+use crate::source::Source;
+use crate::texts::named;
+use std::alloc::Global;
+
+/// The parts of a row.
+#[derive(Clone, Copy)]
+pub struct Row<'a> {
+    /// What is done.
+    pub call: &'a str,
+    pub bundle: &'a str,
+    /// The certificate or the log.
+    pub other: &'a str,
+    pub board: &'a str,
+    pub writer: &'a str,
+    /// The answer, with all that is printed.
+    pub wanted: &'a str,
+}
+
+/// What answers rows.
+pub trait Answers {
+    /// Adds the answer to a row, with these readers and this writer.
+    fn answer(
+        &self,
+        pen: &mut Pen,
+        row: &Row<'_>,
+        bundle: &mut Source<'_>,
+        other: &mut Source<'_>,
+        sink: &mut Sink,
+    );
+}
+
+/// The rows of a table that are not answered as they say, each with its answer.
+pub fn wrong_rows<A: Answers>(alloc: Global, answers: &A, table: &str) -> Pen {
+    let mut wrong = Pen::new(alloc);
+    let (_, rows) = table.split_once("\n=== ").unwrap_or(("", ""));
+    for row in rows.split("\n=== ") {
+        check_row(&mut wrong, answers, row);
+    }
+    wrong
+}
+
+/// Adds a row and its answer, if that is not the one that stands there.
+fn check_row<A: Answers>(wrong: &mut Pen, answers: &A, text: &str) {
+    let row = row_of(text);
+    let found = answered(wrong.alloc, answers, &row);
+    if found.end() != row.wanted {
+        wrong.put(text);
+        wrong.put("\nhas the answer ");
+        wrong.put(found.end());
+    }
+}
+
+/// What stands before a mark, and behind it.
+fn cut<'a>(text: &'a str, mark: &str) -> (&'a str, &'a str) {
+    text.split_once(mark).unwrap_or((text, ""))
+}
+
+/// The parts of a row. An answer is wanted that no row has, where none stands there.
+fn row_of(text: &str) -> Row<'_> {
+    let (given, wanted) = text.split_once("=> ").unwrap_or((text, "an answer"));
+    let (_, given) = cut(given, "\n--- ");
+    let (given, writer) = cut(given, "--- writer\n");
+    let (given, board) = cut(given, "--- board\n");
+    let (call, texts) = cut(given, "\n");
+    let mark = if call == "play" {
+        "--- log\n"
+    } else {
+        "--- certificate\n"
+    };
+    let (bundle, other) = cut(texts, mark);
+    Row {
+        call,
+        bundle,
+        other,
+        board,
+        writer,
+        wanted,
+    }
+}
+
+/// The answer to a row, how often what may fail was called, and what was printed.
+pub fn answered<A: Answers>(alloc: Global, answers: &A, row: &Row<'_>) -> Pen {
+    let mut found = Pen::new(alloc);
+    let bundle = written(alloc, row.bundle);
+    let other = written(alloc, row.other);
+    let mut source = Source::of(bundle.end());
+    let mut next = Source::of(other.end());
+    let mut sink = Sink::of(alloc, row.writer);
+    answers.answer(&mut found, row, &mut source, &mut next, &mut sink);
+    source.show(&mut found);
+    next.show(&mut found);
+    sink.show(&mut found);
+    found
+}
+
+/// The text of a part, with what comes several times.
+fn written(alloc: Global, text: &str) -> Pen {
+    let mut pen = Pen::new(alloc);
+    let (once, repeated) = cut(text, "--- ");
+    pen.put(named(once));
+    let (count, unit) = cut(repeated, " times\n");
+    add_times(&mut pen, count.parse::<usize>().unwrap_or(0), unit);
+    pen
+}
+
+/// Adds a text so many times, each time with its number in place of `№`.
+fn add_times(pen: &mut Pen, count: usize, unit: &str) {
+    for number in 0..count {
+        match unit.split_once("№") {
+            None => pen.put(unit),
+            Some((before, after)) => {
+                pen.put(before);
+                pen.value(number);
+                pen.put(after);
+            }
+        }
+    }
+}
