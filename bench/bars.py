@@ -35,17 +35,17 @@ MEMORY_OF_LOG = 1.2  # bytes for each byte of a log
 
 
 class Bars:
-    """How many bars are met, and the lines of those that are not."""
+    """How many bars are met, and how many are not."""
 
     def __init__(self) -> None:
         self.met = 0
-        self.missed: list[str] = []
+        self.missed = 0
 
-    def judged(self, what: str, value: float, bar: float) -> str:
+    def judged(self, value: float, bar: float) -> str:
         if value <= bar:
             self.met += 1
             return "met    "
-        self.missed.append(what)
+        self.missed += 1
         return "not met"
 
 
@@ -59,8 +59,8 @@ def made(size: int, of_seven: int) -> dict[str, bytes]:
 
 def dear_texts(program: str, path: pathlib.Path, bars: Bars) -> None:
     """A line for each text: its instructions for each byte, beside those of the ordinary text, and its memory."""
-    print(f"check of texts: instructions for each byte of {COUNTED} bytes, bar {TIMES_ORDINARY} times the ordinary text;")
-    print(f"and bytes of memory for each of {WEIGHED} bytes, bar {MEMORY_OF_TEXT}")
+    print(f"check of texts: instructions for each of {COUNTED} bytes, bar {TIMES_ORDINARY} times the ordinary text;")
+    print(f"memory for each of {WEIGHED} bytes, bar {MEMORY_OF_TEXT} bytes")
     ordinary = 0.0
     large = made(WEIGHED, WEIGHED)
     for what, bundle in made(COUNTED, COUNTED // tiny.MODES).items():
@@ -70,14 +70,14 @@ def dear_texts(program: str, path: pathlib.Path, bars: Bars) -> None:
         print(f"{f'{what} ({count.status})':38} {each:7.0f} ", end="")
         if ordinary:
             ratio = each / ordinary
-            print(f"{ratio:6.2f} {bars.judged(f'{what}, instructions', ratio, TIMES_ORDINARY)}", end="")
+            print(f"{ratio:6.2f} {bars.judged(ratio, TIMES_ORDINARY)}", end="")
         else:
             ordinary = each
             print(" " * 14, end="")
         path.write_bytes(large[what])
         cost = used([program, "check"], path)
         memory = cost.memory / len(large[what])
-        print(f" {memory:7.1f} B a byte {bars.judged(f'{what}, memory', memory, MEMORY_OF_TEXT)}", end="")
+        print(f" {memory:7.1f} B a byte {bars.judged(memory, MEMORY_OF_TEXT)}", end="")
         print(f" {cost.seconds * 1000:7.0f} ms", flush=True)
 
 
@@ -90,7 +90,7 @@ def doubles(bars: Bars, what: str, size: int, count: Callable[[int], int]) -> No
         print(f"{size // part:6} {instructions / 1e6:10.1f}", end="")
         if before:
             ratio = instructions / before
-            print(f" {ratio:6.2f} {bars.judged(f'{what}, {size // part}', ratio, DOUBLED)}", end="")
+            print(f" {ratio:6.2f} {bars.judged(ratio, DOUBLED)}", end="")
         print(flush=True)
         before = instructions
 
@@ -128,16 +128,20 @@ def long_plays(program: str, room: pathlib.Path, complete: pathlib.Path, bars: B
     for what, (bundle, switches, balls) in plays.items():
         path = room / "bundle"
         path.write_bytes(bundle)
-        print(f"\nplay on {what}, a bundle of {len(bundle)} bytes: processor time, bar {DOUBLED_LOG} times that of half")
-        print(f"the log; and memory, bar {MEMORY_OF_LOG} bytes for each of the log and {MEMORY_OF_TEXT} of the bundle")
+        print(f"\nplay on {what}: processor time, bar {DOUBLED_LOG} times that of half the log; memory, bar")
+        print(f"{MEMORY_OF_LOG} bytes for each of the log and {MEMORY_OF_TEXT} for each of {len(bundle)} of the bundle")
         logs = [room / f"log_{size}" for size in LOGS]
         for log, size in zip(logs, LOGS):
             log.write_text(games.log(switches, balls, size))
         half, whole = played(program, path, logs)
-        show_play(logs[0], half, len(bundle), bars, what)
-        show_play(logs[1], whole, len(bundle), bars, what)
+        most = MEMORY_OF_LOG * LOGS[1] + MEMORY_OF_TEXT * len(bundle)
         ratio = whole.seconds / half.seconds
-        print(f"{ratio:.2f} times the time {bars.judged(f'{what}, time', ratio, DOUBLED_LOG)}", flush=True)
+        print(f"{LOGS[0]:9} bytes {half.seconds * 1000:8.0f} ms {' ' * 14} {half.memory / MIB:6.1f} MiB")
+        print(
+            f"{LOGS[1]:9} bytes {whole.seconds * 1000:8.0f} ms {ratio:6.2f} {bars.judged(ratio, DOUBLED_LOG)} "
+            f"{whole.memory / MIB:6.1f} MiB of {most / MIB:.1f} {bars.judged(whole.memory, most)}",
+            flush=True,
+        )
 
 
 def played(program: str, bundle: pathlib.Path, logs: list[pathlib.Path]) -> list[Used]:
@@ -152,15 +156,6 @@ def played(program: str, bundle: pathlib.Path, logs: list[pathlib.Path]) -> list
     return costs
 
 
-def show_play(log: pathlib.Path, cost: Used, bundle: int, bars: Bars, what: str) -> None:
-    size = log.stat().st_size
-    bar = MEMORY_OF_LOG * size + MEMORY_OF_TEXT * bundle
-    print(
-        f"{size:9} bytes {cost.seconds * 1000:10.0f} ms {cost.memory / MIB:8.1f} MiB of {bar / MIB:.1f} "
-        f"{bars.judged(f'{what}, memory with {size} bytes', cost.memory, bar)}"
-    )
-
-
 def main() -> None:
     if len(sys.argv) != 3:
         sys.exit(__doc__)
@@ -170,9 +165,7 @@ def main() -> None:
         dear_texts(program, room / "bundle", bars)
         all_that_doubles(program, room, bars)
         long_plays(program, room, pathlib.Path(sys.argv[2]), bars)
-    print(f"\n{bars.met} bars are met, and {len(bars.missed)} are not")
-    for what in bars.missed:
-        print(f"not met: {what}")
+    print(f"\n{bars.met} bars are met, and {bars.missed} are not")
     sys.exit(1 if bars.missed else 0)
 
 
