@@ -64,7 +64,7 @@ class Difference:
     what: str
 
     def report(self) -> str:
-        wanted, got = (answer[0].decode(errors="replace").splitlines() for answer in (self.wanted, self.got))
+        wanted, got = (answer[0].decode(errors="replace").split("\n") for answer in (self.wanted, self.got))
         at = next((at for at, pair in enumerate(zip(wanted, got)) if pair[0] != pair[1]), min(len(wanted), len(got)))
         parts = [f"machine {self.seed}, {self.command}: {self.what}"]
         parts += [f"line {at + 1}, model:   {line}" for line in wanted[at : at + 1] or ["(no line)"]]
@@ -98,6 +98,11 @@ def seconds_of_children() -> float:
     """What the processes that have ended took of the processor."""
     used = resource.getrusage(resource.RUSAGE_CHILDREN)
     return used.ru_utime + used.ru_stime
+
+
+def lines_of(output: bytes) -> list[str]:
+    """The lines of an output. Only LF ends one: a name may have other bytes that end lines elsewhere."""
+    return output.decode(errors="replace").split("\n")[:-1]
 
 
 class Comparison:
@@ -172,7 +177,7 @@ class Comparison:
     def checked(self, judged: Judged) -> None:
         answer = judged.check()
         self.compare("check", judged.bundle, b"", answer)
-        for line in answer[0].decode(errors="replace").splitlines():
+        for line in lines_of(answer[0]):
             words = line.split(" ")
             if words[0] in ("yes", "no"):
                 self.count(f"check: {words[0]}")
@@ -192,7 +197,7 @@ class Comparison:
         for text in (right, damage.certificate(drawing, right)):
             answer = judged.verify(text)
             self.compare("verify", judged.bundle, text, answer)
-            said = next(line for line in answer[0].decode().splitlines() if not line.startswith("note"))
+            said = next(line for line in lines_of(answer[0]) if not line.startswith("note"))
             self.count(" ".join(["verify:", *said.split()[:4]][: 5 if "Certificate" in said else 3]))
 
     def played(self, drawing: random.Random, judged: Judged, log: bytes) -> None:
@@ -207,7 +212,7 @@ class Comparison:
             self.compare("play", judged.bundle, text, answer)
             self.count("play" if judged.is_accepted else "play: refused", *seen)
             if judged.is_accepted:
-                self.count(*{kind_of_line(line) for line in answer[0].decode(errors="replace").splitlines()})
+                self.count(*{kind_of_line(line) for line in lines_of(answer[0])})
                 self.found.counts["lines of plays"] += answer[0].count(b"\n")
 
     def damaged(self, drawing: random.Random, drawn: draw.Drawn, bundle: bytes) -> None:

@@ -1,6 +1,6 @@
 //! Readers that fail or never end, writers that fail, and what is said of it.
 
-use crate::row::assert_rows;
+use crate::checks::row::assert_rows;
 use pinball_shell::{Failure, ShellFault, read_all};
 use std::alloc::Global;
 use std::test::Fail;

@@ -1,6 +1,6 @@
 //! Whole games by switch changes alone, beside a plain model of whose turn it is and who has scored what.
 
-use crate::row::Player;
+use crate::plays::row::Player;
 use std::alloc::Global;
 use worked_rows::{Pen, Row, answered};
 

@@ -1,6 +1,6 @@
 //! Logic blocks and timers: bundles that are checked.
 
-use crate::row::assert_rows;
+use crate::checks::row::assert_rows;
 
 const CHECKS: &str = "
 === counter

@@ -1,6 +1,6 @@
 //! Shots, groups and profiles: bundles that are checked.
 
-use crate::row::assert_rows;
+use crate::checks::row::assert_rows;
 
 const CHECKS: &str = "
 === shot in two groups

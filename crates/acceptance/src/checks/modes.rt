@@ -1,6 +1,6 @@
 //! Modes: bundles that are checked and verified.
 
-use crate::row::assert_rows;
+use crate::checks::row::assert_rows;
 
 const CHECKS: &str = "
 === priority order check

@@ -1,6 +1,6 @@
 //! Ball devices, the ledger of balls, and games by switch changes: logs that are played.
 
-use crate::row::assert_rows;
+use crate::plays::row::assert_rows;
 
 const PLAYS: &str = "
 === balls counted at start

@@ -1,6 +1,6 @@
 //! Events that feed each other: bundles that are checked.
 
-use crate::row::assert_rows;
+use crate::checks::row::assert_rows;
 
 const ROWS: &str = "
 === twice posted check

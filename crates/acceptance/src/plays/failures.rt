@@ -1,6 +1,6 @@
 //! Readers and writers that fail, and readers that never end.
 
-use crate::row::assert_rows;
+use crate::plays::row::assert_rows;
 
 // A reader and a writer that fail.
 const FAILING: &str = "

@@ -1,6 +1,6 @@
 //! Bundles that are checked.
 
-use crate::row::assert_rows;
+use crate::checks::row::assert_rows;
 
 const ROWS: &str = "
 === one switch check

@@ -1,6 +1,6 @@
 //! Coils, coil players, flippers and autofire coils: bundles that are checked.
 
-use crate::row::assert_rows;
+use crate::checks::row::assert_rows;
 
 const CHECKS: &str = "
 === pulse above limit

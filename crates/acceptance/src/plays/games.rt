@@ -1,6 +1,6 @@
 //! Games, players, their variables, and conditions: logs that are played.
 
-use crate::row::assert_rows;
+use crate::plays::row::assert_rows;
 
 const PLAYS: &str = "
 === score condition

@@ -1,7 +1,7 @@
 //! Three machines in one bundle: a mode with a timer, a game with two ball devices, and a counter. None of the machines
 //! disturbs another, so the trace has the lines of all three, by moments.
 
-use crate::row::assert_rows;
+use crate::plays::row::assert_rows;
 
 const ROWS: &str = "
 === three machines

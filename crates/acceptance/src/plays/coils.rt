@@ -1,7 +1,7 @@
 //! Coils, coil players, flippers and autofire coils: logs that are played, and boards
 //! that fault.
 
-use crate::row::assert_rows;
+use crate::plays::row::assert_rows;
 
 const PLAYS: &str = "
 === pulse before ready is skipped

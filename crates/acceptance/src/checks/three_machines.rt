@@ -1,7 +1,7 @@
 //! Three machines in one bundle: a mode with a timer, a game with two ball devices, and a counter. It is checked and
-//! verified, and played in `play_tests`.
+//! verified, and played in `plays`.
 
-use crate::row::assert_rows;
+use crate::checks::row::assert_rows;
 use std::test::Fail;
 use worked_rows::Pen;
 

@@ -1,6 +1,6 @@
 //! Ball devices, and games with balls: bundles that are checked.
 
-use crate::row::assert_rows;
+use crate::checks::row::assert_rows;
 
 const CHECKS: &str = "
 === no eject coil

@@ -1,6 +1,6 @@
 //! Games, players, their variables, and conditions: bundles that are checked.
 
-use crate::row::assert_rows;
+use crate::checks::row::assert_rows;
 
 const CHECKS: &str = "
 === condition does not break cycle

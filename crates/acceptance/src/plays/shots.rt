@@ -1,6 +1,6 @@
 //! Shots, groups and profiles: logs that are played.
 
-use crate::row::assert_rows;
+use crate::plays::row::assert_rows;
 
 const PLAYS: &str = "
 === shot and group in game

@@ -1,7 +1,7 @@
 //! Texts of about 1 MiB that somebody made to cost time or stack: each is answered like any other.
 //! How the time grows is measured by `bench/run`.
 
-use crate::row::assert_rows;
+use crate::checks::row::assert_rows;
 
 // Texts that open what nothing closes.
 const OPEN: &str = "

@@ -1,6 +1,6 @@
 //! Certificates that are verified on a bundle.
 
-use crate::row::assert_rows;
+use crate::checks::row::assert_rows;
 
 const ROWS: &str = "
 === certificate with short weight

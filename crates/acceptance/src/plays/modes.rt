@@ -1,6 +1,6 @@
 //! Modes: logs that are played.
 
-use crate::row::assert_rows;
+use crate::plays::row::assert_rows;
 
 const PLAYS: &str = "
 === priority order play

@@ -1,6 +1,6 @@
 //! Switches, and events that feed each other: logs that are played.
 
-use crate::row::assert_rows;
+use crate::plays::row::assert_rows;
 
 const ROWS: &str = "
 === one switch play

@@ -1,6 +1,6 @@
 //! What answers rows: the calls that load a bundle and play a log.
 
-use crate::machine::play_log;
+use crate::plays::machine::play_log;
 use pinball_shell::load_text;
 use std::process::Abort;
 use worked_rows::{Answers, Pen, Row, Sink, Source, wrong_rows};

@@ -1,6 +1,6 @@
 //! Logic blocks and timers: logs that are played.
 
-use crate::row::assert_rows;
+use crate::plays::row::assert_rows;
 
 const BLOCKS: &str = "
 === counter completes, and is disabled then

@@ -1,6 +1,6 @@
 //! Bundles and certificates at and above a limit.
 
-use crate::row::assert_rows;
+use crate::checks::row::assert_rows;
 
 const ROWS: &str = "
 === switches 257
