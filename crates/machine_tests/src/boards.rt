@@ -5,9 +5,8 @@ use crate::steps::input_of;
 use arrayvec::ArrayVec;
 use coil_guard::{FuseBoard, Taken};
 use coil_rules::{Autofire, Flipper};
-use config_checker::{Checked, check};
+use config_checker::Checked;
 use device_objects::Device;
-use mpf_config::Config;
 use pin_rig::{Input, Rig, StepFault};
 use plan_tables::DeviceRow;
 use std::alloc::{AllocError, Global};
@@ -283,21 +282,13 @@ fn compare_all(
 pub(crate) fn boarded(
     alloc: Global,
     out: &mut String,
-    config: &Config,
+    checked: &Checked,
     question: &str,
 ) -> Result<(), AllocError> {
     let (count, rest) = question.split_once(' ').unwrap_or((question, ""));
     let texts = rest.split_once(": ").unwrap_or((rest, ""));
-    let Ok(checked) = check(alloc, config) else {
-        return out.push_str("refused");
-    };
-    compare_all(
-        alloc,
-        out,
-        &checked,
-        count.parse::<u32>().unwrap_or(0),
-        texts,
-    )
+    let count = count.parse::<u32>().unwrap_or(0);
+    compare_all(alloc, out, checked, count, texts)
 }
 
 // Switch 0 enables a flipper on coils 0 and 1, with switch 1, and an autofire coil, 2, with switch 2,

@@ -5,10 +5,9 @@ use crate::cases::{add, wrong_rows};
 use crate::steps::{input_of, number_at};
 use arrayvec::ArrayVec;
 use coil_guard::{Board, FuseBoard, MemoryBoard, Taken};
-use config_checker::{Checked, check};
+use config_checker::Checked;
 use device_objects::{Device, World};
 use logic_blocks::Accrual;
-use mpf_config::Config;
 use pin_rig::{Rig, RigFault};
 use plan_tables::{Act, Plan, RowId};
 use std::alloc::{AllocError, Global};
@@ -77,16 +76,13 @@ fn add_with_last<D: Device>(
 pub(crate) fn exchanged(
     alloc: Global,
     out: &mut String,
-    config: &Config,
+    checked: &Checked,
     question: &str,
 ) -> Result<(), AllocError> {
-    let Ok(checked) = check(alloc, config) else {
-        return out.push_str("refused");
-    };
     let mut all: Vec<Rc<Counts>> = Vec::new(alloc);
     let (first, words) = question.split_once(": ").unwrap_or(("", question));
-    let boxes = boxes_of(alloc, &checked, words, &mut all)?;
-    add_with_last(alloc, out, &checked, boxes, (first, &all))?;
+    let boxes = boxes_of(alloc, checked, words, &mut all)?;
+    add_with_last(alloc, out, checked, boxes, (first, &all))?;
     add_counts(out, &all)
 }
 
@@ -169,20 +165,17 @@ fn add_swap<D: Device>(
 pub(crate) fn swapped(
     alloc: Global,
     out: &mut String,
-    config: &Config,
+    checked: &Checked,
     question: &str,
 ) -> Result<(), AllocError> {
-    let Ok(checked) = check(alloc, config) else {
-        return out.push_str("refused");
-    };
     let (first, _) = question.split_once(": ").unwrap_or(("", ""));
     let (_, word) = first.split_once(" ").unwrap_or(("", ""));
     let mut devices: Vec<Accrual> = Vec::new(alloc);
-    if let Some(accrual) = accrual_of(&checked, "0") {
+    if let Some(accrual) = accrual_of(checked, "0") {
         devices.push(accrual)?;
     }
-    match accrual_of(&checked, word) {
-        Some(device) => add_swap(alloc, out, &checked, (devices, device), question),
+    match accrual_of(checked, word) {
+        Some(device) => add_swap(alloc, out, checked, (devices, device), question),
         None => out.push_str("no accrual"),
     }
 }
