@@ -2,7 +2,7 @@
 //! same run without exchanges.
 
 use crate::cases::wrong_rows;
-use crate::spares::{Bench, Code, History, Spare};
+use crate::spares::{Bench, Boxes, Code, History, Make, Spare};
 use crate::steps::{add_step, number_at};
 use coil_guard::MemoryBoard;
 use config_checker::Checked;
@@ -17,7 +17,7 @@ use std::test::Fail;
 const SWITCHES: u32 = 10;
 
 /// A rig whose devices can be exchanged.
-type Swapped<'c, 'h> = Rig<'c, Spare<'h>, MemoryBoard>;
+type Swapped<'c, 'h, D> = Rig<'c, Spare<'h, D>, MemoryBoard>;
 
 /// How often a device was exchanged, by the code of the old one and of the new one.
 #[derive(Clone, Copy)]
@@ -78,7 +78,7 @@ impl Seat {
     }
 
     /// A device has come out, for one with this code. It has to be the one that was there, and it has stopped.
-    fn take(&mut self, taken: &Spare<'_>, code: Code) {
+    fn take<D: Device>(&mut self, taken: &Spare<'_, D>, code: Code) {
         let is_it = matches!(
             (taken.code(), self.code),
             (Code::Plain, Code::Plain) | (Code::Mask, Code::Mask)
@@ -92,7 +92,11 @@ impl Seat {
 }
 
 /// Puts a device in the place of that of a row. Gives whether it is refused for its state.
-fn put<'h>(rig: &mut Swapped<'_, 'h>, seat: &mut Seat, device: Spare<'h>) -> bool {
+fn put<'h, D: Device>(
+    rig: &mut Swapped<'_, 'h, D>,
+    seat: &mut Seat,
+    device: Spare<'h, D>,
+) -> bool {
     let code = device.code();
     match rig.exchange(seat.row.number, device) {
         Ok(taken) => {
@@ -108,10 +112,10 @@ fn put<'h>(rig: &mut Swapped<'_, 'h>, seat: &mut Seat, device: Spare<'h>) -> boo
 }
 
 /// Puts this device in the place of that of a row, if there is one. Gives whether it is refused for its state.
-fn put_some<'h>(
-    rig: &mut Swapped<'_, 'h>,
+fn put_some<'h, D: Device>(
+    rig: &mut Swapped<'_, 'h, D>,
     seat: &mut Seat,
-    device: Option<Spare<'h>>,
+    device: Option<Spare<'h, D>>,
 ) -> bool {
     match device {
         Some(device) => put(rig, seat, device),
@@ -124,7 +128,12 @@ fn put_some<'h>(
 
 /// Exchanges the device of a row for one with this code, which is tried as it begins, and then in the state of
 /// the old one.
-fn exchange<'h>(bench: Bench<'h>, rig: &mut Swapped<'_, 'h>, seat: &mut Seat, code: Code) {
+fn exchange<'h, D: Device, M: Make<D>>(
+    bench: &Bench<'_, 'h, M>,
+    rig: &mut Swapped<'_, 'h, D>,
+    seat: &mut Seat,
+    code: Code,
+) {
     if !put_some(rig, seat, bench.first(&seat.row, code)) {
         return;
     }
@@ -140,7 +149,11 @@ fn exchange<'h>(bench: Bench<'h>, rig: &mut Swapped<'_, 'h>, seat: &mut Seat, co
 
 /// Exchanges the device of a row for each code, from each code: `=` is the code that is there at first, and `x`
 /// the other one, which is there at the end.
-fn exchange_for_each<'h>(bench: Bench<'h>, rig: &mut Swapped<'_, 'h>, seat: &mut Seat) {
+fn exchange_for_each<'h, D: Device, M: Make<D>>(
+    bench: &Bench<'_, 'h, M>,
+    rig: &mut Swapped<'_, 'h, D>,
+    seat: &mut Seat,
+) {
     let (first, other) = (seat.code, seat.other_code());
     for mark in "=xx=x".chars() {
         let code = if mark == '=' { first } else { other };
@@ -195,7 +208,11 @@ fn is_same<D: Device>(
 }
 
 /// Exchanges the device of each row.
-fn exchange_all<'h>(bench: Bench<'h>, rig: &mut Swapped<'_, 'h>, seats: &mut [Seat]) {
+fn exchange_all<'h, D: Device, M: Make<D>>(
+    bench: &Bench<'_, 'h, M>,
+    rig: &mut Swapped<'_, 'h, D>,
+    seats: &mut [Seat],
+) {
     for seat in seats {
         exchange_for_each(bench, rig, seat);
     }
@@ -216,9 +233,9 @@ fn compare_all<D: Device>(
 
 /// So many random inputs for two rigs, of which one has its devices exchanged before each. Gives how many lines
 /// there were, up to the first input that was not answered by both the same.
-fn run<'h>(
-    bench: Bench<'h>,
-    (plain, rig): (&mut Swapped<'_, 'h>, &mut Swapped<'_, 'h>),
+fn run<'h, D: Device, M: Make<D>>(
+    (alloc, bench): (Global, &Bench<'_, 'h, M>),
+    (plain, rig): (&mut Swapped<'_, 'h, D>, &mut Swapped<'_, 'h, D>),
     seats: &mut [Seat],
     inputs: u64,
 ) -> usize {
@@ -227,7 +244,7 @@ fn run<'h>(
     for _ in 0..inputs {
         exchange_all(bench, rig, seats);
         let input = draw_input(&mut state, plain.now(), plain.next_due());
-        if !is_same_step(bench.alloc, plain, rig, input) {
+        if !is_same_step(alloc, plain, rig, input) {
             return lines;
         }
         lines = lines.saturating_add(plain.trace().len());
@@ -237,8 +254,12 @@ fn run<'h>(
 }
 
 /// The devices of all rows as they begin, with plain code.
-fn first_devices<'h>(bench: Bench<'h>, seats: &[Seat]) -> Option<Vec<Spare<'h>>> {
-    let mut devices = Vec::new(bench.alloc);
+fn first_devices<'h, D: Device, M: Make<D>>(
+    alloc: Global,
+    bench: &Bench<'_, 'h, M>,
+    seats: &[Seat],
+) -> Option<Vec<Spare<'h, D>>> {
+    let mut devices = Vec::new(alloc);
     for seat in seats {
         let device = bench.first(&seat.row, Code::Plain)?;
         devices.push(device).ok()?;
@@ -247,48 +268,46 @@ fn first_devices<'h>(bench: Bench<'h>, seats: &[Seat]) -> Option<Vec<Spare<'h>>>
 }
 
 /// The machine as it begins, with plain code.
-fn rig_of<'c, 'h>(
-    bench: Bench<'h>,
+fn rig_of<'c, 'h, D: Device, M: Make<D>>(
+    alloc: Global,
     checked: &'c Checked,
+    bench: &Bench<'_, 'h, M>,
     seats: &[Seat],
-) -> Option<Swapped<'c, 'h>> {
-    let devices = first_devices(bench, seats)?;
-    let board = MemoryBoard::new(bench.alloc).ok()?;
-    Rig::new(bench.alloc, checked, devices, board).ok()
+) -> Option<Swapped<'c, 'h, D>> {
+    let devices = first_devices(alloc, bench, seats)?;
+    Rig::new(alloc, checked, devices, MemoryBoard::new(alloc).ok()?).ok()
 }
 
 /// The run beside this rig, with a second one whose devices are exchanged.
-fn run_beside<'h>(
-    bench: Bench<'h>,
+fn run_beside<'h, D: Device, M: Make<D>>(
+    (alloc, bench): (Global, &Bench<'_, 'h, M>),
     checked: &Checked,
-    plain: &mut Swapped<'_, 'h>,
+    plain: &mut Swapped<'_, 'h, D>,
     seats: &mut [Seat],
     inputs: u64,
 ) -> usize {
-    match rig_of(bench, checked, seats) {
-        Some(mut rig) => run(bench, (plain, &mut rig), seats, inputs),
+    match rig_of(alloc, checked, bench, seats) {
+        Some(mut rig) => run((alloc, bench), (plain, &mut rig), seats, inputs),
         None => 0,
     }
 }
 
 /// The run, on a machine whose devices add their calls to the first history, and on one whose devices are
 /// exchanged, with the second.
-fn run_both(
-    alloc: Global,
+fn run_both<D: Device, M: Make<D>>(
+    (alloc, make): (Global, &M),
     checked: &Checked,
     (unread, history): (&History, &History),
     seats: &mut [Seat],
     inputs: u64,
 ) -> usize {
-    let bench = Bench {
-        alloc,
+    let other = Bench {
+        make,
         history: unread,
     };
-    match rig_of(bench, checked, seats) {
-        Some(mut plain) => {
-            let bench = Bench { alloc, history };
-            run_beside(bench, checked, &mut plain, seats, inputs)
-        }
+    let bench = Bench { make, history };
+    match rig_of(alloc, checked, &other, seats) {
+        Some(mut plain) => run_beside((alloc, &bench), checked, &mut plain, seats, inputs),
         None => 0,
     }
 }
@@ -349,7 +368,14 @@ pub(crate) fn exchanged_run(
     let history: History = RefCell::new(Vec::new(alloc));
     let mut seats = seats_of(alloc, checked)?;
     let inputs = number_at(question, 0);
-    let lines = run_both(alloc, checked, (&unread, &history), &mut seats, inputs);
+    let make = (alloc, &Boxes { alloc });
+    let lines = run_both::<Box<dyn Device>, Boxes>(
+        make,
+        checked,
+        (&unread, &history),
+        &mut seats,
+        inputs,
+    );
     write!(out, "{lines} ")?;
     for seat in seats.iter() {
         add_seat(out, seat)?;

@@ -34,14 +34,14 @@ pub(crate) type History = RefCell<Vec<Past>>;
 
 /// A device that adds each call to a history.
 #[derive(Drop)]
-pub(crate) struct Spare<'h> {
-    device: Box<dyn Device>,
+pub(crate) struct Spare<'h, D: Device> {
+    device: D,
     number: RowId,
     code: Code,
     history: &'h History,
 }
 
-impl Spare<'_> {
+impl<D: Device> Spare<'_, D> {
     pub(crate) fn code(&self) -> Code {
         self.code
     }
@@ -72,10 +72,10 @@ impl Spare<'_> {
     }
 }
 
-impl Device for Spare<'_> {
-    ghost row_of = { λ s. ⟦<Box<dyn Device> as Device>⟧.row_of s.device };
+impl<D: Device> Device for Spare<'_, D> {
+    ghost row_of = { λ s. D.row_of s.device };
 
-    ghost state_of = { λ s. ⟦<Box<dyn Device> as Device>⟧.state_of s.device };
+    ghost state_of = { λ s. D.state_of s.device };
 
     fn row(&self) -> DeviceRow {
         self.device.row()
@@ -186,58 +186,88 @@ fn mask_in(alloc: Global, row: &DeviceRow, state: &DeviceState) -> Option<Box<dy
     Some(Box::new(alloc, MaskBank::resume(row, state)?).ok()?)
 }
 
-/// Makes devices that add their calls to a history. It makes none where memory is out, or where there is no
-/// such code.
-#[derive(Clone, Copy)]
-pub(crate) struct Bench<'h> {
-    pub(crate) alloc: Global,
-    pub(crate) history: &'h History,
+/// What makes devices. It makes none where memory is out, or where there is no such code.
+pub(crate) trait Make<D> {
+    /// The device of a row as it begins.
+    fn first(&self, row: &DeviceRow, code: Code) -> Option<D>;
+
+    /// The device of a row that keeps flags as bits, in this state.
+    fn resumed(&self, row: &DeviceRow, state: &DeviceState) -> Option<D>;
 }
 
-impl<'h> Bench<'h> {
-    fn spare(self, device: Box<dyn Device>, number: RowId, code: Code) -> Spare<'h> {
-        Spare {
-            device,
-            number,
-            code,
-            history: self.history,
-        }
-    }
+/// Makes boxes.
+#[derive(Clone, Copy)]
+pub(crate) struct Boxes {
+    pub(crate) alloc: Global,
+}
 
-    fn plain(self, row: &DeviceRow) -> Option<Box<dyn Device>> {
+impl Make<Box<dyn Device>> for Boxes {
+    fn first(&self, row: &DeviceRow, code: Code) -> Option<Box<dyn Device>> {
+        if matches!(code, Code::Mask) {
+            return mask_first(self.alloc, row);
+        }
         match plain_block(self.alloc, row) {
             Some(device) => Some(device),
             None => plain_other(self.alloc, row),
         }
     }
 
-    /// The device of a row as it begins.
-    pub(crate) fn first(self, row: &DeviceRow, code: Code) -> Option<Spare<'h>> {
-        let device = match code {
-            Code::Plain => self.plain(row)?,
-            Code::Mask => mask_first(self.alloc, row)?,
-        };
-        Some(self.spare(device, row.number, code))
+    fn resumed(&self, row: &DeviceRow, state: &DeviceState) -> Option<Box<dyn Device>> {
+        mask_in(self.alloc, row, state)
     }
+}
 
-    /// The device of a row with plain code, after the calls that the row has had.
-    fn plain_in(self, row: &DeviceRow) -> Option<Box<dyn Device>> {
-        let mut device = self.plain(row)?;
-        repeat(&mut device, self.history, row.number);
-        Some(device)
+/// Devices of a maker, with the history to which they add their calls.
+#[derive(Drop)]
+pub(crate) struct Bench<'m, 'h, M> {
+    pub(crate) make: &'m M,
+    pub(crate) history: &'h History,
+}
+
+impl<'m, 'h, M> Bench<'m, 'h, M> {
+    /// The device of a row as it begins.
+    pub(crate) fn first<D: Device>(&self, row: &DeviceRow, code: Code) -> Option<Spare<'h, D>>
+    where
+        M: Make<D>,
+    {
+        let device = self.make.first(row, code)?;
+        Some(Spare {
+            device,
+            number: row.number,
+            code,
+            history: self.history,
+        })
     }
 
     /// The device of a row, in the state to which the calls that the row has had have led.
-    pub(crate) fn brought(
-        self,
+    pub(crate) fn brought<D: Device>(
+        &self,
         row: &DeviceRow,
         code: Code,
         state: &DeviceState,
-    ) -> Option<Spare<'h>> {
+    ) -> Option<Spare<'h, D>>
+    where
+        M: Make<D>,
+    {
         let device = match code {
-            Code::Plain => self.plain_in(row)?,
-            Code::Mask => mask_in(self.alloc, row, state)?,
+            Code::Plain => self.repeated(row)?,
+            Code::Mask => self.make.resumed(row, state)?,
         };
-        Some(self.spare(device, row.number, code))
+        Some(Spare {
+            device,
+            number: row.number,
+            code,
+            history: self.history,
+        })
+    }
+
+    /// The device of a row with plain code, after the calls that the row has had.
+    fn repeated<D: Device>(&self, row: &DeviceRow) -> Option<D>
+    where
+        M: Make<D>,
+    {
+        let mut device = self.make.first(row, Code::Plain)?;
+        repeat(&mut device, self.history, row.number);
+        Some(device)
     }
 }
