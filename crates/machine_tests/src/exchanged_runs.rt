@@ -1,8 +1,8 @@
 //! A random run in which the device of each row is exchanged in every state, for each kind of code, beside the
 //! same run without exchanges.
 
-use crate::cases::wrong_rows;
-use crate::spares::{Bench, Boxes, Code, History, Make, Spare};
+use crate::cases::{add, wrong_rows};
+use crate::spares::{Bench, Boxes, History, Make, Spare, players_in, repeated};
 use crate::steps::{add_step, number_at};
 use coil_guard::MemoryBoard;
 use config_checker::Checked;
@@ -19,34 +19,15 @@ const SWITCHES: u32 = 10;
 /// A rig whose devices can be exchanged.
 type Swapped<'c, 'h, D> = Rig<'c, Spare<'h, D>, MemoryBoard>;
 
-/// How often a device was exchanged, by the code of the old one and of the new one.
-#[derive(Clone, Copy)]
-struct Pairs {
-    plain_plain: u32,
-    plain_mask: u32,
-    mask_mask: u32,
-    mask_plain: u32,
-}
-
-impl Pairs {
-    fn count(&mut self, old: Code, new: Code) {
-        let count = match (old, new) {
-            (Code::Plain, Code::Plain) => &mut self.plain_plain,
-            (Code::Plain, Code::Mask) => &mut self.plain_mask,
-            (Code::Mask, Code::Mask) => &mut self.mask_mask,
-            (Code::Mask, Code::Plain) => &mut self.mask_plain,
-        };
-        *count = count.saturating_add(1);
-    }
-}
-
 /// A row of the machine whose devices are exchanged.
 #[derive(Clone, Copy)]
 struct Seat {
     row: DeviceRow,
-    /// The code of the device that is there.
-    code: Code,
-    pairs: Pairs,
+    /// Whether the device that is there is a mask.
+    is_mask: bool,
+    /// How often plain code was exchanged for plain code, plain code for a mask, a mask for a mask, and a mask for
+    /// plain code.
+    pairs: [u32; 4],
     /// How often a device as it begins was refused, since the one of the row was in another state.
     refused: u32,
     /// Whether something was not as it has to be.
@@ -57,37 +38,48 @@ impl Seat {
     fn new(row: DeviceRow) -> Seat {
         Seat {
             row,
-            code: Code::Plain,
-            pairs: Pairs {
-                plain_plain: 0,
-                plain_mask: 0,
-                mask_mask: 0,
-                mask_plain: 0,
-            },
+            is_mask: false,
+            pairs: [0; 4],
             refused: 0,
             is_wrong: false,
         }
     }
 
-    /// The other code of the row's devices. Where there is none, the one that they have.
-    fn other_code(&self) -> Code {
-        match (self.row.settings, self.code) {
-            (Settings::Accrual(_) | Settings::Bank(_), Code::Plain) => Code::Mask,
-            _ => Code::Plain,
+    /// Whether the row can have masks.
+    fn has_masks(&self) -> bool {
+        matches!(self.row.settings, Settings::Accrual(_) | Settings::Bank(_))
+    }
+
+    fn count(&mut self, old: bool, new: bool) {
+        let place = match (old, new) {
+            (false, false) => 0,
+            (false, true) => 1,
+            (true, true) => 2,
+            (true, false) => 3,
+        };
+        if let Some(count) = self.pairs.get_mut(place) {
+            *count = count.saturating_add(1);
         }
     }
 
-    /// A device has come out, for one with this code. It has to be the one that was there, and it has stopped.
-    fn take<D: Device>(&mut self, taken: &Spare<'_, D>, code: Code) {
-        let is_it = matches!(
-            (taken.code(), self.code),
-            (Code::Plain, Code::Plain) | (Code::Mask, Code::Mask)
-        );
-        if !is_it || !taken.forgets_stop() || taken.due().is_some() {
+    /// Whether a device was refused for its state. Any other refusal is wrong.
+    fn is_of_state(&mut self, refusal: Refusal) -> bool {
+        let is_of_state = matches!(refusal, Refusal::WrongState);
+        if !is_of_state {
             self.is_wrong = true;
         }
-        self.pairs.count(taken.code(), code);
-        self.code = code;
+        is_of_state
+    }
+
+    /// A device has come out, for a mask or not. It has to be the one that was there, and it has stopped.
+    fn take<D: Device>(&mut self, taken: &Spare<'_, D>, is_mask: bool) {
+        let old = taken.is_mask();
+        let has_stopped = taken.forgets_stop();
+        if old != self.is_mask || !has_stopped || taken.due().is_some() {
+            self.is_wrong = true;
+        }
+        self.count(old, is_mask);
+        self.is_mask = is_mask;
     }
 }
 
@@ -97,17 +89,13 @@ fn put<'h, D: Device>(
     seat: &mut Seat,
     device: Spare<'h, D>,
 ) -> bool {
-    let code = device.code();
+    let is_mask = device.is_mask();
     match rig.exchange(seat.row.number, device) {
         Ok(taken) => {
-            seat.take(&taken, code);
+            seat.take(&taken, is_mask);
             false
         }
-        Err((Refusal::WrongState, _)) => true,
-        Err((_, _)) => {
-            seat.is_wrong = true;
-            false
-        }
+        Err((refusal, _device)) => seat.is_of_state(refusal),
     }
 }
 
@@ -126,15 +114,15 @@ fn put_some<'h, D: Device>(
     }
 }
 
-/// Exchanges the device of a row for one with this code, which is tried as it begins, and then in the state of
-/// the old one.
+/// Exchanges the device of a row for a mask or for one with plain code, which is tried as it begins, and then in
+/// the state of the old one.
 fn exchange<'h, D: Device, M: Make<D>>(
     bench: &Bench<'_, 'h, M>,
     rig: &mut Swapped<'_, 'h, D>,
     seat: &mut Seat,
-    code: Code,
+    is_mask: bool,
 ) {
-    if !put_some(rig, seat, bench.first(&seat.row, code)) {
+    if !put_some(rig, seat, bench.first(&seat.row, is_mask)) {
         return;
     }
     seat.refused = seat.refused.saturating_add(1);
@@ -142,22 +130,28 @@ fn exchange<'h, D: Device, M: Make<D>>(
         seat.is_wrong = true;
         return;
     };
-    if put_some(rig, seat, bench.brought(&seat.row, code, &state)) {
+    let device = if is_mask {
+        bench.resumed(&seat.row, &state)
+    } else {
+        repeated(bench, &seat.row)
+    };
+    if put_some(rig, seat, device) {
         seat.is_wrong = true;
     }
 }
 
-/// Exchanges the device of a row for each code, from each code: `=` is the code that is there at first, and `x`
-/// the other one, which is there at the end.
+/// Exchanges the device of a row five times: for plain code and for a mask from each of both. At the end there is
+/// a mask if there was none before, and the other way round. A row that can have no masks has plain code all along.
 fn exchange_for_each<'h, D: Device, M: Make<D>>(
     bench: &Bench<'_, 'h, M>,
     rig: &mut Swapped<'_, 'h, D>,
     seat: &mut Seat,
 ) {
-    let (first, other) = (seat.code, seat.other_code());
-    for mark in "=xx=x".chars() {
-        let code = if mark == '=' { first } else { other };
-        exchange(bench, rig, seat, code);
+    let first = seat.is_mask;
+    let other = seat.has_masks() && !first;
+    for step in 0..5u32 {
+        let is_mask = if step == 0 || step == 3 { first } else { other };
+        exchange(bench, rig, seat, is_mask);
     }
 }
 
@@ -182,28 +176,36 @@ fn draw_input(state: &mut u64, now: u64, due: Option<u64>) -> Input {
 }
 
 /// Whether a step answers the same in both rigs, and they are due at the same moment then.
-fn is_same_step<D: Device>(
+fn is_same_step<D: Device, E: Device>(
     alloc: Global,
     one: &mut Rig<'_, D, MemoryBoard>,
-    other: &mut Rig<'_, D, MemoryBoard>,
+    other: &mut Rig<'_, E, MemoryBoard>,
     input: Input,
 ) -> bool {
-    let mut wanted = String::new(alloc);
-    let mut found = String::new(alloc);
-    let is_told = add_step(&mut wanted, one, input).is_ok();
-    let is_found = add_step(&mut found, other, input).is_ok();
-    is_told && is_found && wanted.as_str() == found.as_str() && one.next_due() == other.next_due()
+    let mut both = String::new(alloc);
+    let is_told = add_step(&mut both, one, input).is_ok();
+    let middle = both.len();
+    let is_found = add_step(&mut both, other, input).is_ok();
+    let bytes = both.as_bytes();
+    let is_same = match (bytes.get(..middle), bytes.get(middle..)) {
+        (Some(wanted), Some(found)) => wanted == found,
+        _ => false,
+    };
+    is_told && is_found && is_same && one.next_due() == other.next_due()
 }
 
 /// Whether the device of a row is in the same state in both rigs.
-fn is_same<D: Device>(
+fn is_same<D: Device, E: Device>(
     one: &Rig<'_, D, MemoryBoard>,
-    other: &Rig<'_, D, MemoryBoard>,
+    other: &Rig<'_, E, MemoryBoard>,
     row: RowId,
 ) -> bool {
-    match (one.state(row), other.state(row)) {
-        (Some(one), Some(other)) => is_same_state(&one, &other),
-        _ => false,
+    let Some(wanted) = one.state(row) else {
+        return false;
+    };
+    match other.state(row) {
+        Some(found) => is_same_state(&wanted, &found),
+        None => false,
     }
 }
 
@@ -219,9 +221,9 @@ fn exchange_all<'h, D: Device, M: Make<D>>(
 }
 
 /// Notes for each row if its device is not in the same state in both rigs.
-fn compare_all<D: Device>(
+fn compare_all<D: Device, E: Device>(
     one: &Rig<'_, D, MemoryBoard>,
-    other: &Rig<'_, D, MemoryBoard>,
+    other: &Rig<'_, E, MemoryBoard>,
     seats: &mut [Seat],
 ) {
     for seat in seats {
@@ -235,7 +237,7 @@ fn compare_all<D: Device>(
 /// there were, up to the first input that was not answered by both the same.
 fn run<'h, D: Device, M: Make<D>>(
     (alloc, bench): (Global, &Bench<'_, 'h, M>),
-    (plain, rig): (&mut Swapped<'_, 'h, D>, &mut Swapped<'_, 'h, D>),
+    (plain, rig): (&mut Rig<'_, D, MemoryBoard>, &mut Swapped<'_, 'h, D>),
     seats: &mut [Seat],
     inputs: u64,
 ) -> usize {
@@ -253,61 +255,55 @@ fn run<'h, D: Device, M: Make<D>>(
     lines
 }
 
-/// The devices of all rows as they begin, with plain code.
-fn first_devices<'h, D: Device, M: Make<D>>(
-    alloc: Global,
-    bench: &Bench<'_, 'h, M>,
-    seats: &[Seat],
-) -> Option<Vec<Spare<'h, D>>> {
+/// The devices of the rows as they begin, with plain code. Where memory is out some are missing, and there is no rig
+/// of them: so what makes them needs no `?`, which is slow to prove.
+fn first_devices<D: Device, M: Make<D>>(alloc: Global, make: &M, seats: &[Seat]) -> Vec<D> {
     let mut devices = Vec::new(alloc);
     for seat in seats {
-        let device = bench.first(&seat.row, Code::Plain)?;
-        devices.push(device).ok()?;
+        if let Some(device) = make.first(&seat.row, false) {
+            let _ = devices.push(device);
+        }
     }
-    Some(devices)
+    devices
 }
 
 /// The machine as it begins, with plain code.
-fn rig_of<'c, 'h, D: Device, M: Make<D>>(
+fn rig_of<'c, D: Device, M: Make<D>>(
     alloc: Global,
     checked: &'c Checked,
-    bench: &Bench<'_, 'h, M>,
+    make: &M,
     seats: &[Seat],
-) -> Option<Swapped<'c, 'h, D>> {
-    let devices = first_devices(alloc, bench, seats)?;
-    Rig::new(alloc, checked, devices, MemoryBoard::new(alloc).ok()?).ok()
+) -> Option<Rig<'c, D, MemoryBoard>> {
+    let board = MemoryBoard::new(alloc).ok()?;
+    let devices = first_devices(alloc, make, seats);
+    Rig::new(alloc, checked, devices, board).ok()
 }
 
 /// The run beside this rig, with a second one whose devices are exchanged.
 fn run_beside<'h, D: Device, M: Make<D>>(
     (alloc, bench): (Global, &Bench<'_, 'h, M>),
     checked: &Checked,
-    plain: &mut Swapped<'_, 'h, D>,
+    plain: &mut Rig<'_, D, MemoryBoard>,
     seats: &mut [Seat],
     inputs: u64,
 ) -> usize {
-    match rig_of(alloc, checked, bench, seats) {
+    let rig: Option<Swapped<'_, 'h, D>> = rig_of(alloc, checked, bench, seats);
+    match rig {
         Some(mut rig) => run((alloc, bench), (plain, &mut rig), seats, inputs),
         None => 0,
     }
 }
 
-/// The run, on a machine whose devices add their calls to the first history, and on one whose devices are
-/// exchanged, with the second.
+/// The run, on a machine without exchanges and on one with them.
 fn run_both<D: Device, M: Make<D>>(
-    (alloc, make): (Global, &M),
+    (alloc, bench): (Global, &Bench<'_, '_, M>),
     checked: &Checked,
-    (unread, history): (&History, &History),
     seats: &mut [Seat],
     inputs: u64,
 ) -> usize {
-    let other = Bench {
-        make,
-        history: unread,
-    };
-    let bench = Bench { make, history };
-    match rig_of(alloc, checked, &other, seats) {
-        Some(mut plain) => run_beside((alloc, &bench), checked, &mut plain, seats, inputs),
+    let plain: Option<Rig<'_, D, MemoryBoard>> = rig_of(alloc, checked, bench.make, seats);
+    match plain {
+        Some(mut plain) => run_beside((alloc, bench), checked, &mut plain, seats, inputs),
         None => 0,
     }
 }
@@ -324,63 +320,60 @@ fn seats_of(alloc: Global, checked: &Checked) -> Result<Vec<Seat>, AllocError> {
 /// The name of a kind of devices.
 fn name_of(settings: &Settings) -> &'static str {
     match settings {
-        Settings::Counter(_) => "counter",
-        Settings::Accrual(_) => "accrual",
-        Settings::Sequence(_) => "sequence",
-        Settings::Timer(_) => "timer",
-        Settings::Bank(_) => "bank",
-        Settings::Flipper => "flipper",
-        Settings::Autofire => "autofire",
-        Settings::BallDevice(_) => "ball_device",
+        Settings::Counter(_) => "counter ",
+        Settings::Accrual(_) => "accrual ",
+        Settings::Sequence(_) => "sequence ",
+        Settings::Timer(_) => "timer ",
+        Settings::Bank(_) => "bank ",
+        Settings::Flipper => "flipper ",
+        Settings::Autofire => "autofire ",
+        Settings::BallDevice(_) => "ball_device ",
     }
 }
 
-/// Adds the kind of a row, and how often its device was exchanged: plain code for plain code, plain for bits,
-/// bits for bits, and bits for plain. Or adds what was wrong: with a device, or that it was mostly in its first
-/// state.
+/// Adds the kind of a row, and how often its device was exchanged, as in `Seat::pairs`. Before that stands what was
+/// wrong.
 fn add_seat(out: &mut String, seat: &Seat) -> Result<(), AllocError> {
-    let name = name_of(&seat.row.settings);
-    let pairs = seat.pairs;
     if seat.is_wrong {
-        return write!(out, "{name} wrong ");
+        out.push_str("wrong ")?;
     }
-    if seat.refused < 500 {
-        return write!(out, "{name} refused {} ", seat.refused);
+    if seat.refused < 100 {
+        out.push_str("in few states ")?;
     }
-    write!(
-        out,
-        "{name} {} {} {} {} ",
-        pairs.plain_plain,
-        pairs.plain_mask,
-        pairs.mask_mask,
-        pairs.mask_plain
-    )
+    out.push_str(name_of(&seat.row.settings))?;
+    add(out, &seat.pairs)
 }
 
-/// Answers to how many inputs a run has, with how many lines it has, and what is found at each row.
+/// Adds whether a run has few lines, or one player alone, and what is found at each row.
+fn add_run(
+    (alloc, out): (Global, &mut String),
+    checked: &Checked,
+    history: &History,
+    inputs: u64,
+) -> Result<(), AllocError> {
+    let mut seats = seats_of(alloc, checked)?;
+    let make = &Boxes { alloc };
+    let bench = (alloc, &Bench { make, history });
+    let lines = run_both::<Box<dyn Device>, Boxes>(bench, checked, &mut seats, inputs);
+    let players = players_in(history);
+    if lines < 200 || players < 2 {
+        add(out, &(lines, players))?;
+    }
+    for seat in seats.iter() {
+        add_seat(out, seat)?;
+    }
+    Ok(())
+}
+
+/// Answers to how many inputs a run has, with what is found.
 pub(crate) fn exchanged_run(
     alloc: Global,
     out: &mut String,
     checked: &Checked,
     question: &str,
 ) -> Result<(), AllocError> {
-    let unread: History = RefCell::new(Vec::new(alloc));
     let history: History = RefCell::new(Vec::new(alloc));
-    let mut seats = seats_of(alloc, checked)?;
-    let inputs = number_at(question, 0);
-    let make = (alloc, &Boxes { alloc });
-    let lines = run_both::<Box<dyn Device>, Boxes>(
-        make,
-        checked,
-        (&unread, &history),
-        &mut seats,
-        inputs,
-    );
-    write!(out, "{lines} ")?;
-    for seat in seats.iter() {
-        add_seat(out, seat)?;
-    }
-    Ok(())
+    add_run((alloc, out), checked, &history, number_at(question, 0))
 }
 
 // A machine with a device of each kind. Most act all the time; the timer is of a mode, and shots act in a
@@ -481,6 +474,7 @@ ball_devices:
     ball_switches: s_ball_1, s_ball_2
     eject_coil: c_trough
     eject_targets: lane
+    tags: trough, drain
     eject_timeouts: 100ms
     entrance_count_delay: 20ms
     exit_count_delay: 20ms
@@ -503,7 +497,12 @@ timers:
     start_running: yes
     restart_on_complete: yes
 ?
-runs 150 => ?";
+runs 200 => \
+counter [1000, 0, 0, 0] counter [1000, 0, 0, 0] \
+accrual [200, 300, 200, 300] accrual [200, 300, 200, 300] accrual [200, 300, 200, 300] \
+sequence [1000, 0, 0, 0] bank [200, 300, 200, 300] bank [200, 300, 200, 300] \
+flipper [1000, 0, 0, 0] autofire [1000, 0, 0, 0] \
+ball_device [1000, 0, 0, 0] ball_device [1000, 0, 0, 0] timer [1000, 0, 0, 0]";
 
 #[test]
 fn exchanged_runs(rt: HostRuntime) -> Result<(), Fail> {

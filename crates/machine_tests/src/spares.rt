@@ -1,4 +1,6 @@
-//! Devices of two kinds of code, which write down the calls that they have, and so can be brought to a state.
+//! Devices of two kinds of code, which write down the calls that they have, and so can be brought to a state. Any
+//! row has devices with *plain* code. Those of accruals and banks of shots can also be *masks*, which keep flags
+//! as bits.
 
 use ball_devices::BallDevice;
 use coil_rules::{Autofire, Flipper};
@@ -11,14 +13,6 @@ use std::cell::RefCell;
 
 /// The first moment that is too late for a call, in milliseconds.
 const TOO_LATE: u64 = 1 << 40;
-
-/// The code of a device. Accruals and banks of shots have two kinds of code, other devices only the plain one.
-#[derive(Clone, Copy)]
-pub(crate) enum Code {
-    Plain,
-    /// The code that keeps flags as bits.
-    Mask,
-}
 
 /// A call that a device of a row has had.
 #[derive(Clone, Copy)]
@@ -37,13 +31,13 @@ pub(crate) type History = RefCell<Vec<Past>>;
 pub(crate) struct Spare<'h, D: Device> {
     device: D,
     number: RowId,
-    code: Code,
+    is_mask: bool,
     history: &'h History,
 }
 
 impl<D: Device> Spare<'_, D> {
-    pub(crate) fn code(&self) -> Code {
-        self.code
+    pub(crate) fn is_mask(&self) -> bool {
+        self.is_mask
     }
 
     fn add(&self, call: Call, now: u64, world: World) {
@@ -61,14 +55,18 @@ impl<D: Device> Spare<'_, D> {
     /// Takes the last call out of the history. Gives whether it was the stop of this device, which is no call
     /// of the device that has taken its place.
     pub(crate) fn forgets_stop(&self) -> bool {
-        let last = match self.history.try_borrow_mut() {
-            Ok(mut past) => past.pop(),
-            Err(_) => None,
-        };
-        match last {
+        match last_of(self.history) {
             Some(past) => matches!(past.call, Call::ModeStop) && past.row.0 == self.number.0,
             None => false,
         }
+    }
+}
+
+/// Takes the last call out of a history.
+fn last_of(history: &History) -> Option<Past> {
+    match history.try_borrow_mut() {
+        Ok(mut past) => past.pop(),
+        Err(_) => None,
     }
 }
 
@@ -142,56 +140,80 @@ fn repeat<D: Device>(device: &mut D, history: &History, row: RowId) {
     }
 }
 
+/// A box of a device, if there is one and memory for it.
+fn boxed<D: Device>(alloc: Global, device: Option<D>) -> Option<Box<D>> {
+    Box::new(alloc, device?).ok()
+}
+
 /// A logic block or a timer with plain code, as it begins.
 fn plain_block(alloc: Global, row: &DeviceRow) -> Option<Box<dyn Device>> {
-    if let Some(counter) = Counter::new(row) {
-        return Some(Box::new(alloc, counter).ok()?);
+    if let Some(counter) = boxed(alloc, Counter::new(row)) {
+        return Some(counter);
     }
-    if let Some(accrual) = Accrual::new(row) {
-        return Some(Box::new(alloc, accrual).ok()?);
+    if let Some(accrual) = boxed(alloc, Accrual::new(row)) {
+        return Some(accrual);
     }
-    if let Some(sequence) = Sequence::new(row) {
-        return Some(Box::new(alloc, sequence).ok()?);
+    if let Some(sequence) = boxed(alloc, Sequence::new(row)) {
+        return Some(sequence);
     }
-    Some(Box::new(alloc, Timer::new(row)?).ok()?)
+    Some(boxed(alloc, Timer::new(row))?)
 }
 
 /// Another device with plain code, as it begins.
 fn plain_other(alloc: Global, row: &DeviceRow) -> Option<Box<dyn Device>> {
-    if let Some(bank) = ShotBank::new(row) {
-        return Some(Box::new(alloc, bank).ok()?);
+    if let Some(bank) = boxed(alloc, ShotBank::new(row)) {
+        return Some(bank);
     }
-    if let Some(flipper) = Flipper::new(row) {
-        return Some(Box::new(alloc, flipper).ok()?);
+    if let Some(flipper) = boxed(alloc, Flipper::new(row)) {
+        return Some(flipper);
     }
-    if let Some(autofire) = Autofire::new(row) {
-        return Some(Box::new(alloc, autofire).ok()?);
+    if let Some(autofire) = boxed(alloc, Autofire::new(row)) {
+        return Some(autofire);
     }
-    Some(Box::new(alloc, BallDevice::new(row)?).ok()?)
+    Some(boxed(alloc, BallDevice::new(row))?)
 }
 
-/// A device that keeps flags as bits, as it begins.
-fn mask_first(alloc: Global, row: &DeviceRow) -> Option<Box<dyn Device>> {
-    if let Some(accrual) = MaskAccrual::new(row) {
-        return Some(Box::new(alloc, accrual).ok()?);
+/// A device with plain code, as it begins.
+pub(crate) fn first_box(alloc: Global, row: &DeviceRow) -> Option<Box<dyn Device>> {
+    match plain_block(alloc, row) {
+        Some(device) => Some(device),
+        None => plain_other(alloc, row),
     }
-    Some(Box::new(alloc, MaskBank::new(row)?).ok()?)
 }
 
-/// A device that keeps flags as bits, in this state.
+/// A mask as it begins.
+fn first_mask(alloc: Global, row: &DeviceRow) -> Option<Box<dyn Device>> {
+    if let Some(accrual) = boxed(alloc, MaskAccrual::new(row)) {
+        return Some(accrual);
+    }
+    Some(boxed(alloc, MaskBank::new(row))?)
+}
+
+/// A mask in this state.
 fn mask_in(alloc: Global, row: &DeviceRow, state: &DeviceState) -> Option<Box<dyn Device>> {
-    if let Some(accrual) = MaskAccrual::resume(row, state) {
-        return Some(Box::new(alloc, accrual).ok()?);
+    if let Some(accrual) = boxed(alloc, MaskAccrual::resume(row, state)) {
+        return Some(accrual);
     }
-    Some(Box::new(alloc, MaskBank::resume(row, state)?).ok()?)
+    Some(boxed(alloc, MaskBank::resume(row, state))?)
+}
+
+/// The greatest number of a player in a history.
+pub(crate) fn players_in(history: &History) -> usize {
+    let mut players = 0usize;
+    if let Ok(past) = history.try_borrow() {
+        for past in past.iter() {
+            players = players.max(past.world.player);
+        }
+    }
+    players
 }
 
 /// What makes devices. It makes none where memory is out, or where there is no such code.
 pub(crate) trait Make<D> {
     /// The device of a row as it begins.
-    fn first(&self, row: &DeviceRow, code: Code) -> Option<D>;
+    fn first(&self, row: &DeviceRow, is_mask: bool) -> Option<D>;
 
-    /// The device of a row that keeps flags as bits, in this state.
+    /// The mask of a row in this state.
     fn resumed(&self, row: &DeviceRow, state: &DeviceState) -> Option<D>;
 }
 
@@ -202,13 +224,11 @@ pub(crate) struct Boxes {
 }
 
 impl Make<Box<dyn Device>> for Boxes {
-    fn first(&self, row: &DeviceRow, code: Code) -> Option<Box<dyn Device>> {
-        if matches!(code, Code::Mask) {
-            return mask_first(self.alloc, row);
-        }
-        match plain_block(self.alloc, row) {
-            Some(device) => Some(device),
-            None => plain_other(self.alloc, row),
+    fn first(&self, row: &DeviceRow, is_mask: bool) -> Option<Box<dyn Device>> {
+        if is_mask {
+            first_mask(self.alloc, row)
+        } else {
+            first_box(self.alloc, row)
         }
     }
 
@@ -217,57 +237,40 @@ impl Make<Box<dyn Device>> for Boxes {
     }
 }
 
-/// Devices of a maker, with the history to which they add their calls.
+/// Makes devices that add their calls to a history.
 #[derive(Drop)]
 pub(crate) struct Bench<'m, 'h, M> {
     pub(crate) make: &'m M,
     pub(crate) history: &'h History,
 }
 
-impl<'m, 'h, M> Bench<'m, 'h, M> {
-    /// The device of a row as it begins.
-    pub(crate) fn first<D: Device>(&self, row: &DeviceRow, code: Code) -> Option<Spare<'h, D>>
-    where
-        M: Make<D>,
-    {
-        let device = self.make.first(row, code)?;
-        Some(Spare {
-            device,
-            number: row.number,
-            code,
-            history: self.history,
-        })
+impl<'m, 'h, D: Device, M: Make<D>> Make<Spare<'h, D>> for Bench<'m, 'h, M> {
+    fn first(&self, row: &DeviceRow, is_mask: bool) -> Option<Spare<'h, D>> {
+        let device = self.make.first(row, is_mask)?;
+        Some(spare(device, row.number, is_mask, self.history))
     }
 
-    /// The device of a row, in the state to which the calls that the row has had have led.
-    pub(crate) fn brought<D: Device>(
-        &self,
-        row: &DeviceRow,
-        code: Code,
-        state: &DeviceState,
-    ) -> Option<Spare<'h, D>>
-    where
-        M: Make<D>,
-    {
-        let device = match code {
-            Code::Plain => self.repeated(row)?,
-            Code::Mask => self.make.resumed(row, state)?,
-        };
-        Some(Spare {
-            device,
-            number: row.number,
-            code,
-            history: self.history,
-        })
+    fn resumed(&self, row: &DeviceRow, state: &DeviceState) -> Option<Spare<'h, D>> {
+        let device = self.make.resumed(row, state)?;
+        Some(spare(device, row.number, true, self.history))
     }
+}
 
-    /// The device of a row with plain code, after the calls that the row has had.
-    fn repeated<D: Device>(&self, row: &DeviceRow) -> Option<D>
-    where
-        M: Make<D>,
-    {
-        let mut device = self.make.first(row, Code::Plain)?;
-        repeat(&mut device, self.history, row.number);
-        Some(device)
+fn spare<D: Device>(device: D, number: RowId, is_mask: bool, history: &History) -> Spare<'_, D> {
+    Spare {
+        device,
+        number,
+        is_mask,
+        history,
     }
+}
+
+/// The device of a row with plain code, after the calls that the row has had.
+pub(crate) fn repeated<'h, D: Device, M: Make<D>>(
+    bench: &Bench<'_, 'h, M>,
+    row: &DeviceRow,
+) -> Option<Spare<'h, D>> {
+    let mut device = bench.make.first(row, false)?;
+    repeat(&mut device, bench.history, row.number);
+    Some(spare(device, row.number, false, bench.history))
 }
