@@ -2,7 +2,7 @@
 //! same run without exchanges.
 
 use crate::cases::{add, wrong_rows};
-use crate::spares::{Bench, Boxes, History, Make, Spare, players_in, repeated};
+use crate::spares::{Bench, Boxes, History, Make, Spare, repeated};
 use crate::steps::{add_step, number_at};
 use coil_guard::MemoryBoard;
 use config_checker::Checked;
@@ -84,11 +84,7 @@ impl Seat {
 }
 
 /// Puts a device in the place of that of a row. Gives whether it is refused for its state.
-fn put<'h, D: Device>(
-    rig: &mut Swapped<'_, 'h, D>,
-    seat: &mut Seat,
-    device: Spare<'h, D>,
-) -> bool {
+fn put<'h, D: Device>(rig: &mut Swapped<'_, 'h, D>, seat: &mut Seat, device: Spare<'h, D>) -> bool {
     let is_mask = device.is_mask();
     match rig.exchange(seat.row.number, device) {
         Ok(taken) => {
@@ -344,7 +340,7 @@ fn add_seat(out: &mut String, seat: &Seat) -> Result<(), AllocError> {
     add(out, &seat.pairs)
 }
 
-/// Adds whether a run has few lines, or one player alone, and what is found at each row.
+/// Adds how many lines a run has if they are few, and what is found at each row.
 fn add_run(
     (alloc, out): (Global, &mut String),
     checked: &Checked,
@@ -355,9 +351,8 @@ fn add_run(
     let make = &Boxes { alloc };
     let bench = (alloc, &Bench { make, history });
     let lines = run_both::<Box<dyn Device>, Boxes>(bench, checked, &mut seats, inputs);
-    let players = players_in(history);
-    if lines < 200 || players < 2 {
-        add(out, &(lines, players))?;
+    if lines < 400 {
+        add(out, &lines)?;
     }
     for seat in seats.iter() {
         add_seat(out, seat)?;

@@ -197,17 +197,6 @@ fn mask_in(alloc: Global, row: &DeviceRow, state: &DeviceState) -> Option<Box<dy
     Some(boxed(alloc, MaskBank::resume(row, state))?)
 }
 
-/// The greatest number of a player in a history.
-pub(crate) fn players_in(history: &History) -> usize {
-    let mut players = 0usize;
-    if let Ok(past) = history.try_borrow() {
-        for past in past.iter() {
-            players = players.max(past.world.player);
-        }
-    }
-    players
-}
-
 /// What makes devices. It makes none where memory is out, or where there is no such code.
 pub(crate) trait Make<D> {
     /// The device of a row as it begins.
@@ -247,16 +236,21 @@ pub(crate) struct Bench<'m, 'h, M> {
 impl<'m, 'h, D: Device, M: Make<D>> Make<Spare<'h, D>> for Bench<'m, 'h, M> {
     fn first(&self, row: &DeviceRow, is_mask: bool) -> Option<Spare<'h, D>> {
         let device = self.make.first(row, is_mask)?;
-        Some(spare(device, row.number, is_mask, self.history))
+        Some(with_history(device, row.number, is_mask, self.history))
     }
 
     fn resumed(&self, row: &DeviceRow, state: &DeviceState) -> Option<Spare<'h, D>> {
         let device = self.make.resumed(row, state)?;
-        Some(spare(device, row.number, true, self.history))
+        Some(with_history(device, row.number, true, self.history))
     }
 }
 
-fn spare<D: Device>(device: D, number: RowId, is_mask: bool, history: &History) -> Spare<'_, D> {
+fn with_history<D: Device>(
+    device: D,
+    number: RowId,
+    is_mask: bool,
+    history: &History,
+) -> Spare<'_, D> {
     Spare {
         device,
         number,
@@ -272,5 +266,5 @@ pub(crate) fn repeated<'h, D: Device, M: Make<D>>(
 ) -> Option<Spare<'h, D>> {
     let mut device = bench.make.first(row, false)?;
     repeat(&mut device, bench.history, row.number);
-    Some(spare(device, row.number, false, bench.history))
+    Some(with_history(device, row.number, false, bench.history))
 }
