@@ -118,18 +118,20 @@ fn exchange<'h, D: Device, M: Make<D>>(
     seat: &mut Seat,
     is_mask: bool,
 ) {
-    if !put_some(rig, seat, bench.first(&seat.row, is_mask)) {
+    let row = seat.row;
+    let first = bench.first(&row, is_mask);
+    if !put_some(rig, seat, first) {
         return;
     }
     seat.refused = seat.refused.saturating_add(1);
-    let Some(state) = rig.state(seat.row.number) else {
+    let Some(state) = rig.state(row.number) else {
         seat.is_wrong = true;
         return;
     };
     let device = if is_mask {
-        bench.resumed(&seat.row, &state)
+        bench.resumed(&row, &state)
     } else {
-        repeated(bench, &seat.row)
+        repeated(bench, &row)
     };
     if put_some(rig, seat, device) {
         seat.is_wrong = true;
