@@ -1,15 +1,13 @@
 //! Rigs on boards: the commands that a board takes, where it faults, and how a rig ends.
 
 use crate::cases::{add, wrong_rows};
+use crate::spares::first_box;
 use crate::steps::input_of;
 use arrayvec::ArrayVec;
 use coil_guard::{FuseBoard, Taken};
-use coil_rules::{Autofire, Flipper};
-use config_checker::{Checked, check};
+use config_checker::Checked;
 use device_objects::Device;
-use mpf_config::Config;
 use pin_rig::{Input, Rig, StepFault};
-use plan_tables::DeviceRow;
 use std::alloc::{AllocError, Global};
 use std::cell::RefCell;
 use std::fmt::Debug;
@@ -142,25 +140,15 @@ fn wanted_in(alloc: Global, trial: Trial, course: &str) -> Pen {
     wanted.pen
 }
 
-/// A device of a row of a plan of flippers and autofire coils.
-fn device_of(alloc: Global, row: &DeviceRow) -> Result<Option<Box<dyn Device>>, AllocError> {
-    if let Some(flipper) = Flipper::new(row) {
-        return Ok(Some(Box::new(alloc, flipper)?));
-    }
-    if let Some(autofire) = Autofire::new(row) {
-        return Ok(Some(Box::new(alloc, autofire)?));
-    }
-    Ok(None)
-}
-
-fn devices_of(alloc: Global, checked: &Checked) -> Result<Vec<Box<dyn Device>>, AllocError> {
+/// A box of a device for each row. Where memory is out some are missing, and there is no rig of them.
+fn devices_of(alloc: Global, checked: &Checked) -> Vec<Box<dyn Device>> {
     let mut devices: Vec<Box<dyn Device>> = Vec::new(alloc);
     for row in checked.plan().rows() {
-        if let Some(device) = device_of(alloc, row)? {
-            devices.push(device)?;
+        if let Some(device) = first_box(alloc, row) {
+            let _ = devices.push(device);
         }
     }
-    Ok(devices)
+    devices
 }
 
 /// Steps, and gives why not.
@@ -247,7 +235,7 @@ fn found_in(
     (trial, inputs): (Trial, &str),
 ) -> Result<Pen, AllocError> {
     let taken: Taken = Rc::new(alloc, RefCell::new(ArrayVec::new()))?;
-    let devices = devices_of(alloc, checked)?;
+    let devices = devices_of(alloc, checked);
     found_with(alloc, checked, devices, (trial, inputs), &taken)
 }
 
@@ -283,21 +271,13 @@ fn compare_all(
 pub(crate) fn boarded(
     alloc: Global,
     out: &mut String,
-    config: &Config,
+    checked: &Checked,
     question: &str,
 ) -> Result<(), AllocError> {
     let (count, rest) = question.split_once(' ').unwrap_or((question, ""));
     let texts = rest.split_once(": ").unwrap_or((rest, ""));
-    let Ok(checked) = check(alloc, config) else {
-        return out.push_str("refused");
-    };
-    compare_all(
-        alloc,
-        out,
-        &checked,
-        count.parse::<u32>().unwrap_or(0),
-        texts,
-    )
+    let count = count.parse::<u32>().unwrap_or(0);
+    compare_all(alloc, out, checked, count, texts)
 }
 
 // Switch 0 enables a flipper on coils 0 and 1, with switch 1, and an autofire coil, 2, with switch 2,

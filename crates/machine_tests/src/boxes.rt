@@ -2,10 +2,9 @@
 
 use crate::cases::{add, wrong_rows};
 use coil_guard::MemoryBoard;
-use config_checker::{Checked, check};
+use config_checker::Checked;
 use device_objects::{Device, DeviceState, Outcome, World};
 use logic_blocks::Counter;
-use mpf_config::Config;
 use pin_rig::Rig;
 use plan_tables::{Act, DeviceRow};
 use std::alloc::{AllocError, Global};
@@ -170,9 +169,9 @@ pub(crate) fn boxes_of(
     Ok(boxes)
 }
 
-/// Adds whether the boxes of the rows that the words name make a rig, and what has become of each
-/// box at the end. The first word says how the rig ends: `dropped`, or `shut_down`.
-fn add_boxed(
+/// Answers to words: whether the boxes of the rows that they name make a rig, and what has become of each box
+/// at the end. The first word says how the rig ends: `dropped`, or `shut_down`.
+pub(crate) fn boxed(
     alloc: Global,
     out: &mut String,
     checked: &Checked,
@@ -183,19 +182,6 @@ fn add_boxed(
     let boxes = boxes_of(alloc, checked, words, &mut all)?;
     add_rig(alloc, out, checked, boxes, (&all, end == "dropped"))?;
     add_counts(out, &all)
-}
-
-/// Answers to boxes, of a configuration that is accepted.
-pub(crate) fn boxed(
-    alloc: Global,
-    out: &mut String,
-    config: &Config,
-    words: &str,
-) -> Result<(), AllocError> {
-    match check(alloc, config) {
-        Ok(checked) => add_boxed(alloc, out, &checked, words),
-        Err(_) => out.push_str("refused"),
-    }
 }
 
 // Row 0 is the machine's, 1 and 2 are of a mode. A pair has the stops and the drops of a box: those of

@@ -5,9 +5,11 @@
 use crate::boards::boarded;
 use crate::boxes::boxed;
 use crate::checks::checked;
-use crate::exchanges::{exchanged, swapped};
+use crate::exchanged_runs::exchanged_run;
+use crate::exchanges::exchanged;
 use crate::plans::{planned, queued};
 use crate::steps::{number_at, stepped};
+use config_checker::{Checked, check};
 use mpf_config::{Config, read_bundle};
 use pin_rig::check_moment;
 use std::alloc::{AllocError, Global};
@@ -42,17 +44,44 @@ pub(crate) fn add<T: Debug>(out: &mut String, value: &T) -> Result<(), AllocErro
     write!(out, "{value:?} ")
 }
 
+/// Adds the answer to a question about a configuration that is accepted.
+fn ask_accepted(
+    alloc: Global,
+    out: &mut String,
+    checked: &Checked,
+    (word, rest): (&str, &str),
+) -> Result<(), AllocError> {
+    match word {
+        "boxes" => boxed(alloc, out, checked, rest),
+        "exchange" => exchanged(alloc, out, checked, rest),
+        "runs" => exchanged_run(alloc, out, checked, rest),
+        "boards" => boarded(alloc, out, checked, rest),
+        _ => stepped(alloc, out, checked, rest),
+    }
+}
+
+/// Adds the answer to a question about a rig of the configuration.
+fn ask_rig(
+    alloc: Global,
+    out: &mut String,
+    config: &Config,
+    question: (&str, &str),
+) -> Result<(), AllocError> {
+    match check(alloc, config) {
+        Ok(checked) => ask_accepted(alloc, out, &checked, question),
+        Err(_) => out.push_str("refused"),
+    }
+}
+
 /// Adds the answer to a question.
 fn ask(alloc: Global, out: &mut String, config: &Config, question: &str) -> Result<(), AllocError> {
     let (word, rest) = question.split_once(' ').unwrap_or((question, ""));
     match word {
         "queue" => queued(alloc, out, rest),
         "check" => checked(alloc, out, config, rest),
-        "boxes" => boxed(alloc, out, config, rest),
-        "exchange" => exchanged(alloc, out, config, rest),
-        "swap" => swapped(alloc, out, config, rest),
-        "boards" => boarded(alloc, out, config, rest),
-        "steps" => stepped(alloc, out, config, rest),
+        "boxes" | "exchange" | "runs" | "boards" | "steps" => {
+            ask_rig(alloc, out, config, (word, rest))
+        }
         "moments" => {
             let [latest, at] = [number_at(rest, 0), number_at(rest, 1)];
             add(out, &check_moment(latest, at))

@@ -22,13 +22,9 @@ fn put(room: &mut [u8], answer: &Result<Checked, Report>) -> Option<usize> {
     Some(writer.position() as usize)
 }
 
-/// Adds what is written to the room, if there is room for it.
-fn add_written(
-    out: &mut String,
-    room: &mut [u8],
-    answer: &Result<Checked, Report>,
-) -> Result<(), AllocError> {
-    match put(room, answer) {
+/// Adds the first bytes of the room, if there was room for them.
+fn add_written(out: &mut String, room: &[u8], count: Option<usize>) -> Result<(), AllocError> {
+    match count {
         Some(count) => {
             let text = std::str::from_utf8(room.get(..count).unwrap_or(&[]));
             out.push_str(text.unwrap_or("no UTF-8"))
@@ -51,7 +47,8 @@ pub(crate) fn checked(
     } else {
         check_with(alloc, config, certificate.as_bytes())
     };
-    add_written(out, &mut room, &answer)
+    let count = put(&mut room, &answer);
+    add_written(out, &room, count)
 }
 
 const CHECKS: &str = "\

@@ -4,18 +4,15 @@ use crate::boxes::{Counts, add_counts, boxes_of};
 use crate::cases::{add, wrong_rows};
 use crate::steps::{input_of, number_at};
 use arrayvec::ArrayVec;
-use coil_guard::{Board, FuseBoard, MemoryBoard, Taken};
-use config_checker::{Checked, check};
-use device_objects::{Device, World};
-use logic_blocks::Accrual;
-use mpf_config::Config;
-use pin_rig::{Rig, RigFault};
-use plan_tables::{Act, Plan, RowId};
+use coil_guard::{Board, FuseBoard, Taken};
+use config_checker::Checked;
+use device_objects::Device;
+use pin_rig::Rig;
+use plan_tables::RowId;
 use std::alloc::{AllocError, Global};
 use std::cell::RefCell;
 use std::rc::Rc;
 use std::test::Fail;
-use written_machine::{Happening, Line};
 
 /// The row of a number, which is beyond the last one where it is none.
 fn row_of(number: u64) -> RowId {
@@ -36,38 +33,50 @@ fn add_exchange<D: Device, B: Board>(
     }
 }
 
-/// A rig that has taken one change, of switch 0. Its board faults at its command of this number, if it is
-/// not 0.
-fn changed_rig<D: Device>(
-    alloc: Global,
-    checked: &Checked,
-    boxes: Vec<D>,
-    fault: u64,
-) -> Result<Rig<'_, D, FuseBoard>, RigFault> {
-    let taken: Taken = Rc::new(alloc, RefCell::new(ArrayVec::new()))?;
-    let mut rig = Rig::new(alloc, checked, boxes, FuseBoard::new(fault, false, taken))?;
+/// Has a rig take one change, of switch 0. Then adds the answer where a device is to take the place of that of
+/// a row, and what has become of each box while the rig is there.
+fn add_change<D: Device, B: Board>(
+    out: &mut String,
+    rig: &mut Rig<'_, D, B>,
+    row: RowId,
+    device: D,
+    all: &[Rc<Counts>],
+) -> Result<(), AllocError> {
     let _ = rig.step(input_of("0 0 1"));
-    Ok(rig)
+    add_exchange(out, rig, row, device)?;
+    add_counts(out, all)
 }
 
-/// Adds the answer where the last box is to take the place of that of a row in the rig of the others, and
-/// what has become of each box while the rig is there.
+/// Adds the answer where a device is to take the place of that of a row in the rig of these boxes.
+fn add_with<D: Device>(
+    (alloc, out): (Global, &mut String),
+    checked: &Checked,
+    (boxes, device): (Vec<D>, D),
+    board: FuseBoard,
+    (row, all): (RowId, &[Rc<Counts>]),
+) -> Result<(), AllocError> {
+    match Rig::new(alloc, checked, boxes, board) {
+        Ok(mut rig) => add_change(out, &mut rig, row, device, all),
+        Err(fault) => add(out, &fault),
+    }
+}
+
+/// Adds the answer where the last box is to take the place of that of a row in the rig of the others. The board
+/// faults at its command of this number, if it is not 0.
 fn add_with_last<D: Device>(
-    alloc: Global,
-    out: &mut String,
+    (alloc, out): (Global, &mut String),
     checked: &Checked,
     mut boxes: Vec<D>,
-    (question, all): (&str, &[Rc<Counts>]),
+    fault: u64,
+    (row, all): (RowId, &[Rc<Counts>]),
 ) -> Result<(), AllocError> {
-    let Some(device) = boxes.pop() else {
-        return out.push_str("no box");
-    };
-    match changed_rig(alloc, checked, boxes, number_at(question, 0)) {
-        Ok(mut rig) => {
-            add_exchange(out, &mut rig, row_of(number_at(question, 1)), device)?;
-            add_counts(out, all)
+    let taken: Taken = Rc::new(alloc, RefCell::new(ArrayVec::new()))?;
+    match boxes.pop() {
+        Some(device) => {
+            let board = FuseBoard::new(fault, false, taken);
+            add_with((alloc, out), checked, (boxes, device), board, (row, all))
         }
-        Err(fault) => add(out, &fault),
+        None => out.push_str("no box"),
     }
 }
 
@@ -77,114 +86,15 @@ fn add_with_last<D: Device>(
 pub(crate) fn exchanged(
     alloc: Global,
     out: &mut String,
-    config: &Config,
-    question: &str,
-) -> Result<(), AllocError> {
-    let Ok(checked) = check(alloc, config) else {
-        return out.push_str("refused");
-    };
-    let mut all: Vec<Rc<Counts>> = Vec::new(alloc);
-    let (first, words) = question.split_once(": ").unwrap_or(("", question));
-    let boxes = boxes_of(alloc, &checked, words, &mut all)?;
-    add_with_last(alloc, out, &checked, boxes, (first, &all))?;
-    add_counts(out, &all)
-}
-
-/// The name of what a line says of a switch or an event of the plan.
-fn name_of(plan: &Plan, happening: Happening) -> &[u8] {
-    match happening {
-        Happening::Switch(switch, _) if (switch.0 as usize) < plan.switch_count() => {
-            plan.switch_name(switch)
-        }
-        Happening::Event(event) if (event.0 as usize) < plan.event_count() => {
-            plan.event_name(event)
-        }
-        _ => b"another line",
-    }
-}
-
-/// Adds the moment of a stimulus and the names of its lines.
-fn add_names(out: &mut String, plan: &Plan, lines: &[Line]) -> Result<(), AllocError> {
-    for line in lines {
-        let name = std::str::from_utf8(name_of(plan, line.happening)).unwrap_or("?");
-        write!(out, "{} {name} ", line.moment)?;
-    }
-    Ok(())
-}
-
-/// Adds the lines of inputs.
-fn add_steps<D: Device, B: Board>(
-    out: &mut String,
-    plan: &Plan,
-    rig: &mut Rig<'_, D, B>,
-    inputs: &str,
-) -> Result<(), AllocError> {
-    for text in inputs.split(',') {
-        match rig.step(input_of(text)) {
-            Ok(lines) => add_names(out, plan, lines)?,
-            Err(fault) => write!(out, "{} {fault} ", fault.number())?,
-        }
-    }
-    Ok(())
-}
-
-/// The accrual of the row that a word names by its number. Its steps are done whose numbers stand after
-/// the number of the row.
-fn accrual_of(checked: &Checked, word: &str) -> Option<Accrual> {
-    let number = usize::try_from(number_at(word, 0)).ok()?;
-    let mut accrual = Accrual::new(checked.plan().rows().get(number)?)?;
-    let world = World {
-        games: 0,
-        player: 0,
-    };
-    for step in word.split_whitespace().skip(1) {
-        accrual.act(Act::Step(step.parse::<usize>().ok()?), 0, world);
-    }
-    Some(accrual)
-}
-
-/// Adds the lines of inputs, then the answer where an accrual is to take the place of that of a row, and
-/// the lines of further inputs.
-fn add_swap<D: Device>(
-    alloc: Global,
-    out: &mut String,
     checked: &Checked,
-    (devices, device): (Vec<D>, D),
     question: &str,
 ) -> Result<(), AllocError> {
-    let (first, rest) = question.split_once(": ").unwrap_or(("", ""));
-    let (before, after) = rest.split_once("; ").unwrap_or(("", ""));
-    match Rig::new(alloc, checked, devices, MemoryBoard::new(alloc)?) {
-        Ok(mut rig) => {
-            add_steps(out, checked.plan(), &mut rig, before)?;
-            add_exchange(out, &mut rig, row_of(number_at(first, 0)), device)?;
-            add_steps(out, checked.plan(), &mut rig, after)
-        }
-        Err(fault) => add(out, &fault),
-    }
-}
-
-/// Answers to a row and the word of the accrual that is to take the place of that of the row, after `: `
-/// the inputs before, and after `; ` those after.
-pub(crate) fn swapped(
-    alloc: Global,
-    out: &mut String,
-    config: &Config,
-    question: &str,
-) -> Result<(), AllocError> {
-    let Ok(checked) = check(alloc, config) else {
-        return out.push_str("refused");
-    };
-    let (first, _) = question.split_once(": ").unwrap_or(("", ""));
-    let (_, word) = first.split_once(" ").unwrap_or(("", ""));
-    let mut devices: Vec<Accrual> = Vec::new(alloc);
-    if let Some(accrual) = accrual_of(&checked, "0") {
-        devices.push(accrual)?;
-    }
-    match accrual_of(&checked, word) {
-        Some(device) => add_swap(alloc, out, &checked, (devices, device), question),
-        None => out.push_str("no accrual"),
-    }
+    let (first, words) = question.split_once(": ").unwrap_or(("", question));
+    let [fault, row] = [number_at(first, 0), number_at(first, 1)];
+    let mut all: Vec<Rc<Counts>> = Vec::new(alloc);
+    let boxes = boxes_of(alloc, checked, words, &mut all)?;
+    add_with_last((alloc, out), checked, boxes, fault, (row_of(row), &all))?;
+    add_counts(out, &all)
 }
 
 // Row 0 is the machine's, and is hit at moment 0, when coil 0 is pulsed; 1 and 2 are of a mode. A pair
@@ -221,42 +131,9 @@ exchange 0 65535: 0 1 2 0 => 2 NoSuchRow (0, 0) (0, 0) (0, 0) (0, 1) (1, 1) (1, 
 exchange 1 0: 0 1 2 +0 => 1 Halted (0, 0) (0, 0) (0, 0) (0, 1) (1, 1) (1, 1) (1, 1) (0, 1)
 exchange 1 3: 0 1 2 1 => 1 Halted (0, 0) (0, 0) (0, 0) (0, 1) (1, 1) (1, 1) (1, 1) (0, 1)";
 
-// An accrual of three steps, of which the second is done first. The lines after it are the same with each
-// of these exchanges.
-const SWAPS: &str = "\
-switches:
-  s_a: {debounce: quick}
-  s_b: {debounce: quick}
-  s_c: {debounce: quick}
-accruals:
-  q:
-    events:
-    - s_a_active
-    - s_b_active
-    - s_c_active
-?
-swap 0 0 1: 0 1 1; 10 0 1,20 2 1 => \
-0 s_b 0 s_b_active 0 logicblock_q_updated 0 logicblock_q_hit taken, due None \
-10 s_a 10 s_a_active 10 logicblock_q_updated 10 logicblock_q_hit \
-20 s_c 20 s_c_active 20 logicblock_q_updated 20 logicblock_q_hit 20 logicblock_q_complete
-swap 0 0: 0 1 1; 10 0 1,20 2 1 => \
-0 s_b 0 s_b_active 0 logicblock_q_updated 0 logicblock_q_hit 4 WrongState \
-10 s_a 10 s_a_active 10 logicblock_q_updated 10 logicblock_q_hit \
-20 s_c 20 s_c_active 20 logicblock_q_updated 20 logicblock_q_hit 20 logicblock_q_complete
-swap 0 0 1 2: 0 1 1; 10 0 1,20 2 1 => \
-0 s_b 0 s_b_active 0 logicblock_q_updated 0 logicblock_q_hit 4 WrongState \
-10 s_a 10 s_a_active 10 logicblock_q_updated 10 logicblock_q_hit \
-20 s_c 20 s_c_active 20 logicblock_q_updated 20 logicblock_q_hit 20 logicblock_q_complete
-swap 1 0 1: 0 1 1; 10 0 1,20 2 1 => \
-0 s_b 0 s_b_active 0 logicblock_q_updated 0 logicblock_q_hit 2 NoSuchRow \
-10 s_a 10 s_a_active 10 logicblock_q_updated 10 logicblock_q_hit \
-20 s_c 20 s_c_active 20 logicblock_q_updated 20 logicblock_q_hit 20 logicblock_q_complete";
-
 #[test]
 fn exchanges(rt: HostRuntime) -> Result<(), Fail> {
-    for table in [EXCHANGES, SWAPS] {
-        let wrong = wrong_rows(rt.alloc(), table)?;
-        assert_eq!(rt; wrong.as_str(), "");
-    }
+    let wrong = wrong_rows(rt.alloc(), EXCHANGES)?;
+    assert_eq!(rt; wrong.as_str(), "");
     Ok(())
 }

@@ -17,4 +17,6 @@ mod exchanges;
 #[cfg(test)]
 mod plans;
 #[cfg(test)]
+mod spares;
+#[cfg(test)]
 mod steps;

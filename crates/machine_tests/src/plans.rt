@@ -99,22 +99,26 @@ pub(crate) fn planned(
     }
 }
 
-/// Adds what comes of the calls that follow the size of a queue: `take`, or the number of an event
-/// to be pushed.
+/// Adds what comes of a call of a queue: `take`, or the number of an event to be pushed.
+fn add_call(out: &mut String, queue: &mut Queue, word: &str) -> Result<(), AllocError> {
+    match word.parse::<u16>() {
+        Ok(number) => {
+            let posted = Posted {
+                event: EventId(number),
+                owner: Owner::Machine,
+            };
+            add(out, &queue.push(posted))
+        }
+        Err(_) => add(out, &queue.take()),
+    }
+}
+
+/// Adds what comes of the calls that follow the size of a queue.
 pub(crate) fn queued(alloc: Global, out: &mut String, question: &str) -> Result<(), AllocError> {
     let (size, calls) = question.split_once(": ").unwrap_or((question, ""));
     let mut queue = Queue::new(alloc, size.parse::<usize>().unwrap_or(0))?;
     for word in calls.split_whitespace() {
-        match word.parse::<u16>() {
-            Ok(number) => {
-                let posted = Posted {
-                    event: EventId(number),
-                    owner: Owner::Machine,
-                };
-                add(out, &queue.push(posted))?;
-            }
-            Err(_) => add(out, &queue.take())?,
-        }
+        add_call(out, &mut queue, word)?;
     }
     Ok(())
 }

@@ -2,10 +2,9 @@
 
 use crate::cases::{add, wrong_rows};
 use coil_guard::{Board, MemoryBoard};
-use config_checker::{Checked, check};
+use config_checker::Checked;
 use device_objects::Device;
 use logic_blocks::Counter;
-use mpf_config::Config;
 use pin_rig::{Input, Rig};
 use plan_tables::SwitchId;
 use std::alloc::{AllocError, Global};
@@ -35,7 +34,7 @@ pub(crate) fn input_of(text: &str) -> Input {
 }
 
 /// Adds the lines of an input, or the number and the name of its refusal.
-fn add_step<D: Device, B: Board>(
+pub(crate) fn add_step<D: Device, B: Board>(
     out: &mut String,
     rig: &mut Rig<'_, D, B>,
     input: Input,
@@ -61,7 +60,7 @@ fn add_steps<D: Device, B: Board>(
 }
 
 /// Answers to inputs, in a machine without devices.
-fn stepped_by(
+pub(crate) fn stepped(
     alloc: Global,
     out: &mut String,
     checked: &Checked,
@@ -72,19 +71,6 @@ fn stepped_by(
     match Rig::new(alloc, checked, devices, board) {
         Ok(mut rig) => add_steps(out, &mut rig, inputs),
         Err(_) => out.push_str("no rig"),
-    }
-}
-
-/// Answers to inputs, in a machine of the configuration.
-pub(crate) fn stepped(
-    alloc: Global,
-    out: &mut String,
-    config: &Config,
-    inputs: &str,
-) -> Result<(), AllocError> {
-    match check(alloc, config) {
-        Ok(checked) => stepped_by(alloc, out, &checked, inputs),
-        Err(_) => out.push_str("refused"),
     }
 }
 
