@@ -91,7 +91,8 @@ def split_bundle(data: bytes) -> list[tuple[str, bytes]]:
         if line.startswith(b"@"):
             if line[1:2] not in (b" ", b"\t"):
                 raise ConfigFault(1, "Bundle", "-", number, "-")
-            name = line[1:].removesuffix(b"\n").removesuffix(b"\r").strip(b" \t")
+            # (a CR at the end of the bundle, with no LF, ends no line)
+            name = line[1:].removesuffix(b"\r\n").removesuffix(b"\n").strip(b" \t")
             texts.append((name.decode(errors="surrogateescape"), []))
         elif not texts:
             raise ConfigFault(1, "Bundle", "-", 1, "-")
