@@ -1,0 +1,66 @@
+"""Crates in rooms of their own.
+
+`rt check` keeps all others out of the crates below the one that it checks, so two checks in one checkout wait for each
+other. A room has a copy of a crate and of those below it, with what their last checks kept."""
+import os
+import shutil
+import subprocess
+from functools import cache
+from pathlib import Path
+
+TOP = Path(__file__).resolve().parents[1]
+
+
+@cache
+def listed() -> dict[str, str]:
+    """For each crate its line of crates.txt, in the order there."""
+    found = {}
+    for line in (TOP / "crates.txt").read_text().splitlines():
+        name, colon, _ = line.partition("#")[0].partition(":")
+        if colon:
+            found[name.split()[0]] = line
+    return found
+
+
+@cache
+def uses() -> dict[str, tuple[str, ...]]:
+    """For each crate those of the repository that it uses itself."""
+    return {name: tuple(it for it in line.partition("#")[0].partition(":")[2].split() if it in listed())
+            for name, line in listed().items()}
+
+
+@cache
+def below(name: str) -> frozenset[str]:
+    """A crate, and all crates of the repository that it stands on."""
+    return frozenset({name}.union(*(below(it) for it in uses()[name])))
+
+
+def link_or_copy(source: str, target: str) -> None:
+    """Links a file that nothing changes in place, which takes no room."""
+    try:
+        os.link(source, target)
+    except OSError:
+        shutil.copy2(source, target)
+
+
+def room_of(crate: str, room: Path) -> Path:
+    """Makes the room of a crate in an empty folder, and returns the crate's folder there."""
+    (room / "crates").mkdir()
+    shutil.copy2(TOP / "HANDLES", room)
+    (room / "crates.txt").write_text("".join(f"{listed()[it]}\n" for it in listed() if it in below(crate)))
+    for name in below(crate):
+        folder = TOP / "crates" / name
+        shutil.copytree(folder, room / "crates" / name, ignore=shutil.ignore_patterns("out"))
+        for kept in ("rlib", "incremental")[: 2 if name == crate else 1]:
+            if (folder / "out" / kept).is_dir():
+                copied = link_or_copy if kept == "rlib" else shutil.copy2
+                shutil.copytree(folder / "out" / kept, room / "crates" / name / "out" / kept, copy_function=copied)
+    subprocess.run(["git", "init", "-q", room], check=True)
+    return room / "crates" / crate
+
+
+def run(folder: Path, *words: str) -> tuple[int, str]:
+    """Runs tools/rt in a crate's folder, and returns its status and all that it prints."""
+    ran = subprocess.run([str(TOP / "tools" / "rt"), *words], cwd=folder, stdin=subprocess.DEVNULL,
+                         stdout=subprocess.PIPE, stderr=subprocess.STDOUT, text=True, errors="replace")
+    return ran.returncode, ran.stdout
