@@ -329,7 +329,7 @@ fn name_of(settings: &Settings) -> &'static str {
     }
 }
 
-/// Adds the kind of a row, and how often its device was exchanged, as in `Seat::pairs`. Before that stands what was
+/// Adds the kind of a row, and how often its device was exchanged, as in `Seat::pairs`. Before that comes what was
 /// wrong.
 fn add_seat(out: &mut String, seat: &Seat) -> Result<(), AllocError> {
     if seat.is_wrong {

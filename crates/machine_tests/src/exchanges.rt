@@ -81,8 +81,8 @@ fn add_with_last<D: Device>(
 }
 
 /// Answers to the number of the command at which the board faults, a row, and words for boxes: those of
-/// the rig, and the one that is to take the place of that of the row. At the end stands what has become of
-/// each box.
+/// the rig, and the one that is to take the place of that of the row. What has become of each box comes
+/// last.
 pub(crate) fn exchanged(
     alloc: Global,
     out: &mut String,

@@ -1,6 +1,6 @@
-//! Devices of two kinds of code, which write down the calls that they have, and so can be brought to a state. Any
-//! row has devices with *plain* code. Those of accruals and banks of shots can also be *masks*, which keep flags
-//! as bits.
+//! Devices of two kinds of code. Each call of one is noted, so that another can be brought to its state by the
+//! same calls. Any row has devices with *plain* code. Those of accruals and banks of shots can also be *masks*,
+//! which keep flags as bits.
 
 use ball_devices::BallDevice;
 use coil_rules::{Autofire, Flipper};
@@ -52,8 +52,8 @@ impl<D: Device> Spare<'_, D> {
         }
     }
 
-    /// Takes the last call out of the history. Gives whether it was the stop of this device, which is no call
-    /// of the device that has taken its place.
+    /// Takes the last call out of the history: the new device has not had it. Gives whether it was the stop of
+    /// this device.
     pub(crate) fn forgets_stop(&self) -> bool {
         match last_of(self.history) {
             Some(past) => matches!(past.call, Call::ModeStop) && past.row.0 == self.number.0,

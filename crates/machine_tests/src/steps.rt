@@ -45,8 +45,8 @@ pub(crate) fn add_step<D: Device, B: Board>(
     }
 }
 
-/// Adds what comes of each input; then the latest moment, and that of the alarm that is due next. At
-/// the end stand the lines of the latest stimulus.
+/// Adds what comes of each input; then the latest moment, and that of the alarm that is due next. The
+/// lines of the latest stimulus come last.
 fn add_steps<D: Device, B: Board>(
     out: &mut String,
     rig: &mut Rig<'_, D, B>,

@@ -1,7 +1,7 @@
 //! Tables of worked rows, and what runs them.
 //!
-//! A row stands behind an empty line. It begins with `=== ` and its title, which may go on with the
-//! reason for the row. Below stand its parts, each behind a line of its own:
+//! A row comes after an empty line. It begins with `=== ` and its title, which may go on with the
+//! reason for the row. Then come its parts, each after a line of its own:
 //!
 //! - `--- check`, `--- verify` or `--- play`: what is done, with this bundle;
 //! - `--- certificate` or `--- log`: what is verified or played on it;
@@ -10,10 +10,10 @@
 //! - `=> Yes`, `=> Refused` or a fault: the answer, with all that is printed.
 //!
 //! A text is written line by line. A `\` at the end of a line takes the line end away, as in every
-//! text of Rattle. What stands behind `--- N times` comes so often, each time with its number, from
-//! 0, in place of `№`. A text in parentheses is the name of a text (`texts`) or of a reader
-//! (`Source::of`). Behind the answer stands how many commands a board took that may fault, and how
-//! often each reader or writer was called that may fail.
+//! text of Rattle. What comes after `--- N times` is repeated N times, each time with its number,
+//! from 0, in place of `№`. A text in parentheses is the name of a text (`texts`) or of a reader
+//! (`Source::of`). After the answer come the number of commands that a board took, if it may fault,
+//! and the number of calls of each reader or writer that may fail.
 
 use crate::pen::Pen;
 use crate::sink::Sink;
@@ -58,7 +58,7 @@ pub fn wrong_rows<A: Answers>(alloc: Global, answers: &A, table: &str) -> Pen {
     wrong
 }
 
-/// Adds a row and its answer, if that is not the one that stands there.
+/// Adds a row and its answer, if the row has another one.
 fn check_row<A: Answers>(wrong: &mut Pen, answers: &A, text: &str) {
     let row = row_of(text);
     let found = answered(wrong.alloc, answers, &row);
@@ -69,12 +69,12 @@ fn check_row<A: Answers>(wrong: &mut Pen, answers: &A, text: &str) {
     }
 }
 
-/// What stands before a mark, and behind it.
+/// What comes before a mark, and after it.
 fn cut<'a>(text: &'a str, mark: &str) -> (&'a str, &'a str) {
     text.split_once(mark).unwrap_or((text, ""))
 }
 
-/// The parts of a row. An answer is wanted that no row has, where none stands there.
+/// The parts of a row. If it has no answer, one is wanted that nothing gives.
 fn row_of(text: &str) -> Row<'_> {
     let (given, wanted) = text.split_once("=> ").unwrap_or((text, "an answer"));
     let (_, given) = cut(given, "\n--- ");

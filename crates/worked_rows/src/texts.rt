@@ -1,6 +1,6 @@
 //! Texts that rows name, since several rows need them.
 
-/// Each text stands behind its name and before `(end)`:
+/// Each text is between its name and `(end)`:
 ///
 /// - one switch, whose activation posts two events;
 /// - one switch, whose activation posts an event, which posts another one twice;

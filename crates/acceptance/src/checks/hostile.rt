@@ -1,5 +1,5 @@
 //! Texts of about 1 MiB that somebody made to cost time or stack: each is answered like any other.
-//! How the time grows is measured by `bench/run`.
+//! `bench/run` and `bench/hostile` measure how the time and the memory grow.
 
 use crate::checks::row::assert_rows;
 
