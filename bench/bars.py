@@ -2,8 +2,8 @@
 it.
 
 PROGRAM is pinball, proved: of an unproved build valgrind reports no count. COMPLETE is the folder of examples/complete.
-Instructions are counted by valgrind. Processor time and peak memory are those of the kernel's account. A status in
-brackets is how the program ended. It ends with status 1 where a bar is not met."""
+Instructions are counted by valgrind. Processor time and peak memory are those of the kernel's account. The status in
+brackets is that of the smaller of the two texts. This ends with status 1 where a bar is not met."""
 import pathlib
 import statistics
 import sys
@@ -50,7 +50,7 @@ class Bars:
 
 
 def made(size: int, of_seven: int) -> dict[str, bytes]:
-    """Bundles of texts of so many bytes, of which the first is ordinary, and the last has seven modes."""
+    """Bundles of texts of so many bytes: first an ordinary one, and last seven modes with texts of `of_seven` bytes."""
     part = MIB // size
     bundles = {"an ordinary text": texts.bundle(texts.ordinary(part))}
     bundles |= {what: texts.bundle(text) for what, text in texts.hostile(part).items()}

@@ -33,8 +33,8 @@ class Used:
 
 
 def counted(command: list[str], path: pathlib.Path) -> Counted:
-    """The instructions of a command with a file as its input, its exit status, and the lines that it writes. Their
-    number does not change with the other work of a machine, but may with the compiler."""
+    """The instructions of a command with a file as its input, its exit status, and the number of lines that it writes.
+    Other work of the machine does not change the instructions, but another compiler may."""
     with path.open("rb") as text:
         done = subprocess.run(VALGRIND + command, stdin=text, stdout=subprocess.PIPE, stderr=subprocess.PIPE)
     found = COLLECTED.search(done.stderr.decode())
@@ -44,9 +44,9 @@ def counted(command: list[str], path: pathlib.Path) -> Counted:
 
 
 def used(command: list[str], path: pathlib.Path) -> Used:
-    """The processor time in seconds and the peak memory in bytes of a command with a file as its input, as the kernel
-    keeps account of them. The account of a process begins with the peak of the one that starts it. So a shell does,
-    which is small, and leaves it behind for us to wait for."""
+    """The processor time in seconds and the peak memory in bytes of a command with a file as its input, by the kernel's
+    account. That of a process begins with the peak of the process that starts it. So a small shell starts the command,
+    and ends before it: then we wait for the command."""
     if ctypes.CDLL(None).prctl(PR_SET_CHILD_SUBREAPER, 1, 0, 0, 0) != 0:
         sys.exit("this kernel gives no account of a process that its parent leaves behind")
     subprocess.run(["/bin/sh", "-c", LEAVE, str(path), *command], check=True)

@@ -10,7 +10,7 @@ from texts import VERSION
 
 # Of the largest: all of these are near a limit of the plan, and are accepted.
 MODES = 64
-EVENTS = 3600
+HANDLED = 56  # events of each mode
 BALL_DEVICES = 192
 COUNTERS = 768
 MODE = 16 * KIB  # bytes of a mode's text in a folder
@@ -51,12 +51,11 @@ def counters(mode: int, count: int) -> Iterator[str]:
 
 
 def modes(part: int) -> bytes:
-    """One `part`-th of 64 modes, which handle one `part`-th of 3,600 events: each of them its own."""
+    """One `part`-th of 64 modes, each of which handles 56 events of its own."""
     count = MODES // part
     names = [f"m_{n}" for n in range(count)]
     machine = f"{VERSION}modes: {', '.join(names)}\n"
-    each = EVENTS // MODES
-    return stacked.bundle(machine, {name: VERSION + "".join(players(n, each)) for n, name in enumerate(names)})
+    return stacked.bundle(machine, {name: VERSION + "".join(players(n, HANDLED)) for n, name in enumerate(names)})
 
 
 def ball_devices(part: int) -> bytes:

@@ -11,8 +11,9 @@ import sys
 import tempfile
 from collections.abc import Callable
 
+import stacked
 from counting import counted
-from texts import VERSION, bundle
+from texts import VERSION
 
 SWITCHES = "switches:\n  s: {number: 1, debounce: quick}\n  t: {number: 2, debounce: quick}\n"
 MODE = "mode:\n  start_events: s_active\n  stop_events: never\n  game_mode: no\n  stop_on_ball_end: no\n"
@@ -32,9 +33,7 @@ class Growing:
 def with_modes(machine: str, modes: dict[str, str]) -> bytes:
     """A bundle of a machine text and of modes by name."""
     listed = f"modes: {', '.join(modes)}\n" if modes else ""
-    parts = [bundle(VERSION + listed + machine)]
-    parts += [f"@ modes/{name}/config/{name}.yaml\n{VERSION}{text}".encode() for name, text in modes.items()]
-    return b"".join(parts)
+    return stacked.bundle(VERSION + listed + machine, {name: VERSION + text for name, text in modes.items()})
 
 
 def toggles(count: int) -> str:

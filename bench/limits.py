@@ -112,7 +112,7 @@ def quests(number: int, draw: random.Random) -> Iterator[str]:
 
 
 def players(number: int, draw: random.Random) -> Iterator[str]:
-    """What a mode posts, scores and pulses: a quarter of it under a condition."""
+    """What a mode pulses, scores and posts. A quarter of the posts have a condition."""
     yield f"coil_player:\n  lanes_{number}_lit_complete:\n    c_{SLINGSHOTS + HOLES + number}: pulse\n"
     yield "variable_player:\n"
     for n, hit in enumerate(draw.sample(HIT, 8)):

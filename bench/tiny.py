@@ -51,7 +51,11 @@ def names(length: int) -> Iterator[str]:
 def entries(front: str, named: Iterator[str], rest: str, size: int) -> str:
     """As many entries as fit into so many bytes together with what comes before them: each is a name and this rest."""
     parts, length = [VERSION, front], len(VERSION) + len(front)
-    while (length := length + len(entry := f" {next(named)}{rest}\n")) <= size:
+    for name in named:
+        entry = f" {name}{rest}\n"
+        length += len(entry)
+        if length > size:
+            break
         parts.append(entry)
     return "".join(parts)
 

@@ -3,11 +3,11 @@ from .outline import Entry
 from .scenery import Scenery, action_of
 
 JUST_OUT = "You already have {} {}, so just take it out."
-RESET = "Let a `coil_player` pulse its `reset_coil` {} at the event that resets the bank, as `BANK_down_complete`."
+RESET = "Let a `coil_player` pulse its `reset_coil` {} at the event that resets the bank, such as `BANK_down_complete`."
 PULSED = "A `coil_player` already pulses its `reset_coil` {}: {}."
 
 
-def told(scene: Scenery, section: Entry, general: str) -> str:
+def advice(scene: Scenery, section: Entry, general: str) -> str:
     """What to do with such a section; `general` where the machine has nothing in its place."""
     inside = section.value.entries or []
     if section.key == "drop_targets":
@@ -25,7 +25,9 @@ def names_in(targets: list[Entry], setting: str) -> list[str]:
     return [it.text for names in found if names for it in names.texts()]
 
 
-def in_place(scene: Scenery, what: str, one: str, places: list, missing: list[str], general: str) -> str:
+def in_place(
+    scene: Scenery, what: str, one: str, places: list[tuple[str, Entry]], missing: list[str], general: str
+) -> str:
     if not places:
         return general
     where = ", ".join(f"`{entry.key}` in {scene.where(text, entry.line)}" for text, entry in places)
@@ -39,7 +41,7 @@ def shots_on(scene: Scenery, switches: list[str]) -> tuple[list[tuple[str, Entry
     places, missing = [], []
     for switch in dict.fromkeys(switches):
         found = [place for place in scene.entries_of("shots") if is_hit_by(place[1], switch)]
-        places += found
+        places += [it for it in found if it not in places]
         missing += [] if found else [f"`{switch}`"]
     return places, missing
 

@@ -184,19 +184,20 @@ def shown_changes(finding: Finding) -> list[str]:
     return lines
 
 
-def run_of(at: int, change: Change) -> tuple:
-    """What changes have in common that are shown together: new lines their place, and lines taken out that no gap is
-    between them."""
+def run_of(at: int, change: Change) -> tuple[str, str, int]:
+    """The same for changes that are shown together: new lines at one place, and lines without a gap that are taken
+    out."""
     kind = kind_of(change)
-    return (change.text, kind, change.line - at if kind == OUT else change.line if kind == NEW else 0)
+    together = {OUT: change.line - at, NEW: change.line}
+    return change.text, kind, together.get(kind, 0)
 
 
 def place_of(change: Change, here: tuple[str, int]) -> list[str]:
     """Where a change is, if that is in another text than the last line, or comes after another line."""
     words = [f"in {change.text}"] if change.text != here[0] else []
     words += [f"after line {change.line}"] if kind_of(change) == NEW and (change.text, change.line) != here else []
-    told = ", ".join(words)
-    return [f"  {told[:1].upper()}{told[1:]}:"] if told else []
+    place = ", ".join(words)
+    return [f"  {place[:1].upper()}{place[1:]}:"] if place else []
 
 
 def kind_of(change: Change) -> str:

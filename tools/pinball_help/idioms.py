@@ -15,8 +15,7 @@ SECTIONS = {
     "credits": "Take it out: there is no coin door here.",
     "digital_outputs": "Write an output that is driven as a coil below `coils`, with its limits.",
     "diverters": "Write a coil with `default_hold_power`, and a `coil_player` that enables and disables it.",
-    "drop_target_banks": "Write a `shot_groups` entry of the targets' shots, and a `coil_player` that pulses the reset "
-    "coil at `BANK_down_complete`: see examples/targets.",
+    "drop_target_banks": "Write a `shot_groups` entry of the targets' shots: see examples/targets.",
     "drop_targets": "Write a shot for each target, with a profile of the states `up` and `down`: see examples/targets.",
     "dual_wound_coils": "Write both windings below `coils`, and a flipper with `main_coil` and `hold_coil`.",
     "extra_balls": "Take it out: no extra balls are given here.",

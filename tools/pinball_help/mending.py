@@ -42,7 +42,8 @@ def cut(line: str, start: int, end: int) -> str:
 
 
 def emptied(entry: Entry) -> Entry:
-    """What has nothing left where an entry is taken out: its section, or the event of a player; else the entry."""
+    """What to take out with an entry: its section or its event in a player, if nothing else is in it; else the entry
+    alone."""
     outer = entry.path[-1] if entry.path else entry
     of_section = len(entry.path) == 1 and outer.key not in SINGLE
     of_event = len(entry.path) == 2 and entry.path[0].key in PLAYERS

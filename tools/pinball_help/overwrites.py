@@ -18,9 +18,9 @@ LIMITED = "That is above its `{}`, so that change is not shown: see what it bear
 class Move:
     """Where the settings of an overwrite go: in words, and the edits of the coil."""
 
-    told: str = ""
+    write: str = ""
     edits: tuple[Edit, ...] = ()
-    lowering: tuple[Edit, ...] = ()  # those of them that give the coil less than it has
+    lowering: tuple[Edit, ...] = ()  # those that give the coil less than it has
 
 
 def moved(scene: Scenery, text: str, entry: Entry) -> Move:
@@ -38,17 +38,17 @@ def moved(scene: Scenery, text: str, entry: Entry) -> Move:
     words, reasons, edits, lowering = [], [], [], []
     for key, value in written.items():
         right, reason = powers.meant(key, value) if powers.is_power(key) else (value, "")
-        now, new = as_number(key, now_of(coil[1], key)), as_number(key, right)
-        barred = barred_by(coil[1], key, new, others) if now is not None and new is not None and new > now else ""
+        change = change_of(key, now_of(coil[1], key), right)
+        barred = barred_by(coil[1], key, right, others) if change > 0 else ""
         words.append(f"`default_{key}: {right}`")
         reasons += [it for it in (reason, barred) if it]
-        if now is not None and new is not None and now != new and not barred:
+        if change and not barred:
             edits.append(set_setting(scene, coil[0], coil[1], f"default_{key}", right))
-            lowering += edits[-1:] if new < now else []
+            lowering += edits[-1:] if change < 0 else []
     where = f"`{name.text}`, {scene.where(coil[0], coil[1].line)}"
-    told = " ".join([f"The coil is {where}: write {' and '.join(words)} there.", *dict.fromkeys(reasons)])
+    write = " ".join([f"The coil is {where}: write {' and '.join(words)} there.", *dict.fromkeys(reasons)])
     most = 1 if coil[1].last <= coil[1].line + 1 else len(edits)  # (a line has one edit)
-    return Move(told, tuple(edits[:most]), tuple(lowering[:most]))
+    return Move(write, tuple(edits[:most]), tuple(lowering[:most]))
 
 
 def others_of(scene: Scenery, coil: str, own: Entry) -> str:
@@ -63,10 +63,10 @@ def others_of(scene: Scenery, coil: str, own: Entry) -> str:
     return ", ".join(found)
 
 
-def barred_by(coil: Entry, key: str, new: int | None, others: str) -> str:
+def barred_by(coil: Entry, key: str, new: str, others: str) -> str:
     """Why an edit may not give a coil more than it has now; nothing where it may."""
-    most = as_number(key, limit_of(coil, (f"max_{key}",), "")[1])
-    if most is not None and new is not None and new > most:
+    most = limit_of(coil, (f"max_{key}",), "")[1]
+    if change_of(key, most, new) > 0:
         return LIMITED.format(f"max_{key}")
     return OTHERS.format(others) if others else ""
 
@@ -78,6 +78,12 @@ def now_of(coil: Entry, key: str) -> str:
     if key == "hold_power":
         return limit_of(coil, ("default_hold_power",), hold_limit(coil)[1])[1]
     return limit_of(coil, ("default_pulse_power", "max_pulse_power"), "1.0")[1]
+
+
+def change_of(key: str, now: str, new: str) -> int:
+    """How much more a new value is than the one before; 0 where one of the two is no number."""
+    before, after = as_number(key, now), as_number(key, new)
+    return after - before if before is not None and after is not None else 0
 
 
 def as_number(key: str, value: str) -> int | None:

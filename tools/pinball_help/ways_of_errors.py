@@ -81,7 +81,7 @@ def of_section_of_mpf(scene: Scenery, text: str, entry: Entry) -> Cure:
     why = f"`{entry.key}` is a section of MPF that is not read here."
     write = SECTIONS[entry.key]
     if entry.key in ("drop_targets", "drop_target_banks"):
-        write = drop_targets.told(scene, entry, write)
+        write = drop_targets.advice(scene, entry, write)
     cure = taken_out(scene, text, entry, write, why)
     way = replace(cure.ways[0], recipe=RECIPES_OF_SECTIONS.get(entry.key, ""))
     new = SECTIONS_RENAMED.get(entry.key)
@@ -130,7 +130,7 @@ def of_setting_of_mpf(scene: Scenery, text: str, entry: Entry, cure: Cure, inste
         if key in ("eos_switch", "use_eos") and "hold_coil" in siblings:
             word = "Take it out: the flipper has its `hold_coil`."
         move = overwrites.moved(scene, text, entry)
-        way = Way((*out, *move.edits), f"{word} {move.told}".rstrip(), why, recipe=recipe)
+        way = Way((*out, *move.edits), f"{word} {move.write}".rstrip(), why, recipe=recipe)
         return replace(cure, ways=(way, Way(out)), out=(*out, *move.lowering))
     if instead in siblings:
         return replace(cure, ways=(Way(out, f"Take it out: `{instead}` is there. {word}".rstrip(), why),))
