@@ -15,8 +15,8 @@ import games
 import limits
 import texts
 import tiny
-from counting import Used, counted, used
-from measuring import KIB, MIB
+from counting import counted, used
+from measuring import KIB, MIB, Cost
 
 NOTHING = pathlib.Path("/dev/null")
 # The instructions of a text are counted at one size, as those of a dear text take long to count, and its memory at
@@ -144,7 +144,7 @@ def long_plays(program: str, room: pathlib.Path, complete: pathlib.Path, bars: B
         )
 
 
-def played(program: str, bundle: pathlib.Path, logs: list[pathlib.Path]) -> list[Used]:
+def played(program: str, bundle: pathlib.Path, logs: list[pathlib.Path]) -> list[Cost]:
     """The median time and the greatest memory of plays of these logs. Each is played once, and then all of them again:
     so where the machine's speed changes, it changes for all."""
     results = [[used([program, "play", str(log)], bundle) for log in logs] for _ in range(RUNS)]
@@ -152,7 +152,7 @@ def played(program: str, bundle: pathlib.Path, logs: list[pathlib.Path]) -> list
     for runs in zip(*results):
         if any(cost.status != 0 for cost in runs):
             sys.exit(f"play on {bundle} is refused")
-        costs.append(Used(statistics.median(cost.seconds for cost in runs), max(cost.memory for cost in runs), 0))
+        costs.append(Cost(statistics.median(cost.seconds for cost in runs), max(cost.memory for cost in runs), 0))
     return costs
 
 

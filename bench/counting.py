@@ -7,7 +7,7 @@ import re
 import subprocess
 import sys
 
-from measuring import KIB
+from measuring import KIB, Cost
 
 VALGRIND = ["valgrind", "--tool=callgrind", "--callgrind-out-file=/dev/null"]
 COLLECTED = re.compile(r"Collected : (\d+)")
@@ -25,13 +25,6 @@ class Counted:
     lines: int
 
 
-@dataclasses.dataclass(frozen=True)
-class Used:
-    seconds: float
-    memory: int
-    status: int
-
-
 def counted(command: list[str], path: pathlib.Path) -> Counted:
     """The instructions of a command with a file as its input, its exit status, and the number of lines that it writes.
     Other work of the machine does not change the instructions, but another compiler may."""
@@ -43,7 +36,7 @@ def counted(command: list[str], path: pathlib.Path) -> Counted:
     return Counted(int(found[1]), done.returncode, done.stdout.count(b"\n"))
 
 
-def used(command: list[str], path: pathlib.Path) -> Used:
+def used(command: list[str], path: pathlib.Path) -> Cost:
     """The processor time in seconds and the peak memory in bytes of a command with a file as its input, by the kernel's
     account. That of a process begins with the peak of the process that starts it. So a small shell starts the command,
     and ends before it: then we wait for the command."""
@@ -54,4 +47,4 @@ def used(command: list[str], path: pathlib.Path) -> Used:
     status = os.waitstatus_to_exitcode(status)
     if status not in ANSWERED:
         sys.exit(f"{command}: status {status}")
-    return Used(usage.ru_utime + usage.ru_stime, usage.ru_maxrss * KIB, status)
+    return Cost(usage.ru_utime + usage.ru_stime, usage.ru_maxrss * KIB, status)
