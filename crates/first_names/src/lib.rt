@@ -12,7 +12,7 @@ use std::alloc::{AllocError, Global};
 ///
 /// # Errors
 ///
-/// Where memory runs out. The table may then have lost names, so it has to be dropped.
+/// Where memory runs out. No clause says what the table has then, so it has to be dropped.
 pub fn note_name(alloc: Global, table: &mut NameTable, name: &[u8]) -> Result<(), AllocError>
     ensures limit { OnOk result (table.new.limit ≡ table.old.limit) }
     ensures names { OnOk result ((all : List (List ℕ)) → IsNameTableOf all table.old → IsNameTableOf (with_name all name.now) table.new) }
