@@ -141,7 +141,7 @@ fn wanted_in(alloc: Global, trial: Trial, course: &str) -> Pen {
 }
 
 /// A box of a device for each row. Where memory is out some are missing, and there is no rig of them.
-fn devices_of(alloc: Global, checked: &Checked) -> Vec<Box<dyn Device>> {
+pub(crate) fn devices_of(alloc: Global, checked: &Checked) -> Vec<Box<dyn Device>> {
     let mut devices: Vec<Box<dyn Device>> = Vec::new(alloc);
     for row in checked.plan().rows() {
         if let Some(device) = first_box(alloc, row) {

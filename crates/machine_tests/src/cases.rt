@@ -6,7 +6,7 @@ use crate::boards::boarded;
 use crate::boxes::boxed;
 use crate::checks::checked;
 use crate::exchanged_runs::exchanged_run;
-use crate::exchanges::exchanged;
+use crate::exchanges::{exchanged, swapped};
 use crate::plans::{planned, queued};
 use crate::steps::{number_at, stepped};
 use config_checker::{Checked, check};
@@ -54,6 +54,7 @@ fn ask_accepted(
     match word {
         "boxes" => boxed(alloc, out, checked, rest),
         "exchange" => exchanged(alloc, out, checked, rest),
+        "swap" => swapped(alloc, out, checked, rest),
         "runs" => exchanged_run(alloc, out, checked, rest),
         "boards" => boarded(alloc, out, checked, rest),
         _ => stepped(alloc, out, checked, rest),
@@ -79,7 +80,7 @@ fn ask(alloc: Global, out: &mut String, config: &Config, question: &str) -> Resu
     match word {
         "queue" => queued(alloc, out, rest),
         "check" => checked(alloc, out, config, rest),
-        "boxes" | "exchange" | "runs" | "boards" | "steps" => {
+        "boxes" | "exchange" | "swap" | "runs" | "boards" | "steps" => {
             ask_rig(alloc, out, config, (word, rest))
         }
         "moments" => {

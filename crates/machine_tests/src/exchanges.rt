@@ -1,18 +1,21 @@
 //! Devices that are exchanged in a rig: what is answered, what comes out, and what becomes of the boxes.
 
+use crate::boards::devices_of;
 use crate::boxes::{Counts, add_counts, boxes_of};
 use crate::cases::{add, wrong_rows};
+use crate::spares::{Boxes, Make};
 use crate::steps::{input_of, number_at};
 use arrayvec::ArrayVec;
-use coil_guard::{Board, FuseBoard, Taken};
+use coil_guard::{Board, FuseBoard, MemoryBoard, Taken};
 use config_checker::Checked;
-use device_objects::Device;
+use device_objects::{Device, is_same_state};
 use pin_rig::Rig;
-use plan_tables::RowId;
+use plan_tables::{Plan, RowId};
 use std::alloc::{AllocError, Global};
 use std::cell::RefCell;
 use std::rc::Rc;
 use std::test::Fail;
+use written_machine::{Happening, Line};
 
 /// The row of a number, which is beyond the last one where it is none.
 fn row_of(number: u64) -> RowId {
@@ -20,16 +23,25 @@ fn row_of(number: u64) -> RowId {
 }
 
 /// Adds the answer to an exchange: when the device that comes out is due, or the number and the name of
-/// the refusal. The device that comes out or is handed back is dropped then.
+/// the refusal, and whether the state of the device that is handed back has changed. Either device is dropped
+/// then.
 fn add_exchange<D: Device, B: Board>(
     out: &mut String,
     rig: &mut Rig<'_, D, B>,
     row: RowId,
     device: D,
 ) -> Result<(), AllocError> {
+    let state = device.state();
     match rig.exchange(row, device) {
         Ok(taken) => write!(out, "taken, due {:?} ", taken.due()),
-        Err((refusal, _device)) => write!(out, "{} {refusal} ", refusal.number()),
+        Err((refusal, back)) => {
+            let changed = if is_same_state(&state, &back.state()) {
+                ""
+            } else {
+                "changed "
+            };
+            write!(out, "{} {refusal} {changed}", refusal.number())
+        }
     }
 }
 
@@ -97,6 +109,93 @@ pub(crate) fn exchanged(
     add_counts(out, &all)
 }
 
+/// The name of what a line says of a switch or an event of the plan.
+fn name_of(plan: &Plan, happening: Happening) -> &[u8] {
+    match happening {
+        Happening::Switch(switch, _) if (switch.0 as usize) < plan.switch_count() => {
+            plan.switch_name(switch)
+        }
+        Happening::Event(event) if (event.0 as usize) < plan.event_count() => {
+            plan.event_name(event)
+        }
+        _ => b"another line",
+    }
+}
+
+/// Adds the moment and the name of each line.
+fn add_names(out: &mut String, plan: &Plan, lines: &[Line]) -> Result<(), AllocError> {
+    for line in lines {
+        let name = std::str::from_utf8(name_of(plan, line.happening)).unwrap_or("no UTF-8");
+        write!(out, "{} {name} ", line.moment)?;
+    }
+    Ok(())
+}
+
+/// Adds the lines of each input, or why it is refused.
+fn add_inputs<D: Device, B: Board>(
+    out: &mut String,
+    plan: &Plan,
+    rig: &mut Rig<'_, D, B>,
+    inputs: &str,
+) -> Result<(), AllocError> {
+    for text in inputs.split(',') {
+        match rig.step(input_of(text)) {
+            Ok(lines) => add_names(out, plan, lines)?,
+            Err(fault) => add(out, &fault)?,
+        }
+    }
+    Ok(())
+}
+
+/// The mask of row 0 that a word asks for: one as it begins, or one in the state of the device that is there.
+fn mask_for<D: Device, B: Board, M: Make<D>>(
+    make: &M,
+    plan: &Plan,
+    rig: &Rig<'_, D, B>,
+    word: &str,
+) -> Option<D> {
+    let row = plan.rows().first()?;
+    if word == "new" {
+        return make.first(row, true);
+    }
+    make.resumed(row, &rig.state(row.number)?)
+}
+
+/// Adds the lines of the inputs before, then the answer where the mask of a word is to take the place of the
+/// device of a row, and the lines of the inputs after.
+fn add_swap<D: Device, B: Board, M: Make<D>>(
+    out: &mut String,
+    plan: &Plan,
+    rig: &mut Rig<'_, D, B>,
+    make: &M,
+    (place, inputs): (&str, &str),
+) -> Result<(), AllocError> {
+    let (number, word) = place.split_once(' ').unwrap_or((place, ""));
+    let (before, after) = inputs.split_once("; ").unwrap_or((inputs, ""));
+    add_inputs(out, plan, rig, before)?;
+    match mask_for(make, plan, rig, word) {
+        Some(mask) => add_exchange(out, rig, row_of(number_at(number, 0)), mask)?,
+        None => out.push_str("no mask ")?,
+    }
+    add_inputs(out, plan, rig, after)
+}
+
+/// Answers to a row, a word for a mask, and the inputs before and after it is to take the place of the device of
+/// the row.
+pub(crate) fn swapped(
+    alloc: Global,
+    out: &mut String,
+    checked: &Checked,
+    question: &str,
+) -> Result<(), AllocError> {
+    let parts = question.split_once(": ").unwrap_or((question, ""));
+    let board = MemoryBoard::new(alloc)?;
+    match Rig::new(alloc, checked, devices_of(alloc, checked), board) {
+        Ok(mut rig) => add_swap(out, checked.plan(), &mut rig, &Boxes { alloc }, parts),
+        Err(fault) => add(out, &fault),
+    }
+}
+
 // Row 0 is the machine's, and is hit at moment 0, when coil 0 is pulsed; 1 and 2 are of a mode. A pair
 // has the stops and the drops of a box: those of all boxes while there is a rig, and those at the end.
 const EXCHANGES: &str = "\
@@ -131,9 +230,38 @@ exchange 0 65535: 0 1 2 0 => 2 NoSuchRow (0, 0) (0, 0) (0, 0) (0, 1) (1, 1) (1, 
 exchange 1 0: 0 1 2 +0 => 1 Halted (0, 0) (0, 0) (0, 0) (0, 1) (1, 1) (1, 1) (1, 1) (0, 1)
 exchange 1 3: 0 1 2 1 => 1 Halted (0, 0) (0, 0) (0, 0) (0, 1) (1, 1) (1, 1) (1, 1) (0, 1)";
 
+// An accrual of three steps, of which the second is done first. Then a mask of it takes its place, or is
+// refused: the lines that follow are the same.
+const SWAPS: &str = "\
+switches:
+  s_a: {debounce: quick}
+  s_b: {debounce: quick}
+  s_c: {debounce: quick}
+accruals:
+  q:
+    events:
+    - s_a_active
+    - s_b_active
+    - s_c_active
+?
+swap 0 resumed: 0 1 1; 10 0 1,20 2 1 => \
+0 s_b 0 s_b_active 0 logicblock_q_updated 0 logicblock_q_hit taken, due None \
+10 s_a 10 s_a_active 10 logicblock_q_updated 10 logicblock_q_hit \
+20 s_c 20 s_c_active 20 logicblock_q_updated 20 logicblock_q_hit 20 logicblock_q_complete
+swap 0 new: 0 1 1; 10 0 1,20 2 1 => \
+0 s_b 0 s_b_active 0 logicblock_q_updated 0 logicblock_q_hit 4 WrongState \
+10 s_a 10 s_a_active 10 logicblock_q_updated 10 logicblock_q_hit \
+20 s_c 20 s_c_active 20 logicblock_q_updated 20 logicblock_q_hit 20 logicblock_q_complete
+swap 1 resumed: 0 1 1; 10 0 1,20 2 1 => \
+0 s_b 0 s_b_active 0 logicblock_q_updated 0 logicblock_q_hit 2 NoSuchRow \
+10 s_a 10 s_a_active 10 logicblock_q_updated 10 logicblock_q_hit \
+20 s_c 20 s_c_active 20 logicblock_q_updated 20 logicblock_q_hit 20 logicblock_q_complete";
+
 #[test]
 fn exchanges(rt: HostRuntime) -> Result<(), Fail> {
-    let wrong = wrong_rows(rt.alloc(), EXCHANGES)?;
-    assert_eq!(rt; wrong.as_str(), "");
+    for table in [EXCHANGES, SWAPS] {
+        let wrong = wrong_rows(rt.alloc(), table)?;
+        assert_eq!(rt; wrong.as_str(), "");
+    }
     Ok(())
 }

@@ -36,6 +36,12 @@ impl Pen {
         }
     }
 
+    pub fn push(&mut self, mark: char) {
+        if self.text.push(mark).is_err() {
+            self.is_lost = true;
+        }
+    }
+
     pub fn value<V: Display + Drop>(&mut self, value: V) {
         if write!(&mut self.text, "{value}").is_err() {
             self.is_lost = true;

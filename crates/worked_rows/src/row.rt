@@ -11,9 +11,10 @@
 //!
 //! A text is written line by line. A `\` at the end of a line takes the line end away, as in every
 //! text of Rattle. What comes after `--- N times` is repeated N times, each time with its number,
-//! from 0, in place of `№`. A text in parentheses is the name of a text (`texts`) or of a reader
-//! (`Source::of`). After the answer come the number of commands that a board took, if it may fault,
-//! and the number of calls of each reader or writer that may fail.
+//! from 0, in place of `№`, and with as many blanks in place of `␣`. A line `--- once` ends what is
+//! repeated. A text in parentheses is the name of a text (`texts`) or of a reader (`Source::of`).
+//! After the answer come the number of commands that a board took, if it may fault, and the number of
+//! calls of each reader or writer that may fail.
 
 use crate::pen::Pen;
 use crate::sink::Sink;
@@ -115,23 +116,36 @@ pub fn answered<A: Answers>(alloc: Global, answers: &A, row: &Row<'_>) -> Pen {
 /// The text of a part, with what comes several times.
 fn written(alloc: Global, text: &str) -> Pen {
     let mut pen = Pen::new(alloc);
-    let (once, repeated) = cut(text, "--- ");
-    pen.put(named(once));
-    let (count, unit) = cut(repeated, " times\n");
-    add_times(&mut pen, count.parse::<usize>().unwrap_or(0), unit);
+    let (first, rest) = cut(text, "--- ");
+    pen.put(named(first));
+    for part in rest.split("--- ") {
+        let (count, unit) = cut(part, "\n");
+        let count = count.trim_end_matches(" times");
+        add_times(&mut pen, count.parse::<usize>().unwrap_or(1), unit);
+    }
     pen
 }
 
-/// Adds a text so many times, each time with its number in place of `№`.
+/// Adds a text so many times.
 fn add_times(pen: &mut Pen, count: usize, unit: &str) {
     for number in 0..count {
-        match unit.split_once("№") {
-            None => pen.put(unit),
-            Some((before, after)) => {
-                pen.put(before);
-                pen.value(number);
-                pen.put(after);
-            }
+        add_numbered(pen, number, unit);
+    }
+}
+
+/// Adds a text with a number in place of `№`, and as many blanks in place of `␣`.
+fn add_numbered(pen: &mut Pen, number: usize, unit: &str) {
+    for mark in unit.chars() {
+        match mark {
+            '№' => pen.value(number),
+            '␣' => add_blanks(pen, number),
+            _ => pen.push(mark),
         }
+    }
+}
+
+fn add_blanks(pen: &mut Pen, count: usize) {
+    for _ in 0..count {
+        pen.put(" ");
     }
 }

@@ -139,6 +139,20 @@ event b\
 fault 10 Certificate Line 6
 no
 
+=== certificate cut to fewer events
+--- verify
+(one switch)
+--- certificate
+pinball-certificate 1
+bound 4
+event s_left_active 3
+event s_left_inactive 1
+event a 1
+event b
+=> Refused
+fault 10 Certificate Line 6
+no
+
 === certificate of nothing
 --- verify
 (one switch)

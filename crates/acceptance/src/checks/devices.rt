@@ -3,27 +3,27 @@
 use crate::checks::row::assert_rows;
 
 const CHECKS: &str = "
-=== counter
+=== counter check
 What a count costs is its dearest answer: it completes.
 --- check
 @ config/config.yaml
 #config_version=6
 switches:
-  s_target:
+  s_left:
     number: 1
 counters:
-  hits:
-    count_events: s_target_active
-    count_complete_value: 3
+  c:
+    count_events: s_left_active
+    count_complete_value: 2
 => Yes
 yes
 pinball-certificate 1
 bound 5
-event s_target_active 4
-event s_target_inactive 1
-event logicblock_hits_updated 1
-event logicblock_hits_hit 1
-event logicblock_hits_complete 1
+event s_left_active 4
+event s_left_inactive 1
+event logicblock_c_updated 1
+event logicblock_c_hit 1
+event logicblock_c_complete 1
 
 === counter that never completes, and posts events of its own
 An event of a setting has its number before those of the effect lists.
@@ -64,6 +64,20 @@ counters:
     count_events: s_target_active, logicblock_hits_hit
 => Refused
 fault 8 Cycle logicblock_hits_hit
+no
+
+=== timer at end
+--- check
+@ config/config.yaml
+#config_version=6
+modes: m
+@ modes/m/config/m.yaml
+#config_version=6
+timers:
+  t:
+    direction: down
+=> Refused
+fault 5 TimerAtEnd modes/m/config/m.yaml 3 t
 no
 
 === timers that start at their end

@@ -3,6 +3,66 @@
 use crate::checks::row::assert_rows;
 
 const ROWS: &str = "
+=== depth 32
+The mapping of the text is one of the 32.
+--- check
+@ config/config.yaml
+#config_version=6
+lights:
+--- 31 times
+␣ k:
+=> Yes
+note config/config.yaml 2 skipped lights
+yes
+pinball-certificate 1
+bound 0
+
+=== depth 33 too deep
+--- check
+@ config/config.yaml
+#config_version=6
+lights:
+--- 32 times
+␣ k:
+=> Refused
+error 3 Yaml config/config.yaml 34 TooDeep
+no
+
+=== flow depth 8
+--- check
+@ config/config.yaml
+#config_version=6
+lights: [[[[[[[[]]]]]]]]
+=> Yes
+note config/config.yaml 2 skipped lights
+yes
+pinball-certificate 1
+bound 0
+
+=== flow depth 9 too deep
+--- check
+@ config/config.yaml
+#config_version=6
+lights: [[[[[[[[[]]]]]]]]]
+=> Refused
+error 3 Yaml config/config.yaml 2 TooDeep
+no
+
+=== list of 1025 items
+--- check
+@ config/config.yaml
+#config_version=6
+switches:
+  s:
+    events_when_activated: \
+--- 1024 times
+e, \
+--- once
+e
+=> Refused
+error 9 Limit config/config.yaml 4 events_when_activated
+no
+
 === switches 257
 --- check
 @ config/config.yaml

@@ -3,39 +3,41 @@
 use crate::plays::row::assert_rows;
 
 const BLOCKS: &str = "
-=== counter completes, and is disabled then
+=== counter play
+It completes at its second hit, and is disabled then.
 --- play
 @ config/config.yaml
 #config_version=6
 switches:
-  s:
-    debounce: quick
+  s_left:
+    number: 1
 counters:
-  hits:
-    count_events: s_active
+  c:
+    count_events: s_left_active
     count_complete_value: 2
 --- log
-0 s 1
-10 s 0
-20 s 1
-30 s 0
-40 s 1
+100 s_left 1
+200 s_left 0
+300 s_left 1
+400 s_left 0
+500 s_left 1
+600
 => Yes
-0 machine switch s active
-0 machine event s_active
-0 machine event logicblock_hits_updated
-0 machine event logicblock_hits_hit
-10 machine switch s inactive
-10 machine event s_inactive
-20 machine switch s active
-20 machine event s_active
-20 machine event logicblock_hits_updated
-20 machine event logicblock_hits_hit
-20 machine event logicblock_hits_complete
-30 machine switch s inactive
-30 machine event s_inactive
-40 machine switch s active
-40 machine event s_active
+105 machine switch s_left active
+105 machine event s_left_active
+105 machine event logicblock_c_updated
+105 machine event logicblock_c_hit
+205 machine switch s_left inactive
+205 machine event s_left_inactive
+305 machine switch s_left active
+305 machine event s_left_active
+305 machine event logicblock_c_updated
+305 machine event logicblock_c_hit
+305 machine event logicblock_c_complete
+405 machine switch s_left inactive
+405 machine event s_left_inactive
+505 machine switch s_left active
+505 machine event s_left_active
 
 === counter that goes on, and one that waits for its window
 The window is 20 ms: a hit at 19 does not count, nor does it make the window longer.
@@ -97,6 +99,104 @@ counters:
 40 machine event logicblock_down_complete
 40 machine event logicblock_slow_updated
 40 machine event slow_hit
+
+=== accrual out of order
+--- play
+@ config/config.yaml
+#config_version=6
+switches:
+  s_a:
+    number: 0
+    debounce: quick
+  s_b:
+    number: 1
+    debounce: quick
+accruals:
+  q:
+    events:
+    - s_a_active
+    - s_b_active
+--- log
+0 s_b 1
+10 s_a 1
+20
+=> Yes
+0 machine switch s_b active
+0 machine event s_b_active
+0 machine event logicblock_q_updated
+0 machine event logicblock_q_hit
+10 machine switch s_a active
+10 machine event s_a_active
+10 machine event logicblock_q_updated
+10 machine event logicblock_q_hit
+10 machine event logicblock_q_complete
+
+=== sequence out of order
+--- play
+@ config/config.yaml
+#config_version=6
+switches:
+  s_a:
+    number: 0
+    debounce: quick
+  s_b:
+    number: 1
+    debounce: quick
+sequences:
+  q:
+    events:
+    - s_a_active
+    - s_b_active
+--- log
+0 s_b 1
+10 s_a 1
+20
+=> Yes
+0 machine switch s_b active
+0 machine event s_b_active
+10 machine switch s_a active
+10 machine event s_a_active
+10 machine event logicblock_q_updated
+10 machine event logicblock_q_hit
+
+=== three step accrual
+--- play
+@ config/config.yaml
+#config_version=6
+switches:
+  s_a:
+    number: 0
+    debounce: quick
+  s_b:
+    number: 1
+    debounce: quick
+  s_c:
+    number: 2
+    debounce: quick
+accruals:
+  q:
+    events:
+    - s_a_active
+    - s_b_active
+    - s_c_active
+--- log
+0 s_b 1
+10 s_a 1
+20 s_c 1
+=> Yes
+0 machine switch s_b active
+0 machine event s_b_active
+0 machine event logicblock_q_updated
+0 machine event logicblock_q_hit
+10 machine switch s_a active
+10 machine event s_a_active
+10 machine event logicblock_q_updated
+10 machine event logicblock_q_hit
+20 machine switch s_c active
+20 machine event s_c_active
+20 machine event logicblock_q_updated
+20 machine event logicblock_q_hit
+20 machine event logicblock_q_complete
 
 === accrual in any order, sequence in its own
 --- play
@@ -180,7 +280,7 @@ counters:
 ";
 
 const TIMERS: &str = "
-=== timer of a mode that stops
+=== mode stop ends timer
 At 2000 the tick comes before the line, and then the mode stops: nothing of it is due any more.
 --- play
 @ config/config.yaml
@@ -188,8 +288,10 @@ At 2000 the tick comes before the line, and then the mode stops: nothing of it i
 modes: m
 switches:
   s_go:
+    number: 1
     debounce: quick
   s_stop:
+    number: 2
     debounce: quick
 @ modes/m/config/m.yaml
 #config_version=6
@@ -219,7 +321,46 @@ timers:
 2000 machine event mode_m_stopping
 2000 machine event mode_m_stopped
 
-=== timer that completes once
+=== timer completes once
+--- play
+@ config/config.yaml
+#config_version=6
+modes: m
+switches:
+  s_go:
+    number: 1
+    debounce: quick
+  s_stop:
+    number: 2
+    debounce: quick
+@ modes/m/config/m.yaml
+#config_version=6
+mode:
+  game_mode: no
+  start_events: s_go_active
+  stop_events: s_stop_active
+timers:
+  t:
+    end_value: 5
+    start_running: yes
+--- log
+0 s_go 1
+86400000
+=> Yes
+0 machine switch s_go active
+0 machine event s_go_active
+0 machine event mode_m_will_start
+0 machine event mode_m_starting
+0 machine event mode_m_started
+0 m event timer_t_started
+1000 m event timer_t_tick
+2000 m event timer_t_tick
+3000 m event timer_t_tick
+4000 m event timer_t_tick
+5000 m event timer_t_tick
+5000 m event timer_t_complete
+
+=== timer that goes down completes once
 --- play
 @ config/config.yaml
 #config_version=6

@@ -11,8 +11,13 @@ machine:
   min_balls: 0
 game:
 switches:
-  s_start: {debounce: quick, tags: start}
-  s_x: {debounce: quick}
+  s_start:
+    number: 1
+    debounce: quick
+    tags: start
+  s_x:
+    number: 2
+    debounce: quick
 shots:
   x:
     switch: s_x
@@ -56,8 +61,13 @@ machine:
   min_balls: 0
 game:
 switches:
-  s_start: {debounce: quick, tags: start}
-  s_x: {debounce: quick}
+  s_start:
+    number: 1
+    debounce: quick
+    tags: start
+  s_x:
+    number: 2
+    debounce: quick
 shots:
   x:
     switch: s_x
@@ -113,8 +123,13 @@ machine:
   min_balls: 0
 game:
 switches:
-  s_start: {debounce: quick, tags: start}
-  s_x: {debounce: quick}
+  s_start:
+    number: 1
+    debounce: quick
+    tags: start
+  s_x:
+    number: 2
+    debounce: quick
 shots:
   x:
     switch: s_x

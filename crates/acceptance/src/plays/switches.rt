@@ -63,6 +63,29 @@ x
 refused 1 3 NoSuchSwitch
 refused 2 8 BadLine
 
+=== moment too late
+--- play
+(one switch)
+--- log
+1099511627776 s_left 1
+=> Refused
+refused 1 2 TooLate
+
+=== last moment without alarm
+--- play
+(one switch)
+--- log
+1099511627775 s_left 1
+=> Yes
+
+=== moment above u64
+--- play
+(one switch)
+--- log
+18446744073709551616
+=> Refused
+refused 1 8 BadLine
+
 === moments at and above the last
 --- play
 (one switch)
