@@ -1,288 +1,337 @@
-//! Rigs on boards: the commands that a board takes, where it faults, and how a rig ends.
+//! Runs of logs, each ended after each of its steps, by a drop and by `shut_down`, on boards that fault at each command.
 
-use crate::cases::{add, wrong_rows};
-use crate::spares::first_box;
-use crate::steps::input_of;
-use arrayvec::ArrayVec;
-use coil_guard::{FuseBoard, Taken};
-use config_checker::Checked;
-use device_objects::Device;
-use pin_rig::{Input, Rig, StepFault};
+use crate::cases::wrong_rows;
+use crate::courses::{Course, End, Script, Sent, coil_of, devices_of, end_of, no_command};
+use coil_guard::{Command, FuseBoard, Taken};
+use config_checker::{Checked, check};
+use mpf_config::read_bundle;
+use plan_tables::CoilId;
 use std::alloc::{AllocError, Global};
-use std::cell::RefCell;
-use std::fmt::Debug;
-use std::rc::Rc;
 use std::test::Fail;
+use worked_rows::{
+    BALL_PLAYS, COIL_PLAYS, FAULT_PLAYS, FLIPPER_PLAYS, Pen, Row, THREE_MACHINES_PLAY, written,
+};
 
-/// A rig that ends after so many steps, or at a fault of its board, and then by a drop or not. The
-/// board faults at its command of a number, from 1 on, alone or from there on.
+/// A coil, by the commands that a board has taken.
+#[derive(Clone, Copy)]
+struct Coil {
+    is_held: bool,
+    /// The moment at which its pulse ends.
+    until: u64,
+}
+
+/// A coil to which nothing has been sent.
+const OFF: Coil = Coil {
+    is_held: false,
+    until: 0,
+};
+
+impl Coil {
+    fn take(&mut self, sent: &Sent) {
+        match sent.command {
+            Command::Pulse { ms, .. } => self.until = sent.at.saturating_add(u64::from(ms)),
+            Command::Enable { .. } => self.is_held = true,
+            Command::Disable { .. } => *self = OFF,
+        }
+    }
+
+    fn is_on(&self, now: u64) -> bool {
+        self.is_held || now < self.until
+    }
+}
+
+/// The coils, by their numbers, if a board has taken these commands.
+fn coils_after(taken: &[Sent]) -> [Coil; 256] {
+    let mut coils = [OFF; 256];
+    for sent in taken {
+        if let Some(coil) = coils.get_mut(usize::from(coil_of(sent.command).0)) {
+            coil.take(sent);
+        }
+    }
+    coils
+}
+
+/// A rig that ends after so many steps, or at a fault of its board, by a drop or not. The board faults at its command
+/// of a number, from 1 on, alone or from there on.
 #[derive(Clone, Copy)]
 struct Trial {
-    steps: u32,
+    steps: usize,
     first: u64,
     onwards: bool,
     dropped: bool,
 }
 
 impl Trial {
-    /// Up to 15 steps, up to 15 for the first fault, and both of both, all in turn.
-    fn new(number: u32) -> Trial {
-        Trial {
-            steps: 15u32.saturating_sub(number >> 6),
-            first: u64::from(number >> 2 & 15),
-            onwards: number & 2 == 2,
-            dropped: number & 1 == 1,
-        }
-    }
-
     /// Whether the board takes its command of this number.
     fn takes(self, number: u64) -> bool {
         number != self.first && !(self.onwards && number > self.first)
     }
 }
 
-/// A text that is written piece by piece. Where memory is out a piece is missing, and the text is lost: so
-/// what writes needs no `?`, which is slow to prove.
-#[derive(Drop)]
-struct Pen {
-    text: String,
-    is_lost: bool,
-}
-
-impl Pen {
-    fn new(alloc: Global) -> Pen {
-        Pen {
-            text: String::new(alloc),
-            is_lost: false,
-        }
-    }
-
-    /// Adds how a value is shown.
-    fn add<T: Debug>(&mut self, value: &T) {
-        self.is_lost = add(&mut self.text, value).is_err() || self.is_lost;
-    }
-
-    /// Adds a text of three parts.
-    fn put(&mut self, before: &str, middle: &str, after: &str) {
-        let written = write!(self.text, "{before}{middle}{after} ");
-        self.is_lost = written.is_err() || self.is_lost;
-    }
-}
-
-/// What a board is to take of the commands that it is sent.
-#[derive(Drop)]
-struct Wanted {
+/// What a board is sent, beside the commands that it took.
+#[derive(Clone, Copy)]
+struct Judge<'t> {
     trial: Trial,
-    pen: Pen,
+    /// What it took of the commands to come.
+    left: &'t [Command],
     sent: u64,
-    faults: u16,
+    /// How many commands it is to take at the end, and how many not.
+    ends: (usize, u16),
+    is_right: bool,
 }
 
-impl Wanted {
-    /// A command is sent, of which three parts of its text are given. Gives whether the board takes it.
-    fn send(&mut self, before: &str, middle: &str, after: &str) -> bool {
-        self.sent = self.sent.saturating_add(1);
-        let takes = self.trial.takes(self.sent);
-        if takes {
-            self.pen.put(before, middle, after);
-        } else {
-            self.faults = self.faults.saturating_add(1);
+impl<'t> Judge<'t> {
+    fn new(trial: Trial, taken: &'t [Command]) -> Judge<'t> {
+        Judge {
+            trial,
+            left: taken,
+            sent: 0,
+            ends: (0, 0),
+            is_right: true,
         }
-        takes
     }
 
-    /// Follows a course: each command with the coils that are to be put off if it is not taken, and `=`
-    /// before each step, and `.` at the end, with those that are on then. Gives the coils to put off.
-    fn follow<'c>(&mut self, course: &'c str) -> &'c str {
-        let mut steps = 0u32;
-        for item in course.split(';') {
-            let (command, coils) = item.split_once('/').unwrap_or((item, ""));
-            let is_step = command == "=";
-            steps = steps.saturating_add(u32::from(is_step));
-            let goes_on = if is_step {
-                steps <= self.trial.steps
-            } else {
-                command != "." && self.send(command, "", "")
-            };
-            if !goes_on {
-                return coils;
+    /// A command is sent. Gives whether the board is to take it.
+    fn send(&mut self, command: Command) -> bool {
+        self.sent = self.sent.saturating_add(1);
+        if !self.trial.takes(self.sent) {
+            return false;
+        }
+        match self.left {
+            [first, left @ ..] if *first == command => self.left = left,
+            _ => self.is_right = false,
+        }
+        true
+    }
+
+    /// The commands of a run are sent, up to the first that the board does not take. Gives how many it takes, and
+    /// that one.
+    fn follow(&mut self, sent: &[Sent]) -> (usize, Option<Sent>) {
+        let mut taken = 0usize;
+        for next in sent {
+            if !self.send(next.command) {
+                return (taken, Some(*next));
+            }
+            taken = taken.saturating_add(1);
+        }
+        (taken, None)
+    }
+
+    /// A coil is put off.
+    fn put_off(&mut self, coil: CoilId) {
+        let (off, faults) = self.ends;
+        self.ends = if self.send(Command::Disable { coil }) {
+            (off.saturating_add(1), faults)
+        } else {
+            (off, faults.saturating_add(1))
+        };
+    }
+
+    /// Each coil is put off that is on at this moment, and the one whose command the board has not taken.
+    fn put_all_off(&mut self, coils: &[Coil; 256], now: u64, faulted: Option<CoilId>) {
+        for (coil, number) in coils.iter().zip(0..256u16) {
+            if coil.is_on(now) || faulted == Some(CoilId(number)) {
+                self.put_off(CoilId(number));
             }
         }
-        ""
     }
 
-    /// Puts these coils off. Then adds how many of these commands the board takes, and how many not, if
-    /// there is a report.
-    fn end(&mut self, coils: &str) {
-        let before = self.sent;
-        self.faults = 0;
-        for coil in coils.split_whitespace() {
-            self.send("Disable { coil: CoilId(", coil, ") }");
+    /// Follows a course to the end of the trial. Gives whether the board takes every command.
+    fn judge(&mut self, course: &Course) -> bool {
+        let (now, sent) = course.end(self.trial.steps);
+        let (taken, fault) = self.follow(course.first(sent));
+        let coils = coils_after(course.first(taken));
+        match fault {
+            Some(sent) => self.put_all_off(&coils, sent.at, Some(coil_of(sent.command))),
+            None => self.put_all_off(&coils, now, None),
         }
-        if !self.trial.dropped {
-            let sent = self.sent.saturating_sub(before);
-            let taken = sent.saturating_sub(u64::from(self.faults));
-            self.pen.add(&(taken, self.faults));
-        }
+        fault.is_none() && self.ends.1 == 0
+    }
+
+    /// Whether the run has ended like this, and the board has taken nothing else.
+    fn is_end(&self, end: &End) -> bool {
+        let is_end = match end {
+            End::Refused => false,
+            End::Dropped => self.trial.dropped,
+            End::Shut(off, faults) => !self.trial.dropped && self.ends == (*off, *faults),
+        };
+        is_end && self.is_right && self.left.is_empty()
     }
 }
 
-/// What the board is to take and the report, by a course.
-fn wanted_in(alloc: Global, trial: Trial, course: &str) -> Pen {
-    let mut wanted = Wanted {
-        trial,
-        pen: Pen::new(alloc),
-        sent: 0,
-        faults: 0,
-    };
-    let coils = wanted.follow(course);
-    wanted.end(coils);
-    wanted.pen
+/// The trials of a machine, and what was found.
+#[derive(Drop)]
+struct Trials {
+    count: u32,
+    wrong: Pen,
 }
 
-/// A box of a device for each row. Where memory is out some are missing, and there is no rig of them.
-pub(crate) fn devices_of(alloc: Global, checked: &Checked) -> Vec<Box<dyn Device>> {
-    let mut devices: Vec<Box<dyn Device>> = Vec::new(alloc);
-    for row in checked.plan().rows() {
-        if let Some(device) = first_box(alloc, row) {
-            let _ = devices.push(device);
-        }
-    }
-    devices
-}
-
-/// Steps, and gives why not.
-fn fault_of<D: Device>(rig: &mut Rig<'_, D, FuseBoard>, input: Input) -> Option<StepFault> {
-    rig.step(input).err()
-}
-
-/// Steps through the inputs, so many of them, or up to a fault of the board. Gives whether the board
-/// alone ends it, and the rig is halted then.
-fn is_run<D: Device>(rig: &mut Rig<'_, D, FuseBoard>, inputs: &str, count: u32) -> bool {
-    for text in inputs.split(',').take(count as usize) {
-        if let Some(fault) = fault_of(rig, input_of(text)) {
-            return matches!(fault, StepFault::BoardFault)
-                && matches!(fault_of(rig, Input::Alarm), Some(StepFault::Halted));
+impl Trials {
+    fn new(alloc: Global) -> Trials {
+        Trials {
+            count: 0,
+            wrong: Pen::new(alloc),
         }
     }
-    true
-}
 
-/// Adds the commands that a board took.
-fn add_taken(pen: &mut Pen, taken: &Taken) {
-    let Ok(taken) = taken.try_borrow() else {
-        return pen.put("a list that is lent", "", "");
-    };
-    for command in taken.iter() {
-        pen.add(command);
+    /// Adds a trial whose run has ended. Gives whether the board was to take every command.
+    fn add(&mut self, course: &Course, trial: Trial, taken: &[Command], end: &End) -> bool {
+        let mut judge = Judge::new(trial, taken);
+        let is_clean = judge.judge(course);
+        self.count = self.count.saturating_add(1);
+        if !judge.is_end(end) {
+            let Trial {
+                steps,
+                first,
+                onwards,
+                dropped,
+            } = trial;
+            self.wrong.shown((steps, first, onwards, dropped));
+            self.wrong.shown(taken);
+        }
+        is_clean
     }
 }
 
-/// How a rig ends.
-enum End {
-    Refused,
-    Dropped,
-    /// It is shut down: how many coils are put off then, and how many commands fault.
-    Shut(usize, u16),
-}
-
-/// Makes a rig, has its run, and ends it. It is here alone that a rig is no reference: such a large
-/// value is slow to prove.
-fn end_of<D: Device>(
+/// Has a trial. Gives whether the board was to take every command.
+fn is_clean(
     alloc: Global,
     checked: &Checked,
-    devices: Vec<D>,
-    board: FuseBoard,
-    (trial, inputs): (Trial, &str),
-) -> End {
-    let Ok(mut rig) = Rig::new(alloc, checked, devices, board) else {
-        return End::Refused;
-    };
-    if !is_run(&mut rig, inputs, trial.steps) {
-        return End::Refused;
-    }
-    if trial.dropped {
-        return End::Dropped;
-    }
-    let (_board, report) = rig.shut_down();
-    End::Shut(report.off.len(), report.faults)
-}
-
-/// What the board takes, and the report where the rig is not dropped.
-fn found_with<D: Device>(
-    alloc: Global,
-    checked: &Checked,
-    devices: Vec<D>,
-    (trial, inputs): (Trial, &str),
-    taken: &Taken,
-) -> Result<Pen, AllocError> {
+    course: &Course,
+    trial: Trial,
+    trials: &mut Trials,
+) -> Result<bool, AllocError> {
+    let taken = no_command(alloc)?;
     let board = FuseBoard::new(trial.first, trial.onwards, taken.clone()?);
-    let end = end_of(alloc, checked, devices, board, (trial, inputs));
-    let mut pen = Pen::new(alloc);
-    add_taken(&mut pen, taken);
-    match end {
-        End::Refused => pen.put("another refusal", "", ""),
-        End::Dropped => {}
-        End::Shut(off, faults) => pen.add(&(off, faults)),
+    let steps = Script::Take(course.steps.get(..trial.steps).unwrap_or(&[]));
+    let devices = devices_of(alloc, checked);
+    let end = end_of(alloc, checked, devices, board, (steps, trial.dropped));
+    match taken.try_borrow() {
+        Ok(taken) => Ok(trials.add(course, trial, &taken, &end)),
+        Err(_) => Ok(false),
     }
-    Ok(pen)
 }
 
-/// What is found in a trial.
-fn found_in(
+/// Has the four trials of so many steps and a first fault. Gives whether each board was to take every command.
+fn are_clean(
     alloc: Global,
     checked: &Checked,
-    (trial, inputs): (Trial, &str),
-) -> Result<Pen, AllocError> {
-    let taken: Taken = Rc::new(alloc, RefCell::new(ArrayVec::new()))?;
-    let devices = devices_of(alloc, checked);
-    found_with(alloc, checked, devices, (trial, inputs), &taken)
+    course: &Course,
+    (steps, first): (usize, u64),
+    trials: &mut Trials,
+) -> Result<bool, AllocError> {
+    let mut are_clean = true;
+    for number in 0..4u32 {
+        let trial = Trial {
+            steps,
+            first,
+            onwards: number & 2 == 2,
+            dropped: number & 1 == 1,
+        };
+        are_clean = is_clean(alloc, checked, course, trial, trials)? && are_clean;
+    }
+    Ok(are_clean)
 }
 
-/// Adds what is found where it is other than what is wanted.
-fn add_other(out: &mut String, found: &Pen, wanted: &Pen) -> Result<(), AllocError> {
-    if found.is_lost || wanted.is_lost {
-        return out.push_str("a text that is lost");
+/// Has the trials of so many steps, with the first fault at each command in turn, until there is none.
+fn try_steps(
+    alloc: Global,
+    checked: &Checked,
+    course: &Course,
+    steps: usize,
+    trials: &mut Trials,
+) -> Result<(), AllocError> {
+    for first in 1..2_000u64 {
+        if are_clean(alloc, checked, course, (steps, first), trials)? {
+            return Ok(());
+        }
     }
-    if found.text.as_str() != wanted.text.as_str() {
-        return add(out, &(found.text.as_str(), wanted.text.as_str()));
+    trials.wrong.put("always a fault");
+    Ok(())
+}
+
+/// Has all trials of a course.
+fn try_course(
+    alloc: Global,
+    checked: &Checked,
+    course: &Course,
+    trials: &mut Trials,
+) -> Result<(), AllocError> {
+    for steps in 0..=course.steps.len() {
+        try_steps(alloc, checked, course, steps, trials)?;
     }
     Ok(())
 }
 
-/// Adds how the runs of so many trials are other than they are to be, and how many there were.
-fn compare_all(
+/// Plays a log on a board that takes each command, and then has all trials of its course. Gives what the board took, and
+/// how the rig ended.
+fn try_log(
     alloc: Global,
-    out: &mut String,
     checked: &Checked,
-    count: u32,
-    (inputs, course): (&str, &str),
-) -> Result<(), AllocError> {
-    for number in 0..count {
-        let trial = Trial::new(number);
-        let found = found_in(alloc, checked, (trial, inputs))?;
-        add_other(out, &found, &wanted_in(alloc, trial, course))?;
-    }
-    write!(out, "{count} runs")
+    log: &str,
+    trials: &mut Trials,
+) -> Result<(Taken, End), AllocError> {
+    let taken = no_command(alloc)?;
+    let board = FuseBoard::new(0, false, taken.clone()?);
+    let mut course = Course::new(alloc);
+    let script = Script::Note(log, &mut course);
+    let devices = devices_of(alloc, checked);
+    let end = end_of(alloc, checked, devices, board, (script, false));
+    try_course(alloc, checked, &course, trials)?;
+    Ok((taken, end))
 }
 
-/// Answers to how many trials there are, inputs and a course with those runs that are other than they
-/// are to be.
+/// Answers to a log: what a board takes that faults at no command; how many coils are put off at the end, and how many
+/// commands fault; how many trials there are; and those whose runs are other than they are to be.
 pub(crate) fn boarded(
     alloc: Global,
     out: &mut String,
     checked: &Checked,
-    question: &str,
+    log: &str,
 ) -> Result<(), AllocError> {
-    let (count, rest) = question.split_once(' ').unwrap_or((question, ""));
-    let texts = rest.split_once(": ").unwrap_or((rest, ""));
-    let count = count.parse::<u32>().unwrap_or(0);
-    compare_all(alloc, out, checked, count, texts)
+    let mut trials = Trials::new(alloc);
+    let (taken, end) = try_log(alloc, checked, log, &mut trials)?;
+    if let Ok(taken) = taken.try_borrow() {
+        for command in taken.iter() {
+            write!(out, "{command:?} ")?;
+        }
+    }
+    if let End::Shut(off, faults) = end {
+        write!(out, "off {off}, {faults} faults, ")?;
+    }
+    write!(out, "{} trials {}", trials.count, trials.wrong.end())
+}
+
+/// Has all trials of a row.
+fn try_row(alloc: Global, text: &str, trials: &mut Trials) -> Result<(), AllocError> {
+    let row = Row::of(text);
+    let bundle = written(alloc, row.bundle);
+    let Ok(config) = read_bundle(alloc, bundle.end().as_bytes()) else {
+        trials.wrong.put("a bundle that cannot be read");
+        return Ok(());
+    };
+    match check(alloc, &config) {
+        Ok(checked) => {
+            try_log(alloc, &checked, row.other, trials)?;
+        }
+        Err(_) => trials.wrong.put("a bundle that is refused"),
+    }
+    Ok(())
+}
+
+/// Has all trials of the rows of a table. Gives how many rows there are.
+fn try_rows(alloc: Global, table: &str, trials: &mut Trials) -> Result<u32, AllocError> {
+    let mut rows = 0u32;
+    for text in table.split("\n=== ").skip(1) {
+        try_row(alloc, text, trials)?;
+        rows = rows.saturating_add(1);
+    }
+    Ok(rows)
 }
 
 // Switch 0 enables a flipper on coils 0 and 1, with switch 1, and an autofire coil, 2, with switch 2,
 // which is not quick. It starts a mode, which holds coil 3. A pulse of coil 0 lasts 20 ms, one of coil
-// 2 lasts 10 ms. The second machine holds 256 coils.
+// 2 lasts 10 ms. The second machine holds 256 coils. In the third, a pulse lasts 20 ms.
 const BOARDS: &str = "\
 modes: m
 coils:
@@ -312,24 +361,22 @@ mode:
 coil_player:
   mode_m_started: {c_o: enable}
 ?
-boards 1024 0 0 1,20 1 1,30 2 1,alarm,38 1 0,39 1 1,40 0 0,41 0 1,60 1 0,61 1 1,62: \
-=/;\
-Enable { coil: CoilId(3), power: 500 }/3;=/3;\
-Pulse { coil: CoilId(0), ms: 20, power: 1000 }/0 3;Enable { coil: CoilId(1), power: 1000 }/0 1 3;=/0 1 3;\
-=/0 1 3;\
-Pulse { coil: CoilId(2), ms: 10, power: 1000 }/0 1 2 3;=/0 1 2 3;\
-Disable { coil: CoilId(1) }/0 1 2 3;=/0 2 3;\
-Enable { coil: CoilId(1), power: 1000 }/0 1 2 3;=/0 1 2 3;\
-Disable { coil: CoilId(1) }/1 2 3;Disable { coil: CoilId(3) }/2 3;=/2;\
-Enable { coil: CoilId(3), power: 500 }/2 3;=/2 3;\
-=/3;\
-Pulse { coil: CoilId(0), ms: 20, power: 1000 }/0 3;Enable { coil: CoilId(1), power: 1000 }/0 1 3;=/0 1 3;\
-./0 1 3 => 1024 runs
-boards 1024 0 0 1,20 1 1,40: \
-=/;\
-Enable { coil: CoilId(3), power: 500 }/3;=/3;\
-Pulse { coil: CoilId(0), ms: 20, power: 1000 }/0 3;Enable { coil: CoilId(1), power: 1000 }/0 1 3;=/0 1 3;\
-./1 3 => 1024 runs
+boards 0 s_on 1¶20 s_f 1¶30 s_s 1¶38 s_f 0¶39 s_f 1¶40 s_on 0¶41 s_on 1¶60 s_f 0¶61 s_f 1¶62 => \
+Enable { coil: CoilId(3), power: 500 } \
+Pulse { coil: CoilId(0), ms: 20, power: 1000 } Enable { coil: CoilId(1), power: 1000 } \
+Pulse { coil: CoilId(2), ms: 10, power: 1000 } \
+Disable { coil: CoilId(1) } \
+Enable { coil: CoilId(1), power: 1000 } \
+Disable { coil: CoilId(1) } Disable { coil: CoilId(3) } \
+Enable { coil: CoilId(3), power: 500 } \
+Pulse { coil: CoilId(0), ms: 20, power: 1000 } Enable { coil: CoilId(1), power: 1000 } \
+Disable { coil: CoilId(0) } Disable { coil: CoilId(1) } Disable { coil: CoilId(3) } \
+off 3, 0 faults, 440 trials
+boards 0 s_on 1¶20 s_f 1¶40 => \
+Enable { coil: CoilId(3), power: 500 } \
+Pulse { coil: CoilId(0), ms: 20, power: 1000 } Enable { coil: CoilId(1), power: 1000 } \
+Disable { coil: CoilId(1) } Disable { coil: CoilId(3) } \
+off 2, 0 faults, 68 trials
 
 switches:
   s: {debounce: quick}
@@ -339,12 +386,42 @@ coils:
   s_active:
 «256     c#: enable
 »?
-boards 4 0 0 1: =/;Enable { coil: CoilId(0), power: 1000 }/0;\
-«255 Enable { coil: CoilId(#), power: 1000 }/?;»./0«255  #» => 4 runs";
+boards 0 s 1 => Enable { coil: CoilId(0), power: 1000 } «255 Enable { coil: CoilId(#), power: 1000 } »\
+Disable { coil: CoilId(0) } «255 Disable { coil: CoilId(#) } »off 256, 0 faults, 2056 trials
+
+switches:
+  s_k: {debounce: quick}
+coils:
+  c_up: {default_pulse_ms: 20}
+coil_player:
+  s_k_active: {c_up: pulse}
+?
+boards 105 s_k 1¶110 s_k 0 => \
+Pulse { coil: CoilId(0), ms: 20, power: 1000 } Disable { coil: CoilId(0) } off 1, 0 faults, 28 trials
+boards 105 s_k 1¶110 s_k 0¶120 s_k 1¶130 s_k 0 => \
+Pulse { coil: CoilId(0), ms: 20, power: 1000 } off 0, 0 faults, 48 trials";
 
 #[test]
 fn boards(rt: HostRuntime) -> Result<(), Fail> {
     let wrong = wrong_rows(rt.alloc(), BOARDS)?;
     assert_eq!(rt; wrong.as_str(), "");
+    Ok(())
+}
+
+#[test]
+fn rows_on_boards_that_fault(rt: HostRuntime) -> Result<(), Fail> {
+    let mut trials = Trials::new(rt.alloc());
+    let mut rows = 0u32;
+    for table in [
+        COIL_PLAYS,
+        FLIPPER_PLAYS,
+        FAULT_PLAYS,
+        BALL_PLAYS,
+        THREE_MACHINES_PLAY,
+    ] {
+        rows = rows.saturating_add(try_rows(rt.alloc(), table, &mut trials)?);
+    }
+    assert_eq!(rt; trials.wrong.end(), "");
+    assert_eq!(rt; (rows, trials.count), (29, 2_668));
     Ok(())
 }

@@ -1,7 +1,9 @@
 //! Boxes that count how often they are stopped and dropped, and the rigs that they are handed to.
 
 use crate::cases::{add, wrong_rows};
-use coil_guard::MemoryBoard;
+use crate::courses::no_command;
+use crate::steps::input_of;
+use coil_guard::{FuseBoard, Taken};
 use config_checker::Checked;
 use device_objects::{Device, DeviceState, Outcome, World};
 use logic_blocks::Counter;
@@ -113,25 +115,33 @@ pub(crate) fn add_counts(out: &mut String, all: &[Rc<Counts>]) -> Result<(), All
     Ok(())
 }
 
+/// Adds how many commands a board has taken.
+fn add_taken(out: &mut String, taken: &Taken) -> Result<(), AllocError> {
+    match taken.try_borrow() {
+        Ok(taken) => add(out, &taken.len()),
+        Err(_) => out.push_str("a list that is lent"),
+    }
+}
+
 /// Ends a rig: drops it, or shuts it down.
-fn end<D: Device>(rig: Rig<'_, D, MemoryBoard>, dropped: bool) {
+fn end<D: Device>(rig: Rig<'_, D, FuseBoard>, dropped: bool) {
     if !dropped {
         let _ = rig.shut_down();
     }
 }
 
-/// Adds whether the boxes make a rig, and what has become of them while it is there. Then the rig
-/// ends, by a drop or not.
+/// Adds whether the boxes make a rig, and what has become of them when it has taken one change, of switch 0. Then the
+/// rig ends, by a drop or not.
 fn add_rig<D: Device>(
-    alloc: Global,
-    out: &mut String,
+    (alloc, out): (Global, &mut String),
     checked: &Checked,
     boxes: Vec<D>,
+    board: FuseBoard,
     (all, dropped): (&[Rc<Counts>], bool),
 ) -> Result<(), AllocError> {
-    match Rig::new(alloc, checked, boxes, MemoryBoard::new(alloc)?) {
-        Ok(rig) => {
-            add(out, &"a rig")?;
+    match Rig::new(alloc, checked, boxes, board) {
+        Ok(mut rig) => {
+            let _ = rig.step(input_of("0 0 1"));
             add_counts(out, all)?;
             end(rig, dropped);
             Ok(())
@@ -169,8 +179,9 @@ pub(crate) fn boxes_of(
     Ok(boxes)
 }
 
-/// Answers to words: whether the boxes of the rows that they name make a rig, and what has become of each box
-/// at the end. The first word says how the rig ends: `dropped`, or `shut_down`.
+/// Answers to words: whether the boxes of the rows that they name make a rig; what has become of each box at the end;
+/// and how many commands a board has taken that takes each. The first word says how the rig ends: `dropped`, or
+/// `shut_down`.
 pub(crate) fn boxed(
     alloc: Global,
     out: &mut String,
@@ -180,14 +191,24 @@ pub(crate) fn boxed(
     let (end, words) = words.split_once(' ').unwrap_or((words, ""));
     let mut all = Vec::new(alloc);
     let boxes = boxes_of(alloc, checked, words, &mut all)?;
-    add_rig(alloc, out, checked, boxes, (&all, end == "dropped"))?;
-    add_counts(out, &all)
+    let taken = no_command(alloc)?;
+    let board = FuseBoard::new(0, false, taken.clone()?);
+    let is_dropped = end == "dropped";
+    add_rig((alloc, out), checked, boxes, board, (&all, is_dropped))?;
+    add_counts(out, &all)?;
+    add_taken(out, &taken)
 }
 
 // Row 0 is the machine's, 1 and 2 are of a mode. A pair has the stops and the drops of a box: those of
-// all boxes while there is a rig, and those at the end.
+// all boxes while there is a rig, and those at the end. A rig pulses a coil, and puts it off at the end.
 const BOXES: &str = "\
 modes: m
+switches:
+  s: {debounce: quick}
+coils:
+  c:
+coil_player:
+  s_active: {c: pulse}
 counters:
   hits:
     count_events: hit
@@ -200,16 +221,16 @@ counters:
     count_events: hit
     starting_count: 3
 ?
-boxes dropped 0 1 2 => \"a rig\" (0, 0) (0, 0) (0, 0) (1, 1) (1, 1) (1, 1)
-boxes shut_down 0 1 2 => \"a rig\" (0, 0) (0, 0) (0, 0) (1, 1) (1, 1) (1, 1)
-boxes dropped 1 2 => WrongDevice(RowId(0)) (0, 1) (0, 1)
-boxes dropped 0 2 => WrongDevice(RowId(1)) (0, 1) (0, 1)
-boxes dropped 0 1 => WrongDevice(RowId(2)) (0, 1) (0, 1)
-boxes dropped 0 1 2 2 => WrongDevice(RowId(3)) (0, 1) (0, 1) (0, 1) (0, 1)
-boxes dropped 0 2 1 => WrongDevice(RowId(1)) (0, 1) (0, 1) (0, 1)
-boxes dropped 0 1 1 => WrongDevice(RowId(2)) (0, 1) (0, 1) (0, 1)
-boxes dropped 0 +1 2 => WrongDevice(RowId(1)) (0, 1) (0, 1) (0, 1)
-boxes dropped => WrongDevice(RowId(0))";
+boxes dropped 0 1 2 => (0, 0) (0, 0) (0, 0) (1, 1) (1, 1) (1, 1) 2
+boxes shut_down 0 1 2 => (0, 0) (0, 0) (0, 0) (1, 1) (1, 1) (1, 1) 2
+boxes dropped 1 2 => WrongDevice(RowId(0)) (0, 1) (0, 1) 0
+boxes dropped 0 2 => WrongDevice(RowId(1)) (0, 1) (0, 1) 0
+boxes dropped 0 1 => WrongDevice(RowId(2)) (0, 1) (0, 1) 0
+boxes dropped 0 1 2 2 => WrongDevice(RowId(3)) (0, 1) (0, 1) (0, 1) (0, 1) 0
+boxes dropped 0 2 1 => WrongDevice(RowId(1)) (0, 1) (0, 1) (0, 1) 0
+boxes dropped 0 1 1 => WrongDevice(RowId(2)) (0, 1) (0, 1) (0, 1) 0
+boxes dropped 0 +1 2 => WrongDevice(RowId(1)) (0, 1) (0, 1) (0, 1) 0
+boxes dropped => WrongDevice(RowId(0)) 0";
 
 #[test]
 fn boxes(rt: HostRuntime) -> Result<(), Fail> {

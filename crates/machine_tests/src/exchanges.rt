@@ -1,18 +1,16 @@
 //! Devices that are exchanged in a rig: what is answered, what comes out, and what becomes of the boxes.
 
-use crate::boards::devices_of;
 use crate::boxes::{Counts, add_counts, boxes_of};
 use crate::cases::{add, wrong_rows};
+use crate::courses::{devices_of, no_command};
 use crate::spares::{Boxes, Make};
 use crate::steps::{input_of, number_at};
-use arrayvec::ArrayVec;
-use coil_guard::{Board, FuseBoard, MemoryBoard, Taken};
+use coil_guard::{Board, FuseBoard, MemoryBoard};
 use config_checker::Checked;
 use device_objects::{Device, is_same_state};
 use pin_rig::Rig;
 use plan_tables::{Plan, RowId};
 use std::alloc::{AllocError, Global};
-use std::cell::RefCell;
 use std::rc::Rc;
 use std::test::Fail;
 use written_machine::{Happening, Line};
@@ -82,7 +80,7 @@ fn add_with_last<D: Device>(
     fault: u64,
     (row, all): (RowId, &[Rc<Counts>]),
 ) -> Result<(), AllocError> {
-    let taken: Taken = Rc::new(alloc, RefCell::new(ArrayVec::new()))?;
+    let taken = no_command(alloc)?;
     match boxes.pop() {
         Some(device) => {
             let board = FuseBoard::new(fault, false, taken);

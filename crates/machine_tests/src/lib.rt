@@ -11,6 +11,8 @@ mod cases;
 #[cfg(test)]
 mod checks;
 #[cfg(test)]
+mod courses;
+#[cfg(test)]
 mod exchanged_runs;
 #[cfg(test)]
 mod exchanges;

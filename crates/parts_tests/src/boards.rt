@@ -51,12 +51,32 @@ fn faults_at(alloc: Global, k: u16, onwards: bool) -> Result<bool, Fail> {
     Ok(right && board.faults() == faults && digits_of(&taken)? == digits)
 }
 
+/// Whether a board takes a command, and leaves its list, which somebody borrows.
+fn takes_while_lent(board: &mut FuseBoard, taken: &Taken) -> Result<bool, Fail> {
+    let lent = taken.try_borrow()?;
+    Ok(board.send(command(1)).is_ok() && lent.is_empty())
+}
+
+/// Whether a board takes 1,025 commands, and adds the first 1,024 of them to its list.
+fn takes_when_full(board: &mut FuseBoard, taken: &Taken) -> Result<bool, Fail> {
+    let mut right = true;
+    for number in 0..1_025u16 {
+        right = right && board.send(command(number)).is_ok();
+    }
+    let kept = taken.try_borrow()?;
+    Ok(right && kept.len() == 1_024 && number_of(kept.last()) == 1_023)
+}
+
 #[test]
 fn fuse_boards(rt: HostRuntime) -> Result<(), Fail> {
     for k in 0..8u16 {
         let right = faults_at(rt.alloc(), k, false)? && faults_at(rt.alloc(), k, true)?;
         assert!(rt; right, "{k}");
     }
+    let taken: Taken = Rc::new(rt.alloc(), RefCell::new(ArrayVec::new()))?;
+    let mut board = FuseBoard::new(0, false, taken.clone()?);
+    let right = takes_while_lent(&mut board, &taken)? && takes_when_full(&mut board, &taken)?;
+    assert!(rt; right && board.faults() == 0);
     Ok(())
 }
 

@@ -36,6 +36,31 @@ pub struct Row<'a> {
     pub wanted: &'a str,
 }
 
+impl<'a> Row<'a> {
+    /// The parts of the row with this text. If it has no answer, one is wanted that nothing gives.
+    pub fn of(text: &'a str) -> Row<'a> {
+        let (given, wanted) = text.split_once("=> ").unwrap_or((text, "an answer"));
+        let (_, given) = cut(given, "\n--- ");
+        let (given, writer) = cut(given, "--- writer\n");
+        let (given, board) = cut(given, "--- board\n");
+        let (call, texts) = cut(given, "\n");
+        let mark = if call == "play" {
+            "--- log\n"
+        } else {
+            "--- certificate\n"
+        };
+        let (bundle, other) = cut(texts, mark);
+        Row {
+            call,
+            bundle,
+            other,
+            board,
+            writer,
+            wanted,
+        }
+    }
+}
+
 /// What answers rows.
 pub trait Answers {
     /// Adds the answer to a row, with these readers and this writer.
@@ -61,7 +86,7 @@ pub fn wrong_rows<A: Answers>(alloc: Global, answers: &A, table: &str) -> Pen {
 
 /// Adds a row and its answer, if the row has another one.
 fn check_row<A: Answers>(wrong: &mut Pen, answers: &A, text: &str) {
-    let row = row_of(text);
+    let row = Row::of(text);
     let found = answered(wrong.alloc, answers, &row);
     if found.end() != row.wanted {
         wrong.put(text);
@@ -73,29 +98,6 @@ fn check_row<A: Answers>(wrong: &mut Pen, answers: &A, text: &str) {
 /// What comes before a mark, and after it.
 fn cut<'a>(text: &'a str, mark: &str) -> (&'a str, &'a str) {
     text.split_once(mark).unwrap_or((text, ""))
-}
-
-/// The parts of a row. If it has no answer, one is wanted that nothing gives.
-fn row_of(text: &str) -> Row<'_> {
-    let (given, wanted) = text.split_once("=> ").unwrap_or((text, "an answer"));
-    let (_, given) = cut(given, "\n--- ");
-    let (given, writer) = cut(given, "--- writer\n");
-    let (given, board) = cut(given, "--- board\n");
-    let (call, texts) = cut(given, "\n");
-    let mark = if call == "play" {
-        "--- log\n"
-    } else {
-        "--- certificate\n"
-    };
-    let (bundle, other) = cut(texts, mark);
-    Row {
-        call,
-        bundle,
-        other,
-        board,
-        writer,
-        wanted,
-    }
 }
 
 /// The answer to a row, how often what may fail was called, and what was printed.
@@ -113,8 +115,8 @@ pub fn answered<A: Answers>(alloc: Global, answers: &A, row: &Row<'_>) -> Pen {
     found
 }
 
-/// The text of a part, with what comes several times.
-fn written(alloc: Global, text: &str) -> Pen {
+/// The text of a part of a row, with what comes several times.
+pub fn written(alloc: Global, text: &str) -> Pen {
     let mut pen = Pen::new(alloc);
     let (first, rest) = cut(text, "--- ");
     pen.put(named(first));
