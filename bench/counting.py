@@ -1,21 +1,15 @@
-"""What valgrind and the kernel count of a whole process: its instructions, its processor time, its peak memory."""
-import ctypes
+"""The instructions of whole processes, as valgrind counts them."""
 import dataclasses
-import os
 import pathlib
 import re
 import subprocess
 import sys
 
-from measuring import KIB, Cost
+from measuring import ANSWERED
 
 VALGRIND = ["valgrind", "--tool=callgrind", "--callgrind-out-file=/dev/null"]
 COLLECTED = re.compile(r"Collected : (\d+)")
-# How `check` and `play` end where they have an answer.
-ANSWERED = (0, 1)
-# Of Linux's prctl: what a child of ours leaves behind becomes a child of ours.
-PR_SET_CHILD_SUBREAPER = 36
-LEAVE = 'exec "$@" <"$0" >/dev/null 2>&1 &'
+NOTHING = pathlib.Path("/dev/null")
 
 
 @dataclasses.dataclass(frozen=True)
@@ -36,15 +30,13 @@ def counted(command: list[str], path: pathlib.Path) -> Counted:
     return Counted(int(found[1]), done.returncode, done.stdout.count(b"\n"))
 
 
-def used(command: list[str], path: pathlib.Path) -> Cost:
-    """The processor time in seconds and the peak memory in bytes of a command with a file as its input, by the kernel's
-    account. That of a process begins with the peak of the process that starts it. So a small shell starts the command,
-    and ends before it: then we wait for the command."""
-    if ctypes.CDLL(None).prctl(PR_SET_CHILD_SUBREAPER, 1, 0, 0, 0) != 0:
-        sys.exit("this kernel gives no account of a process that its parent leaves behind")
-    subprocess.run(["/bin/sh", "-c", LEAVE, str(path), *command], check=True)
-    _, status, usage = os.wait4(-1, 0)
-    status = os.waitstatus_to_exitcode(status)
-    if status not in ANSWERED:
-        sys.exit(f"{command}: status {status}")
-    return Cost(usage.ru_utime + usage.ru_stime, usage.ru_maxrss * KIB, status)
+def counted_of_log(command: list[str], bundle: pathlib.Path, log: pathlib.Path, size: int) -> float:
+    """The instructions for each byte of the first lines of a log, at most so many bytes, without those of an empty log.
+    The command has the path of the log as its last word."""
+    part, empty = log.with_suffix(".part"), log.with_suffix(".empty")
+    lines = log.read_bytes()[:size]
+    lines = lines[: lines.rfind(b"\n") + 1]
+    part.write_bytes(lines)
+    empty.write_bytes(b"")
+    whole, least = (counted([*command, str(path)], bundle).instructions for path in (part, empty))
+    return (whole - least) / len(lines)

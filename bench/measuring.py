@@ -1,23 +1,27 @@
-"""Wall time in seconds, peak resident memory in bytes, and exit status of whole processes. Wants the /proc of Linux."""
+"""What the kernel's account has of whole processes: wall time, processor time, peak resident memory, exit status."""
+import ctypes
 import dataclasses
 import os
 import pathlib
-import re
 import statistics
+import subprocess
 import sys
 import time
 
 KIB = 1 << 10
 MIB = 1 << 20
-PEAK_RUNS = 3
-# A process of a millisecond or two may end before its memory is looked at. So many more times it is tried then.
-MORE_RUNS = 100
-# Has no match once the process has ended.
-PEAK = re.compile(r"VmHWM:\s*(?P<peak>\d+) kB")
+WEIGHED = 3  # how often the memory is taken
+# How `check` and `play` end where they have an answer.
+ANSWERED = (0, 1)
+# Of Linux's prctl: what a child of ours leaves behind becomes a child of ours.
+PR_SET_CHILD_SUBREAPER = 36
+LEAVE = 'exec "$@" <"$0" >/dev/null 2>&1 &'
 
 
 @dataclasses.dataclass(frozen=True)
 class Cost:
+    """Seconds, bytes of peak memory, and an exit status."""
+
     seconds: float
     memory: int
     status: int
@@ -39,53 +43,44 @@ def start(command: list[str], path: pathlib.Path) -> int:
 
 
 def timed(command: list[str], path: pathlib.Path) -> tuple[float, int]:
-    """Seconds, from before the command is started until it has ended, and the exit status."""
+    """Seconds of wall time, from before the command is started until it has ended, and the exit status."""
     begin = time.perf_counter()
     _, status = os.waitpid(start(command, path), 0)
     return time.perf_counter() - begin, os.waitstatus_to_exitcode(status)
 
 
-def peak(command: list[str], path: pathlib.Path) -> int:
-    """Peak resident memory: looked at again and again, since the usage that `wait4` gives has this process's own peak
-    in it. What a process takes in its last moments may be missed."""
-    child, most = start(command, path), 0
-    status = pathlib.Path(f"/proc/{child}/status")
-    while os.waitpid(child, os.WNOHANG)[0] == 0:
-        found = PEAK.search(status.read_text())
-        if found:
-            most = max(most, int(found["peak"]) * KIB)
-    return most
+def used(command: list[str], path: pathlib.Path) -> Cost:
+    """The processor time and the peak memory of a command with a file as its input, as `wait4` gives them. The account
+    of a process begins with the peak of the process that starts it. So a small shell starts the command, and ends
+    before it: then we wait for the command."""
+    if ctypes.CDLL(None).prctl(PR_SET_CHILD_SUBREAPER, 1, 0, 0, 0) != 0:
+        sys.exit("this kernel gives no account of a process that its parent leaves behind")
+    subprocess.run(["/bin/sh", "-c", LEAVE, str(path), *command], check=True)
+    _, status, usage = os.wait4(-1, 0)
+    status = os.waitstatus_to_exitcode(status)
+    if status not in ANSWERED:
+        sys.exit(f"{command}: status {status}")
+    return Cost(usage.ru_utime + usage.ru_stime, usage.ru_maxrss * KIB, status)
 
 
 def measured(command: list[str], path: pathlib.Path, runs: int) -> Cost:
-    """The median time of so many runs, and the greatest peak of some more."""
+    """The median wall time of so many runs, and the greatest memory of some more."""
     return cost_of(command, path, [timed(command, path) for _ in range(runs)])
 
 
-def measured_in_turn(command: list[str], paths: list[pathlib.Path], runs: int) -> list[Cost]:
-    """The same for each of these files: each is run once, and then all of them again. So where the machine's speed
-    changes, it changes for all."""
-    results = [[timed(command, path) for path in paths] for _ in range(runs)]
-    return [cost_of(command, path, list(of_path)) for path, of_path in zip(paths, zip(*results))]
+def measured_in_turn(commands: list[list[str]], paths: list[pathlib.Path], runs: int) -> list[Cost]:
+    """The same for each of these commands and its file: each is run once, and then all of them again. So where the
+    machine's speed changes, it changes for all."""
+    pairs = [*zip(commands, paths)]
+    results = [[timed(command, path) for command, path in pairs] for _ in range(runs)]
+    return [cost_of(command, path, list(of_pair)) for (command, path), of_pair in zip(pairs, zip(*results))]
 
 
 def cost_of(command: list[str], path: pathlib.Path, results: list[tuple[float, int]]) -> Cost:
-    """The median time of these runs, and the greatest peak of some more."""
-    statuses = {status for _, status in results}
+    """The median wall time of these runs, and the greatest memory of some more."""
+    more = [used(command, path) for _ in range(WEIGHED)]
+    statuses = {status for _, status in results} | {cost.status for cost in more}
     if len(statuses) > 1:
         sys.exit(f"{command[0]} ends in different ways: {sorted(statuses)}")
-    memory = max(peak(command, path) for _ in range(PEAK_RUNS))
-    more = MORE_RUNS
-    while memory == 0 and more > 0:
-        memory, more = peak(command, path), more - 1
-    if memory == 0:
-        sys.exit(f"{command[0]} ended before its memory was looked at: the machine has other work")
-    return Cost(statistics.median(seconds for seconds, _ in results), memory, statuses.pop())
-
-
-def show(what: str, cost: Cost, size: int, base: float | None = None) -> None:
-    """A line of the table: time in ms, its ratio to that of `base` seconds, memory in MiB, and the bytes of memory for
-    each of `size` bytes."""
-    ratio = f"{cost.seconds / base:8.2f}" if base else " " * 8
-    memory = f"{cost.memory / MIB:8.1f} MiB {cost.memory / size:7.1f} B a byte"
-    print(f"{what:34} {cost.seconds * 1000:9.1f} ms {ratio} {memory}")
+    seconds = statistics.median(seconds for seconds, _ in results)
+    return Cost(seconds, max(cost.memory for cost in more), statuses.pop())

@@ -1,51 +1,75 @@
 """Texts of tiny entries. An entry of a few bytes has all settings of its kind, and its events have names. So a program
-that makes all of these before it counts them takes much more time and memory than for other texts of that size."""
+that makes all of these before it counts them takes much more time and memory than for other texts of that size. Some
+of these texts have a fault in each entry, or are of tiny lines or texts."""
 import itertools
 import string
 from collections.abc import Iterator
 
 import stacked
+from measuring import KIB
 from texts import VERSION, bundle, filled
 
 LETTERS = string.ascii_letters + string.digits + "_"
 STEPS = ",".join(LETTERS[:16])  # the most that an accrual has
-POSTS = ",".join(itertools.islice(itertools.cycle(LETTERS), 1024))  # the most names that a list has
-STATES = "".join(f"    - name: {letter}\n" for letter in LETTERS[:16])  # the most that a profile has
-PROFILE = f"shot_profiles:\n  p:\n    states:\n{STATES}"
+TIMES = 1024  # the most names that a list has
+POSTS = ",".join(itertools.islice(itertools.cycle(LETTERS), TIMES))
+OWN = 512  # the names of a list whose names are all new
+
+
+def profile(states: int) -> str:
+    """A profile of so many states. The most that are allowed are 16."""
+    return "shot_profiles:\n  p:\n    states:\n" + "".join(f"    - name: s{n}\n" for n in range(states))
+
+
 PARTS = "switches:\n  s:\ncoils:\n  c:\n"
 # What comes before the entries of a machine text, and after the name of each.
 ENTRIES = {
     "shots": ("shots:\n", ":"),
-    "shots of 16 states": (f"{PROFILE}shots:\n", ": {profile: p}"),
+    "shots of 16 states": (f"{profile(16)}shots:\n", ": {profile: p}"),
+    "shots of 1,024 states": (f"{profile(1024)}shots:\n", ": {profile: p}"),
     "groups of one shot": ("shots:\n  x:\nshot_groups:\n", ": {shots: x}"),
     "switches": ("switches:\n", ":"),
     "coils": ("coils:\n", ":"),
     "flippers": (f"{PARTS}flippers:\n", ": {main_coil: c, activation_switch: s}"),
     "autofire coils": (f"{PARTS}autofire_coils:\n", ": {coil: c, switch: s}"),
     "ball devices": ("ball_devices:\n", ": {ball_switches: []}"),
+    "ball devices of one switch": (f"{PARTS}ball_devices:\n", ": {ball_switches: s}"),
     "counters": ("counters:\n", ": {count_events: a}"),
     "accruals of 16 steps": ("accruals:\n", f": {{events: [{STEPS}]}}"),
     "events that post nothing": ("event_player:\n", ":"),
     "events that post one event": ("event_player:\n", ": a"),
     "events under a condition": ("event_player:\n", "{current_player.a>1}: a"),
     "events that post 1,024 letters": ("event_player:\n", f": [{POSTS}]"),
+    "events that post one 1,024 times": ("event_player:\n", f": {'a ' * TIMES}"),
+    "events that post one of the game": ("event_player:\n", ": ball_drain"),
+    "events that post it 1,024 times": ("event_player:\n", f": {'ball_drain ' * TIMES}"),
     "events that change a variable": ("variable_player:\n", ": {a: 1}"),
+    "events that change one of the game": ("variable_player:\n", ": {ball: 1}"),
     "events that pulse a coil": ("coils:\n  c:\ncoil_player:\n", ": {c: pulse}"),
+    "events that pulse no coil": ("coil_player:\n", ": {c: pulse}"),
+    "entries that are skipped": ("lights:\n", ":"),
 }
 # What fills a machine text from its second line on.
 FILLED = {
     "items with a key": ("lights:\n", "- a:\n"),
     "empty items": ("lights:\n", "-\n"),
     "comments": ("", "#\n"),
+    "comments of other letters": ("", "#\u00e4\u00f6\u00fc\n"),
+    "empty lines": ("", "\n"),
+    "one section again and again": ("", "lights: a\n"),
 }
 # What is between the brackets of one list.
-LISTED = {"empty lists": "[],", "empty mappings": "{},", "empty texts": "'',"}
+LISTED = {"empty lists": "[],", "empty mappings": "{},", "empty texts": "'',", "keys alone": "{a: },"}
 MODES = 7
 
 
 def names(length: int) -> Iterator[str]:
     """All names of so many characters."""
     return map("".join, itertools.product(LETTERS, repeat=length))
+
+
+def some(length: int, count: int) -> Iterator[str]:
+    return itertools.islice(names(length), count)
 
 
 def entries(front: str, named: Iterator[str], rest: str, size: int) -> str:
@@ -64,11 +88,36 @@ def texts(size: int, of_seven: int) -> dict[str, bytes]:
     """Bundles of texts of so many bytes, or a little less, each of which is of one kind of entry. The last bundle has
     seven modes with texts of another size."""
     made = {kind: bundle(entries(front, names(3), rest, size)) for kind, (front, rest) in ENTRIES.items()}
-    made |= {kind: bundle(filled(VERSION + front, unit, size)) for kind, (front, unit) in FILLED.items()}
+    made |= {kind: bundle(lines(front, unit, size)) for kind, (front, unit) in FILLED.items()}
     made |= {kind: bundle(listed(unit, size)) for kind, unit in LISTED.items()}
+    made["events with posts of their own"] = bundle(own_posts(size))
+    made["groups of a shot each"] = bundle(groups(size))
+    made["texts without a name"] = bundle(VERSION) + b"@ \n" * (size // 3)
+    made["texts with a name"] = bundle(VERSION) + "".join(f"@ {name}\n" for name in some(3, size // 6)).encode()
     made["timers of a mode"] = of_modes("timers:\n", 3, 1, size)
     made[f"shots of {MODES} modes"] = of_modes("shots:\n", 4, MODES, of_seven)
     return made
+
+
+def own_posts(size: int) -> str:
+    """Lists of names no two of which are equal."""
+    lists, named = names(2), names(4)
+    posts = lambda: " ".join(itertools.islice(named, OWN))
+    count = (size - KIB) // len(f" ab: {posts()}\n")
+    return VERSION + "event_player:\n" + "".join(f" {name}: {posts()}\n" for name in itertools.islice(lists, count))
+
+
+def groups(size: int) -> str:
+    """Shots, and a group for each of them."""
+    count = (size - KIB) // len(" abc:\n abc: {shots: abc}\n")
+    shots = "".join(f" {name}:\n" for name in some(3, count))
+    of_shots = "".join(f" {name}: {{shots: {name}}}\n" for name in some(3, count))
+    return f"{VERSION}shots:\n{shots}shot_groups:\n{of_shots}"
+
+
+def lines(front: str, unit: str, size: int) -> str:
+    """A text of this line again and again, of at most so many bytes."""
+    return filled(VERSION + front, unit, size * len(unit) // len(unit.encode()))
 
 
 def listed(unit: str, size: int) -> str:
