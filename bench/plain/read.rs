@@ -31,7 +31,7 @@ pub fn read(bundle: &str) -> Machine {
         reader.bind_text(owner, text);
     }
     reader.sort_bindings();
-    reader.finish_events();
+    reader.find_steps();
     Machine { plan: reader.plan, coils: reader.coils, devices: reader.devices }
 }
 
@@ -117,7 +117,6 @@ impl<'a> Reader<'a> {
         posts[1].extend(self.events(&entry.get("events_when_activated").names()));
         self.plan.switch_names.number(name);
         self.plan.switches.push(Switch {
-            lines: ["inactive", "active"].map(|level| format!("switch {name} {level}\n").into_bytes().into()),
             posts,
             closed_at_rest: entry.get("type").text() == "NC",
             is_quick,

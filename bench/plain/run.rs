@@ -120,7 +120,9 @@ impl<W: Write> Run<'_, W> {
         level.active = !level.active;
         let active = level.active;
         self.output.begin(MACHINE);
-        self.output.push(&switch.lines[usize::from(active)]);
+        self.output.push(b"switch ");
+        self.output.push(self.plan.switch_names.names[number as usize].as_bytes());
+        self.output.push(if active { b" active\n" } else { b" inactive\n" });
         for &(row, place) in &switch.listeners {
             let answer = self.devices[row as usize].switched(place, active, self.now);
             self.answered(row, answer);
@@ -263,7 +265,9 @@ impl<W: Write> Run<'_, W> {
     pub fn settle(&mut self) {
         while let Some((owner, event)) = self.waiting.pop_front() {
             self.output.begin(owner);
-            self.output.push(&self.plan.event_lines[event as usize]);
+            self.output.push(b"event ");
+            self.output.push(self.plan.event_names.names[event as usize].as_bytes());
+            self.output.end();
             let step = self.plan.steps[event as usize];
             if let Step::Mode(mode, STARTED) = step {
                 self.begin_mode(mode);

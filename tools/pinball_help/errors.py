@@ -53,11 +53,11 @@ class Search:
         self.original = read_texts(folder)
         self.scene = Scenery(self.original)
         self.report = Report()
-        self.told: set[tuple] = set()
+        self.reported: set[tuple] = set()
         self.counts: dict[tuple, int] = {}
         self.gone: set[str] = set()  # names that the copy defines no more
         self.touched: set[tuple[str, int, str]] = set()  # what has lost something: text, line of the file, key
-        self.faults_were_told = False
+        self.faults_were_reported = False
         self.progress = Progress("found")
 
     def run(self) -> Report:
@@ -105,8 +105,8 @@ class Search:
                 outs = tuple(
                     it for it in cure.ways if all(not line for edit in it.edits for line in edit.lines)
                 ) or outs
-            told = cure.ways[0] if cure.ways else Way(())
-            outs = tuple(replace(told, edits=it.edits) for it in outs)
+            first = cure.ways[0] if cure.ways else Way(())
+            outs = tuple(replace(first, edits=it.edits) for it in outs)
             return replace(cure, ways=outs)
         return cure
 
@@ -126,7 +126,7 @@ class Search:
                 best = (far, way, answer)
             if best and (complaint.name != "Yaml" or first is None):
                 break
-        self.tell(complaint, cure, best[1] if best else cure.ways[0] if cure.ways else None)
+        self.add_finding(complaint, cure, best[1] if best else cure.ways[0] if cure.ways else None)
         if best is None:
             return None
         self.change(best[1].edits, complaint)
@@ -146,13 +146,13 @@ class Search:
             mending = [it for it in cure.ways if it.edits]
             ways = [*mending[:1], *mending[1:][-1:], *self.last_ways(complaint)]
             way = next(iter(ways[self.tries(complaint) :]), None)
-            self.tell(complaint, cure, way)
+            self.add_finding(complaint, cure, way)
             if way and not any(overlap(one, other) for one in way.edits for other in taken):
                 taken += way.edits
                 self.touch(complaint)
         if not taken:
             return None
-        self.faults_were_told = True
+        self.faults_were_reported = True
         before = self.scene
         self.change(tuple(taken), None)
         return self.ask(self.scene.texts) if self.scene.texts != before.texts else None
@@ -167,11 +167,11 @@ class Search:
         number = self.scene.number(complaint.text, complaint.line - 1)
         return (complaint.message, complaint.text, number, complaint.key, complaint.words)
 
-    def tell(self, complaint: Complaint, cure: Cure, way: Way | None) -> None:
+    def add_finding(self, complaint: Complaint, cure: Cure, way: Way | None) -> None:
         identity = self.identity(complaint)
-        if identity in self.told:
+        if identity in self.reported:
             return
-        self.told.add(identity)
+        self.reported.add(identity)
         finding = finding_of(self.scene, complaint, cure, way, self.original)
         self.report.findings.append(replace(finding, follows=self.is_consequence(complaint)))
 
@@ -181,7 +181,7 @@ class Search:
         if complaint.text and not number and complaint.name != "Bundle":
             return True
         if complaint.name == "Name":
-            return complaint.key in self.gone or self.faults_were_told
+            return complaint.key in self.gone or self.faults_were_reported
         if complaint.name in ("Missing", "BadValue"):
             return (complaint.text, number, complaint.key) in self.touched
         if complaint.message in (
@@ -189,7 +189,7 @@ class Search:
         ):
             own = any(text == complaint.text and line == number for text, line, _ in self.touched)
             coil = any(key == complaint.key for _, _, key in self.touched)
-            return own or coil or self.faults_were_told
+            return own or coil or self.faults_were_reported
         return False
 
     def touch(self, complaint: Complaint) -> None:

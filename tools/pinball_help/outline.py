@@ -218,16 +218,16 @@ def read(lines: list[str]) -> Node:
         found = blocks.block(row[1])
         root.entries = (root.entries or []) + (found.entries or [])
         blocks.next += blocks.next == before
-    tell_paths(root, ())
+    set_paths(root, ())
     return root
 
 
-def tell_paths(node: Node, path: tuple[Entry, ...]) -> None:
+def set_paths(node: Node, path: tuple[Entry, ...]) -> None:
     for entry in node.entries or []:
         entry.path = path
-        tell_paths(entry.value, (*path, entry))
+        set_paths(entry.value, (*path, entry))
     for item in node.items or []:
-        tell_paths(item, path)
+        set_paths(item, path)
 
 
 def entries(node: Node) -> Iterator[Entry]:

@@ -29,8 +29,8 @@ def of_cycle(scene: Scenery, complaint: Complaint) -> Cure:
         words = " and ".join(written(scene, [it]) for it in steps[pair])
         edits = tuple(out_of(scene, it) for it in steps[pair])
         if len({(it.text, it.first) for it in edits}) == len(edits):
-            told = BACK if pair[1] in starts else EASIEST
-            ways.append(Way(edits, f"{told} {pair[0]} → {pair[1]}: {words}."))
+            advice = BACK if pair[1] in starts else EASIEST
+            ways.append(Way(edits, f"{advice} {pair[0]} → {pair[1]}: {words}."))
     if not mine:
         return Cure(says)
     first = steps[mine[0]][0]

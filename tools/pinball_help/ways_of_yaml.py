@@ -77,7 +77,7 @@ def slips(scene: Scenery, text: str, at: int, fault: str) -> list[Way]:
     return found
 
 
-def of_tabs(scene: Scenery, text: str, at: int) -> list[Way]:
+def of_tabs(scene: Scenery, text: str) -> list[Way]:
     """All tabs at the front of lines, and after dashes, become spaces."""
     tabs = [number for number, line in enumerate(plain(scene.texts[text])) if re.match(r"\s*-?\s*\t", line)]
     found = []
@@ -213,7 +213,7 @@ def cure_of(scene: Scenery, text: str, at: int, fault: str) -> Cure:
     """The ways to mend a line; the last ones take it out."""
     ways: list[Way] = []
     if fault == "Tab":
-        ways += of_tabs(scene, text, at)
+        ways += of_tabs(scene, text)
     if fault == "Indent":
         ways += of_indents(scene, text, at)
     if fault == "DuplicateKey":

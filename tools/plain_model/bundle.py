@@ -128,21 +128,23 @@ def modes_of(node: Node, line: int) -> list[Word]:
     return found
 
 
+def entries_of(key: Scalar, node: Node) -> list[Entry]:
+    """The entries of a section."""
+    section = key.text
+    written = judged(mapping_of, node, key.line, section)
+    if section in PLAYERS:
+        return [player_entry(section, name, value) for name, value in written]
+    if section in ONE_ENTRY:
+        return [Entry(section, key, settings(written, SETTINGS[section], key.line, IGNORED))]
+    return [entry(section, name, value) for name, value in written]
+
+
 class Reader:
     """Reads the texts one after the other. `taken` has the sections and names of entries in the texts before."""
 
     def __init__(self) -> None:
         self.taken: set[tuple[str, str]] = set()
         self.modes: list[Word] = []
-
-    def section(self, part: Part, key: Scalar, node: Node) -> list[Entry]:
-        section = key.text
-        written = judged(mapping_of, node, key.line, section)
-        if section in PLAYERS:
-            return [player_entry(section, name, value) for name, value in written]
-        if section in ONE_ENTRY:
-            return [Entry(section, key, settings(written, SETTINGS[section], key.line, IGNORED))]
-        return [entry(section, name, value) for name, value in written]
 
     def text(self, part: Part, root: Node) -> list[Note]:
         """Reads a text into its part, and gives its notes, each with its place."""
@@ -154,7 +156,7 @@ class Reader:
             elif key.text == "modes" and is_here:
                 self.modes = modes_of(node, key.line)
             elif key.text in (*SETTINGS, *PLAYERS) and is_here:
-                part.sections[key.text] = self.section(part, key, node)
+                part.sections[key.text] = entries_of(key, node)
             else:
                 raise Fault(4, "UnknownSection", key.line, key.text)
         self.take(part)

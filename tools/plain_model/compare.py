@@ -13,10 +13,12 @@ from .answers import Answer, Judged, judge
 from .bundle import MACHINE_TEXT, VERSION, ConfigFault, joined, split_bundle
 from .layout import means
 from .machine import TooLong
+from .sections import PLAYERS, SETTINGS
 from .yaml_text import read
 
 SECONDS, MOST_SECONDS = 2.0, 60.0  # of the processor for an answer, and by the clock
 MOST_LINES = 200  # of an answer, in a report
+SECTIONS = {*SETTINGS, *PLAYERS}
 FORMS = re.compile(
     rb"""(?:(?:
     [0-9]+\ [^ ]+\ (?:
@@ -105,6 +107,14 @@ def lines_of(output: bytes) -> list[str]:
     return output.decode(errors="replace").split("\n")[:-1]
 
 
+def right_certificate(drawing: random.Random, judged: Judged) -> bytes:
+    """The certificate of a plan; that of any weights where there are none that are right."""
+    if isinstance(judged.least, dict):
+        return judged.certificate().encode()
+    weights = {event: drawing.choice([1, 2, 5, 50]) for event in judged.plan.events}
+    return certificate.text(judged.costs.bound(weights), weights).encode()
+
+
 class Comparison:
     """Asks the program about drawn machines. `room` is a folder for its files."""
 
@@ -155,19 +165,22 @@ class Comparison:
         drawn = draw.machine(drawing)
         if drawing.random() < 0.5:
             plant.plant(drawing, drawn)
+        self.count(*{f"section {name}" for text in drawn.texts.values() for name in text if name in SECTIONS})
         bundle = drawn.bundle(drawing)
         if not drawn.planted and drawing.random() < 0.2:
             assert all(means(read(text), drawn.texts[name]) for name, text in split_bundle(bundle)), seed
         judged = judge(bundle)
         self.checked(judged)
+        certified = b""
         if judged.plan:
-            self.verified(drawing, judged)
+            certified = right_certificate(drawing, judged)
+            self.verified(judged, certified, damage.certificate(drawing, certified))
         elif drawing.random() < 0.2:
             self.compare("verify", bundle, b"?", judged.check())
             self.count("verify: refused")
         self.played(drawing, judged, logs.log(drawing, drawn))
         for _ in range(2):
-            self.damaged(drawing, drawn, bundle)
+            self.damaged(drawing, drawn, bundle, certified)
         if drawing.random() < 0.1:
             self.foldered(drawing, bundle)
         if drawing.random() < 0.3:
@@ -185,16 +198,13 @@ class Comparison:
                 self.count(f"note {next(word for word in words if word in ('skipped', 'absent', 'unlisted'))}")
             elif words[0] in ("error", "fault"):
                 self.count(" ".join(words[:3]))
+            if words[:2] == ["fault", "7"]:
+                self.count(f"limit of {words[3]}")
             if words[0] == "error" and words[1] == "3":
                 self.count(f"Yaml {words[-1]}")
 
-    def verified(self, drawing: random.Random, judged: Judged) -> None:
-        if isinstance(judged.least, dict):
-            right = judged.certificate().encode()
-        else:
-            weights = {event: drawing.choice([1, 2, 5, 50]) for event in judged.plan.events}
-            right = certificate.text(judged.costs.bound(weights), weights).encode()
-        for text in (right, damage.certificate(drawing, right)):
+    def verified(self, judged: Judged, *texts: bytes) -> None:
+        for text in texts:
             answer = judged.verify(text)
             self.compare("verify", judged.bundle, text, answer)
             said = next(line for line in lines_of(answer[0]) if not line.startswith("note"))
@@ -215,9 +225,13 @@ class Comparison:
                 self.count(*{kind_of_line(line) for line in lines_of(answer[0])})
                 self.found.counts["lines of plays"] += answer[0].count(b"\n")
 
-    def damaged(self, drawing: random.Random, drawn: draw.Drawn, bundle: bytes) -> None:
+    def damaged(self, drawing: random.Random, drawn: draw.Drawn, bundle: bytes, certified: bytes) -> None:
+        """A damaged bundle, now and then with the certificate of the machine before the damage."""
         judged = judge(damage.damaged(drawing, bundle))
         self.count("damaged bundle")
+        if judged.plan and drawing.random() < 0.3:
+            self.verified(judged, drawing.choice([certified, damage.damaged(drawing, certified)]))
+            self.count("damaged bundle: verify")
         if judged.is_accepted:
             self.count("damaged bundle: yes")
             self.played(drawing, judged, logs.log(drawing, drawn))

@@ -14,16 +14,21 @@ SHARES: dict[float, str] = {
         | counter, list 0 | counter, list 1 | sequence, list 0 | sequence, list 1 | flipper, list 0 | flipper, list 1
         | autofire, list 0 | timer, list 0 | timer, list 3 | timer, alarm | shot hit | group hit | kept stop
         | condition true | a turn of another player | line: skip pulse | verify: fault 10 Certificate Line
-        | damaged bundle: yes | note absent""",
+        | damaged bundle: yes | note absent | section accruals | section autofire_coils | section ball_devices
+        | section coil_player | section coils | section counters | section event_player | section flippers
+        | section game | section machine | section mode | section sequences | section shot_groups
+        | section shot_profiles | section shots | section switches | section timers | section variable_player""",
     10: """error 4 UnknownSection | accrual, list 2 | counter, list 2 | sequence, list 2 | timer, list 4 | ball awaited
         | a second game | another turn | line: coil enable | line: coil disable | line: final | line: player
         | line: refused TooLate | line: off | note skipped | note unlisted | verify: fault 10 Certificate Short
         | verify: fault 10 Certificate Bound | verify: fault 10 Certificate Events | folder""",
     5: """error 1 Bundle | error 2 Version | error 7 Missing | Yaml DuplicateKey | Yaml Flow | Yaml NotUtf8
-        | line: skip enable | line: skip disable""",
+        | line: skip enable | line: skip disable | damaged bundle: verify""",
     2: """error 8 Duplicate | error 9 Limit | fault 2 PulseLimit | fault 3 PowerLimit | fault 4 HoldNotAllowed
         | fault 5 TimerAtEnd | fault 6 BallRoute | fault 7 Limit | fault 8 Cycle | fault 9 Bound | Yaml Quote | Yaml Tab
-        | timer, list 1 | timer, list 2 | release | verify: fault 9""",
+        | timer, list 1 | timer, list 2 | release | verify: fault 9 | Yaml TooDeep""",
+    0.5: """Yaml TooLong | limit of switches | limit of coils | limit of variables""",
+    0.05: """limit of events | limit of bindings | limit of rows""",
 }
 
 

@@ -34,15 +34,23 @@ class Drawn:
     balls: dict[str, list[str]] = field(default_factory=dict)
     planted: list[str] = field(default_factory=list)
     versions: dict[str, str] = field(default_factory=dict)  # of texts that have an odd first line
+    sizes: dict[str, int] = field(default_factory=dict)  # in bytes, of texts that a comment fills
 
     def bundle(self, draw: random.Random) -> bytes:
         written = []
         for name in self.order:
             layout = Layout(draw)
             text = layout.text(self.texts[name], self.versions.get(name))
+            text = filled(text, self.sizes.get(name, 0))
             at = draw.choice(["@ ", "@ ", "@\t", "@   "]) + name + draw.choice(["", "", " "])
             written.append(f"{at}{layout.ends}{text}" + ("" if text.endswith("\n") else "\n"))
         return "".join(written).encode()
+
+
+def filled(text: str, size: int) -> str:
+    """The text with a comment after it, so that it has so many bytes. A longer text stays as it is."""
+    whole = text if text.endswith("\n") else f"{text}\n"
+    return whole + "#" * (size - len(whole.encode())) if len(whole.encode()) < size else text
 
 
 class Drawing:

@@ -1,7 +1,7 @@
 """Faults 1 to 6 of a configuration, in the order of the report."""
 from typing import Any
 
-from .bundle import Config, Part
+from .bundle import Config
 from .coils import Coil
 from .devices import reached
 from .plan import GAME_EVENTS, MODE_EVENTS
@@ -24,7 +24,7 @@ class Faults:
         for place, part in enumerate(self.config.parts):
             for entries in part.sections.values():
                 for entry in entries:
-                    self.entry(place, part, entry)
+                    self.entry(place, entry)
         self.groups()
         self.routes()
         return [*dict.fromkeys(line for _, line in sorted(self.found, key=lambda fault: fault[0]))]
@@ -44,7 +44,7 @@ class Faults:
             if word.text in self.reserved:
                 self.add(1, text, word)
 
-    def entry(self, text: int, part: Part, entry: Entry) -> None:
+    def entry(self, text: int, entry: Entry) -> None:
         names = {
             "main_coil": "coils",
             "hold_coil": "coils",

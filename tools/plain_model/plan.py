@@ -74,10 +74,14 @@ class Plan:
         for name in names:
             self.tables[table].setdefault(name, len(self.tables[table]))
 
+    def counts(self) -> dict[str, int]:
+        """How much each table has."""
+        counts = {table: len(names) for table, names in self.tables.items()}
+        return counts | {"bindings": len(self.bindings), "rows": len(self.rows)}
+
     def exceeded(self) -> str | None:
         """The first table that is above its limit."""
-        counts = {table: len(names) for table, names in self.tables.items()}
-        counts |= {"bindings": len(self.bindings), "rows": len(self.rows)}
+        counts = self.counts()
         return next((table for table in LIMITS if counts[table] > LIMITS[table]), None)
 
     def make_groups(self) -> None:

@@ -4,11 +4,14 @@ from collections.abc import Callable, Iterator
 from typing import Any
 
 from . import odd
-from .bundle import MACHINE_TEXT
+from .bundle import MACHINE_TEXT, ConfigFault, read_bundle
 from .draw import Data, Drawn
+from .faults import Faults
 from .layout import Names, Raw
-from .plan import GAME_EVENTS
+from .plan import GAME_EVENTS, LIMITS, Plan
 from .sections import MACHINE_ONLY, PLAYERS, SETTINGS
+from .values import LIST_LIMIT
+from .yaml_text import TEXT_LIMIT
 
 NAMING = {"main_coil", "hold_coil", "coil", "eject_coil", "activation_switch", "switch", "profile", "eject_targets"}
 REQUIRED = {"main_coil", "activation_switch", "coil", "switch", "ball_switches", "count_events", "events", "shots"}
@@ -173,25 +176,35 @@ class Planter:
     # Faults 7 to 9
 
     def limit(self) -> None:
-        """A table at its limit, or above it."""
-        kind, more = self.draw.choices(range(6), [5, 5, 5, 1, 1, 0.5])[0], self.draw.choice([0, 1, 1])
-        if kind < 2:
-            section = self.machine(["switches", "coils"][kind])
-            for number in range(256 + more - len(section)):
-                section[f"z{number}"] = ""
-        elif kind == 2:
-            self.anywhere("variable_player")[self.event()] = {f"z{number}": "1" for number in range(250 + more * 6)}
-        elif kind == 3:
-            section = self.machine("sequences")
-            for number in range(1_000 + more * 25):
-                section[f"z{number}"] = {"events": ""}
-        elif kind == 4:
-            for part in range(4):
-                names = Names(f"z{number}" for number in range(part * 1_000, part * 1_000 + 950 + more * 70))
-                self.anywhere("event_player")[f"z{part}"] = names
+        """A table at its limit, or one above it."""
+        table = self.draw.choices([*LIMITS], [1, 0.5, 5, 5, 5, 1])[0]
+        missing = LIMITS[table] + self.draw.choice([0, 1, 1]) - self.counts()[table]
+        if table in ("switches", "coils"):
+            self.machine(table).update((f"z{number}", "") for number in range(missing))
+        elif table == "variables":
+            self.anywhere("variable_player")["z"] = {f"z{number}": "1" for number in range(missing)}
+        elif table == "rows":
+            self.machine("sequences").update((f"z{number}", {"events": ""}) for number in range(missing))
         else:
-            for part in range(16 + more):
-                self.machine("shots")[f"z{part}"] = {"hit_events": Names(["z"] * 1_020)}
+            self.many_events(table, missing)
+
+    def counts(self) -> dict[str, int]:
+        """What each table has by now, or about that where faults are planted already."""
+        try:
+            config = read_bundle(self.drawn.bundle(random.Random(0)))
+        except ConfigFault:
+            return dict.fromkeys(LIMITS, 10)
+        return dict.fromkeys(LIMITS, 10) if Faults(config).lines() else Plan(config).counts()
+
+    def many_events(self, table: str, missing: int) -> None:
+        """So many events, or bindings of one event, in lists that are as long as they may be."""
+        for part in range(missing // LIST_LIMIT + 1):
+            count = min(LIST_LIMIT, missing - part * LIST_LIMIT)
+            if table == "bindings":
+                self.machine("shots")[f"z{part}"] = {"reset_events": Names(["z"] * count)}
+            elif count > 0:  # (the event of the entry is one of them)
+                names = Names(f"z{part * LIST_LIMIT + number}" for number in range(1, count))
+                self.anywhere("event_player")[f"z{part * LIST_LIMIT}"] = names
 
     def cycle(self) -> None:
         """Two events that post each other, or one that posts itself."""
@@ -299,7 +312,7 @@ class Planter:
         kind, text = self.draw.randrange(3), self.draw.choice([*self.drawn.texts.values()])
         data: Any = "a"
         if kind == 0:
-            for level in range(self.draw.randint(28, 33)):
+            for _ in range(self.draw.randint(28, 33)):
                 data = {"a": data} if self.chance(0.8) else [data]
         elif kind == 1:
             depth = self.draw.randint(7, 10)
@@ -307,6 +320,10 @@ class Planter:
         else:
             data = {"k" * self.draw.choice([1_021, 1_022, 1_024, 1_025, 1_026]): "a", "b": ""}
         text[self.draw.choice(["lights", "shows"])] = data
+
+    def size(self) -> None:
+        """A text that is as long as it may be, or a byte longer."""
+        self.drawn.sizes[self.draw.choice(self.drawn.order)] = TEXT_LIMIT + self.draw.choice([0, 1, 1])
 
     def version(self) -> None:
         """Another first line."""
@@ -326,9 +343,9 @@ class Planter:
 
 # In the order in which they are planted: those that leave something else than they found come last.
 KINDS = """wrong_name unknown_member reserved_post reserved_variable group pulse power hold timer route cycle bound
-    limit wait_queue depth version inner_setting modes texts setting missing long_list twice bad_name section
+    limit wait_queue depth size version inner_setting modes texts setting missing long_list twice bad_name section
     junk""".split()
-SHARES = {"limit": 2.0, "wait_queue": 0.3, "version": 0.3, "depth": 0.7, "texts": 0.4, "inner_setting": 0.5}
+SHARES = {"limit": 2.0, "wait_queue": 0.3, "version": 0.3, "depth": 0.7, "size": 0.3, "texts": 0.4, "inner_setting": 0.5}
 SHARES |= {"section": 0.5, "long_list": 0.7, "junk": 1.5, "twice": 2.0, "missing": 1.5}
 SHARES |= {"cycle": 1.5, "bound": 3.0, "hold": 1.5, "timer": 1.5, "pulse": 1.5, "route": 1.5}
 

@@ -71,15 +71,20 @@ def handled_or(event: str) -> Setting:
     return Setting(values.handled_list, (Handled(event, None),))
 
 
-def steps(node: Node) -> list[list[Handled]]:
-    """A list of lists of handled events, none of these empty."""
-    if isinstance(node, Scalar) and not node.text:
-        return []
+def items_of(node: Node) -> list[Node]:
+    """The items of a YAML list."""
     if not isinstance(node, Items):
         raise BadValue
     if len(node.items) > values.LIST_LIMIT:
         raise values.TooMany
-    found = [values.handled_list(item) for item in node.items]
+    return node.items
+
+
+def steps(node: Node) -> list[list[Handled]]:
+    """A list of lists of handled events, none of these empty."""
+    if isinstance(node, Scalar) and not node.text:
+        return []
+    found = [values.handled_list(item) for item in items_of(node)]
     values.within(len(found), 0, 16)
     if not all(found):
         raise BadValue
@@ -157,14 +162,9 @@ def inner(node: Node, table: dict[str, Setting], line: int, key: str, ignored: l
 
 
 def states(node: Node) -> list[str]:
-    if not isinstance(node, Items):
-        raise BadValue
-    if len(node.items) > values.LIST_LIMIT:
-        raise values.TooMany
-    values.within(len(node.items), 1, 16)
-    found = []
-    for item in node.items:
-        found.append(settings(mapping_of(item), STATE, item.line, None)["name"].text)
+    items = items_of(node)
+    values.within(len(items), 1, 16)
+    found = [settings(mapping_of(item), STATE, item.line, None)["name"].text for item in items]
     if len({*found}) < len(found):
         raise BadValue
     return found
@@ -173,14 +173,7 @@ def states(node: Node) -> list[str]:
 def control_events(node: Node) -> list[dict[str, Any]]:
     if isinstance(node, Scalar) and not node.text:
         return []
-    if not isinstance(node, Items):
-        raise BadValue
-    if len(node.items) > values.LIST_LIMIT:
-        raise values.TooMany
-    found = []
-    for item in node.items:
-        found.append(settings(mapping_of(item), CONTROL, item.line, []))
-    return found
+    return [settings(mapping_of(item), CONTROL, item.line, []) for item in items_of(node)]
 
 
 def wait_queue(node: Node) -> bool:
