@@ -12,6 +12,7 @@ import tempfile
 from collections.abc import Callable
 
 import stacked
+from bars import Bars
 from counting import counted
 from texts import VERSION
 
@@ -91,16 +92,15 @@ def of_a_line(program: str, folder: pathlib.Path, growing: Growing, size: int) -
 def main() -> None:
     if len(sys.argv) != 2:
         sys.exit(__doc__)
-    met = True
+    bars = Bars()
     with tempfile.TemporaryDirectory(prefix="pinball_bench") as folder:
         for growing in ALL:
             print(f"\n{growing.what}")
             first = of_a_line(sys.argv[1], pathlib.Path(folder), growing, growing.sizes[0])
             print()
             ratio = of_a_line(sys.argv[1], pathlib.Path(folder), growing, growing.sizes[1]) / first
-            print(f" {ratio:6.2f}, bar {growing.bar}")
-            met &= ratio <= growing.bar
-    sys.exit(0 if met else 1)
+            print(f" {ratio:6.2f}, bar {growing.bar} {bars.judged(ratio, growing.bar).strip()}", flush=True)
+    sys.exit(bars.status())
 
 
 main()
