@@ -13,7 +13,10 @@ use Rattle.machine_core.proofs.Going.{Goes, goes-then, goes-can, goes-all, goes-
 use Rattle.machine_core.proofs.Listing.{grown}
 use Rattle.machine_core.proofs.Room.{room-before}
 
-module _ (plan : PlanView) (a : Change) (now : CoreView) (room : HasRoom now.room (do_accepted plan a now.machine)) where
+module _ (a : Change) (now : CoreView) (room : HasRoom now.room (do_accepted now.plan a now.machine)) where
+  abbrev plan : PlanView
+  plan = now.plan
+
   abbrev begun : Machine
   begun = write owners.Machine (lines.Switch a.switch a.active) now.machine
 
@@ -45,31 +48,31 @@ module _ (plan : PlanView) (a : Change) (now : CoreView) (room : HasRoom now.roo
 
   module _ (written : CoreView) (written_is : written ≡ after (write owners.Machine (lines.Switch a.switch a.active)) now) (listeners : List Listener) (listeners_are : listeners ≡ listeners_of plan a.switch) where
     -- and for what the devices that listen to it are told
-    pub told-room : HasRoom written.room (all_do (tell_listener plan a.active) listeners written.machine)
+    pub told-room : HasRoom written.room (all_do (tell_listener written.plan a.active) listeners written.machine)
     told-room =
-        subst (λ (v : CoreView). HasRoom v.room (all_do (tell_listener plan a.active) listeners v.machine)) (sym written_is)
+        subst (λ (v : CoreView). HasRoom v.room (all_do (tell_listener v.plan a.active) listeners v.machine)) (sym written_is)
         (subst (λ (ls : List Listener). HasRoom now.room (all_do (tell_listener plan a.active) ls begun)) (sym listeners_are) told-fits)
 
-    module _ (core : CoreView) (core_is : core ≡ after (all_do (tell_listener plan a.active) listeners) written) where
+    module _ (core : CoreView) (core_is : core ≡ after (all_do (tell_listener written.plan a.active) listeners) written) where
       core-is : core ≡ after (λ s. told) now
-      core-is = core_is ∙ (λ i. after (all_do (tell_listener plan a.active) (listeners_are i)) (written_is i))
+      core-is = core_is ∙ (λ i. after (all_do (tell_listener (written_is i).plan a.active) (listeners_are i)) (written_is i))
 
       -- for what a ball leads to that has arrived on the playfield
-      pub playfield-room : HasRoom core.room (confirm_on_playfield plan a core.machine)
-      playfield-room = subst (λ (v : CoreView). HasRoom v.room (confirm_on_playfield plan a v.machine)) (sym core-is) arrived-room
+      pub playfield-room : HasRoom core.room (confirm_on_playfield core.plan a core.machine)
+      playfield-room = subst (λ (v : CoreView). HasRoom v.room (confirm_on_playfield v.plan a v.machine)) (sym core-is) arrived-room
 
-      pub playfield-plan : now.handlers.plan ≡ plan → core.handlers.plan ≡ plan
-      playfield-plan is = ap (λ (v : CoreView). v.handlers.plan) core-is ∙ is
+      pub playfield-switch : a.switch.0 < length plan.switches → a.switch.0 < length core.plan.switches
+      playfield-switch there = subst (λ (v : CoreView). a.switch.0 < length v.plan.switches) (sym core-is) there
 
-      pub playfield-calls : CanCall plan now → CanCall plan core
+      pub playfield-calls : CanCall now → CanCall core
       playfield-calls h =
-          subst (CanCall plan) (sym core-is)
-          (goes-can plan now (after (λ s. told) now) (goes-then plan now.machine begun told (goes-write plan owners.Machine (lines.Switch a.switch a.active) now.machine) (goes-told begun)) h)
+          subst CanCall (sym core-is)
+          (goes-can now (λ s. told) (goes-then plan now.machine begun told (goes-write plan owners.Machine (lines.Switch a.switch a.active) now.machine) (goes-told begun)) h)
 
       -- and for its events
-      module _ (arrived_core : CoreView) (arrived_core_is : arrived_core ≡ after (confirm_on_playfield plan a) core) (events : List EventId) (events_are : events ≡ posts_of plan a.switch a.active) where
+      module _ (arrived_core : CoreView) (arrived_core_is : arrived_core ≡ after (confirm_on_playfield core.plan a) core) (events : List EventId) (events_are : events ≡ posts_of plan a.switch a.active) where
         arrived-is : arrived_core ≡ after (λ s. arrived) now
-        arrived-is = arrived_core_is ∙ ap (after (confirm_on_playfield plan a)) core-is
+        arrived-is = arrived_core_is ∙ ap (λ (v : CoreView). after (confirm_on_playfield v.plan a) v) core-is
 
         pub posts-room : HasRoom arrived_core.room (all_do (post owners.Machine) events arrived_core.machine)
         posts-room =

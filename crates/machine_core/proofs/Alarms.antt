@@ -1,6 +1,7 @@
 -- What the next alarm comes from.
 use Rattle.std.proofs.Common.{◌≡◌, ℕ, ◌<◌, Option, Some, None, option_map, MatchOption, List, [], ◌∷◌, length, map, refl, ap, sym, ◌∙◌, subst, arith}
 use Rattle.std.specs.Option.{IsSome}
+use Rattle.std.proofs.lemmas.Option.{same_Some}
 use Rattle.plan_tables.specs.PlanView.{PlanView}
 use Rattle.plan_tables.specs.declared.entries.SwitchId.{SwitchId}
 use Rattle.plan_tables.specs.declared.devices.RowId.{RowId}
@@ -18,10 +19,7 @@ use Rattle.written_machine.specs.Run.{Source, switch, device, fire}
 use Rattle.written_machine.specs.NextAlarm.{next_alarm}
 use Rattle.written_machine.proofs.Does.{due-row}
 use Rattle.written_machine.proofs.NextAlarms.{found-is_next, next_alarm-due}
-use Rattle.machine_core.specs.Core.{CoreView, IsCoreOf, HasRoom, after}
-
-same_Some : (a b : Change) → Some a ≡ Some b → a ≡ b
-same_Some a b h = cc
+use Rattle.machine_core.specs.Core.{CoreView, IsWhole, HasRoom, after}
 
 within-found : (s new : SwitchesView) (o : Option (ℕ × SwitchId)) (a : Change) → MatchOption o (IsNothingDue s) (λ d. IsNextDue s d.0 d.1) → option_map (λ d. reported new d.1) o ≡ Some a → a.switch.0 < length s.states
 within-found s new None a h is = cc
@@ -30,18 +28,13 @@ within-found s new (Some d) a h is =
     omega (arith, number, due-within s d.1 d.0 h.due)
 
 -- it is one of the plan's
-pub fired-within : (plan : PlanView) (c : CoreView) (a : Change) → IsCoreOf plan c → reported_by_fire c.machine.switches ≡ Some a → a.switch.0 < length plan.switches
-fired-within plan c a core is =
+pub fired-within : (c : CoreView) (a : Change) → IsWhole c → reported_by_fire c.machine.switches ≡ Some a → a.switch.0 < length c.plan.switches
+fired-within c a core is =
     let s = c.machine.switches in
     let within = within-found s (after_fire s) (next_due s) a (next_due-is_due s) is in
     let states = core.complete.states in
     let kinds = core.kinds in
     omega (arith, within, states, kinds)
-
--- the moments at which devices are due, by their states
-pub dues-are : {A : Type 0} (state : A → DeviceState) (items : List A) → map (λ d. due_of (state d)) items ≡ map due_of (map state items)
-dues-are state [] = refl
-dues-are state (x ∷ items) = ap (λ (rest : List (Option ℕ)). due_of (state x) ∷ rest) (dues-are state items)
 
 -- ---- which source fires
 
@@ -66,7 +59,7 @@ next-of s source is = by (next_alarm s) refl is
 
 -- ---- the raw level of a switch is accepted
 
-module _ (plan : PlanView) (core : CoreView) (source : Source) (next : option_map (λ a. a.1) (next_alarm core.machine) ≡ Some source) (n : SwitchId) (source_is : source ≡ switch n)
+module _ (core : CoreView) (source : Source) (next : option_map (λ a. a.1) (next_alarm core.machine) ≡ Some source) (n : SwitchId) (source_is : source ≡ switch n)
     (a : Change) (reported_is : reported_by_fire core.machine.switches ≡ Some a) (now : CoreView) (now_is : now ≡ after (set_switches (after_fire core.machine.switches)) core) where
   abbrev switches : SwitchesView
   switches = core.machine.switches
@@ -84,13 +77,13 @@ module _ (plan : PlanView) (core : CoreView) (source : Source) (next : option_ma
       same_Some a (reported (accept n switches) n)
       (sym reported_is ∙ ap (option_map (λ d. reported (after_fire switches) d.1)) due.1 ∙ ap (λ s. Some (reported s n)) accepted-is)
 
-  fired-is : fire plan source core.machine ≡ do_accepted plan a (set_switches (after_fire switches) core.machine)
-  fired-is = ap (λ x. fire plan x core.machine) source_is ∙ (λ i. do_accepted plan (sym acceptance-is i) (set_switches (sym accepted-is i) core.machine))
+  fired-is : fire core.plan source core.machine ≡ do_accepted core.plan a (set_switches (after_fire switches) core.machine)
+  fired-is = ap (λ x. fire core.plan x core.machine) source_is ∙ (λ i. do_accepted core.plan (sym acceptance-is i) (set_switches (sym accepted-is i) core.machine))
 
-  pub fired-room : HasRoom core.room (fire plan source core.machine) → HasRoom now.room (do_accepted plan a now.machine)
+  pub fired-room : HasRoom core.room (fire core.plan source core.machine) → HasRoom now.room (do_accepted now.plan a now.machine)
   fired-room room =
-      subst (λ (c : CoreView). HasRoom c.room (do_accepted plan a c.machine)) (sym now_is)
+      subst (λ (c : CoreView). HasRoom c.room (do_accepted c.plan a c.machine)) (sym now_is)
       (subst (HasRoom core.room) fired-is room)
 
-  pub fired-done : (last : CoreView) → last ≡ after (do_accepted plan a) now → last ≡ after (fire plan source) core
-  fired-done last last_is = last_is ∙ ap (after (do_accepted plan a)) now_is ∙ ap (λ (s : Machine). after (λ t. s) core) (sym fired-is)
+  pub fired-done : (last : CoreView) → last ≡ after (do_accepted now.plan a) now → last ≡ after (fire core.plan source) core
+  fired-done last last_is = last_is ∙ ap (λ (c : CoreView). after (do_accepted c.plan a) c) now_is ∙ ap (λ (s : Machine). after (λ t. s) core) (sym fired-is)

@@ -1,5 +1,5 @@
 -- What leaves devices that can be called, and coils that can be asked.
-use Rattle.std.proofs.Common.{◌≡◌, ◌<◌, [], length, refl, ◌∙◌, arith}
+use Rattle.std.proofs.Common.{◌≡◌, ◌<◌, Bool, List, [], length, refl, ◌∙◌, arith}
 use Rattle.std.specs.List.{All}
 use Rattle.std.proofs.lemmas.List.Elements.{All-get_or}
 use Rattle.plan_tables.specs.PlanView.{PlanView, actions_at}
@@ -30,12 +30,12 @@ module _ (plan : PlanView) where
   count-does : {may : Move → Type 0} {c : Cost} {s t : Machine} → Does plan may c s t → length t.coils ≡ length s.coils
   count-does {may} {c} {s} {t} d = does-keeps plan may (λ u. length u.coils ≡ length s.coils) (λ x u allowed h. count-move x u ∙ h) d refl
 
-  -- moves
-  pub can-does : {may : Move → Type 0} {c : Cost} (old new : CoreView) → Does plan may c old.machine new.machine → CanCall plan old → CanCall plan new
-  can-does old new d h =
-      let early = h.early in
-      record { devices = has_devices-does plan d h.devices; coils = count-does d ∙ h.coils; early = omega (arith, early, moment-does plan d) }
-
   -- the actions of an effect list are within the plan
   pub actions-within : HasEntries plan → (l : ListId) → l.0 < length plan.lists → All (IsActionWithin plan) (actions_at plan l)
   actions-within entries l there = All-get_or (All (IsActionWithin plan)) plan.lists l.0 [] there entries.lists
+
+-- moves, whichever modes run then
+pub can-does : {may : Move → Type 0} {c : Cost} (old : CoreView) (running : List Bool) (s : Machine) → Does old.plan may c old.machine s → CanCall old → CanCall (record old { running = running; machine = s })
+can-does old running s d h =
+    let early = h.early in
+    record { devices = has_devices-does old.plan d h.devices; coils = count-does old.plan d ∙ h.coils; early = omega (arith, early, moment-does old.plan d) }

@@ -59,33 +59,38 @@ module _ (plan : PlanView) (owner : Owner) where
   goes-confirmed None s = goes-none plan s
   goes-confirmed (Some r) s = goes-confirm plan (Device r) s
 
-  module _ (a : Action) (old : CoreView) (room : HasRoom old.room (do_action plan owner a old.machine)) where
-    abbrev alone : Machine
-    alone = do_action_by plan no_confirm owner a old.machine
+module _ (owner : Owner) (a : Action) (old : CoreView) (room : HasRoom old.room (do_action old.plan owner a old.machine)) where
+  abbrev alone : Machine
+  alone = do_action_by old.plan no_confirm owner a old.machine
 
-    parts-room : HasRoom old.room (confirmed (confirm_entry plan) (awaited_entry a old.machine) alone)
-    parts-room = subst (HasRoom old.room) (action-parts (confirm_entry plan) a old.machine) room
+  parts-are : do_action old.plan owner a old.machine ≡ confirmed (confirm_entry old.plan) (awaited_entry a old.machine) alone
+  parts-are = action-parts old.plan owner (confirm_entry old.plan) a old.machine
 
-    pub alone-room : HasRoom old.room alone
-    alone-room = room-before old.room alone (confirmed (confirm_entry plan) (awaited_entry a old.machine) alone) (grown plan alone (confirmed (confirm_entry plan) (awaited_entry a old.machine) alone) (goes-confirmed (awaited_entry a old.machine) alone)) parts-room
+  parts-room : HasRoom old.room (confirmed (confirm_entry old.plan) (awaited_entry a old.machine) alone)
+  parts-room = subst (HasRoom old.room) parts-are room
 
-    module _ (now : CoreView) (now_is : now ≡ after (do_action_by plan no_confirm owner a) old) where
-      pub alone-calls : CanCall plan old → CanCall plan now
-      alone-calls h = subst (CanCall plan) (sym now_is) (goes-can plan old (after (do_action_by plan no_confirm owner a) old) (goes-action_by plan no_confirm (goes-no_confirm plan) owner a old.machine) h)
+  pub alone-room : HasRoom old.room alone
+  alone-room =
+      let whole = confirmed (confirm_entry old.plan) (awaited_entry a old.machine) alone in
+      room-before old.room alone whole (grown old.plan alone whole (goes-confirmed old.plan owner (awaited_entry a old.machine) alone)) parts-room
 
-      pub confirm-room : (r : RowId) → awaited_entry a old.machine ≡ Some r → HasRoom now.room (confirm_first_away plan (Device r) now.machine)
-      confirm-room r is =
-          subst (λ (c : CoreView). HasRoom c.room (confirm_first_away plan (Device r) c.machine)) (sym now_is)
-          (subst (λ (entry : Option RowId). HasRoom old.room (confirmed (confirm_entry plan) entry alone)) is parts-room)
+  module _ (now : CoreView) (now_is : now ≡ after (do_action_by old.plan no_confirm owner a) old) where
+    pub alone-calls : CanCall old → CanCall now
+    alone-calls h = subst CanCall (sym now_is) (goes-can old (do_action_by old.plan no_confirm owner a) (goes-action_by old.plan no_confirm (goes-no_confirm old.plan) owner a old.machine) h)
 
-      pub done-confirmed : (r : RowId) → awaited_entry a old.machine ≡ Some r → (last : CoreView) → last ≡ after (confirm_first_away plan (Device r)) now → last ≡ after (do_action plan owner a) old
-      done-confirmed r is last last_is =
-          last_is ∙ ap (after (confirm_first_away plan (Device r))) now_is
-          ∙ ap (λ (s : Machine). after (λ t. s) old) (sym (action-parts (confirm_entry plan) a old.machine ∙ ap (λ (entry : Option RowId). confirmed (confirm_entry plan) entry alone) is))
+    pub confirm-room : (r : RowId) → awaited_entry a old.machine ≡ Some r → HasRoom now.room (confirm_first_away now.plan (Device r) now.machine)
+    confirm-room r is =
+        subst (λ (c : CoreView). HasRoom c.room (confirm_first_away c.plan (Device r) c.machine)) (sym now_is)
+        (subst (λ (entry : Option RowId). HasRoom old.room (confirmed (confirm_entry old.plan) entry alone)) is parts-room)
 
-      pub done-alone : awaited_entry a old.machine ≡ None → now ≡ after (do_action plan owner a) old
-      done-alone is =
-          now_is ∙ ap (λ (s : Machine). after (λ t. s) old) (sym (action-parts (confirm_entry plan) a old.machine ∙ ap (λ (entry : Option RowId). confirmed (confirm_entry plan) entry alone) is))
+    pub done-confirmed : (r : RowId) → awaited_entry a old.machine ≡ Some r → (last : CoreView) → last ≡ after (confirm_first_away now.plan (Device r)) now → last ≡ after (do_action old.plan owner a) old
+    done-confirmed r is last last_is =
+        last_is ∙ ap (λ (c : CoreView). after (confirm_first_away c.plan (Device r)) c) now_is
+        ∙ ap (λ (s : Machine). after (λ t. s) old) (sym (parts-are ∙ ap (λ (entry : Option RowId). confirmed (confirm_entry old.plan) entry alone) is))
+
+    pub done-alone : awaited_entry a old.machine ≡ None → now ≡ after (do_action old.plan owner a) old
+    done-alone is =
+        now_is ∙ ap (λ (s : Machine). after (λ t. s) old) (sym (parts-are ∙ ap (λ (entry : Option RowId). confirmed (confirm_entry old.plan) entry alone) is))
 
 -- ---- a device that is Away is due
 

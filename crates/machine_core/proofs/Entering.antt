@@ -2,6 +2,7 @@
 use Rattle.std.proofs.Common.{◌≡◌, ◌<◌, Bool, true, false, [], ◌∷◌, length, length-append, refl, ap, sym, ◌∙◌, subst, arith}
 use Rattle.std.proofs.lemmas.Bool.{false≢true}
 use Rattle.plan_tables.specs.PlanView.{PlanView}
+use Rattle.plan_tables.specs.Valid.{HasGame}
 use Rattle.plan_tables.specs.declared.entries.EventId.{EventId}
 use Rattle.plan_tables.specs.declared.entries.Owner.{Owner}
 use Rattle.plan_tables.specs.declared.devices.RowId.{RowId}
@@ -28,42 +29,46 @@ module _ (plan : PlanView) (owner : Owner) (r : RowId) (drain : Bool) where
   rest-other Found s h = refl
   rest-other New s h = refl
 
-  module _ (e : EventId) (old : CoreView) (room : HasRoom old.room (enter_ball plan no_confirm owner r e drain old.machine)) where
-    abbrev told : Machine
-    told = book owner (calls_of_ledger.Enter r) old.machine
+module _ (owner : Owner) (r : RowId) (drain : Bool) (e : EventId) (old : CoreView) (room : HasRoom old.room (enter_ball old.plan no_confirm owner r e drain old.machine)) where
+  abbrev told : Machine
+  told = book owner (calls_of_ledger.Enter r) old.machine
 
-    abbrev posted : Machine
-    posted = post owner e told
+  abbrev posted : Machine
+  posted = post owner e told
 
-    abbrev origin : Origin
-    origin = origin_of r old.machine.ledger
+  abbrev origin : Origin
+  origin = origin_of r old.machine.ledger
 
-    posted-fits : HasRoom old.room posted
-    posted-fits =
-        room-before old.room posted (enter_ball plan no_confirm owner r e drain old.machine)
-        (grown plan posted (enter_ball plan no_confirm owner r e drain old.machine) (goes-after_entry plan no_confirm (goes-no_confirm plan) owner r drain origin posted)) room
+  posted-fits : HasRoom old.room posted
+  posted-fits =
+      let entered = enter_ball old.plan no_confirm owner r e drain old.machine in
+      room-before old.room posted entered (grown old.plan posted entered (goes-after_entry old.plan no_confirm (goes-no_confirm old.plan) owner r drain origin posted)) room
 
-    pub booked-room : HasRoom old.room told
-    booked-room = room-before old.room told posted (grown plan told posted (goes-post plan owner e told)) posted-fits
+  pub booked-room : HasRoom old.room told
+  booked-room = room-before old.room told posted (grown old.plan told posted (goes-post old.plan owner e told)) posted-fits
 
-    module _ (booked : CoreView) (booked_is : booked ≡ after (book owner (calls_of_ledger.Enter r)) old) where
-      pub event-room : length booked.machine.waiting < booked.room
-      event-room =
-          subst (λ (c : CoreView). length c.machine.waiting < c.room) (sym booked_is)
-          (let fits = posted-fits.waiting in omega (arith, length-append told.waiting (record { event = e; owner = owner } ∷ [])))
+  module _ (booked : CoreView) (booked_is : booked ≡ after (book owner (calls_of_ledger.Enter r)) old) where
+    pub event-room : length booked.machine.waiting < booked.room
+    event-room =
+        subst (λ (c : CoreView). length c.machine.waiting < c.room) (sym booked_is)
+        (let fits = posted-fits.waiting in omega (arith, length-append told.waiting (record { event = e; owner = owner } ∷ [])))
 
-      module _ (now : CoreView) (now_is : now ≡ after (post owner e) booked) where
-        now-is : now ≡ after (λ s. posted) old
-        now-is = now_is ∙ ap (after (post owner e)) booked_is
+    module _ (now : CoreView) (now_is : now ≡ after (post owner e) booked) where
+      now-is : now ≡ after (λ s. posted) old
+      now-is = now_is ∙ ap (after (post owner e)) booked_is
 
-        pub entered-awaited : is_awaited origin ≡ true → now ≡ after (enter_ball plan no_confirm owner r e drain) old
-        entered-awaited awaited = now-is ∙ ap (λ (s : Machine). after (λ t. s) old) (sym (rest-awaited origin posted awaited))
+      pub entered-awaited : is_awaited origin ≡ true → now ≡ after (enter_ball old.plan no_confirm owner r e drain) old
+      entered-awaited awaited = now-is ∙ ap (λ (s : Machine). after (λ t. s) old) (sym (rest-awaited old.plan owner r drain origin posted awaited))
 
-        pub drain-room : is_awaited origin ≡ false → HasRoom now.room (drain_if plan owner drain now.machine)
-        drain-room other =
-            subst (λ (c : CoreView). HasRoom c.room (drain_if plan owner drain c.machine)) (sym now-is)
-            (subst (HasRoom old.room) (rest-other origin posted other) room)
+      pub drain-game : (drain ≡ true → HasGame old.plan) → drain ≡ true → HasGame now.plan
+      drain-game game drains = subst (λ (c : CoreView). HasGame c.plan) (sym now-is) (game drains)
 
-        pub entered-other : is_awaited origin ≡ false → (last : CoreView) → last ≡ after (drain_if plan owner drain) now → last ≡ after (enter_ball plan no_confirm owner r e drain) old
-        entered-other other last last_is =
-            last_is ∙ ap (after (drain_if plan owner drain)) now-is ∙ ap (λ (s : Machine). after (λ t. s) old) (sym (rest-other origin posted other))
+      pub drain-room : is_awaited origin ≡ false → HasRoom now.room (drain_if now.plan owner drain now.machine)
+      drain-room other =
+          subst (λ (c : CoreView). HasRoom c.room (drain_if c.plan owner drain c.machine)) (sym now-is)
+          (subst (HasRoom old.room) (rest-other old.plan owner r drain origin posted other) room)
+
+      pub entered-other : is_awaited origin ≡ false → (last : CoreView) → last ≡ after (drain_if now.plan owner drain) now → last ≡ after (enter_ball old.plan no_confirm owner r e drain) old
+      entered-other other last last_is =
+          last_is ∙ ap (λ (c : CoreView). after (drain_if c.plan owner drain) c) now-is
+          ∙ ap (λ (s : Machine). after (λ t. s) old) (sym (rest-other old.plan owner r drain origin posted other))

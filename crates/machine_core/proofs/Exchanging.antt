@@ -8,10 +8,8 @@ use Rattle.plan_tables.specs.declared.devices.DeviceRow.{DeviceRow}
 use Rattle.plan_tables.specs.declared.devices.RowId.{RowId}
 use Rattle.device_objects.specs.declared.state.DeviceState.{DeviceState}
 use Rattle.device_objects.specs.declared.state.World.{World}
-use Rattle.device_objects.specs.DeviceStep.{due_of}
 use Rattle.written_machine.specs.Machine.{device_state}
 use Rattle.machine_core.specs.Stopping.{stopped_state}
-use Rattle.machine_core.proofs.Alarms.{dues-are}
 use Rattle.machine_core.proofs.Calling.{row-is, state-is, rows-kept}
 
 module _ {A : Type 0} (row : A → DeviceRow) (state : A → DeviceState) (plan : PlanView) (items : List A) (at : RowId) (old new : A)
@@ -33,9 +31,6 @@ module _ {A : Type 0} (row : A → DeviceRow) (state : A → DeviceState) (plan 
 
   pub states-stay : map state (set items at.0 new) ≡ map state items
   states-stay = map-set_same state items at.0 new old (same_state ∙ sym old-state ∙ ap state read)
-
-  pub dues-stay : map (λ d. due_of (state d)) (set items at.0 new) ≡ map (λ d. due_of (state d)) items
-  dues-stay = dues-are state (set items at.0 new) ∙ ap (map due_of) states-stay ∙ sym (dues-are state items)
 
   -- what the old device is, once it has stopped
   pub old-stopped : (moment : ℕ) (world : World) → stopped_state moment world (row old) (state old) ≡ stopped_state moment world (row_at plan at) (device_state (map state items) at)

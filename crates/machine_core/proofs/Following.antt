@@ -17,7 +17,7 @@ use Rattle.mode_stack.specs.ModeStep.{in_phase, is_running, entered, ended}
 use Rattle.mode_stack.specs.Modes.{mode_state, running_of}
 use Rattle.mode_stack.specs.Modes as modes
 use Rattle.mode_stack.proofs.WhoRuns.{starting_keeps_who_runs}
-use Rattle.event_queue.specs.Handlers.{none_running, set_running}
+use Rattle.event_queue.specs.Handlers.{none_running}
 use Rattle.device_objects.specs.declared.device.Call.{Call}
 use Rattle.device_objects.specs.declared.device.Call.TheVariants as calls
 use Rattle.written_machine.specs.Machine.{Machine, all_do, post, set_mode, stop_mode, call_devices, ask_coil, release_coil, release_coils}
@@ -25,11 +25,11 @@ use Rattle.written_machine.specs.EventStep.{do_before, do_after}
 use Rattle.written_machine.proofs.Does.{stop-by}
 use Rattle.written_machine.proofs.Parts.{does-calls}
 use Rattle.written_machine.proofs.Silence.{still-does}
-use Rattle.machine_core.specs.Core.{CoreView, after, follow}
+use Rattle.machine_core.specs.Core.{CoreView, HasHandlers, after, follow}
 
 -- where the same modes run, the handlers are the same
-pub follow-still : (does : Machine → Machine) (c : CoreView) → c.handlers.running ≡ running_of c.machine.modes → running_of (does c.machine).modes ≡ running_of c.machine.modes → after does c ≡ follow does c
-follow-still does c was still = λ i. record { handlers = record { plan = c.handlers.plan; running = (was ∙ sym still) i }; machine = does c.machine; room = c.room }
+pub follow-still : (does : Machine → Machine) (c : CoreView) → HasHandlers c → running_of (does c.machine).modes ≡ running_of c.machine.modes → after does c ≡ follow does c
+follow-still does c was still = λ i. record { plan = c.plan; running = (was ∙ sym still) i; machine = does c.machine; room = c.room }
 
 -- a mode that is told to stop goes on running, if it ran
 pub stop-still : (plan : PlanView) (m : ModeId) (s : Machine) → running_of (stop_mode plan m s).modes ≡ running_of s.modes
@@ -56,23 +56,24 @@ pub idle-runs : (plan : PlanView) → none_running plan ≡ running_of (modes.al
 idle-runs plan = none_runs (length plan.modes)
 
 -- the core of a mode that is entered, and of one that has ended
-pub entered-follows : (c : CoreView) (m : ModeId) → c.handlers.running ≡ running_of c.machine.modes
-    → record c { machine = set_mode m (entered (mode_state c.machine.modes m)) c.machine; handlers = set_running c.handlers m true } ≡ follow (λ s. set_mode m (entered (mode_state s.modes m)) s) c
+pub entered-follows : (c : CoreView) (m : ModeId) → HasHandlers c
+    → record c { machine = set_mode m (entered (mode_state c.machine.modes m)) c.machine; running = set c.running m.0 true } ≡ follow (λ s. set_mode m (entered (mode_state s.modes m)) s) c
 entered-follows c m is =
-    λ i. record { handlers = record { plan = c.handlers.plan; running = entered-runs c.machine.modes m c.handlers.running is i }; machine = set_mode m (entered (mode_state c.machine.modes m)) c.machine; room = c.room }
+    λ i. record { plan = c.plan; running = entered-runs c.machine.modes m c.running is i; machine = set_mode m (entered (mode_state c.machine.modes m)) c.machine; room = c.room }
 
 -- while the devices of a mode are called, the same modes run
 pub calls-still : (plan : PlanView) (call : Call) (m : ModeId) (s : Machine) → running_of (call_devices plan call m s).modes ≡ running_of s.modes
 calls-still plan call m s = still-does plan (λ owner. Unit {0}) ⊥ (does-calls plan (λ owner. Unit {0}) tt call m tt s)
 
 -- the core after the whole work at `started`
-pub started-follows : (plan : PlanView) (c entered_core new : CoreView) (m : ModeId) → entered_core ≡ follow (λ s. set_mode m (entered (mode_state s.modes m)) s) c → new ≡ after (call_devices plan calls.ModeStart m) entered_core
-    → new ≡ follow (do_before plan (Mode m Started)) c
-started-follows plan c entered_core new m was is =
-    is ∙ ap (after (call_devices plan calls.ModeStart m)) was
+pub started-follows : (c entered_core new : CoreView) (m : ModeId) → entered_core ≡ follow (λ s. set_mode m (entered (mode_state s.modes m)) s) c → new ≡ after (call_devices entered_core.plan calls.ModeStart m) entered_core
+    → new ≡ follow (do_before c.plan (Mode m Started)) c
+started-follows c entered_core new m was is =
+    is ∙ ap (λ (v : CoreView). after (call_devices v.plan calls.ModeStart m) v) was
     ∙ (λ i. record {
-      handlers = record { plan = c.handlers.plan; running = sym (calls-still plan calls.ModeStart m (set_mode m (entered (mode_state c.machine.modes m)) c.machine)) i };
-      machine = do_before plan (Mode m Started) c.machine;
+      plan = c.plan;
+      running = sym (calls-still c.plan calls.ModeStart m (set_mode m (entered (mode_state c.machine.modes m)) c.machine)) i;
+      machine = do_before c.plan (Mode m Started) c.machine;
       room = c.room;
     })
 
@@ -88,19 +89,21 @@ freed-modes owner (coil ∷ coils) s = freed-modes owner coils (release_coil own
 pub freed-still : (plan : PlanView) (owner : Owner) (s : Machine) → running_of (release_coils plan owner s).modes ≡ running_of s.modes
 freed-still plan owner s = ap (λ (states : List ModeState). running_of states) (freed-modes owner (coil_numbers plan) s)
 
-pub ended-follows : (plan : PlanView) (kept : Bool) (c stopped freed ended_core : CoreView) (m : ModeId) → c.handlers.running ≡ running_of c.machine.modes
-    → stopped ≡ after (call_devices plan calls.ModeStop m) c
-    → freed ≡ after (release_coils plan (owners.Mode m)) stopped
-    → ended_core ≡ record freed { machine = set_mode m (ended (mode_state freed.machine.modes m)) freed.machine; handlers = set_running freed.handlers m false }
-    → after (post owners.Machine (mode_event plan m Stopped)) ended_core ≡ follow (do_after plan kept (Mode m Stopping)) c
-ended-follows plan kept c stopped freed ended_core m is was free last =
-    let calls_done = call_devices plan calls.ModeStop m c.machine in
-    let free_now = release_coils plan (owners.Mode m) calls_done in
-    let running = is ∙ sym (freed-still plan (owners.Mode m) calls_done ∙ calls-still plan calls.ModeStop m c.machine) in
-    ap (after (post owners.Machine (mode_event plan m Stopped))) last
-    ∙ ap (λ (v : CoreView). after (post owners.Machine (mode_event plan m Stopped)) (record v { machine = set_mode m (ended (mode_state v.machine.modes m)) v.machine; handlers = set_running v.handlers m false })) (free ∙ ap (after (release_coils plan (owners.Mode m))) was)
+pub ended-follows : (kept : Bool) (c stopped freed ended_core : CoreView) (m : ModeId) → HasHandlers c
+    → stopped ≡ after (call_devices c.plan calls.ModeStop m) c
+    → freed ≡ after (release_coils stopped.plan (owners.Mode m)) stopped
+    → ended_core ≡ record freed { machine = set_mode m (ended (mode_state freed.machine.modes m)) freed.machine; running = set freed.running m.0 false }
+    → after (post owners.Machine (mode_event c.plan m Stopped)) ended_core ≡ follow (do_after c.plan kept (Mode m Stopping)) c
+ended-follows kept c stopped freed ended_core m is was free last =
+    let calls_done = call_devices c.plan calls.ModeStop m c.machine in
+    let free_now = release_coils c.plan (owners.Mode m) calls_done in
+    let running = is ∙ sym (freed-still c.plan (owners.Mode m) calls_done ∙ calls-still c.plan calls.ModeStop m c.machine) in
+    ap (after (post owners.Machine (mode_event c.plan m Stopped))) last
+    ∙ ap (λ (v : CoreView). after (post owners.Machine (mode_event c.plan m Stopped)) (record v { machine = set_mode m (ended (mode_state v.machine.modes m)) v.machine; running = set v.running m.0 false }))
+    (free ∙ ap (λ (v : CoreView). after (release_coils v.plan (owners.Mode m)) v) was)
     ∙ (λ i. record {
-      handlers = record { plan = c.handlers.plan; running = ended-runs free_now.modes m c.handlers.running running i };
-      machine = post owners.Machine (mode_event plan m Stopped) (set_mode m (ended (mode_state free_now.modes m)) free_now);
+      plan = c.plan;
+      running = ended-runs free_now.modes m c.running running i;
+      machine = post owners.Machine (mode_event c.plan m Stopped) (set_mode m (ended (mode_state free_now.modes m)) free_now);
       room = c.room;
     })

@@ -32,7 +32,7 @@ use Rattle.written_machine.specs.Moves.{Turned, Does, moved}
 use Rattle.written_machine.proofs.Does.{has_devices-does}
 use Rattle.written_machine.proofs.Growth.{post-grows, asked-grows, told-grows}
 use Rattle.written_machine.proofs.Held.{asked-count}
-use Rattle.machine_core.specs.Core.{CoreView, CanCall}
+use Rattle.machine_core.specs.Core.{CoreView, CanCall, after}
 
 -- The second machine has as many lines and waiting events at least. Its modes and its moment are the same, and its
 -- devices can be called and its coils asked as before.
@@ -43,6 +43,13 @@ pub record Goes (plan : PlanView) (s t : Machine) : Type 0 where
   pub moment : t.moment ≡ s.moment
   pub coils : length t.coils ≡ length s.coils
   pub devices : HasDevices plan s.devices → HasDevices plan t.devices
+
+-- devices can be called as before
+pub goes-can : (old : CoreView) (does : Machine → Machine) → Goes old.plan old.machine (does old.machine) → CanCall old → CanCall (after does old)
+goes-can old does g h =
+    let early = h.early in
+    let moment = g.moment in
+    record { devices = g.devices h.devices; coils = g.coils ∙ h.coils; early = omega arith }
 
 module _ (plan : PlanView) where
   pub goes-none : (s : Machine) → Goes plan s s
@@ -62,13 +69,6 @@ module _ (plan : PlanView) where
         coils = h.coils ∙ g.coils;
         devices = λ was. h.devices (g.devices was);
       }
-
-  -- devices can be called as before
-  pub goes-can : (old new : CoreView) → Goes plan old.machine new.machine → CanCall plan old → CanCall plan new
-  goes-can old new g h =
-      let early = h.early in
-      let moment = g.moment in
-      record { devices = g.devices h.devices; coils = g.coils ∙ h.coils; early = omega arith }
 
   -- ---- one change each
 

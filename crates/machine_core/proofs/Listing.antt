@@ -25,9 +25,9 @@ pub grown : (plan : PlanView) (s t : Machine) → Goes plan s t → Grows s t
 grown plan s t g = (g.lines, g.waiting)
 
 module _ (plan : PlanView) where
-  -- of these rows the devices of a mode are called
-  abbrev pub call_rows : Call → ModeId → List RowId → Machine → Machine
-  call_rows call m rs s = all_do (call_device plan call) (filter (λ r. is_owner (owners.Mode m) (row_at plan r).owner) rs) s
+  -- the rows of a mode, from a number on
+  abbrev pub rows_from : ModeId → ℕ → List RowId
+  rows_from m i = filter (λ r. is_owner (owners.Mode m) (row_at plan r).owner) (drop i (row_numbers plan))
 
   -- ---- rows, one after another
 
@@ -59,5 +59,6 @@ module _ (plan : PlanView) where
       let (i, within, is) = answers_are_outcomes settings call s.moment (world_of s) (device_at s r) (has.shapes r there) may in
       subst (All (λ k. k < list_count settings)) is (All-get_or (All (λ k. k < list_count settings)) (outcomes settings call) i answer within (outcomes_of_row settings call))
 
-  pub call-calls : (call : Call) (r : RowId) (now next : CoreView) → next ≡ after (call_device plan call r) now → CanCall plan now → CanCall plan next
-  call-calls call r now next is h = subst (CanCall plan) (sym is) (goes-can plan now (after (call_device plan call r) now) (goes-call plan call r now.machine) h)
+-- after a call they can be called as before
+pub call-calls : (call : Call) (r : RowId) (now next : CoreView) → next ≡ after (call_device now.plan call r) now → CanCall now → CanCall next
+call-calls call r now next is h = subst CanCall (sym is) (goes-can now (call_device now.plan call r) (goes-call now.plan call r now.machine) h)

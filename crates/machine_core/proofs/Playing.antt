@@ -2,6 +2,7 @@
 use Rattle.std.proofs.Common.{◌≡◌, ℕ, suc, ◌+◌, ◌-◌, ◌<◌, ◌≤◌, Bool, true, false, List, [], ◌∷◌, length, ap, sym, ◌∙◌, subst, arith}
 use Rattle.std.specs.List.{range_with_len}
 use Rattle.plan_tables.specs.PlanView.{PlanView}
+use Rattle.plan_tables.specs.Valid.{HasGame}
 use Rattle.plan_tables.specs.declared.entries.GameEvent.{GameEvent}
 use Rattle.plan_tables.specs.declared.entries.Owner.TheVariants as owners
 use Rattle.mode_stack.specs.declared.phase.ModeState.{ModeState}
@@ -52,72 +53,58 @@ finals-end place count past =
 
 -- ---- the game goes on, scores are told, a ball is asked for, and events are posted
 
-module _ (plan : PlanView) (which : GameEvent) (old next : CoreView) (plan_is : old.handlers.plan ≡ plan) (next_is : next ≡ after (played old.handlers.plan which) old)
-    (work : GameWork) (work_is : IsWorkOfGame old.handlers.plan which old.machine work) where
+module _ (which : GameEvent) (old next : CoreView) (next_is : next ≡ after (played old.plan which) old) (work : GameWork) (work_is : IsWorkOfGame old.plan which old.machine work) where
   abbrev step : GameStep
-  step = step_at plan which old.machine
+  step = step_at old.plan which old.machine
 
   abbrev gone : Machine
-  gone = played plan which old.machine
+  gone = played old.plan which old.machine
 
   abbrev scored : Machine
-  scored = write_finals plan step.finals gone
+  scored = write_finals old.plan step.finals gone
 
   abbrev asked_machine : Machine
-  asked_machine = ask_ball plan step.requests scored
+  asked_machine = ask_ball old.plan step.requests scored
 
-  next-is : next ≡ after (played plan which) old
-  next-is = next_is ∙ ap (λ (p : PlanView). after (played p which) old) plan_is
+  asked-fits : HasRoom old.room (do_game old.plan which old.machine) → HasRoom old.room asked_machine
+  asked-fits room =
+      let done = do_game old.plan which old.machine in
+      room-before old.room asked_machine done (grown old.plan asked_machine done (goes-events old.plan step.posts asked_machine)) room
 
-  finals-are : work.finals ≡ step.finals
-  finals-are = work_is.finals ∙ ap (λ (p : PlanView). (step_at p which old.machine).finals) plan_is
-
-  requests-are : work.requests ≡ step.requests
-  requests-are = work_is.requests ∙ ap (λ (p : PlanView). (step_at p which old.machine).requests) plan_is
-
-  posts-are : work.posts.items ≡ step.posts
-  posts-are = work_is.posts ∙ ap (λ (p : PlanView). (step_at p which old.machine).posts) plan_is
-
-  next-plan : next.handlers.plan ≡ plan
-  next-plan = ap (λ (v : CoreView). v.handlers.plan) next-is ∙ plan_is
-
-  asked-fits : HasRoom old.room (do_game plan which old.machine) → HasRoom old.room asked_machine
-  asked-fits room = room-before old.room asked_machine (do_game plan which old.machine) (grown plan asked_machine (do_game plan which old.machine) (goes-events plan step.posts asked_machine)) room
-
-  pub scores-room : HasRoom old.room (do_game plan which old.machine) → HasRoom next.room (write_finals next.handlers.plan work.finals next.machine)
+  pub scores-room : HasRoom old.room (do_game old.plan which old.machine) → HasRoom next.room (write_finals next.plan work.finals next.machine)
   scores-room room =
-      let here : HasRoom old.room scored = room-before old.room scored asked_machine (grown plan scored asked_machine (goes-ask plan step.requests scored)) (asked-fits room) in
-      subst (λ (p : PlanView). HasRoom next.room (write_finals p work.finals next.machine)) (sym next-plan)
-      (subst (λ (v : CoreView). HasRoom v.room (write_finals plan work.finals v.machine)) (sym next-is)
-      (subst (λ (b : Bool). HasRoom old.room (write_finals plan b gone)) (sym finals-are) here))
+      let here : HasRoom old.room scored = room-before old.room scored asked_machine (grown old.plan scored asked_machine (goes-ask old.plan step.requests scored)) (asked-fits room) in
+      subst (λ (v : CoreView). HasRoom v.room (write_finals v.plan work.finals v.machine)) (sym next_is)
+      (subst (λ (b : Bool). HasRoom old.room (write_finals old.plan b gone)) (sym work_is.finals) here)
 
   -- once scores are told
-  module _ (told : CoreView) (told_is : told ≡ after (write_finals next.handlers.plan work.finals) next) where
+  module _ (told : CoreView) (told_is : told ≡ after (write_finals next.plan work.finals) next) where
     told-is : told ≡ after (λ s. scored) old
-    told-is = told_is ∙ (λ i. after (write_finals (next-plan i) (finals-are i)) (next-is i))
+    told-is = told_is ∙ (λ i. after (write_finals (next_is i).plan (work_is.finals i)) (next_is i))
 
-    pub told-plan : told.handlers.plan ≡ plan
-    told-plan = ap (λ (v : CoreView). v.handlers.plan) told-is ∙ plan_is
-
-    pub told-calls : CanCall plan old → CanCall plan told
+    pub told-calls : CanCall old → CanCall told
     told-calls h =
-        subst (CanCall plan) (sym told-is)
-        (goes-can plan (after (played plan which) old) (after (λ s. scored) old) (goes-finals plan step.finals gone) (record { devices = h.devices; coils = h.coils; early = h.early }))
+        subst CanCall (sym told-is)
+        (goes-can (after (played old.plan which) old) (λ s. scored) (goes-finals old.plan step.finals gone) (record { devices = h.devices; coils = h.coils; early = h.early }))
 
-    pub ask-room : HasRoom old.room (do_game plan which old.machine) → HasRoom told.room (ask_ball plan work.requests told.machine)
+    pub ask-room : HasRoom old.room (do_game old.plan which old.machine) → HasRoom told.room (ask_ball told.plan work.requests told.machine)
     ask-room room =
-        subst (λ (v : CoreView). HasRoom v.room (ask_ball plan work.requests v.machine)) (sym told-is)
-        (subst (λ (b : Bool). HasRoom old.room (ask_ball plan b scored)) (sym requests-are) (asked-fits room))
+        subst (λ (v : CoreView). HasRoom v.room (ask_ball v.plan work.requests v.machine)) (sym told-is)
+        (subst (λ (b : Bool). HasRoom old.room (ask_ball old.plan b scored)) (sym work_is.requests) (asked-fits room))
 
     -- and a ball is asked for
-    module _ (asked : CoreView) (asked_is : asked ≡ after (ask_ball plan work.requests) told) (posts : List GameEvent) (posts_is : posts ≡ work.posts.items) where
+    module _ (asked : CoreView) (asked_is : asked ≡ after (ask_ball told.plan work.requests) told) where
       asked-is : asked ≡ after (λ s. asked_machine) old
-      asked-is = asked_is ∙ (λ i. after (ask_ball plan (requests-are i)) (told-is i))
+      asked-is = asked_is ∙ (λ i. after (ask_ball (told-is i).plan (work_is.requests i)) (told-is i))
 
-      pub events-room : HasRoom old.room (do_game plan which old.machine) → HasRoom asked.room (all_do (post_game plan) posts asked.machine)
-      events-room room =
-          subst (λ (v : CoreView). HasRoom v.room (all_do (post_game plan) posts v.machine)) (sym asked-is)
-          (subst (λ (es : List GameEvent). HasRoom old.room (all_do (post_game plan) es asked_machine)) (sym (posts_is ∙ posts-are)) room)
+      pub asked-game : HasGame old.plan → HasGame asked.plan
+      asked-game game = subst (λ (v : CoreView). HasGame v.plan) (sym asked-is) game
 
-      pub game-done : (last : CoreView) → last ≡ after (all_do (post_game plan) posts) asked → last ≡ after (do_game plan which) old
-      game-done last last_is = last_is ∙ (λ i. after (all_do (post_game plan) ((posts_is ∙ posts-are) i)) (asked-is i))
+      module _ (posts : List GameEvent) (posts_is : posts ≡ work.posts.items) where
+        pub events-room : HasRoom old.room (do_game old.plan which old.machine) → HasRoom asked.room (all_do (post_game asked.plan) posts asked.machine)
+        events-room room =
+            subst (λ (v : CoreView). HasRoom v.room (all_do (post_game v.plan) posts v.machine)) (sym asked-is)
+            (subst (λ (es : List GameEvent). HasRoom old.room (all_do (post_game old.plan) es asked_machine)) (sym (posts_is ∙ work_is.posts)) room)
+
+        pub game-done : (last : CoreView) → last ≡ after (all_do (post_game asked.plan) posts) asked → last ≡ after (do_game old.plan which) old
+        game-done last last_is = last_is ∙ (λ i. after (all_do (post_game (asked-is i).plan) ((posts_is ∙ work_is.posts) i)) (asked-is i))

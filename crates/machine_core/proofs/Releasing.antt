@@ -250,7 +250,7 @@ stopped-room plan kept m work room s is h =
     record { waiting = omega (arith, grown.1, waiting, more); lines = omega (arith, grown.0, lines) }
 
 -- and there are all coils after it
-pub stopped-coils : (plan : PlanView) (m : ModeId) (old stopped : CoreView) → stopped ≡ after (call_devices plan calls.ModeStop m) old → CanCall plan old → length stopped.machine.coils ≡ length plan.coils
-stopped-coils plan m old stopped is h =
-    let can = can-does plan old (after (call_devices plan calls.ModeStop m) old) (does-calls plan (λ owner. Unit {0}) tt calls.ModeStop m tt old.machine) h in
-    ap (λ (v : CoreView). length v.machine.coils) is ∙ can.coils
+pub stopped-coils : (m : ModeId) (old stopped : CoreView) → stopped ≡ after (call_devices old.plan calls.ModeStop m) old → CanCall old → length stopped.machine.coils ≡ length stopped.plan.coils
+stopped-coils m old stopped is h =
+    let can = can-does old old.running (call_devices old.plan calls.ModeStop m old.machine) (does-calls old.plan (λ owner. Unit {0}) tt calls.ModeStop m tt old.machine) h in
+    subst (λ (v : CoreView). length v.machine.coils ≡ length v.plan.coils) (sym is) can.coils

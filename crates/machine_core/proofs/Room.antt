@@ -29,17 +29,20 @@ room-before room s t g h =
     record { waiting = omega arith; lines = omega arith }
 
 -- where all that is left to do leaves room, its first does
-pub room-first : {X : Type 0} (f : X → Machine → Machine) → ((x : X) (s : Machine) → Grows s (f x s)) → (now all : CoreView) (x : X) (xs left : List X) → left ≡ x ∷ xs → after (all_do f left) now ≡ all → HasRoom all.room all.machine → HasRoom now.room (f x now.machine)
+pub room-first : {X : Type 0} (f : PlanView → X → Machine → Machine) → ((plan : PlanView) (x : X) (s : Machine) → Grows s (f plan x s)) → (now all : CoreView) (x : X) (xs left : List X) → left ≡ x ∷ xs
+    → after (all_do (f now.plan) left) now ≡ all → HasRoom all.room all.machine → HasRoom now.room (f now.plan x now.machine)
 room-first f each now all x xs left e is h =
-    let whole : after (all_do f (x ∷ xs)) now ≡ all = subst (λ (ys : List _). after (all_do f ys) now ≡ all) e is in
-    let here : HasRoom now.room (all_do f xs (f x now.machine)) = subst (λ (v : CoreView). HasRoom v.room v.machine) (sym whole) h in
-    room-before now.room (f x now.machine) (all_do f xs (f x now.machine)) (all_do-grows f each xs (f x now.machine)) here
+    let whole : after (all_do (f now.plan) (x ∷ xs)) now ≡ all = subst (λ (ys : List _). after (all_do (f now.plan) ys) now ≡ all) e is in
+    let next = f now.plan x now.machine in
+    let here : HasRoom now.room (all_do (f now.plan) xs next) = subst (λ (v : CoreView). HasRoom v.room v.machine) (sym whole) h in
+    room-before now.room next (all_do (f now.plan) xs next) (all_do-grows (f now.plan) (each now.plan) xs next) here
 
 -- where all that is left to do comes to a state, so does the rest after the first
-pub all_do-first : {X : Type 0} (f : X → Machine → Machine) (now next all : CoreView) (x : X) (xs left : List X) → left ≡ x ∷ xs → after (all_do f left) now ≡ all → next ≡ after (f x) now → after (all_do f xs) next ≡ all
+pub all_do-first : {X : Type 0} (f : PlanView → X → Machine → Machine) (now next all : CoreView) (x : X) (xs left : List X) → left ≡ x ∷ xs
+    → after (all_do (f now.plan) left) now ≡ all → next ≡ after (f now.plan x) now → after (all_do (f next.plan) xs) next ≡ all
 all_do-first f now next all x xs left e is n =
-    let whole : after (all_do f (x ∷ xs)) now ≡ all = subst (λ (ys : List _). after (all_do f ys) now ≡ all) e is in
-    subst (λ (v : CoreView). after (all_do f xs) v ≡ all) (sym n) whole
+    let whole : after (all_do (f now.plan) (x ∷ xs)) now ≡ all = subst (λ (ys : List _). after (all_do (f now.plan) ys) now ≡ all) e is in
+    subst (λ (v : CoreView). after (all_do (f v.plan) xs) v ≡ all) (sym n) whole
 
 -- what is at a place is the first of what is left there
 pub drop-found : {X : Type 0} (xs : List X) (k : ℕ) (x : X) → slice_get xs k ≡ Some x → drop k xs ≡ x ∷ drop (k + 1) xs
@@ -48,13 +51,6 @@ drop-found (y ∷ ys) zero x h = let same : y ≡ x = cc in ap (λ z. z ∷ ys) 
 drop-found (y ∷ ys) (suc k) x h =
     let e : suc k + 1 ≡ suc (k + 1) = omega arith in
     rw e (drop-found ys k x h)
-
--- and where there is nothing, nothing is left
-pub drop-not_found : {X : Type 0} (xs : List X) (k : ℕ) → slice_get xs k ≡ None → drop k xs ≡ []
-drop-not_found [] zero h = refl
-drop-not_found [] (suc k) h = refl
-drop-not_found (y ∷ ys) zero h = cc
-drop-not_found (y ∷ ys) (suc k) h = drop-not_found ys k h
 
 -- what was taken from the queue was taken from the machine
 pub taken-is : (result : Option Posted) (old new : QueueView) (c d : CoreView) → IsTaken result old new → c.machine.waiting ≡ old.waiting → c.room ≡ old.size → d ≡ record c { machine = record c.machine { waiting = new.waiting }; room = new.size } → TakesFirst result c d
@@ -69,7 +65,7 @@ taken-is (Some first) old new c d (first_is, same) waits room is =
 -- where all that is left to post leaves room, its first has it
 pub post-room : (owner : Owner) (now all : CoreView) (e : EventId) (es left : List EventId) → left ≡ e ∷ es → after (all_do (post owner) left) now ≡ all → HasRoom all.room all.machine → length now.machine.waiting < now.room
 post-room owner now all e es left is whole h =
-    let room = room-first (post owner) (post-grows owner) now all e es left is whole h in
+    let room = room-first (λ plan. post owner) (λ plan. post-grows owner) now all e es left is whole h in
     let fits = room.waiting in
     omega (arith, fits, length-append now.machine.waiting (record { event = e; owner = owner } ∷ []))
 
@@ -78,22 +74,22 @@ pub final-grows : (plan : PlanView) (player : ℕ) (s : Machine) → Grows s (wr
 final-grows plan player s =
     (omega (arith, length-append s.lines (record { moment = s.moment; owner = owners.Machine; happening = lines.Final player (score_of plan s.players player) } ∷ [])), omega arith)
 
-pub final-room : (plan : PlanView) (now all : CoreView) (player : ℕ) (players left : List ℕ) → left ≡ player ∷ players → after (all_do (write_final plan) left) now ≡ all → HasRoom all.room all.machine → length now.machine.lines < now.room
-final-room plan now all player players left is whole h =
-    let room = room-first (write_final plan) (final-grows plan) now all player players left is whole h in
+pub final-room : (now all : CoreView) (player : ℕ) (players left : List ℕ) → left ≡ player ∷ players → after (all_do (write_final now.plan) left) now ≡ all → HasRoom all.room all.machine → length now.machine.lines < now.room
+final-room now all player players left is whole h =
+    let room = room-first write_final final-grows now all player players left is whole h in
     let fits = room.lines in
     let s = now.machine in
-    omega (arith, fits, length-append s.lines (record { moment = s.moment; owner = owners.Machine; happening = lines.Final player (score_of plan s.players player) } ∷ []))
+    omega (arith, fits, length-append s.lines (record { moment = s.moment; owner = owners.Machine; happening = lines.Final player (score_of now.plan s.players player) } ∷ []))
 
 -- and an event of the game that is posted waits
 pub game-grows : (plan : PlanView) (e : GameEvent) (s : Machine) → Grows s (post_game plan e s)
 game-grows plan e s = post-grows owners.Machine (game_event plan e) s
 
-pub game-room : (plan : PlanView) (now all : CoreView) (e : GameEvent) (es left : List GameEvent) → left ≡ e ∷ es → after (all_do (post_game plan) left) now ≡ all → HasRoom all.room all.machine → length now.machine.waiting < now.room
-game-room plan now all e es left is whole h =
-    let room = room-first (post_game plan) (game-grows plan) now all e es left is whole h in
+pub game-room : (now all : CoreView) (e : GameEvent) (es left : List GameEvent) → left ≡ e ∷ es → after (all_do (post_game now.plan) left) now ≡ all → HasRoom all.room all.machine → length now.machine.waiting < now.room
+game-room now all e es left is whole h =
+    let room = room-first post_game game-grows now all e es left is whole h in
     let fits = room.waiting in
-    omega (arith, fits, length-append now.machine.waiting (record { event = game_event plan e; owner = owners.Machine } ∷ []))
+    omega (arith, fits, length-append now.machine.waiting (record { event = game_event now.plan e; owner = owners.Machine } ∷ []))
 
 -- where a change of a variable that is told leaves room, there is room for its line and its event
 told-fits : (owner : Owner) (player : ℕ) (v : VariableId) (e : EventId) (value : ℤ) (room : ℕ) (s : Machine) → HasRoom room (tell_change owner player v e (Some value) s) → (length s.lines < room) × (length s.waiting < room)
@@ -111,10 +107,10 @@ changed-fits plan owner v action n e value room s is h =
     (subst (λ (o : Option ℤ). HasRoom room (tell_change owner s.players.current v e o (set_players (players_after_change plan v o s.players) s))) (sym is) h)
 
 -- so it is for the players that a core holds
-pub changed-room : (seen now : CoreView) → seen ≡ now → (held : PlanView) → held ≡ seen.handlers.plan → (owner : Owner) (v : VariableId) (action : VariableAction) (n : ℤ) (e : EventId) (value : ℤ)
-    → Some value ≡ changed_to held v action n seen.machine.players → HasRoom now.room (change_variable now.handlers.plan owner v action n e now.machine)
+pub changed-room : (seen now : CoreView) → seen ≡ now → (held : PlanView) → held ≡ seen.plan → (owner : Owner) (v : VariableId) (action : VariableAction) (n : ℤ) (e : EventId) (value : ℤ)
+    → Some value ≡ changed_to held v action n seen.machine.players → HasRoom now.room (change_variable now.plan owner v action n e now.machine)
     → (length seen.machine.lines < seen.room) × (length seen.machine.waiting < seen.room)
 changed-room seen now same held held_is owner v action n e value is room =
-    changed-fits seen.handlers.plan owner v action n e value seen.room seen.machine
+    changed-fits seen.plan owner v action n e value seen.room seen.machine
     (is ∙ ap (λ (p : PlanView). changed_to p v action n seen.machine.players) held_is)
-    (subst (λ (c : CoreView). HasRoom c.room (change_variable c.handlers.plan owner v action n e c.machine)) (sym same) room)
+    (subst (λ (c : CoreView). HasRoom c.room (change_variable c.plan owner v action n e c.machine)) (sym same) room)

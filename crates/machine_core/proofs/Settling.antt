@@ -13,7 +13,7 @@ use Rattle.written_machine.specs.EventStep.{taken, is_kept, do_after, before_han
 use Rattle.written_machine.specs.PlanOrder.{plan_step_from, plan_step, plan_steps}
 use Rattle.written_machine.proofs.Growth.{event-grows}
 use Rattle.written_machine.proofs.PlanSteps.{plan_steps-more}
-use Rattle.machine_core.specs.Core.{CoreView, CanCall, HandlesFor, HasRoom, StaysWithin, after, follow, after_taken}
+use Rattle.machine_core.specs.Core.{CoreView, CanCall, HasHandlers, HasRoom, StaysWithin, after, follow, after_taken}
 
 -- whether a stop was kept is the same before and after the event is taken
 kept-same : (w : Work) (first : Posted) (rest : List Posted) (s : Machine) → is_kept w (taken first rest s) ≡ is_kept w s
@@ -32,22 +32,25 @@ taken-step plan first rest s =
     ap (λ kept. do_after plan kept (work_of plan first.event) (all_do (do_handler plan) (by_priority plan (handlers_in plan ready first.event)) ready)) (kept-same (work_of plan first.event) first rest s)
 
 -- a core that went on so has the handlers of the modes that run
-pub follows-handles : (plan : PlanView) (does : Machine → Machine) (start now : CoreView) → HandlesFor plan start → now ≡ follow does start → HandlesFor plan now
-follows-handles plan does start now was is = subst (HandlesFor plan) (sym is) (λ i. record { plan = (was i).plan; running = running_of (does start.machine).modes })
+pub follows-handles : (does : Machine → Machine) (start now : CoreView) → now ≡ follow does start → HasHandlers now
+follows-handles does start now is = subst HasHandlers (sym is) refl
 
 -- after no step it is the same core
-pub follow-none : (plan : PlanView) (c : CoreView) → HandlesFor plan c → c ≡ follow (plan_steps plan 0) c
-follow-none plan c was = λ i. record { handlers = record { plan = c.handlers.plan; running = (ap (λ h. h.running) was) i }; machine = c.machine; room = c.room }
+pub follow-none : (c : CoreView) → HasHandlers c → c ≡ follow (plan_steps c.plan 0) c
+follow-none c was = λ i. record { plan = c.plan; running = was i; machine = c.machine; room = c.room }
 
 -- where an event is taken and its line written, devices can still be called
-pub written-calls : (plan : PlanView) (now took written : CoreView) (first : Posted) (rest : List Posted) → took ≡ after (λ s. record s { waiting = rest }) now → written ≡ after (write first.owner (happenings.Event first.event)) took
-    → CanCall plan now → CanCall plan written
-written-calls plan now took written first rest took_is written_is h =
-    subst (CanCall plan) (sym (written_is ∙ ap (after (write first.owner (happenings.Event first.event))) took_is)) (record { devices = h.devices; coils = h.coils; early = h.early })
+pub written-calls : (now took written : CoreView) (first : Posted) (rest : List Posted) → took ≡ after (λ s. record s { waiting = rest }) now → written ≡ after (write first.owner (happenings.Event first.event)) took
+    → CanCall now → CanCall written
+written-calls now took written first rest took_is written_is h =
+    subst CanCall (sym (written_is ∙ ap (after (write first.owner (happenings.Event first.event))) took_is)) (record { devices = h.devices; coils = h.coils; early = h.early })
 
 -- After so many event steps of a core that has room for all of them, an event waits.
-module _ (plan : PlanView) (start now : CoreView) (was : HandlesFor plan start) (stays : StaysWithin plan start.room start.machine)
-    (count : ℕ) (is : now ≡ follow (plan_steps plan count) start) (first : Posted) (rest : List Posted) (waits : now.machine.waiting ≡ first ∷ rest) where
+module _ (start now : CoreView) (stays : StaysWithin start)
+    (count : ℕ) (is : now ≡ follow (plan_steps start.plan count) start) (first : Posted) (rest : List Posted) (waits : now.machine.waiting ≡ first ∷ rest) where
+  abbrev plan : PlanView
+  plan = start.plan
+
   -- it is taken and handled
   abbrev pub handled : Machine
   handled = after_taken plan first.event (taken first rest now.machine)
@@ -81,22 +84,27 @@ module _ (plan : PlanView) (start now : CoreView) (was : HandlesFor plan start) 
     written-is : written ≡ after (taken first rest) now
     written-is = written_is ∙ ap (after (write first.owner (happenings.Event first.event))) took_is
 
-    pub written-handles : HandlesFor plan written
-    written-handles = subst (HandlesFor plan) (sym written-is) (follows-handles plan (plan_steps plan count) start now was is)
+    pub written-handles : HasHandlers written
+    written-handles = subst HasHandlers (sym written-is) (follows-handles (plan_steps plan count) start now is)
 
-    pub written-room : HasRoom written.room (after_taken plan first.event written.machine)
-    written-room = subst (λ (c : CoreView). HasRoom c.room (after_taken plan first.event c.machine)) (sym written-is) handled-room
+    plan-stays : written.plan ≡ plan
+    plan-stays = ap (λ (c : CoreView). c.plan) written-is ∙ ap (λ (c : CoreView). c.plan) is
+
+    pub written-room : HasRoom written.room (after_taken written.plan first.event written.machine)
+    written-room =
+        subst (λ (p : PlanView). HasRoom written.room (after_taken p first.event written.machine)) (sym plan-stays)
+        (subst (λ (c : CoreView). HasRoom c.room (after_taken plan first.event c.machine)) (sym written-is) handled-room)
 
     -- what is done then is one step more, and one line more at least
-    module _ (next : CoreView) (next_is : next ≡ follow (after_taken plan first.event) written) where
-      next-handled : next ≡ record { handlers = record { plan = now.handlers.plan; running = running_of handled.modes }; machine = handled; room = now.room }
-      next-handled = next_is ∙ ap (follow (after_taken plan first.event)) written-is
+    module _ (next : CoreView) (next_is : next ≡ follow (after_taken written.plan first.event) written) where
+      next-handled : next ≡ record { plan = now.plan; running = running_of handled.modes; machine = handled; room = now.room }
+      next-handled = next_is ∙ ap (λ (p : PlanView). follow (after_taken p first.event) written) plan-stays ∙ ap (follow (after_taken plan first.event)) written-is
 
       pub next-steps : next ≡ follow (plan_steps plan (count + 1)) start
       next-steps =
           next-handled
-          ∙ (λ i. record { handlers = record { plan = (is i).handlers.plan; running = running_of handled.modes }; machine = handled; room = (is i).room })
-          ∙ (λ i. record { handlers = record { plan = start.handlers.plan; running = running_of (sym steps-are i).modes }; machine = sym steps-are i; room = start.room })
+          ∙ (λ i. record { plan = (is i).plan; running = running_of handled.modes; machine = handled; room = (is i).room })
+          ∙ (λ i. record { plan = start.plan; running = running_of (sym steps-are i).modes; machine = sym steps-are i; room = start.room })
 
       pub next-smaller : next.room - length next.machine.lines < now.room - length now.machine.lines
       next-smaller =

@@ -1,5 +1,5 @@
 -- The state of a machine with its room, and what is done with it.
-use Rattle.std.specs.Prelude.{◌≡◌, ℕ, ◌<◌, ◌≤◌, ◌^◌, Option, Some, None, List, [], ◌∷◌, length}
+use Rattle.std.specs.Prelude.{◌≡◌, ℕ, ◌<◌, ◌≤◌, ◌^◌, Bool, Option, Some, None, List, [], ◌∷◌, length}
 use Rattle.plan_tables.specs.PlanView.{PlanView}
 use Rattle.plan_tables.specs.declared.entries.Work.{Work}
 use Rattle.plan_tables.specs.declared.entries.Work.TheVariants.{Nothing, Mode, Game}
@@ -9,7 +9,6 @@ use Rattle.player_game.specs.declared.game.GameWork.{GameWork}
 use Rattle.player_game.specs.GameStep.{GameStep, game_step}
 use Rattle.switch_core.specs.Switches.{IsComplete}
 use Rattle.event_queue.specs.declared.queue.Posted.{Posted}
-use Rattle.event_queue.specs.Handlers.{HandlersView}
 use Rattle.mode_stack.specs.Modes.{running_of}
 use Rattle.plan_tables.specs.declared.entries.EventId.{EventId}
 use Rattle.event_queue.specs.PlanOrder.{by_priority}
@@ -21,8 +20,9 @@ use Rattle.written_machine.specs.NextAlarm.{next_alarm}
 use Rattle.written_machine.specs.PlanOrder.{plan_steps}
 
 pub record CoreView : Type 0 where
-  -- what handles events
-  pub handlers : HandlersView
+  pub plan : PlanView
+  -- for each mode of the plan, by number, whether its bindings are handlers
+  pub running : List Bool
   pub machine : Machine
   -- how many events may wait, and how many lines may be written
   pub room : ℕ
@@ -34,21 +34,22 @@ after does c = record c { machine = does c.machine }
 -- the same, where which modes run may have changed: its handlers are those of the modes that run now
 abbrev pub follow : (Machine → Machine) → CoreView → CoreView
 follow does c = record {
-  handlers = record { plan = c.handlers.plan; running = running_of (does c.machine).modes };
+  plan = c.plan;
+  running = running_of (does c.machine).modes;
   machine = does c.machine;
   room = c.room;
 }
 
 -- devices can be called, and coils asked: each device has a state of its shape, there are all coils, and the moment is
 -- not too late
-pub record CanCall (plan : PlanView) (c : CoreView) : Type 0 where
-  pub devices : HasDevices plan c.machine.devices
-  pub coils : length c.machine.coils ≡ length plan.coils
+pub record CanCall (c : CoreView) : Type 0 where
+  pub devices : HasDevices c.plan c.machine.devices
+  pub coils : length c.machine.coils ≡ length c.plan.coils
   pub early : c.machine.moment < 2 ^ 40
 
 -- it has the handlers of the modes that run
-abbrev pub HandlesFor : PlanView → CoreView → Type 0
-HandlesFor plan c = c.handlers ≡ record { plan = plan; running = running_of c.machine.modes }
+abbrev pub HasHandlers : CoreView → Type 0
+HasHandlers c = c.running ≡ running_of c.machine.modes
 
 -- the work is none, that of a mode of the plan, or that of its game
 abbrev pub IsWorkOf : PlanView → Work → Type 0
@@ -75,13 +76,13 @@ pub record IsWorkOfGame (plan : PlanView) (which : GameEvent) (s : Machine) (wor
   pub requests : work.requests ≡ (step_at plan which s).requests
   pub finals : work.finals ≡ (step_at plan which s).finals
 
--- the machine of the plan is kept: it has its modes, devices and coils, the handlers of the modes that run, and all its switches
-pub record IsCoreOf (plan : PlanView) (c : CoreView) : Type 0 where
-  pub devices : HasDevices plan c.machine.devices
-  pub coils : length c.machine.coils ≡ length plan.coils
-  pub modes : length c.machine.modes ≡ length plan.modes
-  pub handlers : HandlesFor plan c
-  pub kinds : length c.machine.switches.kinds ≡ length plan.switches
+-- the machine is that of the core's plan: it has its modes, devices and coils, the handlers of the modes that run, and all its switches
+pub record IsWhole (c : CoreView) : Type 0 where
+  pub devices : HasDevices c.plan c.machine.devices
+  pub coils : length c.machine.coils ≡ length c.plan.coils
+  pub modes : length c.machine.modes ≡ length c.plan.modes
+  pub handlers : HasHandlers c
+  pub kinds : length c.machine.switches.kinds ≡ length c.plan.switches
   pub complete : IsComplete c.machine.switches
 
 -- the event that waits first is taken, where one waits
@@ -101,11 +102,11 @@ pub record HasRoom (room : ℕ) (s : Machine) : Type 0 where
   pub lines : length s.lines ≤ room
 
 -- after each number of event steps in plan order there is room
-abbrev pub StaysWithin : PlanView → ℕ → Machine → Type 0
-StaysWithin plan room s = (n : ℕ) → HasRoom room (plan_steps plan n s)
+abbrev pub StaysWithin : CoreView → Type 0
+StaysWithin c = (n : ℕ) → HasRoom c.room (plan_steps c.plan n c.machine)
 
 -- so many event steps in plan order that nothing waits any more
-pub record HasSettled (plan : PlanView) (old new : CoreView) : Type 0 where
+pub record HasSettled (old new : CoreView) : Type 0 where
   pub count : ℕ
-  pub new_is : new ≡ follow (plan_steps plan count) old
+  pub new_is : new ≡ follow (plan_steps old.plan count) old
   pub settles : new.machine.waiting ≡ []

@@ -3,4 +3,5 @@ pub mod Stimuli
 pub mod Core
 pub mod Stopping
 -- What the contracts of private functions cite.
+pub mod Held
 pub mod Balls

@@ -15,16 +15,14 @@ use plan_tables::{Action, BallTarget, EventId, GameEvent, Owner, Plan, RowId};
 
 /// An action. A ball that it lets into a device is not confirmed yet.
 pub(crate) fn run_alone<D: Device>(
-    plan: &Plan,
     core: &mut Core<'_, D>,
     owner: Owner,
     action: Action,
 )
-    requires action { IsActionWithin plan.now action }
-    requires plan { core.old.handlers.plan ≡ plan.now }
-    requires calls { CanCall plan.now core.old }
-    requires room { HasRoom core.old.room (do_action_by plan.now no_confirm owner action core.old.machine) }
-    ensures { core.new ≡ after (do_action_by plan.now no_confirm owner action) core.old }
+    requires action { IsActionWithin core.old.plan action }
+    requires calls { CanCall core.old }
+    requires room { HasRoom core.old.room (do_action_by core.old.plan no_confirm owner action core.old.machine) }
+    ensures { core.new ≡ after (do_action_by core.old.plan no_confirm owner action) core.old }
 {
     match action {
         Action::Post(event) => core.post(owner, event),
@@ -41,53 +39,56 @@ pub(crate) fn run_alone<D: Device>(
             device,
             event,
             drain,
-        } => enter(plan, core, owner, device, event, drain),
+        } => enter(core, owner, device, event, drain),
         Action::Leave { device } => {
-            core.book(owner, BallCall::Leave(device, target_of(plan, device)));
+            let target = target_of(core.plan(), device);
+            core.book(owner, BallCall::Leave(device, target));
         }
         Action::Lose { device } => core.book(owner, BallCall::Lose(device)),
-        Action::Arrive { device } => core.book(owner, BallCall::Arrive(target_of(plan, device))),
+        Action::Arrive { device } => {
+            let target = target_of(core.plan(), device);
+            core.book(owner, BallCall::Arrive(target));
+        }
     }
 }
 
 /// A ball enters a device: that is booked, and its event posted. Where the ball was not on its way
 /// there, it may have drained.
 fn enter<D: Device>(
-    plan: &Plan,
     core: &mut Core<'_, D>,
     owner: Owner,
     device: RowId,
     event: EventId,
     drain: bool,
 )
-    requires device { device.0 < length plan.now.rows }
-    requires game { drain ≡ true → HasGame plan.now }
-    requires plan { core.old.handlers.plan ≡ plan.now }
-    requires room { HasRoom core.old.room (enter_ball plan.now no_confirm owner device event drain core.old.machine) }
-    ensures { core.new ≡ after (enter_ball plan.now no_confirm owner device event drain) core.old }
+    requires device { device.0 < length core.old.plan.rows }
+    requires game { drain ≡ true → HasGame core.old.plan }
+    requires room { HasRoom core.old.room (enter_ball core.old.plan no_confirm owner device event drain core.old.machine) }
+    ensures { core.new ≡ after (enter_ball core.old.plan no_confirm owner device event drain) core.old }
 {
     let awaited = core.awaits(device);
     core.book(owner, BallCall::Enter(device));
     core.post(owner, event);
     if !awaited {
-        post_drain(plan, core, owner, drain);
+        post_drain(core, owner, drain);
     }
 }
 
 /// The event of a ball that drains is posted, where that is to be and a ball is on.
-fn post_drain<D: Device>(plan: &Plan, core: &mut Core<'_, D>, owner: Owner, drain: bool)
-    requires game { drain ≡ true → HasGame plan.now }
-    requires room { HasRoom core.old.room (drain_if plan.now owner drain core.old.machine) }
-    ensures { core.new ≡ after (drain_if plan.now owner drain) core.old }
+fn post_drain<D: Device>(core: &mut Core<'_, D>, owner: Owner, drain: bool)
+    requires game { drain ≡ true → HasGame core.old.plan }
+    requires room { HasRoom core.old.room (drain_if core.old.plan owner drain core.old.machine) }
+    ensures { core.new ≡ after (drain_if core.old.plan owner drain) core.old }
 {
     if drain && core.is_ball_on() {
-        core.post(owner, game_event(plan, GameEvent::BallDrain));
+        let event = game_event(core.plan(), GameEvent::BallDrain);
+        core.post(owner, event);
     }
 }
 
 /// The device into which the action lets a ball that is on its way there, if it does.
 pub(crate) fn awaited_entry<D: Device>(core: &Core<'_, D>, action: Action) -> Option<RowId>
-    requires { IsActionWithin core.now.handlers.plan action }
+    requires { IsActionWithin core.now.plan action }
     ensures { result ≡ awaited_entry action core.now.machine }
 {
     match action {

@@ -18,30 +18,30 @@ use plan_tables::{Act, Action, BallTarget, Owner, Plan, RowId};
 
 /// A ball has arrived at the target: the first device whose ball is on its way there is told, if
 /// there is one.
-pub(crate) fn confirm<D: Device>(plan: &Plan, core: &mut Core<'_, D>, target: BallTarget)
-    requires plan { core.old.handlers.plan ≡ plan.now }
-    requires calls { CanCall plan.now core.old }
-    requires room { HasRoom core.old.room (confirm_first_away plan.now target core.old.machine) }
-    ensures { core.new ≡ after (confirm_first_away plan.now target) core.old }
+pub(crate) fn confirm<D: Device>(core: &mut Core<'_, D>, target: BallTarget)
+    requires calls { CanCall core.old }
+    requires room { HasRoom core.old.room (confirm_first_away core.old.plan target core.old.machine) }
+    ensures { core.new ≡ after (confirm_first_away core.old.plan target) core.old }
 {
-    if let Some(row) = first_away(plan, core, target) {
-        tell_arrival(plan, core, row);
+    if let Some(row) = first_away(core, target) {
+        tell_arrival(core, row);
     }
 }
 
 /// The first device whose ball is on its way to the target. It waits for the ball until its timeout,
 /// and so it is due: where no device is, none is looked at.
-fn first_away<D: Device>(plan: &Plan, core: &Core<'_, D>, target: BallTarget) -> Option<RowId>
-    requires { HasDevices plan.now core.now.machine.devices }
-    ensures first { result ≡ first_away plan.now target core.now.machine }
-    ensures there { IfSome result (λ row. row.0 < length plan.now.rows) }
+fn first_away<D: Device>(core: &Core<'_, D>, target: BallTarget) -> Option<RowId>
+    requires { HasDevices core.now.plan core.now.machine.devices }
+    ensures first { result ≡ first_away core.now.plan target core.now.machine }
+    ensures there { IfSome result (λ row. row.0 < length core.now.plan.rows) }
 {
     if core.device_due().is_none() {
         return None;
     }
+    let plan = core.plan();
     for number in 0..plan.rows().len() {
         let row = RowId(number as u16);
-        if is_away_to(plan, core, row, target) {
+        if is_away_to(core, row, target) {
             return Some(row);
         }
     }
@@ -50,12 +50,12 @@ fn first_away<D: Device>(plan: &Plan, core: &Core<'_, D>, target: BallTarget) ->
 
 /// Whether the device's ball is on its way to the target. A state is large: only that of a device that
 /// is due is looked at.
-fn is_away_to<D: Device>(plan: &Plan, core: &Core<'_, D>, row: RowId, target: BallTarget) -> bool
-    requires row { row.0 < length plan.now.rows }
-    requires devices { HasDevices plan.now core.now.machine.devices }
-    ensures { result ≡ (feeds target (row_at plan.now row).settings && is_device_away (device_at core.now.machine row)) }
+fn is_away_to<D: Device>(core: &Core<'_, D>, row: RowId, target: BallTarget) -> bool
+    requires row { row.0 < length core.now.plan.rows }
+    requires devices { HasDevices core.now.plan core.now.machine.devices }
+    ensures { result ≡ (feeds target (row_at core.now.plan row).settings && is_device_away (device_at core.now.machine row)) }
 {
-    plan.row(row).settings.feeds(target) && core.is_due(row) && is_away(&core.state(row))
+    core.plan().row(row).settings.feeds(target) && core.is_due(row) && is_away(&core.state(row))
 }
 
 /// Whether the ball that a device has ejected is on its way.
@@ -72,46 +72,43 @@ fn is_away(state: &DeviceState) -> bool
 }
 
 /// A device is told that its ball has arrived. What it answers is done, and confirms nothing.
-fn tell_arrival<D: Device>(plan: &Plan, core: &mut Core<'_, D>, row: RowId)
-    requires row { row.0 < length plan.now.rows }
-    requires plan { core.old.handlers.plan ≡ plan.now }
-    requires calls { CanCall plan.now core.old }
-    requires room { HasRoom core.old.room (call_device_by plan.now no_confirm (calls.Act Confirm) row core.old.machine) }
-    ensures { core.new ≡ after (call_device_by plan.now no_confirm (calls.Act Confirm) row) core.old }
+fn tell_arrival<D: Device>(core: &mut Core<'_, D>, row: RowId)
+    requires row { row.0 < length core.old.plan.rows }
+    requires calls { CanCall core.old }
+    requires room { HasRoom core.old.room (call_device_by core.old.plan no_confirm (calls.Act Confirm) row core.old.machine) }
+    ensures { core.new ≡ after (call_device_by core.old.plan no_confirm (calls.Act Confirm) row) core.old }
 {
     let lists = core.call(row, Call::Act(Act::Confirm));
-    run_told_lists(plan, core, row, &lists);
+    run_told_lists(core, row, &lists);
 }
 
 /// Effect lists of a device that was told of an arrival run, one after another.
-fn run_told_lists<D: Device>(plan: &Plan, core: &mut Core<'_, D>, row: RowId, lists: &[u16])
-    requires row { row.0 < length plan.now.rows }
-    requires lists { All (λ list. list < list_count (row_at plan.now row).settings) lists.now }
-    requires plan { core.old.handlers.plan ≡ plan.now }
-    requires calls { CanCall plan.now core.old }
-    requires room { HasRoom core.old.room (do_answer_by plan.now no_confirm row lists.now core.old.machine) }
-    ensures { core.new ≡ after (do_answer_by plan.now no_confirm row lists.now) core.old }
+fn run_told_lists<D: Device>(core: &mut Core<'_, D>, row: RowId, lists: &[u16])
+    requires row { row.0 < length core.old.plan.rows }
+    requires lists { All (λ list. list < list_count (row_at core.old.plan row).settings) lists.now }
+    requires calls { CanCall core.old }
+    requires room { HasRoom core.old.room (do_answer_by core.old.plan no_confirm row lists.now core.old.machine) }
+    ensures { core.new ≡ after (do_answer_by core.old.plan no_confirm row lists.now) core.old }
 {
+    let plan = core.plan();
     let owner = plan.row(row).owner;
     for list in lists {
-        run_told_actions(plan, core, owner, plan.list(plan.list_of_row(row, *list)));
+        run_told_actions(core, owner, plan.list(plan.list_of_row(row, *list)));
     }
 }
 
 /// Their actions confirm nothing.
 fn run_told_actions<D: Device>(
-    plan: &Plan,
     core: &mut Core<'_, D>,
     owner: Owner,
     actions: &[Action],
 )
-    requires actions { All (IsActionWithin plan.now) actions.now }
-    requires plan { core.old.handlers.plan ≡ plan.now }
-    requires calls { CanCall plan.now core.old }
-    requires room { HasRoom core.old.room (all_do (do_action_by plan.now no_confirm owner) actions.now core.old.machine) }
-    ensures { core.new ≡ after (all_do (do_action_by plan.now no_confirm owner) actions.now) core.old }
+    requires actions { All (IsActionWithin core.old.plan) actions.now }
+    requires calls { CanCall core.old }
+    requires room { HasRoom core.old.room (all_do (do_action_by core.old.plan no_confirm owner) actions.now core.old.machine) }
+    ensures { core.new ≡ after (all_do (do_action_by core.old.plan no_confirm owner) actions.now) core.old }
 {
     for action in actions {
-        run_alone(plan, core, owner, *action);
+        run_alone(core, owner, *action);
     }
 }

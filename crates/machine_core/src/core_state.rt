@@ -1,7 +1,7 @@
 //! The state of a machine, with room for the events that wait and the lines.
 
-ghost use Rattle.std.specs.Prelude.{◌≡◌, ◌^◌, ◌<◌, ◌≤◌, ℕ, [], None, Some, true, false, IfOk, IfSome, IsSome, is_some, length, map, option_map, replicate, slice_get, vec_capacity};
-ghost use Rattle.event_queue.specs.Handlers.{none_running, set_running};
+ghost use Rattle.std.specs.Prelude.{◌≡◌, ◌^◌, ◌<◌, ◌≤◌, ℕ, [], None, Some, true, false, IfOk, IfSome, IsSome, is_some, length, map, option_map, replicate, slice_get, slice_set, vec_capacity};
+ghost use Rattle.event_queue.specs.Handlers.{none_running};
 ghost use Rattle.event_queue.specs.Queue.{empty};
 ghost use Rattle.event_queue.specs.Alarms.{least_of};
 ghost use Rattle.event_queue.specs.PlanOrder.{in_order};
@@ -25,7 +25,7 @@ ghost use Rattle.machine_core.specs.Balls.{IsThere, ledger_call};
 ghost use Rattle.machine_core.specs.Core.{played, IsWorkOfGame};
 ghost use Rattle.written_machine.specs.NextAlarm.{next_alarm, is_due_by, first_of};
 ghost use Rattle.written_machine.specs.Run.{switch as of_switch, device as of_device};
-ghost use Rattle.machine_core.specs.Core.{HasRoom, IsCoreOf, TakesFirst, after};
+ghost use Rattle.machine_core.specs.Core.{HasRoom, IsWhole, TakesFirst, after};
 ghost use Rattle.machine_core.specs.Stimuli.{alarm_view};
 ghost use Rattle.machine_core.specs.Stopping.{stopped_state};
 
@@ -49,16 +49,17 @@ use std::marker::Model;
 use switch_core::{Change, Switches};
 use written_machine::{Happening, Line};
 
-/// The machine of a plan, with its devices: the moment of the latest stimulus, the switches, the
-/// modes, the devices and their alarms, the coils, the ledger of balls, the players and the game,
-/// the events that wait and what handles them, and the lines of the latest stimulus. Moments are
-/// milliseconds.
+/// The machine of a plan, with the plan and the devices: the moment of the latest stimulus, the
+/// switches, the modes, the devices and their alarms, the coils, the ledger of balls, the players
+/// and the game, the events that wait and what handles them, and the lines of the latest stimulus.
+/// Moments are milliseconds.
 ///
 /// `begin` does what a stimulus does, and `settle` takes the event steps after it. Only `new` takes
 /// memory. `stop_devices` stops the devices and gives them back; where a core is dropped, they are
 /// dropped as they are.
 #[derive(Drop)]
 pub struct Core<'p, D: Device> {
+    plan: &'p Plan,
     moment: u64,
     switches: Switches,
     modes: Modes<'p>,
@@ -75,19 +76,22 @@ pub struct Core<'p, D: Device> {
 }
 
 impl<'p, D: Device> Model for Core<'p, D> {
-    ghost use Rattle.std.specs.Prelude.{◌≡◌, ◌≤◌, length, map, vec_capacity};
-    ghost use Rattle.device_objects.specs.DeviceStep.{due_of};
+    ghost use Rattle.std.specs.Prelude.{map, vec_capacity};
     ghost use Rattle.machine_core.specs.Core.{CoreView};
+    ghost use Rattle.machine_core.specs.Held.{FitTogether};
 
     ghost Value = { CoreView };
 
     ghost view = { λ c. record {
-      handlers = c.handlers;
+      plan = c.plan.now;
+      running = c.handlers.running;
       machine = record { moment = c.moment; switches = c.switches; modes = c.modes.modes; devices = map D.state_of c.devices.items; coils = c.coils; ledger = c.ledger; players = c.players.state; game = c.game.state; waiting = c.queue.waiting; lines = c.lines.items };
       room = c.queue.size;
     } };
 
-    ghost invariant = { λ c. (c.queue.size ≤ vec_capacity c.lines) × (c.modes.plan ≡ c.handlers.plan) × (c.players.plan ≡ c.handlers.plan) × (c.game.rules ≡ c.handlers.plan.game) × (map D.row_of c.devices.items ≡ c.handlers.plan.rows) × (c.alarms ≡ map (λ d. due_of (D.state_of d)) c.devices.items) × (length c.ledger.counted ≡ length c.handlers.plan.rows) };
+    ghost invariant = { λ c.
+        FitTogether c.plan.now c.modes c.handlers c.players c.game c.ledger (map D.row_of c.devices.items) (map D.state_of c.devices.items)
+        c.alarms c.queue (vec_capacity c.lines) };
 }
 
 /// The switches, the modes, the coils, the ledger and the players of a plan, at first.
@@ -175,7 +179,8 @@ impl<'p, D: Device> Core<'p, D> {
         devices: Vec<D>,
     ) -> Result<Core<'p, D>, CoreFault>
         ensures machine { IfOk result (λ c. c.machine ≡ initial plan.now) }
-        ensures plan { IfOk result (λ c. IsCoreOf plan.now c) }
+        ensures plan { IfOk result (λ c. c.plan ≡ plan.now) }
+        ensures whole { IfOk result (λ c. IsWhole c) }
         ensures room { IfOk result (λ c. c.room ≡ room) }
         ensures fit { IfOk result (λ c. IsFit plan.now (map D.row_of devices.items) (map D.state_of devices.items)) }
         ensures wrong { (row : ℕ) → result ≡ Err (CoreFault.WrongDevice (record { 0 = row })) → IsFirstWrong plan.now (map D.row_of devices.items) (map D.state_of devices.items) row }
@@ -186,6 +191,7 @@ impl<'p, D: Device> Core<'p, D> {
             return Err(CoreFault::WrongDevice(row));
         }
         Ok(Core {
+            plan,
             moment: 0,
             switches: first.switches,
             modes: first.modes,
@@ -199,6 +205,13 @@ impl<'p, D: Device> Core<'p, D> {
             handlers: waiting.handlers,
             lines: waiting.lines,
         })
+    }
+
+    /// The plan.
+    pub(crate) fn plan(&self) -> &'p Plan
+        ensures { result.now ≡ self.now.plan }
+    {
+        self.plan
     }
 
     /// The moment of the latest stimulus, in milliseconds: 0 before the first one.
@@ -283,17 +296,17 @@ impl<'p, D: Device> Core<'p, D> {
     /// The place of the `k`-th handler of an event, counted from 0, in plan order. None if the
     /// event has fewer.
     pub(crate) fn handler(&self, event: EventId, k: usize) -> Option<BindingId>
-        ensures handler { result ≡ slice_get (in_order self.now.handlers.plan self.now.handlers.running event) k }
-        ensures within { IfSome result (λ place. place.0 < length self.now.handlers.plan.bindings) }
+        ensures handler { result ≡ slice_get (in_order self.now.plan self.now.running event) k }
+        ensures within { IfSome result (λ place. place.0 < length self.now.plan.bindings) }
     {
         self.handlers.nth(event, k)
     }
 
     /// A mode is told to start. Reports whether it starts.
     pub(crate) fn start(&mut self, mode: ModeId) -> bool
-        requires { mode.0 < length self.old.handlers.plan.modes }
-        ensures started { self.new ≡ after (set_mode mode (started (needs_game self.old.handlers.plan mode) (has_game self.old.machine) (mode_state self.old.machine.modes mode))) self.old }
-        ensures starts { result ≡ starts (needs_game self.old.handlers.plan mode) (has_game self.old.machine) (mode_state self.old.machine.modes mode).phase }
+        requires { mode.0 < length self.old.plan.modes }
+        ensures started { self.new ≡ after (set_mode mode (started (needs_game self.old.plan mode) (has_game self.old.machine) (mode_state self.old.machine.modes mode))) self.old }
+        ensures starts { result ≡ starts (needs_game self.old.plan mode) (has_game self.old.machine) (mode_state self.old.machine.modes mode).phase }
     {
         let game = self.has_game();
         self.modes.start(mode, game)
@@ -321,7 +334,7 @@ impl<'p, D: Device> Core<'p, D> {
 
     /// A mode is told to stop. Reports whether its event for that is to be posted.
     pub(crate) fn stop(&mut self, mode: ModeId) -> bool
-        requires { mode.0 < length self.old.handlers.plan.modes }
+        requires { mode.0 < length self.old.plan.modes }
         ensures stopped { self.new ≡ after (set_mode mode (stopped (mode_state self.old.machine.modes mode))) self.old }
         ensures posts { result ≡ is_post (stop_answer (mode_state self.old.machine.modes mode).phase) }
     {
@@ -333,8 +346,8 @@ impl<'p, D: Device> Core<'p, D> {
 
     /// A mode is active, and its bindings are handlers. Reports whether a stop was kept for it.
     pub(crate) fn enter(&mut self, mode: ModeId) -> bool
-        requires { mode.0 < length self.old.handlers.plan.modes }
-        ensures entered { self.new ≡ record self.old { machine = set_mode mode (entered (mode_state self.old.machine.modes mode)) self.old.machine; handlers = set_running self.old.handlers mode true } }
+        requires { mode.0 < length self.old.plan.modes }
+        ensures entered { self.new ≡ record self.old { machine = set_mode mode (entered (mode_state self.old.machine.modes mode)) self.old.machine; running = slice_set self.old.running mode.0 true } }
         ensures kept { result ≡ (mode_state self.old.machine.modes mode).kept }
     {
         self.handlers.add_owner(mode);
@@ -343,8 +356,8 @@ impl<'p, D: Device> Core<'p, D> {
 
     /// A mode is idle, and its bindings are no handlers.
     pub(crate) fn end(&mut self, mode: ModeId)
-        requires { mode.0 < length self.old.handlers.plan.modes }
-        ensures { self.new ≡ record self.old { machine = set_mode mode (ended (mode_state self.old.machine.modes mode)) self.old.machine; handlers = set_running self.old.handlers mode false } }
+        requires { mode.0 < length self.old.plan.modes }
+        ensures { self.new ≡ record self.old { machine = set_mode mode (ended (mode_state self.old.machine.modes mode)) self.old.machine; running = slice_set self.old.running mode.0 false } }
     {
         self.handlers.drop_owner(mode);
         self.modes.ended(mode);
@@ -372,8 +385,8 @@ impl<'p, D: Device> Core<'p, D> {
         requires row { row.0 < length self.old.machine.devices }
         requires moment { self.old.machine.moment < 2 ^ 40 }
         requires may { MayCome call (device_at self.old.machine row) }
-        ensures called { self.new ≡ after (set_device row (called self.old.handlers.plan call row self.old.machine).0) self.old }
-        ensures lists { result.items ≡ (called self.old.handlers.plan call row self.old.machine).1 }
+        ensures called { self.new ≡ after (set_device row (called self.old.plan call row self.old.machine).0) self.old }
+        ensures lists { result.items ≡ (called self.old.plan call row self.old.machine).1 }
     {
         let world = self.game.world(&self.players);
         let device = &mut self.devices[row.0 as usize];
@@ -385,8 +398,8 @@ impl<'p, D: Device> Core<'p, D> {
 
     /// Whether the condition of a binding is met; it is where there is none.
     pub(crate) fn meets(&self, condition: Option<Condition>) -> bool
-        requires { IsConditionWithin self.now.handlers.plan condition }
-        ensures { result ≡ is_met self.now.handlers.plan self.now.machine.players condition }
+        requires { IsConditionWithin self.now.plan condition }
+        ensures { result ≡ is_met self.now.plan self.now.machine.players condition }
     {
         self.players.meets(condition)
     }
@@ -401,9 +414,9 @@ impl<'p, D: Device> Core<'p, D> {
         number: i64,
         event: EventId,
     )
-        requires variable { variable.0 < length self.old.handlers.plan.variables }
-        requires room { HasRoom self.old.room (change_variable self.old.handlers.plan owner variable action number event self.old.machine) }
-        ensures { self.new ≡ after (change_variable self.old.handlers.plan owner variable action number event) self.old }
+        requires variable { variable.0 < length self.old.plan.variables }
+        requires room { HasRoom self.old.room (change_variable self.old.plan owner variable action number event self.old.machine) }
+        ensures { self.new ≡ after (change_variable self.old.plan owner variable action number event) self.old }
     {
         let player = self.players.current();
         if let Some(value) = self.players.change(variable, action, number) {
@@ -414,7 +427,7 @@ impl<'p, D: Device> Core<'p, D> {
 
     /// The ledger is told this. Where it books it, its line is written.
     pub(crate) fn book(&mut self, owner: Owner, call: BallCall)
-        requires there { IsThere (length self.old.handlers.plan.rows) (ledger_call call) }
+        requires there { IsThere (length self.old.plan.rows) (ledger_call call) }
         requires room { HasRoom self.old.room (book owner (ledger_call call) self.old.machine) }
         ensures { self.new ≡ after (book owner (ledger_call call)) self.old }
     {
@@ -428,19 +441,18 @@ impl<'p, D: Device> Core<'p, D> {
 
     /// Whether a ball that enters a device now was on its way there.
     pub(crate) fn awaits(&self, device: RowId) -> bool
-        requires { device.0 < length self.now.handlers.plan.rows }
+        requires { device.0 < length self.now.plan.rows }
         ensures { result ≡ is_awaited (origin_of device self.now.machine.ledger) }
     {
         self.ledger.transit(BallTarget::Device(device)) > 0
     }
 
     /// The game and its players go on as an event of the game says. Reports what else it leads to.
-    pub(crate) fn play(&mut self, plan: &Plan, event: GameEvent) -> GameWork
-        requires { self.old.handlers.plan ≡ plan.now }
-        ensures played { self.new ≡ after (played self.old.handlers.plan event) self.old }
-        ensures work { IsWorkOfGame self.old.handlers.plan event self.old.machine result }
+    pub(crate) fn play(&mut self, event: GameEvent) -> GameWork
+        ensures played { self.new ≡ after (played self.old.plan event) self.old }
+        ensures work { IsWorkOfGame self.old.plan event self.old.machine result }
     {
-        let home = home(plan, &self.ledger);
+        let home = home(self.plan, &self.ledger);
         self.game.work(event, &mut self.players, home)
     }
 
@@ -456,7 +468,7 @@ impl<'p, D: Device> Core<'p, D> {
         requires first { 1 ≤ player }
         requires last { player ≤ length self.old.machine.players.players }
         requires room { length self.old.machine.lines < self.old.room }
-        ensures { self.new ≡ after (write_final self.old.handlers.plan player) self.old }
+        ensures { self.new ≡ after (write_final self.old.plan player) self.old }
     {
         let score = self.players.score(player);
         self.write(Owner::Machine, Happening::Final(player, score));
@@ -499,7 +511,7 @@ impl<'p, D: Device> Core<'p, D> {
     /// stimulus, which has to be before 2^40 ms, that its mode stops. What it answers is left out.
     pub fn stop_devices(self) -> Vec<D>
         requires { self.machine.moment < 2 ^ 40 }
-        ensures { AreStopped self.entry.handlers.plan self.entry.machine (map D.row_of result.items) (map D.state_of result.items) }
+        ensures { AreStopped self.entry.plan self.entry.machine (map D.row_of result.items) (map D.state_of result.items) }
     {
         let world = self.game.world(&self.players);
         let mut devices = self.devices;
@@ -515,11 +527,11 @@ impl<'p, D: Device> Core<'p, D> {
     pub fn exchange(&mut self, row: RowId, device: D) -> D
         requires there { row.0 < length self.old.machine.devices }
         requires moment { self.old.machine.moment < 2 ^ 40 }
-        requires row { D.row_of device ≡ row_at self.old.handlers.plan row }
+        requires row { D.row_of device ≡ row_at self.old.plan row }
         requires state { D.state_of device ≡ device_at self.old.machine row }
         ensures same { self.new ≡ self.old }
-        ensures row { D.row_of result ≡ row_at self.old.handlers.plan row }
-        ensures stopped { D.state_of result ≡ stopped_state self.old.machine.moment (world_of self.old.machine) (row_at self.old.handlers.plan row) (device_at self.old.machine row) }
+        ensures row { D.row_of result ≡ row_at self.old.plan row }
+        ensures stopped { D.state_of result ≡ stopped_state self.old.machine.moment (world_of self.old.machine) (row_at self.old.plan row) (device_at self.old.machine row) }
     {
         let world = self.game.world(&self.players);
         let mut taken = put_in_place(&mut self.devices, row, device);

@@ -9,11 +9,11 @@ use Rattle.coil_guard.specs.declared.state.CoilState.{CoilState}
 use Rattle.coil_guard.specs.SentCommands.{coil_of}
 use Rattle.written_machine.specs.declared.line.Line.{Line}
 use Rattle.written_machine.specs.Machine.{Machine}
+use Rattle.written_machine.specs.Devices.{HasDevices}
 use Rattle.written_machine.specs.EventStep.{EventSteps}
 use Rattle.written_machine.specs.PlanOrder.{plan_steps}
 use Rattle.written_machine.specs.Run.{Stimulus, SwitchChange, Alarm, Wait, moment_of, IsAllowed, begin, IsReached}
 use Rattle.written_machine.specs.CheckedView.{CheckedView}
-use Rattle.written_machine.specs.Accepted.{IsAccepted}
 use Rattle.written_machine.proofs.PlanSteps.{plan_steps-event_steps}
 use Rattle.written_machine.proofs.Reached.{reached-next, reached-within, reached-same, reached-has_states, reached-devices, reached-kinds, reached-complete, reached-modes}
 use Rattle.written_machine.proofs.Alarms.{has_states-begin, moment-begin, moment-after}
@@ -23,7 +23,7 @@ use Rattle.coil_driver.specs.Board.{HasTakenAll, commands_of, after_lines}
 use Rattle.coil_driver.specs.Driver.{DriverView, IsSendable, HasSent, HasStopped}
 use Rattle.coil_driver.proofs.Sending.{cascade-agrees, sent-sendable}
 use Rattle.coil_driver.specs.Agrees.{Agrees}
-use Rattle.machine_core.specs.Core.{CoreView, IsCoreOf, CanCall, HandlesFor, IsPlayable, HasRoom, StaysWithin, HasSettled, after}
+use Rattle.machine_core.specs.Core.{CoreView, IsWhole, CanCall, HasHandlers, IsPlayable, HasRoom, StaysWithin, HasSettled, after}
 use Rattle.machine_core.proofs.Settling.{follows-handles}
 use Rattle.machine_core.proofs.Room.{drop-found}
 use Rattle.pin_rig.specs.declared.input.Input.{Input}
@@ -49,7 +49,7 @@ rig_of c core driver shown = record {
   faulted = driver.faulted;
 }
 
-module _ (c : CheckedView) (core : CoreView) (driver : DriverView) (shown : ℕ) (held : IsHeld c core driver shown) (accepted : IsAccepted c)
+module _ (c : CheckedView) (core : CoreView) (driver : DriverView) (shown : ℕ) (held : IsHeld c core driver shown)
     (input : Input) (stimulus : Stimulus) (judged : stimulus_at (rig_of c core driver shown) input ≡ Ok stimulus) where
   abbrev pub rig : RigView
   rig = rig_of c core driver shown
@@ -64,17 +64,24 @@ module _ (c : CheckedView) (core : CoreView) (driver : DriverView) (shown : ℕ)
   running = judged-running rig input stimulus judged
 
   pub playable : IsPlayable core stimulus
-  playable = asked-playable rig core stimulus refl held.core_is.kinds (judged-asks rig input stimulus judged)
+  playable = asked-playable rig core stimulus refl (held.core_is.kinds ∙ ap (λ (p : PlanView). length p.switches) held.plan_is) (judged-asks rig input stimulus judged)
 
-  stays : StaysWithin c.plan core.room begun
-  stays n =
-      let within = reached-within c accepted held.reached.0 core.machine held.reached.1 stimulus allowed n in
+  -- the core after the stimulus has begun
+  abbrev begun_core : CoreView
+  begun_core = after (begin c.plan stimulus) core
+
+  begun-room : (n : ℕ) → HasRoom core.room (plan_steps c.plan n begun)
+  begun-room n =
+      let within = reached-within c held.accepted held.reached.0 core.machine held.reached.1 stimulus allowed n in
       let room = held.room in
       record { waiting = omega (arith, within, room); lines = omega (arith, within, room) }
 
-  -- the same modes run once the stimulus has begun
-  begun-handles : HandlesFor c.plan (after (begin c.plan stimulus) core)
-  begun-handles = held.core_is.handlers ∙ (λ i. record { plan = c.plan; running = sym (begin-still c.plan stimulus core.machine) i })
+  begun-stays : StaysWithin begun_core
+  begun-stays n = subst (λ (p : PlanView). HasRoom core.room (plan_steps p n begun)) (sym held.plan_is) (begun-room n)
+
+  -- the same modes run as before
+  begun-handles : HasHandlers begun_core
+  begun-handles = held.core_is.handlers ∙ sym (begin-still c.plan stimulus core.machine)
 
   -- and devices can be called
   early : moment_of stimulus < 2 ^ 40
@@ -85,18 +92,22 @@ module _ (c : CheckedView) (core : CoreView) (driver : DriverView) (shown : ℕ)
       by (Alarm at source) h = h.1
       by (Wait at) h = h.early
 
-  begun-calls : CanCall c.plan (after (begin c.plan stimulus) core)
+  begun-calls : CanCall begun_core
   begun-calls =
       let states = has_states-begin c.plan stimulus core.machine (reached-has_states c.plan held.reached.0 core.machine held.reached.1) in
-      record { devices = states.devices; coils = states.coils.count; early = omega (arith, early, moment-begin c.plan stimulus core.machine) }
+      record {
+        devices = subst (λ (p : PlanView). HasDevices p begun.devices) (sym held.plan_is) states.devices;
+        coils = states.coils.count ∙ sym (ap (λ (p : PlanView). length p.coils) held.plan_is);
+        early = omega (arith, early, moment-begin c.plan stimulus core.machine);
+      }
 
-  module _ (new : CoreView) (settled : HasSettled c.plan (after (begin c.plan stimulus) core) new) where
+  module _ (new : CoreView) (settled : HasSettled begun_core new) where
     -- as many steps as the bound allows lead to the same state
     same : plan_steps c.plan c.bound begun ≡ new.machine
     same =
-        let there = ap (λ (v : CoreView). v.machine) settled.new_is in
+        let there = ap (λ (v : CoreView). v.machine) settled.new_is ∙ ap (λ (p : PlanView). plan_steps p settled.count begun) held.plan_is in
         let idle = ap (λ (s : Machine). s.waiting) (sym there) ∙ settled.settles in
-        sym (reached-same c accepted held.reached.0 core.machine held.reached.1 stimulus allowed settled.count idle) ∙ sym there
+        sym (reached-same c held.accepted held.reached.0 core.machine held.reached.1 stimulus allowed settled.count idle) ∙ sym there
 
     count : ℕ
     count = (plan_steps-event_steps c.plan c.bound begun).0
@@ -111,7 +122,7 @@ module _ (c : CheckedView) (core : CoreView) (driver : DriverView) (shown : ℕ)
     reached : IsReached c.plan (held.reached.0 ++ (plan_steps c.plan c.bound begun).lines) new.machine
     reached =
         subst (IsReached c.plan (held.reached.0 ++ (plan_steps c.plan c.bound begun).lines)) same
-        (reached-next c accepted held.reached.0 core.machine held.reached.1 stimulus allowed)
+        (reached-next c held.accepted held.reached.0 core.machine held.reached.1 stimulus allowed)
 
     late : new.machine.moment < 2 ^ 40
     late = omega (arith, early, moment-after c.plan stimulus core.machine count new.machine steps)
@@ -120,16 +131,20 @@ module _ (c : CheckedView) (core : CoreView) (driver : DriverView) (shown : ℕ)
     sendable : All (IsSendable (length driver.sent)) new.machine.lines
     sendable = sent-sendable new.machine.moment core.machine.coils (length driver.sent) new.machine.lines late (ap (λ (s : List CoilState). length s) (sym (held.all_sent running))) agrees.sent
 
-    core-again : IsCoreOf c.plan new
+    plan-again : new.plan ≡ c.plan
+    plan-again = ap (λ (v : CoreView). v.plan) settled.new_is ∙ held.plan_is
+
+    core-again : IsWhole new
     core-again =
         let trace = held.reached.0 ++ (plan_steps c.plan c.bound begun).lines in
+        let kinds = ap (λ (kinds : List SwitchKind). length kinds) (reached-kinds c.plan trace new.machine reached) ∙ length-map c.plan.switches (λ s. s.kind) in
         record {
-          devices = reached-devices c.plan trace new.machine reached;
-          coils = (reached-has_states c.plan trace new.machine reached).coils.count;
-          modes = reached-modes c.plan trace new.machine reached;
-          handlers = follows-handles c.plan (plan_steps c.plan settled.count) (after (begin c.plan stimulus) core) new begun-handles settled.new_is;
-          kinds = ap (λ (kinds : List SwitchKind). length kinds) (reached-kinds c.plan trace new.machine reached) ∙ length-map c.plan.switches (λ s. s.kind);
-          complete = reached-complete c.plan trace new.machine reached accepted.valid;
+          devices = subst (λ (p : PlanView). HasDevices p new.machine.devices) (sym plan-again) (reached-devices c.plan trace new.machine reached);
+          coils = (reached-has_states c.plan trace new.machine reached).coils.count ∙ sym (ap (λ (p : PlanView). length p.coils) plan-again);
+          modes = reached-modes c.plan trace new.machine reached ∙ sym (ap (λ (p : PlanView). length p.modes) plan-again);
+          handlers = follows-handles (plan_steps core.plan settled.count) begun_core new settled.new_is;
+          kinds = kinds ∙ sym (ap (λ (p : PlanView). length p.switches) plan-again);
+          complete = reached-complete c.plan trace new.machine reached held.accepted.valid;
         }
 
     -- with what is sent of them
@@ -149,7 +164,8 @@ module _ (c : CheckedView) (core : CoreView) (driver : DriverView) (shown : ℕ)
 
       held-on : place ≤ length new.machine.lines → (sent.faulted ≡ None → (place ≡ length new.machine.lines) × (sent.sent ≡ new.machine.coils)) → IsHeld c new sent place
       held-on within all = record {
-        accepted = accepted;
+        accepted = held.accepted;
+        plan_is = plan-again;
         core_is = core-again;
         early = late;
         room = let was = held.room in let is = ap (λ (v : CoreView). v.room) settled.new_is in omega (arith, was, is);
@@ -208,56 +224,50 @@ module _ (c : CheckedView) (core : CoreView) (driver : DriverView) (shown : ℕ)
             let within = slice_get_within new.machine.lines place part.line part.there in
             held-on (omega (arith, within)) (λ none. absurd (none-some (coil_of part.fault.command) (sym none ∙ part.fault.fault.faulted)))
 
-  -- the same, as the plan is read
-  module _ (plan : PlanView) (plan_is : plan ≡ c.plan) where
-    pub begun-room : HasRoom core.room (begin plan stimulus core.machine)
-    begun-room = subst (λ (p : PlanView). HasRoom core.room (begin p stimulus core.machine)) (sym plan_is) (stays 0)
+  -- the same, of the core that there is then
+  pub begin-room : HasRoom core.room (begin core.plan stimulus core.machine)
+  begin-room = subst (λ (p : PlanView). HasRoom core.room (begin p stimulus core.machine)) (sym held.plan_is) (begun-room 0)
 
-    module _ (begun_core : CoreView) (begun_is : begun_core ≡ after (begin plan stimulus) core) where
-      pub begun_core-handles : HandlesFor plan begun_core
-      begun_core-handles =
-          subst (HandlesFor plan) (sym begun_is)
-          (subst (λ (p : PlanView). HandlesFor p (after (begin p stimulus) core)) (sym plan_is) begun-handles)
+  module _ (now : CoreView) (now_is : now ≡ after (begin core.plan stimulus) core) where
+    now-is : now ≡ begun_core
+    now-is = now_is ∙ ap (λ (p : PlanView). after (begin p stimulus) core) held.plan_is
 
-      pub begun_core-calls : CanCall plan begun_core
-      begun_core-calls =
-          subst (CanCall plan) (sym begun_is)
-          (subst (λ (p : PlanView). CanCall p (after (begin p stimulus) core)) (sym plan_is) begun-calls)
+    pub now-handles : HasHandlers now
+    now-handles = subst HasHandlers (sym now-is) begun-handles
 
-      pub begun-stays : StaysWithin plan begun_core.room begun_core.machine
-      begun-stays =
-          subst (λ (v : CoreView). StaysWithin plan v.room v.machine) (sym begun_is)
-          (subst (λ (p : PlanView). StaysWithin p core.room (begin p stimulus core.machine)) (sym plan_is) stays)
+    pub now-calls : CanCall now
+    now-calls = subst CanCall (sym now-is) begun-calls
 
-      module _ (new : CoreView) (settled : HasSettled plan begun_core new) where
-        settled-here : HasSettled c.plan (after (begin c.plan stimulus) core) new
-        settled-here =
-            subst (λ (p : PlanView). HasSettled p (after (begin p stimulus) core) new) plan_is
-            (subst (λ (v : CoreView). HasSettled plan v new) begun_is settled)
+    pub now-stays : StaysWithin now
+    now-stays = subst StaysWithin (sym now-is) begun-stays
 
-        pub can-send : (ls : List Line) → ls ≡ new.machine.lines → All (IsSendable (length driver.sent)) ls
-        can-send ls is = subst (All (IsSendable (length driver.sent))) (sym is) (sendable new settled-here)
+    module _ (new : CoreView) (settled : HasSettled now new) where
+      settled-here : HasSettled begun_core new
+      settled-here = subst (λ (v : CoreView). HasSettled v new) now-is settled
 
-        module _ (sent : DriverView) (counted : length sent.sent ≡ length driver.sent) (place : ℕ) (ls : List Line) (lines_are : ls ≡ new.machine.lines) where
-          module _ (whole : HasSent ls driver sent) (place_is : place ≡ length ls) where
-            whole-here : HasSent new.machine.lines driver sent
-            whole-here = subst (λ t. HasSent t driver sent) lines_are whole
+      pub can-send : (ls : List Line) → ls ≡ new.machine.lines → All (IsSendable (length driver.sent)) ls
+      can-send ls is = subst (All (IsSendable (length driver.sent))) (sym is) (sendable new settled-here)
 
-            place-here : place ≡ length new.machine.lines
-            place-here = place_is ∙ ap (λ (t : List Line). length t) lines_are
+      module _ (sent : DriverView) (counted : length sent.sent ≡ length driver.sent) (place : ℕ) (ls : List Line) (lines_are : ls ≡ new.machine.lines) where
+        module _ (whole : HasSent ls driver sent) (place_is : place ≡ length ls) where
+          whole-here : HasSent new.machine.lines driver sent
+          whole-here = subst (λ t. HasSent t driver sent) lines_are whole
 
-            pub steps-on : RigStep input rig (rig_of c new sent place)
-            steps-on = whole-step new settled-here sent counted place whole-here place-here
+          place-here : place ≡ length new.machine.lines
+          place-here = place_is ∙ ap (λ (t : List Line). length t) lines_are
 
-            pub held-again : IsHeld c new sent place
-            held-again = whole-held new settled-here sent counted place whole-here place-here
+          pub steps-on : RigStep input rig (rig_of c new sent place)
+          steps-on = whole-step new settled-here sent counted place whole-here place-here
 
-          module _ (part : HasStopped ls place driver sent) where
-            part-here : HasStopped new.machine.lines place driver sent
-            part-here = subst (λ t. HasStopped t place driver sent) lines_are part
+          pub held-again : IsHeld c new sent place
+          held-again = whole-held new settled-here sent counted place whole-here place-here
 
-            pub halts : RigHalt input rig (rig_of c new sent place)
-            halts = part-halt new settled-here sent counted place part-here
+        module _ (part : HasStopped ls place driver sent) where
+          part-here : HasStopped new.machine.lines place driver sent
+          part-here = subst (λ t. HasStopped t place driver sent) lines_are part
 
-            pub held-halted : IsHeld c new sent place
-            held-halted = part-held new settled-here sent counted place part-here
+          pub halts : RigHalt input rig (rig_of c new sent place)
+          halts = part-halt new settled-here sent counted place part-here
+
+          pub held-halted : IsHeld c new sent place
+          held-halted = part-held new settled-here sent counted place part-here

@@ -38,29 +38,27 @@ stopped-ejects_nothing _ now world _ shape = elim shape [ ]
 
 module _ (checked : CheckedView) (core : CoreView) (driver : DriverView) (shown : ℕ) (held : IsHeld checked core driver shown)
     (number : RowId) (row : DeviceRow) (state : DeviceState) (may : MayTakePlace (rig_of checked core driver shown) number row state) where
-  plan-is : core.handlers.plan ≡ checked.plan
-  plan-is = λ i. (held.core_is.handlers i).plan
-
   -- the core can exchange the device
   pub may-there : number.0 < length core.machine.devices
-  may-there = subst (λ n. number.0 < n) (sym held.core_is.devices.count) may.place.there
+  may-there = subst (λ n. number.0 < n) (sym (held.core_is.devices.count ∙ ap (λ (p : PlanView). length p.rows) held.plan_is)) may.place.there
 
-  pub may-row : row ≡ row_at core.handlers.plan number
-  may-row = may.row_is ∙ ap (λ (p : PlanView). row_at p number) (sym plan-is)
+  pub may-row : row ≡ row_at core.plan number
+  may-row = may.row_is ∙ ap (λ (p : PlanView). row_at p number) (sym held.plan_is)
 
   -- what comes out
-  pub taken-out : (last : DeviceRow) (stopped : DeviceState) → last ≡ row_at core.handlers.plan number
-      → stopped ≡ stopped_state core.machine.moment (world_of core.machine) (row_at core.handlers.plan number) (device_at core.machine number)
+  pub taken-out : (last : DeviceRow) (stopped : DeviceState) → last ≡ row_at core.plan number
+      → stopped ≡ stopped_state core.machine.moment (world_of core.machine) (row_at core.plan number) (device_at core.machine number)
       → IsTakenOut (rig_of checked core driver shown) number last stopped
   taken-out last stopped row_is state_is =
       let moment = core.machine.moment in
       let world = world_of core.machine in
       let there = row_at checked.plan number in
       let old = device_at core.machine number in
-      let shape : HasShape there.settings old = held.core_is.devices.shapes number may.place.there in
-      let is : stopped ≡ stopped_state moment world there old = state_is ∙ ap (λ (p : PlanView). stopped_state moment world (row_at p number) old) plan-is in
+      let within : number.0 < length core.plan.rows = subst (λ (p : PlanView). number.0 < length p.rows) (sym held.plan_is) may.place.there in
+      let shape : HasShape there.settings old = subst (λ (p : PlanView). HasShape (row_at p number).settings old) held.plan_is (held.core_is.devices.shapes number within) in
+      let is : stopped ≡ stopped_state moment world there old = state_is ∙ ap (λ (p : PlanView). stopped_state moment world (row_at p number) old) held.plan_is in
       record {
-        row_is = row_is ∙ ap (λ (p : PlanView). row_at p number) plan-is;
+        row_is = row_is ∙ ap (λ (p : PlanView). row_at p number) held.plan_is;
         state_is = is;
         not_due = ap due_of is ∙ stopped-quiet there.settings moment world old shape;
         ejects = subst EjectsNothing (sym is) (stopped-ejects_nothing there.settings moment world old shape);

@@ -5,7 +5,7 @@ use Rattle.written_machine.specs.CheckedView.{CheckedView}
 use Rattle.written_machine.specs.Run.{Stimulus, IsReached}
 use Rattle.coil_driver.specs.Driver.{DriverView}
 use Rattle.machine_core.specs.declared.stimulus.Stimulus.{Stimulus as HeldStimulus}
-use Rattle.machine_core.specs.Core.{CoreView, IsCoreOf}
+use Rattle.machine_core.specs.Core.{CoreView, IsWhole}
 use Rattle.machine_core.specs.Stimuli.{stimulus_view}
 use Rattle.pin_rig.specs.declared.input.StepFault.{StepFault}
 use Rattle.written_machine.specs.declared.line.Line.{Line}
@@ -19,7 +19,8 @@ GivesStimulus (Err fault) given = given ≡ Err fault
 -- lines are shown. As long as the board takes all commands, those are all, and the guard of what was sent is the machine's.
 pub record IsHeld (checked : CheckedView) (core : CoreView) (driver : DriverView) (shown : ℕ) : Type 0 where
   pub accepted : IsAccepted checked
-  pub core_is : IsCoreOf checked.plan core
+  pub plan_is : core.plan ≡ checked.plan
+  pub core_is : IsWhole core
   pub early : core.machine.moment < 2 ^ 40
   pub room : checked.bound ≤ core.room
   pub reached : (trace : List Line) × IsReached checked.plan trace core.machine

@@ -262,9 +262,8 @@ impl<'c, D: Device, B: Board> Rig<'c, D, B> {
         ensures { MatchResult result (λ _. RigStep input self.old self.new) (λ fault. HasFailed input self.old self.new fault) }
     {
         let stimulus = self.judge(input)?;
-        let plan = self.checked.plan();
-        begin(plan, &mut self.core, stimulus);
-        settle(plan, &mut self.core);
+        begin(&mut self.core, stimulus);
+        settle(&mut self.core);
         match self.driver.serve(self.core.lines()) {
             None => {
                 self.shown = self.core.lines().len();

@@ -1,6 +1,5 @@
 use Rattle.std.proofs.Common.{rules, ◌≡◌, ◌<◌, length, ℤ, FitsSigned, to_z, of_z, w64, ap, sym, ◌∙◌, subst}
 use Rattle.std.proofs.lemmas.Int.{to_z-of_z}
-use Rattle.plan_tables.specs.PlanView.{PlanView}
 use Rattle.plan_tables.specs.Valid.{IsActionWithin}
 use Rattle.plan_tables.specs.declared.entries.Action.{Action}
 use Rattle.plan_tables.specs.declared.entries.Action.TheVariants.{Change as ChangeVariable}
@@ -11,20 +10,18 @@ use Rattle.machine_core.proofs.actions.run_alone.Goals as goal
 pub change_variable-requires-clause-variable : goal.change_variable-requires-clause-variable
 change_variable-requires-clause-variable g c =
     let x = c.in-Change in
-    let within : IsActionWithin c.args.plan.now (ChangeVariable x.variable x.action x.number x.event) = subst (IsActionWithin c.args.plan.now) x.is c.requires.action in
-    subst (λ (p : PlanView). x.variable.0 < length p.variables) (sym c.requires.plan) within.0
+    let within : IsActionWithin c.args.core.now.plan (ChangeVariable x.variable x.action x.number x.event) = subst (IsActionWithin c.args.core.now.plan) x.is c.requires.action in
+    within.0
 
 pub change_variable-requires-clause-room : goal.change_variable-requires-clause-room
 change_variable-requires-clause-room g c =
-    let plan = c.args.plan.now in
     let core = c.args.core.now in
     let owner = c.args.owner in
     let x = c.in-Change in
     let fits : FitsSigned w64 x.number = search rules in
     let same : to_z w64 (of_z w64 x.number) ≡ x.number = to_z-of_z w64 x.number fits in
-    let whole : HasRoom core.room (change_variable plan owner x.variable x.action x.number x.event core.machine) = subst (λ (a : Action). HasRoom core.room (do_action_by plan no_confirm owner a core.machine)) x.is c.requires.room in
-    subst (λ (n : ℤ). HasRoom core.room (change_variable core.handlers.plan owner x.variable x.action n x.event core.machine)) (sym same)
-    (subst (λ (p : PlanView). HasRoom core.room (change_variable p owner x.variable x.action x.number x.event core.machine)) (sym c.requires.plan) whole)
+    let whole : HasRoom core.room (change_variable core.plan owner x.variable x.action x.number x.event core.machine) = subst (λ (a : Action). HasRoom core.room (do_action_by core.plan no_confirm owner a core.machine)) x.is c.requires.room in
+    subst (λ (n : ℤ). HasRoom core.room (change_variable core.plan owner x.variable x.action n x.event core.machine)) (sym same) whole
 
 pub returns-in-Change : goal.returns-in-Change
 returns-in-Change g c =
@@ -34,5 +31,5 @@ returns-in-Change g c =
     let fits : FitsSigned w64 x.number = search rules in
     let same : to_z w64 (of_z w64 x.number) ≡ x.number = to_z-of_z w64 x.number fits in
     c.change_variable.ensures
-    ∙ (λ i. after (change_variable (c.requires.plan i) owner x.variable x.action (same i) x.event) core)
-    ∙ ap (λ (a : Action). after (do_action_by c.args.plan.now no_confirm owner a) core) (sym x.is)
+    ∙ (λ i. after (change_variable core.plan owner x.variable x.action (same i) x.event) core)
+    ∙ ap (λ (a : Action). after (do_action_by core.plan no_confirm owner a) core) (sym x.is)

@@ -4,4 +4,4 @@ use Rattle.machine_core.proofs.arrivals.first_away.Given as goal
 
 -- the first of those that are left is the first of all
 abbrev pub invariant-loop-number : goal.invariant-loop-number
-invariant-loop-number g l = away_from l.plan l.target l.core.machine l.number ≡ away_from l.plan l.target l.core.machine 0
+invariant-loop-number g l = away_from l.core.plan l.target l.core.machine l.number ≡ away_from l.core.plan l.target l.core.machine 0

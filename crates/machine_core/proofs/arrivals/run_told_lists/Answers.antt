@@ -1,10 +1,12 @@
-use Rattle.std.proofs.Common.{◌≡◌, ◌+◌, List, drop, get_or, sym, ap, ◌∙◌, subst}
+use Rattle.std.proofs.Common.{◌≡◌, ◌+◌, ◌<◌, ℕ, List, drop, get_or, length, sym, ap, ◌∙◌, subst}
 use Rattle.std.proofs.lemmas.List.{drop_more}
-use Rattle.plan_tables.specs.PlanView.{actions_at, list_of_row, row_at}
+use Rattle.std.proofs.lemmas.List.Elements.{All-get_or}
+use Rattle.plan_tables.specs.PlanView.{PlanView, actions_at, list_of_row, row_at}
+use Rattle.plan_tables.specs.Devices.{list_count}
 use Rattle.plan_tables.specs.declared.entries.Action.{Action}
 use Rattle.plan_tables.specs.declared.entries.Owner.{Owner}
 use Rattle.plan_tables.specs.declared.devices.DeviceRow.{DeviceRow}
-use Rattle.written_machine.specs.Machine.{all_do, do_action_by, do_answer_by, do_list_by, no_confirm}
+use Rattle.written_machine.specs.Machine.{Machine, all_do, do_action_by, do_answer_by, do_list_by, no_confirm}
 use Rattle.std.specs.List.{All}
 use Rattle.plan_tables.specs.Valid.{IsActionWithin}
 use Rattle.machine_core.specs.Core.{CoreView, CanCall, HasRoom, after}
@@ -14,41 +16,59 @@ use Rattle.machine_core.proofs.Room.{room-first, all_do-first}
 use Rattle.machine_core.proofs.Listing.{grown}
 use Rattle.machine_core.proofs.arrivals.run_told_lists.Goals as goal
 
-pub run_told_actions-requires-clause-room : goal.run_told_actions-requires-clause-room
-run_told_actions-requires-clause-room g c =
-    let plan = c.args.plan.now in
-    let r = c.args.row in
+pub row-owner-requires : goal.row-owner-requires
+row-owner-requires g c = subst (λ (p : PlanView). c.args.row.0 < length p.rows) (sym c.plan-plan.ensures) c.requires.row
+
+pub list_of_row-requires-clause-row : goal.list_of_row-requires-clause-row
+list_of_row-requires-clause-row g c = subst (λ (p : PlanView). c.args.row.0 < length p.rows) (sym c.plan-plan.ensures) c.requires.row
+
+pub list_of_row-requires-clause-list : goal.list_of_row-requires-clause-list
+list_of_row-requires-clause-list g c =
     let lists = c.args.lists.now in
     let i = c.loop-list.list-index in
-    let list_is : c.list.result.now ≡ actions_at plan (list_of_row plan r (get_or lists i 0)) = c.list.ensures.actions ∙ ap (actions_at plan) c.list_of_row.ensures.list in
-    let owner_is : c.row-owner.result.owner ≡ (row_at plan r).owner = ap (λ (row : DeviceRow). row.owner) c.row-owner.ensures.row in
-    let core = c.loop-list.core in
-    subst (λ (actions : List Action). HasRoom core.room (all_do (do_action_by plan no_confirm c.row-owner.result.owner) actions core.machine)) (sym list_is)
-    (subst (λ (o : Owner). HasRoom core.room (all_do (do_action_by plan no_confirm o) (actions_at plan (list_of_row plan r (get_or lists i 0))) core.machine)) (sym owner_is)
-    (room-first (λ k. do_list_by plan no_confirm (row_at plan r).owner (list_of_row plan r k)) (λ k s. grown plan s (do_list_by plan no_confirm (row_at plan r).owner (list_of_row plan r k) s) (goes-list_by plan no_confirm (goes-no_confirm plan) r k s)) c.loop-list.core (after (do_answer_by plan no_confirm r lists) c.args.core.now)
-    (get_or lists i 0) (drop (i + 1) lists) (drop i lists) (drop_more lists i 0 c.loop-list-test.true) c.loop-list.invariant.0 c.requires.room))
+    let r = c.args.row in
+    subst (λ (p : PlanView). get_or lists i 0 < list_count (row_at p r).settings) (sym c.plan-plan.ensures)
+    (All-get_or (λ k. k < list_count (row_at c.args.core.now.plan r).settings) lists i 0 c.loop-list-test.true c.requires.lists)
 
 pub run_told_actions-requires-clause-actions : goal.run_told_actions-requires-clause-actions
 run_told_actions-requires-clause-actions g c =
-    let plan = c.args.plan.now in
-    subst (All (IsActionWithin plan)) (sym c.list.ensures.actions) (actions-within plan c.list.ensures.valid.entries c.list_of_row.result c.list_of_row.ensures.within)
+    let plan = c.plan-plan.result.now in
+    let is : plan ≡ c.loop-list.core.plan = c.plan-plan.ensures ∙ sym (ap (λ (v : CoreView). v.plan) c.loop-list.invariant.0) in
+    subst (λ (p : PlanView). All (IsActionWithin p) c.list.result.now) is
+    (subst (All (IsActionWithin plan)) (sym c.list.ensures.actions) (actions-within plan c.list.ensures.valid.entries c.list_of_row.result c.list_of_row.ensures.within))
 
-pub loop-list-preserved : goal.loop-list-preserved
-loop-list-preserved g c =
-    let plan = c.args.plan.now in
+pub run_told_actions-requires-clause-room : goal.run_told_actions-requires-clause-room
+run_told_actions-requires-clause-room g c =
     let r = c.args.row in
     let lists = c.args.lists.now in
     let i = c.loop-list.list-index in
     let k = get_or lists i 0 in
     let core = c.loop-list.core in
-    let list_is : c.list.result.now ≡ actions_at plan (list_of_row plan r k) = c.list.ensures.actions ∙ ap (actions_at plan) c.list_of_row.ensures.list in
-    let owner_is : c.row-owner.result.owner ≡ (row_at plan r).owner = ap (λ (row : DeviceRow). row.owner) c.row-owner.ensures.row in
-    let done : c.run_told_actions.new.core ≡ after (do_list_by plan no_confirm (row_at plan r).owner (list_of_row plan r k)) core =
-    c.run_told_actions.ensures ∙ (λ j. after (all_do (do_action_by plan no_confirm (owner_is j)) (list_is j)) core) in (
-      all_do-first (λ k. do_list_by plan no_confirm (row_at plan r).owner (list_of_row plan r k)) core c.run_told_actions.new.core (after (do_answer_by plan no_confirm r lists) c.args.core.now)
-          k (drop (i + 1) lists) (drop i lists) (drop_more lists i 0 c.loop-list-test.true) c.loop-list.invariant.0 done,
-      subst (CanCall plan) (sym done) (goes-can plan core (after (do_list_by plan no_confirm (row_at plan r).owner (list_of_row plan r k)) core) (goes-list_by plan no_confirm (goes-no_confirm plan) r k core.machine) c.loop-list.invariant.1),
-    )
+    let plan = c.plan-plan.result.now in
+    let is : plan ≡ core.plan = c.plan-plan.ensures ∙ sym (ap (λ (v : CoreView). v.plan) c.loop-list.invariant.0) in
+    let list_is : c.list.result.now ≡ actions_at core.plan (list_of_row core.plan r k) = c.list.ensures.actions ∙ ap (actions_at plan) c.list_of_row.ensures.list ∙ ap (λ (p : PlanView). actions_at p (list_of_row p r k)) is in
+    let owner_is : c.row-owner.result.owner ≡ (row_at core.plan r).owner = ap (λ (row : DeviceRow). row.owner) c.row-owner.ensures.row ∙ ap (λ (p : PlanView). (row_at p r).owner) is in
+    let run = λ (p : PlanView) (n : ℕ). do_list_by p no_confirm (row_at p r).owner (list_of_row p r n) in
+    subst (λ (actions : List Action). HasRoom core.room (all_do (do_action_by core.plan no_confirm c.row-owner.result.owner) actions core.machine)) (sym list_is)
+    (subst (λ (o : Owner). HasRoom core.room (all_do (do_action_by core.plan no_confirm o) (actions_at core.plan (list_of_row core.plan r k)) core.machine)) (sym owner_is)
+    (room-first run (λ (p : PlanView) (n : ℕ) (s : Machine). grown p s (run p n s) (goes-list_by p no_confirm (goes-no_confirm p) r n s)) core (after (do_answer_by c.args.core.now.plan no_confirm r lists) c.args.core.now)
+    k (drop (i + 1) lists) (drop i lists) (drop_more lists i 0 c.loop-list-test.true) c.loop-list.invariant.0 c.requires.room))
 
-pub run_told_actions-requires-clause-plan : goal.run_told_actions-requires-clause-plan
-run_told_actions-requires-clause-plan g c = ap (λ (v : CoreView). v.handlers.plan) c.loop-list.invariant.0 ∙ c.requires.plan
+pub loop-list-preserved : goal.loop-list-preserved
+loop-list-preserved g c =
+    let r = c.args.row in
+    let lists = c.args.lists.now in
+    let i = c.loop-list.list-index in
+    let k = get_or lists i 0 in
+    let core = c.loop-list.core in
+    let plan = c.plan-plan.result.now in
+    let is : plan ≡ core.plan = c.plan-plan.ensures ∙ sym (ap (λ (v : CoreView). v.plan) c.loop-list.invariant.0) in
+    let list_is : c.list.result.now ≡ actions_at core.plan (list_of_row core.plan r k) = c.list.ensures.actions ∙ ap (actions_at plan) c.list_of_row.ensures.list ∙ ap (λ (p : PlanView). actions_at p (list_of_row p r k)) is in
+    let owner_is : c.row-owner.result.owner ≡ (row_at core.plan r).owner = ap (λ (row : DeviceRow). row.owner) c.row-owner.ensures.row ∙ ap (λ (p : PlanView). (row_at p r).owner) is in
+    let run = λ (p : PlanView) (n : ℕ). do_list_by p no_confirm (row_at p r).owner (list_of_row p r n) in
+    let done : c.run_told_actions.new.core ≡ after (run core.plan k) core =
+    c.run_told_actions.ensures ∙ (λ j. after (all_do (do_action_by core.plan no_confirm (owner_is j)) (list_is j)) core) in (
+      all_do-first run core c.run_told_actions.new.core (after (do_answer_by c.args.core.now.plan no_confirm r lists) c.args.core.now)
+          k (drop (i + 1) lists) (drop i lists) (drop_more lists i 0 c.loop-list-test.true) c.loop-list.invariant.0 done,
+      subst CanCall (sym done) (goes-can core (run core.plan k) (goes-list_by core.plan no_confirm (goes-no_confirm core.plan) r k core.machine) c.loop-list.invariant.1),
+    )

@@ -1,8 +1,11 @@
-use Rattle.std.proofs.Common.{◌+◌, drop, get_or, ap, sym, ◌∙◌, subst}
+use Rattle.std.proofs.Common.{◌+◌, drop, get_or, ap, sym, subst}
 use Rattle.std.proofs.lemmas.List.{drop_more}
+use Rattle.std.proofs.lemmas.List.Elements.{All-get_or}
+use Rattle.plan_tables.specs.PlanView.{PlanView}
+use Rattle.plan_tables.specs.Valid.{IsActionWithin}
 use Rattle.plan_tables.specs.declared.entries.Action.{Action}
 use Rattle.plan_tables.specs.declared.entries.Action.TheVariants.{Post}
-use Rattle.written_machine.specs.Machine.{all_do, do_action}
+use Rattle.written_machine.specs.Machine.{Machine, all_do, do_action}
 use Rattle.machine_core.specs.Core.{CoreView, CanCall, after}
 use Rattle.machine_core.proofs.Going.{goes-can, goes-action}
 use Rattle.machine_core.proofs.Listing.{grown}
@@ -12,27 +15,33 @@ use Rattle.machine_core.proofs.calls.run_actions.Goals as goal
 none : Action
 none = Post (record { 0 = 0 })
 
+pub run_action-requires-clause-action : goal.run_action-requires-clause-action
+unfolding none
+run_action-requires-clause-action g c =
+    let actions = c.args.actions.now in
+    let i = c.loop-action.action-index in
+    subst (λ (v : CoreView). IsActionWithin v.plan (get_or actions i none)) (sym c.loop-action.invariant.0)
+    (All-get_or (IsActionWithin c.args.core.now.plan) actions i none c.loop-action-test.true c.requires.actions)
+
 pub run_action-requires-clause-room : goal.run_action-requires-clause-room
 unfolding none
 run_action-requires-clause-room g c =
-    let plan = c.args.plan.now in
     let owner = c.args.owner in
     let actions = c.args.actions.now in
     let i = c.loop-action.action-index in
-    room-first (do_action plan owner) (λ a s. grown plan s (do_action plan owner a s) (goes-action plan owner a s)) c.loop-action.core (after (all_do (do_action plan owner) actions) c.args.core.now)
+    let run = λ (p : PlanView) (a : Action). do_action p owner a in
+    room-first run (λ (p : PlanView) (a : Action) (s : Machine). grown p s (run p a s) (goes-action p owner a s)) c.loop-action.core (after (all_do (do_action c.args.core.now.plan owner) actions) c.args.core.now)
     (get_or actions i none) (drop (i + 1) actions) (drop i actions) (drop_more actions i none c.loop-action-test.true) c.loop-action.invariant.0 c.requires.room
 
 pub loop-action-preserved : goal.loop-action-preserved
 unfolding none
 loop-action-preserved g c =
-    let plan = c.args.plan.now in
+    let core = c.loop-action.core in
     let owner = c.args.owner in
     let actions = c.args.actions.now in
-    let i = c.loop-action.action-index in (
-      all_do-first (do_action plan owner) c.loop-action.core c.run_action.new.core (after (all_do (do_action plan owner) actions) c.args.core.now) (get_or actions i none) (drop (i + 1) actions) (drop i actions)
+    let i = c.loop-action.action-index in
+    let a = get_or actions i none in (
+      all_do-first (λ (p : PlanView). do_action p owner) core c.run_action.new.core (after (all_do (do_action c.args.core.now.plan owner) actions) c.args.core.now) a (drop (i + 1) actions) (drop i actions)
           (drop_more actions i none c.loop-action-test.true) c.loop-action.invariant.0 c.run_action.ensures,
-      subst (CanCall plan) (sym c.run_action.ensures) (goes-can plan c.loop-action.core (after (do_action plan owner (get_or actions i none)) c.loop-action.core) (goes-action plan owner (get_or actions i none) c.loop-action.core.machine) c.loop-action.invariant.1),
+      subst CanCall (sym c.run_action.ensures) (goes-can core (do_action core.plan owner a) (goes-action core.plan owner a core.machine) c.loop-action.invariant.1),
     )
-
-pub run_action-requires-clause-plan : goal.run_action-requires-clause-plan
-run_action-requires-clause-plan g c = ap (λ (v : CoreView). v.handlers.plan) c.loop-action.invariant.0 ∙ c.requires.plan

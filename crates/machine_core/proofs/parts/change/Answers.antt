@@ -1,8 +1,19 @@
-use Rattle.std.proofs.Common.{sym, subst}
-use Rattle.machine_core.specs.Core.{CanCall}
+use Rattle.std.proofs.Common.{Option, ap, sym, ◌∙◌, subst}
+use Rattle.switch_core.specs.declared.change.Change.{Change}
+use Rattle.switch_core.specs.Switches.{after_change}
+use Rattle.written_machine.specs.Machine.{do_accepted, do_if_accepted, set_switches}
+use Rattle.machine_core.specs.Core.{CoreView, CanCall, after}
 use Rattle.machine_core.proofs.parts.change.Goals as goal
 
 pub run_accepted-requires-clause-calls : goal.run_accepted-requires-clause-calls
 run_accepted-requires-clause-calls g c =
-    subst (CanCall c.args.plan.now) (sym c.change.ensures.changed)
+    subst CanCall (sym c.change.ensures.changed)
     (record { devices = c.requires.core.devices; coils = c.requires.core.coils; early = c.requires.moment })
+
+pub returns-in-Some : goal.returns-in-Some
+returns-in-Some g c =
+    let core = c.args.core.now in
+    let changed = set_switches (after_change c.args.switch c.args.level c.args.at core.machine.switches) core.machine in
+    c.run_accepted.ensures
+    ∙ ap (λ (v : CoreView). after (do_accepted v.plan c.in-Some.change) v) c.change.ensures.changed
+    ∙ ap (λ (o : Option Change). record core { machine = do_if_accepted core.plan o changed }) c.in-Some.ensures.reported

@@ -1,4 +1,5 @@
 use Rattle.std.proofs.Common.{◌∙◌, ap, sym}
+use Rattle.plan_tables.specs.PlanView.{PlanView, mode_at}
 use Rattle.plan_tables.specs.declared.entries.EventId.{EventId}
 use Rattle.plan_tables.specs.declared.entries.Mode.{Mode as ModeValue}
 use Rattle.plan_tables.specs.declared.entries.Owner.TheVariants.{Machine}
@@ -14,23 +15,24 @@ use Rattle.machine_core.proofs.parts.mode_after.Goals as goal
 pub returns-then-kept : goal.returns-then-kept
 returns-then-kept g c =
     let m = c.args.mode in
-    let plan = c.args.plan.now in
+    let core = c.args.core.now in
     c.stop.ensures
-    ∙ follow-still (stop_mode plan m) c.args.core.now (ap (λ h. h.running) c.requires.handlers) (stop-still plan m c.args.core.now.machine)
-    ∙ (λ i. follow (do_after c.args.plan.now (sym c.if-kept.true i) (sym (ap (Mode c.args.mode) c.in-Started.is) i)) c.args.core.now)
+    ∙ follow-still (stop_mode core.plan m) core c.requires.handlers (stop-still core.plan m core.machine)
+    ∙ (λ i. follow (do_after core.plan (sym c.if-kept.true i) (sym (ap (Mode c.args.mode) c.in-Started.is) i)) core)
 
 pub returns-in-Stopping : goal.returns-in-Stopping
 returns-in-Stopping g c =
     let m = c.args.mode in
-    let plan = c.args.plan.now in
+    let core = c.args.core.now in
+    let mode_is = c.mode.ensures.mode ∙ ap (λ (p : PlanView). (mode_at p m).mode) c.plan.ensures in
     c.post-in-Stopping.ensures
-    ∙ ap (λ (e : EventId). after (post Machine e) c.end.new.self) (ap (λ (x : ModeValue). x.events.stopped) c.mode.ensures.mode)
-    ∙ ended-follows plan c.args.kept c.args.core.now c.call_devices.new.core c.release_coils.new.core c.end.new.self m (ap (λ h. h.running) c.requires.handlers) c.call_devices.ensures c.release_coils.ensures c.end.ensures
-    ∙ ap (λ (w : Work). follow (do_after c.args.plan.now c.args.kept w) c.args.core.now) (sym (ap (Mode c.args.mode) c.in-Stopping.is))
+    ∙ ap (λ (e : EventId). after (post Machine e) c.end.new.self) (ap (λ (x : ModeValue). x.events.stopped) mode_is)
+    ∙ ended-follows c.args.kept core c.call_devices.new.core c.release_coils.new.core c.end.new.self m c.requires.handlers c.call_devices.ensures c.release_coils.ensures c.end.ensures
+    ∙ ap (λ (w : Work). follow (do_after core.plan c.args.kept w) core) (sym (ap (Mode c.args.mode) c.in-Stopping.is))
 
 pub call_devices-requires-clause-room : goal.call_devices-requires-clause-room
 call_devices-requires-clause-room g c =
-    stopped-room c.args.plan.now c.args.kept c.args.mode (Mode c.args.mode c.args.which) c.args.core.now.room c.args.core.now.machine (ap (Mode c.args.mode) c.in-Stopping.is) c.requires.room
+    stopped-room c.args.core.now.plan c.args.kept c.args.mode (Mode c.args.mode c.args.which) c.args.core.now.room c.args.core.now.machine (ap (Mode c.args.mode) c.in-Stopping.is) c.requires.room
 
 pub release_coils-requires-clause-coils : goal.release_coils-requires-clause-coils
-release_coils-requires-clause-coils g c = stopped-coils c.args.plan.now c.args.mode c.args.core.now c.call_devices.new.core c.call_devices.ensures c.requires.calls
+release_coils-requires-clause-coils g c = stopped-coils c.args.mode c.args.core.now c.call_devices.new.core c.call_devices.ensures c.requires.calls

@@ -7,19 +7,19 @@ loop-command-init g c = record { left = refl; all = c.requires.coils }
 
 pub write-requires : goal.write-requires
 write-requires g c =
-    releasing-room c.args.plan.now c.args.owner c.args.core.now c.loop-command.core c.loop-command.invariant c.in-Some.command c.in-Some.ensures.command
+    releasing-room c.args.core.now.plan c.args.owner c.args.core.now c.loop-command.core c.loop-command.invariant c.in-Some.command c.in-Some.ensures.command
     c.release.new.self c.in-Some.ensures.released _ refl c.requires.room
 
 pub loop-command-smaller : goal.loop-command-smaller
 loop-command-smaller g c =
-    releasing-smaller c.args.plan.now c.args.owner c.args.core.now c.loop-command.core c.loop-command.invariant c.in-Some.command c.in-Some.ensures.command
+    releasing-smaller c.args.core.now.plan c.args.owner c.args.core.now c.loop-command.core c.loop-command.invariant c.in-Some.command c.in-Some.ensures.command
     c.release.new.self c.in-Some.ensures.released c.write.new.self c.write.ensures c.requires.room
 
 pub loop-command-preserved : goal.loop-command-preserved
 loop-command-preserved g c =
-    releasing-next c.args.plan.now c.args.owner c.args.core.now c.loop-command.core c.loop-command.invariant c.in-Some.command c.in-Some.ensures.command
+    releasing-next c.args.core.now.plan c.args.owner c.args.core.now c.loop-command.core c.loop-command.invariant c.in-Some.command c.in-Some.ensures.command
     c.release.new.self c.in-Some.ensures.released c.write.new.self c.write.ensures
 
 pub returns : goal.returns
 returns g c =
-    releasing-end c.args.plan.now c.args.owner c.args.core.now c.loop-command.core c.loop-command.invariant c.in_default.ensures.command c.release.new.self c.in_default.ensures.released
+    releasing-end c.args.core.now.plan c.args.owner c.args.core.now c.loop-command.core c.loop-command.invariant c.in_default.ensures.command c.release.new.self c.in_default.ensures.released

@@ -4,7 +4,7 @@ use Rattle.machine_core.proofs.parts.release_coils.Given as goal
 
 -- what is left to put off, put off now, is all, put off at the start
 abbrev pub invariant-loop-command : goal.invariant-loop-command
-invariant-loop-command g l = IsReleasing l.plan l.owner l.fn.core l.core
+invariant-loop-command g l = IsReleasing l.fn.core.plan l.owner l.fn.core l.core
 
 -- each gives a line
 abbrev pub decreases-loop-command : goal.decreases-loop-command

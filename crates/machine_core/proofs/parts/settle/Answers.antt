@@ -4,43 +4,43 @@ use Rattle.machine_core.proofs.Stepping.{taken-calls}
 use Rattle.machine_core.proofs.parts.settle.Goals as goal
 
 pub loop-first-init : goal.loop-first-init
-loop-first-init g c = (0, follow-none c.args.plan.now c.args.core.now c.requires.handlers, c.requires.calls)
+loop-first-init g c = (0, follow-none c.args.core.now c.requires.handlers, c.requires.calls)
 
 pub write-requires : goal.write-requires
 write-requires g c =
     let (count, is, can) = c.loop-first.invariant in
     let (rest, waits, took_is) = c.in-Some.ensures in
-    took-room c.args.plan.now c.args.core.now c.loop-first.core c.requires.handlers c.requires.room count is c.in-Some.first rest waits c.take.new.self _ took_is refl
+    took-room c.args.core.now c.loop-first.core c.requires.room count is c.in-Some.first rest waits c.take.new.self _ took_is refl
 
 pub take_step-requires-clause-handlers : goal.take_step-requires-clause-handlers
 take_step-requires-clause-handlers g c =
     let (count, is, can) = c.loop-first.invariant in
     let (rest, waits, took_is) = c.in-Some.ensures in
-    written-handles c.args.plan.now c.args.core.now c.loop-first.core c.requires.handlers c.requires.room count is c.in-Some.first rest waits c.take.new.self c.write.new.self took_is c.write.ensures
+    written-handles c.args.core.now c.loop-first.core c.requires.room count is c.in-Some.first rest waits c.take.new.self c.write.new.self took_is c.write.ensures
 
 pub take_step-requires-clause-room : goal.take_step-requires-clause-room
 take_step-requires-clause-room g c =
     let (count, is, can) = c.loop-first.invariant in
     let (rest, waits, took_is) = c.in-Some.ensures in
-    written-room c.args.plan.now c.args.core.now c.loop-first.core c.requires.handlers c.requires.room count is c.in-Some.first rest waits c.take.new.self c.write.new.self took_is c.write.ensures
+    written-room c.args.core.now c.loop-first.core c.requires.room count is c.in-Some.first rest waits c.take.new.self c.write.new.self took_is c.write.ensures
 
 pub loop-first-smaller : goal.loop-first-smaller
 loop-first-smaller g c =
     let (count, is, can) = c.loop-first.invariant in
     let (rest, waits, took_is) = c.in-Some.ensures in
-    next-smaller c.args.plan.now c.args.core.now c.loop-first.core c.requires.handlers c.requires.room count is c.in-Some.first rest waits c.take.new.self c.write.new.self took_is c.write.ensures c.take_step.new.core c.take_step.ensures
+    next-smaller c.args.core.now c.loop-first.core c.requires.room count is c.in-Some.first rest waits c.take.new.self c.write.new.self took_is c.write.ensures c.take_step.new.core c.take_step.ensures
 
 pub loop-first-preserved : goal.loop-first-preserved
 loop-first-preserved g c =
     let (count, is, can) = c.loop-first.invariant in
     let (rest, waits, took_is) = c.in-Some.ensures in (
       count + 1,
-      next-steps c.args.plan.now c.args.core.now c.loop-first.core c.requires.handlers c.requires.room count is c.in-Some.first rest waits c.take.new.self c.write.new.self took_is c.write.ensures c.take_step.new.core c.take_step.ensures,
-      taken-calls c.args.plan.now c.in-Some.first.event c.write.new.self c.take_step.new.core c.take_step.ensures (written-calls c.args.plan.now c.loop-first.core c.take.new.self c.write.new.self _ _ took_is c.write.ensures can),
+      next-steps c.args.core.now c.loop-first.core c.requires.room count is c.in-Some.first rest waits c.take.new.self c.write.new.self took_is c.write.ensures c.take_step.new.core c.take_step.ensures,
+      taken-calls c.in-Some.first.event c.write.new.self c.take_step.new.core c.take_step.ensures (written-calls c.loop-first.core c.take.new.self c.write.new.self _ _ took_is c.write.ensures can),
     )
 
 pub take_step-requires-clause-calls : goal.take_step-requires-clause-calls
 take_step-requires-clause-calls g c =
     let (count, is, can) = c.loop-first.invariant in
     let (rest, waits, took_is) = c.in-Some.ensures in
-    written-calls c.args.plan.now c.loop-first.core c.take.new.self c.write.new.self _ _ took_is c.write.ensures can
+    written-calls c.loop-first.core c.take.new.self c.write.new.self _ _ took_is c.write.ensures can

@@ -5,7 +5,7 @@ use Rattle.machine_core.proofs.parts.settle.Given as goal
 
 -- so many event steps in plan order were taken
 abbrev pub invariant-loop-first : goal.invariant-loop-first
-invariant-loop-first g l = (count : ℕ) × (l.core ≡ follow (plan_steps l.plan count) l.fn.core) × CanCall l.plan l.core
+invariant-loop-first g l = (count : ℕ) × (l.core ≡ follow (plan_steps l.fn.core.plan count) l.fn.core) × CanCall l.core
 
 -- each gives a line
 abbrev pub decreases-loop-first : goal.decreases-loop-first

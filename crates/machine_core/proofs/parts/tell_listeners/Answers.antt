@@ -1,6 +1,8 @@
-use Rattle.std.proofs.Common.{◌≡◌, ◌+◌, drop, get_or, ap, sym, ◌∙◌, subst}
+use Rattle.std.proofs.Common.{◌≡◌, ◌+◌, ◌<◌, drop, get_or, length, ap, sym, ◌∙◌, subst}
 use Rattle.std.proofs.lemmas.List.{drop_more}
-use Rattle.plan_tables.specs.PlanView.{act_of_listener}
+use Rattle.std.proofs.lemmas.List.Elements.{All-get_or}
+use Rattle.plan_tables.specs.PlanView.{PlanView, act_of_listener}
+use Rattle.plan_tables.specs.Valid.{IsListenerWithin}
 use Rattle.plan_tables.specs.declared.devices.Act.{Act}
 use Rattle.plan_tables.specs.declared.entries.Listener.{Listener}
 use Rattle.device_objects.specs.declared.device.Call.TheVariants as calls
@@ -14,8 +16,14 @@ use Rattle.machine_core.proofs.parts.tell_listeners.Goals as goal
 none : Listener
 none = record { row = record { 0 = 0 }; switch = 0 }
 
-pub call_device-requires-clause-plan : goal.call_device-requires-clause-plan
-call_device-requires-clause-plan g c = ap (λ (v : CoreView). v.handlers.plan) c.loop-listener.invariant.0 ∙ c.requires.plan
+pub call_device-requires-clause-row : goal.call_device-requires-clause-row
+unfolding none
+call_device-requires-clause-row g c =
+    let plan = c.args.core.now.plan in
+    let listeners = c.args.listeners.now in
+    let i = c.loop-listener.listener-index in
+    subst (λ (v : CoreView). (get_or listeners i none).row.0 < length v.plan.rows) (sym c.loop-listener.invariant.0)
+    (All-get_or (IsListenerWithin (length plan.rows)) listeners i none c.loop-listener-test.true c.requires.listeners)
 
 pub call_device-requires-clause-calls : goal.call_device-requires-clause-calls
 call_device-requires-clause-calls g c = c.loop-listener.invariant.1
@@ -23,27 +31,25 @@ call_device-requires-clause-calls g c = c.loop-listener.invariant.1
 pub call_device-requires-clause-room : goal.call_device-requires-clause-room
 unfolding none
 call_device-requires-clause-room g c =
-    let plan = c.args.plan.now in
     let active = c.args.active in
     let listeners = c.args.listeners.now in
     let i = c.loop-listener.listener-index in
     let l = get_or listeners i none in
     let core = c.loop-listener.core in
-    subst (λ (a : Act). HasRoom core.room (call_device plan (calls.Act a) l.row core.machine)) (sym c.act.ensures)
-    (room-first (tell_listener plan active) (λ (x : Listener) (s : Machine). grown plan s (tell_listener plan active x s) (goes-call plan (calls.Act (act_of_listener active x)) x.row s)) core (after (all_do (tell_listener plan active) listeners) c.args.core.now)
-    l (drop (i + 1) listeners) (drop i listeners) (drop_more listeners i none c.loop-listener-test.true) c.loop-listener.invariant.0 c.requires.room)
+    subst (λ (a : Act). HasRoom core.room (call_device core.plan (calls.Act a) l.row core.machine)) (sym c.act.ensures)
+    (room-first (λ (p : PlanView). tell_listener p active) (λ (p : PlanView) (x : Listener) (s : Machine). grown p s (tell_listener p active x s) (goes-call p (calls.Act (act_of_listener active x)) x.row s)) core
+    (after (all_do (tell_listener c.args.core.now.plan active) listeners) c.args.core.now) l (drop (i + 1) listeners) (drop i listeners) (drop_more listeners i none c.loop-listener-test.true) c.loop-listener.invariant.0 c.requires.room)
 
 pub loop-listener-preserved : goal.loop-listener-preserved
 unfolding none
 loop-listener-preserved g c =
-    let plan = c.args.plan.now in
     let active = c.args.active in
     let listeners = c.args.listeners.now in
     let i = c.loop-listener.listener-index in
     let l = get_or listeners i none in
     let core = c.loop-listener.core in
-    let done : c.call_device.new.core ≡ after (tell_listener plan active l) core = c.call_device.ensures ∙ ap (λ (a : Act). after (call_device plan (calls.Act a) l.row) core) c.act.ensures in (
-      all_do-first (tell_listener plan active) core c.call_device.new.core (after (all_do (tell_listener plan active) listeners) c.args.core.now)
+    let done : c.call_device.new.core ≡ after (tell_listener core.plan active l) core = c.call_device.ensures ∙ ap (λ (a : Act). after (call_device core.plan (calls.Act a) l.row) core) c.act.ensures in (
+      all_do-first (λ (p : PlanView). tell_listener p active) core c.call_device.new.core (after (all_do (tell_listener c.args.core.now.plan active) listeners) c.args.core.now)
           l (drop (i + 1) listeners) (drop i listeners) (drop_more listeners i none c.loop-listener-test.true) c.loop-listener.invariant.0 done,
-      call-calls plan (calls.Act (act_of_listener active l)) l.row core c.call_device.new.core done c.loop-listener.invariant.1,
+      call-calls (calls.Act (act_of_listener active l)) l.row core c.call_device.new.core done c.loop-listener.invariant.1,
     )

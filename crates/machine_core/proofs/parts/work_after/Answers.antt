@@ -9,7 +9,7 @@ use Rattle.machine_core.proofs.parts.work_after.Goals as goal
 
 pub returns-in-Game : goal.returns-in-Game
 returns-in-Game g c =
-    let plan = c.args.plan.now in
+    let core = c.args.core.now in
     c.play.ensures
-    ∙ follow-still (do_game plan c.in-Game.event) c.args.core.now (ap (λ h. h.running) c.requires.handlers) (game-still plan c.in-Game.event c.args.core.now.machine)
-    ∙ ap (λ (w : Work). follow (do_after plan c.args.kept w) c.args.core.now) (sym c.in-Game.is)
+    ∙ follow-still (do_game core.plan c.in-Game.event) core c.requires.handlers (game-still core.plan c.in-Game.event core.machine)
+    ∙ ap (λ (w : Work). follow (do_after core.plan c.args.kept w) core) (sym c.in-Game.is)

@@ -8,8 +8,8 @@ use Rattle.machine_core.proofs.parts.work_before.Goals as goal
 
 pub returns-in-Started-clause-done : goal.returns-in-Started-clause-done
 returns-in-Started-clause-done g c =
-    let plan = c.args.plan.now in
+    let core = c.args.core.now in
     let m = c.in-Mode.mode in
-    started-follows plan c.args.core.now c.enter-kept.new.self c.call_devices.new.core m
-    (c.enter-kept.ensures.entered ∙ entered-follows c.args.core.now m (ap (λ h. h.running) c.requires.handlers)) c.call_devices.ensures
-    ∙ ap (λ (w : Work). follow (do_before plan w) c.args.core.now) (sym (c.in-Mode.is ∙ ap (Mode m) c.in-Started.is))
+    started-follows core c.enter-kept.new.self c.call_devices.new.core m
+    (c.enter-kept.ensures.entered ∙ entered-follows core m c.requires.handlers) c.call_devices.ensures
+    ∙ ap (λ (w : Work). follow (do_before core.plan w) core) (sym (c.in-Mode.is ∙ ap (Mode m) c.in-Started.is))

@@ -2,58 +2,57 @@ use Rattle.std.proofs.Common.{◌≡◌, Ok, List, length, ap, sym, ◌∙◌, s
 use Rattle.written_machine.specs.declared.line.Line.{Line}
 use Rattle.machine_core.specs.Stimuli.{stimulus_view}
 use Rattle.pin_rig.specs.Rig.{RigView, stimulus_at, RigStep, RigHalt}
-use Rattle.pin_rig.proofs.Acting.{rig_of, begun-room, begun_core-handles, begun_core-calls, begun-stays, can-send, steps-on, held-again, halts, held-halted}
+use Rattle.pin_rig.proofs.Acting.{rig_of, begin-room, now-handles, now-calls, now-stays, can-send, steps-on, held-again, halts, held-halted}
 use Rattle.pin_rig.proofs.rig.Rig.act.Goals as goal
 
 pub begin-requires-clause-room : goal.begin-requires-clause-room
 begin-requires-clause-room g c =
     let stimulus = stimulus_view c.in_ok-stimulus.stimulus in
     let judged = subst (λ (rig : RigView). stimulus_at rig c.args.input ≡ Ok stimulus) (sym c.self.view_is) c.in_ok-stimulus.ensures in
-    begun-room c.self.inside.checked.now c.self.inside.core c.self.inside.driver c.self.inside.shown c.self.invariant c.plan-plan.ensures.accepted c.args.input stimulus judged
-    c.plan-plan.result.now c.plan-plan.ensures.plan
+    begin-room c.self.inside.checked.now c.self.inside.core c.self.inside.driver c.self.inside.shown c.self.invariant c.args.input stimulus judged
 
 pub settle-requires-clause-handlers : goal.settle-requires-clause-handlers
 settle-requires-clause-handlers g c =
     let stimulus = stimulus_view c.in_ok-stimulus.stimulus in
     let judged = subst (λ (rig : RigView). stimulus_at rig c.args.input ≡ Ok stimulus) (sym c.self.view_is) c.in_ok-stimulus.ensures in
-    begun_core-handles c.self.inside.checked.now c.self.inside.core c.self.inside.driver c.self.inside.shown c.self.invariant c.plan-plan.ensures.accepted c.args.input stimulus judged
-    c.plan-plan.result.now c.plan-plan.ensures.plan c.begin.new.core c.begin.ensures
+    now-handles c.self.inside.checked.now c.self.inside.core c.self.inside.driver c.self.inside.shown c.self.invariant c.args.input stimulus judged
+    c.begin.new.core c.begin.ensures
 
 pub settle-requires-clause-calls : goal.settle-requires-clause-calls
 settle-requires-clause-calls g c =
     let stimulus = stimulus_view c.in_ok-stimulus.stimulus in
     let judged = subst (λ (rig : RigView). stimulus_at rig c.args.input ≡ Ok stimulus) (sym c.self.view_is) c.in_ok-stimulus.ensures in
-    begun_core-calls c.self.inside.checked.now c.self.inside.core c.self.inside.driver c.self.inside.shown c.self.invariant c.plan-plan.ensures.accepted c.args.input stimulus judged
-    c.plan-plan.result.now c.plan-plan.ensures.plan c.begin.new.core c.begin.ensures
+    now-calls c.self.inside.checked.now c.self.inside.core c.self.inside.driver c.self.inside.shown c.self.invariant c.args.input stimulus judged
+    c.begin.new.core c.begin.ensures
 
 pub settle-requires-clause-room : goal.settle-requires-clause-room
 settle-requires-clause-room g c =
     let stimulus = stimulus_view c.in_ok-stimulus.stimulus in
     let judged = subst (λ (rig : RigView). stimulus_at rig c.args.input ≡ Ok stimulus) (sym c.self.view_is) c.in_ok-stimulus.ensures in
-    begun-stays c.self.inside.checked.now c.self.inside.core c.self.inside.driver c.self.inside.shown c.self.invariant c.plan-plan.ensures.accepted c.args.input stimulus judged
-    c.plan-plan.result.now c.plan-plan.ensures.plan c.begin.new.core c.begin.ensures
+    now-stays c.self.inside.checked.now c.self.inside.core c.self.inside.driver c.self.inside.shown c.self.invariant c.args.input stimulus judged
+    c.begin.new.core c.begin.ensures
 
 pub serve-requires : goal.serve-requires
 serve-requires g c =
     let stimulus = stimulus_view c.in_ok-stimulus.stimulus in
     let judged = subst (λ (rig : RigView). stimulus_at rig c.args.input ≡ Ok stimulus) (sym c.self.view_is) c.in_ok-stimulus.ensures in
-    can-send c.self.inside.checked.now c.self.inside.core c.self.inside.driver c.self.inside.shown c.self.invariant c.plan-plan.ensures.accepted c.args.input stimulus judged
-    c.plan-plan.result.now c.plan-plan.ensures.plan c.begin.new.core c.begin.ensures c.settle.new.core c.settle.ensures.settled c.lines.result.now c.lines.ensures
+    can-send c.self.inside.checked.now c.self.inside.core c.self.inside.driver c.self.inside.shown c.self.invariant c.args.input stimulus judged
+    c.begin.new.core c.begin.ensures c.settle.new.core c.settle.ensures.settled c.lines.result.now c.lines.ensures
 
 pub invariant_of-self : goal.invariant_of-self
 invariant_of-self g c =
     let stimulus = stimulus_view c.in_ok-stimulus.stimulus in
     let judged = subst (λ (rig : RigView). stimulus_at rig c.args.input ≡ Ok stimulus) (sym c.self.view_is) c.in_ok-stimulus.ensures in
-    held-again c.self.inside.checked.now c.self.inside.core c.self.inside.driver c.self.inside.shown c.self.invariant c.plan-plan.ensures.accepted c.args.input stimulus judged
-    c.plan-plan.result.now c.plan-plan.ensures.plan c.begin.new.core c.begin.ensures c.settle.new.core c.settle.ensures.settled
+    held-again c.self.inside.checked.now c.self.inside.core c.self.inside.driver c.self.inside.shown c.self.invariant c.args.input stimulus judged
+    c.begin.new.core c.begin.ensures c.settle.new.core c.settle.ensures.settled
     c.serve.new.self c.serve.ensures.coils (length c.lines-in-None.result.now) c.lines.result.now c.lines.ensures c.in-None.ensures.served (ap (λ (ls : List Line). length ls) (c.lines-in-None.ensures ∙ sym c.lines.ensures))
 
 pub invariant_of-self-in-Some : goal.invariant_of-self-in-Some
 invariant_of-self-in-Some g c =
     let stimulus = stimulus_view c.in_ok-stimulus.stimulus in
     let judged = subst (λ (rig : RigView). stimulus_at rig c.args.input ≡ Ok stimulus) (sym c.self.view_is) c.in_ok-stimulus.ensures in
-    held-halted c.self.inside.checked.now c.self.inside.core c.self.inside.driver c.self.inside.shown c.self.invariant c.plan-plan.ensures.accepted c.args.input stimulus judged
-    c.plan-plan.result.now c.plan-plan.ensures.plan c.begin.new.core c.begin.ensures c.settle.new.core c.settle.ensures.settled
+    held-halted c.self.inside.checked.now c.self.inside.core c.self.inside.driver c.self.inside.shown c.self.invariant c.args.input stimulus judged
+    c.begin.new.core c.begin.ensures c.settle.new.core c.settle.ensures.settled
     c.serve.new.self c.serve.ensures.coils c.in-Some.place c.lines.result.now c.lines.ensures c.in-Some.ensures.served
 
 pub returns-in-None : goal.returns-in-None
@@ -61,8 +60,8 @@ returns-in-None g c =
     let stimulus = stimulus_view c.in_ok-stimulus.stimulus in
     let judged = subst (λ (rig : RigView). stimulus_at rig c.args.input ≡ Ok stimulus) (sym c.self.view_is) c.in_ok-stimulus.ensures in
     let step =
-    steps-on c.self.inside.checked.now c.self.inside.core c.self.inside.driver c.self.inside.shown c.self.invariant c.plan-plan.ensures.accepted c.args.input stimulus judged
-    c.plan-plan.result.now c.plan-plan.ensures.plan c.begin.new.core c.begin.ensures c.settle.new.core c.settle.ensures.settled
+    steps-on c.self.inside.checked.now c.self.inside.core c.self.inside.driver c.self.inside.shown c.self.invariant c.args.input stimulus judged
+    c.begin.new.core c.begin.ensures c.settle.new.core c.settle.ensures.settled
     c.serve.new.self c.serve.ensures.coils (length c.lines-in-None.result.now) c.lines.result.now c.lines.ensures c.in-None.ensures.served (ap (λ (ls : List Line). length ls) (c.lines-in-None.ensures ∙ sym c.lines.ensures)) in
     subst (λ (rig : RigView). RigStep c.args.input rig (rig_of c.self.inside.checked.now c.settle.new.core c.serve.new.self (length c.lines-in-None.result.now))) c.self.view_is step
 
@@ -71,7 +70,7 @@ returns-in-Some g c =
     let stimulus = stimulus_view c.in_ok-stimulus.stimulus in
     let judged = subst (λ (rig : RigView). stimulus_at rig c.args.input ≡ Ok stimulus) (sym c.self.view_is) c.in_ok-stimulus.ensures in
     let halt =
-    halts c.self.inside.checked.now c.self.inside.core c.self.inside.driver c.self.inside.shown c.self.invariant c.plan-plan.ensures.accepted c.args.input stimulus judged
-    c.plan-plan.result.now c.plan-plan.ensures.plan c.begin.new.core c.begin.ensures c.settle.new.core c.settle.ensures.settled
+    halts c.self.inside.checked.now c.self.inside.core c.self.inside.driver c.self.inside.shown c.self.invariant c.args.input stimulus judged
+    c.begin.new.core c.begin.ensures c.settle.new.core c.settle.ensures.settled
     c.serve.new.self c.serve.ensures.coils c.in-Some.place c.lines.result.now c.lines.ensures c.in-Some.ensures.served in
     subst (λ (rig : RigView). RigHalt c.args.input rig (rig_of c.self.inside.checked.now c.settle.new.core c.serve.new.self c.in-Some.place)) c.self.view_is halt
