@@ -68,12 +68,9 @@ impl<'c, D: Device, B: Board> Rig<'c, D, B> {
     ghost use Rattle.pin_rig.specs.Steps.{at_rest};
     ghost use Rattle.machine_core.specs.Stimuli.{stimulus_view};
     ghost use Rattle.pin_rig.specs.Inside.{GivesStimulus};
-    ghost use Rattle.std.specs.Io.BufRead.{Rests};
-    ghost use mir.Syntax.{named};
-    ghost use Rattle.pin_rig.specs.contracts.rig.Rig.{the_row};
     ghost use Rattle.machine_core.specs.Fit.{IsFit, IsFirstWrong};
     ghost use Rattle.machine_core.specs.Stopping.{AreStopped};
-    ghost use Rattle.pin_rig.specs.Lending.{IsStepped};
+    ghost use Rattle.pin_rig.specs.Lending.{HasStepped};
     ghost use Rattle.pin_rig.specs.Exchange.{IsRefused, IsTakenOut, MayTakePlace};
 
     /// The machine of an accepted configuration, as it begins: at moment 0, with all switches
@@ -134,7 +131,7 @@ impl<'c, D: Device, B: Board> Rig<'c, D, B> {
     ///   commands. Nothing more is sent, and the rig is halted. The machine has gone on to the end
     ///   of the cascade: `now`, `next_due` and `state` are of that end.
     pub fn step(&mut self, input: Input) -> Result<&[Line], StepFault>
-        ensures* after { sem 𝓛 (Rests (the_row (record { mir = named 1; lft = [] }) D.row B.row D.Device B.Board) self.entry (λ new. IsStepped input self.entry.now new result)) }
+        ensures* after { sem 𝓛 (HasStepped D.row B.row D.Device B.Board input self.entry result) }
         ensures judged { MatchResult result (λ _. IsOk (stimulus_at self.old input)) (λ fault. IsWhy (stimulus_at self.old input) fault) }
     {
         self.act(input)?;
