@@ -26,7 +26,8 @@ use Rattle.written_machine.specs.Machine.{Machine, post, book, after_entry, do_a
 use Rattle.written_machine.proofs.NextAlarms.{dues-at}
 use Rattle.machine_core.specs.Balls.{awaited_entry}
 use Rattle.machine_core.specs.Core.{CoreView, CanCall, HasRoom, after}
-use Rattle.machine_core.proofs.Going.{Goes, goes-none, goes-can, goes-confirm, goes-action_by, goes-no_confirm}
+use Rattle.machine_core.specs.Goes.{Goes}
+use Rattle.machine_core.proofs.Going.{goes-none, goes-can, goes-confirm, goes-action_by, goes-no_confirm}
 use Rattle.machine_core.proofs.Listing.{grown, row-first, row-other, rows-end}
 use Rattle.machine_core.proofs.Room.{room-before}
 

@@ -33,16 +33,7 @@ use Rattle.written_machine.proofs.Does.{has_devices-does}
 use Rattle.written_machine.proofs.Growth.{post-grows, asked-grows, told-grows}
 use Rattle.written_machine.proofs.Held.{asked-count}
 use Rattle.machine_core.specs.Core.{CoreView, CanCall, after}
-
--- The second machine has as many lines and waiting events at least. Its modes and its moment are the same, and its
--- devices can be called and its coils asked as before.
-pub record Goes (plan : PlanView) (s t : Machine) : Type 0 where
-  pub lines : length s.lines ≤ length t.lines
-  pub waiting : length s.waiting ≤ length t.waiting
-  pub modes : t.modes ≡ s.modes
-  pub moment : t.moment ≡ s.moment
-  pub coils : length t.coils ≡ length s.coils
-  pub devices : HasDevices plan s.devices → HasDevices plan t.devices
+use Rattle.machine_core.specs.Goes.{Goes}
 
 -- devices can be called as before
 pub goes-can : (old : CoreView) (does : Machine → Machine) → Goes old.plan old.machine (does old.machine) → CanCall old → CanCall (after does old)

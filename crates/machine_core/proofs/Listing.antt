@@ -18,7 +18,8 @@ use Rattle.written_machine.specs.Devices.{HasDevices}
 use Rattle.written_machine.specs.Machine.{Machine, all_do, world_of, device_at, called, call_device}
 use Rattle.machine_core.specs.Core.{CoreView, CanCall, after}
 use Rattle.machine_core.proofs.Room.{Grows}
-use Rattle.machine_core.proofs.Going.{Goes, goes-can, goes-call}
+use Rattle.machine_core.specs.Goes.{Goes}
+use Rattle.machine_core.proofs.Going.{goes-can, goes-call}
 
 -- as much as before, and more
 pub grown : (plan : PlanView) (s t : Machine) → Goes plan s t → Grows s t

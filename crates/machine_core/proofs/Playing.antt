@@ -14,7 +14,8 @@ use Rattle.plan_tables.specs.PlanView.{game_event}
 use Rattle.written_machine.specs.declared.line.Happening.TheVariants as lines
 use Rattle.written_machine.specs.Machine.{Machine, all_do, ask_ball, do_game, post_game, write_final, write_finals}
 use Rattle.machine_core.specs.Core.{CoreView, CanCall, HasRoom, IsWorkOfGame, after, played, step_at}
-use Rattle.machine_core.proofs.Going.{Goes, goes-none, goes-can, goes-all, goes-post, goes-write, goes-ask}
+use Rattle.machine_core.specs.Goes.{Goes}
+use Rattle.machine_core.proofs.Going.{goes-none, goes-can, goes-all, goes-post, goes-write, goes-ask}
 use Rattle.machine_core.proofs.Listing.{grown}
 use Rattle.machine_core.proofs.Room.{room-before}
 

@@ -14,11 +14,7 @@ use device_objects::Device;
 use plan_tables::{Action, BallTarget, EventId, GameEvent, Owner, Plan, RowId};
 
 /// An action. A ball that it lets into a device is not confirmed yet.
-pub(crate) fn run_alone<D: Device>(
-    core: &mut Core<'_, D>,
-    owner: Owner,
-    action: Action,
-)
+pub(crate) fn run_alone<D: Device>(core: &mut Core<'_, D>, owner: Owner, action: Action)
     requires action { IsActionWithin core.old.plan action }
     requires calls { CanCall core.old }
     requires room { HasRoom core.old.room (do_action_by core.old.plan no_confirm owner action core.old.machine) }

@@ -1,20 +1,16 @@
 //! Balls that have arrived where a device has ejected them to.
 
 ghost use Rattle.std.specs.Prelude.{◌≡◌, ◌<◌, ◌&&◌, IfSome, length};
-ghost use Rattle.std.specs.List.{All};
-ghost use Rattle.plan_tables.specs.Devices.{list_count};
 ghost use Rattle.plan_tables.specs.PlanView.{feeds, row_at};
-ghost use Rattle.plan_tables.specs.Valid.{IsActionWithin};
-ghost use Rattle.plan_tables.specs.declared.devices.Act.TheVariants.{Confirm};
-ghost use Rattle.device_objects.specs.declared.device.Call.TheVariants as calls;
-ghost use Rattle.written_machine.specs.Machine.{all_do, call_device_by, confirm_first_away, do_action_by, do_answer_by, device_at, first_away, is_device_away, no_confirm};
+ghost use Rattle.written_machine.specs.Machine.{confirm_first_away, device_at, first_away, is_device_away};
 ghost use Rattle.written_machine.specs.Devices.{HasDevices};
 ghost use Rattle.machine_core.specs.Core.{CanCall, HasRoom, after};
 
 use crate::actions::run_alone;
 use crate::core_state::Core;
+use crate::lists::{Confirming, call_by};
 use device_objects::{Call, Device, DeviceState, Eject};
-use plan_tables::{Act, Action, BallTarget, Owner, Plan, RowId};
+use plan_tables::{Act, Action, BallTarget, Owner, RowId};
 
 /// A ball has arrived at the target: the first device whose ball is on its way there is told, if
 /// there is one.
@@ -24,7 +20,7 @@ pub(crate) fn confirm<D: Device>(core: &mut Core<'_, D>, target: BallTarget)
     ensures { core.new ≡ after (confirm_first_away core.old.plan target) core.old }
 {
     if let Some(row) = first_away(core, target) {
-        tell_arrival(core, row);
+        call_by::<D, Unconfirmed>(core, row, Call::Act(Act::Confirm));
     }
 }
 
@@ -71,44 +67,15 @@ fn is_away(state: &DeviceState) -> bool
     }
 }
 
-/// A device is told that its ball has arrived. What it answers is done, and confirms nothing.
-fn tell_arrival<D: Device>(core: &mut Core<'_, D>, row: RowId)
-    requires row { row.0 < length core.old.plan.rows }
-    requires calls { CanCall core.old }
-    requires room { HasRoom core.old.room (call_device_by core.old.plan no_confirm (calls.Act Confirm) row core.old.machine) }
-    ensures { core.new ≡ after (call_device_by core.old.plan no_confirm (calls.Act Confirm) row) core.old }
-{
-    let lists = core.call(row, Call::Act(Act::Confirm));
-    run_told_lists(core, row, &lists);
-}
+/// What a device does that was told of an arrival confirms nothing.
+struct Unconfirmed;
 
-/// Effect lists of a device that was told of an arrival run, one after another.
-fn run_told_lists<D: Device>(core: &mut Core<'_, D>, row: RowId, lists: &[u16])
-    requires row { row.0 < length core.old.plan.rows }
-    requires lists { All (λ list. list < list_count (row_at core.old.plan row).settings) lists.now }
-    requires calls { CanCall core.old }
-    requires room { HasRoom core.old.room (do_answer_by core.old.plan no_confirm row lists.now core.old.machine) }
-    ensures { core.new ≡ after (do_answer_by core.old.plan no_confirm row lists.now) core.old }
-{
-    let plan = core.plan();
-    let owner = plan.row(row).owner;
-    for list in lists {
-        run_told_actions(core, owner, plan.list(plan.list_of_row(row, *list)));
-    }
-}
+impl Confirming for Unconfirmed {
+    ghost use Rattle.written_machine.specs.Machine.{no_confirm};
 
-/// Their actions confirm nothing.
-fn run_told_actions<D: Device>(
-    core: &mut Core<'_, D>,
-    owner: Owner,
-    actions: &[Action],
-)
-    requires actions { All (IsActionWithin core.old.plan) actions.now }
-    requires calls { CanCall core.old }
-    requires room { HasRoom core.old.room (all_do (do_action_by core.old.plan no_confirm owner) actions.now core.old.machine) }
-    ensures { core.new ≡ after (all_do (do_action_by core.old.plan no_confirm owner) actions.now) core.old }
-{
-    for action in actions {
-        run_alone(core, owner, *action);
+    ghost confirm = { λ plan. no_confirm };
+
+    fn run<D: Device>(core: &mut Core<'_, D>, owner: Owner, action: Action) {
+        run_alone(core, owner, action);
     }
 }

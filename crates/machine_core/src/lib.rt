@@ -9,6 +9,7 @@ pub mod core_state;
 mod exchange;
 pub mod fault;
 mod fit;
+mod lists;
 pub mod parts;
 pub mod stimulus;
 

@@ -97,11 +97,7 @@ fn run_accepted<D: Device>(core: &mut Core<'_, D>, change: Change)
 }
 
 /// Devices are told that the switch to which they listen is active, or inactive.
-fn tell_listeners<D: Device>(
-    core: &mut Core<'_, D>,
-    active: bool,
-    listeners: &[Listener],
-)
+fn tell_listeners<D: Device>(core: &mut Core<'_, D>, active: bool, listeners: &[Listener])
     requires listeners { All (IsListenerWithin (length core.old.plan.rows)) listeners.now }
     requires calls { CanCall core.old }
     requires room { HasRoom core.old.room (all_do (tell_listener core.old.plan active) listeners.now core.old.machine) }
@@ -216,12 +212,7 @@ fn work_after<D: Device>(core: &mut Core<'_, D>, kept: bool, work: Work)
 }
 
 /// The next step in the life of a mode, after the handlers of its event.
-fn mode_after<D: Device>(
-    core: &mut Core<'_, D>,
-    kept: bool,
-    mode: ModeId,
-    which: ModeEvent,
-)
+fn mode_after<D: Device>(core: &mut Core<'_, D>, kept: bool, mode: ModeId, which: ModeEvent)
     requires mode { mode.0 < length core.old.plan.modes }
     requires handlers { HasHandlers core.old }
     requires calls { CanCall core.old }

@@ -1,47 +1,5 @@
-use Rattle.std.proofs.Common.{◌+◌, drop, get_or, ap, sym, subst}
-use Rattle.std.proofs.lemmas.List.{drop_more}
-use Rattle.std.proofs.lemmas.List.Elements.{All-get_or}
-use Rattle.plan_tables.specs.PlanView.{PlanView}
-use Rattle.plan_tables.specs.Valid.{IsActionWithin}
-use Rattle.plan_tables.specs.declared.entries.Action.{Action}
-use Rattle.plan_tables.specs.declared.entries.Action.TheVariants.{Post}
-use Rattle.written_machine.specs.Machine.{Machine, all_do, do_action}
-use Rattle.machine_core.specs.Core.{CoreView, CanCall, after}
-use Rattle.machine_core.proofs.Going.{goes-can, goes-action}
-use Rattle.machine_core.proofs.Listing.{grown}
-use Rattle.machine_core.proofs.Room.{room-first, all_do-first}
+use Rattle.machine_core.proofs.Going.{goes-confirm_entry}
 use Rattle.machine_core.proofs.calls.run_actions.Goals as goal
 
-none : Action
-none = Post (record { 0 = 0 })
-
-pub run_action-requires-clause-action : goal.run_action-requires-clause-action
-unfolding none
-run_action-requires-clause-action g c =
-    let actions = c.args.actions.now in
-    let i = c.loop-action.action-index in
-    subst (λ (v : CoreView). IsActionWithin v.plan (get_or actions i none)) (sym c.loop-action.invariant.0)
-    (All-get_or (IsActionWithin c.args.core.now.plan) actions i none c.loop-action-test.true c.requires.actions)
-
-pub run_action-requires-clause-room : goal.run_action-requires-clause-room
-unfolding none
-run_action-requires-clause-room g c =
-    let owner = c.args.owner in
-    let actions = c.args.actions.now in
-    let i = c.loop-action.action-index in
-    let run = λ (p : PlanView) (a : Action). do_action p owner a in
-    room-first run (λ (p : PlanView) (a : Action) (s : Machine). grown p s (run p a s) (goes-action p owner a s)) c.loop-action.core (after (all_do (do_action c.args.core.now.plan owner) actions) c.args.core.now)
-    (get_or actions i none) (drop (i + 1) actions) (drop i actions) (drop_more actions i none c.loop-action-test.true) c.loop-action.invariant.0 c.requires.room
-
-pub loop-action-preserved : goal.loop-action-preserved
-unfolding none
-loop-action-preserved g c =
-    let core = c.loop-action.core in
-    let owner = c.args.owner in
-    let actions = c.args.actions.now in
-    let i = c.loop-action.action-index in
-    let a = get_or actions i none in (
-      all_do-first (λ (p : PlanView). do_action p owner) core c.run_action.new.core (after (all_do (do_action c.args.core.now.plan owner) actions) c.args.core.now) a (drop (i + 1) actions) (drop i actions)
-          (drop_more actions i none c.loop-action-test.true) c.loop-action.invariant.0 c.run_action.ensures,
-      subst CanCall (sym c.run_action.ensures) (goes-can core (do_action core.plan owner a) (goes-action core.plan owner a core.machine) c.loop-action.invariant.1),
-    )
+pub actions_by-requires-clause-goes : goal.actions_by-requires-clause-goes
+actions_by-requires-clause-goes g c = λ plan r s. goes-confirm_entry plan r s

@@ -6,15 +6,15 @@ use Rattle.plan_tables.specs.Devices.{list_count}
 use Rattle.plan_tables.specs.declared.entries.Action.{Action}
 use Rattle.plan_tables.specs.declared.entries.Owner.{Owner}
 use Rattle.plan_tables.specs.declared.devices.DeviceRow.{DeviceRow}
-use Rattle.written_machine.specs.Machine.{Machine, all_do, do_action, do_answer, do_list}
+use Rattle.written_machine.specs.Machine.{Machine, all_do, do_action_by, do_answer_by, do_list_by}
 use Rattle.std.specs.List.{All}
 use Rattle.plan_tables.specs.Valid.{IsActionWithin}
 use Rattle.machine_core.specs.Core.{CoreView, CanCall, HasRoom, after}
 use Rattle.machine_core.proofs.Callable.{actions-within}
-use Rattle.machine_core.proofs.Going.{goes-can, goes-list}
+use Rattle.machine_core.proofs.Going.{goes-can, goes-list_by}
 use Rattle.machine_core.proofs.Room.{room-first, all_do-first}
 use Rattle.machine_core.proofs.Listing.{grown}
-use Rattle.machine_core.proofs.calls.run_lists.Goals as goal
+use Rattle.machine_core.proofs.lists.lists_by.Goals as goal
 
 pub row-owner-requires : goal.row-owner-requires
 row-owner-requires g c = subst (λ (p : PlanView). c.args.row.0 < length p.rows) (sym c.plan-plan.ensures) c.requires.row
@@ -30,15 +30,15 @@ list_of_row-requires-clause-list g c =
     subst (λ (p : PlanView). get_or lists i 0 < list_count (row_at p r).settings) (sym c.plan-plan.ensures)
     (All-get_or (λ k. k < list_count (row_at c.args.core.now.plan r).settings) lists i 0 c.loop-list-test.true c.requires.lists)
 
-pub run_actions-requires-clause-actions : goal.run_actions-requires-clause-actions
-run_actions-requires-clause-actions g c =
+pub actions_by-requires-clause-actions : goal.actions_by-requires-clause-actions
+actions_by-requires-clause-actions g c =
     let plan = c.plan-plan.result.now in
     let is : plan ≡ c.loop-list.core.plan = c.plan-plan.ensures ∙ sym (ap (λ (v : CoreView). v.plan) c.loop-list.invariant.0) in
     subst (λ (p : PlanView). All (IsActionWithin p) c.list.result.now) is
     (subst (All (IsActionWithin plan)) (sym c.list.ensures.actions) (actions-within plan c.list.ensures.valid.entries c.list_of_row.result c.list_of_row.ensures.within))
 
-pub run_actions-requires-clause-room : goal.run_actions-requires-clause-room
-run_actions-requires-clause-room g c =
+pub actions_by-requires-clause-room : goal.actions_by-requires-clause-room
+actions_by-requires-clause-room g c =
     let r = c.args.row in
     let lists = c.args.lists.now in
     let i = c.loop-list.list-index in
@@ -48,10 +48,10 @@ run_actions-requires-clause-room g c =
     let is : plan ≡ core.plan = c.plan-plan.ensures ∙ sym (ap (λ (v : CoreView). v.plan) c.loop-list.invariant.0) in
     let list_is : c.list.result.now ≡ actions_at core.plan (list_of_row core.plan r k) = c.list.ensures.actions ∙ ap (actions_at plan) c.list_of_row.ensures.list ∙ ap (λ (p : PlanView). actions_at p (list_of_row p r k)) is in
     let owner_is : c.row-owner.result.owner ≡ (row_at core.plan r).owner = ap (λ (row : DeviceRow). row.owner) c.row-owner.ensures.row ∙ ap (λ (p : PlanView). (row_at p r).owner) is in
-    let run = λ (p : PlanView) (n : ℕ). do_list p (row_at p r).owner (list_of_row p r n) in
-    subst (λ (actions : List Action). HasRoom core.room (all_do (do_action core.plan c.row-owner.result.owner) actions core.machine)) (sym list_is)
-    (subst (λ (o : Owner). HasRoom core.room (all_do (do_action core.plan o) (actions_at core.plan (list_of_row core.plan r k)) core.machine)) (sym owner_is)
-    (room-first run (λ (p : PlanView) (n : ℕ) (s : Machine). grown p s (run p n s) (goes-list p r n s)) core (after (do_answer c.args.core.now.plan r lists) c.args.core.now)
+    let run = λ (p : PlanView) (n : ℕ). do_list_by p (g.C.Confirming.confirm p) (row_at p r).owner (list_of_row p r n) in
+    subst (λ (actions : List Action). HasRoom core.room (all_do (do_action_by core.plan (g.C.Confirming.confirm core.plan) c.row-owner.result.owner) actions core.machine)) (sym list_is)
+    (subst (λ (o : Owner). HasRoom core.room (all_do (do_action_by core.plan (g.C.Confirming.confirm core.plan) o) (actions_at core.plan (list_of_row core.plan r k)) core.machine)) (sym owner_is)
+    (room-first run (λ (p : PlanView) (n : ℕ) (s : Machine). grown p s (run p n s) (goes-list_by p (g.C.Confirming.confirm p) (c.requires.goes p) r n s)) core (after (do_answer_by c.args.core.now.plan (g.C.Confirming.confirm c.args.core.now.plan) r lists) c.args.core.now)
     k (drop (i + 1) lists) (drop i lists) (drop_more lists i 0 c.loop-list-test.true) c.loop-list.invariant.0 c.requires.room))
 
 pub loop-list-preserved : goal.loop-list-preserved
@@ -65,10 +65,10 @@ loop-list-preserved g c =
     let is : plan ≡ core.plan = c.plan-plan.ensures ∙ sym (ap (λ (v : CoreView). v.plan) c.loop-list.invariant.0) in
     let list_is : c.list.result.now ≡ actions_at core.plan (list_of_row core.plan r k) = c.list.ensures.actions ∙ ap (actions_at plan) c.list_of_row.ensures.list ∙ ap (λ (p : PlanView). actions_at p (list_of_row p r k)) is in
     let owner_is : c.row-owner.result.owner ≡ (row_at core.plan r).owner = ap (λ (row : DeviceRow). row.owner) c.row-owner.ensures.row ∙ ap (λ (p : PlanView). (row_at p r).owner) is in
-    let run = λ (p : PlanView) (n : ℕ). do_list p (row_at p r).owner (list_of_row p r n) in
-    let done : c.run_actions.new.core ≡ after (run core.plan k) core =
-    c.run_actions.ensures ∙ (λ j. after (all_do (do_action core.plan (owner_is j)) (list_is j)) core) in (
-      all_do-first run core c.run_actions.new.core (after (do_answer c.args.core.now.plan r lists) c.args.core.now)
+    let run = λ (p : PlanView) (n : ℕ). do_list_by p (g.C.Confirming.confirm p) (row_at p r).owner (list_of_row p r n) in
+    let done : c.actions_by.new.core ≡ after (run core.plan k) core =
+    c.actions_by.ensures ∙ (λ j. after (all_do (do_action_by core.plan (g.C.Confirming.confirm core.plan) (owner_is j)) (list_is j)) core) in (
+      all_do-first run core c.actions_by.new.core (after (do_answer_by c.args.core.now.plan (g.C.Confirming.confirm c.args.core.now.plan) r lists) c.args.core.now)
           k (drop (i + 1) lists) (drop i lists) (drop_more lists i 0 c.loop-list-test.true) c.loop-list.invariant.0 done,
-      subst CanCall (sym done) (goes-can core (run core.plan k) (goes-list core.plan r k core.machine) c.loop-list.invariant.1),
+      subst CanCall (sym done) (goes-can core (run core.plan k) (goes-list_by core.plan (g.C.Confirming.confirm core.plan) (c.requires.goes core.plan) r k core.machine) c.loop-list.invariant.1),
     )

@@ -5,32 +5,32 @@ use Rattle.plan_tables.specs.PlanView.{PlanView}
 use Rattle.plan_tables.specs.Valid.{IsActionWithin}
 use Rattle.plan_tables.specs.declared.entries.Action.{Action}
 use Rattle.plan_tables.specs.declared.entries.Action.TheVariants.{Post}
-use Rattle.written_machine.specs.Machine.{Machine, all_do, do_action_by, no_confirm}
+use Rattle.written_machine.specs.Machine.{Machine, all_do, do_action_by}
 use Rattle.machine_core.specs.Core.{CoreView, CanCall, after}
-use Rattle.machine_core.proofs.Going.{goes-can, goes-action_by, goes-no_confirm}
+use Rattle.machine_core.proofs.Going.{goes-can, goes-action_by}
 use Rattle.machine_core.proofs.Listing.{grown}
 use Rattle.machine_core.proofs.Room.{room-first, all_do-first}
-use Rattle.machine_core.proofs.arrivals.run_told_actions.Goals as goal
+use Rattle.machine_core.proofs.lists.actions_by.Goals as goal
 
 none : Action
 none = Post (record { 0 = 0 })
 
-pub run_alone-requires-clause-action : goal.run_alone-requires-clause-action
+pub run-requires-clause-action : goal.run-requires-clause-action
 unfolding none
-run_alone-requires-clause-action g c =
+run-requires-clause-action g c =
     let actions = c.args.actions.now in
     let i = c.loop-action.action-index in
     subst (λ (v : CoreView). IsActionWithin v.plan (get_or actions i none)) (sym c.loop-action.invariant.0)
     (All-get_or (IsActionWithin c.args.core.now.plan) actions i none c.loop-action-test.true c.requires.actions)
 
-pub run_alone-requires-clause-room : goal.run_alone-requires-clause-room
+pub run-requires-clause-room : goal.run-requires-clause-room
 unfolding none
-run_alone-requires-clause-room g c =
+run-requires-clause-room g c =
     let owner = c.args.owner in
     let actions = c.args.actions.now in
     let i = c.loop-action.action-index in
-    let run = λ (p : PlanView) (a : Action). do_action_by p no_confirm owner a in
-    room-first run (λ (p : PlanView) (a : Action) (s : Machine). grown p s (run p a s) (goes-action_by p no_confirm (goes-no_confirm p) owner a s)) c.loop-action.core (after (all_do (do_action_by c.args.core.now.plan no_confirm owner) actions) c.args.core.now)
+    let run = λ (p : PlanView) (a : Action). do_action_by p (g.C.Confirming.confirm p) owner a in
+    room-first run (λ (p : PlanView) (a : Action) (s : Machine). grown p s (run p a s) (goes-action_by p (g.C.Confirming.confirm p) (c.requires.goes p) owner a s)) c.loop-action.core (after (all_do (do_action_by c.args.core.now.plan (g.C.Confirming.confirm c.args.core.now.plan) owner) actions) c.args.core.now)
     (get_or actions i none) (drop (i + 1) actions) (drop i actions) (drop_more actions i none c.loop-action-test.true) c.loop-action.invariant.0 c.requires.room
 
 pub loop-action-preserved : goal.loop-action-preserved
@@ -41,7 +41,7 @@ loop-action-preserved g c =
     let actions = c.args.actions.now in
     let i = c.loop-action.action-index in
     let a = get_or actions i none in (
-      all_do-first (λ (p : PlanView). do_action_by p no_confirm owner) core c.run_alone.new.core (after (all_do (do_action_by c.args.core.now.plan no_confirm owner) actions) c.args.core.now) a (drop (i + 1) actions) (drop i actions)
-          (drop_more actions i none c.loop-action-test.true) c.loop-action.invariant.0 c.run_alone.ensures,
-      subst CanCall (sym c.run_alone.ensures) (goes-can core (do_action_by core.plan no_confirm owner a) (goes-action_by core.plan no_confirm (goes-no_confirm core.plan) owner a core.machine) c.loop-action.invariant.1),
+      all_do-first (λ (p : PlanView). do_action_by p (g.C.Confirming.confirm p) owner) core c.run.new.core (after (all_do (do_action_by c.args.core.now.plan (g.C.Confirming.confirm c.args.core.now.plan) owner) actions) c.args.core.now) a (drop (i + 1) actions) (drop i actions)
+          (drop_more actions i none c.loop-action-test.true) c.loop-action.invariant.0 c.run.ensures,
+      subst CanCall (sym c.run.ensures) (goes-can core (do_action_by core.plan (g.C.Confirming.confirm core.plan) owner a) (goes-action_by core.plan (g.C.Confirming.confirm core.plan) (c.requires.goes core.plan) owner a core.machine) c.loop-action.invariant.1),
     )

@@ -1,0 +1,46 @@
+use Rattle.std.proofs.Common.{◌≡◌, ◌<◌, List, ℕ, length, ap, sym, ◌∙◌, subst}
+use Rattle.std.specs.List.{All}
+use Rattle.plan_tables.specs.PlanView.{PlanView, row_at}
+use Rattle.plan_tables.specs.Devices.{list_count}
+use Rattle.written_machine.specs.Machine.{called, do_answer_by, set_device}
+use Rattle.machine_core.specs.Core.{CoreView, CanCall, HasRoom, after}
+use Rattle.machine_core.proofs.Going.{goes-can, goes-turn}
+use Rattle.machine_core.proofs.Listing.{answer-lists}
+use Rattle.machine_core.proofs.lists.call_by.Goals as goal
+
+pub lists_by-requires-clause-row : goal.lists_by-requires-clause-row
+lists_by-requires-clause-row g c = subst (λ (v : CoreView). c.args.row.0 < length v.plan.rows) (sym c.call-lists.ensures.called) c.requires.row
+
+pub lists_by-requires-clause-lists : goal.lists_by-requires-clause-lists
+lists_by-requires-clause-lists g c =
+    let core = c.args.core.now in
+    let r = c.args.row in
+    let is = c.deref.ensures.0 ∙ c.call-lists.ensures.lists in
+    subst (λ (v : CoreView). All (λ k. k < list_count (row_at v.plan r).settings) c.deref.result.now) (sym c.call-lists.ensures.called)
+    (subst (All (λ k. k < list_count (row_at core.plan r).settings)) (sym is) (answer-lists core.plan c.args.call r core.machine c.requires.row c.requires.calls.devices c.requires.may))
+
+pub lists_by-requires-clause-calls : goal.lists_by-requires-clause-calls
+lists_by-requires-clause-calls g c =
+    let core = c.args.core.now in
+    let r = c.args.row in
+    subst CanCall (sym c.call-lists.ensures.called)
+    (goes-can core (set_device r (called core.plan c.args.call r core.machine).0) (goes-turn core.plan c.args.call r core.machine) c.requires.calls)
+
+pub lists_by-requires-clause-room : goal.lists_by-requires-clause-room
+lists_by-requires-clause-room g c =
+    let core = c.args.core.now in
+    let r = c.args.row in
+    let turned = set_device r (called core.plan c.args.call r core.machine).0 core.machine in
+    let is = c.deref.ensures.0 ∙ c.call-lists.ensures.lists in
+    subst (λ (v : CoreView). HasRoom v.room (do_answer_by v.plan (g.C.Confirming.confirm v.plan) r c.deref.result.now v.machine)) (sym c.call-lists.ensures.called)
+    (subst (λ (ls : List ℕ). HasRoom core.room (do_answer_by core.plan (g.C.Confirming.confirm core.plan) r ls turned)) (sym is) c.requires.room)
+
+pub returns : goal.returns
+returns g c =
+    let core = c.args.core.now in
+    let r = c.args.row in
+    let turned = set_device r (called core.plan c.args.call r core.machine).0 core.machine in
+    let is = c.deref.ensures.0 ∙ c.call-lists.ensures.lists in
+    c.lists_by.ensures
+    ∙ ap (λ (v : CoreView). after (do_answer_by v.plan (g.C.Confirming.confirm v.plan) r c.deref.result.now) v) c.call-lists.ensures.called
+    ∙ ap (λ (ls : List ℕ). record core { machine = do_answer_by core.plan (g.C.Confirming.confirm core.plan) r ls turned }) is
