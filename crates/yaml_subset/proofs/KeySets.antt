@@ -1,8 +1,9 @@
 -- A set of keys, by their bytes.
-use Rattle.std.proofs.Common.{is_eq, ◌≡◌, ℕ, Bool, true, false, ◌||◌, List, [], ◌∷◌, ◌++◌, map, refl, sym, ap, ◌∙◌, inl, inr, arith}
+use Rattle.std.proofs.Common.{is_eq, ◌≡◌, ℕ, Bool, true, false, cond, ◌||◌, List, [], ◌∷◌, ◌++◌, map, refl, sym, ap, ◌∙◌, inl, inr, arith}
 use Rattle.std.specs.Bool.{Decides}
 use Rattle.std.specs.List.{list_any, Contains}
 use Rattle.std.specs.Str.{bytes_eq}
+use Rattle.std.specs.Global.{Vec}
 use Rattle.std.specs.Ordering.{nat_cmp, match_ordering}
 use Rattle.std.specs.declared.cmp.Ordering.{Ordering}
 use Rattle.std.specs.declared.cmp.Ordering.TheVariants.{Less, Equal, Greater}
@@ -11,6 +12,7 @@ use Rattle.std.specs.BTreeMap.{is_at}
 use Rattle.std.specs.BTreeSet.{insert_key}
 use Rattle.std.proofs.lemmas.Bool.{le-ltb, eq-eqb, cases_Bool, both_ways}
 use Rattle.std.proofs.lemmas.Bool.Decides.{same_from_decides, Decides-by_or}
+use Rattle.std.proofs.lemmas.List.{map-append}
 use Rattle.std.proofs.lemmas.List.Elements.{Decides-contains}
 use Rattle.std.proofs.lemmas.Slice.Eq.{bytes_eq-Decides}
 use Rattle.std.proofs.lemmas.Map.Lookups.{exact_bytes}
@@ -86,3 +88,31 @@ fresh_complete keys key h =
 pub among-push : (keys : List (List ℕ)) (key q : List ℕ) → is_among (keys ++ key ∷ []) q ≡ (bytes_eq key q || is_among keys q)
 among-push [] key q = refl
 among-push (k ∷ ks) key q = ap (λ b. bytes_eq k q || b) (among-push ks key q) ∙ or_swap (bytes_eq k q) (bytes_eq key q) (is_among ks q)
+
+-- ---- keys of a set that hashes them
+
+-- a key that is among others changes nothing
+among-again : (keys : List (List ℕ)) (key q : List ℕ) → is_among keys key ≡ true → is_among keys q ≡ (bytes_eq key q || is_among keys q)
+among-again keys key q e =
+    elim (cases_Bool (bytes_eq key q)) [
+      | inl t ↦ rw t (ap (is_among keys) (sym ((bytes_eq-Decides key q).0 t)) ∙ e)
+      | inr f ↦ rw f refl
+    ]
+
+turned : (k q : List ℕ) → bytes_eq q k ≡ bytes_eq k q
+turned k q = same_from_decides (bytes_eq q k) (bytes_eq k q) (λ e. sym ((bytes_eq-Decides q k).0 e), λ p. (bytes_eq-Decides q k).1 (sym p)) (bytes_eq-Decides k q)
+
+-- the set's own test is whether the bytes are among those of its keys
+pub hashed_key : (keys : List (Vec ℕ)) (v : Vec ℕ) → list_any (λ k. bytes_eq v.items k.items) keys ≡ is_among (map (λ k. k.items) keys) v.items
+hashed_key [] v = refl
+hashed_key (k ∷ keys) v = rw (turned k.items v.items, hashed_key keys v) refl
+
+-- after a key was taken, it and those before are among the keys
+pub hashed_key-among : (keys : List (Vec ℕ)) (v : Vec ℕ) (q : List ℕ)
+    → is_among (map (λ k. k.items) (cond (list_any (λ k. bytes_eq v.items k.items) keys) keys (keys ++ v ∷ []))) q ≡ (bytes_eq v.items q || is_among (map (λ k. k.items) keys) q)
+hashed_key-among keys v q = seen (list_any (λ k. bytes_eq v.items k.items) keys) (hashed_key keys v)
+  where
+    seen : (b : Bool) → b ≡ is_among (map (λ k. k.items) keys) v.items
+        → is_among (map (λ k. k.items) (cond b keys (keys ++ v ∷ []))) q ≡ (bytes_eq v.items q || is_among (map (λ k. k.items) keys) q)
+    seen true e = among-again (map (λ k. k.items) keys) v.items q (sym e)
+    seen false e = ap (λ (ks : List (List ℕ)). is_among ks q) (map-append (λ k. k.items) keys (v ∷ [])) ∙ among-push (map (λ k. k.items) keys) v.items q

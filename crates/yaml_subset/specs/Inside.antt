@@ -1,7 +1,6 @@
 -- What the reader's own contracts see of the values that it passes on.
 use Rattle.std.specs.Prelude.{◌≡◌, ℕ, nat_le, ◌==◌, Bool, ◌&&◌, ◌||◌, List, map, drop, Option, Some, None, Result, Ok, Err}
 use Rattle.std.specs.Borrow.{Bor}
-use Rattle.std.specs.BTreeSet.{BTreeSet}
 use Rattle.std.specs.Global.{Vec}
 use Rattle.yaml_subset.specs.declared.place.PlacedFault.{PlacedFault}
 use Rattle.yaml_subset.specs.declared.entry.Head as heads
@@ -48,10 +47,6 @@ word_view r = (r.0.items, r.1.now)
 abbrev pub key_option_view : Option (Vec ℕ × Bor (List ℕ)) → Option (List ℕ × List ℕ)
 key_option_view None = None
 key_option_view (Some r) = Some (word_view r)
-
--- the keys of a set
-abbrev pub copies_view : BTreeSet (Vec ℕ) → List (List ℕ)
-copies_view s = map (λ k. k.items) s.keys
 
 -- a node or a pair, and what comes after it on its line
 abbrev pub flow_view : Tree × Bor (List ℕ) → Node × List ℕ

@@ -1,8 +1,14 @@
 -- The keys of a mapping.
-use Rattle.std.specs.Prelude.{ℕ, Bool, List}
+use Rattle.std.specs.Prelude.{ℕ, Bool, List, map}
 use Rattle.std.specs.List.{list_any}
 use Rattle.std.specs.Str.{bytes_eq}
+use Rattle.std.specs.Global.{Vec}
+use Rattle.std.specs.HashSet.{HashSet}
 
 -- whether a key is among these
 abbrev pub is_among : List (List ℕ) → List ℕ → Bool
 is_among keys key = list_any (λ k. bytes_eq k key) keys
+
+-- the keys of a set that has copies of them
+abbrev pub copies_view : {S : Type 0} → HashSet (Vec ℕ) S → List (List ℕ)
+copies_view s = map (λ k. k.items) s.keys

@@ -2,21 +2,20 @@
 
 ghost use Rattle.std.specs.Prelude.{◌≡◌, ℕ, ◌≤◌, ◌||◌, List, [], ◌∷◌, length, drop, get_or, Option, Some, None, IfOk};
 ghost use Rattle.std.specs.Str.{bytes_eq};
-ghost use Rattle.yaml_subset.specs.Keys.{is_among};
+ghost use Rattle.yaml_subset.specs.Keys.{is_among, copies_view};
 ghost use Rattle.yaml_subset.specs.Node.{scalar};
 ghost use Rattle.yaml_subset.specs.Reading.{hangs, chunks, groups_of, hanging_len, misplaced, closed_at, entry_value_at, pair_at, mapping_at, inner, sequence_item_at, sequence_at, tree_at};
 ghost use Rattle.yaml_subset.specs.Placed.{GivesOrHalts};
 ghost use Rattle.yaml_subset.specs.View.{node_view, pair_view};
-ghost use Rattle.yaml_subset.specs.Inside.{line_view, lines_view, node_option_view, copies_view};
+ghost use Rattle.yaml_subset.specs.Inside.{line_view, lines_view, node_option_view};
 
 use crate::entry::{Head, head_of, inline, key_of};
 use crate::fault::FaultKind;
-use crate::keys::{MAX_KEY, take_copy};
+use crate::keys::{KeyHashing, KeySet, MAX_KEY, no_keys, take_copy};
 use crate::line::Line;
 use crate::place::Halt;
 use crate::tree::{Key, Tree};
 use std::alloc::Global;
-use std::collections::BTreeSet;
 use yaml_bytes::{
     before_colon, begins_blank, begins_item, behind_blanks, behind_dash, behind_spaces, characters,
     is_over, spaces_len,
@@ -106,6 +105,7 @@ fn empty(alloc: Global, number: u32) -> Tree
 #[tactic(auto, unfolding(crate::specs::Reading::entry_value_at))]
 fn value(
     alloc: Global,
+    hashing: KeyHashing,
     number: u32,
     indent: usize,
     inline: Option<Tree>,
@@ -118,7 +118,7 @@ fn value(
         Some(value) => closed(Some(indent), value, below),
         None => match below {
             [] => Ok(empty(alloc, number)),
-            [first, others @ ..] => block(alloc, Some(indent), first, others, levels),
+            [first, others @ ..] => block(alloc, hashing, Some(indent), first, others, levels),
         },
     }
 }
@@ -128,11 +128,12 @@ fn value(
 #[tactic(auto, unfolding(crate::specs::Reading::pair_at, crate::specs::Reading::pair_from))]
 fn pair(
     alloc: Global,
+    hashing: KeyHashing,
     around: Option<usize>,
     indent: usize,
     line: &Line,
     below: &[Line],
-    keys: &mut BTreeSet<Vec<u8>>,
+    keys: &mut KeySet,
     levels: u8,
 ) -> Result<(Key, Tree), Halt>
     ensures value { GivesOrHalts pair_view result (pair_at 8 (tree_at levels 8) around indent (copies_view keys.old) (record { head = line_view line.now; below = lines_view below.now })) }
@@ -153,8 +154,8 @@ fn pair(
     if characters(before_colon(line.text(), after)) > MAX_KEY {
         return Err(Halt::at(FaultKind::NotInSubset, number, after.len() + 1));
     }
-    let inline = inline(alloc, number, after)?;
-    let value = value(alloc, number, indent, inline, below, levels)?;
+    let inline = inline(alloc, hashing, number, after)?;
+    let value = value(alloc, hashing, number, indent, inline, below, levels)?;
     Ok((
         Key {
             line: number,
@@ -169,6 +170,7 @@ fn pair(
 #[tactic(auto, unfolding(crate::specs::Reading::mapping_at))]
 fn mapping<'a>(
     alloc: Global,
+    hashing: KeyHashing,
     around: Option<usize>,
     first: &Line<'a>,
     others: &[Line<'a>],
@@ -177,16 +179,19 @@ fn mapping<'a>(
     ensures { GivesOrHalts node_view result (mapping_at 8 (tree_at levels 8) around (line_view first.now) (lines_view others.now)) }
 {
     let indent = first.indent;
-    let mut keys = BTreeSet::new(alloc);
-    let mut pairs = Vec::new(alloc);
+    let mut keys = no_keys(alloc, hashing);
+    let mut pairs = Vec::with_capacity(alloc, 1)?;
     let mut at = 0;
     while at <= others.len() {
         let line = line_at(first, others, at);
         let (below, _) = split_below(true, indent, &others[at..]);
-        let next = pair(alloc, around, indent, &line, below, &mut keys, levels)?;
+        let next = pair(
+            alloc, hashing, around, indent, &line, below, &mut keys, levels,
+        )?;
         pairs.push(next)?;
         at += 1 + below.len();
     }
+    pairs.shrink_to_fit();
     Ok(Tree::Map(first.number, pairs))
 }
 
@@ -207,6 +212,7 @@ fn inner<'a>(line: &Line<'a>, after: &[u8]) -> Line<'a>
 #[tactic(auto, unfolding(crate::specs::Reading::sequence_item_at, crate::specs::Reading::item_from, crate::specs::Reading::item_with))]
 fn item<'a>(
     alloc: Global,
+    hashing: KeyHashing,
     around: Option<usize>,
     indent: usize,
     line: &Line<'a>,
@@ -225,17 +231,24 @@ fn item<'a>(
     };
     let rest = behind_blanks(after);
     if is_over(rest) {
-        return value(alloc, number, indent, None, below, levels);
+        return value(alloc, hashing, number, indent, None, below, levels);
     }
-    match head_of(alloc, number, rest)? {
+    match head_of(alloc, hashing, number, rest)? {
         Head::Item(_) => Err(Halt::at(FaultKind::NotInSubset, number, rest.len())),
-        Head::Alone(node) => value(alloc, number, indent, Some(node), below, levels),
+        Head::Alone(node) => value(alloc, hashing, number, indent, Some(node), below, levels),
         Head::Entry(_, _) => {
             let key = behind_spaces(after);
             if begins_blank(key) {
                 return Err(Halt::at(FaultKind::Tab, number, key.len()));
             }
-            block(alloc, Some(indent), &inner(line, after), below, levels)
+            block(
+                alloc,
+                hashing,
+                Some(indent),
+                &inner(line, after),
+                below,
+                levels,
+            )
         }
     }
 }
@@ -245,6 +258,7 @@ fn item<'a>(
 #[tactic(auto, unfolding(crate::specs::Reading::sequence_at))]
 fn sequence<'a>(
     alloc: Global,
+    hashing: KeyHashing,
     around: Option<usize>,
     first: &Line<'a>,
     others: &[Line<'a>],
@@ -258,10 +272,11 @@ fn sequence<'a>(
     while at <= others.len() {
         let line = line_at(first, others, at);
         let (below, _) = split_below(false, indent, &others[at..]);
-        let next = item(alloc, around, indent, &line, below, levels)?;
+        let next = item(alloc, hashing, around, indent, &line, below, levels)?;
         items.push(next)?;
         at += 1 + below.len();
     }
+    items.shrink_to_fit();
     Ok(Tree::List(first.number, items))
 }
 
@@ -271,6 +286,7 @@ fn sequence<'a>(
 #[tactic(auto, unfolding(crate::specs::Reading::tree_at, crate::specs::Reading::block_at, crate::specs::Reading::block_from, crate::specs::Reading::deep_from))]
 fn block<'a>(
     alloc: Global,
+    hashing: KeyHashing,
     around: Option<usize>,
     first: &Line<'a>,
     others: &[Line<'a>],
@@ -278,21 +294,21 @@ fn block<'a>(
 ) -> Result<Tree, Halt>
     ensures { GivesOrHalts node_view result (tree_at levels 8 around (line_view first.now ∷ lines_view others.now)) }
 {
-    match head_of(alloc, first.number, first.text())? {
+    match head_of(alloc, hashing, first.number, first.text())? {
         Head::Alone(value) => closed(around, value, others),
         _ if levels == 0 => Err(first.fault(FaultKind::TooDeep)),
-        Head::Item(_) => sequence(alloc, around, first, others, levels - 1),
-        Head::Entry(_, _) => mapping(alloc, around, first, others, levels - 1),
+        Head::Item(_) => sequence(alloc, hashing, around, first, others, levels - 1),
+        Head::Entry(_, _) => mapping(alloc, hashing, around, first, others, levels - 1),
     }
 }
 
 /// The tree of lines with at most so many sequences and mappings one inside the other.
 #[tactic(auto, unfolding(crate::specs::Reading::tree_at, crate::specs::Reading::block_at))]
-pub fn tree(alloc: Global, lines: &[Line], levels: u8) -> Result<Tree, Halt>
+pub fn tree(alloc: Global, hashing: KeyHashing, lines: &[Line], levels: u8) -> Result<Tree, Halt>
     ensures { GivesOrHalts node_view result (tree_at levels 8 None (lines_view lines.now)) }
 {
     match lines {
         [] => Ok(Tree::Map(1, Vec::new(alloc))),
-        [first, others @ ..] => block(alloc, None, first, others, levels),
+        [first, others @ ..] => block(alloc, hashing, None, first, others, levels),
     }
 }

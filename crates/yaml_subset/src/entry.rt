@@ -7,6 +7,7 @@ ghost use Rattle.yaml_subset.specs.Inside.{node_option_view, head_view, key_opti
 
 use crate::fault::FaultKind;
 use crate::flow::{begins_bracket, flow};
+use crate::keys::KeyHashing;
 use crate::place::Halt;
 use crate::tree::Tree;
 use crate::words::word;
@@ -29,11 +30,11 @@ pub enum Head<'a> {
 
 // What a line begins that is no item: an entry or a value.
 #[tactic(auto, unfolding(crate::specs::Reading::text_head, crate::specs::Reading::word_head, crate::specs::Reading::flow_head))]
-fn text_head(alloc: Global, number: u32, text: &[u8]) -> Result<Head<'_>, Halt>
+fn text_head(alloc: Global, hashing: KeyHashing, number: u32, text: &[u8]) -> Result<Head<'_>, Halt>
     ensures { GivesOrHalts head_view result (text_head 8 number text.now) }
 {
     if begins_bracket(text) {
-        let (value, rest) = flow(alloc, MAX_DEPTH, number, text)?;
+        let (value, rest) = flow(alloc, hashing, MAX_DEPTH, number, text)?;
         if !is_over(rest) {
             return Err(Halt::at(FaultKind::Flow, number, rest.len()));
         }
@@ -48,13 +49,18 @@ fn text_head(alloc: Global, number: u32, text: &[u8]) -> Result<Head<'_>, Halt>
 
 /// What a line begins.
 #[tactic(auto, unfolding(crate::specs::Reading::head_at, crate::specs::Reading::head_from))]
-pub fn head_of(alloc: Global, number: u32, text: &[u8]) -> Result<Head<'_>, Halt>
+pub fn head_of(
+    alloc: Global,
+    hashing: KeyHashing,
+    number: u32,
+    text: &[u8],
+) -> Result<Head<'_>, Halt>
     ensures { GivesOrHalts head_view result (head_at 8 number text.now) }
 {
     if let Some(after) = behind_dash(text) {
         return Ok(Head::Item(after));
     }
-    text_head(alloc, number, text)
+    text_head(alloc, hashing, number, text)
 }
 
 /// The key of a line that is an entry, and the text after its colon. Any other line has none,
@@ -76,14 +82,19 @@ pub fn key_of(
 
 /// What comes after the colon of an entry: a value or nothing.
 #[tactic(auto, unfolding(crate::specs::Reading::inline_at, crate::specs::Reading::node_from))]
-pub fn inline(alloc: Global, number: u32, text: &[u8]) -> Result<Option<Tree>, Halt>
+pub fn inline(
+    alloc: Global,
+    hashing: KeyHashing,
+    number: u32,
+    text: &[u8],
+) -> Result<Option<Tree>, Halt>
     ensures { GivesOrHalts node_option_view result (inline_at 8 number text.now) }
 {
     let rest = behind_blanks(text);
     if is_over(rest) {
         return Ok(None);
     }
-    match head_of(alloc, number, rest)? {
+    match head_of(alloc, hashing, number, rest)? {
         Head::Alone(value) => Ok(Some(value)),
         Head::Item(_) => Err(Halt::at(FaultKind::NotInSubset, number, rest.len())),
         Head::Entry(_, after) => Err(Halt::at(FaultKind::NotInSubset, number, after.len() + 1)),

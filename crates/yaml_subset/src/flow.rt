@@ -2,20 +2,19 @@
 
 ghost use Rattle.std.specs.Prelude.{◌≡◌, ◌||◌, ℕ, List, IfOk};
 ghost use Rattle.std.specs.Str.{bytes_eq};
-ghost use Rattle.yaml_subset.specs.Keys.{is_among};
+ghost use Rattle.yaml_subset.specs.Keys.{is_among, copies_view};
 ghost use Rattle.yaml_subset.specs.Placed.{GivesOrHalts};
 ghost use Rattle.yaml_subset.specs.Flow.{begins_with, begins_colon, begins_bracket, is_ended, start_at, unexpected, behind_close_at, parted_at, behind_colon_at, flow_pair_at, flow_list_at, flow_mapping_at, bracketed_at, flow_value_at, flow_at};
 ghost use Rattle.yaml_subset.specs.View.{pair_view};
 ghost use Rattle.yaml_bytes.specs.View.{rest_view};
-ghost use Rattle.yaml_subset.specs.Inside.{copies_view, flow_view, flow_pair_view};
+ghost use Rattle.yaml_subset.specs.Inside.{flow_view, flow_pair_view};
 
 use crate::fault::FaultKind;
-use crate::keys::{MAX_KEY, take_copy};
+use crate::keys::{KeyHashing, KeySet, MAX_KEY, no_keys, take_copy};
 use crate::place::{Halt, PlacedFault};
 use crate::tree::{Key, Tree};
 use crate::words::word;
 use std::alloc::Global;
-use std::collections::BTreeSet;
 use yaml_bytes::{begins_blank, begins_gap, behind_blanks, characters};
 
 // Whether a byte comes first.
@@ -129,11 +128,17 @@ fn behind_colon(number: u32, text: &[u8]) -> Result<&[u8], Halt>
 // A value in a list or mapping: a word, or a list or mapping with at most so many inside the other.
 #[cycle(flow)]
 #[tactic(auto, unfolding(crate::specs::Flow::flow_value_at))]
-fn value(alloc: Global, levels: u8, number: u32, text: &[u8]) -> Result<(Tree, &[u8]), Halt>
+fn value(
+    alloc: Global,
+    hashing: KeyHashing,
+    levels: u8,
+    number: u32,
+    text: &[u8],
+) -> Result<(Tree, &[u8]), Halt>
     ensures { GivesOrHalts flow_view result (flow_value_at number (flow_at levels number) text.now) }
 {
     if begins_bracket(text) {
-        return flow(alloc, levels, number, text);
+        return flow(alloc, hashing, levels, number, text);
     }
     let (text, rest) = word(alloc, number, true, text)?;
     Ok((Tree::Scalar(number, text), rest))
@@ -144,9 +149,10 @@ fn value(alloc: Global, levels: u8, number: u32, text: &[u8]) -> Result<(Tree, &
 #[tactic(auto, unfolding(crate::specs::Flow::flow_pair_at))]
 fn pair<'a>(
     alloc: Global,
+    hashing: KeyHashing,
     levels: u8,
     number: u32,
-    keys: &mut BTreeSet<Vec<u8>>,
+    keys: &mut KeySet,
     text: &'a [u8],
 ) -> Result<((Key, Tree), &'a [u8]), Halt>
     ensures value { GivesOrHalts flow_pair_view result (flow_pair_at number (flow_value_at number (flow_at levels number)) (copies_view keys.old) text.now) }
@@ -161,7 +167,7 @@ fn pair<'a>(
     if characters(&text[..text.len() - colon.len()]) > MAX_KEY {
         return Err(Halt::at(FaultKind::NotInSubset, number, colon.len()));
     }
-    let (value, rest) = value(alloc, levels, number, start(number, after)?)?;
+    let (value, rest) = value(alloc, hashing, levels, number, start(number, after)?)?;
     Ok((
         (
             Key {
@@ -174,38 +180,57 @@ fn pair<'a>(
     ))
 }
 
+// How many pairs a mapping surely has, of whose text this is left. Most have few, so no room is wasted.
+fn least_pairs(text: &[u8]) -> usize {
+    if begins_with(b'}', text) { 0 } else { 1 }
+}
+
 // A list, read from after its bracket on.
 #[cycle(flow)]
 #[tactic(auto, unfolding(crate::specs::Flow::flow_list_at))]
-fn list(alloc: Global, levels: u8, number: u32, after: &[u8]) -> Result<(Tree, &[u8]), Halt>
+fn list(
+    alloc: Global,
+    hashing: KeyHashing,
+    levels: u8,
+    number: u32,
+    after: &[u8],
+) -> Result<(Tree, &[u8]), Halt>
     ensures { GivesOrHalts flow_view result (flow_list_at number (flow_value_at number (flow_at levels number)) after.now) }
 {
     let mut items = Vec::new(alloc);
     let mut text = start(number, after)?;
     while !begins_with(b']', text) {
-        let (item, rest) = value(alloc, levels, number, text)?;
+        let (item, rest) = value(alloc, hashing, levels, number, text)?;
         items.push(item)?;
         text = parted(number, b']', rest)?;
     }
     let rest = behind_close(number, text)?;
+    items.shrink_to_fit();
     Ok((Tree::List(number, items), rest))
 }
 
 // A mapping, read from after its brace on.
 #[cycle(flow)]
 #[tactic(auto, unfolding(crate::specs::Flow::flow_mapping_at))]
-fn mapping(alloc: Global, levels: u8, number: u32, after: &[u8]) -> Result<(Tree, &[u8]), Halt>
+fn mapping(
+    alloc: Global,
+    hashing: KeyHashing,
+    levels: u8,
+    number: u32,
+    after: &[u8],
+) -> Result<(Tree, &[u8]), Halt>
     ensures { GivesOrHalts flow_view result (flow_mapping_at number (flow_value_at number (flow_at levels number)) after.now) }
 {
-    let mut keys = BTreeSet::new(alloc);
-    let mut pairs = Vec::new(alloc);
+    let mut keys = no_keys(alloc, hashing);
     let mut text = start(number, after)?;
+    let mut pairs = Vec::with_capacity(alloc, least_pairs(text))?;
     while !begins_with(b'}', text) {
-        let (next, rest) = pair(alloc, levels, number, &mut keys, text)?;
+        let (next, rest) = pair(alloc, hashing, levels, number, &mut keys, text)?;
         pairs.push(next)?;
         text = parted(number, b'}', rest)?;
     }
     let rest = behind_close(number, text)?;
+    pairs.shrink_to_fit();
     Ok((Tree::Map(number, pairs), rest))
 }
 
@@ -220,15 +245,21 @@ fn mapping(alloc: Global, levels: u8, number: u32, after: &[u8]) -> Result<(Tree
 /// this is missing.
 #[cycle(flow)]
 #[tactic(auto, unfolding(crate::specs::Flow::flow_at, crate::specs::Flow::bracketed_at))]
-pub fn flow(alloc: Global, levels: u8, number: u32, text: &[u8]) -> Result<(Tree, &[u8]), Halt>
+pub fn flow(
+    alloc: Global,
+    hashing: KeyHashing,
+    levels: u8,
+    number: u32,
+    text: &[u8],
+) -> Result<(Tree, &[u8]), Halt>
     ensures { GivesOrHalts flow_view result (flow_at levels number text.now) }
 {
     if levels == 0 {
         return Err(Halt::at(FaultKind::TooDeep, number, text.len()));
     }
     match text {
-        [b'[', after @ ..] => list(alloc, levels - 1, number, after),
-        [b'{', after @ ..] => mapping(alloc, levels - 1, number, after),
+        [b'[', after @ ..] => list(alloc, hashing, levels - 1, number, after),
+        [b'{', after @ ..] => mapping(alloc, hashing, levels - 1, number, after),
         _ => Err(Halt::at(FaultKind::Flow, number, text.len())),
     }
 }

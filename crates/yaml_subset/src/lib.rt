@@ -22,7 +22,7 @@ mod block;
 mod entry;
 pub mod fault;
 mod flow;
-mod keys;
+pub mod keys;
 mod line;
 mod lines;
 mod place;

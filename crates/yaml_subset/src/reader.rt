@@ -8,6 +8,7 @@ ghost use Rattle.yaml_subset.specs.View.{node_view, GivesTree};
 
 use crate::block::tree;
 use crate::fault::{FaultKind, YamlFault};
+use crate::keys::KeyHashing;
 use crate::lines::content_lines;
 use crate::place::Halt;
 use crate::tree::Tree;
@@ -29,7 +30,7 @@ fn read_exactly(alloc: Global, text: &[u8]) -> Result<Tree, YamlFault>
         return Err(YamlFault::at(FaultKind::TooLong, 1));
     }
     let found = content_lines(alloc, text)?;
-    match tree(alloc, &found.lines, MAX_LEVELS) {
+    match tree(alloc, KeyHashing::of(text), &found.lines, MAX_LEVELS) {
         Ok(tree) => match found.fault {
             None => Ok(tree),
             Some(fault) => Err(YamlFault::at(fault.kind, fault.line)),

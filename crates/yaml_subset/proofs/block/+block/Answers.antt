@@ -4,8 +4,9 @@ use Rattle.std.proofs.lemmas.List.{map_push}
 use Rattle.yaml_subset.specs.Node.{mapping, pairs_of, sequence, nodes_of}
 use Rattle.yaml_subset.specs.TreeOf.{Group}
 use Rattle.yaml_subset.specs.Reading.{hangs, groups_of, pairs_at, mapping_at, sequence_items_at, sequence_at, tree_at}
+use Rattle.yaml_subset.specs.Keys.{copies_view}
 use Rattle.yaml_subset.specs.View.{node_view, pair_view}
-use Rattle.yaml_subset.specs.Inside.{line_view, lines_view, copies_view}
+use Rattle.yaml_subset.specs.Inside.{line_view, lines_view}
 use Rattle.yaml_subset.specs.declared.line.Line as lines
 use Rattle.yaml_subset.proofs.Groups.{groups_at, at_start, pairs_go_on, pairs_stop, pairs_done, items_go_on, items_stop, items_done, fails_then}
 use Rattle.yaml_subset.proofs.Views.{node_view-Map, node_view-List}
@@ -20,12 +21,12 @@ groups_from entry i at ls = groups_of (hangs entry i) (lines_view (drop at ls))
 pub mapping-loop-at-init : goal.mapping-loop-at-init
 mapping-loop-at-init t c =
     let total = pairs_at 8 (tree_at c.args.levels 8) c.args.around c.args.first.now.indent [] (groups_from true c.args.first.now.indent 0 (c.args.first.now ∷ c.args.others.now)) in
-    rw (c.new-pairs.ensures.items, c.new-keys.ensures.empty) (at_start total)
+    rw (c.in_ok-pairs.ensures.items, c.no_keys-keys.ensures) (at_start total)
 
 pub mapping-returns-in_err-next : goal.mapping-returns-in_err-next
 unfolding mapping_at
 mapping-returns-in_err-next t c =
-    let p = err_from_is_err_and c.from_residual.result c.from_residual.ensures.1 in
+    let p = err_from_is_err_and c.from_residual-in_err-next.result c.from_residual-in_err-next.ensures.1 in
     let first = c.args.first.now in
     let i = first.indent in
     let ls : List lines.Line = first ∷ c.args.others.now in
@@ -61,7 +62,7 @@ mapping-returns t c =
     let ls : List lines.Line = first ∷ c.args.others.now in
     let total = pairs_at 8 (tree_at c.args.levels 8) c.args.around i [] (groups_from true i 0 ls) in
     let d : total ≡ Ok (map pair_view c.loop-at.pairs.items) = pairs_done 8 (tree_at c.args.levels 8) c.args.around i c.loop-at.at (hangs true i) ls (omega (arith, c.loop-at-test.false)) (map pair_view c.loop-at.pairs.items) (copies_view c.loop-at.keys) total c.loop-at.invariant in
-    rw (d, node_view-Map) refl
+    rw (d, node_view-Map, c.shrink_to_fit.ensures.items) refl
 
 pub sequence-loop-at-init : goal.sequence-loop-at-init
 sequence-loop-at-init t c =
@@ -107,4 +108,4 @@ sequence-returns t c =
     let ls : List lines.Line = first ∷ c.args.others.now in
     let total = sequence_items_at 8 (tree_at c.args.levels 8) c.args.around i (groups_from false i 0 ls) in
     let d : total ≡ Ok (map node_view c.loop-at.items.items) = items_done 8 (tree_at c.args.levels 8) c.args.around i c.loop-at.at (hangs false i) ls (omega (arith, c.loop-at-test.false)) (map node_view c.loop-at.items.items) total c.loop-at.invariant in
-    rw (d, node_view-List) refl
+    rw (d, node_view-List, c.shrink_to_fit.ensures.items) refl

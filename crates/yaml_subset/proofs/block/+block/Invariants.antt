@@ -1,7 +1,8 @@
 use Rattle.std.proofs.Common.{◌≡◌, ◌+◌, ◌*◌, ◌-◌, ◌∷◌, drop, length, map, true, false, []}
 use Rattle.yaml_subset.specs.Reading.{tree_at, hangs, pairs_at, sequence_items_at, groups_of}
+use Rattle.yaml_subset.specs.Keys.{copies_view}
 use Rattle.yaml_subset.specs.View.{node_view, pair_view}
-use Rattle.yaml_subset.specs.Inside.{lines_view, copies_view}
+use Rattle.yaml_subset.specs.Inside.{lines_view}
 use Rattle.yaml_subset.proofs.Groups.{with_front}
 use Rattle.yaml_subset.proofs.block.+block.Given as goal
 

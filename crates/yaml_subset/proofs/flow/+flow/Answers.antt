@@ -3,11 +3,10 @@ use Rattle.std.specs.Str.{bytes_eq}
 use Rattle.std.proofs.lemmas.Result.{err_from_is_err_and}
 use Rattle.std.proofs.lemmas.List.{map_push}
 use Rattle.yaml_subset.specs.declared.place.PlacedFault.{PlacedFault}
-use Rattle.yaml_subset.specs.Keys.{is_among}
+use Rattle.yaml_subset.specs.Keys.{is_among, copies_view}
 use Rattle.yaml_subset.specs.Node.{Node, Pair, sequence, mapping, nodes_of, pairs_of}
 use Rattle.yaml_subset.specs.Flow.{keys_of, between_at, flow_pair_at, flow_list_at, flow_mapping_at, flow_value_at, flow_at}
 use Rattle.yaml_subset.specs.View.{node_view, pair_view}
-use Rattle.yaml_subset.specs.Inside.{copies_view}
 use Rattle.yaml_subset.proofs.Views.{node_view-List, node_view-Map}
 use Rattle.yaml_subset.proofs.KeySets.{among-push}
 use Rattle.yaml_subset.proofs.FlowParts.{parted_less}
@@ -106,7 +105,7 @@ list-returns t c =
     let total = between_at c.args.number 93 part c.args.after.now in
     let ends = sym c.begins_with.ensures ∙ c.loop-alloc-test.false in
     let d = closed c.args.number 93 part total (map node_view c.loop-alloc.items.items) c.loop-alloc.text.now c.loop-alloc.invariant ends c.in_ok-rest.rest.now c.in_ok-rest.ensures in
-    rw (d, node_view-List) refl
+    rw (d, node_view-List, c.shrink_to_fit.ensures.items) refl
 
 -- ---- mappings
 
@@ -121,8 +120,8 @@ mapping-returns-in_err-text t c =
 
 pub mapping-loop-alloc-init : goal.mapping-loop-alloc-init
 mapping-loop-alloc-init t c = record {
-  known = λ q. rw (c.new-keys.ensures.empty, c.new-pairs.ensures.items) refl;
-  so_far = rw c.new-pairs.ensures.items (begun c.args.number 125 (pair_in c.args.levels c.args.number) c.args.after.now c.in_ok-text.text.now c.in_ok-text.ensures);
+  known = λ q. rw (c.no_keys-keys.ensures, c.in_ok-pairs.ensures.items) refl;
+  so_far = rw c.in_ok-pairs.ensures.items (begun c.args.number 125 (pair_in c.args.levels c.args.number) c.args.after.now c.in_ok-text.text.now c.in_ok-text.ensures);
 }
 
 pub mapping-returns-in_err-next : goal.mapping-returns-in_err-next
@@ -207,7 +206,7 @@ mapping-returns t c =
     let total = between_at c.args.number 125 part c.args.after.now in
     let ends = sym c.begins_with.ensures ∙ c.loop-alloc-test.false in
     let d = closed c.args.number 125 part total (map pair_view c.loop-alloc.pairs.items) c.loop-alloc.text.now c.loop-alloc.invariant.so_far ends c.in_ok-rest.rest.now c.in_ok-rest.ensures in
-    rw (d, node_view-Map) refl
+    rw (d, node_view-Map, c.shrink_to_fit.ensures.items) refl
 
 -- ---- pairs
 

@@ -1,8 +1,7 @@
 use Rattle.std.proofs.Common.{◌≡◌, ◌+◌, ◌*◌, ℕ, List, map, length}
-use Rattle.yaml_subset.specs.Keys.{is_among}
+use Rattle.yaml_subset.specs.Keys.{is_among, copies_view}
 use Rattle.yaml_subset.specs.Flow.{keys_of, between_at, flow_pair_at, flow_value_at, flow_at}
 use Rattle.yaml_subset.specs.View.{node_view, pair_view}
-use Rattle.yaml_subset.specs.Inside.{copies_view}
 use Rattle.yaml_subset.proofs.FlowLoops.{IsSoFar}
 use Rattle.yaml_subset.proofs.flow.+flow.Given as goal
 
