@@ -3,6 +3,7 @@ use Rattle.std.specs.Prelude.{ℕ, List, [], Option, Some, None, option_map, map
 use Rattle.std.specs.BTreeSet.{BTreeSet}
 use Rattle.std.specs.Borrow.{Bor}
 use Rattle.std.specs.Global.{Vec}
+pub use Rattle.yaml_subset.specs.Keys.{copies_view}
 use Rattle.mpf_sections.specs.declared.section.Section.{Section}
 use Rattle.mpf_sections.specs.Rows.{SectionRows}
 use Rattle.mpf_sections.specs.SectionView.{section_view}
@@ -56,10 +57,6 @@ found_modes_view = map (option_map mode_read_view)
 -- the keys of a set
 abbrev pub keys_view : BTreeSet (Bor (List ℕ)) → List (List ℕ)
 keys_view s = map (λ k. k.now) s.keys
-
--- the keys of a set that has copies of them
-abbrev pub copies_view : BTreeSet (Vec ℕ) → List (List ℕ)
-copies_view s = map (λ k. k.items) s.keys
 
 -- the keys of the entries of the mode at a place, if there is one
 abbrev pub mode_keys : Option (Option ModeRead) → List (List ℕ)

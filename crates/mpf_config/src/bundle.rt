@@ -23,7 +23,7 @@ use mpf_sections::listed_modes as modes_in;
 use mpf_tables::TextKind;
 use section_tables::rows::Name;
 use std::alloc::{AllocError, Global};
-use std::collections::BTreeSet;
+use yaml_subset::keys::{KeyHashing, no_keys};
 
 /// The most bytes of a bundle: 8 MiB.
 const MAX_BUNDLE_LEN: usize = 8_388_608;
@@ -54,13 +54,14 @@ fn read_machine(alloc: Global, texts: &[Text<'_>]) -> Result<MachineRead, Config
 #[tactic(auto, unfolding(crate::specs::Reading::modes_in_texts))]
 fn read_modes(
     alloc: Global,
+    hashing: KeyHashing,
     sections: &[Section],
     listed: &[ListedMode<'_>],
     texts: &[Text<'_>],
 ) -> Result<Vec<Option<ModeRead>>, ConfigFault>
     ensures { GivesRows (λ found. found_modes_view found.items) result (modes_in_texts (map section_view sections.now) (modes_view listed.now) (texts_view texts.now)) }
 {
-    let mut taken = BTreeSet::new(alloc);
+    let mut taken = no_keys(alloc, hashing);
     take_entries(alloc, MACHINE_NAME, sections, &mut taken)?;
     let found = find_modes(alloc, listed, texts, &mut taken)?;
     Ok(found)
@@ -81,7 +82,7 @@ fn read_exactly(alloc: Global, bundle: &[u8]) -> Result<Config, ConfigFault>
         mut notes,
     } = read_machine(alloc, &texts)?;
     let listed = listed_modes(alloc, modes_in(&sections))?;
-    let found = read_modes(alloc, &sections, &listed, &texts)?;
+    let found = read_modes(alloc, KeyHashing::of(bundle), &sections, &listed, &texts)?;
     let modes = take_modes(alloc, found, &mut notes)?;
     add_unlisted(alloc, &listed, &texts, &mut notes)?;
     drop(listed);

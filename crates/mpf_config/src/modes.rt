@@ -24,6 +24,7 @@ use mpf_tables::TextKind;
 use section_tables::rows::Name;
 use std::alloc::{AllocError, Global};
 use std::collections::BTreeSet;
+use yaml_subset::keys::KeySet;
 
 /// A mode by its text, with the notes on that text.
 #[derive(Drop)]
@@ -55,7 +56,7 @@ fn read_new_mode(
     alloc: Global,
     name: &Name,
     text: Text<'_>,
-    taken: &mut BTreeSet<Vec<u8>>,
+    taken: &mut KeySet,
 ) -> Result<ModeRead, ConfigFault>
     ensures value { GivesRows mode_read_view result (new_mode_at (copies_view taken.old) (name_view name.now) (text_view text.entry)) }
     ensures known { IfOk result (λ read. (q : List ℕ) → is_among (copies_view taken.new) q ≡ (is_among (entry_keys (mode_read_view read).mode.sections) q || is_among (copies_view taken.old) q)) }
@@ -71,7 +72,7 @@ fn place(
     alloc: Global,
     modes: &[ListedMode<'_>],
     text: Text<'_>,
-    taken: &mut BTreeSet<Vec<u8>>,
+    taken: &mut KeySet,
     found: &mut [Option<ModeRead>],
 ) -> Result<(), ConfigFault>
     requires { length found.old ≡ length modes.now }
@@ -102,7 +103,7 @@ fn place_all(
     alloc: Global,
     modes: &[ListedMode<'_>],
     texts: &[Text<'_>],
-    taken: &mut BTreeSet<Vec<u8>>,
+    taken: &mut KeySet,
     found: &mut [Option<ModeRead>],
 ) -> Result<(), ConfigFault>
     requires none { found_modes_view found.old ≡ none_found (modes_view modes.now) }
@@ -127,7 +128,7 @@ pub fn find_modes(
     alloc: Global,
     modes: &[ListedMode<'_>],
     texts: &[Text<'_>],
-    taken: &mut BTreeSet<Vec<u8>>,
+    taken: &mut KeySet,
 ) -> Result<Vec<Option<ModeRead>>, ConfigFault>
     ensures { GivesRows (λ found. found_modes_view found.items) result (modes_from (copies_view taken.old) (modes_view modes.now) [] (none_found (modes_view modes.now)) (texts_view texts.now)) }
 {

@@ -13,7 +13,7 @@ use crate::config::Section;
 use crate::fault::{ConfigFault, FaultKind};
 use section_tables::spot::Spot;
 use std::alloc::{AllocError, Global};
-use std::collections::BTreeSet;
+use yaml_subset::keys::{KeySet, take_key};
 
 /// The name of a section and that of an entry in it as one list of bytes, which no other two give.
 fn joined(alloc: Global, section: &[u8], name: &[u8]) -> Result<Vec<u8>, AllocError>
@@ -34,13 +34,13 @@ fn take_entry(
     alloc: Global,
     section: &[u8],
     name: &[u8],
-    taken: &mut BTreeSet<Vec<u8>>,
+    taken: &mut KeySet,
 ) -> Result<bool, AllocError>
     ensures fresh { IfOk result (λ fresh. fresh ≡ not (is_among (copies_view taken.old) (joined section.now name.now))) }
     ensures known { IfOk result (λ fresh. (q : List ℕ) → is_among (copies_view taken.new) q ≡ (bytes_eq (joined section.now name.now) q || is_among (copies_view taken.old) q)) }
 {
     let key = joined(alloc, section, name)?;
-    let fresh = taken.insert(key)?;
+    let fresh = take_key(taken, key)?;
     Ok(fresh)
 }
 
@@ -49,7 +49,7 @@ fn take_section(
     alloc: Global,
     text: &[u8],
     section: &Section,
-    taken: &mut BTreeSet<Vec<u8>>,
+    taken: &mut KeySet,
 ) -> Result<(), ConfigFault>
     ensures value { GivesRows (λ u. u) result (entries_new_at text.now (copies_view taken.old) (entries_named (section_view section.now))) }
     ensures known { IfOk result (λ _. (q : List ℕ) → is_among (copies_view taken.new) q ≡ (is_among (map entry_key (entries_named (section_view section.now))) q || is_among (copies_view taken.old) q)) }
@@ -75,7 +75,7 @@ pub fn take_entries(
     alloc: Global,
     text: &[u8],
     sections: &[Section],
-    taken: &mut BTreeSet<Vec<u8>>,
+    taken: &mut KeySet,
 ) -> Result<(), ConfigFault>
     ensures value { GivesRows (λ u. u) result (entries_new_at text.now (copies_view taken.old) (entry_names (map section_view sections.now))) }
     ensures known { IfOk result (λ _. (q : List ℕ) → is_among (copies_view taken.new) q ≡ (is_among (entry_keys (map section_view sections.now)) q || is_among (copies_view taken.old) q)) }
