@@ -187,12 +187,22 @@ pub fn write_name(text: &mut Vec<u8>, name: Parts) -> Result<(), AllocError>
     ensures { OnOk result (text.new.items ≡ parts_text name.entry) }
 {
     text.clear();
-    text.extend_from_slice(name.first)?;
-    text.extend_from_slice(name.second)?;
-    text.extend_from_slice(name.third)?;
-    text.extend_from_slice(name.fourth)?;
-    text.extend_from_slice(name.fifth)?;
-    text.extend_from_slice(name.sixth)
+    write_piece(text, name.first)?;
+    write_piece(text, name.second)?;
+    write_piece(text, name.third)?;
+    write_piece(text, name.fourth)?;
+    write_piece(text, name.fifth)?;
+    write_piece(text, name.sixth)
+}
+
+/// Writes a piece of a name after what is there. Most pieces are empty, and cost nothing so.
+fn write_piece(text: &mut Vec<u8>, piece: &[u8]) -> Result<(), AllocError>
+    ensures { OnOk result (text.new.items ≡ text.old.items ++ piece.now) }
+{
+    if piece.is_empty() {
+        return Ok(());
+    }
+    text.extend_from_slice(piece)
 }
 
 /// The name that a part of an effect list uses, and its table, if it uses one.

@@ -154,6 +154,7 @@ fn add_entries<'d, 'a>(
 ) -> Result<(), AllocError>
     ensures { OnOk result (row_list_view rows.new.items ≡ row_list_view rows.old.items ++ map (entry_row definitions.now place (found_seat seats.now.shots) (found_destination seats.now.devices) section.now) (map entry_view entries.now)) }
 {
+    rows.reserve(entries.len())?;
     for entry in entries {
         rows.push(entry_row(definitions, place, seats, section, entry))?;
     }
@@ -168,6 +169,7 @@ fn add_players<'d, 'a>(
 ) -> Result<(), AllocError>
     ensures { OnOk result (row_list_view rows.new.items ≡ row_list_view rows.old.items ++ map (player place section.now) (map player_view players.now)) }
 {
+    rows.reserve(players.len())?;
     for player in players {
         rows.push(Row::Player(place, section, player))?;
     }
