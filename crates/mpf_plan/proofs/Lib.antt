@@ -31,5 +31,6 @@ pub mod DoneNames
 pub mod Limited
 pub mod ValidPlan
 pub mod Planned
+pub mod FirstRows
 pub mod EventNames
 pub mod ModeEventNames

@@ -1,17 +1,23 @@
 //! The plan of rows.
 
-ghost use Rattle.std.specs.Prelude.{◌≡◌, ◌≤◌, IfOk};
+ghost use Rattle.std.specs.Prelude.{◌≡◌, ◌≤◌, false, IfOk};
+ghost use Rattle.mpf_config.specs.FewModes.{AreFewModes};
+ghost use Rattle.mpf_config.specs.Short.{AreListsShort};
 ghost use Rattle.mpf_config.specs.View.{rows_view};
+ghost use Rattle.plan_contributions.specs.Contributions.{contributions_of};
+ghost use Rattle.plan_rows.specs.Rows.{rows_of};
+ghost use Rattle.plan_rows.specs.View.{row_list_view};
 ghost use Rattle.plan_tables.specs.declared.table.Table.{Table as TableValue};
 ghost use Rattle.plan_tables.specs.Limits.{entry_count, limit_of};
 ghost use Rattle.mpf_plan.specs.PlanOf.{plan_at, plan_of, GivesPlan, IsExceeded};
+ghost use Rattle.mpf_plan.specs.Uses.{lacks_name};
 
 use crate::fault::PlanFault;
 use crate::fill::fill;
-use crate::numbering::number;
+use crate::numbering::{lacks_name, number};
 use machine_definitions::Definitions;
 use mpf_config::config::Config;
-use plan_rows::rows_of;
+use plan_rows::{Row, rows_of};
 use plan_tables::tables::{Plan, Tables};
 use std::alloc::Global;
 
@@ -99,8 +105,45 @@ pub fn plan(alloc: Global, config: &Config) -> Result<Plan, PlanFault>
 {
     let definitions = Definitions::new(alloc, config)?;
     let rows = rows_of(alloc, &definitions)?;
-    let names = number(alloc, &definitions, &rows)?;
-    let draft = fill(alloc, &names, &definitions, &rows)?;
+    let lacking = lacks_name(alloc, &definitions, &rows)?;
+    if lacking {
+        return Err(PlanFault::NoSuchName);
+    }
+    plan_of_rows(alloc, &definitions, &rows)
+}
+
+/// The plan of the rows, as [`plan`] gives it, where no name is used that nothing has. It does not
+/// look for one.
+///
+/// # Errors
+///
+/// - `Limit`: a table is above its limit; the first such table in the order of `Table` is reported.
+/// - `NoMemory`: memory ran out.
+pub fn plan_complete(alloc: Global, config: &Config) -> Result<Plan, PlanFault>
+    requires { lacks_name (contributions_of (rows_view config.now)) ≡ false }
+    ensures exact { GivesPlan result (plan_at (rows_view config.now)) }
+    ensures plan { IfOk result (λ p. p ≡ plan_of (rows_view config.now)) }
+    ensures within { IfOk result (λ _. (t : TableValue) → entry_count (plan_of (rows_view config.now)) t ≤ limit_of t) }
+    ensures limit { (t : TableValue) → result ≡ Err (PlanFault.Limit t) → IsExceeded (rows_view config.now) t }
+{
+    let definitions = Definitions::new(alloc, config)?;
+    let rows = rows_of(alloc, &definitions)?;
+    plan_of_rows(alloc, &definitions, &rows)
+}
+
+/// The plan of these rows, where they use no name that nothing has.
+fn plan_of_rows(alloc: Global, definitions: &Definitions, rows: &[Row]) -> Result<Plan, PlanFault>
+    requires rows { row_list_view rows.now ≡ rows_of definitions.now }
+    requires complete { lacks_name (contributions_of definitions.now) ≡ false }
+    requires short { AreListsShort definitions.now }
+    requires modes { AreFewModes definitions.now.modes }
+    ensures exact { GivesPlan result (plan_at definitions.now) }
+    ensures plan { IfOk result (λ p. p ≡ plan_of definitions.now) }
+    ensures within { IfOk result (λ _. (t : TableValue) → entry_count (plan_of definitions.now) t ≤ limit_of t) }
+    ensures limit { (t : TableValue) → result ≡ Err (PlanFault.Limit t) → IsExceeded definitions.now t }
+{
+    let names = number(alloc, definitions, rows)?;
+    let draft = fill(alloc, &names, definitions, rows)?;
     let plan = Plan::new(
         alloc,
         Tables {

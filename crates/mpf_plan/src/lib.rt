@@ -8,5 +8,5 @@ mod fill;
 mod first_uses;
 mod numbering;
 
-pub use build::plan;
+pub use build::{plan, plan_complete};
 pub use fault::PlanFault;

@@ -1,8 +1,9 @@
 //! Names by number, in the order of their first uses.
 
-ghost use Rattle.std.specs.Prelude.{◌≡◌, ◌≤◌, ◌<◌, ◌+◌, ◌++◌, ℕ, List, [], ◌∷◌, Option, length, nat_lt, IfOk, OnOk};
+ghost use Rattle.std.specs.Prelude.{◌≡◌, ◌≤◌, ◌<◌, ◌+◌, ◌++◌, ℕ, List, [], ◌∷◌, Option, Some, true, false, length, nat_lt, IfOk, OnOk};
 ghost use Rattle.std.specs.List.{list_any};
 ghost use Rattle.plan_contributions.specs.Contributions.{Contribution as ContributionValue, given_by};
+ghost use Rattle.plan_tables.specs.declared.table.Table.TheVariants.{Events};
 ghost use Rattle.plan_tables.specs.Limits.{entry_count, limit_of, tables_in_order, first_above};
 ghost use Rattle.plan_contributions.specs.UsedNames.{given_names};
 ghost use Rattle.mpf_plan.specs.Uses.{number_among, is_to_be_given, is_unknown, lacks, lacks_name};
@@ -30,13 +31,14 @@ pub(crate) fn number(
     definitions: &Definitions,
     rows: &[Row],
 ) -> Result<NameSets, PlanFault>
+    requires { lacks_name (given_by definitions.now.machine (row_list_view rows.now)) ≡ false }
     ensures { Numbered (given_by definitions.now.machine (row_list_view rows.now)) result }
 {
-    let hashing = hashing_of(alloc, definitions, rows)?;
-    let lacking = lacks_name(alloc, definitions, hashing, rows)?;
-    if lacking {
-        return Err(PlanFault::NoSuchName);
+    let many = first_rows_exceed(alloc, definitions, rows)?;
+    if many {
+        return Err(PlanFault::Limit(Table::Events));
     }
+    let hashing = hashing_of(alloc, definitions, rows)?;
     let found = find_names(alloc, definitions, hashing, rows)?;
     if let Some(table) = first_above(&found) {
         return Err(PlanFault::Limit(table));
@@ -90,13 +92,74 @@ fn feed(hasher: &mut DefaultHasher, contributions: &[Contribution]) {
 
 /// The pieces of a name, and after them a byte that is in no name.
 fn feed_name(hasher: &mut DefaultHasher, name: Parts) {
-    hasher.write(name.first);
-    hasher.write(name.second);
-    hasher.write(name.third);
-    hasher.write(name.fourth);
-    hasher.write(name.fifth);
-    hasher.write(name.sixth);
+    feed_piece(hasher, name.first);
+    feed_piece(hasher, name.second);
+    feed_piece(hasher, name.third);
+    feed_piece(hasher, name.fourth);
+    feed_piece(hasher, name.fifth);
+    feed_piece(hasher, name.sixth);
     hasher.write(b"\n");
+}
+
+/// A piece of a name. Most pieces are empty.
+fn feed_piece(hasher: &mut DefaultHasher, piece: &[u8]) {
+    if !piece.is_empty() {
+        hasher.write(piece);
+    }
+}
+
+// ---- the first rows
+
+/// So many of the first rows are looked at alone, where there are more than three times as many.
+/// Most rows use events of their own: a bank of shots up to hundreds, another device three or more,
+/// a switch two, a player's entry one. So where far too many are used, few rows have to be read.
+const FIRST_ROWS: [usize; 3] = [128, 1_400, 4_100];
+
+/// Whether some of the first rows use too many events. Then the first table is above its limit, as
+/// it may also be where this says no.
+fn first_rows_exceed(
+    alloc: Global,
+    definitions: &Definitions,
+    rows: &[Row],
+) -> Result<bool, AllocError>
+    ensures { IfOk result (λ b. b ≡ true → first_above (plan_from (given_by definitions.now.machine (row_list_view rows.now))) ≡ Some Events) }
+{
+    for count in FIRST_ROWS {
+        let many = first_exceed(alloc, definitions, rows, count)?;
+        if many {
+            return Ok(true);
+        }
+    }
+    Ok(false)
+}
+
+/// Whether so many of the first rows use too many events. It is no where not many more come after
+/// them.
+fn first_exceed(
+    alloc: Global,
+    definitions: &Definitions,
+    rows: &[Row],
+    count: usize,
+) -> Result<bool, AllocError>
+    ensures { IfOk result (λ b. b ≡ true → first_above (plan_from (given_by definitions.now.machine (row_list_view rows.now))) ≡ Some Events) }
+{
+    if rows.len() / 3 < count {
+        return Ok(false);
+    }
+    have_many_events(alloc, definitions, &rows[..count])
+}
+
+/// Whether the rows use too many events.
+fn have_many_events(
+    alloc: Global,
+    definitions: &Definitions,
+    rows: &[Row],
+) -> Result<bool, AllocError>
+    ensures { IfOk result (λ b. b ≡ nat_lt (limit_of Events) (entry_count (plan_from (given_by definitions.now.machine (row_list_view rows.now))) Events)) }
+{
+    let hashing = hashing_of(alloc, definitions, rows)?;
+    let found = find_names(alloc, definitions, hashing, rows)?;
+    Ok(is_above(&found, Table::Events))
 }
 
 // ---- limits
@@ -231,14 +294,14 @@ fn count_row(before: usize, contribution: &Contribution) -> usize
 // ---- names that nothing has
 
 /// Whether the rows use a name that nothing has.
-fn lacks_name(
+pub(crate) fn lacks_name(
     alloc: Global,
     definitions: &Definitions,
-    hashing: NameHashing,
     rows: &[Row],
 ) -> Result<bool, AllocError>
     ensures { IfOk result (λ b. b ≡ lacks_name (given_by definitions.now.machine (row_list_view rows.now))) }
 {
+    let hashing = hashing_of(alloc, definitions, rows)?;
     let sets = given_names(alloc, definitions, hashing, rows)?;
     let mut text = Vec::new(alloc);
     let mut contributions = Vec::new(alloc);

@@ -18,4 +18,7 @@ returns c =
     let found = c.in_ok-found.found in
     let has = c.in_ok-found.ensures in
     let none = sym (c.first_above.ensures cs has) ∙ c.in_default.is in
-    (sym c.in_ok-lacking.ensures ∙ c.if-lacking.false, (λ i t. names_are_kept cs found has none (nameless c.args.definitions.now.machine rows) t i), none, bindings_fit cs found has none (nameless c.args.definitions.now.machine rows), device_rows_fit cs found has none (nameless c.args.definitions.now.machine rows))
+    (c.requires, (λ i t. names_are_kept cs found has none (nameless c.args.definitions.now.machine rows) t i), none, bindings_fit cs found has none (nameless c.args.definitions.now.machine rows), device_rows_fit cs found has none (nameless c.args.definitions.now.machine rows))
+
+pub returns-then-many : goal.returns-then-many
+returns-then-many c = (c.requires, c.in_ok-many.ensures c.if-many.true)

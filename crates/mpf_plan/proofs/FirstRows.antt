@@ -1,0 +1,45 @@
+-- Where the first rows use too many events, all rows do.
+use Rattle.std.proofs.Common.{◌≡◌, ℕ, ◌<◌, ◌≤◌, Bool, true, cond, List, [], ◌∷◌, ◌++◌, length, take, drop, nat_lt, Option, Some, refl, sym, ◌∙◌, ap, subst, arith}
+use Rattle.std.specs.Prelude.{find}
+use Rattle.std.proofs.lemmas.Bool.{lt-ltb, ltb-true}
+use Rattle.std.proofs.lemmas.Grind.{flat_map-append}
+use Rattle.std.proofs.lemmas.List.{map-append, take-append-drop}
+use Rattle.mpf_sections.specs.Rows.{SectionRows}
+use Rattle.plan_rows.specs.declared.rows.Row as rows
+use Rattle.plan_tables.specs.declared.table.Table.TheVariants.{Events, Bindings, Switches, Coils, Variables, Rows}
+use Rattle.plan_contributions.specs.Contributions.{Contribution, row_contributions, given_by}
+use Rattle.plan_contributions.specs.UsedNames.{used, name_in_table, uses}
+use Rattle.plan_rows.specs.View.{row_view, row_list_view}
+use Rattle.plan_tables.specs.Limits.{entry_count, limit_of, tables_in_order, first_above}
+use Rattle.mpf_plan.specs.Uses.{first_uses, names_from}
+use Rattle.mpf_plan.specs.PlanOf.{plan_from}
+use Rattle.mpf_plan.proofs.Drafted.{count-from}
+use Rattle.mpf_plan.proofs.Firsts.{first_uses-more}
+
+-- more contributions use no fewer events
+events-more : (cs more : List Contribution) → length (names_from cs Events) ≤ length (names_from (cs ++ more) Events)
+events-more cs more =
+    omega (arith, first_uses-more (uses Events cs) (uses Events more), ap (λ us. length (first_uses us)) (flat_map-append (λ c. name_in_table Events (used c)) cs more))
+
+module _ (machine : List SectionRows) (rs : List rows.Row) (i : ℕ) where
+  abbrev all : List Contribution
+  all = given_by machine (row_list_view rs)
+
+  abbrev first : List Contribution
+  first = given_by machine (row_list_view (take i rs))
+
+  parts : all ≡ first ++ given_by machine (row_list_view (drop i rs))
+  parts =
+      ap (λ l. given_by machine (row_list_view l)) (sym (take-append-drop i rs))
+      ∙ ap (given_by machine) (map-append row_view (take i rs) (drop i rs))
+      ∙ flat_map-append (row_contributions machine) (row_list_view (take i rs)) (row_list_view (drop i rs))
+
+  exceeds : nat_lt (limit_of Events) (entry_count (plan_from first) Events) ≡ true → nat_lt (limit_of Events) (entry_count (plan_from all) Events) ≡ true
+  exceeds above =
+      lt-ltb (limit_of Events) (entry_count (plan_from all) Events)
+      (omega (arith, ltb-true (limit_of Events) (entry_count (plan_from first) Events) above, count-from first Events, count-from all Events, ap (λ cs. length (names_from cs Events)) parts, events-more first (given_by machine (row_list_view (drop i rs)))))
+
+  -- so the first table is above its limit
+  pub events_exceed : nat_lt (limit_of Events) (entry_count (plan_from first) Events) ≡ true → first_above (plan_from all) ≡ Some Events
+  events_exceed above =
+      ap (λ b. cond b (Some Events) (find (λ t. nat_lt (limit_of t) (entry_count (plan_from all) t)) (Bindings ∷ Switches ∷ Coils ∷ Variables ∷ Rows ∷ []))) (exceeds above)
