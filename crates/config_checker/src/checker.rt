@@ -19,7 +19,7 @@ use crate::report::{CertificateFault, Fault, Report};
 use crate::reporting::{named_fault, report_of};
 use cascade_rank::{Bound, Weights, find, verify};
 use mpf_config::config::Config;
-use mpf_plan::PlanFault;
+use mpf_plan::{PlanFault, plan_complete};
 use plan_tables::{EventId, Plan};
 use row_faults::{RowFault, faults_of_rows};
 use std::alloc::{AllocError, Global};
@@ -144,7 +144,7 @@ fn plan_of(alloc: Global, config: &Config) -> Result<Plan, Report>
     ensures plan { IfOk result (λ plan. plan_at (rows_view config.now) ≡ Ok plan) }
     ensures limit { IfErr result (λ report. ReportsOne (IsLimitFault (rows_view config.now)) report) }
 {
-    match mpf_plan::plan(alloc, config) {
+    match plan_complete(alloc, config) {
         Ok(plan) => Ok(plan),
         Err(PlanFault::NoMemory) => Err(Report::NoMemory),
         Err(PlanFault::NoSuchName) => unreachable!(),

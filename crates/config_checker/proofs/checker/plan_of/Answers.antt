@@ -17,3 +17,6 @@ pub unreachable-requires : goal.unreachable-requires
 unreachable-requires c =
     let rows = rows_view c.args.config.now in
     true≢false (sym (plan_at-named rows (rw c.in-Err-NoSuchName.field-0-is at c.in-Err-NoSuchName.ensures.exact)) ∙ lacks_nothing rows (rows_sound rows c.requires))
+
+pub plan_complete-requires : goal.plan_complete-requires
+plan_complete-requires c = let rows = rows_view c.args.config.now in lacks_nothing rows (rows_sound rows c.requires)
