@@ -18,6 +18,7 @@ use crate::checked::Checked;
 use crate::report::{CertificateFault, Fault, Report};
 use crate::reporting::{named_fault, report_of};
 use cascade_rank::{Bound, Weights, find, verify};
+use machine_definitions::Definitions;
 use mpf_config::config::Config;
 use mpf_plan::{PlanFault, plan_complete};
 use plan_tables::{EventId, Plan};
@@ -118,7 +119,8 @@ fn refuse_own(alloc: Global, config: &Config) -> Result<(), Report>
     ensures none { OnOk result (faults_of_rows (rows_view config.now) ≡ []) }
     ensures own { IfErr result (λ report. ReportsOwn (rows_view config.now) report) }
 {
-    let own = faults_of_rows(alloc, config)?;
+    let definitions = Definitions::new(alloc, config)?;
+    let own = faults_of_rows(alloc, &definitions)?;
     if own.is_empty() {
         return Ok(());
     }

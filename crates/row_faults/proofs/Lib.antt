@@ -1,6 +1,7 @@
 pub mod ByLine
 pub mod RowFaults
 pub mod Listed
+pub mod Collected
 pub mod AsWritten
 pub mod None
 pub mod Called

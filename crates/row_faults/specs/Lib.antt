@@ -13,3 +13,4 @@ pub mod View
 -- what contracts of the functions inside this crate see
 pub mod Named
 pub mod Numbers
+pub mod Collected

@@ -1,14 +1,10 @@
 -- What contracts see of faults.
 use Rattle.std.specs.Prelude.{ℕ, List, map}
 use Rattle.std.specs.BTreeSet.{BTreeSet}
-use Rattle.std.specs.Borrow.{Bor}
 use Rattle.std.specs.Global.{Vec}
-use Rattle.section_tables.specs.declared.rows.Name.{Name}
 use Rattle.mpf_sections.specs.declared.balls.BallDevice as typed_balls
 use Rattle.mpf_sections.specs.Rows.{BallDevice}
 use Rattle.mpf_sections.specs.View.{ball_device_view}
-use Rattle.mpf_config.specs.Rows.{Written}
-use Rattle.mpf_config.specs.View.{name_view}
 use Rattle.row_faults.specs.declared.fault.RowFault.{RowFault}
 use Rattle.row_faults.specs.FaultView.{RowFaultView}
 
@@ -21,10 +17,6 @@ row_faults_view faults = map row_fault_view faults
 -- the keys of a set of names, or of lines
 abbrev pub keys_view : BTreeSet (Vec ℕ) → List (List ℕ)
 keys_view set = map (λ key. key.items) set.keys
-
--- the names that are met in a text
-abbrev pub written_view : List (Bor Name) → List Written
-written_view names = map (λ n. name_view n.now) names
 
 -- ball devices, apart from where they lie in memory
 abbrev pub devices_view : List typed_balls.BallDevice → List BallDevice

@@ -1,16 +1,15 @@
 //! What is wrong with the settings of an entry, in the order in which the settings are written.
 
-ghost use Rattle.std.specs.Prelude.{◌≡◌, ◌==◌, ◌++◌, map, position, IfOk, OnOk};
+ghost use Rattle.std.specs.Prelude.{◌≡◌, ◌==◌, map, position, IfOk, OnOk};
 ghost use Rattle.std.specs.List.{flat_map};
 ghost use Rattle.row_faults.specs.AsWritten.{ordered_by, written_before, in_order};
+ghost use Rattle.row_faults.specs.Collected.{Gains};
 ghost use Rattle.row_faults.specs.Named.{named_faults};
-ghost use Rattle.row_faults.specs.View.{row_faults_view};
 
 use crate::ball_faults::{add_named_coil, add_switches, add_target};
 use crate::coil_faults::add_hold_coil;
-use crate::fault::RowFault;
+use crate::collector::Faults;
 use crate::shot_faults::{add_named_switch, add_profile};
-use machine_definitions::Definitions;
 use mpf_config::{Flipper, Name, NameAt};
 use std::alloc::{AllocError, Global};
 
@@ -63,51 +62,36 @@ pub(crate) fn as_written<T: Copy>(
 /// Adds what is wrong with the names that settings have, in the order in which the settings are
 /// written.
 pub(crate) fn add_as_written(
-    alloc: Global,
-    faults: &mut Vec<RowFault>,
-    definitions: &Definitions<'_>,
-    text: &[u8],
+    faults: &mut Faults<'_, '_>,
     order: &[usize],
     parts: &[(usize, Named<'_>)],
 ) -> Result<(), AllocError>
-    ensures { OnOk result (row_faults_view faults.new.items ≡ row_faults_view faults.old.items ++ in_order order.now (map (λ part. (part.0, named_faults definitions.now text.now part.1)) parts.now)) }
+    ensures { OnOk result (Gains faults.old faults.new (in_order order.now (map (λ part. (part.0, named_faults faults.old.rows faults.old.text part.1)) parts.now))) }
 {
-    let sorted = as_written(alloc, order, parts)?;
-    add_parts(alloc, faults, definitions, text, &sorted)?;
+    let sorted = as_written(faults.alloc, order, parts)?;
+    add_parts(faults, &sorted)?;
     Ok(())
 }
 
-fn add_parts(
-    alloc: Global,
-    faults: &mut Vec<RowFault>,
-    definitions: &Definitions<'_>,
-    text: &[u8],
-    parts: &[(usize, Named<'_>)],
-) -> Result<(), AllocError>
-    ensures { OnOk result (row_faults_view faults.new.items ≡ row_faults_view faults.old.items ++ flat_map (λ part. named_faults definitions.now text.now part.1) parts.now) }
+fn add_parts(faults: &mut Faults<'_, '_>, parts: &[(usize, Named<'_>)]) -> Result<(), AllocError>
+    ensures { OnOk result (Gains faults.old faults.new (flat_map (λ part. named_faults faults.old.rows faults.old.text part.1) parts.now)) }
 {
     for part in parts {
-        add_named(alloc, faults, definitions, text, part.1)?;
+        add_named(faults, part.1)?;
     }
     Ok(())
 }
 
 /// Adds what is wrong with what a setting names.
-fn add_named(
-    alloc: Global,
-    faults: &mut Vec<RowFault>,
-    definitions: &Definitions<'_>,
-    text: &[u8],
-    named: Named<'_>,
-) -> Result<(), AllocError>
-    ensures { OnOk result (row_faults_view faults.new.items ≡ row_faults_view faults.old.items ++ named_faults definitions.now text.now named.entry) }
+fn add_named(faults: &mut Faults<'_, '_>, named: Named<'_>) -> Result<(), AllocError>
+    ensures { OnOk result (Gains faults.old faults.new (named_faults faults.old.rows faults.old.text named.entry)) }
 {
     match named {
-        Named::Coil(coil) => add_named_coil(alloc, faults, definitions, text, coil),
-        Named::HoldCoil(flipper) => add_hold_coil(alloc, faults, definitions, text, flipper),
-        Named::Switch(switch) => add_named_switch(alloc, faults, definitions, text, switch),
-        Named::Switches(switches) => add_switches(alloc, faults, definitions, text, switches),
-        Named::Profile(profile) => add_profile(alloc, faults, definitions, text, profile),
-        Named::Target(target) => add_target(alloc, faults, definitions, text, target),
+        Named::Coil(coil) => add_named_coil(faults, coil),
+        Named::HoldCoil(flipper) => add_hold_coil(faults, flipper),
+        Named::Switch(switch) => add_named_switch(faults, switch),
+        Named::Switches(switches) => add_switches(faults, switches),
+        Named::Profile(profile) => add_profile(faults, profile),
+        Named::Target(target) => add_target(faults, target),
     }
 }

@@ -1,121 +1,81 @@
 //! What is wrong with coils, and with what is said of them elsewhere.
 
-ghost use Rattle.std.specs.Prelude.{◌≡◌, ◌++◌, ◌||◌, ◌&&◌, not, nat_lt, Some, map, option_map, OnOk};
+ghost use Rattle.std.specs.Prelude.{◌≡◌, ◌||◌, ◌&&◌, not, nat_lt, Some, map, option_map, OnOk};
 ghost use Rattle.std.specs.List.{flat_map};
-ghost use Rattle.mpf_sections.specs.TypedCoils.{coil_of, coil_item_of, coil_player_of, flipper_of, autofire_of};
-ghost use Rattle.mpf_sections.specs.View.{keyed_view, entry_view, player_view, section_view, name_at_view, coil_view, coil_item_view, flipper_view, autofire_view};
+ghost use Rattle.mpf_sections.specs.TypedCoils.{coil_item_of, coils_in, coil_players_in, flippers_in, autofires_in};
+ghost use Rattle.mpf_sections.specs.View.{keyed_view, section_view, name_at_view, coil_view, coil_item_view, flipper_view, autofire_view};
 ghost use Rattle.row_faults.specs.CoilFaults.{is_above, is_enable, coil_name_faults, switch_name_faults, coil_faults, item_faults_by, item_faults, coil_player_faults, hold_faults_by, hold_faults, flipper_faults, autofire_faults};
+ghost use Rattle.row_faults.specs.Collected.{Gains};
 ghost use Rattle.row_faults.specs.RowFaults.{coil_faults_in};
-ghost use Rattle.row_faults.specs.View.{row_faults_view};
 
-use crate::adding::{add_if, at};
 use crate::as_written::{Named, add_as_written};
-use crate::fault::{RowFault, RowFaultKind};
-use machine_definitions::Definitions;
+use crate::collector::{Faults, add_if, at};
+use crate::fault::RowFaultKind;
 use mpf_config::{
-    Autofire, Coil, CoilAction, CoilItem, Entry, Flipper, Keyed, NameAt, Player, Section,
-    as_autofire, as_coil, as_coil_item, as_coil_player, as_flipper,
+    Autofire, Coil, CoilAction, CoilItem, Flipper, Keyed, NameAt, Section, as_autofire, as_coil,
+    as_coil_item, as_coil_player, as_flipper,
 };
 use mpf_sections::coil_rules::{ACTIVATION_SWITCH, COIL, HOLD_COIL, MAIN_COIL, SWITCH};
 use mpf_tables::tables::{AUTOFIRE_COILS_NAME, COIL_PLAYER_NAME, COILS_NAME, FLIPPERS_NAME};
-use std::alloc::{AllocError, Global};
+use std::alloc::AllocError;
 
-/// Adds the faults of what a section of the text of this name says of coils, as written.
-#[tactic(auto, unfolding(mpf_sections::specs::TypedCoils::coils_in, mpf_sections::specs::TypedCoils::coil_players_in, mpf_sections::specs::TypedCoils::flippers_in, mpf_sections::specs::TypedCoils::autofires_in))]
+/// Adds the faults of what a section says of coils, as written.
 pub(crate) fn add_coil_faults(
-    alloc: Global,
-    faults: &mut Vec<RowFault>,
-    definitions: &Definitions<'_>,
-    text: &[u8],
+    faults: &mut Faults<'_, '_>,
     section: &Section,
 ) -> Result<(), AllocError>
-    ensures { OnOk result (row_faults_view faults.new.items ≡ row_faults_view faults.old.items ++ coil_faults_in definitions.now.machine text.now (section_view section.now)) }
+    ensures { OnOk result (Gains faults.old faults.new (coil_faults_in faults.old.rows.machine faults.old.text (section_view section.now))) }
 {
-    add_coils(alloc, faults, text, section.entries_of(COILS_NAME))?;
-    add_coil_players(
-        alloc,
-        faults,
-        definitions,
-        text,
-        section.players_of(COIL_PLAYER_NAME),
-    )?;
-    add_flippers(
-        alloc,
-        faults,
-        definitions,
-        text,
-        section.entries_of(FLIPPERS_NAME),
-    )?;
-    add_autofires(
-        alloc,
-        faults,
-        definitions,
-        text,
-        section.entries_of(AUTOFIRE_COILS_NAME),
-    )
+    add_coils(faults, section)?;
+    add_coil_players(faults, section)?;
+    add_flippers(faults, section)?;
+    add_autofires(faults, section)
 }
 
 // ---- names
 
 /// Adds a fault where no entry defines a coil of this name.
-pub(crate) fn add_coil_name(
-    alloc: Global,
-    faults: &mut Vec<RowFault>,
-    definitions: &Definitions<'_>,
-    text: &[u8],
-    name: NameAt<'_>,
-) -> Result<(), AllocError>
-    ensures { OnOk result (row_faults_view faults.new.items ≡ row_faults_view faults.old.items ++ coil_name_faults definitions.now.machine text.now (name_at_view name.entry)) }
+pub(crate) fn add_coil_name(faults: &mut Faults<'_, '_>, name: NameAt<'_>) -> Result<(), AllocError>
+    ensures { OnOk result (Gains faults.old faults.new (coil_name_faults faults.old.rows.machine faults.old.text (name_at_view name.entry))) }
 {
-    let unknown = definitions.coil(name.text).is_none();
-    add_if(alloc, faults, unknown, RowFaultKind::Name, text, name)
+    let unknown = faults.definitions.coil(name.text).is_none();
+    add_if(faults, unknown, RowFaultKind::Name, name)
 }
 
 /// Adds a fault where no entry defines a switch of this name.
 pub(crate) fn add_switch_name(
-    alloc: Global,
-    faults: &mut Vec<RowFault>,
-    definitions: &Definitions<'_>,
-    text: &[u8],
+    faults: &mut Faults<'_, '_>,
     name: NameAt<'_>,
 ) -> Result<(), AllocError>
-    ensures { OnOk result (row_faults_view faults.new.items ≡ row_faults_view faults.old.items ++ switch_name_faults definitions.now.machine text.now (name_at_view name.entry)) }
+    ensures { OnOk result (Gains faults.old faults.new (switch_name_faults faults.old.rows.machine faults.old.text (name_at_view name.entry))) }
 {
-    let unknown = !definitions.has_switch(name.text);
-    add_if(alloc, faults, unknown, RowFaultKind::Name, text, name)
+    let unknown = !faults.definitions.has_switch(name.text);
+    add_if(faults, unknown, RowFaultKind::Name, name)
 }
 
 // ---- `coils`
 
-/// Adds the faults of these entries of `coils`.
-fn add_coils(
-    alloc: Global,
-    faults: &mut Vec<RowFault>,
-    text: &[u8],
-    entries: &[Entry],
-) -> Result<(), AllocError>
-    ensures { OnOk result (row_faults_view faults.new.items ≡ row_faults_view faults.old.items ++ flat_map (coil_faults text.now) (map coil_of (map entry_view entries.now))) }
+/// Adds the faults of the coils of a section.
+#[tactic(auto, unfolding(mpf_sections::specs::TypedCoils::coils_in))]
+fn add_coils(faults: &mut Faults<'_, '_>, section: &Section) -> Result<(), AllocError>
+    ensures { OnOk result (Gains faults.old faults.new (flat_map (coil_faults faults.old.text) (coils_in (section_view section.now)))) }
 {
+    let entries = section.entries_of(COILS_NAME);
     for entry in entries {
-        add_coil(alloc, faults, text, as_coil(entry))?;
+        add_coil(faults, as_coil(entry))?;
     }
     Ok(())
 }
 
 /// Adds the faults of a coil.
-fn add_coil(
-    alloc: Global,
-    faults: &mut Vec<RowFault>,
-    text: &[u8],
-    coil: Coil<'_>,
-) -> Result<(), AllocError>
-    ensures { OnOk result (row_faults_view faults.new.items ≡ row_faults_view faults.old.items ++ coil_faults text.now (coil_view coil.entry)) }
+fn add_coil(faults: &mut Faults<'_, '_>, coil: Coil<'_>) -> Result<(), AllocError>
+    ensures { OnOk result (Gains faults.old faults.new (coil_faults faults.old.text (coil_view coil.entry))) }
 {
     let name = at(coil.name);
     let long = coil.max_pulse_ms < coil.pulse_ms;
-    add_if(alloc, faults, long, RowFaultKind::PulseLimit, text, name)?;
+    add_if(faults, long, RowFaultKind::PulseLimit, name)?;
     let strong = is_strong(coil);
-    add_if(alloc, faults, strong, RowFaultKind::PowerLimit, text, name)
+    add_if(faults, strong, RowFaultKind::PowerLimit, name)
 }
 
 /// Whether a power of the coil's own is above the greatest one.
@@ -127,87 +87,56 @@ fn is_strong(coil: Coil<'_>) -> bool
 
 // ---- `coil_player`
 
-/// Adds the faults of these entries of `coil_player`.
-fn add_coil_players(
-    alloc: Global,
-    faults: &mut Vec<RowFault>,
-    definitions: &Definitions<'_>,
-    text: &[u8],
-    players: &[Player],
-) -> Result<(), AllocError>
-    ensures { OnOk result (row_faults_view faults.new.items ≡ row_faults_view faults.old.items ++ flat_map (coil_player_faults definitions.now.machine text.now) (map coil_player_of (map player_view players.now))) }
+/// Adds the faults of what coils do in the entries of a section.
+#[tactic(auto, unfolding(mpf_sections::specs::TypedCoils::coil_players_in))]
+fn add_coil_players(faults: &mut Faults<'_, '_>, section: &Section) -> Result<(), AllocError>
+    ensures { OnOk result (Gains faults.old faults.new (flat_map (coil_player_faults faults.old.rows.machine faults.old.text) (coil_players_in (section_view section.now)))) }
 {
+    let players = section.players_of(COIL_PLAYER_NAME);
     for player in players {
-        add_items(
-            alloc,
-            faults,
-            definitions,
-            text,
-            as_coil_player(player).items,
-        )?;
+        add_items(faults, as_coil_player(player).items)?;
     }
     Ok(())
 }
 
 /// Adds the faults of what coils do in an entry.
-fn add_items(
-    alloc: Global,
-    faults: &mut Vec<RowFault>,
-    definitions: &Definitions<'_>,
-    text: &[u8],
-    items: &[Keyed],
-) -> Result<(), AllocError>
-    ensures { OnOk result (row_faults_view faults.new.items ≡ row_faults_view faults.old.items ++ flat_map (item_faults definitions.now.machine text.now) (map coil_item_of (map keyed_view items.now))) }
+fn add_items(faults: &mut Faults<'_, '_>, items: &[Keyed]) -> Result<(), AllocError>
+    ensures { OnOk result (Gains faults.old faults.new (flat_map (item_faults faults.old.rows.machine faults.old.text) (map coil_item_of (map keyed_view items.now)))) }
 {
     for item in items {
-        add_item(alloc, faults, definitions, text, as_coil_item(item))?;
+        add_item(faults, as_coil_item(item))?;
     }
     Ok(())
 }
 
 /// Adds the faults of what a coil does. The limits of a coil that there is not are not judged.
-fn add_item(
-    alloc: Global,
-    faults: &mut Vec<RowFault>,
-    definitions: &Definitions<'_>,
-    text: &[u8],
-    item: CoilItem<'_>,
-) -> Result<(), AllocError>
-    ensures { OnOk result (row_faults_view faults.new.items ≡ row_faults_view faults.old.items ++ item_faults definitions.now.machine text.now (coil_item_view item.entry)) }
+fn add_item(faults: &mut Faults<'_, '_>, item: CoilItem<'_>) -> Result<(), AllocError>
+    ensures { OnOk result (Gains faults.old faults.new (item_faults faults.old.rows.machine faults.old.text (coil_item_view item.entry))) }
 {
-    match definitions.coil(&item.coil.text) {
-        Some(coil) => add_limits(alloc, faults, text, item, coil),
+    match faults.definitions.coil(&item.coil.text) {
+        Some(coil) => add_limits(faults, item, coil),
         None => {
             let name = at(item.coil);
-            add_if(alloc, faults, true, RowFaultKind::Name, text, name)
+            add_if(faults, true, RowFaultKind::Name, name)
         }
     }
 }
 
 /// Adds the faults of what this coil does. All that is written counts, whatever it does.
 fn add_limits(
-    alloc: Global,
-    faults: &mut Vec<RowFault>,
-    text: &[u8],
+    faults: &mut Faults<'_, '_>,
     item: CoilItem<'_>,
     coil: Coil<'_>,
 ) -> Result<(), AllocError>
-    ensures { OnOk result (row_faults_view faults.new.items ≡ row_faults_view faults.old.items ++ item_faults_by text.now (coil_item_view item.entry) (Some (coil_view coil.entry))) }
+    ensures { OnOk result (Gains faults.old faults.new (item_faults_by faults.old.text (coil_item_view item.entry) (Some (coil_view coil.entry)))) }
 {
     let name = at(item.coil);
     let long = is_longer(item.pulse_ms, coil.max_pulse_ms);
-    add_if(alloc, faults, long, RowFaultKind::PulseLimit, text, name)?;
+    add_if(faults, long, RowFaultKind::PulseLimit, name)?;
     let strong = is_stronger_than(item, coil);
-    add_if(alloc, faults, strong, RowFaultKind::PowerLimit, text, name)?;
+    add_if(faults, strong, RowFaultKind::PowerLimit, name)?;
     let refused = may_not_hold(item.action, coil);
-    add_if(
-        alloc,
-        faults,
-        refused,
-        RowFaultKind::HoldNotAllowed,
-        text,
-        name,
-    )
+    add_if(faults, refused, RowFaultKind::HoldNotAllowed, name)
 }
 
 /// Whether the milliseconds that are written are more than the longest pulse has.
@@ -251,73 +180,54 @@ fn may_not_hold(action: CoilAction, coil: Coil<'_>) -> bool
 
 // ---- `flippers` and `autofire_coils`
 
-/// Adds the faults of these entries of `flippers`.
-fn add_flippers(
-    alloc: Global,
-    faults: &mut Vec<RowFault>,
-    definitions: &Definitions<'_>,
-    text: &[u8],
-    entries: &[Entry],
-) -> Result<(), AllocError>
-    ensures { OnOk result (row_faults_view faults.new.items ≡ row_faults_view faults.old.items ++ flat_map (flipper_faults definitions.now.machine text.now) (map flipper_of (map entry_view entries.now))) }
+/// Adds the faults of the flippers of a section.
+#[tactic(auto, unfolding(mpf_sections::specs::TypedCoils::flippers_in))]
+fn add_flippers(faults: &mut Faults<'_, '_>, section: &Section) -> Result<(), AllocError>
+    ensures { OnOk result (Gains faults.old faults.new (flat_map (flipper_faults faults.old.rows.machine faults.old.text) (flippers_in (section_view section.now)))) }
 {
+    let entries = section.entries_of(FLIPPERS_NAME);
     for entry in entries {
-        add_flipper(alloc, faults, definitions, text, as_flipper(entry))?;
+        add_flipper(faults, as_flipper(entry))?;
     }
     Ok(())
 }
 
 /// Adds the faults of a flipper.
-fn add_flipper(
-    alloc: Global,
-    faults: &mut Vec<RowFault>,
-    definitions: &Definitions<'_>,
-    text: &[u8],
-    flipper: Flipper<'_>,
-) -> Result<(), AllocError>
-    ensures { OnOk result (row_faults_view faults.new.items ≡ row_faults_view faults.old.items ++ flipper_faults definitions.now.machine text.now (flipper_view flipper.entry)) }
+fn add_flipper(faults: &mut Faults<'_, '_>, flipper: Flipper<'_>) -> Result<(), AllocError>
+    ensures { OnOk result (Gains faults.old faults.new (flipper_faults faults.old.rows.machine faults.old.text (flipper_view flipper.entry))) }
 {
     let parts = [
         (MAIN_COIL, Named::Coil(Some(flipper.main_coil))),
         (HOLD_COIL, Named::HoldCoil(flipper)),
         (ACTIVATION_SWITCH, Named::Switch(Some(flipper.switch))),
     ];
-    add_as_written(alloc, faults, definitions, text, flipper.order, &parts)
+    add_as_written(faults, flipper.order, &parts)
 }
 
 /// Adds the fault of a flipper's hold coil, if it has one.
 pub(crate) fn add_hold_coil(
-    alloc: Global,
-    faults: &mut Vec<RowFault>,
-    definitions: &Definitions<'_>,
-    text: &[u8],
+    faults: &mut Faults<'_, '_>,
     flipper: Flipper<'_>,
 ) -> Result<(), AllocError>
-    ensures { OnOk result (row_faults_view faults.new.items ≡ row_faults_view faults.old.items ++ hold_faults definitions.now.machine text.now (flipper_view flipper.entry) (flipper_view flipper.entry).hold_coil) }
+    ensures { OnOk result (Gains faults.old faults.new (hold_faults faults.old.rows.machine faults.old.text (flipper_view flipper.entry) (flipper_view flipper.entry).hold_coil)) }
 {
     match flipper.hold_coil {
-        Some(hold) => add_hold(
-            alloc,
-            faults,
-            text,
-            flipper,
-            hold,
-            definitions.coil(hold.text),
-        ),
+        Some(hold) => {
+            let coil = faults.definitions.coil(hold.text);
+            add_hold(faults, flipper, hold, coil)
+        }
         None => Ok(()),
     }
 }
 
 /// Adds the fault of a hold coil: there is no such coil, or the flipper holds what may not be held.
 fn add_hold(
-    alloc: Global,
-    faults: &mut Vec<RowFault>,
-    text: &[u8],
+    faults: &mut Faults<'_, '_>,
     flipper: Flipper<'_>,
     hold: NameAt<'_>,
     coil: Option<Coil<'_>>,
 ) -> Result<(), AllocError>
-    ensures { OnOk result (row_faults_view faults.new.items ≡ row_faults_view faults.old.items ++ hold_faults_by text.now (flipper_view flipper.entry) (name_at_view hold.entry) (option_map coil_view coil.entry)) }
+    ensures { OnOk result (Gains faults.old faults.new (hold_faults_by faults.old.text (flipper_view flipper.entry) (name_at_view hold.entry) (option_map coil_view coil.entry))) }
 {
     match coil {
         Some(coil) => {
@@ -326,48 +236,31 @@ fn add_hold(
                 line: flipper.name.line,
                 text: hold.text,
             };
-            add_if(
-                alloc,
-                faults,
-                refused,
-                RowFaultKind::HoldNotAllowed,
-                text,
-                place,
-            )
+            add_if(faults, refused, RowFaultKind::HoldNotAllowed, place)
         }
-        None => add_if(alloc, faults, true, RowFaultKind::Name, text, hold),
+        None => add_if(faults, true, RowFaultKind::Name, hold),
     }
 }
 
-/// Adds the faults of these entries of `autofire_coils`.
-fn add_autofires(
-    alloc: Global,
-    faults: &mut Vec<RowFault>,
-    definitions: &Definitions<'_>,
-    text: &[u8],
-    entries: &[Entry],
-) -> Result<(), AllocError>
-    ensures { OnOk result (row_faults_view faults.new.items ≡ row_faults_view faults.old.items ++ flat_map (autofire_faults definitions.now.machine text.now) (map autofire_of (map entry_view entries.now))) }
+/// Adds the faults of the autofire coils of a section.
+#[tactic(auto, unfolding(mpf_sections::specs::TypedCoils::autofires_in))]
+fn add_autofires(faults: &mut Faults<'_, '_>, section: &Section) -> Result<(), AllocError>
+    ensures { OnOk result (Gains faults.old faults.new (flat_map (autofire_faults faults.old.rows.machine faults.old.text) (autofires_in (section_view section.now)))) }
 {
+    let entries = section.entries_of(AUTOFIRE_COILS_NAME);
     for entry in entries {
-        add_autofire(alloc, faults, definitions, text, as_autofire(entry))?;
+        add_autofire(faults, as_autofire(entry))?;
     }
     Ok(())
 }
 
 /// Adds the faults of an autofire coil.
-fn add_autofire(
-    alloc: Global,
-    faults: &mut Vec<RowFault>,
-    definitions: &Definitions<'_>,
-    text: &[u8],
-    autofire: Autofire<'_>,
-) -> Result<(), AllocError>
-    ensures { OnOk result (row_faults_view faults.new.items ≡ row_faults_view faults.old.items ++ autofire_faults definitions.now.machine text.now (autofire_view autofire.entry)) }
+fn add_autofire(faults: &mut Faults<'_, '_>, autofire: Autofire<'_>) -> Result<(), AllocError>
+    ensures { OnOk result (Gains faults.old faults.new (autofire_faults faults.old.rows.machine faults.old.text (autofire_view autofire.entry))) }
 {
     let parts = [
         (COIL, Named::Coil(Some(autofire.coil))),
         (SWITCH, Named::Switch(Some(autofire.switch))),
     ];
-    add_as_written(alloc, faults, definitions, text, autofire.order, &parts)
+    add_as_written(faults, autofire.order, &parts)
 }

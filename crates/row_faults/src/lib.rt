@@ -3,10 +3,10 @@
 //! No plan is needed for that: each fault is about a name or a number, at the place where it is written.
 #![tactic(auto)]
 
-mod adding;
 mod as_written;
 mod ball_faults;
 mod coil_faults;
+mod collector;
 pub mod fault;
 pub mod fault_text;
 mod once;

@@ -3,17 +3,20 @@
 ghost use Rattle.std.specs.Prelude.{◌≡◌, ◌++◌, ◌∷◌, ℕ, List, map, codes, IfOk, OnOk};
 ghost use Rattle.std.specs.List.{flat_map};
 ghost use Rattle.yaml_subset.specs.Keys.{is_among};
-ghost use Rattle.mpf_sections.specs.View.{name_view, entry_view, player_view, section_view};
+ghost use Rattle.mpf_sections.specs.View.{name_view, entry_view, section_view};
 ghost use Rattle.mpf_config.specs.View.{mode_view};
-ghost use Rattle.mpf_sections.specs.Typed.{switch_of, event_player_of, counter_of, step_block_of};
+ghost use Rattle.mpf_sections.specs.Typed.{step_block_of, switches_in, event_players_in, counters_in};
 ghost use Rattle.row_faults.specs.AsWritten.{in_order};
-ghost use Rattle.row_faults.specs.Reserved.{mode_events, events_of_modes, is_reserved_by, switch_posts, player_posts, counter_posts, step_posts, posts_in, reserved_among};
-ghost use Rattle.row_faults.specs.View.{keys_view, written_view};
+ghost use Rattle.row_faults.specs.Collected.{Gains, post_faults};
+ghost use Rattle.row_faults.specs.Reserved.{mode_events, events_of_modes, is_reserved_by, switch_posts, player_posts, counter_posts, step_posts, posts_in};
+ghost use Rattle.row_faults.specs.View.{keys_view};
 
 use crate::as_written::as_written;
+use crate::collector::{Faults, add_if, at};
+use crate::fault::RowFaultKind;
 use machine_definitions::is_reserved_game_event;
 use mpf_config::{
-    Entry, ModeText, Name, Player, Section, as_counter, as_event_player, as_step_block, as_switch,
+    Entry, ModeText, Name, Section, as_counter, as_event_player, as_step_block, as_switch,
 };
 use mpf_sections::blocks::{COUNTER_COMPLETE, COUNTER_HIT, STEPS_COMPLETE, STEPS_HIT};
 use mpf_sections::typed::{ACTIVATED, DEACTIVATED};
@@ -89,99 +92,67 @@ pub(crate) fn is_reserved(modes: &ModeEvents, name: &[u8]) -> bool
 
 // ---- posts
 
-/// The reserved events that a section posts, entry by entry as written.
-pub(crate) fn reserved_posts<'a>(
-    alloc: Global,
-    modes: &ModeEvents,
-    section: &'a Section,
-) -> Result<Vec<&'a Name>, AllocError>
-    ensures { IfOk result (λ found. written_view found.items ≡ reserved_among (keys_view modes.now) (posts_in (section_view section.now))) }
+/// Adds a fault for each reserved event that a section posts, entry by entry as written.
+#[tactic(auto, unfolding(mpf_sections::specs::Typed::accruals_in, mpf_sections::specs::Typed::sequences_in))]
+pub(crate) fn add_posts(faults: &mut Faults<'_, '_>, section: &Section) -> Result<(), AllocError>
+    ensures { OnOk result (Gains faults.old faults.new (post_faults faults.old (posts_in (section_view section.now)))) }
 {
-    let mut found: Vec<&'a Name> = Vec::new(alloc);
-    add_section(alloc, &mut found, modes, section)?;
-    Ok(found)
+    add_switches(faults, section)?;
+    add_players(faults, section)?;
+    add_counters(faults, section)?;
+    add_step_blocks(faults, section.entries_of(ACCRUALS_NAME))?;
+    add_step_blocks(faults, section.entries_of(SEQUENCES_NAME))
 }
 
-/// Adds the reserved events that a section posts, entry by entry as written.
-#[tactic(auto, unfolding(mpf_sections::specs::Typed::switches_in, mpf_sections::specs::Typed::event_players_in, mpf_sections::specs::Typed::counters_in, mpf_sections::specs::Typed::accruals_in, mpf_sections::specs::Typed::sequences_in))]
-fn add_section<'a>(
-    alloc: Global,
-    found: &mut Vec<&'a Name>,
-    modes: &ModeEvents,
-    section: &'a Section,
-) -> Result<(), AllocError>
-    ensures { OnOk result (written_view found.new.items ≡ written_view found.old.items ++ reserved_among (keys_view modes.now) (posts_in (section_view section.now))) }
+/// Adds those of what switches post.
+#[tactic(auto, unfolding(mpf_sections::specs::Typed::switches_in))]
+fn add_switches(faults: &mut Faults<'_, '_>, section: &Section) -> Result<(), AllocError>
+    ensures { OnOk result (Gains faults.old faults.new (post_faults faults.old (flat_map switch_posts (switches_in (section_view section.now))))) }
 {
-    add_switches(alloc, found, modes, section.entries_of(SWITCHES_NAME))?;
-    add_players(found, modes, section.players_of(EVENT_PLAYER_NAME))?;
-    add_counters(alloc, found, modes, section.entries_of(COUNTERS_NAME))?;
-    add_step_blocks(alloc, found, modes, section.entries_of(ACCRUALS_NAME))?;
-    add_step_blocks(alloc, found, modes, section.entries_of(SEQUENCES_NAME))
-}
-
-/// Adds those that switches post.
-fn add_switches<'a>(
-    alloc: Global,
-    found: &mut Vec<&'a Name>,
-    modes: &ModeEvents,
-    entries: &'a [Entry],
-) -> Result<(), AllocError>
-    ensures { OnOk result (written_view found.new.items ≡ written_view found.old.items ++ reserved_among (keys_view modes.now) (flat_map switch_posts (map switch_of (map entry_view entries.now)))) }
-{
+    let entries = section.entries_of(SWITCHES_NAME);
     for entry in entries {
         let switch = as_switch(entry);
         let parts = [
             (ACTIVATED, switch.activated),
             (DEACTIVATED, switch.deactivated),
         ];
-        add_as_written(alloc, found, modes, switch.order, &parts)?;
+        add_in_order(faults, switch.order, &parts)?;
     }
     Ok(())
 }
 
-/// Adds those that entries of `event_player` post.
-fn add_players<'a>(
-    found: &mut Vec<&'a Name>,
-    modes: &ModeEvents,
-    players: &'a [Player],
-) -> Result<(), AllocError>
-    ensures { OnOk result (written_view found.new.items ≡ written_view found.old.items ++ reserved_among (keys_view modes.now) (flat_map player_posts (map event_player_of (map player_view players.now)))) }
+/// Adds those of what entries of `event_player` post.
+#[tactic(auto, unfolding(mpf_sections::specs::Typed::event_players_in))]
+fn add_players(faults: &mut Faults<'_, '_>, section: &Section) -> Result<(), AllocError>
+    ensures { OnOk result (Gains faults.old faults.new (post_faults faults.old (flat_map player_posts (event_players_in (section_view section.now))))) }
 {
+    let players = section.players_of(EVENT_PLAYER_NAME);
     for player in players {
-        let row = as_event_player(player);
-        add_names(found, modes, row.posts)?;
+        add_names(faults, as_event_player(player).posts)?;
     }
     Ok(())
 }
 
-/// Adds those that counters post.
-fn add_counters<'a>(
-    alloc: Global,
-    found: &mut Vec<&'a Name>,
-    modes: &ModeEvents,
-    entries: &'a [Entry],
-) -> Result<(), AllocError>
-    ensures { OnOk result (written_view found.new.items ≡ written_view found.old.items ++ reserved_among (keys_view modes.now) (flat_map counter_posts (map counter_of (map entry_view entries.now)))) }
+/// Adds those of what counters post.
+#[tactic(auto, unfolding(mpf_sections::specs::Typed::counters_in))]
+fn add_counters(faults: &mut Faults<'_, '_>, section: &Section) -> Result<(), AllocError>
+    ensures { OnOk result (Gains faults.old faults.new (post_faults faults.old (flat_map counter_posts (counters_in (section_view section.now))))) }
 {
+    let entries = section.entries_of(COUNTERS_NAME);
     for entry in entries {
         let counter = as_counter(entry);
         let parts = [
             (COUNTER_HIT, counter.block.hit),
             (COUNTER_COMPLETE, counter.block.complete),
         ];
-        add_as_written(alloc, found, modes, counter.order, &parts)?;
+        add_in_order(faults, counter.order, &parts)?;
     }
     Ok(())
 }
 
-/// Adds those that accruals or sequences post.
-fn add_step_blocks<'a>(
-    alloc: Global,
-    found: &mut Vec<&'a Name>,
-    modes: &ModeEvents,
-    entries: &'a [Entry],
-) -> Result<(), AllocError>
-    ensures { OnOk result (written_view found.new.items ≡ written_view found.old.items ++ reserved_among (keys_view modes.now) (flat_map step_posts (map step_block_of (map entry_view entries.now)))) }
+/// Adds those of what accruals or sequences post.
+fn add_step_blocks(faults: &mut Faults<'_, '_>, entries: &[Entry]) -> Result<(), AllocError>
+    ensures { OnOk result (Gains faults.old faults.new (post_faults faults.old (flat_map step_posts (map step_block_of (map entry_view entries.now))))) }
 {
     for entry in entries {
         let steps = as_step_block(entry);
@@ -189,52 +160,40 @@ fn add_step_blocks<'a>(
             (STEPS_HIT, steps.block.hit),
             (STEPS_COMPLETE, steps.block.complete),
         ];
-        add_as_written(alloc, found, modes, steps.order, &parts)?;
+        add_in_order(faults, steps.order, &parts)?;
     }
     Ok(())
 }
 
-/// Adds the reserved ones of the names that settings have, in the order in which the settings are
-/// written.
-fn add_as_written<'a>(
-    alloc: Global,
-    found: &mut Vec<&'a Name>,
-    modes: &ModeEvents,
+/// Adds those of the names that settings have, in the order in which the settings are written.
+fn add_in_order(
+    faults: &mut Faults<'_, '_>,
     order: &[usize],
-    parts: &[(usize, &'a [Name])],
+    parts: &[(usize, &[Name])],
 ) -> Result<(), AllocError>
-    ensures { OnOk result (written_view found.new.items ≡ written_view found.old.items ++ reserved_among (keys_view modes.now) (in_order order.now (map (λ part. (part.0, map name_view part.1.now)) parts.now))) }
+    ensures { OnOk result (Gains faults.old faults.new (post_faults faults.old (in_order order.now (map (λ part. (part.0, map name_view part.1.now)) parts.now)))) }
 {
-    let sorted = as_written(alloc, order, parts)?;
-    add_parts(found, modes, &sorted)?;
+    let sorted = as_written(faults.alloc, order, parts)?;
+    add_parts(faults, &sorted)?;
     Ok(())
 }
 
-fn add_parts<'a>(
-    found: &mut Vec<&'a Name>,
-    modes: &ModeEvents,
-    parts: &[(usize, &'a [Name])],
-) -> Result<(), AllocError>
-    ensures { OnOk result (written_view found.new.items ≡ written_view found.old.items ++ reserved_among (keys_view modes.now) (flat_map (λ part. map name_view part.1.now) parts.now)) }
+fn add_parts(faults: &mut Faults<'_, '_>, parts: &[(usize, &[Name])]) -> Result<(), AllocError>
+    ensures { OnOk result (Gains faults.old faults.new (post_faults faults.old (flat_map (λ part. map name_view part.1.now) parts.now))) }
 {
     for part in parts {
-        add_names(found, modes, part.1)?;
+        add_names(faults, part.1)?;
     }
     Ok(())
 }
 
-/// Adds the reserved ones of these names.
-fn add_names<'a>(
-    found: &mut Vec<&'a Name>,
-    modes: &ModeEvents,
-    names: &'a [Name],
-) -> Result<(), AllocError>
-    ensures { OnOk result (written_view found.new.items ≡ written_view found.old.items ++ reserved_among (keys_view modes.now) (map name_view names.now)) }
+/// Adds those of these names.
+fn add_names(faults: &mut Faults<'_, '_>, names: &[Name]) -> Result<(), AllocError>
+    ensures { OnOk result (Gains faults.old faults.new (post_faults faults.old (map name_view names.now))) }
 {
     for name in names {
-        if is_reserved(modes, &name.text) {
-            found.push(name)?;
-        }
+        let reserved = is_reserved(faults.modes, &name.text);
+        add_if(faults, reserved, RowFaultKind::Name, at(name))?;
     }
     Ok(())
 }

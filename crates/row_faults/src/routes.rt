@@ -6,12 +6,13 @@ ghost use Rattle.mpf_sections.specs.TypedBalls.{ball_device_of};
 ghost use Rattle.mpf_sections.specs.View.{name_view, entry_view, section_view, ball_device_view};
 ghost use Rattle.machine_definitions.specs.Definitions.{ball_devices_of};
 ghost use Rattle.machine_definitions.specs.Found.{is_found};
+ghost use Rattle.row_faults.specs.Collected.{Gains};
 ghost use Rattle.row_faults.specs.Routes.{leads_to_playfield, lacks_coil, switch_names, all_taken, is_one_taken};
-ghost use Rattle.row_faults.specs.BallFaults.{rest_faults, route_faults};
-ghost use Rattle.row_faults.specs.View.{devices_view, row_faults_view};
+ghost use Rattle.row_faults.specs.BallFaults.{route_faults};
+ghost use Rattle.row_faults.specs.View.{devices_view};
 
-use crate::adding::{add_if, at};
-use crate::fault::{RowFault, RowFaultKind};
+use crate::collector::{Faults, add_if, at};
+use crate::fault::RowFaultKind;
 use crate::targets::leads_of;
 use mpf_config::{Entry, Name, Section};
 use mpf_sections::{BallDevice, as_ball_device};
@@ -24,16 +25,14 @@ type Switches<'a> = BTreeSet<&'a [u8]>;
 
 /// Adds the faults of the ways of balls through the ball devices of these sections.
 pub(crate) fn add_route_faults(
-    alloc: Global,
-    faults: &mut Vec<RowFault>,
-    text: &[u8],
+    faults: &mut Faults<'_, '_>,
     sections: &[Section],
 ) -> Result<(), AllocError>
-    ensures { OnOk result (row_faults_view faults.new.items ≡ row_faults_view faults.old.items ++ route_faults text.now (ball_devices_of (map section_view sections.now))) }
+    ensures { OnOk result (Gains faults.old faults.new (route_faults faults.old.text (ball_devices_of (map section_view sections.now)))) }
 {
-    let devices = ball_devices_of(alloc, sections)?;
-    let leads = leads_of(alloc, &devices)?;
-    add_faults(alloc, faults, text, &devices, &leads)
+    let devices = ball_devices_of(faults.alloc, sections)?;
+    let leads = leads_of(faults.alloc, &devices)?;
+    add_faults(faults, &devices, &leads)
 }
 
 /// The ball devices of sections, in plan order.
@@ -65,21 +64,19 @@ fn add_entries<'a>(
 /// Adds the faults of all these ball devices, where `leads` says for each whether its balls come to
 /// the playfield.
 fn add_faults(
-    alloc: Global,
-    faults: &mut Vec<RowFault>,
-    text: &[u8],
+    faults: &mut Faults<'_, '_>,
     devices: &[BallDevice<'_>],
     leads: &[bool],
 ) -> Result<(), AllocError>
     requires { leads.now ≡ map (leads_to_playfield (devices_view devices.now)) (devices_view devices.now) }
-    ensures { OnOk result (row_faults_view faults.new.items ≡ row_faults_view faults.old.items ++ route_faults text.now (devices_view devices.now)) }
+    ensures { OnOk result (Gains faults.old faults.new (route_faults faults.old.text (devices_view devices.now))) }
 {
-    let mut taken = BTreeSet::new(alloc);
+    let mut taken = BTreeSet::new(faults.alloc);
     for (number, device) in devices.iter().enumerate() {
         let again = take_switches(&mut taken, device.switches)?;
         let wrong = is_wrong(leads[number], again, *device);
         let name = at(device.name);
-        add_if(alloc, faults, wrong, RowFaultKind::BallRoute, text, name)?;
+        add_if(faults, wrong, RowFaultKind::BallRoute, name)?;
     }
     Ok(())
 }

@@ -1,36 +1,37 @@
 //! The faults of all rows.
 
 ghost use Rattle.std.specs.Prelude.{◌≡◌, [], ◌++◌, map, IfOk, OnOk};
-ghost use Rattle.std.specs.List.{filter, flat_map};
-ghost use Rattle.mpf_sections.specs.Typed.{timer_of, timers_in};
-ghost use Rattle.mpf_sections.specs.View.{entry_view, section_view, timer_view};
+ghost use Rattle.std.specs.List.{filter};
+ghost use Rattle.mpf_sections.specs.Typed.{timers_in};
+ghost use Rattle.mpf_sections.specs.View.{section_view, timer_view};
 ghost use Rattle.mpf_config.specs.View.{mode_view, rows_view};
+ghost use Rattle.machine_definitions.specs.Found.{is_found};
 ghost use Rattle.row_faults.specs.AsWritten.{ordered_by};
-ghost use Rattle.row_faults.specs.RowFaults.{name_fault, has_reached, starts_at_end, timer_fault, section_faults, written_faults, fault_line, fault_number, text_faults, mode_faults, faults_by, row_faults};
+ghost use Rattle.row_faults.specs.Collected.{Gains};
+ghost use Rattle.row_faults.specs.RowFaults.{has_reached, starts_at_end, section_faults, written_faults, timer_fault, fault_line, fault_number, text_faults, mode_faults, faults_by, row_faults};
 ghost use Rattle.row_faults.specs.ShotFaults.{listed_in, listed_of, taken_after};
 ghost use Rattle.row_faults.specs.Sound.{IsSound};
-ghost use Rattle.machine_definitions.specs.Found.{is_found};
-ghost use Rattle.row_faults.specs.View.{keys_view, written_view, row_fault_view, row_faults_view};
+ghost use Rattle.row_faults.specs.View.{keys_view, row_faults_view};
 
-use crate::adding::{at, fault_at};
-use crate::ball_faults::add_ball_device_faults;
+use crate::ball_faults::add_ball_devices;
 use crate::coil_faults::add_coil_faults;
+use crate::collector::{Faults, add_if, at, found_in};
 use crate::fault::{RowFault, RowFaultKind};
 use crate::once::listed_once;
-use crate::reserved::{ModeEvents, add_texts, events_of_modes, reserved_posts};
+use crate::reserved::{ModeEvents, add_posts, add_texts, events_of_modes};
 use crate::routes::add_route_faults;
-use crate::shot_faults::{Shots, add_shot_faults, misplaced_shots, shots_of};
-use crate::variable_faults::add_variable_faults;
+use crate::shot_faults::{Shots, add_groups, add_shots, shots_of};
+use crate::variable_faults::add_variable_players;
 use machine_definitions::Definitions;
 use mpf_config::{
-    Config, Direction, Entry, MACHINE_NAME, ModeText, Name, Section, Timer, as_timer, listed_modes,
+    Config, Direction, MACHINE_NAME, ModeText, Section, Timer, as_timer, listed_modes,
     mode_text_name,
 };
 use mpf_tables::tables::TIMERS_NAME;
 use std::alloc::{AllocError, Global};
 use std::collections::BTreeSet;
 
-/// The faults of the rows of a configuration, in the order in which a report lists them: by text,
+/// The faults of the rows that these definitions are of, in the order in which a report lists them: by text,
 /// line and number, and those of one line and number as they are written. Those that print the same
 /// line are listed once. Rows without any are sound: no coil is sent what goes past its limits, and
 /// the balls of each ball device come to the playfield.
@@ -39,30 +40,23 @@ use std::collections::BTreeSet;
 ///
 /// Memory ran out.
 #[tactic(auto, unfolding(crate::specs::RowFaults::row_faults))]
-pub fn faults_of_rows(alloc: Global, config: &Config) -> Result<Vec<RowFault>, AllocError>
-    ensures exact { IfOk result (λ faults. row_faults_view faults.items ≡ row_faults (rows_view config.now)) }
-    ensures sound { IfOk result (λ faults. faults.items ≡ [] → IsSound (rows_view config.now)) }
+pub fn faults_of_rows(
+    alloc: Global,
+    definitions: &Definitions<'_>,
+) -> Result<Vec<RowFault>, AllocError>
+    ensures exact { IfOk result (λ faults. row_faults_view faults.items ≡ row_faults definitions.now) }
+    ensures sound { IfOk result (λ faults. faults.items ≡ [] → IsSound definitions.now) }
 {
+    let config = definitions.config();
     let mut modes = events_of_modes(alloc, listed_modes(&config.machine.sections))?;
     add_texts(alloc, &mut modes, &config.modes)?;
-    let faults = faults_of_texts(alloc, &modes, config)?;
+    let faults = faults_of_texts(alloc, &modes, definitions, config)?;
     listed_once(alloc, faults)
 }
 
-/// The faults of all texts: of the machine text, then of the modes' in their order.
-fn faults_of_texts(
-    alloc: Global,
-    modes: &ModeEvents,
-    config: &Config,
-) -> Result<Vec<RowFault>, AllocError>
-    ensures { IfOk result (λ faults. row_faults_view faults.items ≡ faults_by (keys_view modes.now) (rows_view config.now)) }
-{
-    let definitions = Definitions::new(alloc, config)?;
-    faults_with(alloc, modes, &definitions, config)
-}
-
-/// The same, where the definitions are those of the configuration.
-fn faults_with<'a>(
+/// The faults of all texts: of the machine text, then of the modes' in their order. The definitions
+/// are those of the configuration.
+fn faults_of_texts<'a>(
     alloc: Global,
     modes: &ModeEvents,
     definitions: &Definitions<'_>,
@@ -122,43 +116,19 @@ fn faults_of_text<'a>(
     ensures taken { IfOk result (λ _. is_found taken.new ≡ taken_after (is_found taken.old) (listed_of definitions.now (map section_view sections.now))) }
 {
     let own = shots_of(alloc, sections)?;
-    let known = Known {
-        modes,
+    let mut faults = Faults {
+        alloc,
         definitions,
-        own: &own,
+        modes,
+        text,
+        found: Vec::new(alloc),
     };
-    let mut faults = written_faults(alloc, taken, known, text, sections)?;
-    add_route_faults(alloc, &mut faults, text, sections)?;
-    sort_by_number(&mut faults)?;
-    sort_by_line(&mut faults)?;
-    Ok(faults)
-}
-
-/// What faults of a text depend on: the events of modes, what entries define, and the shots that the
-/// text itself defines.
-#[derive(Clone, Copy)]
-struct Known<'k, 'd, 'o> {
-    modes: &'k ModeEvents,
-    definitions: &'k Definitions<'d>,
-    own: &'k Shots<'o>,
-}
-
-/// The faults of the sections of the text of this name, as written.
-fn written_faults<'a>(
-    alloc: Global,
-    taken: &mut Shots<'a>,
-    known: Known<'_, '_, '_>,
-    text: &[u8],
-    sections: &'a [Section],
-) -> Result<Vec<RowFault>, AllocError>
-    ensures faults { IfOk result (λ faults. row_faults_view faults.items ≡ written_faults (keys_view known.entry.modes.now) known.entry.definitions.now (is_found known.entry.own.now) (is_found taken.old) text.now (map section_view sections.now)) }
-    ensures taken { IfOk result (λ _. is_found taken.new ≡ taken_after (is_found taken.old) (listed_of known.entry.definitions.now (map section_view sections.now))) }
-{
-    let mut faults = Vec::new(alloc);
-    for section in sections {
-        add_section(alloc, &mut faults, taken, known, text, section)?;
-    }
-    Ok(faults)
+    add_sections(&mut faults, taken, &own, sections)?;
+    add_route_faults(&mut faults, sections)?;
+    let mut found = found_in(faults);
+    sort_by_number(&mut found)?;
+    sort_by_line(&mut found)?;
+    Ok(found)
 }
 
 /// By number, those of one number as they are.
@@ -177,73 +147,51 @@ fn sort_by_line(faults: &mut Vec<RowFault>) -> Result<(), AllocError>
     Ok(())
 }
 
-/// Adds the faults of a section of the text of this name, as written.
-fn add_section<'a>(
-    alloc: Global,
-    faults: &mut Vec<RowFault>,
+/// Adds the faults of these sections, as written. Here `own` are the shots that their text defines.
+fn add_sections<'a>(
+    faults: &mut Faults<'_, '_>,
     taken: &mut Shots<'a>,
-    known: Known<'_, '_, '_>,
-    text: &[u8],
-    section: &'a Section,
+    own: &Shots<'_>,
+    sections: &'a [Section],
 ) -> Result<(), AllocError>
-    ensures faults { OnOk result (row_faults_view faults.new.items ≡ row_faults_view faults.old.items ++ section_faults (keys_view known.entry.modes.now) known.entry.definitions.now (is_found known.entry.own.now) (is_found taken.old) text.now (section_view section.now)) }
-    ensures taken { OnOk result (is_found taken.new ≡ taken_after (is_found taken.old) (listed_in known.entry.definitions.now (section_view section.now))) }
+    ensures faults { OnOk result (Gains faults.old faults.new (written_faults faults.old.modes faults.old.rows (is_found own.now) (is_found taken.old) faults.old.text (map section_view sections.now))) }
+    ensures taken { OnOk result (is_found taken.new ≡ taken_after (is_found taken.old) (listed_of faults.old.rows (map section_view sections.now))) }
 {
-    let posts = reserved_posts(alloc, known.modes, section)?;
-    add_names(alloc, faults, text, &posts)?;
-    add_variable_faults(alloc, faults, known.modes, text, section)?;
-    add_coil_faults(alloc, faults, known.definitions, text, section)?;
-    add_ball_device_faults(alloc, faults, known.definitions, text, section)?;
-    add_shot_faults(alloc, faults, known.definitions, text, section)?;
-    let misplaced = misplaced_shots(alloc, taken, known.definitions, known.own, section)?;
-    add_names(alloc, faults, text, &misplaced)?;
-    add_timer_faults(alloc, faults, text, section)
-}
-
-/// Adds a fault for each of these names of the text.
-fn add_names(
-    alloc: Global,
-    faults: &mut Vec<RowFault>,
-    text: &[u8],
-    names: &[&Name],
-) -> Result<(), AllocError>
-    ensures { OnOk result (row_faults_view faults.new.items ≡ row_faults_view faults.old.items ++ map (name_fault text.now) (written_view names.now)) }
-{
-    for name in names {
-        let fault = fault_at(alloc, RowFaultKind::Name, text, at(name))?;
-        faults.push(fault)?;
+    for section in sections {
+        add_section(faults, taken, own, section)?;
     }
     Ok(())
 }
 
-/// Adds a fault for each timer of a section that starts at its end.
-#[tactic(auto, unfolding(mpf_sections::specs::Typed::timers_in))]
-fn add_timer_faults(
-    alloc: Global,
-    faults: &mut Vec<RowFault>,
-    text: &[u8],
-    section: &Section,
+/// Adds the faults of a section, as written.
+fn add_section<'a>(
+    faults: &mut Faults<'_, '_>,
+    taken: &mut Shots<'a>,
+    own: &Shots<'_>,
+    section: &'a Section,
 ) -> Result<(), AllocError>
-    ensures { OnOk result (row_faults_view faults.new.items ≡ row_faults_view faults.old.items ++ map (timer_fault text.now) (filter starts_at_end (timers_in (section_view section.now)))) }
+    ensures faults { OnOk result (Gains faults.old faults.new (section_faults faults.old.modes faults.old.rows (is_found own.now) (is_found taken.old) faults.old.text (section_view section.now))) }
+    ensures taken { OnOk result (is_found taken.new ≡ taken_after (is_found taken.old) (listed_in faults.old.rows (section_view section.now))) }
 {
-    add_timers(alloc, faults, text, section.entries_of(TIMERS_NAME))
+    add_posts(faults, section)?;
+    add_variable_players(faults, section)?;
+    add_coil_faults(faults, section)?;
+    add_ball_devices(faults, section)?;
+    add_shots(faults, section)?;
+    add_groups(faults, taken, own, section)?;
+    add_timers(faults, section)
 }
 
-/// Adds a fault for each of these entries of `timers` that starts at its end.
-fn add_timers(
-    alloc: Global,
-    faults: &mut Vec<RowFault>,
-    text: &[u8],
-    entries: &[Entry],
-) -> Result<(), AllocError>
-    ensures { OnOk result (row_faults_view faults.new.items ≡ row_faults_view faults.old.items ++ map (timer_fault text.now) (filter starts_at_end (map timer_of (map entry_view entries.now)))) }
+/// Adds a fault for each timer of a section that starts at its end.
+#[tactic(auto, unfolding(mpf_sections::specs::Typed::timers_in))]
+fn add_timers(faults: &mut Faults<'_, '_>, section: &Section) -> Result<(), AllocError>
+    ensures { OnOk result (Gains faults.old faults.new (map (timer_fault faults.old.text) (filter starts_at_end (timers_in (section_view section.now))))) }
 {
+    let entries = section.entries_of(TIMERS_NAME);
     for entry in entries {
         let timer = as_timer(entry);
-        if starts_at_end(timer) {
-            let fault = fault_at(alloc, RowFaultKind::TimerAtEnd, text, at(timer.name))?;
-            faults.push(fault)?;
-        }
+        let wrong = starts_at_end(timer);
+        add_if(faults, wrong, RowFaultKind::TimerAtEnd, at(timer.name))?;
     }
     Ok(())
 }

@@ -1,15 +1,16 @@
-use Rattle.std.proofs.Common.{◌≡◌, ◌++◌, ◌||◌, ◌+◌, ◌<◌, ℕ, Bool, false, not, List, drop, length, get_or, append_assoc, sym, ap, ◌∙◌, arith}
+use Rattle.std.proofs.Common.{◌≡◌, ◌++◌, ◌||◌, ◌+◌, ◌<◌, ℕ, Bool, false, not, List, drop, length, get_or, sym, ap, ◌∙◌, arith}
 use Rattle.std.proofs.lemmas.List.{length-map, get_or-map}
 use Rattle.mpf_sections.specs.View.{ball_device_view}
 use Rattle.mpf_sections.specs.Rows.{BallDevice}
 use Rattle.machine_definitions.specs.Found.{is_found}
 use Rattle.machine_definitions.proofs.Finding.{next-is}
 use Rattle.row_faults.specs.declared.fault.RowFaultKind.TheVariants.{BallRoute}
-use Rattle.row_faults.specs.FaultView.{RowFaultView}
+use Rattle.row_faults.specs.Collected.{FaultsView, with_faults}
 use Rattle.row_faults.specs.CoilFaults.{fault_if}
 use Rattle.row_faults.specs.Routes.{leads_to_playfield, lacks_coil}
 use Rattle.row_faults.specs.BallFaults.{is_route_wrong, rest_faults}
-use Rattle.row_faults.specs.View.{devices_view, row_faults_view}
+use Rattle.row_faults.specs.View.{devices_view}
+use Rattle.row_faults.proofs.Collected.{with-more}
 use Rattle.row_faults.proofs.routes.add_faults.Goals as goal
 
 pub loop-number-preserved : goal.loop-number-preserved
@@ -20,7 +21,7 @@ loop-number-preserved c =
     let item = c.index-devices-number.result in
     let d = ball_device_view item in
     let n = l.number in
-    let text = c.args.text.now in
+    let f = l.faults in
     let before = is_found l.taken in
     let after = is_found c.take_switches.new.taken in
     let less : n < length given = c.loop-number-test.true in
@@ -30,11 +31,10 @@ loop-number-preserved c =
     λ e. ap (λ (flags : List Bool). get_or flags n e) c.requires ∙ get_or-map (leads_to_playfield devices) devices n d e within ∙ ap (leads_to_playfield devices) here in
     let wrong : c.is_wrong-wrong.result ≡ is_route_wrong devices before d = c.is_wrong-wrong.ensures ∙ (λ i. not (ways false i) || c.in_ok-again.ensures.again i || lacks_coil d) in
     let rest = drop (n + 1) devices in
-    let fault = fault_if (is_route_wrong devices before d) BallRoute text d.name in
-    let seen = row_faults_view l.faults.items in
-    let found : row_faults_view c.add_if.new.faults.items ≡ seen ++ fault = c.in_ok-add_if.ensures ∙ (λ i. seen ++ fault_if (wrong i) BallRoute text (c.at-name.ensures i)) in
-    ap (λ (fs : List RowFaultView). fs ++ rest_faults devices after text rest) found
-    ∙ append_assoc seen fault (rest_faults devices after text rest)
-    ∙ ap (λ (test : List ℕ → Bool). seen ++ (fault ++ rest_faults devices test text rest)) c.in_ok-again.ensures.taken
-    ∙ next-is (λ (ds : List BallDevice). seen ++ rest_faults devices before text ds) devices n d within (sym here)
+    let fault = fault_if (is_route_wrong devices before d) BallRoute f.text d.name in
+    let found : c.add_if.new.faults ≡ with_faults f fault = c.in_ok-add_if.ensures ∙ (λ i. with_faults f (fault_if (wrong i) BallRoute f.text (c.at-name.ensures i))) in
+    ap (λ (g : FaultsView). with_faults g (rest_faults devices after g.text rest)) found
+    ∙ with-more f fault (rest_faults devices after f.text rest)
+    ∙ ap (λ (test : List ℕ → Bool). with_faults f (fault ++ rest_faults devices test f.text rest)) c.in_ok-again.ensures.taken
+    ∙ next-is (λ (ds : List BallDevice). with_faults f (rest_faults devices before f.text ds)) devices n d within (sym here)
     ∙ l.invariant

@@ -9,7 +9,7 @@ use Rattle.row_faults.specs.FaultView.{RowFaultView}
 use Rattle.row_faults.specs.RowFaults.{text_faults, mode_faults, is_none_taken}
 use Rattle.row_faults.specs.ShotFaults.{listed_of, taken_after}
 use Rattle.row_faults.specs.View.{keys_view}
-use Rattle.row_faults.proofs.rows.faults_with.Goals as goal
+use Rattle.row_faults.proofs.rows.faults_of_texts.Goals as goal
 
 pub returns : goal.returns
 returns c =

@@ -1,0 +1,18 @@
+use Rattle.std.proofs.Common.{◌≡◌, map, drop}
+use Rattle.std.proofs.Common.{option_map}
+use Rattle.mpf_sections.specs.View.{name_view, shot_view}
+use Rattle.machine_definitions.specs.Found.{is_found}
+use Rattle.row_faults.specs.ShotFaults.{listed_with, taken_after}
+use Rattle.row_faults.specs.Collected.{with_faults, group_faults}
+use Rattle.row_faults.proofs.shot_faults.add_listed.Given as goal
+
+abbrev pub invariant-loop-name : goal.invariant-loop-name
+invariant-loop-name l =
+    let f = l.faults in
+    let first = l.initial.faults in
+    let left = listed_with (option_map shot_view l.first) (map name_view (drop l.name-index l.listed)) in
+    let all = listed_with (option_map shot_view l.first) (map name_view l.listed) in
+    record {
+      found : with_faults f (group_faults f (is_found l.own) (is_found l.taken) left) ≡ with_faults first (group_faults first (is_found l.own) (is_found l.initial.taken) all);
+      taken : taken_after (is_found l.taken) left ≡ taken_after (is_found l.initial.taken) all;
+    }

@@ -1,0 +1,86 @@
+//! The faults that are found in a text, and what they depend on.
+
+ghost use Rattle.std.specs.Prelude.{◌≡◌, IfOk, OnOk};
+ghost use Rattle.mpf_sections.specs.View.{name_view, name_at_view};
+ghost use Rattle.row_faults.specs.CoilFaults.{fault_at, fault_if};
+ghost use Rattle.row_faults.specs.Collected.{Gains};
+ghost use Rattle.row_faults.specs.View.{row_fault_view, row_faults_view};
+
+use crate::fault::{RowFault, RowFaultKind};
+use crate::reserved::ModeEvents;
+use machine_definitions::Definitions;
+use mpf_config::{Name, NameAt};
+use std::alloc::{AllocError, Global};
+use std::marker::Model;
+
+/// The faults of a text, in the order in which they are found, and what faults depend on.
+#[derive(Drop)]
+pub(crate) struct Faults<'k, 'd> {
+    pub(crate) alloc: Global,
+    /// What the entries of the configuration define.
+    pub(crate) definitions: &'k Definitions<'d>,
+    /// The events of its modes.
+    pub(crate) modes: &'k ModeEvents,
+    /// The name of the text.
+    pub(crate) text: &'k [u8],
+    pub(crate) found: Vec<RowFault>,
+}
+
+impl<'k, 'd> Model for Faults<'k, 'd> {
+    ghost use Rattle.row_faults.specs.Collected.{FaultsView};
+    ghost use Rattle.row_faults.specs.View.{keys_view, row_faults_view};
+
+    ghost Value = { FaultsView };
+
+    ghost view = { λ f. record { rows = f.definitions.now; modes = keys_view f.modes.now; text = f.text.now; found = row_faults_view f.found.items } };
+}
+
+/// The faults that were found.
+pub(crate) fn found_in(faults: Faults<'_, '_>) -> Vec<RowFault>
+    ensures { row_faults_view result.items ≡ faults.entry.found }
+{
+    faults.found
+}
+
+/// A name where it is written.
+pub(crate) fn at(name: &Name) -> NameAt<'_>
+    ensures { name_at_view result ≡ name_view name.now }
+{
+    NameAt {
+        line: name.line,
+        text: &name.text,
+    }
+}
+
+/// What is wrong with this name of the text.
+fn fault_at(
+    alloc: Global,
+    kind: RowFaultKind,
+    text: &[u8],
+    name: NameAt<'_>,
+) -> Result<RowFault, AllocError>
+    ensures { IfOk result (λ fault. row_fault_view fault ≡ fault_at kind text.now (name_at_view name.entry)) }
+{
+    Ok(RowFault {
+        kind,
+        text: Vec::from_slice(alloc, text)?,
+        line: name.line,
+        name: Vec::from_slice(alloc, name.text)?,
+    })
+}
+
+/// Adds a fault of this name of the text, where something is wrong.
+pub(crate) fn add_if(
+    faults: &mut Faults<'_, '_>,
+    wrong: bool,
+    kind: RowFaultKind,
+    name: NameAt<'_>,
+) -> Result<(), AllocError>
+    ensures { OnOk result (Gains faults.old faults.new (fault_if wrong kind faults.old.text (name_at_view name.entry))) }
+{
+    if wrong {
+        let fault = fault_at(faults.alloc, kind, faults.text, name)?;
+        faults.found.push(fault)?;
+    }
+    Ok(())
+}
