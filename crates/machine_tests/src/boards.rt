@@ -1,4 +1,5 @@
-//! Runs of logs, each ended after each of its steps, by a drop and by `shut_down`, on boards that fault at each command.
+//! Runs of logs on boards that fault at each command in turn. Each is ended after each of its steps, by a drop and by
+//! `shut_down`.
 
 use crate::cases::wrong_rows;
 use crate::courses::{Course, End, Script, Sent, coil_of, devices_of, end_of, no_command};
@@ -205,7 +206,8 @@ fn is_clean(
     let board = FuseBoard::new(trial.first, trial.onwards, taken.clone()?);
     let steps = Script::Take(course.steps.get(..trial.steps).unwrap_or(&[]));
     let devices = devices_of(alloc, checked);
-    let end = end_of(alloc, checked, devices, board, (steps, trial.dropped));
+    let mut none = Course::new(alloc);
+    let end = end_of((checked, &mut none), devices, board, steps, trial.dropped);
     match taken.try_borrow() {
         Ok(taken) => Ok(trials.add(course, trial, &taken, &end)),
         Err(_) => Ok(false),
@@ -263,8 +265,8 @@ fn try_course(
     Ok(())
 }
 
-/// Plays a log on a board that takes each command, and then has all trials of its course. Gives what the board took, and
-/// how the rig ended.
+/// Plays a log on a board that takes each command, and then has all trials of its course. Gives what the board took,
+/// and how the rig ended.
 fn try_log(
     alloc: Global,
     checked: &Checked,
@@ -274,9 +276,9 @@ fn try_log(
     let taken = no_command(alloc)?;
     let board = FuseBoard::new(0, false, taken.clone()?);
     let mut course = Course::new(alloc);
-    let script = Script::Note(log, &mut course);
     let devices = devices_of(alloc, checked);
-    let end = end_of(alloc, checked, devices, board, (script, false));
+    let script = Script::Play(log);
+    let end = end_of((checked, &mut course), devices, board, script, false);
     try_course(alloc, checked, &course, trials)?;
     Ok((taken, end))
 }

@@ -34,6 +34,7 @@ pub(crate) struct Step {
 /// than they are to be.
 #[derive(Drop)]
 pub(crate) struct Course {
+    alloc: Global,
     pub(crate) steps: Vec<Step>,
     pub(crate) sent: Vec<Sent>,
 }
@@ -41,6 +42,7 @@ pub(crate) struct Course {
 impl Course {
     pub(crate) fn new(alloc: Global) -> Course {
         Course {
+            alloc,
             steps: Vec::new(alloc),
             sent: Vec::new(alloc),
         }
@@ -137,7 +139,7 @@ fn input_of_line(plan: &Plan, line: &str, at: u64) -> Input {
     }
 }
 
-/// Plays a log, and notes what comes of it. A line that cannot be read is left out.
+/// Plays a log, and notes its course. A line that cannot be read is left out.
 fn note_log<D: Device>(
     rig: &mut Rig<'_, D, FuseBoard>,
     course: &mut Course,
@@ -154,10 +156,10 @@ fn note_log<D: Device>(
 }
 
 /// What a rig is to do.
-#[derive(Drop)]
+#[derive(Clone, Copy)]
 pub(crate) enum Script<'a> {
-    /// To play a log, and to note what comes of it.
-    Note(&'a str, &'a mut Course),
+    /// To play a log, whose course is noted.
+    Play(&'a str),
     /// To take these steps.
     Take(&'a [Step]),
 }
@@ -165,11 +167,12 @@ pub(crate) enum Script<'a> {
 /// Follows a script. Gives whether the board alone ends it.
 fn is_followed<D: Device>(
     rig: &mut Rig<'_, D, FuseBoard>,
+    course: &mut Course,
     plan: &Plan,
     script: Script<'_>,
 ) -> bool {
     match script {
-        Script::Note(log, course) => {
+        Script::Play(log) => {
             note_log(rig, course, plan, log);
             true
         }
@@ -186,19 +189,19 @@ pub(crate) enum End {
     Shut(usize, u16),
 }
 
-/// Makes a rig, has it follow a script, and ends it. It is here alone that a rig is no reference: such a large value is
-/// slow to prove.
+/// Makes a rig, has it follow a script, and ends it. If the script is a log, its course is noted in an empty one. It is
+/// here alone that a rig is no reference: such a large value is slow to prove.
 pub(crate) fn end_of<D: Device>(
-    alloc: Global,
-    checked: &Checked,
+    (checked, course): (&Checked, &mut Course),
     devices: Vec<D>,
     board: FuseBoard,
-    (script, dropped): (Script<'_>, bool),
+    script: Script<'_>,
+    dropped: bool,
 ) -> End {
-    let Ok(mut rig) = Rig::new(alloc, checked, devices, board) else {
+    let Ok(mut rig) = Rig::new(course.alloc, checked, devices, board) else {
         return End::Refused;
     };
-    if !is_followed(&mut rig, checked.plan(), script) {
+    if !is_followed(&mut rig, course, checked.plan(), script) {
         return End::Refused;
     }
     if dropped {

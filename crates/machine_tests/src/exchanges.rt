@@ -7,7 +7,7 @@ use crate::spares::{Boxes, Make};
 use crate::steps::{input_of, number_at};
 use coil_guard::{Board, FuseBoard, MemoryBoard};
 use config_checker::Checked;
-use device_objects::{Device, is_same_state};
+use device_objects::{Device, DeviceState, is_same_state};
 use pin_rig::Rig;
 use plan_tables::{Plan, RowId};
 use std::alloc::{AllocError, Global};
@@ -145,18 +145,18 @@ fn add_inputs<D: Device, B: Board>(
     Ok(())
 }
 
-/// The mask of row 0 that a word asks for: one as it begins, or one in the state of the device that is there.
-fn mask_for<D: Device, B: Board, M: Make<D>>(
+/// A mask of row 0: one as it begins, or one in this state.
+fn mask_for<D: Device, M: Make<D>>(
     make: &M,
     plan: &Plan,
-    rig: &Rig<'_, D, B>,
-    word: &str,
+    state: Option<DeviceState>,
+    is_new: bool,
 ) -> Option<D> {
     let row = plan.rows().first()?;
-    if word == "new" {
+    if is_new {
         return make.first(row, true);
     }
-    make.resumed(row, &rig.state(row.number)?)
+    make.resumed(row, &state?)
 }
 
 /// Adds the lines of the inputs before, then the answer where the mask of a word is to take the place of the
@@ -166,16 +166,31 @@ fn add_swap<D: Device, B: Board, M: Make<D>>(
     plan: &Plan,
     rig: &mut Rig<'_, D, B>,
     make: &M,
-    (place, inputs): (&str, &str),
+    question: &str,
 ) -> Result<(), AllocError> {
-    let (number, word) = place.split_once(' ').unwrap_or((place, ""));
-    let (before, after) = inputs.split_once("; ").unwrap_or((inputs, ""));
+    let (place, inputs) = question.split_once(": ").unwrap_or(("", ""));
+    let (before, after) = inputs.split_once("; ").unwrap_or(("", ""));
     add_inputs(out, plan, rig, before)?;
-    match mask_for(make, plan, rig, word) {
-        Some(mask) => add_exchange(out, rig, row_of(number_at(number, 0)), mask)?,
+    let is_new = place.ends_with("new");
+    match mask_for(make, plan, rig.state(RowId(0)), is_new) {
+        Some(mask) => add_exchange(out, rig, row_of(number_at(place, 0)), mask)?,
         None => out.push_str("no mask ")?,
     }
     add_inputs(out, plan, rig, after)
+}
+
+/// Adds the answer where a mask is to take the place of one of these devices.
+fn add_swap_with<D: Device, M: Make<D>>(
+    (alloc, out): (Global, &mut String),
+    checked: &Checked,
+    devices: Vec<D>,
+    make: &M,
+    question: &str,
+) -> Result<(), AllocError> {
+    match Rig::new(alloc, checked, devices, MemoryBoard::new(alloc)?) {
+        Ok(mut rig) => add_swap(out, checked.plan(), &mut rig, make, question),
+        Err(fault) => add(out, &fault),
+    }
 }
 
 /// Answers to a row, a word for a mask, and the inputs before and after it is to take the place of the device of
@@ -186,12 +201,8 @@ pub(crate) fn swapped(
     checked: &Checked,
     question: &str,
 ) -> Result<(), AllocError> {
-    let parts = question.split_once(": ").unwrap_or((question, ""));
-    let board = MemoryBoard::new(alloc)?;
-    match Rig::new(alloc, checked, devices_of(alloc, checked), board) {
-        Ok(mut rig) => add_swap(out, checked.plan(), &mut rig, &Boxes { alloc }, parts),
-        Err(fault) => add(out, &fault),
-    }
+    let devices = devices_of(alloc, checked);
+    add_swap_with((alloc, out), checked, devices, &Boxes { alloc }, question)
 }
 
 // Row 0 is the machine's, and is hit at moment 0, when coil 0 is pulsed; 1 and 2 are of a mode. A pair
