@@ -4,6 +4,8 @@ pub mod Shown
 pub mod BoundTo
 pub mod Placed
 pub mod Worked
+pub mod Overlaid
 pub mod Owners
+pub mod ListsBy
 pub mod RowLists
 pub mod Troughs

@@ -1,5 +1,5 @@
 -- What the fields of a plan hold.
-use Rattle.std.specs.Prelude.{ℕ, ◌≡◌, List, length, map, slice_get, Vec, zip}
+use Rattle.std.specs.Prelude.{ℕ, zero, suc, ◌+◌, ◌≡◌, ◌<◌, List, [], ◌∷◌, ◌++◌, Option, Some, None, length, map, slice_get, slice_index_or, slice_set, Vec, zip}
 use Rattle.std.specs.List.{range_with_len}
 use Rattle.std.specs.Global.{Global}
 use Rattle.plan_tables.specs.declared.names.NameSets.{NameSets}
@@ -8,14 +8,23 @@ use Rattle.plan_tables.specs.declared.entries.SwitchEntry.{SwitchEntry}
 use Rattle.plan_tables.specs.declared.entries.CoilLimits.{CoilLimits}
 use Rattle.plan_tables.specs.declared.entries.Action.{Action}
 use Rattle.plan_tables.specs.declared.entries.BindingId.{BindingId}
+use Rattle.plan_tables.specs.declared.entries.EventId.{EventId}
+use Rattle.plan_tables.specs.declared.entries.Owner.{Owner}
+use Rattle.plan_tables.specs.declared.entries.Owner.TheVariants.{Machine, Mode}
+use Rattle.plan_tables.specs.declared.devices.BallTarget.{BallTarget}
+use Rattle.plan_tables.specs.declared.devices.BallTarget.TheVariants.{Playfield, Device}
+use Rattle.plan_tables.specs.declared.devices.RowId.{RowId}
+use Rattle.plan_tables.specs.declared.entries.ModeEvents.{ModeEvents}
 use Rattle.plan_tables.specs.declared.entries.Work.{Work}
+use Rattle.plan_tables.specs.declared.entries.Work.TheVariants.{Nothing}
 use Rattle.plan_tables.specs.declared.table.Table.{Table}
 use Rattle.plan_tables.specs.declared.table.Table.TheVariants.{Events, Switches, Coils, Variables}
 use Rattle.plan_tables.specs.declared.tables.Tables.{Tables}
 use Rattle.plan_tables.specs.declared.tables.Plan.TheInside.{Inside}
 use Rattle.plan_tables.specs.Limits.{order_of}
 use Rattle.plan_tables.specs.NamesKept.{names_kept}
-use Rattle.plan_tables.specs.PlanView.{PlanMode, PlanSwitch, PlanCoil, PlanView, places_of, work_of}
+use Rattle.plan_tables.specs.Owned.{bindings_of_owner}
+use Rattle.plan_tables.specs.PlanView.{PlanMode, PlanSwitch, PlanCoil, PlanView, feeders_of, or_work, places_of, rows_of, which_event, work_from, work_of, work_or}
 
 -- the names of each table
 abbrev pub name_sets_view : NameSets → Table → List (List ℕ)
@@ -76,3 +85,54 @@ HasWorks plan works = works ≡ map (λ e. work_of plan (record { 0 = e })) (ran
 -- for each event of a plan the places of what is bound to it
 abbrev pub HasPlaces : PlanView → List (Vec BindingId Global) → Type 0
 HasPlaces plan places = map (λ v. v.items) places ≡ map (λ e. places_of plan (record { 0 = e })) (range_with_len 0 (length plan.events))
+
+-- the work of an event by its number, where these are the works of all
+abbrev pub work_at : List Work → EventId → Work
+work_at works e = slice_index_or works e.0 Nothing
+
+-- the events of the mode of this number have their work, and all others are as they were
+pub record AreModeWorks (number : ℕ) (events : ModeEvents) (old new : List Work) : Type 0 where
+  pub count : length new ≡ length old
+  pub each : (e : EventId) → e.0 < length old → work_at new e ≡ work_or number (which_event events e) (work_at old e)
+
+-- the same of the modes from this number on, of which the first that has an event gives it its work
+pub record AreWorksFrom (number : ℕ) (modes : List PlanMode) (old new : List Work) : Type 0 where
+  pub count : length new ≡ length old
+  pub each : (e : EventId) → e.0 < length old → work_at new e ≡ or_work (work_from number modes e) (work_at old e)
+
+-- ---- rows and bindings by their mode, and ball devices by their target
+
+-- lists, apart from where they lie in memory
+abbrev pub lists_view : {Y : Type 0} → List (Vec Y Global) → List (List Y)
+lists_view lists = map (λ v. v.items) lists
+
+-- an item more in the list at the place, if there is a place
+abbrev pub added : {Y : Type 0} → List (List Y) → Option ℕ → Y → List (List Y)
+added lists None y = lists
+added lists (Some place) y = slice_set lists place (slice_index_or lists place [] ++ y ∷ [])
+
+-- the mode that acts, if one does
+abbrev pub mode_place : Owner → Option ℕ
+mode_place Machine = None
+mode_place (Mode m) = Some m.0
+
+-- the place of a target, and the target at a place: the playfield comes before all rows
+abbrev pub target_place : BallTarget → ℕ
+target_place Playfield = 0
+target_place (Device r) = suc r.0
+
+abbrev pub target_at : ℕ → BallTarget
+target_at zero = Playfield
+target_at (suc n) = Device (record { 0 = n })
+
+-- for each mode of a plan the places of its bindings
+abbrev pub HasModeBindings : PlanView → List (Vec BindingId Global) → Type 0
+HasModeBindings plan lists = lists_view lists ≡ map (λ m. bindings_of_owner plan (Mode (record { 0 = m }))) (range_with_len 0 (length plan.modes))
+
+-- and its rows
+abbrev pub HasModeRows : PlanView → List (Vec RowId Global) → Type 0
+HasModeRows plan lists = lists_view lists ≡ map (λ m. rows_of plan (Mode (record { 0 = m }))) (range_with_len 0 (length plan.modes))
+
+-- for each target the ball devices that eject to it
+abbrev pub HasFeeders : PlanView → List (Vec RowId Global) → Type 0
+HasFeeders plan lists = lists_view lists ≡ map (λ n. feeders_of plan (target_at n)) (range_with_len 0 (length plan.rows + 1))

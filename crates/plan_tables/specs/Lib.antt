@@ -1,6 +1,7 @@
 pub mod Devices
 pub mod GameEvents
 pub mod PlanView
+pub mod Owned
 pub mod Limits
 pub mod Valid
 pub mod BallRows

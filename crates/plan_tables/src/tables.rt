@@ -1,12 +1,15 @@
 //! The plan, and its tables read by number and by text.
 
-use crate::devices::{DeviceRow, RowId};
+use crate::devices::{BallTarget, DeviceRow, RowId};
 use crate::entries::{
     Action, Binding, BindingId, CoilId, CoilLimits, EventId, GameRules, ListId, Listener, Mode,
     ModeEntry, ModeId, SwitchEntry, SwitchId, SwitchKind, VariableId, Work,
 };
 use crate::names::NameSets;
-use crate::placing::{place_of_trough, places_by_event};
+use crate::placing::{
+    bindings_by_mode, feeders_by_target, place_of_trough, places_by_event, rows_by_mode,
+    target_place,
+};
 use crate::table::Table;
 use crate::works::works_by_event;
 use std::alloc::{AllocError, Global};
@@ -44,6 +47,12 @@ pub struct Plan {
     places: Vec<Vec<BindingId>>,
     /// For each event its work.
     works: Vec<Work>,
+    /// For each mode the places of its bindings.
+    mode_bindings: Vec<Vec<BindingId>>,
+    /// For each mode its rows.
+    mode_rows: Vec<Vec<RowId>>,
+    /// For the playfield, and then for each row, the ball devices that eject their balls there.
+    feeders: Vec<Vec<RowId>>,
 }
 
 impl Model for Plan {
@@ -53,20 +62,23 @@ impl Model for Plan {
 
     ghost use Rattle.std.specs.Prelude.{◌≡◌, length};
     ghost use Rattle.plan_tables.specs.declared.table.Table.TheVariants.{Switches, Coils};
-    ghost use Rattle.plan_tables.specs.Inside.{name_sets_view, plan_view, HasPlaces, HasWorks};
+    ghost use Rattle.plan_tables.specs.Inside.{name_sets_view, plan_view, HasFeeders, HasModeBindings, HasModeRows, HasPlaces, HasWorks};
     ghost use Rattle.plan_tables.specs.Valid.{IsValid};
 
     ghost view = { plan_view };
 
-    ghost invariant = { λ p. IsValid (plan_view p) × HasPlaces (plan_view p) p.places.items × HasWorks (plan_view p) p.works.items × (length p.tables.switches.items ≡ length (name_sets_view p.tables.names Switches)) × (length p.tables.coils.items ≡ length (name_sets_view p.tables.names Coils)) };
+    ghost invariant = { λ p. IsValid (plan_view p) × HasPlaces (plan_view p) p.places.items × HasWorks (plan_view p) p.works.items × (length p.tables.switches.items ≡ length (name_sets_view p.tables.names Switches)) × (length p.tables.coils.items ≡ length (name_sets_view p.tables.names Coils)) × HasModeBindings (plan_view p) p.mode_bindings.items × HasModeRows (plan_view p) p.mode_rows.items × HasFeeders (plan_view p) p.feeders.items };
 }
 
 impl Plan {
     ghost use Rattle.std.specs.Prelude.{◌≡◌, ◌<◌, length, slice_get, Contains, IfSome, IfNone, IfOk};
-    ghost use Rattle.plan_tables.specs.PlanView.{name_of_event, event_named, name_of_variable, variable_named, mode_at, switch_at, switch_named, listeners_of, posts_of, coil_at, coil_named, actions_at, places_of, row_at, list_of_row, first_trough, work_of};
+    ghost use Rattle.plan_tables.specs.PlanView.{name_of_event, event_named, name_of_variable, variable_named, mode_at, switch_at, switch_named, listeners_of, posts_of, coil_at, coil_named, actions_at, places_of, row_at, rows_of, feeders_of, list_of_row, first_trough, work_of};
     ghost use Rattle.plan_tables.specs.declared.table.Table.TheVariants.{Switches, Coils};
     ghost use Rattle.plan_tables.specs.Inside.{name_sets_view, tables_view};
-    ghost use Rattle.plan_tables.specs.Valid.{IsRowWithin, IsValid, IsWorkAt};
+    ghost use Rattle.std.specs.List.{All};
+    ghost use Rattle.plan_tables.specs.declared.entries.Owner.TheVariants as owners;
+    ghost use Rattle.plan_tables.specs.Owned.{bindings_of_owner};
+    ghost use Rattle.plan_tables.specs.Valid.{IsRowWithin, IsTargetThere, IsValid, IsWorkAt};
     ghost use Rattle.plan_tables.specs.Devices.{IsWithinLimits, list_count};
 
     /// The plan of these tables, which have to be valid, with a name for each switch and each coil.
@@ -83,10 +95,17 @@ impl Plan {
         let events = tables.names.of(Table::Events).len();
         let places = places_by_event(alloc, events, &tables.bindings)?;
         let works = works_by_event(alloc, events, &tables.modes, tables.game)?;
+        let modes = tables.modes.len();
+        let mode_bindings = bindings_by_mode(alloc, modes, &tables.bindings)?;
+        let mode_rows = rows_by_mode(alloc, modes, &tables.rows)?;
+        let feeders = feeders_by_target(alloc, &tables.rows)?;
         Ok(Plan {
             tables,
             places,
             works,
+            mode_bindings,
+            mode_rows,
+            feeders,
         })
     }
 
@@ -368,6 +387,36 @@ impl Plan {
         ensures valid { IsValid self.now }
     {
         self.tables.rows[row.0 as usize]
+    }
+
+    /// The bindings of a mode of the plan, by their places, in plan order.
+    pub fn bindings_of_mode(&self, mode: ModeId) -> &[BindingId]
+        requires { mode.0 < length self.now.modes }
+        ensures places { result.now ≡ bindings_of_owner self.now (owners.Mode mode) }
+        ensures within { All (λ b. b.0 < length self.now.bindings) result.now }
+        ensures valid { IsValid self.now }
+    {
+        self.mode_bindings[mode.0 as usize].as_slice()
+    }
+
+    /// The rows of a mode of the plan, in plan order.
+    pub fn rows_of_mode(&self, mode: ModeId) -> &[RowId]
+        requires { mode.0 < length self.now.modes }
+        ensures rows { result.now ≡ rows_of self.now (owners.Mode mode) }
+        ensures within { All (λ r. r.0 < length self.now.rows) result.now }
+        ensures valid { IsValid self.now }
+    {
+        self.mode_rows[mode.0 as usize].as_slice()
+    }
+
+    /// The ball devices that eject their balls to a target of the plan, in plan order.
+    pub fn feeders(&self, target: BallTarget) -> &[RowId]
+        requires { IsTargetThere (length self.now.rows) target }
+        ensures feeders { result.now ≡ feeders_of self.now target }
+        ensures within { All (λ r. r.0 < length self.now.rows) result.now }
+        ensures valid { IsValid self.now }
+    {
+        self.feeders[target_place(target)].as_slice()
     }
 
     /// The first trough, in plan order; none if the plan has no trough.

@@ -1,9 +1,10 @@
 //! What the machine itself does at each event.
 
-ghost use Rattle.std.specs.Prelude.{◌≡◌, ◌==◌, ◌<◌, ◌≤◌, length, map, position, slice_get, IfOk, IfSome};
+ghost use Rattle.std.specs.Prelude.{◌≡◌, ◌==◌, ◌<◌, ◌≤◌, length, map, position, slice_get, slice_set, IfOk, IfSome};
+ghost use Rattle.std.specs.List.{range_with_len};
 ghost use Rattle.plan_tables.specs.GameEvents.{game_events};
-ghost use Rattle.plan_tables.specs.PlanView.{PlanView, game_work, which_event, work_among, work_from};
-ghost use Rattle.plan_tables.specs.Inside.{mode_entry_view, HasWorks};
+ghost use Rattle.plan_tables.specs.PlanView.{PlanView, game_work};
+ghost use Rattle.plan_tables.specs.Inside.{mode_entry_view, HasWorks, AreModeWorks, AreWorksFrom};
 
 use crate::entries::{
     EventId, GAME_EVENTS, GameEvent, GameRules, ModeEntry, ModeEvent, ModeEvents, ModeId, Work,
@@ -21,23 +22,26 @@ pub(crate) fn works_by_event(
     requires modes { length modes.now ≤ 64 }
     ensures { IfOk result (λ works. (plan : PlanView) → length plan.events ≡ events → plan.modes ≡ map mode_entry_view modes.now → plan.game ≡ game → HasWorks plan works.items) }
 {
-    let mut works = Vec::with_capacity(alloc, events)?;
-    for event in 0..events {
-        let work = work_of(modes, game, EventId(event as u16));
-        works.push(work)?;
-    }
+    let mut works = works_of_game(alloc, events, game)?;
+    set_works_of_modes(&mut works, modes);
     Ok(works)
 }
 
-/// The work of an event, where these are all modes, and the rules of the game.
-fn work_of(modes: &[ModeEntry], game: Option<GameRules>, event: EventId) -> Work
-    requires { length modes.now ≤ 64 }
-    ensures { result ≡ work_among (map mode_entry_view modes.now) game event }
+/// The work of each of so many events in the game.
+fn works_of_game(
+    alloc: Global,
+    events: usize,
+    game: Option<GameRules>,
+) -> Result<Vec<Work>, AllocError>
+    requires { events ≤ 4096 }
+    ensures { IfOk result (λ works. works.items ≡ map (λ e. game_work game (record { 0 = e })) (range_with_len 0 events)) }
 {
-    match work_of_mode(modes, event) {
-        Work::Nothing => work_of_game(game, event),
-        work => work,
+    let mut works = Vec::with_capacity(alloc, events)?;
+    for event in 0..events {
+        let work = work_of_game(game, EventId(event as u16));
+        works.push(work)?;
     }
+    Ok(works)
 }
 
 /// The work of an event in the game.
@@ -69,37 +73,49 @@ fn game_event_at(place: usize) -> GameEvent
     GAME_EVENTS[place]
 }
 
-/// The work of an event in the life of a mode, where these are all modes.
-fn work_of_mode(modes: &[ModeEntry], event: EventId) -> Work
+/// Sets the work of the events of these modes. An event of two modes has the work of the first.
+fn set_works_of_modes(works: &mut [Work], modes: &[ModeEntry])
     requires { length modes.now ≤ 64 }
-    ensures { result ≡ work_from 0 (map mode_entry_view modes.now) event }
+    ensures { AreWorksFrom 0 (map mode_entry_view modes.now) works.old works.new }
 {
-    for (number, entry) in modes.iter().enumerate() {
-        if let Some(which) = which_event(entry.mode.events, event) {
-            return Work::Mode(ModeId(number as u16), which);
-        }
+    let mut number = modes.len();
+    while number > 0 {
+        number -= 1;
+        set_works_of_mode(works, number, modes[number].mode.events);
     }
-    Work::Nothing
 }
 
-/// Which of these events it is, if it is one.
-fn which_event(events: ModeEvents, event: EventId) -> Option<ModeEvent>
-    ensures { result ≡ which_event events event }
+/// Sets the work of the events of a mode. Where two of them are one, it has the work of the first.
+fn set_works_of_mode(works: &mut [Work], number: usize, events: ModeEvents)
+    requires { number < 64 }
+    ensures { AreModeWorks number events works.old works.new }
 {
-    if event.0 == events.will_start.0 {
-        return Some(ModeEvent::WillStart);
+    let mode = ModeId(number as u16);
+    set_work(works, events.stopped, Work::Mode(mode, ModeEvent::Stopped));
+    set_work(
+        works,
+        events.stopping,
+        Work::Mode(mode, ModeEvent::Stopping),
+    );
+    set_work(works, events.started, Work::Mode(mode, ModeEvent::Started));
+    set_work(
+        works,
+        events.starting,
+        Work::Mode(mode, ModeEvent::Starting),
+    );
+    set_work(
+        works,
+        events.will_start,
+        Work::Mode(mode, ModeEvent::WillStart),
+    );
+}
+
+/// Sets the work of an event, if it is one of these.
+fn set_work(works: &mut [Work], event: EventId, work: Work)
+    ensures { works.new ≡ slice_set works.old event.0 work }
+{
+    let place = event.0 as usize;
+    if place < works.len() {
+        works[place] = work;
     }
-    if event.0 == events.starting.0 {
-        return Some(ModeEvent::Starting);
-    }
-    if event.0 == events.started.0 {
-        return Some(ModeEvent::Started);
-    }
-    if event.0 == events.stopping.0 {
-        return Some(ModeEvent::Stopping);
-    }
-    if event.0 == events.stopped.0 {
-        return Some(ModeEvent::Stopped);
-    }
-    None
 }

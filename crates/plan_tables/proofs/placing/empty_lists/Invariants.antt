@@ -3,4 +3,4 @@ use Rattle.std.specs.List.{All}
 use Rattle.plan_tables.proofs.placing.empty_lists.Given as goal
 
 abbrev pub invariant-loop : goal.invariant-loop
-invariant-loop l = (length l.lists.items ≡ l.counter) × All (λ v. v.items ≡ []) l.lists.items
+invariant-loop g l = (length l.lists.items ≡ l.counter) × All (λ v. v.items ≡ []) l.lists.items

@@ -1,9 +1,17 @@
-use Rattle.std.proofs.Common.{◌≡◌, ◌<◌, length, map, refl, ap, sym, subst, ◌∙◌}
+use Rattle.std.proofs.Common.{◌≡◌, ◌<◌, ◌+◌, ℕ, List, length, map, refl, ap, sym, subst, ◌∙◌}
+use Rattle.std.specs.Prelude.{IfSome}
+use Rattle.std.specs.Option.{option_map}
+use Rattle.std.specs.Vec.{vec_len}
 use Rattle.std.specs.List.{All}
 use Rattle.std.proofs.lemmas.List.{length-map}
 use Rattle.std.proofs.lemmas.List.Elements.{All-weaker}
 use Rattle.plan_tables.specs.Valid.{IsBindingWithin}
-use Rattle.plan_tables.specs.Inside.{tables_view, mode_entry_view}
+use Rattle.plan_tables.specs.declared.devices.DeviceRow.{DeviceRow}
+use Rattle.plan_tables.specs.declared.tables.Tables.{Tables}
+use Rattle.plan_tables.specs.PlanView.{target_in}
+use Rattle.plan_tables.specs.Inside.{tables_view, mode_entry_view, mode_place, target_place}
+use Rattle.plan_tables.specs.declared.entries.Binding.{Binding}
+use Rattle.plan_tables.proofs.ListsBy.{bindings_placed, rows_placed, targets_placed}
 use Rattle.plan_tables.proofs.tables.Plan.new.Goals as goal
 
 pub places_by_event-requires-clause-events : goal.places_by_event-requires-clause-events
@@ -14,8 +22,36 @@ places_by_event-requires-clause-events c =
     All-weaker (IsBindingWithin plan) (λ b. b.event.0 < length plan.events) (λ b h. h.0) plan.bindings c.requires.valid.entries.bindings in
     subst (λ bs. All (λ b. b.event.0 < c.len-events.result) bs) (sym c.deref.ensures.value) (subst (λ n. All (λ b. b.event.0 < n) plan.bindings) count known)
 
+modes_count : (t : Tables) (n : ℕ) → n ≡ vec_len t.modes → length (tables_view t).modes ≡ n
+modes_count t n is = length-map t.modes.items mode_entry_view ∙ sym t.modes.ok.0 ∙ sym is
+
+pub bindings_by_mode-requires-clause-modes : goal.bindings_by_mode-requires-clause-modes
+bindings_by_mode-requires-clause-modes c =
+    let plan = tables_view c.args.tables in
+    subst (λ (bs : List Binding). All (λ b. IfSome (mode_place b.owner) (λ p. p < c.len-modes.result)) bs) (sym c.deref-3.ensures.value)
+    (subst (λ n. All (λ b. IfSome (mode_place b.owner) (λ p. p < n)) plan.bindings) (modes_count c.args.tables c.len-modes.result c.len-modes.ensures) (bindings_placed plan c.requires.valid))
+
+pub rows_by_mode-requires-clause-modes : goal.rows_by_mode-requires-clause-modes
+rows_by_mode-requires-clause-modes c =
+    let plan = tables_view c.args.tables in
+    subst (λ (rows : List DeviceRow). All (λ row. IfSome (mode_place row.owner) (λ p. p < c.len-modes.result)) rows) (sym c.deref-4.ensures.value)
+    (subst (λ n. All (λ row. IfSome (mode_place row.owner) (λ p. p < n)) plan.rows) (modes_count c.args.tables c.len-modes.result c.len-modes.ensures) (rows_placed plan c.requires.valid))
+
+pub feeders_by_target-requires-clause-targets : goal.feeders_by_target-requires-clause-targets
+feeders_by_target-requires-clause-targets c =
+    let plan = tables_view c.args.tables in
+    subst (λ (rows : List DeviceRow). All (λ row. IfSome (option_map target_place (target_in row.settings)) (λ p. p < length rows + 1)) rows) (sym c.deref-5.ensures.value) (targets_placed plan c.requires.valid)
+
 pub invariant_of-result : goal.invariant_of-result
 invariant_of-result c =
     let plan = tables_view c.args.tables in
-    let count : length plan.events ≡ c.len-events.result = sym (ap length c.of.ensures.names) ∙ length-map c.of.result.now.keys (λ v. v.items) ∙ sym c.len-events.ensures.len in
-    (c.requires.valid, c.in_ok-places.ensures plan count (sym c.deref.ensures.value), c.in_ok-works.ensures plan count (ap (map mode_entry_view) (sym c.deref-2.ensures.value)) refl, c.requires.switches, c.requires.coils)
+    let count : length plan.events ≡ c.len-events.result = sym (ap length c.of.ensures.names) ∙ length-map c.of.result.now.keys (λ v. v.items) ∙ sym c.len-events.ensures.len in (
+      c.requires.valid,
+      c.in_ok-places.ensures plan count (sym c.deref.ensures.value),
+      c.in_ok-works.ensures plan count (ap (map mode_entry_view) (sym c.deref-2.ensures.value)) refl,
+      c.requires.switches,
+      c.requires.coils,
+      c.in_ok-mode_bindings.ensures plan (modes_count c.args.tables c.len-modes.result c.len-modes.ensures) (sym c.deref-3.ensures.value),
+      c.in_ok-mode_rows.ensures plan (modes_count c.args.tables c.len-modes.result c.len-modes.ensures) (sym c.deref-4.ensures.value),
+      c.in_ok-feeders.ensures plan (sym c.deref-5.ensures.value),
+    )

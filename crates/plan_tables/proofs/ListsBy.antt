@@ -1,0 +1,253 @@
+-- Adding the number of one entry after the other to the list of its place: of a row or a binding to that of its mode, and
+-- of a ball device to that of its target.
+use Rattle.std.proofs.Common.{◌≡◌, ℕ, zero, suc, ◌+◌, ◌<◌, ◌==◌, Bool, false, cond, inl, inr, List, [], ◌∷◌, ◌++◌, length, map, get_or, set, Option, Some, None, Vec, Global, refl, sym, ◌∙◌, ap, subst, arith}
+use Rattle.std.specs.Prelude.{IfSome, unwrap_or}
+use Rattle.std.specs.List.{All, filter, range_with_len}
+use Rattle.std.specs.Option.{option_map, option_map_or}
+use Rattle.std.proofs.lemmas.Bool.{eq-eqb, ne_eqb}
+use Rattle.std.proofs.lemmas.Bool.Decides.{eqb_tells}
+use Rattle.std.proofs.lemmas.List.{append-nil, get_or-map, get_or-set_same, get_or-set_other, length-map, length-set, map-set}
+use Rattle.std.proofs.lemmas.List.Elements.{All-filter, All-from_get_or, All-get_or, All-map, All-weaker}
+use Rattle.std.proofs.lemmas.List.FromFn.{fill_by_all, filter_of_map_range_with_len_more, get_or-map-range_with_len, length-map-range_with_len}
+use Rattle.plan_tables.specs.declared.devices.BallTarget.{BallTarget}
+use Rattle.plan_tables.specs.declared.devices.BallTarget.TheVariants.{Playfield, Device}
+use Rattle.plan_tables.specs.declared.devices.DeviceRow.{DeviceRow}
+use Rattle.plan_tables.specs.declared.devices.RowId.{RowId}
+use Rattle.plan_tables.specs.declared.entries.Binding.{Binding}
+use Rattle.plan_tables.specs.declared.entries.BindingId.{BindingId}
+use Rattle.plan_tables.specs.declared.entries.ModeId.{ModeId}
+use Rattle.plan_tables.specs.declared.entries.Owner.{Owner}
+use Rattle.plan_tables.specs.declared.entries.Owner.TheVariants.{Machine, Mode}
+use Rattle.plan_tables.specs.PlanView.{PlanView, binding_at, feeders_of, feeds, is_owner, is_target, no_binding, no_row, row_at, row_numbers, rows_of, target_in}
+use Rattle.plan_tables.specs.Owned.{binding_numbers, bindings_of_owner}
+use Rattle.plan_tables.specs.Valid.{IsBindingWithin, IsOwnerWithin, IsTargetThere, IsValid}
+use Rattle.plan_tables.specs.Inside.{added, lists_view, mode_place, target_at, target_place, HasFeeders, HasModeBindings, HasModeRows}
+use Rattle.plan_tables.proofs.Owners.{row_numbers-within}
+
+-- whether something is in the list at a place
+abbrev is_at : ℕ → Option ℕ → Bool
+is_at e None = false
+is_at e (Some place) = e == place
+
+-- a list more has an item more, and there are as many lists
+length-added : {Y : Type 0} (lists : List (List Y)) (at : Option ℕ) (y : Y) → length (added lists at y) ≡ length lists
+length-added lists None y = refl
+length-added lists (Some p) y = length-set lists p (get_or lists p [] ++ y ∷ [])
+
+module _ {X Y : Type 0} (make : ℕ → Y) (number : Y → ℕ) (back : (n : ℕ) → number (make n) ≡ n) (place : X → Option ℕ) (d : X) (items : List X) where
+  -- of the first i items, the numbers of those whose place is e
+  abbrev pub listed : ℕ → ℕ → List Y
+  listed e i = filter (λ y. is_at e (place (get_or items (number y) d))) (map make (range_with_len 0 i))
+
+  abbrev pub AreListed : ℕ → List (List Y) → Type 0
+  AreListed i lists = (e : ℕ) → e < length lists → get_or lists e [] ≡ listed e i
+
+  abbrev alone : Bool → ℕ → List Y
+  alone b i = cond b (make i ∷ []) []
+
+  one_more : (e i : ℕ) → listed e (i + 1) ≡ listed e i ++ alone (is_at e (place (get_or items i d))) i
+  one_more e i =
+      filter_of_map_range_with_len_more (λ (y : Y). is_at e (place (get_or items (number y) d))) make 0 i i (omega arith)
+      ∙ ap (λ n. listed e i ++ alone (is_at e (place (get_or items n d))) i) (back i)
+
+  -- one item more
+  pub listed_more : (i : ℕ) (lists : List (List Y)) (at : Option ℕ) → place (get_or items i d) ≡ at → IfSome at (λ p. p < length lists) → AreListed i lists → AreListed (i + 1) (added lists at (make i))
+  listed_more i lists None is known so_far e within =
+      so_far e within
+      ∙ sym (append-nil (listed e i))
+      ∙ sym (ap (λ o. listed e i ++ alone (is_at e o) i) is)
+      ∙ sym (one_more e i)
+  listed_more i lists (Some p) is known so_far e within =
+      let more : List Y = get_or lists p [] ++ make i ∷ [] in
+      elim (eqb_tells e p) [
+        | inl same ↦
+            ap (λ n. get_or (set lists p more) n []) same.1
+            ∙ get_or-set_same lists p more [] known
+            ∙ ap (λ ys. ys ++ make i ∷ []) (so_far p known)
+            ∙ ap (λ n. listed n i ++ make i ∷ []) (sym same.1)
+            ∙ sym (ap (λ b. listed e i ++ alone b i) same.0)
+            ∙ sym (ap (λ o. listed e i ++ alone (is_at e o) i) is)
+            ∙ sym (one_more e i)
+        | inr other ↦
+            get_or-set_other lists p e more [] other.1
+            ∙ so_far e (omega (arith, within, length-set lists p more))
+            ∙ sym (append-nil (listed e i))
+            ∙ sym (ap (λ b. listed e i ++ alone b i) other.0)
+            ∙ sym (ap (λ o. listed e i ++ alone (is_at e o) i) is)
+            ∙ sym (one_more e i)
+      ]
+
+  -- where each list is empty, nothing is listed
+  pub listed_none : (lists : List (Vec Y Global)) → All (λ v. v.items ≡ []) lists → AreListed 0 (lists_view lists)
+  listed_none lists empty e within = All-get_or (λ ys. ys ≡ []) (lists_view lists) e [] within (All-map (λ ys. ys ≡ []) (λ (v : Vec Y Global). v.items) lists empty)
+
+  -- one item more in the lists as they lie in memory
+  pub item_listed : (n : ℕ) (old new : List (Vec Y Global)) (at : Option ℕ) (count : ℕ) → lists_view new ≡ added (lists_view old) at (make n) → at ≡ place (get_or items n d)
+      → IfSome (place (get_or items n d)) (λ p. p < count) → length old ≡ count → AreListed n (lists_view old) → (length new ≡ count) × AreListed (n + 1) (lists_view new)
+  item_listed n old new at count is at_is known many so_far =
+      let shown : Vec Y Global → List Y = λ v. v.items in
+      let old_count : length (lists_view old) ≡ length old = length-map old shown in
+      let new_count : length (lists_view new) ≡ length new = length-map new shown in
+      let same : length (lists_view new) ≡ length (lists_view old) = ap length is ∙ length-added (lists_view old) at (make n) in
+      let there : IfSome at (λ p. p < length (lists_view old)) =
+      subst (λ m. IfSome at (λ p. p < m)) (sym (old_count ∙ many)) (subst (λ o. IfSome o (λ p. p < count)) (sym at_is) known) in
+      (sym new_count ∙ same ∙ old_count ∙ many, subst (AreListed (n + 1)) (sym is) (listed_more n (lists_view old) at (sym at_is) there so_far))
+
+module _ {Y : Type 0} where
+  -- an item is pushed to the list at a place
+  pub lists_pushed : (lists : List (Vec Y Global)) (place : ℕ) (old new : Vec Y Global) (y : Y) → place < length lists → old ≡ get_or lists place old → new.items ≡ old.items ++ y ∷ []
+      → lists_view (set lists place new) ≡ added (lists_view lists) (Some place) y
+  lists_pushed lists place old new y known is pushed =
+      let shown : Vec Y Global → List Y = λ v. v.items in
+      let there : old.items ≡ get_or (lists_view lists) place [] = ap shown is ∙ sym (get_or-map shown lists place old [] known) in
+      map-set shown lists place new ∙ ap (set (lists_view lists) place) (pushed ∙ ap (λ ys. ys ++ y ∷ []) there)
+
+-- ---- the places of a plan's rows and bindings
+
+abbrev pub row_mode : DeviceRow → Option ℕ
+row_mode row = mode_place row.owner
+
+abbrev pub row_target : DeviceRow → Option ℕ
+row_target row = option_map target_place (target_in row.settings)
+
+abbrev pub binding_mode : Binding → Option ℕ
+binding_mode b = mode_place b.owner
+
+-- an owner is the machine, or a mode of the plan
+owner_placed : (plan : PlanView) (o : Owner) → IsOwnerWithin plan o → IfSome (mode_place o) (λ p. p < length plan.modes)
+owner_placed plan Machine h = tt
+owner_placed plan (Mode m) h = h
+
+pub rows_placed : (plan : PlanView) → IsValid plan → All (λ row. IfSome (row_mode row) (λ p. p < length plan.modes)) plan.rows
+rows_placed plan valid =
+    All-from_get_or (λ (row : DeviceRow). IfSome (row_mode row) (λ p. p < length plan.modes)) plan.rows no_row (λ n within.
+    owner_placed plan (row_at plan (record { 0 = n })).owner (valid.entries.rows (record { 0 = n }) within).owner)
+
+pub bindings_placed : (plan : PlanView) → IsValid plan → All (λ b. IfSome (binding_mode b) (λ p. p < length plan.modes)) plan.bindings
+bindings_placed plan valid =
+    All-weaker (IsBindingWithin plan) (λ b. IfSome (binding_mode b) (λ p. p < length plan.modes)) (λ b h. owner_placed plan b.owner h.1) plan.bindings valid.entries.bindings
+
+pub target_within : (rows : ℕ) (t : BallTarget) → IsTargetThere rows t → target_place t < rows + 1
+target_within rows Playfield there = omega arith
+target_within rows (Device r) there = omega arith
+
+-- the target of a ball device is the playfield, or a row of the plan
+target_found : (rows : ℕ) (o : Option BallTarget) → IsTargetThere rows (unwrap_or o Playfield) → IfSome (option_map target_place o) (λ p. p < rows + 1)
+target_found rows None there = tt
+target_found rows (Some t) there = target_within rows t there
+
+pub targets_placed : (plan : PlanView) → IsValid plan → All (λ row. IfSome (row_target row) (λ p. p < length plan.rows + 1)) plan.rows
+targets_placed plan valid =
+    All-from_get_or (λ (row : DeviceRow). IfSome (row_target row) (λ p. p < length plan.rows + 1)) plan.rows no_row (λ n within.
+    target_found (length plan.rows) (target_in (row_at plan (record { 0 = n })).settings) (valid.entries.rows (record { 0 = n }) within).target)
+
+-- ---- what the lists of a plan are
+
+abbrev pub row_number : ℕ → RowId
+row_number n = record { 0 = n }
+
+abbrev pub binding_number : ℕ → BindingId
+binding_number n = record { 0 = n }
+
+abbrev pub RowsListed : (DeviceRow → Option ℕ) → List DeviceRow → ℕ → List (List RowId) → Type 0
+RowsListed place rows i lists = AreListed row_number (λ r. r.0) (λ n. refl) place no_row rows i lists
+
+abbrev pub BindingsListed : List Binding → ℕ → List (List BindingId) → Type 0
+BindingsListed bindings i lists = AreListed binding_number (λ b. b.0) (λ n. refl) binding_mode no_binding bindings i lists
+
+of_mode : (m : ℕ) (o : Owner) → is_at m (mode_place o) ≡ is_owner (Mode (record { 0 = m })) o
+of_mode m Machine = refl
+of_mode m (Mode n) = refl
+
+-- the bindings of each mode
+pub mode_bindings_whole : (plan : PlanView) (bindings : List Binding) → plan.bindings ≡ bindings → (lists : List (Vec BindingId Global)) → length lists ≡ length plan.modes
+    → BindingsListed bindings (length bindings) (lists_view lists) → HasModeBindings plan lists
+mode_bindings_whole plan bindings same lists count all =
+    let long : length (lists_view lists) ≡ length plan.modes = length-map lists (λ (v : Vec BindingId Global). v.items) ∙ count in
+    fill_by_all (λ m. bindings_of_owner plan (Mode (record { 0 = m }))) (lists_view lists) (length plan.modes) [] long (λ m within.
+    let own : listed binding_number (λ b. b.0) (λ n. refl) binding_mode no_binding plan.bindings m (length plan.bindings) ≡ bindings_of_owner plan (Mode (record { 0 = m })) =
+    λ i. filter (λ b. of_mode m (binding_at plan b).owner i) (binding_numbers plan) in
+    all m (omega arith) ∙ sym (ap (λ (bs : List Binding). listed binding_number (λ b. b.0) (λ n. refl) binding_mode no_binding bs m (length bs)) same) ∙ own)
+
+module _ (plan : PlanView) (rows : List DeviceRow) (same : plan.rows ≡ rows) (lists : List (Vec RowId Global)) where
+  -- the rows of each mode
+  pub mode_rows_whole : length lists ≡ length plan.modes → RowsListed row_mode rows (length rows) (lists_view lists) → HasModeRows plan lists
+  mode_rows_whole count all =
+      let long : length (lists_view lists) ≡ length plan.modes = length-map lists (λ (v : Vec RowId Global). v.items) ∙ count in
+      fill_by_all (λ m. rows_of plan (Mode (record { 0 = m }))) (lists_view lists) (length plan.modes) [] long (λ m within.
+      let own : listed row_number (λ r. r.0) (λ n. refl) row_mode no_row plan.rows m (length plan.rows) ≡ rows_of plan (Mode (record { 0 = m })) =
+      λ i. filter (λ r. of_mode m (row_at plan r).owner i) (row_numbers plan) in
+      all m (omega arith) ∙ sym (ap (λ (rs : List DeviceRow). listed row_number (λ r. r.0) (λ n. refl) row_mode no_row rs m (length rs)) same) ∙ own)
+
+  at_target : (n : ℕ) (t : BallTarget) → n == target_place t ≡ is_target (target_at n) t
+  at_target zero Playfield = refl
+  at_target zero (Device q) = ne_eqb 0 (suc q.0) (λ is. omega arith)
+  at_target (suc n) Playfield = ne_eqb (suc n) 0 (λ is. omega arith)
+  at_target (suc n) (Device q) = elim (eqb_tells n q.0) [
+    | inl same ↦ eq-eqb (suc n) (suc q.0) (ap suc same.1) ∙ sym same.0
+    | inr other ↦ ne_eqb (suc n) (suc q.0) (λ is. other.1 (omega arith)) ∙ sym other.0
+  ]
+
+  of_target : (n : ℕ) (t : Option BallTarget) → is_at n (option_map target_place t) ≡ option_map_or (is_target (target_at n)) t false
+  of_target n None = refl
+  of_target n (Some t) = at_target n t
+
+  -- the ball devices of each target
+  pub feeders_whole : length lists ≡ length rows + 1 → RowsListed row_target rows (length rows) (lists_view lists) → HasFeeders plan lists
+  feeders_whole count all =
+      let long : length (lists_view lists) ≡ length plan.rows + 1 = length-map lists (λ (v : Vec RowId Global). v.items) ∙ count ∙ sym (ap (λ (rs : List DeviceRow). length rs + 1) same) in
+      fill_by_all (λ n. feeders_of plan (target_at n)) (lists_view lists) (length plan.rows + 1) [] long (λ n within.
+      let own : listed row_number (λ r. r.0) (λ k. refl) row_target no_row plan.rows n (length plan.rows) ≡ feeders_of plan (target_at n) =
+      λ i. filter (λ r. of_target n (target_in (row_at plan r).settings) i) (row_numbers plan) in
+      all n (omega arith) ∙ sym (ap (λ (rs : List DeviceRow). listed row_number (λ r. r.0) (λ k. refl) row_target no_row rs n (length rs)) same) ∙ own)
+
+-- ---- reading them
+
+module _ {Y : Type 0} (lists : List (Vec Y Global)) (f : ℕ → List Y) (count : ℕ) (are : lists_view lists ≡ map f (range_with_len 0 count)) where
+  pub lists_count : length lists ≡ count
+  lists_count = sym (length-map lists (λ (v : Vec Y Global). v.items)) ∙ ap length are ∙ length-map-range_with_len f 0 count
+
+  pub list_at : (n : ℕ) (v : Vec Y Global) → n < count → v ≡ get_or lists n v → v.items ≡ f n
+  list_at n v within at =
+      ap (λ (w : Vec Y Global). w.items) at
+      ∙ sym (get_or-map (λ (w : Vec Y Global). w.items) lists n v [] (omega (arith, within, lists_count)))
+      ∙ ap (λ ls. get_or ls n []) are
+      ∙ get_or-map-range_with_len f 0 count n n [] within (omega arith)
+
+-- the list of a mode, and that of a target
+module _ (inside plan : PlanView) (is : inside ≡ plan) where
+  pub mode_bindings_read : (lists : List (Vec BindingId Global)) (m : ModeId) (v : Vec BindingId Global) → HasModeBindings inside lists → m.0 < length plan.modes → v ≡ get_or lists m.0 v → v.items ≡ bindings_of_owner plan (Mode m)
+  mode_bindings_read lists m v has within at =
+      list_at lists (λ n. bindings_of_owner inside (Mode (record { 0 = n }))) (length inside.modes) has m.0 v (subst (λ (p : PlanView). m.0 < length p.modes) (sym is) within) at
+      ∙ ap (λ (p : PlanView). bindings_of_owner p (Mode m)) is
+
+  pub mode_rows_read : (lists : List (Vec RowId Global)) (m : ModeId) (v : Vec RowId Global) → HasModeRows inside lists → m.0 < length plan.modes → v ≡ get_or lists m.0 v → v.items ≡ rows_of plan (Mode m)
+  mode_rows_read lists m v has within at =
+      list_at lists (λ n. rows_of inside (Mode (record { 0 = n }))) (length inside.modes) has m.0 v (subst (λ (p : PlanView). m.0 < length p.modes) (sym is) within) at
+      ∙ ap (λ (p : PlanView). rows_of p (Mode m)) is
+
+  target_placed : (t : BallTarget) → target_at (target_place t) ≡ t
+  target_placed Playfield = refl
+  target_placed (Device r) = refl
+
+  pub feeders_read : (lists : List (Vec RowId Global)) (t : BallTarget) (place : ℕ) (v : Vec RowId Global) → HasFeeders inside lists → IsTargetThere (length plan.rows) t → place ≡ target_place t → v ≡ get_or lists place v
+      → v.items ≡ feeders_of plan t
+  feeders_read lists t place v has there placed at =
+      let within : place < length inside.rows + 1 =
+      subst (λ n. n < length inside.rows + 1) (sym placed) (target_within (length inside.rows) t (subst (λ (p : PlanView). IsTargetThere (length p.rows) t) (sym is) there)) in
+      list_at lists (λ n. feeders_of inside (target_at n)) (length inside.rows + 1) has place v within at
+      ∙ ap (λ n. feeders_of inside (target_at n)) placed
+      ∙ ap (feeders_of inside) (target_placed t)
+      ∙ ap (λ (p : PlanView). feeders_of p t) is
+
+-- each feeder is a row
+pub feeders-within : (plan : PlanView) (target : BallTarget) → All (λ r. r.0 < length plan.rows) (feeders_of plan target)
+feeders-within plan target = All-filter (λ r. feeds target (row_at plan r).settings) (λ r. r.0 < length plan.rows) (row_numbers plan) (row_numbers-within plan)
+
+-- each binding of an owner is one of the plan
+pub bindings_of_owner-within : (plan : PlanView) (owner : Owner) → All (λ b. b.0 < length plan.bindings) (bindings_of_owner plan owner)
+bindings_of_owner-within plan owner =
+    All-filter (λ b. is_owner owner (binding_at plan b).owner) (λ b. b.0 < length plan.bindings) (binding_numbers plan)
+    (All-from_get_or (λ (b : BindingId). b.0 < length plan.bindings) (binding_numbers plan) (record { 0 = 0 }) (λ n within.
+    let inside : n < length plan.bindings = omega (arith, within, length-map-range_with_len binding_number 0 (length plan.bindings)) in
+    subst (λ (b : BindingId). b.0 < length plan.bindings) (sym (get_or-map-range_with_len binding_number 0 (length plan.bindings) n n (record { 0 = 0 }) inside (omega arith))) inside))

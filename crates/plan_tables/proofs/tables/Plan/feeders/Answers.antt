@@ -1,0 +1,26 @@
+use Rattle.std.proofs.Common.{◌<◌, ◌+◌, List, length, sym, subst, ◌∙◌, arith}
+use Rattle.std.specs.List.{All}
+use Rattle.plan_tables.specs.declared.devices.RowId.{RowId}
+use Rattle.plan_tables.specs.PlanView.{PlanView, feeders_of}
+use Rattle.plan_tables.specs.Valid.{IsTargetThere}
+use Rattle.plan_tables.specs.Inside.{plan_view, target_at}
+use Rattle.plan_tables.proofs.ListsBy.{lists_count, target_within, feeders_read, feeders-within}
+use Rattle.plan_tables.proofs.tables.Plan.feeders.Goals as goal
+
+pub index-requires : goal.index-requires
+index-requires c =
+    let plan = plan_view c.self.inside in
+    let lists = c.self.inside.feeders in
+    let there = subst (λ (p : PlanView). IsTargetThere (length p.rows) c.args.target) (sym c.self.view_is) c.requires in
+    omega (arith, target_within (length plan.rows) c.args.target there, c.target_place.ensures, lists_count lists.items (λ n. feeders_of plan (target_at n)) (length plan.rows + 1) c.self.invariant.7, lists.ok.0)
+
+pub returns-clause-feeders : goal.returns-clause-feeders
+returns-clause-feeders c =
+    c.as_slice.ensures.value
+    ∙ feeders_read (plan_view c.self.inside) c.args.self.now c.self.view_is c.self.inside.feeders.items c.args.target c.target_place.result c.index.result.now c.self.invariant.7 c.requires c.target_place.ensures c.index.ensures
+
+pub returns-clause-within : goal.returns-clause-within
+returns-clause-within c =
+    let are = c.as_slice.ensures.value
+    ∙ feeders_read (plan_view c.self.inside) c.args.self.now c.self.view_is c.self.inside.feeders.items c.args.target c.target_place.result c.index.result.now c.self.invariant.7 c.requires c.target_place.ensures c.index.ensures in
+    subst (λ (rs : List RowId). All (λ r. r.0 < length c.args.self.now.rows) rs) (sym are) (feeders-within c.args.self.now c.args.target)
