@@ -1,16 +1,21 @@
 -- Marks of coils, action by action.
-use Rattle.std.proofs.Common.{◌≡◌, ℕ, ◌+◌, ◌<◌, ◌≤◌, Bool, true, false, if◌then◌else◌, cond, replicate, length-append, List, [], ◌∷◌, ◌++◌, length, take, get_or, refl, sym, ap, ◌∙◌, subst, arith}
+use Rattle.std.proofs.Common.{◌≡◌, ℕ, ◌+◌, ◌<◌, ◌≤◌, Bool, true, false, if◌then◌else◌, cond, replicate, length-append, List, [], ◌∷◌, ◌++◌, length, map, take, get_or, refl, sym, ap, ◌∙◌, subst, arith}
 use Rattle.std.specs.Prelude.{◌||◌}
-use Rattle.std.specs.List.{All, flat_map, list_any, filter}
+use Rattle.std.specs.List.{All, flat_map, list_any, filter, range_with_len}
 use Rattle.std.proofs.lemmas.Grind.{flat_map-append}
 use Rattle.std.proofs.lemmas.List.{append-nil, take_more, get_or-replicate, length-replicate}
-use Rattle.std.proofs.lemmas.List.FromFn.{length-map-range_with_len, get_or-map-range_with_len, filter_of_map_range_with_len_more}
+use Rattle.std.proofs.lemmas.List.FromFn.{fill_by_all, length-map-range_with_len, get_or-map-range_with_len, filter_of_map_range_with_len_more}
 use Rattle.std.proofs.lemmas.List.Elements.{All-get_or, All-head, All-tail, All-weaker}
 use Rattle.std.proofs.lemmas.List.Folds.{list_any-append}
-use Rattle.plan_tables.specs.PlanView.{PlanView, actions_at, actions_of, coil_numbers, coils_enabled, is_enable_of}
+use Rattle.plan_tables.specs.PlanView.{PlanView, actions_at, actions_of, actions_of_binding, actions_of_row, actions_of_target, binding_at, coil_numbers, coils_enabled, is_enable_of, is_owner, list_of_row, no_binding, row_at, row_numbers, rows_of}
+use Rattle.plan_tables.specs.Owned.{binding_numbers, bindings_of_owner}
+use Rattle.plan_tables.specs.Devices.{list_count}
 use Rattle.plan_tables.specs.Valid.{IsActionWithin, IsValid}
 use Rattle.plan_tables.specs.declared.entries.Action.{Action}
 use Rattle.plan_tables.specs.declared.entries.Action.TheVariants.{Post, Pulse, Enable, Disable, Change, Enter, Leave, Lose, Arrive}
+use Rattle.plan_tables.specs.declared.entries.Binding.{Binding}
+use Rattle.plan_tables.specs.declared.entries.BindingId.{BindingId}
+use Rattle.plan_tables.specs.declared.devices.RowId.{RowId}
 use Rattle.plan_tables.specs.declared.entries.ListId.{ListId}
 use Rattle.plan_tables.specs.declared.entries.CoilId.{CoilId}
 use Rattle.plan_tables.specs.declared.entries.Owner.{Owner}
@@ -68,6 +73,40 @@ coils-marked plan valid l within =
     there (Leave r) h = tt
     there (Lose r) h = tt
     there (Arrive r) h = tt
+
+-- ---- the actions of an owner, by the places of its bindings and by its rows
+
+abbrev pub actions_at_place : PlanView → BindingId → List Action
+actions_at_place plan p = actions_of_target plan (binding_at plan p).target
+
+abbrev pub actions_of_lists : PlanView → RowId → List Action
+actions_of_lists plan r = flat_map (λ k. actions_at plan (list_of_row plan r k)) (range_with_len 0 (list_count (row_at plan r).settings))
+
+-- those of what passes a test, and of all where the others have none
+flat_map-filter : {X : Type 0} (p : X → Bool) (f : X → List Action) (xs : List X) → flat_map f (filter p xs) ≡ flat_map (λ x. if p x then f x else []) xs
+flat_map-filter p f [] = refl
+flat_map-filter p f (x ∷ xs) = by (p x) ∙ ap (λ acts. (if p x then f x else []) ++ acts) (flat_map-filter p f xs)
+  where
+    by : (b : Bool) → flat_map f (cond b (x ∷ filter p xs) (filter p xs)) ≡ (if b then f x else []) ++ flat_map f (filter p xs)
+    by true = refl
+    by false = refl
+
+flat_map-map : {X Y : Type 0} (f : Y → List Action) (g : X → Y) (xs : List X) → flat_map f (map g xs) ≡ flat_map (λ x. f (g x)) xs
+flat_map-map f g [] = refl
+flat_map-map f g (x ∷ xs) = ap (λ acts. f (g x) ++ acts) (flat_map-map f g xs)
+
+module _ (plan : PlanView) (owner : Owner) where
+  pub actions_of_bindings : flat_map (actions_at_place plan) (bindings_of_owner plan owner) ≡ flat_map (actions_of_binding plan owner) plan.bindings
+  actions_of_bindings =
+      let at : ℕ → Binding = λ n. binding_at plan (record { 0 = n }) in
+      let all : plan.bindings ≡ map at (range_with_len 0 (length plan.bindings)) = fill_by_all at plan.bindings (length plan.bindings) no_binding refl (λ k within. refl) in
+      flat_map-filter (λ b. is_owner owner (binding_at plan b).owner) (actions_at_place plan) (binding_numbers plan)
+      ∙ flat_map-map (λ (b : BindingId). actions_of_binding plan owner (binding_at plan b)) (λ n. record { 0 = n }) (range_with_len 0 (length plan.bindings))
+      ∙ sym (flat_map-map (actions_of_binding plan owner) at (range_with_len 0 (length plan.bindings)))
+      ∙ sym (ap (flat_map (actions_of_binding plan owner)) all)
+
+  pub actions_of_rows : flat_map (actions_of_lists plan) (rows_of plan owner) ≡ flat_map (actions_of_row plan owner) (row_numbers plan)
+  actions_of_rows = flat_map-filter (λ r. is_owner owner (row_at plan r).owner) (actions_of_lists plan) (row_numbers plan)
 
 -- ---- counting them
 

@@ -2,7 +2,11 @@
 use Rattle.std.proofs.Common.{◌≡◌, ℕ, zero, suc, ◌+◌, ◌<◌, ◌≤◌, false, List, [], ◌∷◌, ◌++◌, length, take, get_or, refl, sym, ap, ◌∙◌, arith, length-append, take_all}
 use Rattle.std.proofs.lemmas.List.{append_assoc, append-nil}
 use Rattle.plan_tables.specs.declared.entries.EventId.{EventId}
-use Rattle.cascade_rank.specs.Cost.{Cost, Lines, Weight, Both, Greater, each_of, dearest_of, cost_of_post}
+use Rattle.plan_tables.specs.declared.entries.ModeEvent.TheVariants.{WillStart, Starting, Started, Stopping, Stopped}
+use Rattle.plan_tables.specs.declared.entries.Work.{Work}
+use Rattle.plan_tables.specs.declared.entries.Work.TheVariants as works
+use Rattle.plan_tables.specs.PlanView.{PlanView, work_of}
+use Rattle.cascade_rank.specs.Cost.{Cost, Lines, Weight, Both, Greater, each_of, dearest_of, cost_of_post, cost_of_starts, cost_of_releases, cost_if_led, led_by, cost_of_game, cost_of_work}
 use Rattle.cascade_rank.specs.Mentions.{weights_in}
 use Rattle.cascade_rank.specs.Order.{unmet, occurrences}
 
@@ -37,6 +41,33 @@ pushes-all f xs i old posts whole first = first ∙ ap (λ ys. old ++ weights_in
 pub weights-dearest : {X : Type 0} (f : X → Cost) (xs : List X) → weights_in (each_of f xs) ≡ weights_in (dearest_of f xs)
 weights-dearest f [] = refl
 weights-dearest f (x ∷ xs) = ap (λ (es : List EventId). weights_in (f x) ++ es) (weights-dearest f xs)
+
+-- ---- the machine's work at an event
+
+-- no event's weight is in what a mode releases
+releases-none : (plan : PlanView) (w : Work) → weights_in (cost_of_releases plan w) ≡ []
+releases-none plan works.Nothing = refl
+releases-none plan (works.Mode m WillStart) = refl
+releases-none plan (works.Mode m Starting) = refl
+releases-none plan (works.Mode m Started) = refl
+releases-none plan (works.Mode m Stopping) = refl
+releases-none plan (works.Mode m Stopped) = refl
+releases-none plan (works.Game which) = refl
+
+-- one part after the other, and one in between that has none
+one_after_another : (old s r l g started led new : List EventId) → r ≡ [] → started ≡ old ++ s → led ≡ started ++ l → new ≡ led ++ g → new ≡ old ++ (s ++ (r ++ (l ++ g)))
+one_after_another old s r l g started led new none h1 h2 h3 =
+    h3 ∙ ap (λ (es : List EventId). es ++ g) (h2 ∙ ap (λ (es : List EventId). es ++ l) h1)
+    ∙ append_assoc (old ++ s) l g
+    ∙ append_assoc old s (l ++ g)
+    ∙ sym (ap (λ (es : List EventId). old ++ (s ++ (es ++ (l ++ g)))) none)
+
+pub pushes_work : (plan : PlanView) (e : EventId) (old started led new : List EventId) → started ≡ old ++ weights_in (cost_of_starts plan (work_of plan e))
+    → led ≡ started ++ weights_in (cost_if_led (led_by plan (work_of plan e))) → new ≡ led ++ weights_in (cost_of_game plan (work_of plan e)) → new ≡ old ++ weights_in (cost_of_work plan e)
+pushes_work plan e old started led new h1 h2 h3 =
+    let w = work_of plan e in
+    one_after_another old (weights_in (cost_of_starts plan w)) (weights_in (cost_of_releases plan w)) (weights_in (cost_if_led (led_by plan w))) (weights_in (cost_of_game plan w)) started led new
+    (releases-none plan w) h1 h2 h3
 
 -- ---- how often an event is there
 

@@ -10,15 +10,15 @@ ghost use Rattle.std.specs.Prelude.{◌≡◌, ◌<◌, ◌++◌, true, length, 
 ghost use Rattle.std.specs.List.{All};
 ghost use Rattle.plan_tables.specs.declared.entries.Owner.TheVariants as owners;
 ghost use Rattle.plan_tables.specs.Devices.{list_count};
-ghost use Rattle.plan_tables.specs.Valid.{HasGame, IsActionWithin, IsBindingWithin, IsTargetWithin, IsValid};
+ghost use Rattle.plan_tables.specs.Valid.{HasGame, IsActionWithin, IsBindingWithin, IsTargetThere, IsTargetWithin, IsValid};
 ghost use Rattle.plan_tables.specs.PlanView.{bound_to, row_at, rows_of, work_of};
 ghost use Rattle.device_objects.specs.declared.device.Call.TheVariants as calls;
 ghost use Rattle.player_game.specs.Choices.{choices};
-ghost use Rattle.cascade_rank.specs.Cost.{each_of, dearest_of, cost_of_action_by, cost_of_answer_by, cost_of_arrival, cost_of_binding, cost_of_call, cost_of_call_by, cost_of_choice, cost_of_drain, cost_of_event, cost_of_game, cost_of_request, cost_of_starts, cost_of_target, cost_of_work};
-ghost use Rattle.cascade_rank.specs.Mentions.{cost_of_feeder, cost_of_start, weights_in};
+ghost use Rattle.cascade_rank.specs.Cost.{each_of, dearest_of, cost_of_action_by, cost_of_answer_by, cost_of_arrival, cost_of_binding, cost_of_call, cost_of_call_by, cost_of_choice, cost_if_led, cost_of_drain, cost_of_event, cost_of_game, cost_of_request, cost_of_starts, cost_of_target, cost_of_work, led_by};
+ghost use Rattle.cascade_rank.specs.Mentions.{weights_in};
 
 use crate::confirms::{Confirms, Told, Untold};
-use crate::work::{game_event, is_of, led_by};
+use crate::work::{game_event, led_by};
 use device_objects::{Call, outcomes};
 use plan_tables::{
     Act, Action, BallTarget, Binding, EventId, GameEvent, ModeEvent, ModeId, Plan, RowId, Target,
@@ -132,26 +132,11 @@ pub(crate) fn push_arrival(
     plan: &Plan,
     target: BallTarget,
 ) -> Result<(), AllocError>
+    requires { IsTargetThere (length plan.now.rows) target }
     ensures { OnOk result (posts.new.items ≡ posts.old.items ++ weights_in (cost_of_arrival plan.now target)) }
 {
-    for number in 0..plan.rows().len() {
-        push_feeder(posts, plan, target, RowId(number as u16))?;
-    }
-    Ok(())
-}
-
-/// Adds those of a device that is told of an arrival at a target, if it ejects its balls there.
-fn push_feeder(
-    posts: &mut Vec<EventId>,
-    plan: &Plan,
-    target: BallTarget,
-    row: RowId,
-) -> Result<(), AllocError>
-    requires { row.0 < length plan.now.rows }
-    ensures { OnOk result (posts.new.items ≡ posts.old.items ++ weights_in (cost_of_feeder plan.now target row)) }
-{
-    if plan.row(row).settings.feeds(target) {
-        push_call::<Untold>(posts, plan, row, Call::Act(Act::Confirm))?;
+    for row in plan.feeders(target) {
+        push_call::<Untold>(posts, plan, *row, Call::Act(Act::Confirm))?;
     }
     Ok(())
 }
@@ -195,18 +180,28 @@ fn push_work(posts: &mut Vec<EventId>, plan: &Plan, event: EventId) -> Result<()
     requires { event.0 < length plan.now.events }
     ensures { OnOk result (posts.new.items ≡ posts.old.items ++ weights_in (cost_of_work plan.now event)) }
 {
-    push_starts(posts, plan, plan.work(event))?;
-    if let Some(led) = led_by(plan, event) {
-        posts.push(led)?;
-    }
+    push_starts(posts, plan, event)?;
+    push_led(posts, plan, event)?;
     push_game(posts, plan, event)
 }
 
-/// Adds those of the starts of a mode's devices, if the work is that of the mode's event `started`.
-fn push_starts(posts: &mut Vec<EventId>, plan: &Plan, work: Work) -> Result<(), AllocError>
-    ensures { OnOk result (posts.new.items ≡ posts.old.items ++ weights_in (cost_of_starts plan.now work)) }
+/// Adds the event with which a mode goes on, if the event is one of a mode's.
+fn push_led(posts: &mut Vec<EventId>, plan: &Plan, event: EventId) -> Result<(), AllocError>
+    requires { event.0 < length plan.now.events }
+    ensures { OnOk result (posts.new.items ≡ posts.old.items ++ weights_in (cost_if_led (led_by plan.now (work_of plan.now event)))) }
 {
-    match work {
+    if let Some(led) = led_by(plan, event) {
+        posts.push(led)?;
+    }
+    Ok(())
+}
+
+/// Adds those of the starts of a mode's devices, if the event is the mode's event `started`.
+fn push_starts(posts: &mut Vec<EventId>, plan: &Plan, event: EventId) -> Result<(), AllocError>
+    requires { event.0 < length plan.now.events }
+    ensures { OnOk result (posts.new.items ≡ posts.old.items ++ weights_in (cost_of_starts plan.now (work_of plan.now event))) }
+{
+    match plan.work(event) {
         Work::Mode(mode, ModeEvent::Started) => push_devices(posts, plan, mode),
         _ => Ok(()),
     }
@@ -214,26 +209,11 @@ fn push_starts(posts: &mut Vec<EventId>, plan: &Plan, work: Work) -> Result<(), 
 
 /// Adds those of the starts of a mode's devices.
 fn push_devices(posts: &mut Vec<EventId>, plan: &Plan, mode: ModeId) -> Result<(), AllocError>
+    requires { mode.0 < length plan.now.modes }
     ensures { OnOk result (posts.new.items ≡ posts.old.items ++ weights_in (each_of (λ r. cost_of_call plan.now r calls.ModeStart) (rows_of plan.now (owners.Mode mode)))) }
 {
-    for number in 0..plan.rows().len() {
-        push_start(posts, plan, mode, RowId(number as u16))?;
-    }
-    Ok(())
-}
-
-/// Adds those of the start of a device, if it is one of the mode's.
-fn push_start(
-    posts: &mut Vec<EventId>,
-    plan: &Plan,
-    mode: ModeId,
-    row: RowId,
-) -> Result<(), AllocError>
-    requires { row.0 < length plan.now.rows }
-    ensures { OnOk result (posts.new.items ≡ posts.old.items ++ weights_in (cost_of_start plan.now mode row)) }
-{
-    if is_of(plan.row(row).owner, mode) {
-        push_call::<Told>(posts, plan, row, Call::ModeStart)?;
+    for row in plan.rows_of_mode(mode) {
+        push_call::<Told>(posts, plan, *row, Call::ModeStart)?;
     }
     Ok(())
 }

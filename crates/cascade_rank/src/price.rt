@@ -14,23 +14,22 @@
 ghost use Rattle.plan_tables.specs.declared.entries.EventId.{EventId as EventIdValue};
 ghost use Rattle.std.specs.Prelude.{ℕ, ◌≡◌, ◌+◌, ◌*◌, ◌^◌, ◌<◌, ◌≤◌, true, length};
 ghost use Rattle.std.specs.List.{All};
-ghost use Rattle.plan_tables.specs.Valid.{HasGame, IsActionWithin, IsTargetWithin, IsBindingWithin, IsEventWithin};
+ghost use Rattle.plan_tables.specs.Valid.{HasGame, IsActionWithin, IsTargetThere, IsTargetWithin, IsBindingWithin, IsEventWithin};
 ghost use Rattle.plan_tables.specs.declared.entries.Owner.TheVariants as owners;
 ghost use Rattle.plan_tables.specs.Devices.{list_count};
 ghost use Rattle.plan_tables.specs.PlanView.{bound_to, row_at, rows_of, work_of};
 ghost use Rattle.device_objects.specs.declared.device.Call.TheVariants as calls;
 ghost use Rattle.player_game.specs.Choices.{choices};
 ghost use Rattle.cascade_rank.specs.Events.{weight_of};
-ghost use Rattle.cascade_rank.specs.Mentions.{cost_of_feeder, cost_of_start};
 ghost use Rattle.cascade_rank.specs.Cost.{price, each_of, dearest_of, cost_of_post, cost_of_drain, cost_of_action_by, cost_of_list_by, cost_of_answer_by, cost_of_call_by, cost_of_arrival, cost_of_call, cost_of_target, cost_of_binding, cost_of_starts, cost_of_releases, cost_if_led, led_by, cost_of_choice, cost_of_scores, cost_of_request, cost_of_game, cost_of_work, cost_of_event};
 
 use crate::confirms::{Confirms, Told, Untold};
 use crate::releases::count_enabled;
-use crate::work::{game_event, is_of, led_by};
+use crate::work::{game_event, led_by};
 use device_objects::{Call, outcomes};
 use plan_tables::{
-    Act, Action, BallTarget, Binding, EventId, GameEvent, ListId, ModeEvent, ModeId, Owner, Plan,
-    RowId, Target, Work,
+    Act, Action, BallTarget, Binding, EventId, GameEvent, ListId, ModeEvent, ModeId, Plan, RowId,
+    Target, Work,
 };
 use player_game::{asks_for_ball, choices, tells_scores};
 
@@ -53,8 +52,8 @@ fn price_of_work(plan: &Plan, weights: &[u32], event: EventId) -> u128
     ensures price { result ≡ price (weight_of weights.now) (cost_of_work plan.now event) }
     ensures small { result < 2 ^ 69 }
 {
-    let starts = price_of_starts(plan, weights, plan.work(event));
-    let releases = price_of_releases(plan, plan.work(event));
+    let starts = price_of_starts(plan, weights, event);
+    let releases = price_of_releases(plan, event);
     let led = price_of_led(plan, weights, event);
     let game = price_of_game(plan, weights, event);
     starts + (releases + (led + game))
@@ -148,54 +147,43 @@ fn price_of_choice(plan: &Plan, weights: &[u32], choice: &[GameEvent]) -> u128
     total
 }
 
-/// The starts of a mode's devices, if the work is that of the mode's event `started`.
-fn price_of_starts(plan: &Plan, weights: &[u32], work: Work) -> u128
-    requires { length weights.now ≡ length plan.now.events }
-    ensures price { result ≡ price (weight_of weights.now) (cost_of_starts plan.now work) }
+/// The starts of a mode's devices, if the event is the mode's event `started`.
+fn price_of_starts(plan: &Plan, weights: &[u32], event: EventId) -> u128
+    requires event { event.0 < length plan.now.events }
+    requires weights { length weights.now ≡ length plan.now.events }
+    ensures price { result ≡ price (weight_of weights.now) (cost_of_starts plan.now (work_of plan.now event)) }
     ensures small { result ≤ 2 ^ 68 }
 {
-    match work {
+    match plan.work(event) {
         Work::Mode(mode, ModeEvent::Started) => price_of_devices(plan, weights, mode),
         _ => 0,
     }
 }
 
-/// The coils that a mode may hold, if the work is that of the mode's event `stopping`.
-fn price_of_releases(plan: &Plan, work: Work) -> u128
-    ensures price { (w : EventIdValue → ℕ) → result ≡ price w (cost_of_releases plan.now work) }
+/// The coils that a mode may hold, if the event is the mode's event `stopping`.
+fn price_of_releases(plan: &Plan, event: EventId) -> u128
+    requires { event.0 < length plan.now.events }
+    ensures price { (w : EventIdValue → ℕ) → result ≡ price w (cost_of_releases plan.now (work_of plan.now event)) }
     ensures small { result ≤ 256 }
 {
-    match work {
-        Work::Mode(mode, ModeEvent::Stopping) => count_enabled(plan, Owner::Mode(mode)) as u128,
+    match plan.work(event) {
+        Work::Mode(mode, ModeEvent::Stopping) => count_enabled(plan, mode) as u128,
         _ => 0,
     }
 }
 
 /// The starts of a mode's devices.
 fn price_of_devices(plan: &Plan, weights: &[u32], mode: ModeId) -> u128
-    requires { length weights.now ≡ length plan.now.events }
+    requires mode { mode.0 < length plan.now.modes }
+    requires weights { length weights.now ≡ length plan.now.events }
     ensures price { result ≡ price (weight_of weights.now) (each_of (λ r. cost_of_call plan.now r calls.ModeStart) (rows_of plan.now (owners.Mode mode))) }
     ensures small { result ≤ 2 ^ 68 }
 {
     let mut total = 0u128;
-    for number in 0..plan.rows().len() {
-        total += price_of_start(plan, weights, mode, RowId(number as u16));
+    for row in plan.rows_of_mode(mode) {
+        total += price_of_call::<Told>(plan, weights, *row, Call::ModeStart);
     }
     total
-}
-
-/// The start of a device, if it is one of the mode's.
-fn price_of_start(plan: &Plan, weights: &[u32], mode: ModeId, row: RowId) -> u128
-    requires row { row.0 < length plan.now.rows }
-    requires weights { length weights.now ≡ length plan.now.events }
-    ensures price { result ≡ price (weight_of weights.now) (cost_of_start plan.now mode row) }
-    ensures small { result ≤ 2 ^ 58 }
-{
-    if is_of(plan.row(row).owner, mode) {
-        price_of_call::<Told>(plan, weights, row, Call::ModeStart)
-    } else {
-        0
-    }
 }
 
 /// A line, and all that is bound to an event.
@@ -334,29 +322,17 @@ fn price_of_drain(plan: &Plan, weights: &[u32], drain: bool) -> u128
 
 /// The dearest of what the devices answer that may be told of an arrival at a target.
 pub(crate) fn price_of_arrival(plan: &Plan, weights: &[u32], target: BallTarget) -> u128
-    requires { length weights.now ≡ length plan.now.events }
+    requires target { IsTargetThere (length plan.now.rows) target }
+    requires weights { length weights.now ≡ length plan.now.events }
     ensures price { result ≡ price (weight_of weights.now) (cost_of_arrival plan.now target) }
     ensures small { result ≤ 2 ^ 45 }
 {
     let mut dearest = 0u128;
-    for number in 0..plan.rows().len() {
-        dearest = dearest.max(price_of_feeder(plan, weights, target, RowId(number as u16)));
+    for row in plan.feeders(target) {
+        let told = price_of_call::<Untold>(plan, weights, *row, Call::Act(Act::Confirm));
+        dearest = dearest.max(told);
     }
     dearest
-}
-
-/// What a device answers that is told of an arrival at a target, if it ejects its balls there.
-fn price_of_feeder(plan: &Plan, weights: &[u32], target: BallTarget, row: RowId) -> u128
-    requires row { row.0 < length plan.now.rows }
-    requires weights { length weights.now ≡ length plan.now.events }
-    ensures price { result ≡ price (weight_of weights.now) (cost_of_feeder plan.now target row) }
-    ensures small { result ≤ 2 ^ 45 }
-{
-    if plan.row(row).settings.feeds(target) {
-        price_of_call::<Untold>(plan, weights, row, Call::Act(Act::Confirm))
-    } else {
-        0
-    }
 }
 
 pub(crate) fn price_of_post(weights: &[u32], event: EventId) -> u128

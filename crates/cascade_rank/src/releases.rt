@@ -2,41 +2,34 @@
 
 ghost use Rattle.std.specs.Prelude.{◌≡◌, ◌<◌, ◌≤◌, ◌∷◌, [], length};
 ghost use Rattle.std.specs.List.{All, filter, flat_map, range_with_len};
+ghost use Rattle.plan_tables.specs.declared.entries.Owner.TheVariants as owners;
 ghost use Rattle.plan_tables.specs.Devices.{list_count};
 ghost use Rattle.plan_tables.specs.PlanView.{actions_at, list_of_row, row_at, actions_of_target, actions_of_binding, actions_of_row, actions_of, coils_enabled, row_numbers};
-ghost use Rattle.plan_tables.specs.Valid.{IsTargetWithin, IsBindingWithin};
+ghost use Rattle.plan_tables.specs.Valid.{IsTargetWithin};
 ghost use Rattle.cascade_rank.specs.Marks.{AreMarked, IsCoilMarked, mark_of, numbered};
 
-use plan_tables::{Action, Binding, Owner, Plan, RowId, Target};
+use plan_tables::{Action, ModeId, Plan, RowId, Target};
 
-/// How many coils the owner's actions enable.
-pub(crate) fn count_enabled(plan: &Plan, owner: Owner) -> usize
-    ensures count { result ≡ length (coils_enabled plan.now owner) }
+/// How many coils the mode's actions enable.
+pub(crate) fn count_enabled(plan: &Plan, mode: ModeId) -> usize
+    requires { mode.0 < length plan.now.modes }
+    ensures count { result ≡ length (coils_enabled plan.now (owners.Mode mode)) }
     ensures few { result ≤ 256 }
 {
     let mut marks = [false; 256];
-    mark_bindings(plan, owner, &mut marks);
-    mark_rows(plan, owner, &mut marks);
+    mark_bindings(plan, mode, &mut marks);
+    mark_rows(plan, mode, &mut marks);
     count_marked(&marks, plan.coil_count())
 }
 
-/// Marks what the bindings of the owner enable.
-fn mark_bindings(plan: &Plan, owner: Owner, marks: &mut [bool])
-    requires { length marks.old ≡ 256 }
-    ensures { AreMarked marks.old (flat_map (actions_of_binding plan.now owner) plan.now.bindings) marks.new }
-{
-    for binding in plan.bindings() {
-        mark_binding(plan, owner, *binding, marks);
-    }
-}
-
-fn mark_binding(plan: &Plan, owner: Owner, binding: Binding, marks: &mut [bool])
-    requires binding { IsBindingWithin plan.now binding }
+/// Marks what the bindings of the mode enable.
+fn mark_bindings(plan: &Plan, mode: ModeId, marks: &mut [bool])
+    requires mode { mode.0 < length plan.now.modes }
     requires marks { length marks.old ≡ 256 }
-    ensures { AreMarked marks.old (actions_of_binding plan.now owner binding) marks.new }
+    ensures { AreMarked marks.old (flat_map (actions_of_binding plan.now (owners.Mode mode)) plan.now.bindings) marks.new }
 {
-    if owner.is(binding.owner) {
-        mark_target(plan, binding.target, marks);
+    for place in plan.bindings_of_mode(mode) {
+        mark_target(plan, plan.binding(*place).target, marks);
     }
 }
 
@@ -50,23 +43,14 @@ fn mark_target(plan: &Plan, target: Target, marks: &mut [bool])
     }
 }
 
-/// Marks what the rows of the owner enable.
-fn mark_rows(plan: &Plan, owner: Owner, marks: &mut [bool])
-    requires { length marks.old ≡ 256 }
-    ensures { AreMarked marks.old (flat_map (actions_of_row plan.now owner) (row_numbers plan.now)) marks.new }
-{
-    for number in 0..plan.rows().len() {
-        mark_row(plan, owner, RowId(number as u16), marks);
-    }
-}
-
-fn mark_row(plan: &Plan, owner: Owner, row: RowId, marks: &mut [bool])
-    requires row { row.0 < length plan.now.rows }
+/// Marks what the rows of the mode enable.
+fn mark_rows(plan: &Plan, mode: ModeId, marks: &mut [bool])
+    requires mode { mode.0 < length plan.now.modes }
     requires marks { length marks.old ≡ 256 }
-    ensures { AreMarked marks.old (actions_of_row plan.now owner row) marks.new }
+    ensures { AreMarked marks.old (flat_map (actions_of_row plan.now (owners.Mode mode)) (row_numbers plan.now)) marks.new }
 {
-    if owner.is(plan.row(row).owner) {
-        mark_lists(plan, row, marks);
+    for row in plan.rows_of_mode(mode) {
+        mark_lists(plan, *row, marks);
     }
 }
 

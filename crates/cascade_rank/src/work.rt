@@ -1,13 +1,12 @@
 //! What the machine itself leads to at an event.
 
 ghost use Rattle.std.specs.Prelude.{◌≡◌, ◌<◌, length, IfSome};
-ghost use Rattle.plan_tables.specs.declared.entries.Owner.TheVariants as owners;
 ghost use Rattle.plan_tables.specs.declared.entries.Work.TheVariants as works;
-ghost use Rattle.plan_tables.specs.PlanView.{game_event, is_owner, work_of};
+ghost use Rattle.plan_tables.specs.PlanView.{game_event, work_of};
 ghost use Rattle.plan_tables.specs.Valid.{HasGame, IsValid};
 ghost use Rattle.cascade_rank.specs.Cost.{led_by};
 
-use plan_tables::{EventId, GameEvent, ModeEvent, ModeId, Owner, Plan, Work};
+use plan_tables::{EventId, GameEvent, ModeEvent, ModeId, Plan, Work};
 
 /// The event that the machine itself posts as its work at an event of a mode, if it posts one.
 pub(crate) fn led_by(plan: &Plan, event: EventId) -> Option<EventId>
@@ -38,13 +37,6 @@ fn next_event(plan: &Plan, mode: ModeId, which: ModeEvent) -> Option<EventId>
         ModeEvent::Stopping => Some(events.stopped),
         ModeEvent::Stopped => None,
     }
-}
-
-/// Whether it is the mode that acts.
-pub(crate) fn is_of(owner: Owner, mode: ModeId) -> bool
-    ensures { result ≡ is_owner (owners.Mode mode) owner }
-{
-    Owner::Mode(mode).is(owner)
 }
 
 /// This one of the game's events.

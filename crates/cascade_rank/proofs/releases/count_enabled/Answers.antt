@@ -1,5 +1,6 @@
 use Rattle.std.proofs.Common.{length, ap, ◌∙◌, replicate, false}
 use Rattle.std.specs.List.{filter, flat_map}
+use Rattle.plan_tables.specs.declared.entries.Owner.TheVariants as owners
 use Rattle.plan_tables.specs.PlanView.{actions_of_binding, actions_of_row, row_numbers}
 use Rattle.cascade_rank.specs.Marks.{mark_of, numbered}
 use Rattle.cascade_rank.proofs.Marked.{marked-then, marked-enabled}
@@ -8,7 +9,7 @@ use Rattle.cascade_rank.proofs.releases.count_enabled.Goals as goal
 pub returns-clause-count : goal.returns-clause-count
 returns-clause-count c =
     let plan = c.args.plan.now in
-    let owner = c.args.owner in
+    let owner = owners.Mode c.args.mode in
     let marks = c.mark_rows.new.marks in
     c.count_marked.ensures.count
     ∙ ap (λ n. length (filter (mark_of marks) (numbered n))) c.coil_count.ensures.count

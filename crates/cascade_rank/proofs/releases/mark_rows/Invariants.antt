@@ -1,8 +1,8 @@
 use Rattle.std.proofs.Common.{take}
 use Rattle.std.specs.List.{flat_map}
-use Rattle.plan_tables.specs.PlanView.{actions_of_row, row_numbers}
 use Rattle.cascade_rank.specs.Marks.{AreMarked}
+use Rattle.cascade_rank.proofs.Marked.{actions_of_lists}
 use Rattle.cascade_rank.proofs.releases.mark_rows.Given as goal
 
-abbrev pub invariant-loop-number : goal.invariant-loop-number
-invariant-loop-number l = AreMarked l.initial.marks (flat_map (actions_of_row l.plan l.owner) (take l.number (row_numbers l.plan))) l.marks
+abbrev pub invariant-loop-row : goal.invariant-loop-row
+invariant-loop-row l = AreMarked l.initial.marks (flat_map (actions_of_lists l.plan) (take l.row-index l.row-items)) l.marks
