@@ -81,7 +81,7 @@ module _ (plan : PlanView) (valid : HasEntries plan) (left : List ℕ) (order : 
 
 -- the events of the order so far weigh their ranks, none more than 1 above the limit
 abbrev pub AreWeighed : PlanView → List EventId → List ℕ → Type 0
-AreWeighed plan weighed weights = (e : EventId) → is_in weighed e ≡ true → weight_of weights e ≡ min 10001 (rank plan e)
+AreWeighed plan weighed weights = (e : EventId) → is_in weighed e ≡ true → weight_of weights e ≡ min (greatest + 1) (rank plan e)
 
 module _ (plan : PlanView) (valid : HasEntries plan) (order : List EventId) (grounds : EachAfter (λ before e. all_mentioned (is_in before) (cost_of_event plan e) ≡ true) order)
     (short : length order ≤ length plan.events) where
@@ -100,19 +100,19 @@ module _ (plan : PlanView) (valid : HasEntries plan) (order : List EventId) (gro
 
   pub weighs_more : (weights : List ℕ) (i needed : ℕ) → i < length order → length weights ≡ length plan.events → (nth_event order i).0 < length plan.events →
       AreWeighed plan (take i order) weights → needed ≡ price (weight_of weights) (cost_of_event plan (nth_event order i)) →
-      AreWeighed plan (take (i + 1) order) (set weights (nth_event order i).0 (min 10001 needed))
+      AreWeighed plan (take (i + 1) order) (set weights (nth_event order i).0 (min (greatest + 1) needed))
   weighs_more weights i needed l count below weighed is = λ e h.
-      let capped : min 10001 needed ≡ min 10001 (rank plan (nth_event order i)) =
-      (let agree = price_agrees (weight_of weights) (λ f. min 10001 (rank plan f)) (cost_of_event plan (nth_event order i)) (λ f m. weighed f (all_mentioned_at (is_in (take i order)) (cost_of_event plan (nth_event order i)) f (grounds i l) m)) in
-      let over = price-capped 10001 (rank plan) (cost_of_event plan (nth_event order i)) in
+      let capped : min (greatest + 1) needed ≡ min (greatest + 1) (rank plan (nth_event order i)) =
+      (let agree = price_agrees (weight_of weights) (λ f. min (greatest + 1) (rank plan f)) (cost_of_event plan (nth_event order i)) (λ f m. weighed f (all_mentioned_at (is_in (take i order)) (cost_of_event plan (nth_event order i)) f (grounds i l) m)) in
+      let over = price-capped (greatest + 1) (rank plan) (cost_of_event plan (nth_event order i)) in
       omega (arith, is, agree, over, rank_needs i l)) in
       elim (cases_eq e.0 (nth_event order i).0) [
         | inl same ↦
-            subst (λ (y : EventId). weight_of (set weights (nth_event order i).0 (min 10001 needed)) y ≡ min 10001 (rank plan y)) (sym (same_event e (nth_event order i) same))
-            (get_or-set_same weights (nth_event order i).0 (min 10001 needed) 0 (omega (arith, count, below)) ∙ capped)
+            subst (λ (y : EventId). weight_of (set weights (nth_event order i).0 (min (greatest + 1) needed)) y ≡ min (greatest + 1) (rank plan y)) (sym (same_event e (nth_event order i) same))
+            (get_or-set_same weights (nth_event order i).0 (min (greatest + 1) needed) 0 (omega (arith, count, below)) ∙ capped)
         | inr other ↦
             elim (or_cases (is_in (take i order) e) ((nth_event order i).0 == e.0) (sym (is_in-more order i e l) ∙ h)) [
-              | inl before ↦ get_or-set_other weights (nth_event order i).0 e.0 (min 10001 needed) 0 other ∙ weighed e before
+              | inl before ↦ get_or-set_other weights (nth_event order i).0 e.0 (min (greatest + 1) needed) 0 other ∙ weighed e before
               | inr here ↦ absurd (other (sym (eqb-true (nth_event order i).0 e.0 here)))
             ]
       ]

@@ -5,6 +5,7 @@ use Rattle.plan_tables.specs.PlanView.{PlanView}
 use Rattle.plan_tables.specs.declared.entries.EventId.{EventId}
 use Rattle.cascade_rank.specs.Events.{nth_event, weight_of}
 use Rattle.cascade_rank.specs.Ranks.{rank}
+use Rattle.cascade_rank.specs.Weights.{greatest}
 use Rattle.cascade_rank.specs.Cost.{Cost, Lines, Weight, Both, Greater, all_mentioned, cost_of_event}
 
 -- how often a weight of which p does not hold is in the cost
@@ -73,7 +74,7 @@ pub record IsWholeOrder (plan : PlanView) (order : List EventId) : Type 0 where
   pub short : length order ≤ length plan.events
   pub whole : (e : EventId) → e.0 < length plan.events → is_in order e ≡ true
 
--- each event weighs its rank, or 10,001 where that is more
+-- each event weighs its rank, or one more than the greatest weight where that is more
 pub record AreRanks (plan : PlanView) (weights : List ℕ) : Type 0 where
   pub count : length weights ≡ length plan.events
-  pub each : (e : EventId) → e.0 < length plan.events → weight_of weights e ≡ min 10001 (rank plan e)
+  pub each : (e : EventId) → e.0 < length plan.events → weight_of weights e ≡ min (greatest + 1) (rank plan e)

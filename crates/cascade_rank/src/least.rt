@@ -10,14 +10,14 @@ ghost use Rattle.cascade_rank.specs.Order.{IsWholeOrder, AreRanks};
 use crate::fault::RankFault;
 use crate::ground::ground;
 use crate::price::need;
-use crate::verdict::limited_bound;
+use crate::verdict::{GREATEST, limited_bound};
 use crate::walk::{first_left, walk};
 use crate::weights::Weights;
 use plan_tables::{EventId, Plan};
 use std::alloc::{AllocError, Global};
 
 /// Whatever weighs more counts as this: one more than the greatest weight.
-const TOO_MUCH: u32 = 10_001;
+const TOO_MUCH: u32 = GREATEST + 1;
 
 /// The least weights that fit the plan.
 ///
@@ -47,8 +47,8 @@ pub fn find(alloc: Global, plan: &Plan) -> Result<Weights, RankFault>
     }
 }
 
-/// What each event needs, or 10,001 where that is more: in the order, so that what an event leads
-/// to is weighed before it.
+/// What each event needs, or one more than the greatest weight where that is more: in the order, so
+/// that what an event leads to is weighed before it.
 fn weigh(alloc: Global, plan: &Plan, order: &[EventId]) -> Result<Vec<u32>, AllocError>
     requires { IsWholeOrder plan.now order.now }
     ensures { IfOk result (λ weights. AreRanks plan.now weights.items) }

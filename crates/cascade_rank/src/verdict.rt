@@ -15,7 +15,7 @@ use crate::weights::Weights;
 use plan_tables::{EventId, Plan};
 
 /// The greatest weight and the greatest bound that are accepted.
-const GREATEST: u32 = 10_000;
+pub(crate) const GREATEST: u32 = 10_000;
 
 /// The most lines that one stimulus can cause: 0 to 10,000.
 #[derive(Clone, Copy, Debug)]

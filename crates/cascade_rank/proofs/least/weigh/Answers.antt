@@ -1,6 +1,7 @@
 use Rattle.std.proofs.Common.{◌≡◌, ◌+◌, List, ℕ, min, take, set, ap, ◌∙◌, sym, subst, arith, length-set}
 use Rattle.cascade_rank.specs.Cost.{price, cost_of_event}
 use Rattle.cascade_rank.specs.Events.{nth_event, weight_of}
+use Rattle.cascade_rank.specs.Weights.{greatest}
 use Rattle.cascade_rank.proofs.Grounding.{AreWeighed, weighs_more}
 use Rattle.cascade_rank.proofs.least.weigh.Goals as goal
 
@@ -10,7 +11,7 @@ loop-event-preserved c =
     let order = c.args.order.now in
     let i = c.loop-event.event-index in
     let weights = c.loop-event.weights.items in
-    let capped : c.min.result ≡ min 10001 c.need-needed.result = omega (arith, c.min.ensures, c.from.ensures) in
+    let capped : c.min.result ≡ min (greatest + 1) c.need-needed.result = omega (arith, c.min.ensures, c.from.ensures) in
     let price_is = c.need-needed.ensures.price ∙ ap (λ (ws : List ℕ). price (weight_of ws) (cost_of_event c.args.plan.now (nth_event c.args.order.now c.loop-event.event-index))) c.deref.ensures.value in
     record {
       count = length-set weights (nth_event order i).0 c.min.result ∙ c.loop-event.invariant.count;
