@@ -8,10 +8,11 @@ use command_line::{Ask, AskFault, command};
 use config_checker::Checked;
 use device_objects::Device;
 use logic_blocks::{Counter, MaskAccrual, Sequence, Timer};
-use mpf_config::{ConfigFault, MACHINE_NAME, mode_names, mode_text_name};
+use memchr::{memchr, memmem};
+use mpf_config::{ConfigFault, MACHINE_NAME, MODES_NAME, mode_names, mode_text_name};
 use pinball_shell::{
-    BUNDLE_LIMIT, Failure, ShellFault, Verdict, check_text, join, load_text, play_text, read_all,
-    status, verify_text,
+    BUNDLE_LIMIT, Failure, ShellFault, Verdict, append_text, check_bundle, join, load_bundle,
+    play_text, read_all, status, verify_bundle,
 };
 use shot_groups::MaskBank;
 use std::alloc::{AllocError, Global};
@@ -24,6 +25,8 @@ use std::{env, fs};
 const USAGE: u8 = 2;
 /// The status where a file, reading, writing, a size or memory failed.
 const FAULT: u8 = 3;
+/// How many bytes of output are written at once.
+const OUTPUT_ROOM: usize = 65_536;
 /// What is said besides the failure, where the text of the machine in DIR cannot be read.
 const HINT: &str =
     "hint: DIR is a folder with config/config.yaml in it. Without DIR, standard input is read.";
@@ -92,12 +95,12 @@ fn name_of_file<'a>(failure: &'a Failure, folder: Option<&str>) -> Option<&'a [u
 
 /// Does what is asked. Output is buffered. It has been written out if this answers a verdict.
 fn answer<R: Files + Input + Print + AllocGlobal>(rt: &R, ask: &Ask) -> Result<Verdict, Failure> {
-    let Ok(mut writer) = BufWriter::new(rt.alloc(), io::writer(rt)) else {
+    let Ok(mut writer) = BufWriter::with_capacity(rt.alloc(), OUTPUT_ROOM, io::writer(rt)) else {
         return Err(Failure::from(ShellFault::NoMemory));
     };
     let bundle = bundle_of(rt, folder_of(ask))?;
     let verdict = match ask {
-        Ask::Check { .. } => check_text(rt.alloc(), &mut bundle.as_slice(), &mut writer)?,
+        Ask::Check { .. } => check_bundle(rt.alloc(), &bundle, &mut writer)?,
         Ask::Verify { certificate, .. } => verify(rt, certificate.as_str(), &bundle, &mut writer)?,
         Ask::Play { log, .. } => play(rt, log.as_str(), &bundle, &mut writer)?,
     };
@@ -112,14 +115,14 @@ fn answer<R: Files + Input + Print + AllocGlobal>(rt: &R, ask: &Ask) -> Result<V
 fn verify<R: Files + AllocGlobal, W: Write>(
     rt: &R,
     path: &str,
-    mut bundle: &[u8],
+    bundle: &[u8],
     writer: &mut W,
 ) -> Result<Verdict, Failure> {
     let named = String::from_str(rt.alloc(), path)?;
     let Ok(mut certificate) = fs::open(rt, path) else {
         return Err(Failure::at(ShellFault::Read, named));
     };
-    let answer = verify_text(rt.alloc(), &mut bundle, &mut certificate, writer);
+    let answer = verify_bundle(rt.alloc(), bundle, &mut certificate, writer);
     answer.map_err(|fault| Failure::at(fault, named))
 }
 
@@ -127,11 +130,11 @@ fn verify<R: Files + AllocGlobal, W: Write>(
 fn play<R: Files + AllocGlobal, W: Write>(
     rt: &R,
     path: &str,
-    mut bundle: &[u8],
+    bundle: &[u8],
     writer: &mut W,
 ) -> Result<Verdict, Failure> {
     let named = String::from_str(rt.alloc(), path)?;
-    let Some(checked) = load_text(rt.alloc(), &mut bundle, writer)? else {
+    let Some(checked) = load_bundle(rt.alloc(), bundle, writer)? else {
         return Ok(Verdict::Refused);
     };
     let Ok(mut log) = fs::open(rt, path) else {
@@ -197,13 +200,13 @@ fn folder_bundle<R: Files + AllocGlobal>(rt: &R, folder: &str) -> Result<Vec<u8>
     let read = read_machine(rt, &path);
     let (mut bundle, modes) = read.map_err(|fault| Failure::at(fault, path))?;
     for mode in modes {
-        bundle = with_mode(rt, folder, bundle, &mode)?;
+        append_mode(rt, folder, &mut bundle, &mode)?;
     }
     Ok(bundle)
 }
 
 /// The bundle of the machine text in this file alone, and the names of the modes that the text
-/// lists. No names where it has a fault: what reads the bundle reports that.
+/// lists.
 fn read_machine<R: Files + AllocGlobal>(
     rt: &R,
     path: &str,
@@ -212,41 +215,57 @@ fn read_machine<R: Files + AllocGlobal>(
         return Err(ShellFault::Read);
     };
     let text = read_all(rt.alloc(), &mut file, BUNDLE_LIMIT)?;
-    let modes = match mode_names(rt.alloc(), &text) {
-        Ok(modes) => modes,
-        Err(ConfigFault::Bundle(_fault)) => Vec::new(rt.alloc()),
-        Err(ConfigFault::NoMemory) => return Err(ShellFault::NoMemory),
-    };
+    let modes = modes_of(rt.alloc(), &text)?;
     let bundle = join(rt.alloc(), b"", MACHINE_NAME, &text)?;
     Ok((bundle, modes))
 }
 
-/// The bundle with the text of this mode, which is left out where the folder does not have it.
-fn with_mode<R: Files + AllocGlobal>(
-    rt: &R,
-    folder: &str,
-    bundle: Vec<u8>,
-    mode: &[u8],
-) -> Result<Vec<u8>, Failure> {
-    let name = mode_text_name(rt.alloc(), mode)?;
-    let path = path_in(rt.alloc(), folder, &name)?;
-    let joined = match fs::open(rt, &path) {
-        Ok(mut file) => join_file(rt.alloc(), &bundle, &name, &mut file),
-        Err(error) if error.kind() == ErrorKind::NotFound => Ok(bundle),
-        Err(_) => Err(ShellFault::Read),
-    };
-    joined.map_err(|fault| Failure::at(fault, path))
+/// The names of the modes that a machine text lists. None where it has a fault: what reads the
+/// bundle reports that.
+fn modes_of(alloc: Global, text: &[u8]) -> Result<Vec<Vec<u8>>, ShellFault> {
+    if !may_list_modes(text) {
+        return Ok(Vec::new(alloc));
+    }
+    match mode_names(alloc, text) {
+        Ok(modes) => Ok(modes),
+        Err(ConfigFault::Bundle(_fault)) => Ok(Vec::new(alloc)),
+        Err(ConfigFault::NoMemory) => Err(ShellFault::NoMemory),
+    }
 }
 
-/// The bundle with the text of this name and file.
-fn join_file<F: Read>(
+/// Whether a machine text may list modes, which saves reading it twice where it does not. Without
+/// the word `modes` it has no such section: only an escape, in double quotes, could write that name
+/// in another way.
+fn may_list_modes(text: &[u8]) -> bool {
+    memmem::find(text, MODES_NAME).is_some() || memchr(b'\\', text).is_some()
+}
+
+/// Adds the text of this mode to the bundle, unless the folder does not have it.
+fn append_mode<R: Files + AllocGlobal>(
+    rt: &R,
+    folder: &str,
+    bundle: &mut Vec<u8>,
+    mode: &[u8],
+) -> Result<(), Failure> {
+    let name = mode_text_name(rt.alloc(), mode)?;
+    let path = path_in(rt.alloc(), folder, &name)?;
+    let appended = match fs::open(rt, &path) {
+        Ok(mut file) => append_file(rt.alloc(), bundle, &name, &mut file),
+        Err(error) if error.kind() == ErrorKind::NotFound => Ok(()),
+        Err(_) => Err(ShellFault::Read),
+    };
+    appended.map_err(|fault| Failure::at(fault, path))
+}
+
+/// Adds the text of this name and file to the bundle.
+fn append_file<F: Read>(
     alloc: Global,
-    bundle: &[u8],
+    bundle: &mut Vec<u8>,
     name: &[u8],
     file: &mut F,
-) -> Result<Vec<u8>, ShellFault> {
+) -> Result<(), ShellFault> {
     let text = read_all(alloc, file, BUNDLE_LIMIT)?;
-    join(alloc, bundle, name, &text)
+    append_text(bundle, name, &text)
 }
 
 /// The path of a text of a folder. All bytes of the text's name are ASCII.

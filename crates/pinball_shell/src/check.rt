@@ -49,7 +49,23 @@ pub fn check_text<R: Read, W: Write>(
     ensures within { OnOk result (IfSome (R.remaining reader.old) (λ bundle. length bundle ≤ 2 ^ 23)) }
     ensures too_long { IsErrOf result ShellFault.TooLong → IfSome (R.remaining reader.old) (λ bundle. 2 ^ 23 < length bundle) }
 {
-    let reply = check_bundle(alloc, reader)?;
+    let bundle = read_all(alloc, reader, BUNDLE_LIMIT)?;
+    check_bundle(alloc, &bundle, writer)
+}
+
+/// Writes what [`check_text`] writes for a bundle that is in memory already. Fails only by memory,
+/// before anything is written, and by the writer.
+pub fn check_bundle<W: Write>(
+    alloc: Global,
+    bundle: &[u8],
+    writer: &mut W,
+) -> Result<Verdict, ShellFault>
+    ensures verdict { IfOk result (λ v. v ≡ verdict_of (reply_to bundle.now)) }
+    ensures written { OnOk result (Appends (W.contents writer.old) (W.contents writer.new) (check_output bundle.now)) }
+    ensures silent { IfErr result (λ e. e ≢ ShellFault.Write → Keeps (W.contents writer.old) (W.contents writer.new)) }
+    ensures only { IfErr result (λ e. (e ≡ ShellFault.NoMemory) ⊎ (e ≡ ShellFault.Write)) }
+{
+    let reply = reply_to_text(alloc, bundle, None)?;
     match write_checked(&reply, writer) {
         Ok(()) => Ok(reply.verdict()),
         Err(_) => Err(ShellFault::Write),
@@ -79,7 +95,27 @@ pub fn verify_text<R: Read, Q: Read, W: Write>(
         IfSome (R.remaining bundle.old) (λ text. 2 ^ 23 < length text) ⊎ IfSome (Q.remaining certificate.old) (λ stated. 2 ^ 20 < length stated) }
     ensures bundle_first { (IsAtEnd (R.remaining bundle.new) × IfSome (R.remaining bundle.old) (λ text. length text ≤ 2 ^ 23)) ⊎ (certificate.new ≡ certificate.old) }
 {
-    let reply = verify_bundle(alloc, bundle, certificate)?;
+    let text = read_all(alloc, bundle, BUNDLE_LIMIT)?;
+    verify_bundle(alloc, &text, certificate, writer)
+}
+
+/// Reads a certificate, and writes what [`verify_text`] writes for it and a bundle that is in memory
+/// already. The errors are those of [`verify_text`].
+pub fn verify_bundle<Q: Read, W: Write>(
+    alloc: Global,
+    bundle: &[u8],
+    certificate: &mut Q,
+    writer: &mut W,
+) -> Result<Verdict, ShellFault>
+    ensures verdict { IfOk result (λ v. IfSome (Q.remaining certificate.old) (λ stated. v ≡ verdict_of (reply_with stated bundle.now))) }
+    ensures written { OnOk result (IfSome (Q.remaining certificate.old)
+        (λ stated. Appends (W.contents writer.old) (W.contents writer.new) (verify_output stated bundle.now))) }
+    ensures silent { IfErr result (λ e. e ≢ ShellFault.Write → Keeps (W.contents writer.old) (W.contents writer.new)) }
+    ensures within { OnOk result (IfSome (Q.remaining certificate.old) (λ stated. length stated ≤ 2 ^ 20)) }
+    ensures too_long { IsErrOf result ShellFault.TooLong → IfSome (Q.remaining certificate.old) (λ stated. 2 ^ 20 < length stated) }
+{
+    let stated = read_all(alloc, certificate, CERTIFICATE_LIMIT)?;
+    let reply = reply_to_text(alloc, bundle, Some(stated.as_slice()))?;
     match write_verified(&reply, writer) {
         Ok(()) => Ok(reply.verdict()),
         Err(_) => Err(ShellFault::Write),
@@ -102,41 +138,28 @@ pub fn load_text<R: Read, W: Write>(
     ensures within { OnOk result (IfSome (R.remaining reader.old) (λ bundle. length bundle ≤ 2 ^ 23)) }
     ensures too_long { IsErrOf result ShellFault.TooLong → IfSome (R.remaining reader.old) (λ bundle. 2 ^ 23 < length bundle) }
 {
-    let reply = check_bundle(alloc, reader)?;
+    let bundle = read_all(alloc, reader, BUNDLE_LIMIT)?;
+    load_bundle(alloc, &bundle, writer)
+}
+
+/// Does what [`load_text`] does for a bundle that is in memory already. Fails only by memory, before
+/// anything is written, and by the writer.
+pub fn load_bundle<W: Write>(
+    alloc: Global,
+    bundle: &[u8],
+    writer: &mut W,
+) -> Result<Option<Checked>, ShellFault>
+    ensures loaded { IfOk result (λ loaded. loaded ≡ accepted_of (reply_to bundle.now)) }
+    ensures written { OnOk result (Appends (W.contents writer.old) (W.contents writer.new) (load_output bundle.now)) }
+    ensures quiet { IfOk result (λ loaded. IsSome loaded → Keeps (W.contents writer.old) (W.contents writer.new)) }
+    ensures silent { IfErr result (λ e. e ≢ ShellFault.Write → Keeps (W.contents writer.old) (W.contents writer.new)) }
+    ensures only { IfErr result (λ e. (e ≡ ShellFault.NoMemory) ⊎ (e ≡ ShellFault.Write)) }
+{
+    let reply = reply_to_text(alloc, bundle, None)?;
     if reply.answer.is_err() && write_checked(&reply, writer).is_err() {
         return Err(ShellFault::Write);
     }
     Ok(reply.answer.ok())
-}
-
-/// Reads a bundle and checks it. Fails by memory and by the reader, and where it is too long.
-fn check_bundle<R: Read>(alloc: Global, reader: &mut R) -> Result<Reply, ShellFault>
-    ensures exact { IfOk result (λ reply. IfSome (R.remaining reader.old) (λ bundle. reply_to bundle ≡ reply_view reply)) }
-    ensures within { OnOk result (IfSome (R.remaining reader.old) (λ bundle. length bundle ≤ 2 ^ 23)) }
-    ensures too_long { IsErrOf result ShellFault.TooLong → IfSome (R.remaining reader.old) (λ bundle. 2 ^ 23 < length bundle) }
-    ensures reads_only { IfErr result (λ e. e ≢ ShellFault.Write) }
-{
-    let bundle = read_all(alloc, reader, BUNDLE_LIMIT)?;
-    reply_to_text(alloc, &bundle, None)
-}
-
-/// Reads a bundle, then a certificate, and verifies it. Fails by memory and by the readers, and
-/// where one is too long.
-fn verify_bundle<R: Read, Q: Read>(
-    alloc: Global,
-    bundle: &mut R,
-    certificate: &mut Q,
-) -> Result<Reply, ShellFault>
-    ensures exact { IfOk result (λ reply. IfSome (R.remaining bundle.old) (λ text. IfSome (Q.remaining certificate.old) (λ stated. reply_with stated text ≡ reply_view reply))) }
-    ensures within { OnOk result (IfSome (R.remaining bundle.old) (λ text. length text ≤ 2 ^ 23) × IfSome (Q.remaining certificate.old) (λ stated. length stated ≤ 2 ^ 20)) }
-    ensures too_long { IsErrOf result ShellFault.TooLong →
-        IfSome (R.remaining bundle.old) (λ text. 2 ^ 23 < length text) ⊎ IfSome (Q.remaining certificate.old) (λ stated. 2 ^ 20 < length stated) }
-    ensures reads_only { IfErr result (λ e. e ≢ ShellFault.Write) }
-    ensures bundle_first { (IsAtEnd (R.remaining bundle.new) × IfSome (R.remaining bundle.old) (λ text. length text ≤ 2 ^ 23)) ⊎ (certificate.new ≡ certificate.old) }
-{
-    let text = read_all(alloc, bundle, BUNDLE_LIMIT)?;
-    let stated = read_all(alloc, certificate, CERTIFICATE_LIMIT)?;
-    reply_to_text(alloc, &text, Some(stated.as_slice()))
 }
 
 /// The reply to a bundle, with the weights of a certificate where there is one. Fails only by

@@ -3,6 +3,7 @@
 
 pub mod check;
 pub mod fault;
+mod front;
 pub mod law;
 mod log_line;
 pub mod play;
@@ -11,11 +12,13 @@ mod reply;
 pub mod text;
 mod trace;
 
-pub use check::{BUNDLE_LIMIT, check_text, load_text, verify_text};
+pub use check::{
+    BUNDLE_LIMIT, check_bundle, check_text, load_bundle, load_text, verify_bundle, verify_text,
+};
 pub use fault::{Failure, ShellFault, Verdict, status};
 pub use law::{
     answers_fix_the_play, any_certificate_plays_the_same, log_gives_one_play,
     printed_certificate_is_verified,
 };
 pub use play::play_text;
-pub use text::{join, read_all};
+pub use text::{append_text, join, read_all};

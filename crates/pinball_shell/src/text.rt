@@ -1,16 +1,16 @@
 //! A text is read whole before it is checked, and texts are joined to a bundle.
 
-ghost use Rattle.std.specs.Prelude.{◌≡◌, ◌≢◌, ◌^◌, ◌<◌, ◌≤◌, IfOk, OnOk, IfErr, IfSome, IsErrOf, vec_len, length, ◌⊎◌};
+ghost use Rattle.std.specs.Prelude.{◌≡◌, ◌≢◌, ◌^◌, ◌<◌, ◌≤◌, IfOk, OnOk, IfErr, IfSome, IsErrOf, IsTrue, false, vec_len, length, ◌⊎◌};
 ghost use Rattle.std.specs.Io.KnownBytes.{IsAtEnd};
 ghost use Rattle.pinball_shell.specs.Joined.{joined, line_end};
 
 use crate::check::BUNDLE_LIMIT;
 use crate::fault::ShellFault;
-use std::alloc::Global;
+use std::alloc::{AllocError, Global};
 use std::io::Read;
 
 /// How many bytes a read asks for.
-const PIECE: usize = 8192;
+const PIECE: usize = 65_536;
 
 /// All bytes that the reader gives, up to the first read of no byte. The reader is asked at most
 /// `limit` + 1 times.
@@ -61,18 +61,56 @@ pub fn join(alloc: Global, bundle: &[u8], name: &[u8], text: &[u8]) -> Result<Ve
     ensures too_long { IsErrOf result ShellFault.TooLong → 2 ^ 23 < length (joined bundle.now name.now text.now) }
     ensures only { IfErr result (λ e. (e ≡ ShellFault.TooLong) ⊎ (e ≡ ShellFault.NoMemory)) }
 {
-    let end = line_end(text);
-    let parts = bundle.len() as u128 + name.len() as u128 + text.len() as u128;
-    if parts + 3 + end.len() as u128 > BUNDLE_LIMIT as u128 {
+    if is_too_long(bundle, name, text) {
         return Err(ShellFault::TooLong);
     }
     let mut all = Vec::from_slice(alloc, bundle)?;
+    add_text(&mut all, name, text)?;
+    Ok(all)
+}
+
+/// Makes of a bundle what [`join`] gives, in place: of the bundle nothing is copied but where its
+/// vector grows.
+///
+/// # Errors
+///
+/// - `TooLong`: it would have more than 8 MiB. It is as it was.
+/// - `NoMemory`: there is no room for it. How much has been added is not said.
+pub fn append_text(bundle: &mut Vec<u8>, name: &[u8], text: &[u8]) -> Result<(), ShellFault>
+    ensures joined { OnOk result (bundle.new.items ≡ joined bundle.old.items name.now text.now) }
+    ensures within { OnOk result (vec_len bundle.new ≤ 2 ^ 23) }
+    ensures too_long { IsErrOf result ShellFault.TooLong → 2 ^ 23 < length (joined bundle.old.items name.now text.now) }
+    ensures same { IsErrOf result ShellFault.TooLong → bundle.new ≡ bundle.old }
+    ensures only { IfErr result (λ e. (e ≡ ShellFault.TooLong) ⊎ (e ≡ ShellFault.NoMemory)) }
+{
+    if is_too_long(bundle, name, text) {
+        return Err(ShellFault::TooLong);
+    }
+    add_text(bundle, name, text)?;
+    Ok(())
+}
+
+/// Whether a bundle with one text more would be too long.
+fn is_too_long(bundle: &[u8], name: &[u8], text: &[u8]) -> bool
+    ensures over { IsTrue result → 2 ^ 23 < length (joined bundle.now name.now text.now) }
+    ensures within { result ≡ false → length (joined bundle.now name.now text.now) ≤ 2 ^ 23 }
+{
+    let end = line_end(text);
+    let parts = bundle.len() as u128 + name.len() as u128 + text.len() as u128;
+    parts + 3 + end.len() as u128 > BUNDLE_LIMIT as u128
+}
+
+/// Adds a text to a bundle. Fails only by memory.
+fn add_text(all: &mut Vec<u8>, name: &[u8], text: &[u8]) -> Result<(), AllocError>
+    ensures { OnOk result (all.new.items ≡ joined all.old.items name.now text.now) }
+{
+    let end = line_end(text);
     all.extend_from_slice(b"@ ")?;
     all.extend_from_slice(name)?;
     all.extend_from_slice(b"\n")?;
     all.extend_from_slice(text)?;
     all.extend_from_slice(end)?;
-    Ok(all)
+    Ok(())
 }
 
 /// The line end that a text lacks.

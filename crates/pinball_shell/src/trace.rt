@@ -1,14 +1,16 @@
 //! The lines of a trace, as text.
 
-ghost use Rattle.std.specs.Prelude.{◌≡◌, OnOk, slice_index_or};
+ghost use Rattle.std.specs.Prelude.{◌≡◌, OnOk, [], ◌∷◌, ◌++◌, codes};
 ghost use Rattle.std.specs.List.{flat_map};
 ghost use Rattle.std.specs.Io.KnownBytes.{Appends};
 ghost use Rattle.plan_tables.specs.PlanView.{mode_at, name_of_event, name_of_variable, switch_at, coil_at};
 ghost use Rattle.coil_guard.specs.SentCommands.{coil_of};
 ghost use Rattle.pinball_shell.specs.TraceText.{owner_text, level_text, switch_text, event_text, sent_text, action_name, skip_text, player_text, balls_text, happening_text, line_text, off_text, off_texts, refused_text};
 
+use crate::front::Front;
 use crate::refusal::Refusal;
 use coil_guard::Command;
+use itoa::{Buffer, Integer};
 use plan_tables::{CoilId, EventId, ModeId, Owner, Plan, SwitchId, VariableId};
 use std::io::{self, Write};
 use written_machine::line::BallCounts;
@@ -18,8 +20,10 @@ use written_machine::{Happening, Line};
 pub fn write_lines<W: Write>(plan: &Plan, lines: &[Line], writer: &mut W) -> io::Result<()>
     ensures { OnOk result (Appends (W.contents writer.old) (W.contents writer.new) (flat_map (line_text plan.now) lines.now)) }
 {
+    let mut front = Front::new(0);
     for line in lines {
-        write_line(plan, *line, writer)?;
+        front.turn_to(line.moment);
+        write_line(plan, *line, &front, writer)?;
     }
     Ok(())
 }
@@ -64,13 +68,30 @@ pub fn write_refused<W: Write>(line: usize, refusal: Refusal, writer: &mut W) ->
     )
 }
 
-fn write_line<W: Write>(plan: &Plan, line: Line, writer: &mut W) -> io::Result<()>
+fn write_line<W: Write>(plan: &Plan, line: Line, front: &Front, writer: &mut W) -> io::Result<()>
+    requires { front.now ≡ line.moment }
     ensures { OnOk result (Appends (W.contents writer.old) (W.contents writer.new) (line_text plan.now line)) }
 {
-    write!(writer, "{} ", line.moment)?;
-    writer.write_all(owner_name(plan, line.owner))?;
-    writer.write_all(b" ")?;
-    write_happening(plan, line.happening, writer)
+    writer.write_all(front.as_bytes())?;
+    match (line.owner, line.happening) {
+        (Owner::Machine, Happening::Event(event)) => {
+            write_machine_event(event_name(plan, event), writer)
+        }
+        (owner, happening) => {
+            writer.write_all(owner_name(plan, owner))?;
+            writer.write_all(b" ")?;
+            write_happening(plan, happening, writer)
+        }
+    }
+}
+
+// Most lines are these: so the owner and the word are written at once.
+fn write_machine_event<W: Write>(name: &[u8], writer: &mut W) -> io::Result<()>
+    ensures { OnOk result (Appends (W.contents writer.old) (W.contents writer.new) (codes "machine " ++ event_text name.now)) }
+{
+    writer.write_all(b"machine event ")?;
+    writer.write_all(name)?;
+    writer.write_all(b"\n")
 }
 
 fn write_happening<W: Write>(plan: &Plan, happening: Happening, writer: &mut W) -> io::Result<()>
@@ -96,7 +117,7 @@ fn write_switch<W: Write>(name: &[u8], active: bool, writer: &mut W) -> io::Resu
 {
     writer.write_all(b"switch ")?;
     writer.write_all(name)?;
-    writeln!(writer, " {}", level_name(active))
+    writer.write_all(level_end(active))
 }
 
 fn write_event<W: Write>(name: &[u8], writer: &mut W) -> io::Result<()>
@@ -113,8 +134,18 @@ fn write_sent<W: Write>(name: &[u8], command: Command, writer: &mut W) -> io::Re
     writer.write_all(b"coil ")?;
     writer.write_all(name)?;
     match command {
-        Command::Pulse { ms, power, .. } => writeln!(writer, " pulse {ms} {power}"),
-        Command::Enable { power, .. } => writeln!(writer, " enable {power}"),
+        Command::Pulse { ms, power, .. } => {
+            writer.write_all(b" pulse ")?;
+            write_number(ms, writer)?;
+            writer.write_all(b" ")?;
+            write_number(power, writer)?;
+            writer.write_all(b"\n")
+        }
+        Command::Enable { power, .. } => {
+            writer.write_all(b" enable ")?;
+            write_number(power, writer)?;
+            writer.write_all(b"\n")
+        }
         Command::Disable { .. } => writer.write_all(b" disable\n"),
     }
 }
@@ -124,15 +155,29 @@ fn write_skip<W: Write>(name: &[u8], command: Command, writer: &mut W) -> io::Re
 {
     writer.write_all(b"skip ")?;
     writer.write_all(name)?;
-    writeln!(writer, " {}", action_word(command))
+    writer.write_all(b" ")?;
+    writer.write_all(action_word(command))?;
+    writer.write_all(b"\n")
 }
 
 fn write_player<W: Write>(player: usize, name: &[u8], value: i64, writer: &mut W) -> io::Result<()>
     ensures { OnOk result (Appends (W.contents writer.old) (W.contents writer.new) (player_text player name.now value)) }
 {
-    write!(writer, "player {player} ")?;
+    writer.write_all(b"player ")?;
+    write_number(player, writer)?;
+    writer.write_all(b" ")?;
     writer.write_all(name)?;
-    writeln!(writer, " {value}")
+    writer.write_all(b" ")?;
+    write_number(value, writer)?;
+    writer.write_all(b"\n")
+}
+
+/// Writes a number without the machinery of `write!`, which takes several times as long.
+fn write_number<N: Integer, W: Write>(number: N, writer: &mut W) -> io::Result<()>
+    ensures { OnOk result (Appends (W.contents writer.old) (W.contents writer.new) (N.text number)) }
+{
+    let mut buffer = Buffer::new();
+    writer.write_all(buffer.format(number).as_bytes())
 }
 
 fn write_balls<W: Write>(counts: BallCounts, writer: &mut W) -> io::Result<()>
@@ -146,13 +191,13 @@ fn write_balls<W: Write>(counts: BallCounts, writer: &mut W) -> io::Result<()>
 }
 
 /// The action that was asked for.
-fn action_word(command: Command) -> &'static str
+fn action_word(command: Command) -> &'static [u8]
     ensures { result.now ≡ action_name command }
 {
     match command {
-        Command::Pulse { .. } => "pulse",
-        Command::Enable { .. } => "enable",
-        Command::Disable { .. } => "disable",
+        Command::Pulse { .. } => b"pulse",
+        Command::Enable { .. } => b"enable",
+        Command::Disable { .. } => b"disable",
     }
 }
 
@@ -176,10 +221,11 @@ fn mode_name(plan: &Plan, mode: ModeId) -> &[u8]
     }
 }
 
-fn level_name(active: bool) -> &'static str
-    ensures { result.now ≡ level_text active }
+/// A blank, the level, and the end of the line.
+fn level_end(active: bool) -> &'static [u8]
+    ensures { result.now ≡ codes " " ++ level_text active ++ 10 ∷ [] }
 {
-    if active { "active" } else { "inactive" }
+    if active { b" active\n" } else { b" inactive\n" }
 }
 
 /// The name of an event: nothing where the plan lacks it.
