@@ -114,8 +114,7 @@ pub fn verify_bundle<Q: Read, W: Write>(
     ensures within { OnOk result (IfSome (Q.remaining certificate.old) (λ stated. length stated ≤ 2 ^ 20)) }
     ensures too_long { IsErrOf result ShellFault.TooLong → IfSome (Q.remaining certificate.old) (λ stated. 2 ^ 20 < length stated) }
 {
-    let stated = read_all(alloc, certificate, CERTIFICATE_LIMIT)?;
-    let reply = reply_to_text(alloc, bundle, Some(stated.as_slice()))?;
+    let reply = reply_with_certificate(alloc, bundle, certificate)?;
     match write_verified(&reply, writer) {
         Ok(()) => Ok(reply.verdict()),
         Err(_) => Err(ShellFault::Write),
@@ -160,6 +159,22 @@ pub fn load_bundle<W: Write>(
         return Err(ShellFault::Write);
     }
     Ok(reply.answer.ok())
+}
+
+/// Reads a certificate, and verifies it on a bundle. Fails by memory and by the reader, and where the
+/// certificate is too long.
+fn reply_with_certificate<Q: Read>(
+    alloc: Global,
+    bundle: &[u8],
+    certificate: &mut Q,
+) -> Result<Reply, ShellFault>
+    ensures exact { IfOk result (λ reply. IfSome (Q.remaining certificate.old) (λ stated. reply_with stated bundle.now ≡ reply_view reply)) }
+    ensures within { OnOk result (IfSome (Q.remaining certificate.old) (λ stated. length stated ≤ 2 ^ 20)) }
+    ensures too_long { IsErrOf result ShellFault.TooLong → IfSome (Q.remaining certificate.old) (λ stated. 2 ^ 20 < length stated) }
+    ensures reads_only { IfErr result (λ e. e ≢ ShellFault.Write) }
+{
+    let stated = read_all(alloc, certificate, CERTIFICATE_LIMIT)?;
+    reply_to_text(alloc, bundle, Some(stated.as_slice()))
 }
 
 /// The reply to a bundle, with the weights of a certificate where there is one. Fails only by

@@ -2,6 +2,7 @@
 
 ghost use Rattle.std.specs.Prelude.{◌≡◌, OnOk, [], ◌∷◌, ◌++◌, codes};
 ghost use Rattle.std.specs.List.{flat_map};
+ghost use Rattle.std.specs.Fmt.{decimal, signed_decimal};
 ghost use Rattle.std.specs.Io.KnownBytes.{Appends};
 ghost use Rattle.plan_tables.specs.PlanView.{mode_at, name_of_event, name_of_variable, switch_at, coil_at};
 ghost use Rattle.coil_guard.specs.SentCommands.{coil_of};
@@ -73,25 +74,9 @@ fn write_line<W: Write>(plan: &Plan, line: Line, front: &Front, writer: &mut W) 
     ensures { OnOk result (Appends (W.contents writer.old) (W.contents writer.new) (line_text plan.now line)) }
 {
     writer.write_all(front.as_bytes())?;
-    match (line.owner, line.happening) {
-        (Owner::Machine, Happening::Event(event)) => {
-            write_machine_event(event_name(plan, event), writer)
-        }
-        (owner, happening) => {
-            writer.write_all(owner_name(plan, owner))?;
-            writer.write_all(b" ")?;
-            write_happening(plan, happening, writer)
-        }
-    }
-}
-
-// Most lines are these: so the owner and the word are written at once.
-fn write_machine_event<W: Write>(name: &[u8], writer: &mut W) -> io::Result<()>
-    ensures { OnOk result (Appends (W.contents writer.old) (W.contents writer.new) (codes "machine " ++ event_text name.now)) }
-{
-    writer.write_all(b"machine event ")?;
-    writer.write_all(name)?;
-    writer.write_all(b"\n")
+    writer.write_all(owner_name(plan, line.owner))?;
+    writer.write_all(b" ")?;
+    write_happening(plan, line.happening, writer)
 }
 
 fn write_happening<W: Write>(plan: &Plan, happening: Happening, writer: &mut W) -> io::Result<()>
@@ -163,10 +148,22 @@ fn write_skip<W: Write>(name: &[u8], command: Command, writer: &mut W) -> io::Re
 fn write_player<W: Write>(player: usize, name: &[u8], value: i64, writer: &mut W) -> io::Result<()>
     ensures { OnOk result (Appends (W.contents writer.old) (W.contents writer.new) (player_text player name.now value)) }
 {
+    write_player_number(player, writer)?;
+    writer.write_all(name)?;
+    write_value(value, writer)
+}
+
+fn write_player_number<W: Write>(player: usize, writer: &mut W) -> io::Result<()>
+    ensures { OnOk result (Appends (W.contents writer.old) (W.contents writer.new) (codes "player " ++ decimal player ++ codes " ")) }
+{
     writer.write_all(b"player ")?;
     write_number(player, writer)?;
-    writer.write_all(b" ")?;
-    writer.write_all(name)?;
+    writer.write_all(b" ")
+}
+
+fn write_value<W: Write>(value: i64, writer: &mut W) -> io::Result<()>
+    ensures { OnOk result (Appends (W.contents writer.old) (W.contents writer.new) (codes " " ++ signed_decimal value ++ 10 ∷ [])) }
+{
     writer.write_all(b" ")?;
     write_number(value, writer)?;
     writer.write_all(b"\n")
