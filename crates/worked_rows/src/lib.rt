@@ -11,6 +11,7 @@ mod row;
 mod sink;
 mod source;
 mod texts;
+mod walks;
 
 pub use ball_plays::{BALL_PLAYS, THREE_MACHINES_PLAY};
 pub use coil_plays::{COIL_PLAYS, FAULT_PLAYS, FLIPPER_PLAYS};
@@ -19,3 +20,4 @@ pub use row::{Answers, Row, answered, written, wrong_rows};
 pub use sink::Sink;
 pub use source::Source;
 pub use texts::named;
+pub use walks::wrong_walks;

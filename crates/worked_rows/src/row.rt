@@ -96,7 +96,7 @@ fn check_row<A: Answers>(wrong: &mut Pen, answers: &A, text: &str) {
 }
 
 /// What comes before a mark, and after it.
-fn cut<'a>(text: &'a str, mark: &str) -> (&'a str, &'a str) {
+pub(crate) fn cut<'a>(text: &'a str, mark: &str) -> (&'a str, &'a str) {
     text.split_once(mark).unwrap_or((text, ""))
 }
 

@@ -10,7 +10,18 @@ use std::io::{self, ErrorKind, Read};
 pub enum Source<'a> {
     Text(&'a [u8]),
     /// A byte at each read, and a failure from the read `fails_at` on.
-    Bytes { reads: u64, fails_at: u64 },
+    Bytes {
+        reads: u64,
+        fails_at: u64,
+    },
+    /// The bytes of a text, one at each read. The read `stops_at` gives nothing, and the one of `fails_at` fails, as
+    /// if it was interrupted.
+    Slow {
+        text: &'a [u8],
+        reads: u64,
+        stops_at: u64,
+        fails_at: u64,
+    },
 }
 
 impl<'a> Source<'a> {
@@ -23,12 +34,37 @@ impl<'a> Source<'a> {
         }
     }
 
-    /// Shows how often it was read, where it is no text.
-    pub fn show(&self, pen: &mut Pen) {
-        if let Source::Bytes { reads, .. } = self {
-            pen.put(" ");
-            pen.value(*reads);
+    /// A reader that gives the bytes of a text, one at each read.
+    pub fn slow(text: &'a [u8]) -> Source<'a> {
+        Source::slow_until(text, u64::MAX, u64::MAX)
+    }
+
+    /// The same, but for a read that gives nothing, and one that fails.
+    pub fn slow_until(text: &'a [u8], stops_at: u64, fails_at: u64) -> Source<'a> {
+        Source::Slow {
+            text,
+            reads: 0,
+            stops_at,
+            fails_at,
         }
+    }
+
+    /// How often it was read. Not counted, and 0, where a read gives all.
+    pub fn reads(&self) -> u64 {
+        match self {
+            Source::Text(_) => 0,
+            Source::Bytes { reads, .. } => *reads,
+            Source::Slow { reads, .. } => *reads,
+        }
+    }
+
+    /// Shows how often it was read, where that is counted.
+    pub fn show(&self, pen: &mut Pen) {
+        if let Source::Text(_) = self {
+            return;
+        }
+        pen.put(" ");
+        pen.value(self.reads());
     }
 }
 
@@ -45,19 +81,37 @@ impl Read for Source<'_> {
                 if *reads >= *fails_at {
                     return Err(io::Error::from(ErrorKind::Other));
                 }
-                Ok(put_byte(buf))
+                Ok(put_byte(buf, b'@'))
+            }
+            Source::Slow {
+                text,
+                reads,
+                stops_at,
+                fails_at,
+            } => {
+                *reads = reads.saturating_add(1);
+                if *reads == *fails_at {
+                    return Err(io::Error::from(ErrorKind::Interrupted));
+                }
+                match text.split_first() {
+                    Some((first, rest)) if *reads != *stops_at => {
+                        *text = rest;
+                        Ok(put_byte(buf, *first))
+                    }
+                    _ => Ok(0),
+                }
             }
         }
     }
 }
 
 /// Puts a byte at the front of the buffer, where it has room, and says how many were put.
-fn put_byte(buf: &mut [u8]) -> usize
+fn put_byte(buf: &mut [u8], byte: u8) -> usize
     ensures { result ≤ length buf.new }
 {
     match buf {
         [first, ..] => {
-            *first = b'@';
+            *first = byte;
             1
         }
         [] => 0,
