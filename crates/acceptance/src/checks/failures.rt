@@ -1,9 +1,10 @@
 //! Readers that fail or never end, writers that fail, and what is said of it.
 
-use crate::checks::row::assert_rows;
+use crate::checks::row::{assert_rows, assert_walks};
 use pinball_shell::{Failure, ShellFault, read_all};
 use std::alloc::Global;
 use std::test::Fail;
+use worked_rows::Source;
 
 // Readers and writers that fail.
 const FAILING: &str = "
@@ -72,9 +73,82 @@ const ENDLESS: &str = "
 => TooLong 1048577
 ";
 
+// Texts that are read and answers that are written by slow and failing ones.
+const WALKED: &str = "
+=== accepted with a note
+--- check
+@ config/config.yaml
+#config_version=6
+lights:
+event_player:
+  a: b
+=> Yes
+note config/config.yaml 2 skipped lights
+yes
+pinball-certificate 1
+bound 0
+event a 2
+event b 1
+
+=== no rows
+--- check
+@ config/config.yaml
+#config_version=6
+coils: \"a
+=> Refused
+error 3 Yaml config/config.yaml 2 Quote
+no
+
+=== faults of rows
+--- check
+@ config/config.yaml
+#config_version=6
+event_player:
+  a: ball_ended, ball_ending
+=> Refused
+fault 1 Name config/config.yaml 3 ball_ended
+fault 1 Name config/config.yaml 3 ball_ending
+no
+
+=== verified
+--- verify
+@ config/config.yaml
+#config_version=6
+event_player:
+  a: b
+--- certificate
+pinball-certificate 1
+bound 0
+event a 2
+event b 1
+=> Yes
+yes
+bound 0
+
+=== not verified
+--- verify
+@ config/config.yaml
+#config_version=6
+event_player:
+  a: b
+--- certificate
+pinball-certificate 1
+bound 0
+event a 1
+event b 1
+=> Refused
+fault 10 Certificate Short a 2
+no
+";
+
 #[test]
 fn readers_and_writers_fail(rt: HostRuntime) {
     assert_rows(&rt, FAILING);
+}
+
+#[test]
+fn each_read_and_write_fails(rt: HostRuntime) {
+    assert_walks(&rt, WALKED);
 }
 
 #[test]
@@ -82,20 +156,30 @@ fn readers_never_end(rt: HostRuntime) {
     assert_rows(&rt, ENDLESS);
 }
 
-fn is_read(alloc: Global, text: &str, limit: usize) -> bool {
-    let mut reader = text.as_bytes();
-    match read_all(alloc, &mut reader, limit) {
+/// Whether a text is read within this limit, in so many reads that give a byte each.
+fn is_read(alloc: Global, text: &str, limit: usize, reads: u64) -> bool {
+    let mut reader = Source::slow(text.as_bytes());
+    let is_whole = match read_all(alloc, &mut reader, limit) {
         Ok(all) => all.as_slice() == text.as_bytes(),
         Err(_) => false,
-    }
+    };
+    is_whole && reader.reads() == reads
+}
+
+/// Whether a text is refused as too long, in so many reads that give a byte each.
+fn is_too_long(alloc: Global, text: &str, limit: usize, reads: u64) -> bool {
+    let mut reader = Source::slow(text.as_bytes());
+    let answer = read_all(alloc, &mut reader, limit);
+    matches!(answer, Err(ShellFault::TooLong)) && reader.reads() == reads
 }
 
 #[test]
 fn text_within_its_limit_is_read(rt: HostRuntime) {
-    let mut reader = b"abcd".as_slice();
-    let refused = read_all(rt.alloc(), &mut reader, 3);
-    assert!(rt; is_read(rt.alloc(), "abc", 3));
-    assert!(rt; matches!(refused, Err(ShellFault::TooLong)));
+    let alloc = rt.alloc();
+    assert!(rt; is_read(alloc, "abc", 3, 4));
+    assert!(rt; is_read(alloc, "", 0, 1));
+    assert!(rt; is_too_long(alloc, "abcd", 3, 4));
+    assert!(rt; is_too_long(alloc, "a", 0, 1));
 }
 
 /// Whether standard error gets this of a fault in the file `a b`, or in none.

@@ -2,6 +2,7 @@
 
 use crate::checks::row::assert_rows;
 
+// A cycle is reported only if no table is above its limit.
 const ROWS: &str = "
 === depth 32
 The mapping of the text is one of the 32.
@@ -73,6 +74,92 @@ switches:
 => Refused
 fault 7 Limit switches
 no
+
+=== switches 256
+--- check
+@ config/config.yaml
+#config_version=6
+event_player:
+  a: a
+switches:
+--- 256 times
+  s№:
+=> Refused
+fault 8 Cycle a
+no
+
+=== coils 257
+--- check
+@ config/config.yaml
+#config_version=6
+coils:
+--- 257 times
+  c№:
+=> Refused
+fault 7 Limit coils
+no
+
+=== coils 256
+--- check
+@ config/config.yaml
+#config_version=6
+coils:
+--- 256 times
+  c№:
+=> Yes
+yes
+pinball-certificate 1
+bound 0
+
+=== variables 257
+--- check
+@ config/config.yaml
+#config_version=6
+variable_player:
+  a:
+--- 257 times
+    v№: 1
+=> Refused
+fault 7 Limit variables
+no
+
+=== variables 256
+--- check
+@ config/config.yaml
+#config_version=6
+event_player:
+  a: a
+variable_player:
+  b:
+--- 256 times
+    v№: 1
+=> Refused
+fault 8 Cycle a
+no
+
+=== bindings 16385
+--- check
+@ config/config.yaml
+#config_version=6
+event_player:
+--- 16385 times
+  a{current_player.v==№}:
+=> Refused
+fault 7 Limit bindings
+no
+
+=== bindings 16384
+--- check
+@ config/config.yaml
+#config_version=6
+event_player:
+--- 16384 times
+  a{current_player.v==№}:
+=> Yes
+yes
+pinball-certificate 1
+bound 0
+event a 1
 
 === bundle of 8 mebibytes and a byte
 --- check
