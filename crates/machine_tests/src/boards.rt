@@ -160,10 +160,11 @@ impl<'t> Judge<'t> {
     }
 }
 
-/// The trials of a machine, and what was found.
+/// The trials of a machine.
 #[derive(Drop)]
 struct Trials {
     count: u32,
+    /// The first trial whose run ended other than it is to end, with what its board took.
     wrong: Pen,
 }
 
@@ -180,7 +181,7 @@ impl Trials {
         let mut judge = Judge::new(trial, taken);
         let is_clean = judge.judge(course);
         self.count = self.count.saturating_add(1);
-        if !judge.is_end(end) {
+        if !judge.is_end(end) && self.wrong.text.is_empty() {
             let Trial {
                 steps,
                 first,
@@ -284,7 +285,7 @@ fn try_log(
 }
 
 /// Answers to a log: what a board takes that faults at no command; how many coils are put off at the end, and how many
-/// commands fault; how many trials there are; and those whose runs are other than they are to be.
+/// commands fault; how many trials there are; and what is wrong.
 pub(crate) fn boarded(
     alloc: Global,
     out: &mut String,
