@@ -1,10 +1,10 @@
 """What the proofs of a crate can rest on in the crates below it.
 
-That is the declarations and contracts of the code below, and the definitions of specs/ that are within reach by name:
-from the crate's own text, from those declarations, and from one definition to the next. The bodies of functions below
-are not within reach. Code has to be laid out as by `rt fmt`."""
+That is the declarations and contracts of the code below, and the definitions of specs/, that are within reach by name:
+from the crate's own text, and from one of them to the next. Bodies of functions below are not within reach, nor are
+private fields, and what a model says of its fields. Code has to be laid out as by `rt fmt`."""
 import re
-from collections.abc import Iterable
+from collections.abc import Iterable, Set
 from functools import cache
 from pathlib import Path
 from typing import NamedTuple
@@ -15,11 +15,15 @@ from rooms import TOP, below, listed
 FUNCTION = re.compile(r"(\s*)(pub(?:\([a-z]+\))? )?(?:const )?fn ")
 # A type or a constant that only its crate sees.
 INNER = re.compile(r"(?:pub\([a-z]+\) )?(?:struct|enum|type|const|static|trait) (\w+)")
+# What a line that begins a declaration declares; nothing if it begins an impl. Then the type is its last word.
+NAMED = re.compile(r"(?:pub (?:const )?(?:fn|struct|enum|type|const|static|trait) (\w+)|impl)")
+OF_IMPL = re.compile(r"^impl.*?(\w+)(?:<[^{]*>)?(?: where.*)? \{$")
+METHOD = re.compile(r"    (?:pub )?(?:const )?fn (\w+)")
 # An import of code, and one of definitions: its crate, its room, its file, and the names, if it has names.
-CODE_IMPORT = re.compile(r"^(pub )?(ghost )?use ([^;{]*)(?:\{([^{}]*)\})?;", re.M)
-IMPORT = re.compile(r"^\s*(?:pub )?(?:ghost )?use Rattle\.(\w+)\.(specs|proofs)\.([\w.]*\w)(?:\.\{(.*)\}| as \w+)?", re.M)
+CODE_IMPORT = re.compile(r"^ *(pub )?(ghost )?use ([^;{]*)(?:\{([^{}]*)\})?;", re.M)
+IMPORT = re.compile(r"^ *(?:pub )?(?:ghost )?use Rattle\.(\w+)\.(specs|proofs)\.([\w.]*\w)(?:\.\{(.*)\}| as \w+)?", re.M)
 # A declaration in a file of definitions, with the name that it declares.
-DECLARATION = re.compile(r"(?:abbrev |unfoldable |pub |record |data )+([^\s:]+)")
+DECLARATION = re.compile(r"^ *(?:(?:abbrev |unfoldable |pub |record |data )+|(?=[^\s:]+ : ))([^\s:]+)", re.M)
 
 
 class Definition(NamedTuple):
@@ -80,32 +84,90 @@ def declarations(text: str) -> Iterable[str]:
             yield from head[:-1] if head[-1] == f"{indent}{{" else head
 
 
-def is_used(name: str, text: str) -> bool:
-    """Whether a text uses what an import brings in under a name, such as `map`, `◌≡◌` or `read as read_text`."""
-    word = name.rpartition(" as ")[2].strip().strip("◌")
-    return any(re.search(rf"(?<![\w-]){re.escape(part)}(?![\w-])", text) for part in word.split("◌"))
+class Item(NamedTuple):
+    """A function, a type or a constant that crates above can name. A method has the type that it is of."""
+
+    name: str
+    of: str
+    text: str
+
+
+def imported(text: str) -> dict[str, str]:
+    """For each name that a text of code imports the import of it alone. An operator counts by each of its signs."""
+    found = {}
+    for _, ghost, path, names in CODE_IMPORT.findall(text):
+        for name in map(str.strip, names.split(",") if names else [path.rpartition("::")[2]]):
+            alone = f"{ghost}use {path}{{{name}}};" if names else f"{ghost}use {path};"
+            found.update((part, alone) for part in name.rpartition(" as ")[2].split("◌") if part)
+    return found
+
+
+def imports_in(text: str, imports: dict[str, str]) -> str:
+    """Those imports that a text uses."""
+    return "\n".join(sorted({imports[word] for word in words_of(text) & imports.keys()}))
+
+
+def words_of(text: str) -> set[str]:
+    return set(re.findall(r"[\w-]+|[^\s\w(){}\[\].,;:]+", text))
+
+
+def is_hidden(line: str, header: str) -> bool:
+    """Whether only its own crate sees a line of a block: a field, or the fields that a model or its invariant has."""
+    if header.startswith("pub struct"):
+        return line.startswith("    ") and not line.startswith(("    pub ", "    #"))
+    return " Model for " in header and line.startswith(("    ghost view", "    ghost invariant", "     ", "    }"))
 
 
 @cache
-def surface(file: Path) -> str:
-    """What crates above can cite of a file of code. Imports that nothing else of this uses are left out."""
+def passed_on(crate: Path) -> tuple[frozenset[str], frozenset[str]]:
+    """The modules of a crate that others see, and the names that it passes on from the modules that they do not see."""
+    top = (crate / "src" / "lib.rt").read_text() if (crate / "src" / "lib.rt").exists() else ""
+    names = [name for public, _, path, names in CODE_IMPORT.findall(top) if public
+             for name in (names.split(",") if names else [path.rpartition("::")[2]])]
+    return frozenset(re.findall(r"^pub mod (\w+);", top, re.M)), frozenset(map(str.strip, names))
+
+
+@cache
+def items_of(file: Path) -> tuple[Item, ...]:
+    """What crates above can name of a file of code, each with the imports that it uses."""
     kept = "\n".join(declarations(file.read_text()))
-    rest = CODE_IMPORT.sub("", kept)
-    found = [it for it in map(str.strip, rest.splitlines()) if it]
-    for public, ghost, path, names in CODE_IMPORT.findall(kept):
-        brought = [it.strip() for it in names.split(",")] if names else [path.rpartition("::")[2]]
-        used = [it for it in brought if it and (public or is_used(it, rest))]
-        if used:
-            found.append(f"{public}{ghost}use {path}{{{', '.join(used)}}};")
-    return "\n".join(found)
+    imports = imported(kept)
+    found: list[Item] = []
+    header, kind, attributes = "", "", ""
+    for line in filter(str.strip, CODE_IMPORT.sub("", kept).splitlines()):
+        if line.lstrip().startswith("#["):
+            attributes += f"{line}\n"
+        elif named := NAMED.match(line):
+            header, kind = line, named[1] or OF_IMPL.sub(r"\1", line)
+            found.append(Item(kind, kind, attributes + line))
+            attributes = ""
+        elif (method := METHOD.match(line)) and header.startswith(("impl", "pub trait")):
+            found.append(Item(method[1], kind, f"{header}\n{attributes}{line}"))
+            attributes = ""
+        elif found and line != "}" and not is_hidden(line, header):
+            found[-1] = found[-1]._replace(text=f"{found[-1].text}\n{line}")
+    modules, names = passed_on(file.parents[1])
+    return tuple(it._replace(text=f"{it.text}\n{imports_in(it.text, imports)}") for it in found
+                 if file.stem in modules or it.of in names)
+
+
+def named_by(words: set[str], items: Iterable[Item]) -> set[Item]:
+    """The items that these words name, and those that their declarations name in turn."""
+    found: set[Item] = set()
+    known, left = set(words), set(items)
+    while new := {it for it in left if it.name in known and it.of in known or it.name == it.of and it.of in known}:
+        found |= new
+        left -= new
+        known.update(word for it in new for word in words_of(it.text))
+    return found
 
 
 # ---- definitions
 
 
 def imports_of(text: str) -> list[tuple[str, str, str, set[str]]]:
-    """What a text imports from the repository: crate, specs or proofs, file, and names; no names stand for all."""
-    return [(crate, room, file, {it.strip().partition(" as ")[0] for it in names.split(",")} if names else set())
+    """What a text imports from the repository: crate, specs or proofs, file, and names; `*` stands for all."""
+    return [(crate, room, file, {it.strip().partition(" as ")[0] for it in (names or "*").split(",")})
             for crate, room, file, names in IMPORT.findall(text) if crate in listed()]
 
 
@@ -121,44 +183,56 @@ def read(crate: str, room: str, file: str) -> File | None:
             texts.update((it, line) for *_, names in imports_of(line) for it in names)
         if line.startswith(("--", "use ", "pub use ")) or not line.strip():
             continue
-        declared = DECLARATION.match(line)
+        declared = not line.startswith(" ") and DECLARATION.match(line)
         if declared or line.startswith("module "):
             name = declared[1] if declared else line
         texts[name] = texts.get(name, "") + line + "\n"
     return File(texts, imports_of(text))
 
 
-def words_of(text: str) -> set[str]:
-    return set(re.split(r"[\s(){}\[\].,;:λ]+", text))
+def text_of(one: Definition) -> str:
+    file = read(one.crate, "specs", one.file)
+    return file.texts[one.name] if file else ""
 
 
-def within(crate: str, file: str, names: set[str]) -> set[Definition]:
-    """The definitions of a file that declare one of these names, or all if there is none."""
+def declares(name: str, text: str, wanted: Set[str]) -> bool:
+    """Whether a declaration, or one in a module of this text, has one of the names that are wanted."""
+    if name.startswith("module "):
+        return "*" in wanted or bool(wanted & set(DECLARATION.findall(text)))
+    return bool(name) and ("*" in wanted or name in wanted)
+
+
+def within(crate: str, file: str, names: Set[str]) -> set[Definition]:
+    """The definitions of a file that declare one of these names."""
     found = read(crate, "specs", file)
-    if not found:
-        return set()
-    return {Definition(crate, file, name) for name, text in found.texts.items()
-            if not names or name in names or not name or (name.startswith("module ") and names & words_of(text))}
+    return {Definition(crate, file, name) for name, text in (found.texts.items() if found else ())
+            if declares(name, text, names)}
 
 
 @cache
 def next_to(one: Definition) -> frozenset[Definition]:
     """The definitions that one definition may rest on itself."""
     file = read(one.crate, "specs", one.file)
-    words = words_of(file.texts[one.name])
+    words = words_of(text_of(one))
     found = within(one.crate, one.file, words)
-    for crate, room, name, names in file.imports:
-        if room == "specs" and (not names or names & words or any("◌" in it for it in names)):
-            found |= within(crate, name, names & words if names & words else names)
+    for crate, room, name, names in file.imports if file else []:
+        used = {it for it in names if it == "*" or "◌" in it or it in words}
+        if room == "specs" and used:
+            found |= within(crate, name, used)
     return frozenset(found)
 
 
 @cache
-def cited_by(crate: str, file: str) -> frozenset[Definition]:
-    """The definitions that a file of lemmas imports."""
+def cited_by(crate: str, file: str, names: frozenset[str]) -> frozenset[Definition]:
+    """The definitions that the statements of these lemmas name. A statement ends where its proof begins."""
     found = read(crate, "proofs", file)
-    imports = found.imports if found else []
-    return frozenset(it for other, room, name, names in imports if room == "specs" for it in within(other, name, names))
+    words: set[str] = set()
+    for name, text in found.texts.items() if found else ():
+        statement = text.partition(f"\n{name} ")[0]
+        if declares(name, text, names):
+            words |= words_of(statement)
+    return frozenset(it for other, room, its_file, its_names in (found.imports if found else ()) if room == "specs"
+                     for it in within(other, its_file, {it for it in its_names if it == "*" or it in words}))
 
 
 def reach_of(texts: Iterable[str]) -> set[Definition]:
@@ -170,7 +244,7 @@ def reach_of(texts: Iterable[str]) -> set[Definition]:
             if room == "specs":
                 new |= within(crate, file, names)
             else:
-                new |= cited_by(crate, file)
+                new |= cited_by(crate, file, frozenset(names))
     while new:
         found |= new
         new = {it for one in new for it in next_to(one)} - found
@@ -178,11 +252,20 @@ def reach_of(texts: Iterable[str]) -> set[Definition]:
 
 
 @cache
-def basis_of(crate: str) -> tuple:
+def basis_of(crate: str) -> tuple[tuple[str, ...], ...]:
     """All that the proofs of a crate can rest on in the crates below it."""
     own = TOP / "crates" / crate
-    code = [it for name in sorted(below(crate) - {crate}) for it in sorted((TOP / "crates" / name).glob("src/**/*.rt"))]
+    files = [it for name in below(crate) - {crate} for it in (TOP / "crates" / name).glob("src/**/*.rt")]
+    items = {it for file in files for it in items_of(file)}
     texts = [it.read_text() for it in sorted([*own.glob("src/**/*.rt"), *own.glob("*s/**/*.antt")])]
-    reached = reach_of([*texts, *map(surface, code)])
-    return (tuple((str(it.relative_to(TOP)), surface(it)) for it in code if surface(it)),
-            tuple(sorted((*it, read(it.crate, "specs", it.file).texts[it.name]) for it in reached if it.crate != crate)))
+    words = {word for text in texts for word in words_of(text)}
+    named: set[Item] = set()
+    reached: set[Definition] = set()
+    while True:
+        more = named_by(words, items)
+        further = reach_of([*texts, *(it.text for it in more)])
+        if more == named and further == reached:
+            break
+        named, reached = more, further
+        words |= {word for it in reached for word in words_of(text_of(it))}
+    return (*sorted(named), *sorted((*it, text_of(it)) for it in reached if it.crate != crate))
