@@ -7,25 +7,9 @@ ghost use Rattle.plan_tables.specs.NamesKept.{names_kept};
 
 use crate::table::Table;
 use indexmap::IndexSet;
-use std::hash::{BuildHasher, FoldHasher};
 
-/// Makes the hashers of names. They start in a state that comes from all names of the rows. So no
-/// hash is known before all names are chosen, and another name changes every hash.
-#[derive(Clone, Copy)]
-pub struct NameHashing {
-    /// The state in which each hasher starts.
-    pub start: FoldHasher,
-}
-
-impl BuildHasher for NameHashing {
-    type Hasher = FoldHasher;
-
-    ghost build_hasher = { λ hashing. hashing.start };
-
-    fn build_hasher(&self) -> FoldHasher {
-        self.start
-    }
-}
+/// Makes the hashers of names, by all names of the rows.
+pub use yaml_bytes::SeededHashing as NameHashing;
 
 /// Names at their numbers.
 pub type NameSet = IndexSet<Vec<u8>, NameHashing>;

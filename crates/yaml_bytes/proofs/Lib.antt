@@ -5,3 +5,4 @@ pub mod PlainTexts
 pub mod Spaces
 pub mod WrittenNumbers
 pub mod TextLines
+pub mod Searching

@@ -10,7 +10,7 @@ use Rattle.std.proofs.lemmas.Fmt.{IsAscii-from_digits}
 use Rattle.std.proofs.lemmas.Option.{cond_some, none-some, same_Some}
 use Rattle.std.proofs.lemmas.Str.{IsUtf8-from_ascii}
 use Rattle.std.proofs.lemmas.Str.Parse.{IsNumeralModel, numerals_by_weight, parse_digits}
-use Rattle.yaml_bytes.specs.Numbers.{value_of_digits, AreDigits, IsNumber, number_at}
+use Rattle.yaml_bytes.specs.Numbers.{value_of_digits, IsNumber, number_at}
 use Rattle.yaml_bytes.proofs.AllBytes.{Are-from_list_all, list_all-from_Are}
 
 -- ---- digits, as `parse` has them

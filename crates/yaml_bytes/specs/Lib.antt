@@ -5,3 +5,4 @@ pub mod Plain
 pub mod Lines
 pub mod Scanning
 pub mod Numbers
+pub mod Hashing

@@ -6,21 +6,14 @@ ghost use Rattle.std.specs.Str.Lines.{strip_carriage_return};
 ghost use Rattle.yaml_bytes.specs.Lines.{is_lf, cut_line, lines_of, lines_after};
 ghost use Rattle.yaml_bytes.specs.View.{option_slice};
 
+use memchr::memchr;
+
 // How many bytes come before the first LF.
 fn line_len(text: &[u8]) -> usize
     ensures within { result ≤ length text.now }
     ensures value { result ≡ position_or_len is_lf text.now }
 {
-    let mut len = 0;
-    let mut rest = text;
-    while let [b, after @ ..] = rest {
-        if *b == b'\n' {
-            break;
-        }
-        rest = after;
-        len += 1;
-    }
-    len
+    memchr(b'\n', text).unwrap_or(text.len())
 }
 
 // A line without the CR at its end.

@@ -16,7 +16,11 @@ use Rattle.std.proofs.lemmas.List.{map-append}
 use Rattle.std.proofs.lemmas.List.Elements.{Decides-contains}
 use Rattle.std.proofs.lemmas.Slice.Eq.{bytes_eq-Decides}
 use Rattle.std.proofs.lemmas.Map.Lookups.{exact_bytes}
+use Rattle.yaml_subset.specs.Flow.{keys_of}
 use Rattle.yaml_subset.specs.Keys.{is_among}
+use Rattle.yaml_subset.specs.View.{pair_view}
+use Rattle.yaml_subset.specs.declared.tree.Key.{Key}
+use Rattle.yaml_subset.specs.declared.tree.Tree.{Tree}
 
 nat_cmp-same : (x : ℕ) → nat_cmp x x ≡ Equal
 nat_cmp-same x = rw (le-ltb x x (omega arith), eq-eqb x x refl) refl
@@ -116,3 +120,10 @@ hashed_key-among keys v q = seen (list_any (λ k. bytes_eq v.items k.items) keys
         → is_among (map (λ k. k.items) (cond b keys (keys ++ v ∷ []))) q ≡ (bytes_eq v.items q || is_among (map (λ k. k.items) keys) q)
     seen true e = among-again (map (λ k. k.items) keys) v.items q (sym e)
     seen false e = ap (λ (ks : List (List ℕ)). is_among ks q) (map-append (λ k. k.items) keys (v ∷ [])) ∙ among-push (map (λ k. k.items) keys) v.items q
+
+-- ---- keys of pairs
+
+-- comparing a key with each of the keys of pairs
+pub among_pairs : (pairs : List (Key × Tree)) (key : List ℕ) → list_any (λ p. bytes_eq p.0.text.items key) pairs ≡ is_among (keys_of (map pair_view pairs)) key
+among_pairs [] key = refl
+among_pairs (p ∷ pairs) key = ap (λ b. bytes_eq p.0.text.items key || b) (among_pairs pairs key)

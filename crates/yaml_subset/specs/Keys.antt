@@ -1,5 +1,5 @@
 -- The keys of a mapping.
-use Rattle.std.specs.Prelude.{ℕ, Bool, List, map}
+use Rattle.std.specs.Prelude.{◌≡◌, ◌⊎◌, ℕ, Bool, List, [], map}
 use Rattle.std.specs.List.{list_any}
 use Rattle.std.specs.Str.{bytes_eq}
 use Rattle.std.specs.Global.{Vec}
@@ -12,3 +12,7 @@ is_among keys key = list_any (λ k. bytes_eq k key) keys
 -- the keys of a set that has copies of them
 abbrev pub copies_view : {S : Type 0} → HashSet (Vec ℕ) S → List (List ℕ)
 copies_view s = map (λ k. k.items) s.keys
+
+-- these copies are of no keys at all, or the same keys are among them as among the keys
+abbrev pub HasNoneOrAll : List (List ℕ) → List (List ℕ) → Type 0
+HasNoneOrAll copies keys = (copies ≡ []) ⊎ ((q : List ℕ) → is_among copies q ≡ is_among keys q)

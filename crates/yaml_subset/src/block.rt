@@ -1,8 +1,8 @@
 //! Blocks of lines.
 
-ghost use Rattle.std.specs.Prelude.{◌≡◌, ℕ, ◌≤◌, ◌||◌, List, [], ◌∷◌, length, drop, get_or, Option, Some, None, IfOk};
-ghost use Rattle.std.specs.Str.{bytes_eq};
-ghost use Rattle.yaml_subset.specs.Keys.{is_among, copies_view};
+ghost use Rattle.std.specs.Prelude.{◌≡◌, ℕ, ◌≤◌, List, [], ◌∷◌, ◌++◌, length, map, drop, get_or, Option, Some, None, IfOk};
+ghost use Rattle.yaml_subset.specs.Keys.{copies_view, HasNoneOrAll};
+ghost use Rattle.yaml_subset.specs.Flow.{keys_of};
 ghost use Rattle.yaml_subset.specs.Node.{scalar};
 ghost use Rattle.yaml_subset.specs.Reading.{hangs, chunks, groups_of, hanging_len, misplaced, closed_at, entry_value_at, pair_at, mapping_at, inner, sequence_item_at, sequence_at, tree_at};
 ghost use Rattle.yaml_subset.specs.Placed.{GivesOrHalts};
@@ -11,14 +11,14 @@ ghost use Rattle.yaml_subset.specs.Inside.{line_view, lines_view, node_option_vi
 
 use crate::entry::{Head, head_of, inline, key_of};
 use crate::fault::FaultKind;
-use crate::keys::{KeyHashing, KeySet, MAX_KEY, no_keys, take_copy};
+use crate::keys::{KeyHashing, KeySet, is_too_long, no_keys, take_next};
 use crate::line::Line;
 use crate::place::Halt;
 use crate::tree::{Key, Tree};
 use std::alloc::Global;
 use yaml_bytes::{
-    before_colon, begins_blank, begins_item, behind_blanks, behind_dash, behind_spaces, characters,
-    is_over, spaces_len,
+    before_colon, begins_blank, begins_item, behind_blanks, behind_dash, behind_spaces, is_over,
+    spaces_len,
 };
 
 // Whether a line hangs from an entry, or else from an item, at an indentation.
@@ -56,6 +56,16 @@ fn split_below<'a, 'b>(
     ensures parts { chunks (hangs entry indent) (lines_view lines.now) ≡ (lines_view result.0.now, groups_of (hangs entry indent) (lines_view result.1.now)) }
 {
     lines.split_at(hanging_len(entry, indent, lines))
+}
+
+// How many lines do not hang: so many entries or items come after the first.
+fn apart_count(entry: bool, indent: usize, lines: &[Line]) -> usize
+    ensures { result ≤ length lines.now }
+{
+    lines
+        .iter()
+        .filter(|line| !hangs(entry, indent, line))
+        .count()
 }
 
 // The line of a block at a place, where the first is given apart from the others.
@@ -123,7 +133,8 @@ fn value(
     }
 }
 
-// A line with the lines that hang from it, as the next pair of a mapping with these keys.
+// A line with the lines that hang from it, as the next pair of a mapping after these pairs. The set has
+// their keys, or none.
 #[cycle(block)]
 #[tactic(auto, unfolding(crate::specs::Reading::pair_at, crate::specs::Reading::pair_from))]
 fn pair(
@@ -133,11 +144,13 @@ fn pair(
     indent: usize,
     line: &Line,
     below: &[Line],
+    pairs: &[(Key, Tree)],
     keys: &mut KeySet,
     levels: u8,
 ) -> Result<(Key, Tree), Halt>
-    ensures value { GivesOrHalts pair_view result (pair_at 8 (tree_at levels 8) around indent (copies_view keys.old) (record { head = line_view line.now; below = lines_view below.now })) }
-    ensures known { IfOk result (λ pair. (q : List ℕ) → is_among (copies_view keys.new) q ≡ (bytes_eq (pair_view pair).key q || is_among (copies_view keys.old) q)) }
+    requires { HasNoneOrAll (copies_view keys.old) (keys_of (map pair_view pairs.now)) }
+    ensures value { GivesOrHalts pair_view result (pair_at 8 (tree_at levels 8) around indent (keys_of (map pair_view pairs.now)) (record { head = line_view line.now; below = lines_view below.now })) }
+    ensures known { IfOk result (λ pair. HasNoneOrAll (copies_view keys.new) (keys_of (map pair_view pairs.now) ++ (pair_view pair).key ∷ [])) }
 {
     let number = line.number;
     if line.indent != indent {
@@ -147,11 +160,11 @@ fn pair(
         Some(found) => found,
         None => return Err(line.fault(FaultKind::NotInSubset)),
     };
-    let fresh = take_copy(alloc, keys, &key)?;
+    let fresh = take_next(alloc, keys, pairs, &key)?;
     if !fresh {
         return Err(line.fault(FaultKind::DuplicateKey));
     }
-    if characters(before_colon(line.text(), after)) > MAX_KEY {
+    if is_too_long(before_colon(line.text(), after)) {
         return Err(Halt::at(FaultKind::NotInSubset, number, after.len() + 1));
     }
     let inline = inline(alloc, hashing, number, after)?;
@@ -180,13 +193,13 @@ fn mapping<'a>(
 {
     let indent = first.indent;
     let mut keys = no_keys(alloc, hashing);
-    let mut pairs = Vec::with_capacity(alloc, 1)?;
+    let mut pairs = Vec::with_capacity(alloc, 1 + apart_count(true, indent, others))?;
     let mut at = 0;
     while at <= others.len() {
         let line = line_at(first, others, at);
         let (below, _) = split_below(true, indent, &others[at..]);
         let next = pair(
-            alloc, hashing, around, indent, &line, below, &mut keys, levels,
+            alloc, hashing, around, indent, &line, below, &pairs, &mut keys, levels,
         )?;
         pairs.push(next)?;
         at += 1 + below.len();
@@ -267,7 +280,7 @@ fn sequence<'a>(
     ensures { GivesOrHalts node_view result (sequence_at 8 (tree_at levels 8) around (line_view first.now) (lines_view others.now)) }
 {
     let indent = first.indent;
-    let mut items = Vec::new(alloc);
+    let mut items = Vec::with_capacity(alloc, 1 + apart_count(false, indent, others))?;
     let mut at = 0;
     while at <= others.len() {
         let line = line_at(first, others, at);

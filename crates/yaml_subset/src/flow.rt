@@ -1,21 +1,20 @@
 //! Lists in brackets and mappings in braces, on one line.
 
-ghost use Rattle.std.specs.Prelude.{◌≡◌, ◌||◌, ℕ, List, IfOk};
-ghost use Rattle.std.specs.Str.{bytes_eq};
-ghost use Rattle.yaml_subset.specs.Keys.{is_among, copies_view};
+ghost use Rattle.std.specs.Prelude.{◌≡◌, [], ◌∷◌, ◌++◌, map, IfOk};
+ghost use Rattle.yaml_subset.specs.Keys.{copies_view, HasNoneOrAll};
 ghost use Rattle.yaml_subset.specs.Placed.{GivesOrHalts};
-ghost use Rattle.yaml_subset.specs.Flow.{begins_with, begins_colon, begins_bracket, is_ended, start_at, unexpected, behind_close_at, parted_at, behind_colon_at, flow_pair_at, flow_list_at, flow_mapping_at, bracketed_at, flow_value_at, flow_at};
+ghost use Rattle.yaml_subset.specs.Flow.{keys_of, begins_with, begins_colon, begins_bracket, is_ended, start_at, unexpected, behind_close_at, parted_at, behind_colon_at, flow_pair_at, flow_list_at, flow_mapping_at, bracketed_at, flow_value_at, flow_at};
 ghost use Rattle.yaml_subset.specs.View.{pair_view};
 ghost use Rattle.yaml_bytes.specs.View.{rest_view};
 ghost use Rattle.yaml_subset.specs.Inside.{flow_view, flow_pair_view};
 
 use crate::fault::FaultKind;
-use crate::keys::{KeyHashing, KeySet, MAX_KEY, no_keys, take_copy};
+use crate::keys::{KeyHashing, KeySet, is_too_long, no_keys, take_next};
 use crate::place::{Halt, PlacedFault};
 use crate::tree::{Key, Tree};
 use crate::words::word;
 use std::alloc::Global;
-use yaml_bytes::{begins_blank, begins_gap, behind_blanks, characters};
+use yaml_bytes::{begins_blank, begins_gap, behind_blanks};
 
 // Whether a byte comes first.
 fn begins_with(byte: u8, text: &[u8]) -> bool
@@ -144,7 +143,7 @@ fn value(
     Ok((Tree::Scalar(number, text), rest))
 }
 
-// The pair at the front, in a mapping with these keys before it.
+// The pair at the front, in a mapping with these pairs before it. The set has their keys, or none.
 #[cycle(flow)]
 #[tactic(auto, unfolding(crate::specs::Flow::flow_pair_at))]
 fn pair<'a>(
@@ -152,19 +151,21 @@ fn pair<'a>(
     hashing: KeyHashing,
     levels: u8,
     number: u32,
+    pairs: &[(Key, Tree)],
     keys: &mut KeySet,
     text: &'a [u8],
 ) -> Result<((Key, Tree), &'a [u8]), Halt>
-    ensures value { GivesOrHalts flow_pair_view result (flow_pair_at number (flow_value_at number (flow_at levels number)) (copies_view keys.old) text.now) }
-    ensures known { IfOk result (λ r. (q : List ℕ) → is_among (copies_view keys.new) q ≡ (bytes_eq (pair_view r.0).key q || is_among (copies_view keys.old) q)) }
+    requires { HasNoneOrAll (copies_view keys.old) (keys_of (map pair_view pairs.now)) }
+    ensures value { GivesOrHalts flow_pair_view result (flow_pair_at number (flow_value_at number (flow_at levels number)) (keys_of (map pair_view pairs.now)) text.now) }
+    ensures known { IfOk result (λ r. HasNoneOrAll (copies_view keys.new) (keys_of (map pair_view pairs.now) ++ (pair_view r.0).key ∷ [])) }
 {
     let (key, colon) = word(alloc, number, true, text)?;
     let after = behind_colon(number, colon)?;
-    let fresh = take_copy(alloc, keys, &key)?;
+    let fresh = take_next(alloc, keys, pairs, &key)?;
     if !fresh {
         return Err(Halt::at(FaultKind::DuplicateKey, number, text.len()));
     }
-    if characters(&text[..text.len() - colon.len()]) > MAX_KEY {
+    if is_too_long(&text[..text.len() - colon.len()]) {
         return Err(Halt::at(FaultKind::NotInSubset, number, colon.len()));
     }
     let (value, rest) = value(alloc, hashing, levels, number, start(number, after)?)?;
@@ -225,7 +226,7 @@ fn mapping(
     let mut text = start(number, after)?;
     let mut pairs = Vec::with_capacity(alloc, least_pairs(text))?;
     while !begins_with(b'}', text) {
-        let (next, rest) = pair(alloc, hashing, levels, number, &mut keys, text)?;
+        let (next, rest) = pair(alloc, hashing, levels, number, &pairs, &mut keys, text)?;
         pairs.push(next)?;
         text = parted(number, b'}', rest)?;
     }

@@ -1,43 +1,32 @@
 //! The keys of a mapping, of which each is taken once.
 
-ghost use Rattle.std.specs.Prelude.{◌≡◌, ◌||◌, ℕ, List, [], not, IfOk};
+ghost use Rattle.std.specs.Prelude.{◌≡◌, ◌||◌, ℕ, List, [], ◌∷◌, ◌++◌, map, nat_lt, not, IfOk};
 ghost use Rattle.std.specs.Str.{bytes_eq};
-ghost use Rattle.yaml_subset.specs.Keys.{is_among, copies_view};
+ghost use Rattle.yaml_bytes.specs.Bytes.{characters};
+ghost use Rattle.yaml_subset.specs.Keys.{is_among, copies_view, HasNoneOrAll};
+ghost use Rattle.yaml_subset.specs.Flow.{keys_of};
+ghost use Rattle.yaml_subset.specs.View.{pair_view};
 
+use crate::tree::{Key, Tree};
 use indexmap::IndexSet;
 use std::alloc::{AllocError, Global};
-use std::hash::{BuildHasher, DefaultHasher, FoldHasher, Hasher};
+use yaml_bytes::characters;
+
+/// Makes the hashers of keys, by the text that the keys are parts of.
+pub use yaml_bytes::SeededHashing as KeyHashing;
 
 /// How many characters of a line may come before the colon of a key.
-pub const MAX_KEY: usize = 1024;
+const MAX_KEY: usize = 1024;
 
-/// Makes the hashers of keys. They start in a state that comes from a whole text. So no hash is known
-/// before all keys of the text are chosen, and another key changes every hash.
-#[derive(Clone, Copy)]
-pub struct KeyHashing {
-    /// The state in which each hasher starts.
-    pub start: FoldHasher,
-}
+/// How many keys of a mapping are compared one by one, before a set takes copies of them.
+const FEW_KEYS: usize = 16;
 
-impl BuildHasher for KeyHashing {
-    type Hasher = FoldHasher;
-
-    ghost build_hasher = { λ hashing. hashing.start };
-
-    fn build_hasher(&self) -> FoldHasher {
-        self.start
-    }
-}
-
-impl KeyHashing {
-    /// Hashing by a text, whose SipHash is the first thing that is hashed.
-    pub fn of(text: &[u8]) -> Self {
-        let mut all = DefaultHasher::new();
-        all.write(text);
-        let mut start = FoldHasher::default();
-        start.write_u64(all.finish());
-        KeyHashing { start }
-    }
+/// Whether more characters come before the colon of a key than may come there.
+pub(crate) fn is_too_long(front: &[u8]) -> bool
+    ensures { result ≡ nat_lt 1024 (characters front.now) }
+{
+    // Characters are counted only where there are so many bytes.
+    front.len() > MAX_KEY && characters(front) > MAX_KEY
 }
 
 /// Copies of keys.
@@ -59,12 +48,53 @@ pub fn take_key(keys: &mut KeySet, key: Vec<u8>) -> Result<bool, AllocError>
     Ok(fresh)
 }
 
-/// Takes a copy of a key, and says whether it is new. Where memory runs out it may be taken or not.
-pub fn take_copy(alloc: Global, keys: &mut KeySet, key: &[u8]) -> Result<bool, AllocError>
+// Takes a copy of a key, and says whether it is new. Where memory runs out it may be taken or not.
+fn take_copy(alloc: Global, keys: &mut KeySet, key: &[u8]) -> Result<bool, AllocError>
     ensures fresh { IfOk result (λ fresh. fresh ≡ not (is_among (copies_view keys.old) key.now)) }
     ensures known { IfOk result (λ fresh. (q : List ℕ) → is_among (copies_view keys.new) q ≡ (bytes_eq key.now q || is_among (copies_view keys.old) q)) }
 {
     let copy = Vec::from_slice(alloc, key)?;
     let is_new = take_key(keys, copy)?;
     Ok(is_new)
+}
+
+// Takes copies of the keys of pairs.
+fn take_all(alloc: Global, keys: &mut KeySet, pairs: &[(Key, Tree)]) -> Result<(), AllocError>
+    ensures { IfOk result (λ _. (q : List ℕ) → is_among (copies_view keys.new) q ≡ (is_among (copies_view keys.old) q || is_among (keys_of (map pair_view pairs.now)) q)) }
+{
+    let mut rest = pairs;
+    while let [(key, _), after @ ..] = rest {
+        take_copy(alloc, keys, &key.text)?;
+        rest = after;
+    }
+    Ok(())
+}
+
+// Whether a key is one of those of pairs.
+fn has_key(pairs: &[(Key, Tree)], key: &[u8]) -> bool
+    ensures { result ≡ is_among (keys_of (map pair_view pairs.now)) key.now }
+{
+    pairs.iter().any(|(known, _)| known.text.as_slice() == key)
+}
+
+/// Takes a key that comes after pairs, and says whether it is none of their keys. The set has copies
+/// of their keys, or still none, as where they are few: then keys are compared one by one. Where
+/// memory runs out it may have any of them.
+pub(crate) fn take_next(
+    alloc: Global,
+    keys: &mut KeySet,
+    pairs: &[(Key, Tree)],
+    key: &[u8],
+) -> Result<bool, AllocError>
+    requires { HasNoneOrAll (copies_view keys.old) (keys_of (map pair_view pairs.now)) }
+    ensures fresh { IfOk result (λ fresh. fresh ≡ not (is_among (keys_of (map pair_view pairs.now)) key.now)) }
+    ensures known { IfOk result (λ fresh. HasNoneOrAll (copies_view keys.new) (keys_of (map pair_view pairs.now) ++ key.now ∷ [])) }
+{
+    if keys.is_empty() {
+        if pairs.len() < FEW_KEYS {
+            return Ok(!has_key(pairs, key));
+        }
+        take_all(alloc, keys, pairs)?;
+    }
+    take_copy(alloc, keys, key)
 }

@@ -49,14 +49,21 @@ fn forbidden_left(text: &str) -> usize
 fn is_plain_byte(b: u8) -> bool
     ensures { result ≡ is_plain_byte b }
 {
-    (b >= b' ' && b <= b'~') || b == b'\t'
+    ((b >= b' ') & (b <= b'~')) | (b == b'\t')
 }
 
-// Whether a line has no other bytes than these, as nearly all lines have.
+// Whether a line has no other bytes than these, as nearly all lines have. So all bytes are looked at,
+// which is quicker than to stop at the first other one.
 fn is_plain(raw: &[u8]) -> bool
     ensures { result ≡ list_all is_plain_byte raw.now }
 {
-    raw.iter().all(|b| is_plain_byte(*b))
+    let mut plain = true;
+    let mut rest = raw;
+    while let [b, after @ ..] = rest {
+        plain &= is_plain_byte(*b);
+        rest = after;
+    }
+    plain
 }
 
 // The first character of a line that none may have, or its first bytes that are not UTF-8.

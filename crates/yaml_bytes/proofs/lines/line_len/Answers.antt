@@ -1,15 +1,7 @@
-use Rattle.std.proofs.Common.{rules, arith}
-use Rattle.std.proofs.lemmas.Grind.{common_steps}
+use Rattle.std.proofs.Common.{◌∙◌}
+use Rattle.yaml_bytes.specs.Lines.{is_lf}
+use Rattle.yaml_bytes.proofs.Searching.{len_before}
 use Rattle.yaml_bytes.proofs.lines.line_len.Goals as goal
 
-pub returns-in_default-clause-within : goal.returns-in_default-clause-within
-returns-in_default-clause-within c = search rules
-
-pub returns-in_default-clause-value : goal.returns-in_default-clause-value
-returns-in_default-clause-value c = grind (arith, common_steps)
-
-pub returns-then-b-eq10-clause-within : goal.returns-then-b-eq10-clause-within
-returns-then-b-eq10-clause-within c = search rules
-
-pub returns-then-b-eq10-clause-value : goal.returns-then-b-eq10-clause-value
-returns-then-b-eq10-clause-value c = search rules
+pub returns-clause-value : goal.returns-clause-value
+returns-clause-value c = c.unwrap_or.ensures ∙ len_before is_lf c.args.text.now c.memchr.result c.memchr.ensures

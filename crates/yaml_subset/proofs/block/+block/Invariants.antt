@@ -1,6 +1,7 @@
 use Rattle.std.proofs.Common.{◌≡◌, ◌+◌, ◌*◌, ◌-◌, ◌∷◌, drop, length, map, true, false, []}
 use Rattle.yaml_subset.specs.Reading.{tree_at, hangs, pairs_at, sequence_items_at, groups_of}
-use Rattle.yaml_subset.specs.Keys.{copies_view}
+use Rattle.yaml_subset.specs.Keys.{copies_view, HasNoneOrAll}
+use Rattle.yaml_subset.specs.Flow.{keys_of}
 use Rattle.yaml_subset.specs.View.{node_view, pair_view}
 use Rattle.yaml_subset.specs.Inside.{lines_view}
 use Rattle.yaml_subset.proofs.Groups.{with_front}
@@ -25,9 +26,11 @@ abbrev pub decreases-sequence : goal.decreases-sequence
 decreases-sequence l = 4 * l.levels + 3
 
 abbrev pub invariant-mapping-loop-at : goal.invariant-mapping-loop-at
-invariant-mapping-loop-at l =
-    with_front (map pair_view l.pairs.items) (pairs_at 8 (tree_at l.levels 8) l.around l.indent (copies_view l.keys) (groups_of (hangs true l.indent) (lines_view (drop l.at (l.first ∷ l.others)))))
-    ≡ pairs_at 8 (tree_at l.levels 8) l.around l.indent [] (groups_of (hangs true l.indent) (lines_view (l.first ∷ l.others)))
+invariant-mapping-loop-at l = record {
+  known : HasNoneOrAll (copies_view l.keys) (keys_of (map pair_view l.pairs.items));
+  so_far : with_front (map pair_view l.pairs.items) (pairs_at 8 (tree_at l.levels 8) l.around l.indent (keys_of (map pair_view l.pairs.items)) (groups_of (hangs true l.indent) (lines_view (drop l.at (l.first ∷ l.others)))))
+      ≡ pairs_at 8 (tree_at l.levels 8) l.around l.indent [] (groups_of (hangs true l.indent) (lines_view (l.first ∷ l.others)));
+}
 
 abbrev pub decreases-mapping-loop-at : goal.decreases-mapping-loop-at
 decreases-mapping-loop-at l = length l.others + 1 - l.at

@@ -1,17 +1,14 @@
-use Rattle.std.proofs.Common.{◌≡◌, ◌||◌, ℕ, ◌<◌, List, [], ◌∷◌, ◌++◌, length, map, Result, Ok, refl, sym, ap, ◌∙◌, arith}
-use Rattle.std.specs.Str.{bytes_eq}
+use Rattle.std.proofs.Common.{◌≡◌, ℕ, ◌<◌, List, [], ◌∷◌, ◌++◌, length, map, Result, Ok, refl, sym, inl, ◌∙◌, arith}
 use Rattle.std.proofs.lemmas.Result.{err_from_is_err_and}
 use Rattle.std.proofs.lemmas.List.{map_push}
 use Rattle.yaml_subset.specs.declared.place.PlacedFault.{PlacedFault}
-use Rattle.yaml_subset.specs.Keys.{is_among, copies_view}
 use Rattle.yaml_subset.specs.Node.{Node, Pair, sequence, mapping, nodes_of, pairs_of}
 use Rattle.yaml_subset.specs.Flow.{keys_of, between_at, flow_pair_at, flow_list_at, flow_mapping_at, flow_value_at, flow_at}
 use Rattle.yaml_subset.specs.View.{node_view, pair_view}
 use Rattle.yaml_subset.proofs.Views.{node_view-List, node_view-Map}
-use Rattle.yaml_subset.proofs.KeySets.{among-push}
 use Rattle.yaml_subset.proofs.FlowParts.{parted_less}
 use Rattle.yaml_subset.proofs.FlowWords.{word_less}
-use Rattle.yaml_subset.proofs.FlowReads.{pair_same, value_less, pair_less}
+use Rattle.yaml_subset.proofs.FlowReads.{value_less, pair_less}
 use Rattle.yaml_subset.proofs.Groups.{fails_then}
 use Rattle.yaml_subset.proofs.FlowLoops.{begun, begin_fails, closed, close_fails, part_fails, parted_fails, goes_on}
 use Rattle.yaml_subset.proofs.flow.+flow.Goals as goal
@@ -120,7 +117,7 @@ mapping-returns-in_err-text t c =
 
 pub mapping-loop-alloc-init : goal.mapping-loop-alloc-init
 mapping-loop-alloc-init t c = record {
-  known = λ q. rw (c.no_keys-keys.ensures, c.in_ok-pairs.ensures.items) refl;
+  known = inl c.no_keys-keys.ensures;
   so_far = rw c.in_ok-pairs.ensures.items (begun c.args.number 125 (pair_in c.args.levels c.args.number) c.args.after.now c.in_ok-text.text.now c.in_ok-text.ensures);
 }
 
@@ -135,8 +132,7 @@ mapping-returns-in_err-next t c =
     let text = c.loop-alloc.text.now in
     let e = c.in_err-next.field-0.0 in
     let more = sym c.begins_with.ensures ∙ c.loop-alloc-test.true in
-    let same = pair_same n (value_in c.args.levels n) (copies_view c.loop-alloc.keys) (keys_of pairs) text c.loop-alloc.invariant.known in
-    let d = part_fails c.args.number 125 part total pairs text c.loop-alloc.invariant.so_far more e (rw same at c.in_err-next.ensures.value) in
+    let d = part_fails c.args.number 125 part total pairs text c.loop-alloc.invariant.so_far more e (rw c.deref.ensures.value at c.in_err-next.ensures.value) in
     rw (p.1, p.2) (fails_then e total (mapping_of n) d)
 
 pub mapping-returns-in_err-text-2 : goal.mapping-returns-in_err-text-2
@@ -150,8 +146,7 @@ mapping-returns-in_err-text-2 t c =
     let text = c.loop-alloc.text.now in
     let e = c.in_err-text-2.field-0.0 in
     let more = sym c.begins_with.ensures ∙ c.loop-alloc-test.true in
-    let same = pair_same n (value_in c.args.levels n) (copies_view c.loop-alloc.keys) (keys_of pairs) text c.loop-alloc.invariant.known in
-    let d = parted_fails c.args.number 125 part total pairs text c.loop-alloc.invariant.so_far more (pair_view c.in_ok-next.next) c.in_ok-next.rest.now (sym same ∙ c.in_ok-next.ensures.value) e c.in_err-text-2.ensures in
+    let d = parted_fails c.args.number 125 part total pairs text c.loop-alloc.invariant.so_far more (pair_view c.in_ok-next.next) c.in_ok-next.rest.now (rw c.deref.ensures.value at c.in_ok-next.ensures.value) e c.in_err-text-2.ensures in
     rw (p.1, p.2) (fails_then e total (mapping_of n) d)
 
 pub mapping-loop-alloc-smaller : goal.mapping-loop-alloc-smaller
@@ -159,8 +154,7 @@ mapping-loop-alloc-smaller t c =
     let n = c.args.number in
     let pairs = map pair_view c.loop-alloc.pairs.items in
     let text = c.loop-alloc.text.now in
-    let same = pair_same n (value_in c.args.levels n) (copies_view c.loop-alloc.keys) (keys_of pairs) text c.loop-alloc.invariant.known in
-    let one = pair_less c.args.levels n pairs text (pair_view c.in_ok-next.next) c.in_ok-next.rest.now (sym same ∙ c.in_ok-next.ensures.value) in
+    let one = pair_less c.args.levels n pairs text (pair_view c.in_ok-next.next) c.in_ok-next.rest.now (rw c.deref.ensures.value at c.in_ok-next.ensures.value) in
     let two = parted_less c.args.number 125 c.in_ok-next.rest.now c.in_ok-text-2.text.now c.in_ok-text-2.ensures in
     omega (arith, one, two)
 
@@ -175,16 +169,11 @@ mapping-loop-alloc-preserved t c =
     let next = c.in_ok-text-2.text.now in
     let e : map pair_view c.push.new.self.items ≡ pairs ++ p ∷ [] = rw c.in_ok-push.ensures.items (map_push pair_view c.loop-alloc.pairs.items c.in_ok-next.next) in
     let more = sym c.begins_with.ensures ∙ c.loop-alloc-test.true in
-    let same = pair_same n (value_in c.args.levels n) (copies_view c.loop-alloc.keys) (keys_of pairs) text c.loop-alloc.invariant.known in
-    let read = sym same ∙ c.in_ok-next.ensures.value in
+    let read = rw c.deref.ensures.value at c.in_ok-next.ensures.value in
+    let keys : keys_of (pairs ++ p ∷ []) ≡ keys_of pairs ++ p.key ∷ [] = map_push (λ (r : Pair). r.key) pairs p in
     let less : length next < length text = omega (arith, pair_less c.args.levels n pairs text p rest read, parted_less c.args.number 125 rest next c.in_ok-text-2.ensures) in
     record {
-      known = λ q.
-          c.in_ok-next.ensures.known q
-          ∙ ap (λ b. bytes_eq p.key q || b) (c.loop-alloc.invariant.known q)
-          ∙ sym (among-push (keys_of pairs) p.key q)
-          ∙ ap (λ keys. is_among keys q) (sym (map_push (λ (r : Pair). r.key) pairs p))
-          ∙ ap (λ ps. is_among (keys_of ps) q) (sym e);
+      known = rw (e, keys) (rw c.deref.ensures.value at c.in_ok-next.ensures.known);
       so_far = rw e (goes_on c.args.number 125 part (between_at c.args.number 125 part c.args.after.now) pairs text c.loop-alloc.invariant.so_far more p rest read next c.in_ok-text-2.ensures less);
     }
 
@@ -210,5 +199,5 @@ mapping-returns t c =
 
 -- ---- pairs
 
-pub pair-slice_bounds-characters-count : goal.pair-slice_bounds-characters-count
-pair-slice_bounds-characters-count t c = word_less c.args.number c.args.text.now c.in_ok-key.key.items c.in_ok-key.colon.now c.in_ok-key.ensures
+pub pair-slice_bounds-is_too_long-count : goal.pair-slice_bounds-is_too_long-count
+pair-slice_bounds-is_too_long-count t c = word_less c.args.number c.args.text.now c.in_ok-key.key.items c.in_ok-key.colon.now c.in_ok-key.ensures

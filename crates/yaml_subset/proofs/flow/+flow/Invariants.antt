@@ -1,5 +1,5 @@
-use Rattle.std.proofs.Common.{◌≡◌, ◌+◌, ◌*◌, ℕ, List, map, length}
-use Rattle.yaml_subset.specs.Keys.{is_among, copies_view}
+use Rattle.std.proofs.Common.{◌+◌, ◌*◌, map, length}
+use Rattle.yaml_subset.specs.Keys.{copies_view, HasNoneOrAll}
 use Rattle.yaml_subset.specs.Flow.{keys_of, between_at, flow_pair_at, flow_value_at, flow_at}
 use Rattle.yaml_subset.specs.View.{node_view, pair_view}
 use Rattle.yaml_subset.proofs.FlowLoops.{IsSoFar}
@@ -29,7 +29,7 @@ decreases-list-loop-alloc l = length l.text
 
 abbrev pub invariant-mapping-loop-alloc : goal.invariant-mapping-loop-alloc
 invariant-mapping-loop-alloc l = record {
-  known : (q : List ℕ) → is_among (copies_view l.keys) q ≡ is_among (keys_of (map pair_view l.pairs.items)) q;
+  known : HasNoneOrAll (copies_view l.keys) (keys_of (map pair_view l.pairs.items));
   so_far : (IsSoFar l.number) 125 (λ before. flow_pair_at l.number (flow_value_at l.number (flow_at l.levels l.number)) (keys_of before))
       (between_at l.number 125 (λ before. flow_pair_at l.number (flow_value_at l.number (flow_at l.levels l.number)) (keys_of before)) l.after)
       (map pair_view l.pairs.items) l.text;
