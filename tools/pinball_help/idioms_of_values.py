@@ -236,12 +236,7 @@ IDIOMS = (
         ("value", "3"), "game:\n  balls_per_game: settings.balls_per_game",
     ),
     Idiom(
-        "mode", "use_wait_queue", ANY,
-        "No event waits for a mode here.", "Take it out.",
-        ("out",), "mode:\n  use_wait_queue: yes",
-    ),
-    Idiom(
-        "mode", "game_mode|stop_on_ball_end", r"^[01]$",
+        "mode", "game_mode|stop_on_ball_end|use_wait_queue", r"^[01]$",
         "A boolean is a word.", "Write `yes` or `no`.",
         ("boolean",), "mode:\n  game_mode: 0",
     ),

@@ -267,6 +267,10 @@ class Maker:
         self.graph.bind_list(
             setting(settings, "stop_events"), Cost(0, [f"{name}_stopping"]), f"stop_events of {mode}", text
         )
+        if says_yes(settings, "use_wait_queue", False):
+            if self.has("game"):
+                self.graph.bind(f"{name}_stopped", Cost(0, ["ball_ended"]), "the end of the ball may wait for the mode")
+            return
         for key, event in ("stop_on_ball_end", "ball_ending"), ("game_mode", "game_ending"):
             if says_yes(settings, key, True):
                 self.graph.bind(event, Cost(0, [f"{name}_stopping"]), f"the mode {mode} stops with it")

@@ -7,6 +7,7 @@ from .answers import Complaint
 from .idioms import OLDER_NAMES, RECIPES, RECIPES_OF_SECTIONS, SECTIONS, SECTIONS_RENAMED, SETTINGS
 from .idioms_of_values import ACTS_LATER, COUNTER, DELAY, ENTRY, IDIOMS, IN_VARIABLE, ONE_COMPARISON, ONLY_VARIABLES
 from .idioms_of_values import TWO_COMPARISONS, TWO_CONDITIONS, Idiom
+from .graph import says_yes, setting
 from .mending import add, blanks, block_end, give, line_of, rename, substitute, take_item_out, take_out
 from .near import nearest
 from .outline import Entry, Node, unquoted
@@ -268,6 +269,8 @@ def of_value(scene: Scenery, complaint: Complaint) -> Cure:
     entry = scene.entry_at(text, line, complaint.key)
     if complaint.key == "modes" and (entry is None or entry.key != "modes"):
         return of_mode_name(scene, text, line)
+    if complaint.key == "start_events" and (held := of_held_end(scene, text, line)):
+        return held
     if entry is None:
         return of_no_mapping(scene, text, line)
     if named := of_names(scene, text, entry):
@@ -301,6 +304,23 @@ def of_entry(scene: Scenery, text: str, entry: Entry) -> Cure:
         cure = cure_at(scene, text, entry, (f"`{bad[0].text}` is no name.", *says), way)
         return replace(cure, mark=(bad[0].start, bad[0].end)) if bad[0].line == entry.line else cure
     return cure_at(scene, text, entry, says, Way((), "Write a value that it takes, or leave it out."))
+
+
+def of_held_end(scene: Scenery, text: str, line: int) -> Cure | None:
+    """A mode that holds the end of the ball, and starts at something else or at nothing."""
+    mode = next((it for it in scene.outlines[text].entries or [] if it.key == "mode"), None)
+    wait, starts = (setting(mode, key) if mode else None for key in ("use_wait_queue", "start_events"))
+    if mode is None or wait is None or not says_yes(mode, "use_wait_queue", False):
+        return None
+    if line != (starts or mode).line or starts and bad_items(starts):
+        return None
+    out = (take_out(scene.texts, text, wait),)
+    right = "ball_ending"
+    edit = give(scene.texts, text, starts, right) if starts else add(scene.texts, text, mode, f"start_events: {right}")
+    says = ("With `use_wait_queue: yes` the end of the ball waits for the mode, so it starts at `ball_ending` alone.",)
+    way = Way((edit,), f"Write `start_events: {right}`; or take `use_wait_queue` out.")
+    marked = starts or mode
+    return Cure(says, True, (way, Way(out, way.write)), out, (marked.start, marked.end))
 
 
 def of_no_mapping(scene: Scenery, text: str, line: int) -> Cure:

@@ -135,8 +135,18 @@ def entries_of(key: Scalar, node: Node) -> list[Entry]:
     if section in PLAYERS:
         return [player_entry(section, name, value) for name, value in written]
     if section in ONE_ENTRY:
-        return [Entry(section, key, settings(written, SETTINGS[section], key.line, IGNORED))]
+        found = Entry(section, key, settings(written, SETTINGS[section], key.line, IGNORED))
+        if section == "mode" and not holds_well(found):
+            line = next((name.line for name, _ in written if name.text == "start_events"), key.line)
+            raise Fault(6, "BadValue", line, "start_events")
+        return [found]
     return [entry(section, name, value) for name, value in written]
+
+
+def holds_well(mode: Entry) -> bool:
+    """Whether a mode that holds the end of the ball starts at that alone."""
+    starts = {handled.event for handled in mode["start_events"]}
+    return not mode["use_wait_queue"] or starts == {"ball_ending"}
 
 
 class Reader:

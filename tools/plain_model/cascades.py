@@ -93,18 +93,21 @@ class Machine:
         # What the mode posts at its own events is further on than what starts and stops it.
         base = self.draw.randrange(len(self.names))
         starts, stops = ([name for name in self.names[: base + 1] if self.draw.random() < 0.3] for _ in range(2))
+        in_game, with_ball, holds = self.draw.random() < 0.5, self.draw.random() < 0.5, self.draw.random() < 0.1
+        if holds:
+            starts = ["ball_ending"]
         for name in starts:
             self.post(name, will_start)
         for name in stops:
             self.post(name, stopping)
-        in_game, with_ball = self.draw.random() < 0.5, self.draw.random() < 0.5
-        if in_game:
+        if in_game and not holds:
             self.post("game_ending", stopping)
-        if with_ball:
+        if with_ball and not holds:
             self.post("ball_ending", stopping)
         text = [f"@ modes/{mode}/config/{mode}.yaml", "#config_version=6", "mode:"]
         text += [f"  start_events: {' '.join(starts)}", f"  stop_events: {' '.join(stops)}"]
         text += [f"  game_mode: {'yes' if in_game else 'no'}", f"  stop_on_ball_end: {'yes' if with_ball else 'no'}"]
+        text += ["  use_wait_queue: yes"] if holds else []
         own = {event: self.some(base) for event in (starting, started, stopping, stopped) if self.draw.random() < 0.5}
         text += self.event_player(own)
         coils = self.coil_player([started])

@@ -97,6 +97,8 @@ class Costs:
             starts = total(self.act(row, ("started",)) for row in self.plan.rows if row.owner == mode)
             found |= {will_start: Cost(0, [starting]), starting: Cost(0, [started])}
             found |= {started: starts + Cost(0, [stopping]), stopping: Cost(len(self.enabled(mode)), [stopped])}
+            if self.plan.has_game and self.plan.modes[mode].only("mode")["use_wait_queue"]:
+                found[stopped] = Cost(0, ["ball_ended"])
         return found | self.game_works() if self.plan.has_game else found
 
     def enabled(self, mode: str) -> set[str]:

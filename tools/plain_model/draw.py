@@ -25,13 +25,15 @@ def pick(draw: random.Random, share: float) -> bool:
 
 @dataclass
 class Drawn:
-    """A drawn machine. `start` and `balls` are switches that a log should use, the latter by device."""
+    """A drawn machine. `start` and `balls` are switches that a log should use, the latter by device. `drains` are the
+    devices in which a ball ends."""
 
     texts: dict[str, Data] = field(default_factory=dict)
     order: list[str] = field(default_factory=list)  # of the texts in the bundle
     switches: dict[str, bool] = field(default_factory=dict)  # whether closed at rest
     start: str | None = None
     balls: dict[str, list[str]] = field(default_factory=dict)
+    drains: list[str] = field(default_factory=list)
     planted: list[str] = field(default_factory=list)
     versions: dict[str, str] = field(default_factory=dict)  # of texts that have an odd first line
     sizes: dict[str, int] = field(default_factory=dict)  # in bytes, of texts that a comment fills
@@ -415,6 +417,8 @@ class Drawing:
             section[name] = self.settle(entry)
             names.append(name)
             self.drawn.balls[name] = taken
+            if "drain" in tags:
+                self.drawn.drains.append(name)
             whats = "ball_enter ball_eject_attempt ejecting_ball ball_eject_success ball_eject_failed".split()
             self.add_events(*(f"balldevice_{name}_{what}" for what in whats))
 
@@ -439,6 +443,29 @@ class Drawing:
         if entry or self.chance(0.5):
             self.modes[name]["mode"] = self.settle(entry)
 
+    def holder(self) -> None:
+        """A mode that holds the end of the ball, up to the end of its timer, another event, or without end."""
+        name = self.name("h", "modes")
+        will_start, starting, started, stopping, stopped = (f"mode_{name}_{what}" for what in MODE_EVENTS)
+        timer = self.name("t", "timers")
+        ticks = [f"timer_{timer}_{what}" for what in ("started", "tick", "complete")]
+        # All this comes before the end of the ball, for which it leads to that end.
+        own = [will_start, starting, started, *ticks, stopping, stopped]
+        end = self.events.index("ball_ended") if "ball_ended" in self.events else len(self.events)
+        self.events[end:end] = own
+        self.reserved |= {*own} - {*ticks}
+        starts = ["ball_ending" + (self.condition() if self.chance(0.25) else "")]
+        if self.chance(0.2):
+            starts.append("ball_ending" + (self.condition() if self.chance(0.5) else ""))
+        entry: Data = {"start_events": Names(starts), "use_wait_queue": self.draw.choice(["yes", "yes", "true", "on"])}
+        stops = [ticks[-1]] * 4 + [will_start, starting, started, "ball_ending", *self.events[: self.near]]
+        entry["stop_events"] = Names(self.draw.choice(stops) for _ in range(self.draw.choice([0, 1, 1, 1, 2])))
+        self.optional(entry, 0.5, priority=lambda: str(self.draw.choice([0, 1, 100, 200])))
+        self.optional(entry, 0.3, game_mode=self.one("no", "yes"), stop_on_ball_end=self.one("no", "yes"))
+        timing = {"start_running": "yes", "end_value": str(self.draw.randint(1, 3))}
+        timing["tick_interval"] = self.draw.choice(TIMES[:4])
+        self.modes[name] = {"mode": self.settle(entry), "timers": {timer: self.settle(timing)}}
+
     # The whole
 
     def draw_all(self) -> Drawn:
@@ -452,6 +479,8 @@ class Drawing:
         self.ball_devices()
         if not self.drawn.balls and self.chance(0.95) or self.chance(0.4):
             self.section("machine", "machine")["min_balls"] = self.draw.choice(["0", "0", "0", "1"])
+        for _ in range(self.draw.choice([0, 0, 0, 1, 2]) if self.has_game or self.chance(0.1) else 0):
+            self.holder()
         whats = [self.mode, self.event_player, self.event_player, self.variable_player, self.coil_player, self.counter]
         whats += [lambda: self.steps("accruals"), lambda: self.steps("sequences"), self.timer, self.timer, self.timer]
         whats += [self.autofire, self.flipper, self.shot, self.shot, self.group, self.group, self.mode]

@@ -70,6 +70,18 @@ class Log:
             self.turn(switch, True)
         self.later(500, 600, 1_000)
 
+    def drain(self) -> None:
+        """A ball comes into a device in which a ball ends. If there is no room in it, one leaves it before."""
+        if not self.drawn.drains:
+            return
+        switches = self.drawn.balls[self.draw.choice(self.drawn.drains)]
+        free = [switch for switch in switches if not self.is_active(switch)]
+        if not free:
+            self.turn(switches[0], False)
+            self.later(500, 1_000)
+        self.turn(free[0] if free else switches[0], True)
+        self.later(500, 600, 1_000)
+
     def wait(self) -> None:
         self.later(*LONG, 11_000)
         self.write(self.now)
@@ -98,6 +110,7 @@ def log(draw: random.Random, drawn: Drawn) -> bytes:
         found.fill()
     found.begin()
     whats = [found.toggle] * 6 + [found.shoot] * 5 + [found.ball] * 3 + [found.wait, found.begin]
+    whats += draw.choice([[], [found.drain] * 3, [found.drain] * 8])
     whats += draw.choice([[], [found.refused, found.scenery]])
     for _ in range(draw.choice([0, 5, 15, 30, 60])):
         draw.choice(whats)()

@@ -47,6 +47,7 @@ class Machine:
         self.balls = [row for row in self.rows if isinstance(row, BallDevice)]
         self.phases = {mode: "Idle" for mode in plan.modes}
         self.kept: set[str] = set()
+        self.holders: set[str] = set()  # modes for which the end of the ball waits
         self.waiting: list[tuple[str, str]] = []  # owners and events, first posted first
         self.lines: list[str] = []
         self.seen: Counter[str] = Counter()
@@ -234,10 +235,12 @@ class Machine:
     # Modes
 
     def start(self, mode: str) -> None:
-        needs_game = self.plan.modes[mode].only("mode")["game_mode"]
-        if self.phases[mode] == "Idle" and not (needs_game and self.game_phase == "None"):
+        settings = self.plan.modes[mode].only("mode")
+        if self.phases[mode] == "Idle" and not (settings["game_mode"] and self.game_phase == "None"):
             self.phases[mode] = "Starting"
             self.post("machine", f"mode_{mode}_will_start")
+            if settings["use_wait_queue"]:
+                self.holders.add(mode)
 
     def stop(self, mode: str) -> None:
         if self.phases[mode] == "Active":
@@ -252,7 +255,7 @@ class Machine:
         elif what == "starting":
             self.post("machine", f"mode_{mode}_started")
         elif what == "started" and mode in self.kept:
-            self.seen["kept stop"] += 1
+            self.seen["kept stop of a holder" if mode in self.holders else "kept stop"] += 1
             self.kept.remove(mode)
             self.stop(mode)
         elif what == "stopping":
@@ -265,6 +268,15 @@ class Machine:
                     self.print(mode, coil.disable(self.now))
             self.phases[mode] = "Idle"
             self.post("machine", f"mode_{mode}_stopped")
+        elif what == "stopped" and mode in self.holders:
+            self.holders.remove(mode)
+            self.seen["a hold less" if self.holders else "the last hold"] += 1
+            self.end_ball()
+
+    def end_ball(self) -> None:
+        """The ball ends, unless a mode holds its end."""
+        if not self.holders:
+            self.post("machine", "ball_ended")
 
     # The game
 
@@ -296,6 +308,10 @@ class Machine:
             if self.in_play == 0:
                 self.game_phase = "Between"
                 self.post("machine", "ball_will_end")
+        elif event == "ball_ending":
+            if self.holders:
+                self.seen[f"ball held by {len(self.holders)}"] += 1
+            self.end_ball()
         elif event == "player_turn_ended":
             self.next_turn(player, game["balls_per_game"])
         elif event == "game_ended":
@@ -385,7 +401,6 @@ AFTER = {
     "player_turn_starting": ["player_turn_started"],
     "ball_will_start": ["ball_starting"],
     "ball_will_end": ["ball_ending"],
-    "ball_ending": ["ball_ended"],
     "ball_ended": ["player_turn_will_end"],
     "player_turn_will_end": ["player_turn_ending"],
     "player_turn_ending": ["player_turn_ended"],

@@ -118,6 +118,8 @@ class Plan:
             for handled in mode["start_events"]:
                 self.bind(handled, "machine", priority, ("start", part.owner))
             ends = ["ball_ending"] * mode["stop_on_ball_end"] + ["game_ending"] * mode["game_mode"]
+            if mode["use_wait_queue"]:
+                ends = []
             for handled in [*mode["stop_events"], *(Handled(event, None) for event in ends)]:
                 self.bind(handled, "machine", priority, ("stop", part.owner))
         for section, entries in part.sections.items():

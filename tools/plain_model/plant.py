@@ -305,7 +305,15 @@ class Planter:
             self.drawn.texts[MACHINE_TEXT]["modes"] = Names([*modes, *new])
 
     def wait_queue(self) -> None:
-        self.anywhere("mode", modes=True)["use_wait_queue"] = self.draw.choice(["yes", "no"])
+        """A mode that holds the end of the ball, or not, and that starts at other events too, or at none."""
+        mode = self.anywhere("mode", modes=True)
+        mode["use_wait_queue"] = self.draw.choice(["yes", "yes", "no"])
+        starts = [["ball_ending"], ["ball_ending", self.event()], [self.event()], ["ball_ended"], [], None]
+        chosen = self.draw.choice(starts)
+        if chosen is not None:
+            mode["start_events"] = Names(chosen)
+        elif self.chance(0.5):
+            mode.pop("start_events", None)
 
     def depth(self) -> None:
         """What is as deep as a text may be, or deeper; or a key as long as it may be, or longer."""

@@ -176,13 +176,6 @@ def control_events(node: Node) -> list[dict[str, Any]]:
     return [settings(mapping_of(item), CONTROL, item.line, []) for item in items_of(node)]
 
 
-def wait_queue(node: Node) -> bool:
-    """It may be written, but it is not there yet."""
-    if values.boolean(node):
-        raise BadValue
-    return False
-
-
 SETTINGS: dict[str, dict[str, Setting]] = {
     "machine": {"min_balls": Setting(values.integer(0, 99), 1)},
     "game": {
@@ -257,7 +250,7 @@ SETTINGS: dict[str, dict[str, Setting]] = {
         "priority": Setting(values.integer(0, 1_000_000), 100),
         "game_mode": YES,
         "stop_on_ball_end": YES,
-        "use_wait_queue": Setting(wait_queue, False),
+        "use_wait_queue": NO,
     },
     "timers": {
         "start_value": Setting(values.integer(), 0),

@@ -5,13 +5,13 @@ use Rattle.std.specs.List.{All, AllByRecursion, find}
 use Rattle.std.proofs.lemmas.Bool.{cases_lt, or_cases, eqb-true, false≢true}
 use Rattle.std.proofs.lemmas.List.Elements.{recursion_from_All, All-get_or, All-weaker, All-nil, All-cons, All-append, All-filter}
 use Rattle.std.proofs.lemmas.List.{get_or_past}
-use Rattle.plan_tables.specs.PlanView.{PlanSwitch, PlanView, feeders_of, feeds, first_trough, is_trough, game_event, no_mode, mode_at, mode_event, work_of, no_switch, switch_at, act_of_listener, listeners_of, actions_at, posts_of, bound_to, is_owner, list_of_row, row_at, row_numbers, rows_of}
+use Rattle.plan_tables.specs.PlanView.{PlanSwitch, PlanView, feeders_of, feeds, first_trough, may_hold_ball_end, is_trough, game_event, no_mode, mode_at, mode_event, work_of, no_switch, switch_at, act_of_listener, listeners_of, actions_at, posts_of, bound_to, is_owner, list_of_row, row_at, row_numbers, rows_of}
 use Rattle.plan_tables.specs.Devices.{list_count}
 use Rattle.plan_tables.specs.declared.entries.ModeId.{ModeId}
 use Rattle.plan_tables.specs.declared.entries.ModeEvent.{ModeEvent}
 use Rattle.plan_tables.specs.declared.entries.ModeEvent.TheVariants.{WillStart, Starting, Started, Stopping, Stopped}
 use Rattle.plan_tables.specs.declared.entries.GameEvent.{GameEvent}
-use Rattle.plan_tables.specs.declared.entries.GameEvent.TheVariants.{BallDrain}
+use Rattle.plan_tables.specs.declared.entries.GameEvent.TheVariants.{BallDrain, BallEnded}
 use Rattle.player_game.specs.Choices.{asks_for_ball, choices}
 use Rattle.plan_tables.specs.declared.entries.Work.{Work}
 use Rattle.plan_tables.specs.declared.entries.Work.TheVariants as works
@@ -107,14 +107,19 @@ module _ (plan : PlanView) (valid : HasEntries plan) where
       by Stopping h = h.stopping
       by Stopped h = h.stopped
 
-  -- so is that which the machine's work posts
+  -- so is the end of the ball, where it waits for a mode
+  IsBelow-end : (m : ModeId) → m.0 < length plan.modes → (holds : Bool) → IsBelow (length plan.events) (cost_if_led (if holds then Some (game_event plan BallEnded) else None))
+  IsBelow-end m there true = let some = mode_event-within m Stopped there in game_event-below plan valid (omega (arith, some)) BallEnded
+  IsBelow-end m there false = tt
+
+  -- and that which the machine's work posts
   IsBelow-led : (w : Work) (e : EventId) → IsWorkAt plan e w → IsBelow (length plan.events) (cost_if_led (led_by plan w))
   IsBelow-led works.Nothing e h = tt
   IsBelow-led (works.Mode m WillStart) e h = mode_event-within m Starting h.0
   IsBelow-led (works.Mode m Starting) e h = mode_event-within m Started h.0
   IsBelow-led (works.Mode m Started) e h = mode_event-within m Stopping h.0
   IsBelow-led (works.Mode m Stopping) e h = mode_event-within m Stopped h.0
-  IsBelow-led (works.Mode m Stopped) e h = tt
+  IsBelow-led (works.Mode m Stopped) e h = IsBelow-end m h.0 (may_hold_ball_end plan m)
   IsBelow-led (works.Game which) e h = tt
 
   -- the event of the game at which a ball drains

@@ -1,7 +1,7 @@
 -- What a thing costs: the lines that it prints and the weights of the events that it posts, added up or compared.
 use Rattle.std.specs.Prelude.{ℕ, ◌+◌, max, Bool, true, false, ◌&&◌, ◌||◌, ◌==◌, if◌then◌else◌, Option, None, Some, List, [], ◌∷◌, length, map}
 use Rattle.std.specs.List.{range_with_len}
-use Rattle.plan_tables.specs.PlanView.{PlanView, coils_enabled, act_of_listener, feeders_of, first_trough, listeners_of, posts_of, actions_at, bound_to, list_of_row, game_event, mode_event, row_at, row_numbers, rows_of, switch_at, work_of}
+use Rattle.plan_tables.specs.PlanView.{PlanView, coils_enabled, act_of_listener, feeders_of, first_trough, may_hold_ball_end, listeners_of, posts_of, actions_at, bound_to, list_of_row, game_event, mode_event, row_at, row_numbers, rows_of, switch_at, work_of}
 use Rattle.plan_tables.specs.declared.entries.EventId.{EventId}
 use Rattle.plan_tables.specs.declared.entries.SwitchId.{SwitchId}
 use Rattle.plan_tables.specs.declared.entries.ListId.{ListId}
@@ -10,11 +10,12 @@ use Rattle.plan_tables.specs.declared.entries.Action.{Action}
 use Rattle.plan_tables.specs.declared.entries.Action.TheVariants.{Post, Pulse, Enable, Disable, Change, Enter, Leave, Lose, Arrive}
 use Rattle.plan_tables.specs.declared.entries.Target.{Target}
 use Rattle.plan_tables.specs.declared.entries.Target.TheVariants.{Run, Start, Stop, Act}
+use Rattle.plan_tables.specs.declared.entries.ModeId.{ModeId}
 use Rattle.plan_tables.specs.declared.entries.ModeEvent.TheVariants.{WillStart, Starting, Started, Stopping, Stopped}
 use Rattle.plan_tables.specs.declared.entries.Work.{Work}
 use Rattle.plan_tables.specs.declared.entries.Work.TheVariants.{Nothing, Mode, Game}
 use Rattle.plan_tables.specs.declared.entries.GameEvent.{GameEvent}
-use Rattle.plan_tables.specs.declared.entries.GameEvent.TheVariants.{BallDrain}
+use Rattle.plan_tables.specs.declared.entries.GameEvent.TheVariants.{BallDrain, BallEnded}
 use Rattle.plan_tables.specs.declared.devices.Act.TheVariants.{Confirm, Request}
 use Rattle.plan_tables.specs.declared.devices.BallTarget.{BallTarget}
 use Rattle.plan_tables.specs.declared.devices.BallTarget.TheVariants.{Playfield, Device}
@@ -133,15 +134,19 @@ cost_of_target plan (Act r act) = cost_of_call plan r (calls.Act act)
 abbrev pub cost_of_binding : PlanView → Binding → Cost
 cost_of_binding plan b = cost_of_target plan b.target
 
+-- `ball_ended`, where the mode may have held the end of the ball
+abbrev pub led_by_stopped : PlanView → ModeId → Option EventId
+led_by_stopped plan m = if may_hold_ball_end plan m then Some (game_event plan BallEnded) else None
+
 -- The event that the machine itself posts as its work at an event, if it posts one. At `started` it is that of a stop
--- that was kept.
+-- that was kept. At `stopped` it is `ball_ended`, if the mode may hold the end of the ball.
 abbrev pub led_by : PlanView → Work → Option EventId
 led_by plan Nothing = None
 led_by plan (Mode m WillStart) = Some (mode_event plan m Starting)
 led_by plan (Mode m Starting) = Some (mode_event plan m Started)
 led_by plan (Mode m Started) = Some (mode_event plan m Stopping)
 led_by plan (Mode m Stopping) = Some (mode_event plan m Stopped)
-led_by plan (Mode m Stopped) = None
+led_by plan (Mode m Stopped) = led_by_stopped plan m
 led_by plan (Game which) = None
 
 abbrev pub cost_if_led : Option EventId → Cost

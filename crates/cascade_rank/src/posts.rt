@@ -18,7 +18,7 @@ ghost use Rattle.cascade_rank.specs.Cost.{each_of, dearest_of, cost_of_action_by
 ghost use Rattle.cascade_rank.specs.Mentions.{weights_in};
 
 use crate::confirms::{Confirms, Told, Untold};
-use crate::work::{game_event, led_by};
+use crate::work::led_by;
 use device_objects::{Call, outcomes};
 use plan_tables::{
     Act, Action, BallTarget, Binding, EventId, GameEvent, ModeEvent, ModeId, Plan, RowId, Target,
@@ -121,7 +121,7 @@ fn push_drain(posts: &mut Vec<EventId>, plan: &Plan, drain: bool) -> Result<(), 
     ensures { OnOk result (posts.new.items ≡ posts.old.items ++ weights_in (cost_of_drain plan.now drain)) }
 {
     if drain {
-        posts.push(game_event(plan, GameEvent::BallDrain))?;
+        posts.push(plan.game_event(GameEvent::BallDrain))?;
     }
     Ok(())
 }
@@ -266,7 +266,7 @@ fn push_choice(
     ensures { OnOk result (posts.new.items ≡ posts.old.items ++ weights_in (cost_of_choice plan.now choice.now)) }
 {
     for which in choice {
-        posts.push(game_event(plan, *which))?;
+        posts.push(plan.game_event(*which))?;
     }
     Ok(())
 }

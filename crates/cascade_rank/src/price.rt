@@ -25,7 +25,7 @@ ghost use Rattle.cascade_rank.specs.Cost.{price, each_of, dearest_of, cost_of_po
 
 use crate::confirms::{Confirms, Told, Untold};
 use crate::releases::count_enabled;
-use crate::work::{game_event, led_by};
+use crate::work::led_by;
 use device_objects::{Call, outcomes};
 use plan_tables::{
     Act, Action, BallTarget, Binding, EventId, GameEvent, ListId, ModeEvent, ModeId, Plan, RowId,
@@ -142,7 +142,7 @@ fn price_of_choice(plan: &Plan, weights: &[u32], choice: &[GameEvent]) -> u128
 {
     let mut total = 0u128;
     for which in choice {
-        total += price_of_post(weights, game_event(plan, *which));
+        total += price_of_post(weights, plan.game_event(*which));
     }
     total
 }
@@ -314,7 +314,7 @@ fn price_of_drain(plan: &Plan, weights: &[u32], drain: bool) -> u128
     ensures small { result < 2 ^ 32 }
 {
     if drain {
-        price_of_post(weights, game_event(plan, GameEvent::BallDrain))
+        price_of_post(weights, plan.game_event(GameEvent::BallDrain))
     } else {
         0
     }

@@ -2,9 +2,9 @@
 
 ghost use Rattle.std.specs.Prelude.{◌≡◌, ◌<◌, length, IfSome};
 ghost use Rattle.plan_tables.specs.declared.entries.Work.TheVariants as works;
-ghost use Rattle.plan_tables.specs.PlanView.{game_event, work_of};
-ghost use Rattle.plan_tables.specs.Valid.{HasGame, IsValid};
-ghost use Rattle.cascade_rank.specs.Cost.{led_by};
+ghost use Rattle.plan_tables.specs.PlanView.{work_of};
+ghost use Rattle.plan_tables.specs.Valid.{IsValid};
+ghost use Rattle.cascade_rank.specs.Cost.{led_by, led_by_stopped};
 
 use plan_tables::{EventId, GameEvent, ModeEvent, ModeId, Plan, Work};
 
@@ -23,7 +23,7 @@ pub(crate) fn led_by(plan: &Plan, event: EventId) -> Option<EventId>
 }
 
 /// The event with which a mode goes on from this one, if it goes on. From `started` it goes on
-/// where a stop was kept.
+/// where a stop was kept. From `stopped` it goes on to `ball_ended`, if it may hold the end of the ball.
 fn next_event(plan: &Plan, mode: ModeId, which: ModeEvent) -> Option<EventId>
     requires { mode.0 < length plan.now.modes }
     ensures led { result ≡ led_by plan.now (works.Mode mode which) }
@@ -35,15 +35,19 @@ fn next_event(plan: &Plan, mode: ModeId, which: ModeEvent) -> Option<EventId>
         ModeEvent::Starting => Some(events.started),
         ModeEvent::Started => Some(events.stopping),
         ModeEvent::Stopping => Some(events.stopped),
-        ModeEvent::Stopped => None,
+        ModeEvent::Stopped => end_of_ball(plan, mode),
     }
 }
 
-/// This one of the game's events.
-pub(crate) fn game_event(plan: &Plan, which: GameEvent) -> EventId
-    requires { HasGame plan.now }
-    ensures event { result ≡ game_event plan.now which }
-    ensures within { result.0 < length plan.now.events }
+/// The event `ball_ended`, if the mode may hold the end of the ball.
+fn end_of_ball(plan: &Plan, mode: ModeId) -> Option<EventId>
+    requires { mode.0 < length plan.now.modes }
+    ensures led { result ≡ led_by_stopped plan.now mode }
+    ensures within { IfSome result (λ e. e.0 < length plan.now.events) }
 {
-    plan.game().unwrap().events[which.index()]
+    if plan.may_hold_ball_end(mode) {
+        Some(plan.game_event(GameEvent::BallEnded))
+    } else {
+        None
+    }
 }

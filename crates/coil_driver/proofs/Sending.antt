@@ -26,7 +26,7 @@ use Rattle.written_machine.specs.declared.line.Happening.TheVariants as lines
 use Rattle.written_machine.specs.Machine.{Machine, write, set_ledger, told, ask_coil, book, counts_of}
 use Rattle.written_machine.specs.EventStep.{taken, EventStep, EventSteps}
 use Rattle.written_machine.specs.Run.{Stimulus, begin}
-use Rattle.written_machine.specs.Moves.{Move, Wrote, Sent, Switched, Began, Ended, Marked, Turned, Asked, Booked, Varied, Stepped, do_move, Licence, MayDo, Does, IsNoCommand, TakesPart, Begins, ordinary, working}
+use Rattle.written_machine.specs.Moves.{Move, Wrote, Sent, Switched, Began, Ended, Marked, Released, Turned, Asked, Booked, Varied, Stepped, do_move, Licence, MayDo, Does, IsNoCommand, TakesPart, Begins, ordinary, working}
 use Rattle.written_machine.proofs.Does.{start-by, stop-by, does-keeps}
 use Rattle.written_machine.proofs.Parts.{does-before, does-after, does-begin}
 use Rattle.written_machine.proofs.Held.{asked-count}
@@ -188,6 +188,7 @@ module _ (plan : PlanView) (start : List CoilState) where
   agrees-move licence (Turned call r) s may h = record { coils = h.coils; sent = h.sent }
   agrees-move licence (Asked owner command) s may h = asked-agrees owner command s h
   agrees-move licence (Booked owner call) s may h = booked-agrees owner call s h
+  agrees-move licence (Released m) s may h = record { coils = h.coils; sent = h.sent }
   agrees-move licence (Varied v value) s may h = record { coils = h.coils; sent = h.sent }
   agrees-move licence (Stepped which) s may h = record { coils = h.coils; sent = h.sent }
 

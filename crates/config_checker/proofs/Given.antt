@@ -151,7 +151,7 @@ module _ (rows : Rows) (sound : IsSound rows) where
   is_given i d (device place settings) within at h = tt
   is_given i d (active n) within at h = never n
   is_given i d (inactive n) within at h = never n
-  is_given i d (mode n priority game) within at h = never (mode_event_name WillStart n)
+  is_given i d (mode n priority game holds) within at h = never (mode_event_name WillStart n)
   is_given i d (mode_event which n) within at h = never (mode_event_name which n)
   is_given i d (binds n place aim) within at h = never n
   is_given i d (mentions t n) within at h = mention-given t n h

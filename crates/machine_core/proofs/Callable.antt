@@ -7,7 +7,7 @@ use Rattle.plan_tables.specs.Valid.{HasEntries, IsActionWithin}
 use Rattle.plan_tables.specs.declared.entries.ListId.{ListId}
 use Rattle.cascade_rank.specs.Cost.{Cost}
 use Rattle.written_machine.specs.Machine.{Machine}
-use Rattle.written_machine.specs.Moves.{Move, Wrote, Sent, Switched, Began, Ended, Marked, Turned, Asked, Booked, Varied, Stepped, do_move, Does}
+use Rattle.written_machine.specs.Moves.{Move, Wrote, Sent, Switched, Began, Ended, Marked, Released, Turned, Asked, Booked, Varied, Stepped, do_move, Does}
 use Rattle.written_machine.proofs.Does.{start-by, stop-by, does-keeps, has_devices-does, moment-does}
 use Rattle.written_machine.proofs.Held.{asked-count}
 use Rattle.machine_core.specs.Core.{CoreView, CanCall}
@@ -24,6 +24,7 @@ module _ (plan : PlanView) where
   count-move (Turned call r) s = refl
   count-move (Asked owner command) s = asked-count owner command s.moment s.coils
   count-move (Booked owner call) s = (goes-book plan owner call s).coils
+  count-move (Released m) s = refl
   count-move (Varied v value) s = refl
   count-move (Stepped which) s = refl
 

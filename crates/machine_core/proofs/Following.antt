@@ -1,7 +1,7 @@
 -- What is done with the modes, and with the handlers of those that run.
 use Rattle.std.proofs.Common.{◌≡◌, ℕ, zero, suc, Bool, true, false, if◌then◌else◌, List, [], ◌∷◌, length, set, replicate, refl, sym, ap, ◌∙◌}
 use Rattle.std.proofs.lemmas.List.{map-set}
-use Rattle.plan_tables.specs.PlanView.{PlanView, coil_numbers, mode_event}
+use Rattle.plan_tables.specs.PlanView.{PlanView, coil_numbers, game_event, may_hold_ball_end, mode_event}
 use Rattle.plan_tables.specs.declared.entries.CoilId.{CoilId}
 use Rattle.plan_tables.specs.declared.entries.Owner.{Owner}
 use Rattle.coil_guard.specs.declared.command.Command.TheVariants as commands
@@ -18,11 +18,13 @@ use Rattle.mode_stack.specs.Modes.{mode_state, running_of}
 use Rattle.mode_stack.specs.Modes as modes
 use Rattle.mode_stack.proofs.WhoRuns.{starting_keeps_who_runs}
 use Rattle.event_queue.specs.Handlers.{none_running}
+use Rattle.plan_tables.specs.declared.entries.GameEvent.TheVariants.{BallEnded}
+use Rattle.player_game.specs.GameStep.{ends_ball}
 use Rattle.device_objects.specs.declared.device.Call.{Call}
 use Rattle.device_objects.specs.declared.device.Call.TheVariants as calls
-use Rattle.written_machine.specs.Machine.{Machine, all_do, post, set_mode, stop_mode, call_devices, ask_coil, release_coil, release_coils}
+use Rattle.written_machine.specs.Machine.{Machine, all_do, post, post_if, set_mode, stop_mode, release_ball_end, drop_hold, call_devices, ask_coil, release_coil, release_coils}
 use Rattle.written_machine.specs.EventStep.{do_before, do_after}
-use Rattle.written_machine.proofs.Does.{stop-by}
+use Rattle.written_machine.proofs.Does.{post_if-by, stop-by}
 use Rattle.written_machine.proofs.Parts.{does-calls}
 use Rattle.written_machine.proofs.Silence.{still-does}
 use Rattle.machine_core.specs.Core.{CoreView, HasHandlers, after, follow}
@@ -36,6 +38,14 @@ pub stop-still : (plan : PlanView) (m : ModeId) (s : Machine) → running_of (st
 stop-still plan m s =
     let same = starting_keeps_who_runs.stop s.modes m in
     stop-by plan m s (λ t. running_of t.modes ≡ running_of s.modes) same same
+
+-- one that lets go of the end of the ball runs as before
+pub release-still : (plan : PlanView) (m : ModeId) (s : Machine) → running_of (release_ball_end plan m s).modes ≡ running_of s.modes
+release-still plan m s = by (may_hold_ball_end plan m)
+  where
+    by : (holds : Bool) → running_of (if holds then post_if (ends_ball m s.game) (game_event plan BallEnded) (drop_hold m s) else s).modes ≡ running_of s.modes
+    by true = post_if-by (λ t. running_of t.modes ≡ running_of s.modes) (game_event plan BallEnded) (drop_hold m s) refl refl (ends_ball m s.game)
+    by false = refl
 
 abbrev runs : ModeState → Bool
 runs s = is_running s.phase

@@ -2,7 +2,7 @@
 
 ghost use Rattle.std.specs.Prelude.{◌≡◌, ◌<◌, true, length};
 ghost use Rattle.plan_tables.specs.Valid.{HasGame, IsActionWithin, IsTargetThere};
-ghost use Rattle.plan_tables.specs.PlanView.{game_event, target_of};
+ghost use Rattle.plan_tables.specs.PlanView.{target_of};
 ghost use Rattle.written_machine.specs.Machine.{do_action_by, drain_if, enter_ball, no_confirm};
 ghost use Rattle.machine_core.specs.Balls.{awaited_entry};
 ghost use Rattle.machine_core.specs.Core.{CanCall, HasRoom, after};
@@ -77,7 +77,7 @@ fn post_drain<D: Device>(core: &mut Core<'_, D>, owner: Owner, drain: bool)
     ensures { core.new ≡ after (drain_if core.old.plan owner drain) core.old }
 {
     if drain && core.is_ball_on() {
-        let event = game_event(core.plan(), GameEvent::BallDrain);
+        let event = core.plan().game_event(GameEvent::BallDrain);
         core.post(owner, event);
     }
 }
@@ -109,12 +109,4 @@ fn target_of(plan: &Plan, device: RowId) -> BallTarget
         Some(target) => target,
         None => BallTarget::Playfield,
     }
-}
-
-/// This one of the game's events.
-pub(crate) fn game_event(plan: &Plan, event: GameEvent) -> EventId
-    requires { HasGame plan.now }
-    ensures { result ≡ game_event plan.now event }
-{
-    plan.game().unwrap().events[event.index()]
 }

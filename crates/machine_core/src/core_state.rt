@@ -12,12 +12,12 @@ ghost use Rattle.coil_guard.specs.Asked.{limits_of};
 ghost use Rattle.coil_guard.specs.Coils.{all_off, after_release, answer_release};
 ghost use Rattle.coil_guard.specs.SentCommands.{coil_of};
 ghost use Rattle.device_objects.specs.Laws.{MayCome};
-ghost use Rattle.written_machine.specs.Machine.{initial, write, post, set_switches, set_mode, set_device, set_coils, ask_coil, book, device_at, called, change_variable, has_game, is_post, world_of, write_final};
+ghost use Rattle.written_machine.specs.Machine.{initial, write, post, set_switches, set_mode, set_device, set_coils, set_game, ask_coil, book, device_at, called, change_variable, has_game, drop_hold, is_post, world_of, write_final};
 ghost use Rattle.written_machine.specs.Run.{arrived};
 ghost use Rattle.device_objects.specs.DeviceStep.{device_step, due_of};
 ghost use Rattle.plan_tables.specs.PlanView.{row_at};
 ghost use Rattle.plan_tables.specs.Valid.{IsConditionWithin};
-ghost use Rattle.player_game.specs.GameStep.{is_ball_on};
+ghost use Rattle.player_game.specs.GameStep.{ends_ball, held, is_ball_on};
 ghost use Rattle.player_game.specs.Players.{is_met, no_players};
 ghost use Rattle.ball_devices.specs.Bookings.{is_awaited};
 ghost use Rattle.ball_devices.specs.Ledger.{no_balls, origin_of};
@@ -310,6 +310,23 @@ impl<'p, D: Device> Core<'p, D> {
     {
         let game = self.has_game();
         self.modes.start(mode, game)
+    }
+
+    /// A mode holds the end of the ball from now on.
+    pub(crate) fn hold(&mut self, mode: ModeId)
+        requires { mode.0 < 64 }
+        ensures { self.new ≡ after (λ s. set_game (held mode s.game) s) self.old }
+    {
+        self.game.hold(mode);
+    }
+
+    /// A mode no longer holds the end of the ball. Reports whether it was the last one that did.
+    pub(crate) fn drop_hold(&mut self, mode: ModeId) -> bool
+        requires { mode.0 < 64 }
+        ensures released { self.new ≡ after (drop_hold mode) self.old }
+        ensures ends { result ≡ ends_ball mode self.old.machine.game }
+    {
+        self.game.release(mode)
     }
 
     /// Whether a ball of the game is on.

@@ -8,14 +8,13 @@ ghost use Rattle.plan_tables.specs.PlanView.{work_of};
 ghost use Rattle.mode_stack.specs.Modes.{running_of};
 ghost use Rattle.event_queue.specs.PlanOrder.{in_order};
 ghost use Rattle.std.specs.List.{All};
-ghost use Rattle.written_machine.specs.Machine.{all_do, post, post_if, start_mode, stop_mode, release_coils, tell_listener, do_target, do_binding, do_game, do_handler, post_game, write_finals, ask_ball, confirm_on_playfield, do_accepted, change_switch};
+ghost use Rattle.written_machine.specs.Machine.{all_do, post, post_if, release_ball_end, start_mode, stop_mode, release_coils, tell_listener, do_target, do_binding, do_game, do_handler, post_game, write_finals, ask_ball, confirm_on_playfield, do_accepted, change_switch};
 ghost use Rattle.written_machine.specs.EventStep.{is_kept, do_before, do_after};
 ghost use Rattle.written_machine.specs.Run.{begin as begun, fire as fired};
 ghost use Rattle.written_machine.specs.NextAlarm.{next_alarm};
 ghost use Rattle.machine_core.specs.Core.{IsWhole, CanCall, HasHandlers, IsWorkOf, IsPlayable, HasRoom, StaysWithin, HasSettled, after, follow, after_taken};
 ghost use Rattle.machine_core.specs.Stimuli.{source_view, stimulus_view};
 
-use crate::actions::game_event;
 use crate::arrivals::confirm;
 use crate::calls::{call_device, call_devices, run_actions};
 use crate::core_state::Core;
@@ -234,7 +233,7 @@ fn mode_after<D: Device>(core: &mut Core<'_, D>, kept: bool, mode: ModeId, which
             core.end(mode);
             core.post(Owner::Machine, events.stopped);
         }
-        ModeEvent::Stopped => {}
+        ModeEvent::Stopped => release_ball_end(core, mode),
     }
 }
 
@@ -286,7 +285,7 @@ fn post_game<D: Device>(core: &mut Core<'_, D>, events: &[GameEvent])
 {
     let plan = core.plan();
     for event in events {
-        core.post(Owner::Machine, game_event(plan, *event));
+        core.post(Owner::Machine, plan.game_event(*event));
     }
 }
 
@@ -341,9 +340,26 @@ fn start<D: Device>(core: &mut Core<'_, D>, mode: ModeId)
     requires room { HasRoom core.old.room (start_mode core.old.plan mode core.old.machine) }
     ensures { core.new ≡ after (start_mode core.old.plan mode) core.old }
 {
-    let events = core.plan().mode(mode).events;
+    let plan = core.plan();
     let starts = core.start(mode);
-    post_if(core, starts, events.will_start);
+    if starts && plan.may_hold_ball_end(mode) {
+        core.hold(mode);
+    }
+    post_if(core, starts, plan.mode(mode).events.will_start);
+}
+
+/// A mode has stopped, and lets go of the end of the ball, which then may end.
+fn release_ball_end<D: Device>(core: &mut Core<'_, D>, mode: ModeId)
+    requires mode { mode.0 < length core.old.plan.modes }
+    requires room { HasRoom core.old.room (release_ball_end core.old.plan mode core.old.machine) }
+    ensures { core.new ≡ after (release_ball_end core.old.plan mode) core.old }
+{
+    let plan = core.plan();
+    if !plan.may_hold_ball_end(mode) {
+        return;
+    }
+    let ends = core.drop_hold(mode);
+    post_if(core, ends, plan.game_event(GameEvent::BallEnded));
 }
 
 /// A mode is told to stop.

@@ -14,6 +14,7 @@ pub mod NoneBefore
 pub mod TextNames
 pub mod SameTexts
 pub mod ModeLoops
+pub mod BallEnds
 pub mod Meaning
 pub mod TextRows
 pub mod ModeNames

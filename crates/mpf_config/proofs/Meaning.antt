@@ -13,15 +13,16 @@ use Rattle.mpf_tables.specs.declared.tables.TextKind.{TextKind}
 use Rattle.section_tables.specs.Kinds.{Shape, by_entries, by_players, by_entry, by_names}
 use Rattle.mpf_tables.specs.SectionTables.{shape_of}
 use Rattle.section_tables.specs.Reading.{IsReadOr, ◌>>=◌, Spot, key_spot, refused, rows_fault_at, entry_at, entries_at, players_at, names_at}
-use Rattle.section_tables.proofs.Steps.{bind_ok, guard_false, ok_is, expected}
+use Rattle.section_tables.proofs.Steps.{bind_ok, guard_true, guard_false, ok_is, expected}
 use Rattle.section_tables.proofs.Outcomes.{each_sound, weaker, then_or, each_or}
 use Rattle.section_tables.proofs.EntriesRead.{entry_sound, entry_complete, entries_sound, entries_complete, players_sound, players_complete, names_sound, names_complete}
 use Rattle.mpf_sections.specs.Rows.{Written, Content, entries, players, entry, listed, SectionRows}
 use Rattle.mpf_config.specs.BundleText.{machine_owner}
 use Rattle.mpf_config.specs.Unread.{read_of}
-use Rattle.mpf_config.specs.RowsOf.{Sizes, within_limits, AreNew, AreModesListed, IsContent, IsSection, AreManyItems}
-use Rattle.mpf_config.specs.Reading.{line_spot, modes_new_at, modes_at, content_at, section_from, section_at, sections_in, sections_at}
+use Rattle.mpf_config.specs.RowsOf.{Sizes, within_limits, AreNew, AreModesListed, IsContent, KeepsToBallEnd, IsSection, AreManyItems}
+use Rattle.mpf_config.specs.Reading.{line_spot, modes_new_at, modes_at, content_at, keeps_to_ball_end, starts_spot, section_with, section_from, section_at, sections_in, sections_at}
 use Rattle.mpf_config.proofs.NewNames.{fresh_sound, fresh_complete}
+use Rattle.mpf_config.proofs.BallEnds.{keeps_sound, keeps_complete}
 
 -- ---- lists of modes
 
@@ -97,8 +98,10 @@ content_sound kind text p by_names content is e =
 
 section_by : (kind : TextKind) (text : List ℕ) (p : Pair) (s : SectionRows) (o : Option Shape) → shape_of kind p.key ≡ o → section_from text p o ≡ Ok s → IsSection within_limits kind p s
 section_by kind text p s (Some shape) is e =
-    let a = bind_ok (content_at text p shape) (λ content. Ok (made p content)) s e in
-    subst (IsSection within_limits kind p) (ok_is (made p a.0) s a.2) (record { name = refl; content = content_sound kind text p shape a.0 is a.1 })
+    let a = bind_ok (content_at text p shape) (section_with text p) s e in
+    let b = guard_true (keeps_to_ball_end p.key a.0) (Ok (made p a.0)) (rows_fault_at BadValue (starts_spot text p)) s a.2 in
+    subst (IsSection within_limits kind p) (ok_is (made p a.0) s b.1)
+    (record { name = refl; content = content_sound kind text p shape a.0 is a.1; keeps = keeps_sound p.key a.0 b.0 })
 section_by kind text p s None is e = absurd cc
 
 section_sound : (kind : TextKind) (text : List ℕ) (p : Pair) (s : SectionRows) → section_at kind text p ≡ Ok s → IsSection within_limits kind p s
@@ -112,26 +115,28 @@ module _ (sizes : Sizes) (kind : TextKind) (text : List ℕ) where
   abbrev long : 1024 < sizes.longest → Many
   long many = inl many
 
-  section_of : (p : Pair) (shape : Shape) (content : Content) → shape_of kind p.key ≡ Some shape → IsReadOr Many (content_at text p shape) content → IsReadOr Many (section_at kind text p) (made p content)
+  section_of : (p : Pair) (shape : Shape) (content : Content) → shape_of kind p.key ≡ Some shape → KeepsToBallEnd p.key content → IsReadOr Many (content_at text p shape) content
+      → IsReadOr Many (section_at kind text p) (made p content)
   unfolding section_at
-  section_of p shape content is h = rw is (then_or Many (content_at text p shape) (λ c. Ok (made p c)) content (made p content) h (inl refl))
+  section_of p shape content is keeps h =
+      rw is (then_or Many (content_at text p shape) (section_with text p) content (made p content) h (inl (rw (keeps_complete p.key content keeps) refl)))
 
-  content_or : (p : Pair) (content : Content) → IsContent sizes kind p content → IsReadOr Many (section_at kind text p) (made p content)
-  content_or p (entries es) h =
+  content_or : (p : Pair) (content : Content) → IsContent sizes kind p content → KeepsToBallEnd p.key content → IsReadOr Many (section_at kind text p) (made p content)
+  content_or p (entries es) h keeps =
       let found = weaker (1024 < sizes.longest) Many long (entries_at text h.0 h.1 p) es (entries_complete text h.0 h.1 p sizes.longest es h.3) in
-      section_of p (by_entries h.0 h.1) (entries es) h.2 (then_or Many (entries_at text h.0 h.1 p) (λ xs. Ok (entries xs)) es (entries es) found (inl refl))
-  content_or p (players ps) h =
+      section_of p (by_entries h.0 h.1) (entries es) h.2 keeps (then_or Many (entries_at text h.0 h.1 p) (λ xs. Ok (entries xs)) es (entries es) found (inl refl))
+  content_or p (players ps) h keeps =
       let found = weaker (1024 < sizes.longest) Many long (players_at text h.0 p) ps (players_complete text h.0 p sizes.longest ps h.2) in
-      section_of p (by_players h.0) (players ps) h.1 (then_or Many (players_at text h.0 p) (λ xs. Ok (players xs)) ps (players ps) found (inl refl))
-  content_or p (entry x) h =
+      section_of p (by_players h.0) (players ps) h.1 keeps (then_or Many (players_at text h.0 p) (λ xs. Ok (players xs)) ps (players ps) found (inl refl))
+  content_or p (entry x) h keeps =
       let found = weaker (1024 < sizes.longest) Many long (entry_at text h.0 p) x (entry_complete text h.0 p sizes.longest x h.2) in
-      section_of p (by_entry h.0) (entry x) h.1 (then_or Many (entry_at text h.0 p) (λ y. Ok (entry y)) x (entry x) found (inl refl))
-  content_or p (listed ws) h = section_of p by_names (listed ws) h.0 (then_or Many (modes_at text p) (λ xs. Ok (listed xs)) ws (listed ws) (modes_or sizes text p ws h.1) (inl refl))
+      section_of p (by_entry h.0) (entry x) h.1 keeps (then_or Many (entry_at text h.0 p) (λ y. Ok (entry y)) x (entry x) found (inl refl))
+  content_or p (listed ws) h keeps = section_of p by_names (listed ws) h.0 keeps (then_or Many (modes_at text p) (λ xs. Ok (listed xs)) ws (listed ws) (modes_or sizes text p ws h.1) (inl refl))
 
   section_or : (p : Pair) (s : SectionRows) → IsSection sizes kind p s → IsReadOr Many (section_at kind text p) s
   section_or p s h =
       let same : made p s.content ≡ s = λ i. record { name = sym h.name i; content = s.content } in
-      subst (IsReadOr Many (section_at kind text p)) same (content_or p s.content h.content)
+      subst (IsReadOr Many (section_at kind text p)) same (content_or p s.content h.content h.keeps)
 
   pub sections_or : (sections : List Pair) (rows : List SectionRows) → AllZip (IsSection sizes kind) (read_of sections) rows → IsReadOr Many (sections_at kind text sections) rows
   unfolding sections_at

@@ -1,5 +1,5 @@
 -- Reading a bundle: the machine text, and then the others in order, up to the first fault.
-use Rattle.std.specs.Prelude.{ℕ, ◌^◌, nat_lt, if◌then◌else◌, List, [], ◌∷◌, ◌++◌, length, map, set, Option, Some, None, Result, Ok, Err, codes}
+use Rattle.std.specs.Prelude.{ℕ, ◌^◌, nat_lt, Bool, true, not, ◌||◌, if◌then◌else◌, List, [], ◌∷◌, ◌++◌, length, map, set, Option, Some, None, unwrap_or, Result, Ok, Err, codes}
 use Rattle.std.specs.List.{flat_map}
 use Rattle.std.specs.Str.{bytes_eq}
 pub use Rattle.yaml_bytes.specs.Results.{◌>>=◌}
@@ -12,14 +12,14 @@ use Rattle.section_tables.specs.declared.fault.FaultKind.TheVariants.{Bundle, Ve
 use Rattle.mpf_tables.specs.declared.tables.TextKind.{TextKind}
 use Rattle.mpf_tables.specs.declared.tables.TextKind.TheVariants.{Machine, Mode}
 use Rattle.section_tables.specs.Kinds.{Shape, by_entries, by_players, by_entry, by_names}
-use Rattle.mpf_tables.specs.SectionTables.{shape_of}
+use Rattle.mpf_tables.specs.SectionTables.{mode_name, shape_of}
 use Rattle.section_tables.specs.Tables.{found_in}
 use Rattle.section_tables.specs.Reading.{Spot, refused, key_spot, expect, each_read, entry_at, entries_at, players_at, names_at}
-use Rattle.mpf_sections.specs.Rows.{Written, Content, entries, players, entry, listed, SectionRows}
+use Rattle.mpf_sections.specs.Rows.{Written, Content, entries, players, entry, listed, SectionRows, ModeSettings}
 use Rattle.mpf_config.specs.Rows.{Rows, RowsFault}
 use Rattle.mpf_config.specs.FaultLine.{yaml_kind_name}
 use Rattle.mpf_config.specs.BundleText.{Text, machine_name, machine_owner, first_line, behind_first_line, name_in, pieces_of, numbered, has_version}
-use Rattle.mpf_sections.specs.Typed.{listed_modes}
+use Rattle.mpf_sections.specs.Typed.{mode_settings_of, starts_at_ball_end, listed_modes}
 use Rattle.mpf_config.specs.Unread.{read_of, mode_text_of, machine_notes, mode_notes, unlisted_notes}
 use Rattle.mpf_config.specs.ModeReads.{MachineRead, ModeRead}
 use Rattle.mpf_config.specs.Apart.{EntryName, entry_names, entry_key, entry_keys}
@@ -48,9 +48,36 @@ content_at text p (by_players kinds) = players_at text kinds p >>= λ ps. Ok (pl
 content_at text p (by_entry table) = entry_at text table p >>= λ e. Ok (entry e)
 content_at text p by_names = modes_at text p >>= λ ws. Ok (listed ws)
 
+-- whether a mode that may hold the end of the ball has `ball_ending` as its only start event
+abbrev pub has_right_starts : ModeSettings → Bool
+has_right_starts s = not s.holds_ball_end || starts_at_ball_end s
+
+-- whether a section keeps to this rule; only `mode` can break it
+unfoldable pub keeps_to_ball_end : List ℕ → Content → Bool
+keeps_to_ball_end section (entry e) = not (bytes_eq section mode_name) || has_right_starts (mode_settings_of e.values)
+keeps_to_ball_end section _ = true
+
+-- the line of the first pair with this key; `otherwise` where there is none
+abbrev pub line_of_key : List ℕ → ℕ → List Pair → ℕ
+line_of_key key otherwise [] = otherwise
+line_of_key key otherwise (p ∷ ps) = if bytes_eq p.key key then p.line else line_of_key key otherwise ps
+
+-- where the fault is: at `start_events`, or at the section's own line if that is not written
+abbrev pub starts_spot : List ℕ → Pair → Spot
+starts_spot text p = record {
+  text = text;
+  line = line_of_key (codes "start_events") p.line (unwrap_or (pairs_in p.value) []);
+  key = codes "start_events";
+}
+
+-- a section with what stands in it
+abbrev pub section_with : List ℕ → Pair → Content → Result SectionRows RowsFault
+section_with text p content =
+    if keeps_to_ball_end p.key content then Ok (record { name = p.key; content = content }) else refused BadValue (starts_spot text p)
+
 -- a section by its name
 abbrev pub section_from : List ℕ → Pair → Option Shape → Result SectionRows RowsFault
-section_from text p (Some shape) = content_at text p shape >>= λ content. Ok (record { name = p.key; content = content })
+section_from text p (Some shape) = content_at text p shape >>= λ content. section_with text p content
 section_from text p None = refused UnknownSection (key_spot text p)
 
 unfoldable pub section_at : TextKind → List ℕ → Pair → Result SectionRows RowsFault

@@ -1,5 +1,5 @@
 -- The rows of a bundle: what they are, however a bundle is read.
-use Rattle.std.specs.Prelude.{◌≡◌, ◌≢◌, ℕ, ◌<◌, ◌^◌, false, List, [], ◌∷◌, ◌++◌, length, map, Some, ◌⊎◌}
+use Rattle.std.specs.Prelude.{◌≡◌, ◌≢◌, ℕ, ◌<◌, ◌^◌, true, false, List, [], ◌∷◌, ◌++◌, length, map, Some, ◌⊎◌}
 use Rattle.std.specs.List.{Contains, All, AllZip}
 use Rattle.yaml_bytes.specs.Bytes.{begins_blank}
 use Rattle.yaml_bytes.specs.Plain.{AreBlank, EndsInNoBlank}
@@ -10,12 +10,12 @@ use Rattle.yaml_subset.specs.TreeOf.{IsTreeOf, IsTextAbove}
 use Rattle.mpf_tables.specs.declared.tables.TextKind.{TextKind}
 use Rattle.mpf_tables.specs.declared.tables.TextKind.TheVariants.{Machine, Mode}
 use Rattle.section_tables.specs.Kinds.{Setting, PlayerKinds, by_entries, by_players, by_entry, by_names}
-use Rattle.mpf_tables.specs.SectionTables.{shape_of}
+use Rattle.mpf_tables.specs.SectionTables.{mode_name, shape_of}
 use Rattle.section_tables.specs.EntryOf.{IsEntry, AreEntries, ArePlayers, AreNamesListed}
-use Rattle.mpf_sections.specs.Rows.{Written, Content, entries, players, entry, listed, SectionRows}
+use Rattle.mpf_sections.specs.Rows.{Written, Content, entries, players, entry, listed, SectionRows, ModeSettings}
 use Rattle.mpf_config.specs.Rows.{Rows}
 use Rattle.mpf_config.specs.BundleText.{Text, machine_name, machine_owner, version_line}
-use Rattle.mpf_sections.specs.Typed.{listed_modes}
+use Rattle.mpf_sections.specs.Typed.{mode_settings_of, ball_ending, listed_modes}
 use Rattle.mpf_config.specs.Unread.{read_of, mode_text_of, present_of, mode_notes}
 use Rattle.mpf_config.specs.ModeReads.{ModeRead, rows_notes}
 use Rattle.mpf_config.specs.Apart.{AreNamesApart}
@@ -106,10 +106,21 @@ IsContent sizes kind p (players ps) = (kinds : PlayerKinds) × (shape_of kind p.
 IsContent sizes kind p (entry e) = (table : List Setting) × (shape_of kind p.key ≡ Some (by_entry table)) × IsEntry sizes.longest table p e
 IsContent sizes kind p (listed ws) = (shape_of kind p.key ≡ Some by_names) × AreModesListed sizes p ws
 
+-- a mode that has start events, all of which are `ball_ending`, with or without a condition
+pub record StartsAtBallEnd (s : ModeSettings) : Type 0 where
+  pub some : s.starts ≢ []
+  pub all : All (λ h. h.event.name ≡ ball_ending) s.starts
+
+-- A mode that may hold the end of the ball starts at `ball_ending` alone. Other sections have no such rule.
+abbrev pub KeepsToBallEnd : List ℕ → Content → Type 0
+KeepsToBallEnd section (entry e) = section ≡ mode_name → (mode_settings_of e.values).holds_ball_end ≡ true → StartsAtBallEnd (mode_settings_of e.values)
+KeepsToBallEnd section _ = Unit {0}
+
 -- a section by its name, and what stands in it
 pub record IsSection (sizes : Sizes) (kind : TextKind) (p : Pair) (s : SectionRows) : Type 0 where
   pub name : s.name ≡ p.key
   pub content : IsContent sizes kind p s.content
+  pub keeps : KeepsToBallEnd p.key s.content
 
 -- A text of this kind has these sections. The rows are those of the sections that are read.
 pub record AreRowsOf (sizes : Sizes) (kind : TextKind) (text : List ℕ) (sections : List Pair) (rows : List SectionRows) : Type 0 where

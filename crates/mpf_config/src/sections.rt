@@ -4,8 +4,8 @@ ghost use Rattle.std.specs.Prelude.{◌≡◌, [], map};
 ghost use Rattle.yaml_subset.specs.View.{node_view, pair_view};
 ghost use Rattle.section_tables.specs.TableView.{shape_view};
 ghost use Rattle.section_tables.specs.View.{names_view, spot_view, pairs_view, pairs_in_view};
-ghost use Rattle.mpf_config.specs.Reading.{modes_new_at, modes_at, content_at, section_at, sections_in, sections_at};
-ghost use Rattle.mpf_sections.specs.View.{name_view, content_view, section_view};
+ghost use Rattle.mpf_config.specs.Reading.{modes_new_at, modes_at, content_at, has_right_starts, keeps_to_ball_end, line_of_key, starts_spot, section_at, sections_in, sections_at};
+ghost use Rattle.mpf_sections.specs.View.{name_view, content_view, section_view, mode_settings_view};
 ghost use Rattle.mpf_config.specs.View.{GivesRows};
 ghost use Rattle.mpf_config.specs.Inside.{sections_view};
 
@@ -14,6 +14,8 @@ use crate::fault::{ConfigFault, FaultKind};
 use crate::spot::line_of;
 use crate::texts::take_name;
 use crate::unread::is_skipped;
+use mpf_sections::{ModeSettings, as_mode_settings};
+use mpf_tables::tables::MODE_NAME;
 use mpf_tables::{TextKind, shape_of};
 use section_tables::rows::Name;
 use section_tables::spot::{Spot, spot_of};
@@ -28,6 +30,9 @@ const MAX_MODES: usize = 64;
 
 /// The name that a mode cannot have, for the machine has it.
 const MACHINE_OWNER: &[u8] = b"machine";
+
+/// The setting that says at what events a mode starts.
+const START_EVENTS: &[u8] = b"start_events";
 
 // Sees that no mode has the name of the machine, or that of an earlier mode; or BadValue at the
 // list, or Duplicate at the later mode.
@@ -93,6 +98,55 @@ fn content(
     }
 }
 
+// Whether the content of a section of this name keeps to this: a mode that holds the end of the ball
+// starts at that alone.
+#[tactic(auto, unfolding(crate::specs::Reading::keeps_to_ball_end))]
+fn keeps_to_ball_end(section: &[u8], content: &Content) -> bool
+    ensures { result ≡ keeps_to_ball_end section.now (content_view content.now) }
+{
+    match content {
+        Content::Entry(entry) if section == MODE_NAME => {
+            has_right_starts(as_mode_settings(&entry.values))
+        }
+        _ => true,
+    }
+}
+
+// Whether a mode with these settings starts at the end of the ball alone, where it holds that.
+fn has_right_starts(settings: ModeSettings<'_>) -> bool
+    ensures { result ≡ has_right_starts (mode_settings_view settings.entry) }
+{
+    !settings.holds_ball_end || settings.starts_at_ball_end()
+}
+
+// The line of the first pair with this key; another where there is none.
+fn line_of_key(key: &[u8], otherwise: u32, pairs: &[(Key, Tree)]) -> u32
+    ensures { result ≡ line_of_key key.now otherwise (pairs_view pairs.now) }
+{
+    for pair in pairs {
+        if pair.0.text.as_slice() == key {
+            return pair.0.line;
+        }
+    }
+    otherwise
+}
+
+// Where a section says at what events a mode starts; at its own line where it does not say.
+fn starts_spot<'a>(text: &'a [u8], entry: &(Key, Tree)) -> Spot<'a>
+    ensures { spot_view result ≡ starts_spot text.now (pair_view entry.now) }
+{
+    let line = entry.0.line;
+    let line = match entry.1.as_map() {
+        Some(pairs) => line_of_key(START_EVENTS, line, pairs),
+        None => line,
+    };
+    Spot {
+        text,
+        line,
+        key: START_EVENTS,
+    }
+}
+
 // The section of a key in a text of this kind; or UnknownSection, or the first fault in it.
 #[tactic(auto, unfolding(crate::specs::Reading::section_at))]
 fn section(
@@ -108,6 +162,10 @@ fn section(
         return Err(ConfigFault::Bundle(fault));
     };
     let content = content(alloc, shape, text, entry)?;
+    if !keeps_to_ball_end(&entry.0.text, &content) {
+        let fault = starts_spot(text, entry).fault(alloc, FaultKind::BadValue)?;
+        return Err(ConfigFault::Bundle(fault));
+    }
     let name = Vec::from_slice(alloc, &entry.0.text)?;
     Ok(Section { name, content })
 }

@@ -54,7 +54,7 @@ module _ (Q : EventId → Type 0) (A : Action → Type 0) where
         switch_meets (λ s. record s { active = s.active ++ event_of (names Events) n ∷ [] }) (λ s posts. (All-push Q s.active (event_of (names Events) n) posts.0 is, posts.1))
     meet_one (inactive n) is =
         switch_meets (λ s. record s { inactive = s.inactive ++ event_of (names Events) n ∷ [] }) (λ s posts. (posts.0, All-push Q s.inactive (event_of (names Events) n) posts.1 is))
-    meet_one (mode n priority game) is = record { switches = meet.switches; lists = meet.lists }
+    meet_one (mode n priority game holds) is = record { switches = meet.switches; lists = meet.lists }
     meet_one (mode_event which n) is = record { switches = meet.switches; lists = meet.lists }
     meet_one (binds n place aim) is = record { switches = meet.switches; lists = list_meets aim }
     meet_one (does e) is = record { switches = meet.switches; lists = action_meets (length d.plan.lists - 1) (action_of names (last_row d.plan) e) (is (last_row d.plan)) }

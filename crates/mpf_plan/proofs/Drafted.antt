@@ -220,7 +220,7 @@ module _ (names : Names) where
   counts_one d (reads kind confirms) = switch_counts (λ s. record s { kind = kind; confirms_playfield = confirms }) (λ s. refl) d
   counts_one d (active n) = switch_counts (λ s. record s { active = s.active ++ event_of (names Events) n ∷ [] }) (λ s. refl) d
   counts_one d (inactive n) = switch_counts (λ s. record s { inactive = s.inactive ++ event_of (names Events) n ∷ [] }) (λ s. refl) d
-  counts_one d (mode n priority game) = modes_counts (d.plan.modes ++ new_mode n priority game (event_of (names Events) (mode_event_name WillStart n)) ∷ []) d
+  counts_one d (mode n priority game holds) = modes_counts (d.plan.modes ++ new_mode n priority game holds (event_of (names Events) (mode_event_name WillStart n)) ∷ []) d
   counts_one d (mode_event which n) =
       let last = length d.plan.modes - 1 in
       modes_counts (slice_set d.plan.modes last (with_event_in which (event_of (names Events) (mode_event_name which n)) (get_or d.plan.modes last no_mode))) d
@@ -262,7 +262,7 @@ module _ (names : Names) where
 
   pub modes_one : (d : DraftView) (c : Contribution) → length (with_contribution names d c).plan.modes ≡ length d.plan.modes + modes_given c
   modes_one d (gives t n) = omega (arith, ap (λ p. length p.modes) (given_plan t (number_among (names t) n) d))
-  modes_one d (mode n priority game) = length_push d.plan.modes (new_mode n priority game (event_of (names Events) (mode_event_name WillStart n)))
+  modes_one d (mode n priority game holds) = length_push d.plan.modes (new_mode n priority game holds (event_of (names Events) (mode_event_name WillStart n)))
   modes_one d (mode_event which n) =
       let last = length d.plan.modes - 1 in
       omega (arith, length-set d.plan.modes last (with_event_in which (event_of (names Events) (mode_event_name which n)) (get_or d.plan.modes last no_mode)))

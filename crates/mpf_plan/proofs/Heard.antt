@@ -45,7 +45,7 @@ AreHeard o (c ∷ cs) = IsHeard o c × AreHeard (row_after o c) cs
 
 abbrev pub IsQuiet : Contribution → Type 0
 IsQuiet (gives t n) = t ≡ Switches
-IsQuiet (mode n priority game) = ⊥
+IsQuiet (mode n priority game holds) = ⊥
 IsQuiet (mode_event which n) = ⊥
 IsQuiet (device place settings) = ⊥
 IsQuiet (listens k n) = ⊥
@@ -126,7 +126,7 @@ heard_any o (gives t n ∷ cs) h = (h.0, heard_any o cs h.1)
 heard_any o (reads kind confirms ∷ cs) h = (tt, heard_any o cs h.1)
 heard_any o (active n ∷ cs) h = (tt, heard_any o cs h.1)
 heard_any o (inactive n ∷ cs) h = (tt, heard_any o cs h.1)
-heard_any o (mode n priority game ∷ cs) h = (tt, h.1)
+heard_any o (mode n priority game holds ∷ cs) h = (tt, h.1)
 heard_any o (mode_event which n ∷ cs) h = (tt, heard_any o cs h.1)
 heard_any o (binds n place aim ∷ cs) h = (tt, heard_any o cs h.1)
 heard_any o (does e ∷ cs) h = (tt, heard_any o cs h.1)

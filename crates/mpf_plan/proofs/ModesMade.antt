@@ -48,6 +48,7 @@ module _ (names : Names) where
     mode = record {
       priority = s.priority;
       game = s.game;
+      holds_ball_end = s.holds_ball_end;
       events = record { will_start = event_for WillStart name; starting = event_for Starting name; started = event_for Started name; stopping = event_for Stopping name; stopped = event_for Stopped name };
     };
   }
@@ -65,7 +66,7 @@ module _ (names : Names) where
   -- ---- one contribution
 
   abbrev modes_with : List PlanMode → Contribution → List PlanMode
-  modes_with ms (mode n priority game) = ms ++ new_mode n priority game (event_for WillStart n) ∷ []
+  modes_with ms (mode n priority game holds) = ms ++ new_mode n priority game holds (event_for WillStart n) ∷ []
   modes_with ms (mode_event which n) = last_with_event which (event_for which n) ms
   modes_with ms _ = ms
 
@@ -90,7 +91,7 @@ module _ (names : Names) where
   quiet_leaves (c ∷ cs) quiet ms = ap (λ x. fold modes_with x cs) (by c (All-head IsQuiet c cs quiet)) ∙ quiet_leaves cs (All-tail IsQuiet c cs quiet) ms
     where
       by : (c : Contribution) → IsQuiet c → modes_with ms c ≡ ms
-      by (mode n priority game) is = absurd is
+      by (mode n priority game holds) is = absurd is
       by (mode_event which n) is = absurd is
       by _ is = refl
 
@@ -163,11 +164,11 @@ module _ (names : Names) where
   mode_adds : (name : List ℕ) (s : ModeSettings) (ms : List PlanMode) → fold modes_with ms (mode_contributions name s) ≡ ms ++ made_by name s ∷ []
   unfolding mode_contributions
   mode_adds name s ms =
-      let m0 = new_mode name s.priority s.game (event_for WillStart name) in
+      let m0 = new_mode name s.priority s.game s.holds_ball_end (event_for WillStart name) in
       let m1 = with_event_in Starting (event_for Starting name) m0 in
       let m2 = with_event_in Started (event_for Started name) m1 in
       let m3 = with_event_in Stopping (event_for Stopping name) m2 in
-      in_controls s (fold modes_with ms (mode name s.priority s.game ∷ later_events name))
+      in_controls s (fold modes_with ms (mode name s.priority s.game s.holds_ball_end ∷ later_events name))
       ∙ ap (λ x. last_with_event Stopped (event_for Stopped name) (last_with_event Stopping (event_for Stopping name) (last_with_event Started (event_for Started name) x))) (event_set Starting (event_for Starting name) ms m0)
       ∙ ap (λ x. last_with_event Stopped (event_for Stopped name) (last_with_event Stopping (event_for Stopping name) x)) (event_set Started (event_for Started name) ms m1)
       ∙ ap (λ x. last_with_event Stopped (event_for Stopped name) x) (event_set Stopping (event_for Stopping name) ms m2)

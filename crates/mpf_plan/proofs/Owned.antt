@@ -112,7 +112,7 @@ module _ (names : Names) (final : List DeviceRow) (d : DraftView) (o : Option Pl
       listeners = changed_switch (λ s. record s { inactive = s.inactive ++ event_of (names Events) n ∷ [] }) (λ s h. h) d.last;
       last = own.last;
     }
-    own_one (mode n priority game) is on heard = record { bindings = own.bindings; listeners = own.listeners; last = λ place none. absurd (none-some place none) }
+    own_one (mode n priority game holds) is on heard = record { bindings = own.bindings; listeners = own.listeners; last = λ place none. absurd (none-some place none) }
     own_one (mode_event which n) is on heard =
         let at = length d.plan.modes - 1 in
         let changed = with_event_in which (event_of (names Events) (mode_event_name which n)) (get_or d.plan.modes at no_mode) in

@@ -432,7 +432,7 @@ ready_player_entry machine place section p = by (bytes_eq section event_player_n
     by false false true = ready_variable_player place (variable_player_of p)
     by false false false = All-nil (IsReady (IsUsed []))
 
-events_plain : (name : List ℕ) (s : ModeSettings) → All IsPlain (mode name s.priority s.game ∷ later_events name)
+events_plain : (name : List ℕ) (s : ModeSettings) → All IsPlain (mode name s.priority s.game s.holds_ball_end ∷ later_events name)
 events_plain name s zero d within = tt
 events_plain name s (suc zero) d within = tt
 events_plain name s (suc (suc zero)) d within = tt
@@ -449,7 +449,7 @@ ready_row machine (group place g m) = ready_group place g m
 ready_row machine (ball_device d to) = ready_ball_device machine d to
 ready_row machine (player place section p) = ready_player_entry machine place section p
 ready_row machine (of_mode name s) =
-    let first = mode name s.priority s.game ∷ later_events name in
+    let first = mode name s.priority s.game s.holds_ball_end ∷ later_events name in
     both first (controls s) (plain_ready first (events_plain name s)) (plain_ready (controls s) (of_controls IsPlain IsPlainEffect usual_plain s))
 
 rows_ready : (machine : List SectionRows) (rs : List Row) → AreReady (given_by machine rs)

@@ -38,7 +38,7 @@ settings_of rows = map (λ (r : DeviceRow). r.settings) rows
 module _ (names : Names) where
   -- as many modes are there as have come
   pub modes_come : (n : ℕ) (d : DraftView) (c : Contribution) → n ≡ length d.plan.modes → modes_after n c ≡ length (with_contribution names d c).plan.modes
-  modes_come n d (mode x priority game) same = omega (arith, same, modes_one names d (mode x priority game))
+  modes_come n d (mode x priority game holds) same = omega (arith, same, modes_one names d (mode x priority game holds))
   modes_come n d (gives t x) same = omega (arith, same, modes_one names d (gives t x))
   modes_come n d (mode_event which x) same = omega (arith, same, modes_one names d (mode_event which x))
   modes_come n d _ same = same

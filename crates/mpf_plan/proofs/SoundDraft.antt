@@ -310,10 +310,10 @@ module _ (names : Names) (final : List DeviceRow) (d : DraftView) (sound : IsSou
     sound_one (reads kind confirms) own opened known = same_sound (with_contribution names d (reads kind confirms)).plan.switches d.plan.coils d.plan.lists (omega arith)
     sound_one (active x) own opened known = same_sound (with_contribution names d (active x)).plan.switches d.plan.coils d.plan.lists (omega arith)
     sound_one (inactive x) own opened known = same_sound (with_contribution names d (inactive x)).plan.switches d.plan.coils d.plan.lists (omega arith)
-    sound_one (mode x priority game) own opened known =
+    sound_one (mode x priority game holds) own opened known =
         let here = event_within (mode_event_name WillStart x) known in
         let some : 0 < length d.plan.events = omega (arith, here) in
-        mode_added (new_mode x priority game (event_of (names Events) (mode_event_name WillStart x))) (record { will_start = here; starting = some; started = some; stopping = some; stopped = some })
+        mode_added (new_mode x priority game holds (event_of (names Events) (mode_event_name WillStart x))) (record { will_start = here; starting = some; started = some; stopping = some; stopped = some })
     sound_one (mode_event which x) own opened known = mode_changed which (event_of (names Events) (mode_event_name which x)) (event_within (mode_event_name which x) known)
     sound_one (binds x place aim) own opened known = binding_sound (event_of (names Events) x) place aim (event_within x known) opened.0 opened.1 own
     sound_one (does e) own opened known = action_sound (length d.plan.lists - 1) (action_of names (last_row d.plan) e)

@@ -15,7 +15,7 @@ use Rattle.plan_tables.specs.declared.table.Table.{Table}
 use Rattle.plan_tables.specs.declared.table.Table.TheVariants.{Events, Switches}
 use Rattle.plan_contributions.specs.DeviceEntries.{texts, events, Deed, Effect, posts, works, Device}
 use Rattle.plan_contributions.specs.CoilEntries.{item_effect}
-use Rattle.plan_contributions.specs.Contributions.{Contribution, gives, reads, active, inactive, binds, does, does_in, mentions, unknown, under, under_where, bound, always, active_posts, inactive_posts, kind_of, confirms, switch_contributions, player_contributions, coil_player_contributions, starter, stopper, stopper_where, controls, act_binding, effects_from, unknown_unless, shot_switch, aim_at, act_at}
+use Rattle.plan_contributions.specs.Contributions.{Contribution, gives, reads, active, inactive, binds, does, does_in, mentions, unknown, under, under_where, bound, always, active_posts, inactive_posts, kind_of, confirms, switch_contributions, player_contributions, coil_player_contributions, starter, stopper, stopper_where, stops_at_ball_end, stops_at_game_end, controls, act_binding, effects_from, unknown_unless, shot_switch, aim_at, act_at}
 use Rattle.plan_contributions.proofs.RowFacts.{All-each, All-made, All-lists}
 
 -- P holds of contributions that are usual, and of those that do such an effect as devices do and players of events and coils
@@ -90,10 +90,10 @@ module _ (P : Contribution → Type 0) (R : Effect → Type 0) (usual : IsUsual 
   of_controls s =
       let starts = flat_map starter (events s.starts) in
       let stops = flat_map stopper (events s.stops) in
-      let ball = stopper_where s.stops_with_ball (codes "ball_ending") in
-      let game = stopper_where s.game (codes "game_ending") in
+      let ball = stopper_where (stops_at_ball_end s) (codes "ball_ending") in
+      let game = stopper_where (stops_at_game_end s) (codes "game_ending") in
       All-append P (starts ++ stops ++ ball) game
       (All-append P (starts ++ stops) ball
       (All-append P starts stops (All-each P starter (λ e. of_bound e Control Start) (events s.starts)) (All-each P stopper (λ e. of_bound e Control Stop) (events s.stops)))
-      (of_stopper s.stops_with_ball (codes "ball_ending")))
-      (of_stopper s.game (codes "game_ending"))
+      (of_stopper (stops_at_ball_end s) (codes "ball_ending")))
+      (of_stopper (stops_at_game_end s) (codes "game_ending"))

@@ -167,7 +167,7 @@ module _ (names : Names) where
   fit_one n f d (reads kind confirms) room fit = record { lists = fit.lists; last = fit.last; in_row = fit.in_row }
   fit_one n f d (active e) room fit = record { lists = fit.lists; last = fit.last; in_row = fit.in_row }
   fit_one n f d (inactive e) room fit = record { lists = fit.lists; last = fit.last; in_row = fit.in_row }
-  fit_one n f d (mode e priority game) room fit = record { lists = fit.lists; last = fit.last; in_row = fit.in_row }
+  fit_one n f d (mode e priority game holds) room fit = record { lists = fit.lists; last = fit.last; in_row = fit.in_row }
   fit_one n f d (mode_event which e) room fit = record { lists = fit.lists; last = fit.last; in_row = fit.in_row }
   fit_one n f d (binds e place Start) room fit = record { lists = fit.lists; last = fit.last; in_row = fit.in_row }
   fit_one n f d (binds e place Stop) room fit = record { lists = fit.lists; last = fit.last; in_row = fit.in_row }

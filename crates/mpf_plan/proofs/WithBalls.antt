@@ -265,7 +265,7 @@ module _ (names : Names) where
         acts = All-changed (λ b. IsActOfNone final b.target) (conditioned (condition_of names c)) d.plan.bindings (length d.plan.bindings - 1) no_binding (λ b h. h) own.acts;
         listening = own.listening;
       }
-      so_far_one (mode m priority game) room fits once off known ready = record { made = own.made; acts = own.acts; listening = own.listening }
+      so_far_one (mode m priority game holds) room fits once off known ready = record { made = own.made; acts = own.acts; listening = own.listening }
       so_far_one (mode_event which m) room fits once off known ready = record { made = own.made; acts = own.acts; listening = own.listening }
       so_far_one (mentions t m) room fits once off known ready = own
       so_far_one unknown room fits once off known ready = own

@@ -29,7 +29,7 @@ binding_count cs = sum_by bindings_given cs
 
 -- how many modes, as well
 abbrev pub modes_given : Contribution → ℕ
-modes_given (mode n priority game) = 1
+modes_given (mode n priority game holds) = 1
 modes_given _ = 0
 
 abbrev pub mode_count : List Contribution → ℕ

@@ -125,10 +125,10 @@ first_event e = record {
   stopped = no_event;
 }
 
-abbrev pub new_mode : List ℕ → ℕ → Bool → EventId → PlanMode
-new_mode name priority game e = record {
+abbrev pub new_mode : List ℕ → (priority : ℕ) → (game holds_ball_end : Bool) → EventId → PlanMode
+new_mode name priority game holds_ball_end e = record {
   name = name;
-  mode = record { priority = priority; game = game; events = first_event e };
+  mode = record { priority = priority; game = game; holds_ball_end = holds_ball_end; events = first_event e };
 }
 
 abbrev pub with_mode : PlanMode → DraftView → DraftView
@@ -306,8 +306,8 @@ with_contribution names d (gives table n) = with_given table (number_among (name
 with_contribution names d (reads kind confirms) = with_kind kind confirms d
 with_contribution names d (active n) = with_active (event_of (names Events) n) d
 with_contribution names d (inactive n) = with_inactive (event_of (names Events) n) d
-with_contribution names d (mode n priority game) =
-    with_mode (new_mode n priority game (event_of (names Events) (mode_event_name WillStart n))) d
+with_contribution names d (mode n priority game holds_ball_end) =
+    with_mode (new_mode n priority game holds_ball_end (event_of (names Events) (mode_event_name WillStart n))) d
 with_contribution names d (mode_event which n) =
     with_mode_event which (event_of (names Events) (mode_event_name which n)) d
 with_contribution names d (binds n place aim) =

@@ -51,7 +51,7 @@ use std::alloc::Global;
 ///
 /// Each event in `start_events` of a mode is bound to its start, and each in `stop_events` to its
 /// stop. So is `ball_ending` to its stop where `stop_on_ball_end` holds, and `game_ending` where
-/// `game_mode` holds. These bindings are the machine's, at the mode's priority. The entries of
+/// `game_mode` holds, but neither of the two where `use_wait_queue` holds. These bindings are the machine's, at the mode's priority. The entries of
 /// `event_player` and `coil_player` in the mode's text are bindings of the mode, at its priority.
 ///
 /// Where an event is handled under a condition, its binding has the condition. When an item of

@@ -99,8 +99,19 @@ fn add(
         }
         Contribution::Active(name) => add_active(names, text, draft, name),
         Contribution::Inactive(name) => add_inactive(names, text, draft, name),
-        Contribution::Mode(name, priority, game) => {
-            add_mode(alloc, names, text, draft, name, priority, game)
+        Contribution::Mode {
+            name,
+            priority,
+            game,
+            holds_ball_end,
+        } => {
+            let settings = Mode {
+                priority,
+                game,
+                holds_ball_end,
+                events: first_event(EventId(0)),
+            };
+            add_mode(alloc, names, text, draft, name, settings)
         }
         Contribution::ModeEvent(which, name) => add_mode_event(names, text, draft, which, name),
         Contribution::Binds(name, place, aim) => {
@@ -225,23 +236,21 @@ fn post_inactive(draft: &mut Draft, event: EventId) -> Result<(), AllocError>
 
 // ---- modes
 
-/// A mode, of which the first event alone is known.
+/// A mode, of which no event is known yet; it gets its first one.
 fn add_mode(
     alloc: Global,
     names: &NameSets,
     text: &mut Vec<u8>,
     draft: &mut Draft,
     name: &[u8],
-    priority: u32,
-    game: bool,
+    settings: Mode,
 ) -> Result<(), AllocError>
-    ensures { OnOk result (draft_view names.now draft.new ≡ with_contribution (name_sets_view names.now) (draft_view names.now draft.old) (mode name.now priority game)) }
+    ensures { OnOk result (draft_view names.now draft.new ≡ with_contribution (name_sets_view names.now) (draft_view names.now draft.old) (mode name.now settings.priority settings.game settings.holds_ball_end)) }
 {
     let event = event_of(names, text, mode_event_name(ModeEvent::WillStart, name))?;
     let mode = Mode {
-        priority,
-        game,
         events: first_event(event),
+        ..settings
     };
     let name = Vec::from_slice(alloc, name)?;
     draft.modes.push(ModeEntry { name, mode })?;

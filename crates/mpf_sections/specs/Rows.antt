@@ -103,14 +103,15 @@ pub record BallDevice : Type 0 where
   pub tags : List Written
   pub order : List ℕ
 
--- what `mode` says of a mode: the events that start and stop it, its priority, whether it runs only in a game, and
--- whether it stops with the ball
+-- what `mode` says of a mode: the events that start and stop it, its priority, whether it runs only in a game, whether
+-- it stops with the ball, and whether it may hold the end of the ball
 pub record ModeSettings : Type 0 where
   pub starts : List Handled
   pub stops : List Handled
   pub priority : ℕ
   pub game : Bool
   pub stops_with_ball : Bool
+  pub holds_ball_end : Bool
 
 -- what all logic blocks have: whether completing resets and disables the block, whether each player has a state of their
 -- own, the events that enable, disable, reset and restart it, and those that are posted in place of its own when it is hit

@@ -1,5 +1,6 @@
 -- The entries of sections, by the names of their settings.
-use Rattle.std.specs.Prelude.{ℕ, zero, suc, ℤ, pos, negsuc, ◌^◌, nat_lt, nat_le, ◌&&◌, Bool, false, if◌then◌else◌, List, [], ◌∷◌, length, map, Option, Some, None, slice_get, codes}
+use Rattle.std.specs.Prelude.{ℕ, zero, suc, ℤ, pos, negsuc, ◌^◌, nat_lt, nat_le, ◌==◌, ◌&&◌, not, Bool, false, if◌then◌else◌, List, [], ◌∷◌, length, map, Option, Some, None, slice_get, codes}
+use Rattle.std.specs.List.{list_all}
 use Rattle.std.specs.Str.{bytes_eq}
 use Rattle.mpf_sections.specs.declared.words.Contact.{Contact}
 use Rattle.mpf_sections.specs.declared.words.Contact.TheVariants.{NormallyOpen, NormallyClosed}
@@ -276,7 +277,16 @@ mode_settings_of row = record {
   priority = natural_of (setting_of tables.mode (codes "priority") row);
   game = flag_of (setting_of tables.mode (codes "game_mode") row);
   stops_with_ball = flag_of (setting_of tables.mode (codes "stop_on_ball_end") row);
+  holds_ball_end = flag_of (setting_of tables.mode (codes "use_wait_queue") row);
 }
+
+-- the event of the end of the ball
+abbrev pub ball_ending : List ℕ
+ball_ending = codes "ball_ending"
+
+-- whether a mode has start events, all of which are `ball_ending`, with or without a condition
+unfoldable pub starts_at_ball_end : ModeSettings → Bool
+starts_at_ball_end s = not (length s.starts == 0) && list_all (λ h. bytes_eq h.event.name ball_ending) s.starts
 
 -- ---- sections
 

@@ -66,6 +66,7 @@ mode_settings_view s = record {
   priority = s.priority;
   game = s.game;
   stops_with_ball = s.stops_with_ball;
+  holds_ball_end = s.holds_ball_end;
 }
 
 abbrev pub block_view : typed_blocks.Block → Block

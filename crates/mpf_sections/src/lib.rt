@@ -4,7 +4,7 @@
 //! of the table: [`as_switch`], [`as_event_player`], [`as_coil`], [`as_coil_player`],
 //! [`as_variable_player`], [`as_flipper`], [`as_autofire`], [`as_counter`], [`as_step_block`],
 //! [`as_timer`], [`as_shot`], [`as_shot_group`], [`as_shot_profile`], [`as_ball_device`],
-//! [`as_game`], [`min_balls`] and [`mode_settings`] give each setting by its name.
+//! [`as_game`], [`min_balls`], [`as_mode_settings`] and [`mode_settings`] give each setting by its name.
 #![tactic(auto)]
 
 pub mod balls;
@@ -31,7 +31,7 @@ pub use section::{Content, Section};
 pub use shots::{Shot, ShotGroup, ShotProfile, as_shot, as_shot_group, as_shot_profile, as_state};
 pub use timers::{Control, Timer, as_control, as_timer};
 pub use typed::{
-    EventPlayer, HandledAt, ModeSettings, NameAt, Switch, as_event_player, as_handled, as_switch,
-    listed_modes, mode_settings,
+    EventPlayer, HandledAt, ModeSettings, NameAt, Switch, as_event_player, as_handled,
+    as_mode_settings, as_switch, listed_modes, mode_settings,
 };
 pub use words::{CoilAction, Contact, ControlAction, Debounce, Direction, VariableAction};

@@ -1,8 +1,10 @@
 //! The entries of sections, by the names of their settings.
 
 ghost use Rattle.std.specs.Prelude.{◌≡◌, None, map, option_map};
+ghost use Rattle.std.specs.List.{list_all};
+ghost use Rattle.std.specs.Str.{bytes_eq};
 ghost use Rattle.section_tables.specs.View.{name_view, handler_view, values_view, entry_view, player_view};
-ghost use Rattle.mpf_sections.specs.Typed.{mode_settings_of, mode_row, mode_settings, listed_modes, content_named, contact_of, debounce_of, switch_of, event_player_of, entries_in, players_in, entries_of, players_of};
+ghost use Rattle.mpf_sections.specs.Typed.{mode_settings_of, ball_ending, starts_at_ball_end, mode_row, mode_settings, listed_modes, content_named, contact_of, debounce_of, switch_of, event_player_of, entries_in, players_in, entries_of, players_of};
 ghost use Rattle.mpf_sections.specs.View.{content_view, section_view, handled_at_view, switch_view, event_player_view, mode_settings_view};
 
 use crate::section::{Content, Section};
@@ -65,6 +67,8 @@ pub struct ModeSettings<'a> {
     pub game: bool,
     /// Whether it stops with the ball: by default it does.
     pub stops_with_ball: bool,
+    /// Whether it holds the end of the ball, `use_wait_queue`: by default it does not.
+    pub holds_ball_end: bool,
 }
 
 // ---- handled events
@@ -167,6 +171,10 @@ const GAME_MODE: usize = 3;
 
 const STOP_ON_BALL_END: usize = 4;
 
+const USE_WAIT_QUEUE: usize = 5;
+
+const BALL_ENDING: &[u8] = b"ball_ending";
+
 // What holds where no setting is written.
 #[tactic(auto, unfolding(crate::specs::Typed::mode_settings_of))]
 fn default_settings<'a>() -> ModeSettings<'a>
@@ -178,12 +186,13 @@ fn default_settings<'a>() -> ModeSettings<'a>
         priority: 100,
         game: true,
         stops_with_ball: true,
+        holds_ball_end: false,
     }
 }
 
-// The row of `mode`, by the names of its settings.
+/// The row of `mode`, by the names of its settings.
 #[tactic(auto, unfolding(crate::specs::Typed::mode_settings_of))]
-fn as_settings(row: &[Value]) -> ModeSettings<'_>
+pub fn as_mode_settings(row: &[Value]) -> ModeSettings<'_>
     ensures { mode_settings_view result ≡ mode_settings_of (values_view row.now) }
 {
     ModeSettings {
@@ -192,7 +201,28 @@ fn as_settings(row: &[Value]) -> ModeSettings<'_>
         priority: natural(row, PRIORITY),
         game: flag(row, GAME_MODE),
         stops_with_ball: flag(row, STOP_ON_BALL_END),
+        holds_ball_end: flag(row, USE_WAIT_QUEUE),
     }
+}
+
+impl ModeSettings<'_> {
+    /// Whether the mode starts at the end of the ball and at nothing else: it has start events, and each of them
+    /// is `ball_ending`, with or without a condition.
+    #[tactic(auto, unfolding(crate::specs::Typed::starts_at_ball_end))]
+    pub fn starts_at_ball_end(&self) -> bool
+        ensures { result ≡ starts_at_ball_end (mode_settings_view self.now) }
+    {
+        !self.starts.is_empty() && are_ball_ending(self.starts)
+    }
+}
+
+// Whether each of these events is `ball_ending`.
+fn are_ball_ending(starts: &[Handler]) -> bool
+    ensures { result ≡ list_all (λ h. bytes_eq h.event.name ball_ending) (map handler_view starts.now) }
+{
+    starts
+        .iter()
+        .all(|start| start.name.as_slice() == BALL_ENDING)
 }
 
 /// What the sections of a mode say of it: its section `mode`, with the defaults for what is not
@@ -201,7 +231,7 @@ pub fn mode_settings(sections: &[Section]) -> ModeSettings<'_>
     ensures { mode_settings_view result ≡ mode_settings (map section_view sections.now) }
 {
     match section_named(sections, MODE_NAME) {
-        Some(Content::Entry(entry)) => as_settings(&entry.values),
+        Some(Content::Entry(entry)) => as_mode_settings(&entry.values),
         _ => default_settings(),
     }
 }

@@ -41,7 +41,11 @@ switches =
 abbrev yes : List ℕ → Setting
 yes key = row key (single a_flag) (default (one (flag true)))
 
--- The settings of a mode itself. `use_wait_queue` can only be no.
+-- no by default
+abbrev no : List ℕ → Setting
+no key = row key (single a_flag) (default (one (flag false)))
+
+-- the settings of a mode itself
 abbrev pub mode : List Setting
 mode =
     handling (codes "start_events")
@@ -49,12 +53,8 @@ mode =
     ∷ row (codes "priority") (single (number_within (pos 0) (pos 1000000))) (default (one (number (pos 100))))
     ∷ yes (codes "game_mode")
     ∷ yes (codes "stop_on_ball_end")
-    ∷ choice (codes "use_wait_queue") (codes "no") (codes "No" ∷ codes "NO" ∷ codes "false" ∷ codes "False" ∷ codes "FALSE" ∷ codes "off" ∷ codes "Off" ∷ codes "OFF" ∷ [])
+    ∷ no (codes "use_wait_queue")
     ∷ []
-
--- no by default
-abbrev no : List ℕ → Setting
-no key = row key (single a_flag) (default (one (flag false)))
 
 -- the length of a pulse
 abbrev a_pulse : Scalar

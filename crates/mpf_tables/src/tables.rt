@@ -301,7 +301,7 @@ pub const BALL_DEVICES: &[Setting] = &[
     setting!(b"tags", Kind::Names(ANY), Without::NoNames),
 ];
 
-/// `mode`: the settings of a mode itself. `use_wait_queue` can only be no.
+/// `mode`: the settings of a mode itself.
 pub const MODE: &[Setting] = &[
     setting!(b"start_events", EVENTS, Without::NoEvents),
     setting!(b"stop_events", EVENTS, Without::NoEvents),
@@ -320,13 +320,7 @@ pub const MODE: &[Setting] = &[
         Kind::One(Scalar::Flag),
         Without::One(Absent::Flag(true))
     ),
-    setting!(
-        b"use_wait_queue",
-        Kind::One(Scalar::Word(&[
-            b"no", b"No", b"NO", b"false", b"False", b"FALSE", b"off", b"Off", b"OFF"
-        ])),
-        Without::One(Absent::Word(b"no"))
-    ),
+    setting!(b"use_wait_queue", FLAG, NO),
 ];
 
 /// `machine`: what holds of the whole machine.

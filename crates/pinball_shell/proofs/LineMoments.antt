@@ -6,7 +6,7 @@ use Rattle.written_machine.specs.Machine.{Machine}
 use Rattle.written_machine.specs.EventStep.{taken, EventStep, EventSteps}
 use Rattle.written_machine.specs.Run.{Stimulus, moment_of, begin}
 use Rattle.written_machine.specs.PlanOrder.{settled}
-use Rattle.written_machine.specs.Moves.{Move, Wrote, Sent, Switched, Began, Ended, Marked, Turned, Asked, Booked, Varied, Stepped, do_move, Does}
+use Rattle.written_machine.specs.Moves.{Move, Wrote, Sent, Switched, Began, Ended, Marked, Released, Turned, Asked, Booked, Varied, Stepped, do_move, Does}
 use Rattle.written_machine.proofs.Does.{start-by, stop-by, book-by, does-keeps, moment-move}
 use Rattle.written_machine.proofs.Parts.{does-begin, does-before, does-after}
 use Rattle.written_machine.proofs.Keeps.{step-keeps, steps-keep}
@@ -39,6 +39,7 @@ module _ (plan : PlanView) (m : ℕ) where
   lines-move (Turned call r) s h = h.1
   lines-move (Asked owner command) s h = at-push m s.lines _ h.1 h.0
   lines-move (Booked owner call) s h = book-by owner call s (λ t. AreAt m t.lines) (λ is. at-push m s.lines _ h.1 h.0) h.1
+  lines-move (Released m) s h = h.1
   lines-move (Varied v value) s h = h.1
   lines-move (Stepped which) s h = h.1
 

@@ -36,7 +36,7 @@ use Rattle.plan_contributions.specs.BallEntries.{ball_device_from, is_known}
 use Rattle.plan_rows.specs.declared.destination.Destination.{Destination}
 use Rattle.plan_rows.specs.Seats.{Seat, seat_of, destination_of, rows_after_text}
 use Rattle.plan_rows.specs.Members.{Members, members_of}
-use Rattle.plan_contributions.specs.Contributions.{Contribution, gives, reads, active, inactive, mode, mode_event, binds, does, device, mentions, under, unknown, plays, under_where, bound, always, kind_of, confirms, active_posts, inactive_posts, switch_contributions, player_contributions, coil_contributions, coil_player_contributions, item_contributions, variable_player_contributions, game_contributions, later_events, starter, stopper, stopper_where, controls, mode_contributions, act_binding, effects_from, listens_from, device_contributions, where_device, machine_device, machine_entry_contributions, entry_contributions, alone_contributions, player_entry_contributions, unknown_unless, shot_switch, act_at, seated, shot_contributions, group_contributions, ball_device_contributions, row_contributions, given_by, contributions_of}
+use Rattle.plan_contributions.specs.Contributions.{Contribution, gives, reads, active, inactive, mode, mode_event, binds, does, device, mentions, under, unknown, plays, under_where, bound, always, kind_of, confirms, active_posts, inactive_posts, switch_contributions, player_contributions, coil_contributions, coil_player_contributions, item_contributions, variable_player_contributions, game_contributions, later_events, starter, stopper, stopper_where, stops_at_ball_end, stops_at_game_end, controls, mode_contributions, act_binding, effects_from, listens_from, device_contributions, where_device, machine_device, machine_entry_contributions, entry_contributions, alone_contributions, player_entry_contributions, unknown_unless, shot_switch, act_at, seated, shot_contributions, group_contributions, ball_device_contributions, row_contributions, given_by, contributions_of}
 use Rattle.plan_rows.specs.Rows.{Row, alone, player, of_mode, entry_row, rows_from, rows_in, text_rows, mode_rows, modes_rows}
 use Rattle.plan_contributions.specs.Facts.{row_places, IsAimedAt, AreAimed}
 use Rattle.plan_contributions.proofs.Before.{All-every, All-flat_map}
@@ -47,7 +47,7 @@ use Rattle.plan_contributions.proofs.SeatFacts.{row_given, silent, rows_of_text,
 -- What a contribution of a text of this place is like: no mode comes by it, its row is of the place, and what it binds is
 -- aimed so.
 abbrev pub IsOfText : (Place → Aim → Type 0) → Place → Contribution → Type 0
-IsOfText A place (mode name priority game) = ⊥
+IsOfText A place (mode name priority game holds) = ⊥
 IsOfText A place (binds e own aim) = A own aim
 IsOfText A place (device own settings) = own ≡ place
 IsOfText A place _ = Unit {0}
@@ -66,7 +66,7 @@ module _ (A : Place → Aim → Type 0) (place : Place) (n : ℕ) where
   places_of_text (c ∷ cs) own = by c (All-head (IsOfText A place) c cs own) (places_of_text cs (All-tail (IsOfText A place) c cs own))
     where
       by : (c : Contribution) → IsOfText A place c → All (λ r. r ≡ (place, n)) (row_places n cs) → All (λ r. r ≡ (place, n)) (row_places n (c ∷ cs))
-      by (mode name priority game) is h = absurd is
+      by (mode name priority game holds) is h = absurd is
       by (device own settings) is h = All-cons (λ r. r ≡ (place, n)) (own, n) (row_places n cs) (ap (λ p. (p, n)) is) h
       by _ is h = h
 
@@ -76,7 +76,7 @@ module _ (A : Place → Aim → Type 0) (place : Place) (n : ℕ) where
   places_before (c ∷ cs) ds own = by c (All-head (IsOfText A place) c cs own) (places_before cs ds (All-tail (IsOfText A place) c cs own))
     where
       by : (c : Contribution) → IsOfText A place c → row_places n (cs ++ ds) ≡ row_places n cs ++ row_places n ds → row_places n (c ∷ cs ++ ds) ≡ row_places n (c ∷ cs) ++ row_places n ds
-      by (mode name priority game) is h = absurd is
+      by (mode name priority game holds) is h = absurd is
       by (device own settings) is h = ap (λ l. (own, n) ∷ l) h
       by _ is h = h
 
@@ -86,7 +86,7 @@ module _ (A : Place → Aim → Type 0) (place : Place) (n : ℕ) where
   places_told (c ∷ cs) own = by c (All-head (IsOfText A place) c cs own) (places_told cs (All-tail (IsOfText A place) c cs own))
     where
       by : (c : Contribution) → IsOfText A place c → length (row_places n cs) ≡ length (flat_map row_given cs) → length (row_places n (c ∷ cs)) ≡ length (flat_map row_given (c ∷ cs))
-      by (mode name priority game) is h = absurd is
+      by (mode name priority game holds) is h = absurd is
       by (device own settings) is h = ap suc h
       by _ is h = h
 
@@ -97,7 +97,7 @@ aimed_before places n place (c ∷ cs) ds own rest =
     by c (All-head (IsOfText (IsAimedAt places n) place) c cs own) (aimed_before places n place cs ds (All-tail (IsOfText (IsAimedAt places n) place) c cs own) rest)
   where
     by : (c : Contribution) → IsOfText (IsAimedAt places n) place c → AreAimed places n (cs ++ ds) → AreAimed places n (c ∷ cs ++ ds)
-    by (mode name priority game) is h = absurd is
+    by (mode name priority game holds) is h = absurd is
     by (binds e own aim) is h = (is, h)
     by _ is h = (tt, h)
 
@@ -286,8 +286,8 @@ module _ (A : Place → Aim → Type 0) (plain : (own : Place) (aim : Aim) → I
   of_controls name s =
       let starts = flat_map starter (events s.starts) in
       let stops = flat_map stopper (events s.stops) in
-      let ball = stopper_where s.stops_with_ball (codes "ball_ending") in
-      let game = stopper_where s.game (codes "game_ending") in
+      let ball = stopper_where (stops_at_ball_end s) (codes "ball_ending") in
+      let game = stopper_where (stops_at_game_end s) (codes "game_ending") in
       event Starting (mode_event Started name ∷ mode_event Stopping name ∷ mode_event Stopped name ∷ controls s)
       (event Started (mode_event Stopping name ∷ mode_event Stopped name ∷ controls s)
       (event Stopping (mode_event Stopped name ∷ controls s)
@@ -295,8 +295,8 @@ module _ (A : Place → Aim → Type 0) (plain : (own : Place) (aim : Aim) → I
       (All-append C (starts ++ stops ++ ball) game
       (All-append C (starts ++ stops) ball
       (All-append C starts stops (All-each C starter (λ e. in_bound A plain Mode e Control Start (plain Control Start tt)) (events s.starts)) (All-each C stopper (λ e. in_bound A plain Mode e Control Stop (plain Control Stop tt)) (events s.stops)))
-      (of_stopper s.stops_with_ball (codes "ball_ending")))
-      (of_stopper s.game (codes "game_ending"))))))
+      (of_stopper (stops_at_ball_end s) (codes "ball_ending")))
+      (of_stopper (stops_at_game_end s) (codes "game_ending"))))))
     where
       event : (which : ModeEvent) (cs : List Contribution) → All C cs → All C (mode_event which name ∷ cs)
       event which cs rest = All-cons C (mode_event which name) cs tt rest

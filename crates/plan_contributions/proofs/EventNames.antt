@@ -35,7 +35,7 @@ module _ (P : List ℕ → Type 0) where
   use_fit (reads kind confirms) h = tt
   use_fit (active n) h = h
   use_fit (inactive n) h = h
-  use_fit (mode n priority game) h = h
+  use_fit (mode n priority game holds) h = h
   use_fit (mode_event which n) h = h
   use_fit (binds n place aim) h = h
   use_fit (does e) h = effect_fit e h

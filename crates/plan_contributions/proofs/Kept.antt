@@ -38,7 +38,7 @@ use Rattle.plan_contributions.specs.CoilEntries.{limits_of_coil, defaults_called
 use Rattle.plan_contributions.specs.DeviceEntries.{posts, works, texts, events, device_of, step_settings, step_device, counter_device, timer_event, timer_endings, timer_device, always}
 use Rattle.plan_contributions.specs.ShotEntries.{shot_acts, lone_device, group_device}
 use Rattle.plan_contributions.specs.BallEntries.{is_known, ball_device_from}
-use Rattle.plan_contributions.specs.Contributions.{Contribution, gives, reads, active, inactive, mode, mode_event, binds, does, device, does_in, listens, mentions, unknown, coil, under, plays, under_where, bound, kind_of, confirms, active_posts, inactive_posts, switch_contributions, player_contributions, coil_contributions, coil_player_contributions, item_contributions, variable_player_contributions, game_contributions, starter, stopper, stopper_where, later_events, controls, mode_contributions, Device, device_contributions, where_device, machine_device, unknown_unless, shot_switch, act_at, seated, shot_contributions, group_contributions, ball_device_contributions, machine_entry_contributions, entry_contributions, alone_contributions, player_entry_contributions, row_contributions, given_by, contributions_of}
+use Rattle.plan_contributions.specs.Contributions.{Contribution, gives, reads, active, inactive, mode, mode_event, binds, does, device, does_in, listens, mentions, unknown, coil, under, plays, under_where, bound, kind_of, confirms, active_posts, inactive_posts, switch_contributions, player_contributions, coil_contributions, coil_player_contributions, item_contributions, variable_player_contributions, game_contributions, starter, stopper, stopper_where, later_events, stops_at_ball_end, stops_at_game_end, controls, mode_contributions, Device, device_contributions, where_device, machine_device, unknown_unless, shot_switch, act_at, seated, shot_contributions, group_contributions, ball_device_contributions, machine_entry_contributions, entry_contributions, alone_contributions, player_entry_contributions, row_contributions, given_by, contributions_of}
 use Rattle.plan_tables.specs.BallRows.{IsNoBallDevice}
 use Rattle.plan_contributions.specs.BallFacts.{IsOfNoBall}
 use Rattle.plan_contributions.proofs.CoilFacts.{flips_on, flips_off}
@@ -278,15 +278,15 @@ module _ (kinds : List Bool) (machine : List SectionRows) (B : BallDevice → Ty
   in_mode name s =
       let starts = flat_map starter (events s.starts) in
       let stops = flat_map stopper (events s.stops) in
-      let ball = stopper_where s.stops_with_ball (codes "ball_ending") in
-      let game = stopper_where s.game (codes "game_ending") in
-      first (mode name s.priority s.game) (later_events name ++ controls s) tt
+      let ball = stopper_where (stops_at_ball_end s) (codes "ball_ending") in
+      let game = stopper_where (stops_at_game_end s) (codes "game_ending") in
+      first (mode name s.priority s.game s.holds_ball_end) (later_events name ++ controls s) tt
       (both (later_events name) (controls s) later
       (both (starts ++ stops ++ ball) game
       (both (starts ++ stops) ball
       (both starts stops (all starter (λ e. in_bound e Control Start tt) (events s.starts)) (all stopper (λ e. in_bound e Control Stop tt) (events s.stops)))
-      (in_stopper s.stops_with_ball (codes "ball_ending")))
-      (in_stopper s.game (codes "game_ending"))))
+      (in_stopper (stops_at_ball_end s) (codes "ball_ending")))
+      (in_stopper (stops_at_game_end s) (codes "game_ending"))))
     where
       later : Keeps (later_events name)
       later =

@@ -34,7 +34,7 @@ AreOpened-more (c ∷ cs) m n more h = (opened c h.0, AreOpened-more cs (modes_a
     opened _ is = tt
 
     after : (x : Contribution) → modes_after m x ≤ modes_after n x
-    after (mode name priority game) = omega (arith, more)
+    after (mode name priority game holds) = omega (arith, more)
     after _ = more
 
 pub AreOpened-append : (cs ds : List Contribution) (m n : ℕ) → m ≤ n → AreOpened n cs → AreOpened m ds → AreOpened n (cs ++ ds)
@@ -42,7 +42,7 @@ AreOpened-append [] ds m n some first then_ = AreOpened-more ds m n some then_
 AreOpened-append (c ∷ cs) ds m n some first then_ = (first.0, AreOpened-append cs ds m (modes_after n c) (after c) first.1 then_)
   where
     after : (x : Contribution) → m ≤ modes_after n x
-    after (mode name priority game) = omega (arith, some)
+    after (mode name priority game holds) = omega (arith, some)
     after _ = some
 
 pub AreOpened-under : (n : ℕ) (condition : Option Condition) (cs : List Contribution) → AreOpened n cs → AreOpened n (under_where condition ++ cs)

@@ -32,7 +32,7 @@ ArePlaced-any o (c ∷ cs) h = (placed c h.0, after (ArePlaced-any o cs) c h.1)
     placed _ is = tt
 
     after : (ArePlaced None cs → ArePlaced o cs) → (x : Contribution) → ArePlaced (row_after None x) cs → ArePlaced (row_after o x) cs
-    after rest (mode n priority game) is = is
+    after rest (mode n priority game holds) is = is
     after rest (device place settings) is = is
     after rest _ is = rest is
 

@@ -32,7 +32,7 @@ use Rattle.plan_contributions.specs.ShotEntries.{shot_lists, shot_acts, lone_dev
 use Rattle.plan_rows.specs.declared.destination.Destination.{Destination}
 use Rattle.plan_rows.specs.Seats.{Seat, seat_of, destination_of, rows_after_text}
 use Rattle.plan_rows.specs.Members.{members_of}
-use Rattle.plan_contributions.specs.Contributions.{Contribution, reads, active, inactive, mode, binds, does, device, mentions, coil, under, plays, under_where, bound, always, texts, events, kind_of, confirms, active_posts, inactive_posts, switch_contributions, player_contributions, coil_contributions, coil_player_contributions, item_contributions, variable_player_contributions, game_contributions, starter, stopper, stopper_where, later_events, controls, mode_contributions, Device, act_binding, listens_from, effects_from, device_contributions, device_of, where_device, machine_device, unknown_unless, shot_switch, act_at, seated, shot_contributions, group_contributions, ball_device_contributions, machine_entry_contributions, entry_contributions, alone_contributions, player_entry_contributions, row_contributions, contributions_of}
+use Rattle.plan_contributions.specs.Contributions.{Contribution, reads, active, inactive, mode, binds, does, device, mentions, coil, under, plays, under_where, bound, always, texts, events, kind_of, confirms, active_posts, inactive_posts, switch_contributions, player_contributions, coil_contributions, coil_player_contributions, item_contributions, variable_player_contributions, game_contributions, starter, stopper, stopper_where, later_events, stops_at_ball_end, stops_at_game_end, controls, mode_contributions, Device, act_binding, listens_from, effects_from, device_contributions, device_of, where_device, machine_device, unknown_unless, shot_switch, act_at, seated, shot_contributions, group_contributions, ball_device_contributions, machine_entry_contributions, entry_contributions, alone_contributions, player_entry_contributions, row_contributions, contributions_of}
 use Rattle.plan_rows.specs.Rows.{Row, entry, alone, player, of_mode, shot_row, group_row, ball_device_row, other_row, entry_row, rows_from, rows_in, mode_rows, modes_rows, rows_of}
 use Rattle.plan_contributions.proofs.Before.{All-every, All-flat_map}
 use Rattle.plan_contributions.proofs.RowFacts.{All-made, All-listens, All-lists, sections_each, modes_each}
@@ -140,14 +140,14 @@ module _ (P : Effect → Type 0) (S L : List ℕ → Type 0) where
   in_mode name s =
       let starts = flat_map starter (events s.starts) in
       let stops = flat_map stopper (events s.stops) in
-      let ball = stopper_where s.stops_with_ball (codes "ball_ending") in
-      let game = stopper_where s.game (codes "game_ending") in
-      All-append D (mode name s.priority s.game ∷ later_events name) (controls s) (first name s)
+      let ball = stopper_where (stops_at_ball_end s) (codes "ball_ending") in
+      let game = stopper_where (stops_at_game_end s) (codes "game_ending") in
+      All-append D (mode name s.priority s.game s.holds_ball_end ∷ later_events name) (controls s) (first name s)
       (All-append D (starts ++ stops ++ ball) game
-      (All-append D (starts ++ stops) ball (All-append D starts stops (in_each Start (events s.starts)) (in_each Stop (events s.stops))) (in_stopper s.stops_with_ball (codes "ball_ending")))
-      (in_stopper s.game (codes "game_ending")))
+      (All-append D (starts ++ stops) ball (All-append D starts stops (in_each Start (events s.starts)) (in_each Stop (events s.stops))) (in_stopper (stops_at_ball_end s) (codes "ball_ending")))
+      (in_stopper (stops_at_game_end s) (codes "game_ending")))
     where
-      first : (name : List ℕ) (s : ModeSettings) → All D (mode name s.priority s.game ∷ later_events name)
+      first : (name : List ℕ) (s : ModeSettings) → All D (mode name s.priority s.game s.holds_ball_end ∷ later_events name)
       first name s zero d within = tt
       first name s (suc zero) d within = tt
       first name s (suc (suc zero)) d within = tt

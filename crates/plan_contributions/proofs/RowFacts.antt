@@ -50,7 +50,7 @@ use Rattle.plan_tables.specs.declared.entries.ModeEvent.{ModeEvent}
 use Rattle.plan_tables.specs.declared.entries.ModeEvent.TheVariants.{WillStart, Starting, Started, Stopping, Stopped}
 use Rattle.plan_tables.specs.declared.table.Table.{Table}
 use Rattle.plan_tables.specs.declared.table.Table.TheVariants.{Events, Switches, Coils, Variables}
-use Rattle.plan_contributions.specs.Contributions.{Contribution, gives, reads, active, inactive, mode, mode_event, mode_event_name, binds, does, device, does_in, listens, mentions, unknown, coil, under, plays, bound, texts, kind_of, confirms, tag_event, active_posts, inactive_posts, switch_contributions, player_contributions, coil_contributions, coil_player_contributions, item_contributions, variable_player_contributions, game_contributions, starter, stopper, stopper_where, later_events, controls, mode_contributions, Device, act_binding, effects_from, listens_from, device_contributions, where_device, unknown_unless, shot_switch, act_at, seated, shot_contributions, group_contributions, ball_device_contributions, machine_device, machine_entry_contributions, entry_contributions, alone_contributions, player_entry_contributions, row_contributions, given_by, contributions_of}
+use Rattle.plan_contributions.specs.Contributions.{Contribution, gives, reads, active, inactive, mode, mode_event, mode_event_name, binds, does, device, does_in, listens, mentions, unknown, coil, under, plays, bound, texts, kind_of, confirms, tag_event, active_posts, inactive_posts, switch_contributions, player_contributions, coil_contributions, coil_player_contributions, item_contributions, variable_player_contributions, game_contributions, starter, stopper, stopper_where, later_events, stops_at_ball_end, stops_at_game_end, controls, mode_contributions, Device, act_binding, effects_from, listens_from, device_contributions, where_device, unknown_unless, shot_switch, act_at, seated, shot_contributions, group_contributions, ball_device_contributions, machine_device, machine_entry_contributions, entry_contributions, alone_contributions, player_entry_contributions, row_contributions, given_by, contributions_of}
 use Rattle.plan_rows.specs.Rows.{Row, entry, alone, shot, group, ball_device, player, of_mode, shot_row, group_row, ball_device_row, other_row, entry_row, rows_from, rows_in, mode_rows, modes_rows, rows_of}
 use Rattle.plan_contributions.specs.Facts.{ArePlaced, IsOfNames, effects_in_after, full, IsRoomy, AreShort, AreLimits, AreRules, IsDeedInRange, IsEffectInRange, IsLimited, IsPlaceOf, IsOfMachine, IsPlaced, IsOpenPlace, IsOpen, AreOpened}
 use Rattle.plan_contributions.proofs.Before.{each_before, each_alone, all_before, all_alone, All-bound, each_some, All-flat_map}
@@ -84,7 +84,7 @@ abbrev pub IsFit : (List ℕ → Type 0) → Contribution → Type 0
 IsFit P (gives table n) = IsFitName P table n
 IsFit P (active n) = P n
 IsFit P (inactive n) = P n
-IsFit P (mode n priority game) = P (mode_event_name WillStart n)
+IsFit P (mode n priority game holds) = P (mode_event_name WillStart n)
 IsFit P (mode_event which n) = P (mode_event_name which n)
 IsFit P (binds n place aim) = P n
 IsFit P (does e) = IsFitEffect P e
@@ -659,16 +659,16 @@ module _ (machine : List SectionRows) (P : List ℕ → Type 0) (of : IsOfNames 
       let some : 0 < m = omega arith in
       let starts = flat_map starter (events s.starts) in
       let stops = flat_map stopper (events s.stops) in
-      let ball = stopper_where s.stops_with_ball (codes "ball_ending") in
-      let game = stopper_where s.game (codes "game_ending") in
+      let ball = stopper_where (stops_at_ball_end s) (codes "ball_ending") in
+      let game = stopper_where (stops_at_game_end s) (codes "game_ending") in
       record {
         names = λ h.
             let event : (which : ModeEvent) → P (mode_event_name which name) = λ which. of.mode which name h.0 in
             let fit_starts = fit_bound Control Start s.starts h.1.starts in
             let fit_stops = fit_bound Control Stop s.stops h.1.stops in
-            let fit_ball = fit_where s.stops_with_ball (codes "ball_ending") of.ball in
-            let fit_game = fit_where s.game (codes "game_ending") of.game in
-            All-cons (IsFit P) (mode name s.priority s.game) (later_events name ++ controls s) (event WillStart)
+            let fit_ball = fit_where (stops_at_ball_end s) (codes "ball_ending") of.ball in
+            let fit_game = fit_where (stops_at_game_end s) (codes "game_ending") of.game in
+            All-cons (IsFit P) (mode name s.priority s.game s.holds_ball_end) (later_events name ++ controls s) (event WillStart)
             (All-cons (IsFit P) (mode_event Starting name) (mode_event Started name ∷ mode_event Stopping name ∷ mode_event Stopped name ∷ controls s) (event Starting)
             (All-cons (IsFit P) (mode_event Started name) (mode_event Stopping name ∷ mode_event Stopped name ∷ controls s) (event Started)
             (All-cons (IsFit P) (mode_event Stopping name) (mode_event Stopped name ∷ controls s) (event Stopping)
@@ -680,22 +680,22 @@ module _ (machine : List SectionRows) (P : List ℕ → Type 0) (of : IsOfNames 
             let short_stops = all_alone (AreShort 1024 full) stopper (λ e cs k. (tt, AreShort-under 1024 full e.condition cs k)) (events s.stops) tt in
             let all : (k : ℕ) → full k ≤ 1024 = λ k. omega arith in
             let short = AreShort-append (starts ++ stops ++ ball) game 1024 full few all
-            (AreShort-append (starts ++ stops) ball 1024 full few all (AreShort-append starts stops 1024 full few all short_starts short_stops) (short_controls s.stops_with_ball (codes "ball_ending")))
-            (short_controls s.game (codes "game_ending")) in
+            (AreShort-append (starts ++ stops) ball 1024 full few all (AreShort-append starts stops 1024 full few all short_starts short_stops) (short_controls (stops_at_ball_end s) (codes "ball_ending")))
+            (short_controls (stops_at_game_end s) (codes "game_ending")) in
             (tt, (tt, (tt, (tt, (tt, short)))));
         modes = λ h.
             let same : m ≤ m = omega arith in
             let open_starts = all_alone (AreOpened m) starter (λ e cs k. ((some, some), AreOpened-under m e.condition cs k)) (events s.starts) tt in
             let open_stops = all_alone (AreOpened m) stopper (λ e cs k. ((some, some), AreOpened-under m e.condition cs k)) (events s.stops) tt in
             let opened = AreOpened-append (starts ++ stops ++ ball) game m m same
-            (AreOpened-append (starts ++ stops) ball m m same (AreOpened-append starts stops m m same open_starts open_stops) (open_where m some s.stops_with_ball (codes "ball_ending")))
-            (open_where m some s.game (codes "game_ending")) in
+            (AreOpened-append (starts ++ stops) ball m m same (AreOpened-append starts stops m m same open_starts open_stops) (open_where m some (stops_at_ball_end s) (codes "ball_ending")))
+            (open_where m some (stops_at_game_end s) (codes "game_ending")) in
             (tt, (tt, (tt, (tt, (tt, opened)))));
         limits = λ h.
             let limited = All-append IsRight (starts ++ stops ++ ball) game (All-append IsRight (starts ++ stops) ball
             (All-append IsRight starts stops (All-each IsRight starter (λ e. right_bound e Control Start) (events s.starts)) (All-each IsRight stopper (λ e. right_bound e Control Stop) (events s.stops)))
-            (limited_where s.stops_with_ball (codes "ball_ending"))) (limited_where s.game (codes "game_ending")) in
-            All-cons IsRight (mode name s.priority s.game) (later_events name ++ controls s) (tt, tt)
+            (limited_where (stops_at_ball_end s) (codes "ball_ending"))) (limited_where (stops_at_game_end s) (codes "game_ending")) in
+            All-cons IsRight (mode name s.priority s.game s.holds_ball_end) (later_events name ++ controls s) (tt, tt)
             (All-cons IsRight (mode_event Starting name) (mode_event Started name ∷ mode_event Stopping name ∷ mode_event Stopped name ∷ controls s) (tt, tt)
             (All-cons IsRight (mode_event Started name) (mode_event Stopping name ∷ mode_event Stopped name ∷ controls s) (tt, tt)
             (All-cons IsRight (mode_event Stopping name) (mode_event Stopped name ∷ controls s) (tt, tt)
@@ -704,7 +704,7 @@ module _ (machine : List SectionRows) (P : List ℕ → Type 0) (of : IsOfNames 
             let placed = ArePlaced-append (starts ++ stops ++ ball) game None (ArePlaced-append (starts ++ stops) ball None
             (ArePlaced-append starts stops None (all_alone (ArePlaced None) starter (λ e cs k. (tt, ArePlaced-under None e.condition cs k)) (events s.starts) tt)
             (all_alone (ArePlaced None) stopper (λ e cs k. (tt, ArePlaced-under None e.condition cs k)) (events s.stops) tt))
-            (placed_where s.stops_with_ball (codes "ball_ending"))) (placed_where s.game (codes "game_ending")) in
+            (placed_where (stops_at_ball_end s) (codes "ball_ending"))) (placed_where (stops_at_game_end s) (codes "game_ending")) in
             (tt, (tt, (tt, (tt, (tt, placed)))));
       }
 

@@ -31,7 +31,7 @@ use Rattle.plan_contributions.specs.BallEntries.{ball_device_from, is_known}
 use Rattle.plan_rows.specs.declared.destination.Destination.{Destination}
 use Rattle.plan_rows.specs.Seats.{Seat}
 use Rattle.plan_rows.specs.Members.{flags, is_enabled, Members}
-use Rattle.plan_contributions.specs.Contributions.{Contribution, gives, reads, active, inactive, mode, mode_event, binds, does, device, does_in, listens, mentions, unknown, under, plays, under_where, bound, always, kind_of, confirms, texts, events, active_posts, inactive_posts, switch_contributions, player_contributions, coil_contributions, coil_player_contributions, item_contributions, variable_player_contributions, game_contributions, starter, stopper, stopper_where, later_events, controls, mode_contributions, Device, act_binding, listens_from, effects_from, device_contributions, where_device, machine_device, unknown_unless, shot_switch, act_at, seated, shot_contributions, group_contributions, ball_device_contributions, machine_entry_contributions, entry_contributions, alone_contributions, player_entry_contributions, row_contributions, given_by}
+use Rattle.plan_contributions.specs.Contributions.{Contribution, gives, reads, active, inactive, mode, mode_event, binds, does, device, does_in, listens, mentions, unknown, under, plays, under_where, bound, always, kind_of, confirms, texts, events, active_posts, inactive_posts, switch_contributions, player_contributions, coil_contributions, coil_player_contributions, item_contributions, variable_player_contributions, game_contributions, starter, stopper, stopper_where, later_events, stops_at_ball_end, stops_at_game_end, controls, mode_contributions, Device, act_binding, listens_from, effects_from, device_contributions, where_device, machine_device, unknown_unless, shot_switch, act_at, seated, shot_contributions, group_contributions, ball_device_contributions, machine_entry_contributions, entry_contributions, alone_contributions, player_entry_contributions, row_contributions, given_by}
 use Rattle.plan_rows.specs.Rows.{Row, entry, alone, shot, group, ball_device, player, of_mode}
 
 -- each contribution but a coil's and a row's tells nothing
@@ -40,7 +40,7 @@ pub record IsSilent {X : Type 0} (tell : Contribution → List X) : Type 0 where
   pub read : (kind : SwitchKind) (confirms_playfield : Bool) → tell (reads kind confirms_playfield) ≡ []
   pub on : (n : List ℕ) → tell (active n) ≡ []
   pub off : (n : List ℕ) → tell (inactive n) ≡ []
-  pub modes : (n : List ℕ) (priority : ℕ) (game : Bool) → tell (mode n priority game) ≡ []
+  pub modes : (n : List ℕ) (priority : ℕ) (game holds : Bool) → tell (mode n priority game holds) ≡ []
   pub events : (which : ModeEvent) (n : List ℕ) → tell (mode_event which n) ≡ []
   pub bound : (n : List ℕ) (place : Place) (aim : Aim) → tell (binds n place aim) ≡ []
   pub done : (e : Effect) → tell (does e) ≡ []
@@ -208,11 +208,11 @@ module _ {X : Type 0} (tell : Contribution → List X) (silent : IsSilent tell) 
   in_controls s =
       let starts = flat_map starter (events s.starts) in
       let stops = flat_map stopper (events s.stops) in
-      let ball = stopper_where s.stops_with_ball (codes "ball_ending") in
-      let game = stopper_where s.game (codes "game_ending") in
+      let ball = stopper_where (stops_at_ball_end s) (codes "ball_ending") in
+      let game = stopper_where (stops_at_game_end s) (codes "game_ending") in
       both (starts ++ stops ++ ball) game
-      (both (starts ++ stops) ball (both starts stops (each_all starter (λ e. in_bound e Control Start) (events s.starts)) (each_all stopper (λ e. in_bound e Control Stop) (events s.stops))) (in_stopper s.stops_with_ball (codes "ball_ending")))
-      (in_stopper s.game (codes "game_ending"))
+      (both (starts ++ stops) ball (both starts stops (each_all starter (λ e. in_bound e Control Start) (events s.starts)) (each_all stopper (λ e. in_bound e Control Stop) (events s.stops))) (in_stopper (stops_at_ball_end s) (codes "ball_ending")))
+      (in_stopper (stops_at_game_end s) (codes "game_ending"))
 
   in_later : (name : List ℕ) → TellsNone (later_events name)
   in_later name =
@@ -224,7 +224,7 @@ module _ {X : Type 0} (tell : Contribution → List X) (silent : IsSilent tell) 
 
   in_mode : (name : List ℕ) (s : ModeSettings) → TellsNone (mode_contributions name s)
   unfolding mode_contributions
-  in_mode name s = first (mode name s.priority s.game) (later_events name ++ controls s) (silent.modes name s.priority s.game) (both (later_events name) (controls s) (in_later name) (in_controls s))
+  in_mode name s = first (mode name s.priority s.game s.holds_ball_end) (later_events name ++ controls s) (silent.modes name s.priority s.game s.holds_ball_end) (both (later_events name) (controls s) (in_later name) (in_controls s))
 
   -- a shot that has a seat tells nothing, and one that has none tells of its row
   abbrev pub told_shot : Place → Shot → Option Seat → Profile → List X

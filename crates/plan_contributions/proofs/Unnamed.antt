@@ -39,7 +39,7 @@ module _ (t : Table) (no_event : (n : List ℕ) → name_in_table t (Some (Event
     read = λ kind confirms. refl;
     on = no_event;
     off = no_event;
-    modes = λ n priority game. no_event _;
+    modes = λ n priority game holds. no_event _;
     events = λ which n. no_event (mode_event_name which n);
     bound = λ n place aim. no_event n;
     done = no_effect;

@@ -1,5 +1,5 @@
 -- What the rows give to a plan, by names and in plan order.
-use Rattle.std.specs.Prelude.{ℕ, suc, Bool, true, false, if◌then◌else◌, List, [], ◌∷◌, ◌++◌, map, Option, None, Some, codes}
+use Rattle.std.specs.Prelude.{ℕ, suc, Bool, true, false, not, ◌&&◌, if◌then◌else◌, List, [], ◌∷◌, ◌++◌, map, Option, None, Some, codes}
 use Rattle.std.specs.List.{flat_map, list_any}
 use Rattle.std.specs.Str.{bytes_eq}
 use Rattle.mpf_sections.specs.declared.words.Contact.{Contact as WrittenContact}
@@ -43,20 +43,20 @@ use Rattle.plan_rows.specs.Rows.{Row, entry, alone, shot, group, ball_device, pl
 
 -- One thing that a row gives: an entry of a table, by its name; how the last given switch is read, and whether a ball
 -- that presses it is on the playfield; an event that this switch posts when it becomes active, or inactive; a mode by
--- its name, with its priority, and whether it starts only in a game; an event of the mode that came last, which has
--- this name; a binding of an event, with which an effect list begins where it is to run one; what the list does that
--- began last; a row of a device with its settings, with which its effect lists begin; what this list of the last row
--- does, by its number in the row; a switch to which the last row listens, by its number in the row; an event or a
--- switch that a setting names, by its table, which gets its number here; something that a setting names, which is in
--- no table, and which nothing has; a coil by its name, with what it may be sent; the condition of the binding that
--- came last; the rules of the game: how many balls have to be at home for it to begin, how many each player has, and
--- how many players there can be.
+-- its name, with its priority, whether it starts only in a game, and whether it may hold the end of the ball; an event
+-- of the mode that came last, which has this name; a binding of an event, with which an effect list begins where it is
+-- to run one; what the list does that began last; a row of a device with its settings, with which its effect lists
+-- begin; what this list of the last row does, by its number in the row; a switch to which the last row listens, by its
+-- number in the row; an event or a switch that a setting names, by its table, which gets its number here; something
+-- that a setting names, which is in no table, and which nothing has; a coil by its name, with what it may be sent; the
+-- condition of the binding that came last; the rules of the game: how many balls have to be at home for it to begin,
+-- how many each player has, and how many players there can be.
 pub data Contribution : Type 0 where
   gives : Table → List ℕ → Contribution
   reads : SwitchKind → (confirms_playfield : Bool) → Contribution
   active : List ℕ → Contribution
   inactive : List ℕ → Contribution
-  mode : List ℕ → ℕ → Bool → Contribution
+  mode : List ℕ → (priority : ℕ) → (game holds_ball_end : Bool) → Contribution
   mode_event : ModeEvent → List ℕ → Contribution
   binds : List ℕ → Place → Aim → Contribution
   does : Effect → Contribution
@@ -183,17 +183,25 @@ abbrev pub later_events : List ℕ → List Contribution
 later_events name =
     mode_event Starting name ∷ mode_event Started name ∷ mode_event Stopping name ∷ mode_event Stopped name ∷ []
 
+-- whether the end of the ball stops a mode, and whether that of the game does: neither does if the mode may hold the end
+-- of the ball
+abbrev pub stops_at_ball_end : ModeSettings → Bool
+stops_at_ball_end s = s.stops_with_ball && not s.holds_ball_end
+
+abbrev pub stops_at_game_end : ModeSettings → Bool
+stops_at_game_end s = s.game && not s.holds_ball_end
+
 -- what starts a mode and what stops it, as it is written; then the end of the ball, and of the game, where they stop it
 abbrev pub controls : ModeSettings → List Contribution
 controls s =
     flat_map starter (events s.starts)
     ++ flat_map stopper (events s.stops)
-    ++ stopper_where s.stops_with_ball (codes "ball_ending")
-    ++ stopper_where s.game (codes "game_ending")
+    ++ stopper_where (stops_at_ball_end s) (codes "ball_ending")
+    ++ stopper_where (stops_at_game_end s) (codes "game_ending")
 
 -- a mode with its events, and then what starts and stops it
 unfoldable pub mode_contributions : List ℕ → ModeSettings → List Contribution
-mode_contributions name s = mode name s.priority s.game ∷ later_events name ++ controls s
+mode_contributions name s = mode name s.priority s.game s.holds_ball_end ∷ later_events name ++ controls s
 
 -- ---- devices
 

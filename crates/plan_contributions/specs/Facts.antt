@@ -130,7 +130,7 @@ IsOpen n (device place settings) = IsOpenPlace n place
 IsOpen n _ = Unit {0}
 
 abbrev pub modes_after : ℕ → Contribution → ℕ
-modes_after n (mode name priority game) = suc n
+modes_after n (mode name priority game holds) = suc n
 modes_after n _ = n
 
 abbrev pub AreOpened : ℕ → List Contribution → Type 0
@@ -141,7 +141,7 @@ AreOpened n (c ∷ cs) = IsOpen n c × AreOpened (modes_after n c) cs
 
 -- the place of the row that came last, where the mode that came last is that of its time
 abbrev pub row_after : Option Place → Contribution → Option Place
-row_after o (mode n priority game) = None
+row_after o (mode n priority game holds) = None
 row_after o (device place settings) = Some place
 row_after o _ = o
 

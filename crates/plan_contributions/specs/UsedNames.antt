@@ -24,7 +24,7 @@ abbrev pub used : Contribution → Option (Table × List ℕ)
 used (gives table n) = Some (table, n)
 used (active n) = Some (Events, n)
 used (inactive n) = Some (Events, n)
-used (mode n priority game) = Some (Events, mode_event_name WillStart n)
+used (mode n priority game holds_ball_end) = Some (Events, mode_event_name WillStart n)
 used (mode_event which n) = Some (Events, mode_event_name which n)
 used (binds n place aim) = Some (Events, n)
 used (does e) = used_by e

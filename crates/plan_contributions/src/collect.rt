@@ -2,7 +2,7 @@
 
 ghost use Rattle.std.specs.Prelude.{◌≡◌, ◌++◌, map, OnOk};
 ghost use Rattle.mpf_sections.specs.View.{switch_view as switch_row_view, event_player_view, mode_settings_view, entry_view, player_view, name_view};
-ghost use Rattle.plan_contributions.specs.Contributions.{active, inactive, does, posts, texts, contact_of, is_quick, kind_of, confirms, tag_event, active_posts, inactive_posts, switch_contributions, player_contributions, stopper_where, later_events, controls, mode_contributions, machine_entry_contributions, entry_contributions, alone_contributions, player_entry_contributions, row_contributions};
+ghost use Rattle.plan_contributions.specs.Contributions.{active, inactive, does, posts, texts, contact_of, is_quick, kind_of, confirms, tag_event, active_posts, inactive_posts, switch_contributions, player_contributions, stopper_where, stops_at_ball_end, stops_at_game_end, later_events, controls, mode_contributions, machine_entry_contributions, entry_contributions, alone_contributions, player_entry_contributions, row_contributions};
 ghost use Rattle.plan_contributions.specs.View.{contributions_view};
 ghost use Rattle.plan_rows.specs.View.{row_view};
 
@@ -304,7 +304,12 @@ fn collect_mode<'a>(
 {
     add(
         contributions,
-        Contribution::Mode(name, settings.priority, settings.game),
+        Contribution::Mode {
+            name,
+            priority: settings.priority,
+            game: settings.game,
+            holds_ball_end: settings.holds_ball_end,
+        },
     )?;
     collect_later_events(contributions, name)?;
     collect_controls(contributions, settings)?;
@@ -345,9 +350,23 @@ fn collect_controls<'a>(
 {
     collect_each(contributions, settings.starts, Place::Control, Aim::Start)?;
     collect_each(contributions, settings.stops, Place::Control, Aim::Stop)?;
-    collect_stop_where(contributions, settings.stops_with_ball, b"ball_ending")?;
-    collect_stop_where(contributions, settings.game, b"game_ending")?;
+    collect_stop_where(contributions, stops_at_ball_end(&settings), b"ball_ending")?;
+    collect_stop_where(contributions, stops_at_game_end(&settings), b"game_ending")?;
     Ok(())
+}
+
+/// Whether the end of the ball stops a mode: not where the mode holds it.
+fn stops_at_ball_end(settings: &ModeSettings<'_>) -> bool
+    ensures { result ≡ stops_at_ball_end (mode_settings_view settings.now) }
+{
+    settings.stops_with_ball && !settings.holds_ball_end
+}
+
+/// Whether the end of the game stops a mode: not where the mode holds the end of the ball.
+fn stops_at_game_end(settings: &ModeSettings<'_>) -> bool
+    ensures { result ≡ stops_at_game_end (mode_settings_view settings.now) }
+{
+    settings.game && !settings.holds_ball_end
 }
 
 /// The event stops the mode that came last, where this holds.

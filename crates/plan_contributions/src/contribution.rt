@@ -83,8 +83,14 @@ pub enum Contribution<'a> {
     Active(Parts<'a>),
     /// It posts the event when it becomes inactive.
     Inactive(Parts<'a>),
-    /// A mode: its name, its priority, and whether it starts only in a game.
-    Mode(&'a [u8], u32, bool),
+    /// A mode: its name, its priority, whether it starts only in a game, and whether it holds the end
+    /// of the ball.
+    Mode {
+        name: &'a [u8],
+        priority: u32,
+        game: bool,
+        holds_ball_end: bool,
+    },
     /// An event of the mode that came last, which has this name.
     ModeEvent(ModeEvent, &'a [u8]),
     /// A binding of the event: whose it is, and what it is to do.
@@ -226,7 +232,7 @@ pub fn used<'a>(contribution: &Contribution<'a>) -> Option<(Table, Parts<'a>)>
         Contribution::Gives(table, name) => Some((table, whole(name))),
         Contribution::Active(name) => Some((Table::Events, name)),
         Contribution::Inactive(name) => Some((Table::Events, name)),
-        Contribution::Mode(name, _, _) => {
+        Contribution::Mode { name, .. } => {
             Some((Table::Events, mode_event_name(ModeEvent::WillStart, name)))
         }
         Contribution::ModeEvent(which, name) => Some((Table::Events, mode_event_name(which, name))),

@@ -9,3 +9,4 @@ pub mod Owners
 pub mod ListsBy
 pub mod RowLists
 pub mod Troughs
+pub mod Holding

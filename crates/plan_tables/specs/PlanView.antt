@@ -1,5 +1,5 @@
 -- A plan, apart from where it lies in memory.
-use Rattle.std.specs.Prelude.{ℕ, suc, ◌+◌, ◌==◌, List, [], ◌∷◌, ◌++◌, Bool, true, false, Option, Some, None, if◌then◌else◌, length, map, filter, find, slice_get, slice_index_or, position, option_map, unwrap_or}
+use Rattle.std.specs.Prelude.{ℕ, suc, ◌+◌, ◌==◌, List, [], ◌∷◌, ◌++◌, Bool, true, false, ◌&&◌, Option, Some, None, is_some, if◌then◌else◌, length, map, filter, find, slice_get, slice_index_or, position, option_map, unwrap_or}
 use Rattle.std.specs.Option.{option_map_or}
 use Rattle.std.specs.List.{range_with_len, flat_map, list_any}
 use Rattle.std.specs.Str.{bytes_eq}
@@ -88,6 +88,7 @@ no_mode = record {
   mode = record {
     priority = 0;
     game = false;
+    holds_ball_end = false;
     events = record { will_start = no_event; starting = no_event; started = no_event; stopping = no_event; stopped = no_event };
   };
 }
@@ -200,6 +201,11 @@ event_of_game (Some rules) which = event_in_game rules which
 
 abbrev pub game_event : PlanView → GameEvent → EventId
 game_event plan which = event_of_game plan.game which
+
+-- Whether a mode may hold the end of the ball: its settings say so, and there is a game. Without a game no ball ends, and
+-- such a mode never starts.
+abbrev pub may_hold_ball_end : PlanView → ModeId → Bool
+may_hold_ball_end plan m = is_some plan.game && (mode_at plan m).mode.holds_ball_end
 
 -- a switch by its number
 abbrev pub switch_at : PlanView → SwitchId → PlanSwitch

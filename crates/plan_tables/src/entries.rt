@@ -111,6 +111,9 @@ pub struct Mode {
     pub priority: u32,
     /// Whether it starts only in a game.
     pub game: bool,
+    /// Whether its settings say that it holds the end of the ball, from its start until it has stopped.
+    /// [`crate::Plan::may_hold_ball_end`] says whether it does.
+    pub holds_ball_end: bool,
     /// The events that it posts.
     pub events: ModeEvents,
 }

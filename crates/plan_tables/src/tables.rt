@@ -2,8 +2,8 @@
 
 use crate::devices::{BallTarget, DeviceRow, RowId};
 use crate::entries::{
-    Action, Binding, BindingId, CoilId, CoilLimits, EventId, GameRules, ListId, Listener, Mode,
-    ModeEntry, ModeId, SwitchEntry, SwitchId, SwitchKind, VariableId, Work,
+    Action, Binding, BindingId, CoilId, CoilLimits, EventId, GameEvent, GameRules, ListId,
+    Listener, Mode, ModeEntry, ModeId, SwitchEntry, SwitchId, SwitchKind, VariableId, Work,
 };
 use crate::names::NameSets;
 use crate::placing::{
@@ -72,13 +72,13 @@ impl Model for Plan {
 
 impl Plan {
     ghost use Rattle.std.specs.Prelude.{◌≡◌, ◌<◌, length, slice_get, Contains, IfSome, IfNone, IfOk};
-    ghost use Rattle.plan_tables.specs.PlanView.{name_of_event, event_named, name_of_variable, variable_named, mode_at, switch_at, switch_named, listeners_of, posts_of, coil_at, coil_named, actions_at, places_of, row_at, rows_of, feeders_of, list_of_row, first_trough, work_of};
+    ghost use Rattle.plan_tables.specs.PlanView.{name_of_event, event_named, game_event, name_of_variable, variable_named, mode_at, may_hold_ball_end, switch_at, switch_named, listeners_of, posts_of, coil_at, coil_named, actions_at, places_of, row_at, rows_of, feeders_of, list_of_row, first_trough, work_of};
     ghost use Rattle.plan_tables.specs.declared.table.Table.TheVariants.{Switches, Coils};
     ghost use Rattle.plan_tables.specs.Inside.{name_sets_view, tables_view};
     ghost use Rattle.std.specs.List.{All};
     ghost use Rattle.plan_tables.specs.declared.entries.Owner.TheVariants as owners;
     ghost use Rattle.plan_tables.specs.Owned.{bindings_of_owner};
-    ghost use Rattle.plan_tables.specs.Valid.{IsRowWithin, IsTargetThere, IsValid, IsWorkAt};
+    ghost use Rattle.plan_tables.specs.Valid.{HasGame, IsRowWithin, IsTargetThere, IsValid, IsWorkAt};
     ghost use Rattle.plan_tables.specs.Devices.{IsWithinLimits, list_count};
 
     /// The plan of these tables, which have to be valid, with a name for each switch and each coil.
@@ -172,6 +172,15 @@ impl Plan {
         ensures valid { IsValid self.now }
     {
         self.tables.modes[mode.0 as usize].mode
+    }
+
+    /// Whether a mode of the plan may hold the end of the ball: its settings say so, and there is a game.
+    pub fn may_hold_ball_end(&self, mode: ModeId) -> bool
+        requires { mode.0 < length self.now.modes }
+        ensures holds { result ≡ may_hold_ball_end self.now mode }
+        ensures valid { IsValid self.now }
+    {
+        self.tables.game.is_some() && self.tables.modes[mode.0 as usize].mode.holds_ball_end
     }
 
     /// How many switches there are. They are numbered from 0.
@@ -317,6 +326,15 @@ impl Plan {
         ensures valid { IsValid self.now }
     {
         self.tables.game
+    }
+
+    /// This one of the events of the plan's game.
+    pub fn game_event(&self, which: GameEvent) -> EventId
+        requires { HasGame self.now }
+        ensures event { result ≡ game_event self.now which }
+        ensures within { result.0 < length self.now.events }
+    {
+        self.tables.game.unwrap().events[which.index()]
     }
 
     /// How many effect lists there are. They are numbered from 0.

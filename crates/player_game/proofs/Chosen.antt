@@ -5,7 +5,7 @@ use Rattle.plan_tables.specs.declared.entries.GameEvent.{GameEvent}
 use Rattle.plan_tables.specs.declared.entries.GameEvent.TheVariants.{SwStart, GameWillStart, GameStarting, PlayerAdded, GameStarted, PlayerTurnWillStart, PlayerTurnStarting, PlayerTurnStarted, BallWillStart, BallStarting, BallStarted, BallDrain, BallWillEnd, BallEnding, BallEnded, PlayerTurnWillEnd, PlayerTurnEnding, PlayerTurnEnded, GameWillEnd, GameEnding, GameEnded}
 use Rattle.plan_tables.specs.declared.entries.GameRules.{GameRules}
 use Rattle.player_game.specs.Players.{PlayersState}
-use Rattle.player_game.specs.GameStep.{GameState, GameStep, can_begin, can_join, game_step, is_ball_on, is_over, leads_to}
+use Rattle.player_game.specs.GameStep.{GameState, GameStep, can_begin, can_join, game_step, is_ball_on, is_held, is_over, leads_to}
 use Rattle.player_game.specs.Choices.{StepsAreChoices, choices, tells_scores, asks_for_ball}
 
 -- ---- places in a list
@@ -33,6 +33,10 @@ drains true true g h k p = first (BallWillEnd ∷ []) ([] ∷ [])
 drains true false g h k p = second (BallWillEnd ∷ []) [] []
 drains false is_last g h k p = second (BallWillEnd ∷ []) [] []
 
+held_back : (held : Bool) → Contains (choices BallEnding) (if held then [] else BallEnded ∷ [])
+held_back true = second (BallEnded ∷ []) [] []
+held_back false = first (BallEnded ∷ []) ([] ∷ [])
+
 ends : (over : Bool) (g : GameState) (p q : PlayersState)
     → Contains (choices PlayerTurnEnded) (if over then leads_to (GameWillEnd ∷ []) g p else leads_to (PlayerTurnWillStart ∷ []) g q).posts
 ends true g p q = first (GameWillEnd ∷ []) ((PlayerTurnWillStart ∷ []) ∷ [])
@@ -59,7 +63,7 @@ posted rules plan BallStarting home g p = first _ []
 posted rules plan BallStarted home g p = first _ []
 posted rules plan BallDrain home g p = drains (is_ball_on g.phase) (g.balls - 1 == 0) _ _ _ _
 posted rules plan BallWillEnd home g p = first _ []
-posted rules plan BallEnding home g p = first _ []
+posted rules plan BallEnding home g p = held_back (is_held g)
 posted rules plan BallEnded home g p = first _ []
 posted rules plan PlayerTurnWillEnd home g p = first _ []
 posted rules plan PlayerTurnEnding home g p = first _ []

@@ -1,7 +1,9 @@
 -- What the machine itself does at the events of the game.
-use Rattle.std.specs.Prelude.{ℕ, ◌+◌, ◌-◌, ◌^◌, ◌==◌, nat_lt, nat_le, Bool, true, false, not, ◌&&◌, if◌then◌else◌, pos, Option, None, Some, List, [], ◌∷◌, length}
+use Rattle.std.specs.Prelude.{ℕ, ◌+◌, ◌-◌, ◌^◌, ◌==◌, nat_lt, nat_le, Bool, true, false, not, ◌&&◌, if◌then◌else◌, pos, Option, None, Some, List, [], ◌∷◌, length, replicate, slice_index_or, slice_set}
+use Rattle.std.specs.List.{list_any}
 use Rattle.std.specs.Ordering.{int_eq}
 use Rattle.plan_tables.specs.PlanView.{PlanView}
+use Rattle.plan_tables.specs.declared.entries.ModeId.{ModeId}
 use Rattle.plan_tables.specs.declared.entries.GameEvent.{GameEvent}
 use Rattle.plan_tables.specs.declared.entries.GameEvent.TheVariants.{SwStart, GameWillStart, GameStarting, PlayerAdded, GameStarted, PlayerTurnWillStart, PlayerTurnStarting, PlayerTurnStarted, BallWillStart, BallStarting, BallStarted, BallDrain, BallWillEnd, BallEnding, BallEnded, PlayerTurnWillEnd, PlayerTurnEnding, PlayerTurnEnded, GameWillEnd, GameEnding, GameEnded}
 use Rattle.plan_tables.specs.declared.entries.GameRules.{GameRules}
@@ -9,19 +11,22 @@ use Rattle.player_game.specs.declared.game.GamePhase.{GamePhase}
 use Rattle.player_game.specs.declared.game.GamePhase.TheVariants as phases
 use Rattle.player_game.specs.Players.{PlayersState, no_players, ball_now, turned, added, next_turn, next_ball}
 
--- the game: its phase, how many games have begun, and how many balls are in play
+-- the game: its phase, how many games have begun, how many balls are in play, and for each mode, by number, whether it
+-- holds the end of the ball
 pub record GameState : Type 0 where
   pub phase : GamePhase
   pub begun : ℕ
   pub balls : ℕ
+  pub holders : List Bool
 
 -- the rules of a plan's game, and the game
 pub record GameView : Type 0 where
   pub rules : Option GameRules
   pub state : GameState
 
+-- no game, and no mode holds the end of a ball; a plan has at most 64 modes
 abbrev pub no_game : GameState
-no_game = record { phase = phases.None; begun = 0; balls = 0 }
+no_game = record { phase = phases.None; begun = 0; balls = 0; holders = replicate 64 false }
 
 -- what an event of the game leads to: the game and the players after it, the events that are posted, whether a ball is
 -- requested, and whether the scores of all players are told
@@ -75,6 +80,39 @@ drained g p =
     else leads_to [] (record g { balls = g.balls - 1 }) p)
     else leads_to [] g p
 
+-- ---- the end of the ball
+
+-- whether a mode holds the end of the ball
+abbrev pub is_holder : ModeId → GameState → Bool
+is_holder m g = slice_index_or g.holders m.0 false
+
+-- whether any mode does
+abbrev pub is_held : GameState → Bool
+is_held g = list_any (λ holds. holds) g.holders
+
+-- a mode holds the end of the ball from now on
+abbrev pub held : ModeId → GameState → GameState
+held m g = record g { holders = slice_set g.holders m.0 true }
+
+-- the same, if the flag says so
+abbrev pub held_if : Bool → ModeId → GameState → GameState
+held_if true m g = held m g
+held_if false m g = g
+
+-- a mode no longer holds the end of the ball
+abbrev pub released : ModeId → GameState → GameState
+released m g = record g { holders = slice_set g.holders m.0 false }
+
+-- whether `ball_ended` is posted when a mode lets go of the end of the ball: it held that, and no other mode does
+abbrev pub ends_ball : ModeId → GameState → Bool
+ends_ball m g = is_holder m g && not (is_held (released m g))
+
+-- what `ball_ending` leads to: `ball_ended`, unless a mode holds the end of the ball
+abbrev pub ball_ending : GameState → List GameEvent
+ball_ending g = if is_held g then [] else BallEnded ∷ []
+
+-- ---- the end of the turn and of the game
+
 -- whether the game is over: it was the last ball of the last player
 abbrev pub is_over : GameRules → PlanView → PlayersState → Bool
 is_over rules plan p =
@@ -104,7 +142,7 @@ step_by rules plan BallStarting home g p =
 step_by rules plan BallStarted home g p = leads_to [] g p
 step_by rules plan BallDrain home g p = drained g p
 step_by rules plan BallWillEnd home g p = leads_to (BallEnding ∷ []) g p
-step_by rules plan BallEnding home g p = leads_to (BallEnded ∷ []) g p
+step_by rules plan BallEnding home g p = leads_to (ball_ending g) g p
 step_by rules plan BallEnded home g p = leads_to (PlayerTurnWillEnd ∷ []) g p
 step_by rules plan PlayerTurnWillEnd home g p = leads_to (PlayerTurnEnding ∷ []) g p
 step_by rules plan PlayerTurnEnding home g p = leads_to (PlayerTurnEnded ∷ []) g p

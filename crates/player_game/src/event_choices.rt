@@ -23,7 +23,7 @@ pub fn choices(event: GameEvent) -> &'static [&'static [GameEvent]]
         GameEvent::BallStarted => &[&[]],
         GameEvent::BallDrain => &[&[GameEvent::BallWillEnd], &[]],
         GameEvent::BallWillEnd => &[&[GameEvent::BallEnding]],
-        GameEvent::BallEnding => &[&[GameEvent::BallEnded]],
+        GameEvent::BallEnding => &[&[GameEvent::BallEnded], &[]],
         GameEvent::BallEnded => &[&[GameEvent::PlayerTurnWillEnd]],
         GameEvent::PlayerTurnWillEnd => &[&[GameEvent::PlayerTurnEnding]],
         GameEvent::PlayerTurnEnding => &[&[GameEvent::PlayerTurnEnded]],

@@ -7,7 +7,7 @@ ghost use Rattle.player_game.specs.Players.{added, next_ball, turned};
 use crate::players::Players;
 use arrayvec::ArrayVec;
 use device_objects::World;
-use plan_tables::{GameEvent, GameRules, Plan};
+use plan_tables::{GameEvent, GameRules, ModeId, Plan};
 use std::marker::Model;
 
 /// No more games begin.
@@ -94,14 +94,16 @@ impl GameWork {
     }
 }
 
-/// The game of a plan: its phase, how many games have begun, and how many balls are in play. No call
-/// takes memory.
+/// The game of a plan: its phase, how many games have begun, how many balls are in play, and which
+/// modes hold the end of the ball. No call takes memory.
 #[derive(Drop)]
 pub struct Game {
     rules: Option<GameRules>,
     phase: GamePhase,
     begun: u64,
     balls: u32,
+    /// At each mode's number whether the mode holds the end of the ball.
+    holders: [bool; 64],
 }
 
 impl Model for Game {
@@ -109,12 +111,12 @@ impl Model for Game {
 
     ghost Value = { GameView };
 
-    ghost view = { λ g. record { rules = g.rules; state = record { phase = g.phase; begun = g.begun; balls = g.balls } } };
+    ghost view = { λ g. record { rules = g.rules; state = record { phase = g.phase; begun = g.begun; balls = g.balls; holders = g.holders } } };
 }
 
 impl Game {
-    ghost use Rattle.std.specs.Prelude.{◌≡◌, true, false, [], ◌∷◌};
-    ghost use Rattle.player_game.specs.GameStep.{ball_started, can_begin, can_join, drained, ended, game_step, no_game, started};
+    ghost use Rattle.std.specs.Prelude.{◌≡◌, ◌<◌, true, false, [], ◌∷◌};
+    ghost use Rattle.player_game.specs.GameStep.{ball_ending, ball_started, can_begin, can_join, drained, ended, ends_ball, game_step, held, is_held, no_game, released, started};
     ghost use Rattle.player_game.specs.Players.{PlayersState, turned};
 
     /// The game of a plan. No game goes on, and none has begun.
@@ -126,6 +128,7 @@ impl Game {
             phase: GamePhase::None,
             begun: 0,
             balls: 0,
+            holders: [false; 64],
         }
     }
 
@@ -184,7 +187,7 @@ impl Game {
             GameEvent::BallStarted => GameWork::nothing(),
             GameEvent::BallDrain => self.drain(),
             GameEvent::BallWillEnd => GameWork::posting(GameEvent::BallEnding),
-            GameEvent::BallEnding => GameWork::posting(GameEvent::BallEnded),
+            GameEvent::BallEnding => self.end_ball(),
             GameEvent::BallEnded => GameWork::posting(GameEvent::PlayerTurnWillEnd),
             GameEvent::PlayerTurnWillEnd => GameWork::posting(GameEvent::PlayerTurnEnding),
             GameEvent::PlayerTurnEnding => GameWork::posting(GameEvent::PlayerTurnEnded),
@@ -262,6 +265,47 @@ impl Game {
         }
         self.phase = GamePhase::Between;
         GameWork::posting(GameEvent::BallWillEnd)
+    }
+
+    /// What `ball_ending` leads to: `ball_ended`, unless a mode holds the end of the ball.
+    fn end_ball(&self) -> GameWork
+        ensures posts { result.posts.items ≡ ball_ending self.now.state }
+        ensures requests { result.requests ≡ false }
+        ensures finals { result.finals ≡ false }
+    {
+        if self.is_held() {
+            return GameWork::nothing();
+        }
+        GameWork::posting(GameEvent::BallEnded)
+    }
+
+    /// Whether any mode holds the end of the ball.
+    fn is_held(&self) -> bool
+        ensures { result ≡ is_held self.now.state }
+    {
+        self.holders.iter().any(|holds| *holds)
+    }
+
+    /// A mode, numbered below 64, holds the end of the ball from now on. To be called where
+    /// `Plan::may_hold_ball_end` holds.
+    pub fn hold(&mut self, mode: ModeId)
+        requires { mode.0 < 64 }
+        ensures { self.new ≡ record self.old { state = held mode self.old.state } }
+    {
+        self.holders[mode.0 as usize] = true;
+    }
+
+    /// A mode, numbered below 64, no longer holds the end of the ball. Reports whether `ball_ended` is to be
+    /// posted: the mode held the end of the ball, and no other mode does.
+    pub fn release(&mut self, mode: ModeId) -> bool
+        requires { mode.0 < 64 }
+        ensures released { self.new ≡ record self.old { state = released mode self.old.state } }
+        ensures ends { result ≡ ends_ball mode self.old.state }
+    {
+        let number = mode.0 as usize;
+        let held = self.holders[number];
+        self.holders[number] = false;
+        held && !self.is_held()
     }
 
     /// The game ends, and the scores are told.

@@ -67,8 +67,8 @@ const BUNDLES: &str = "\
 ";
 
 // Texts, and what is read of them or the line of their fault. The section `modes` is shown by the names
-// that it lists, and a mode by its priority, whether it needs a game, whether it stops with the ball, and
-// what starts and stops it; its sections stand below.
+// that it lists, and a mode by its priority, whether it needs a game, whether it stops with the ball, whether it
+// holds the end of the ball, and what starts and stops it; its sections stand below.
 const MODES: &str = "\
 @¶modes: lo, hi¶@hi¶mode:¶  priority: 200¶  game_mode: no¶  start_events: a, b¶event_player:¶  x: y¶@lo¶mode:¶  stop_on_ball_end: no¶  stop_events:¶    - c¶    - d¶ => modes¶ lo@2 hi@2¶lo: 100 true false;; c@5 d@6;¶mode¶hi: 200 false true; a@5 b@5;;¶mode¶event_player¶ x@7; y@7;¶
 @¶modes: a¶event_player:¶  x: y¶@a¶event_player:¶  x: z¶ => modes¶ a@2¶event_player¶ x@4; y@4;¶a: 100 true true;;;¶event_player¶ x@3; z@3;¶
@@ -103,8 +103,24 @@ const MODES: &str = "\
 @¶modes: a¶@a¶mode:¶  priority: 0¶  use_wait_queue: FALSE¶ => modes¶ a@2¶a: 0 true true;;;¶mode¶
 @¶modes: a¶@a¶mode:¶  priority: 1000001¶ => error 6 BadValue modes/a/config/a.yaml 3 priority¶
 @¶modes: a¶@a¶mode:¶  priority: -1¶ => error 6 BadValue modes/a/config/a.yaml 3 priority¶
-@¶modes: a¶@a¶mode:¶  use_wait_queue: yes¶ => error 6 BadValue modes/a/config/a.yaml 3 use_wait_queue¶
-@¶modes: a¶@a¶mode:¶  use_wait_queue: True¶ => error 6 BadValue modes/a/config/a.yaml 3 use_wait_queue¶
+@¶modes: a¶@a¶mode:¶  use_wait_queue: yes¶  start_events: ball_ending¶ => modes¶ a@2¶a: 100 true true holds; ball_ending@4;;¶mode¶
+@¶modes: a¶@a¶mode:¶  start_events: ball_ending{current_player.score>1}¶  stop_on_ball_end: no¶  use_wait_queue: True¶ => modes¶ a@2¶a: 100 true false holds; ball_ending{score Greater 1}@3;;¶mode¶
+@¶modes: a¶@a¶mode:¶  game_mode: no¶  use_wait_queue: ON¶  start_events:¶    - ball_ending{ current_player.b == 1 }¶    - ball_ending¶  stop_events: x¶ => modes¶ a@2¶a: 100 false true holds; ball_ending{b Equal 1}@6 ball_ending@7; x@8;¶mode¶
+@¶modes: a¶@a¶mode:¶  use_wait_queue: no¶  start_events: ball_ending, x¶ => modes¶ a@2¶a: 100 true true; ball_ending@4 x@4;;¶mode¶
+@¶modes: a, b¶@a¶mode:¶  use_wait_queue: yes¶  start_events: ball_ending¶@b¶mode:¶  start_events: x¶ => modes¶ a@2 b@2¶a: 100 true true holds; ball_ending@4;;¶mode¶b: 100 true true; x@3;;¶mode¶
+@¶modes: a¶@a¶lights:¶mode:¶  use_wait_queue: yes¶ => error 6 BadValue modes/a/config/a.yaml 3 start_events¶
+@¶modes: a¶@a¶mode: {use_wait_queue: on}¶ => error 6 BadValue modes/a/config/a.yaml 2 start_events¶
+@¶modes: a¶@a¶mode:¶  use_wait_queue: yes¶¶  start_events:¶ => error 6 BadValue modes/a/config/a.yaml 5 start_events¶
+@¶modes: a¶@a¶mode:¶  start_events: []¶  use_wait_queue: yes¶ => error 6 BadValue modes/a/config/a.yaml 3 start_events¶
+@¶modes: a¶@a¶mode:¶  priority: 7¶  start_events:¶    - ball_ending¶    - x¶  use_wait_queue: yes¶ => error 6 BadValue modes/a/config/a.yaml 4 start_events¶
+@¶modes: a¶@a¶mode:¶  use_wait_queue: true¶  \"start_events\": x, ball_ending¶ => error 6 BadValue modes/a/config/a.yaml 4 start_events¶
+@¶modes: a¶@a¶mode:¶  use_wait_queue: yes¶  start_events: Ball_ending¶ => error 6 BadValue modes/a/config/a.yaml 4 start_events¶
+@¶modes: a¶@a¶mode:¶  use_wait_queue: yes¶  start_events: ball_ending_x¶ => error 6 BadValue modes/a/config/a.yaml 4 start_events¶
+@¶modes: a¶@a¶mode:¶  use_wait_queue: yes¶  stop_events: ball_ending¶ => error 6 BadValue modes/a/config/a.yaml 2 start_events¶
+@¶modes: a¶@a¶mode:¶  use_wait_queue: yes¶  start_events: x¶  priority: -1¶ => error 6 BadValue modes/a/config/a.yaml 5 priority¶
+@¶modes: a¶@a¶mode:¶  use_wait_queue: yes¶event_player:¶  x: y/¶ => error 6 BadValue modes/a/config/a.yaml 2 start_events¶
+@¶modes: a¶@a¶event_player:¶  x: y/¶mode:¶  use_wait_queue: yes¶ => error 6 BadValue modes/a/config/a.yaml 3 x¶
+@¶modes: a, b¶@b¶mode:¶  use_wait_queue: yes¶@a¶switches:¶ => error 6 BadValue modes/b/config/b.yaml 2 start_events¶
 @¶modes: a¶@a¶mode:¶  use_wait_queue: oFf¶ => error 6 BadValue modes/a/config/a.yaml 3 use_wait_queue¶
 @¶modes: a¶@a¶mode:¶  start_events: x, y{current_player.score>1}¶  stop_events: z{ current_player.ball == 2 }¶ => modes¶ a@2¶a: 100 true true; x@3 y{score Greater 1}@3; z{ball Equal 2}@4;¶mode¶
 @¶modes: a¶@a¶mode:¶  start_events: x, y{score>1}¶ => error 6 BadValue modes/a/config/a.yaml 3 start_events¶
@@ -226,6 +242,9 @@ fn show_mode(pen: &mut Pen, mode: &ModeText) {
     pen.also(settings.priority);
     pen.also(settings.game);
     pen.also(settings.stops_with_ball);
+    if settings.holds_ball_end {
+        pen.put(" holds");
+    }
     pen.events(settings.starts);
     pen.events(settings.stops);
     pen.put(";\n");

@@ -411,19 +411,23 @@ mode:¶ => no section
 
 // Texts with one section that a mode has, and its entries or their fault.
 const MODE_SECTIONS: &str = "\
-mode:¶ => mode@1:  |  | 100 | true | true | no
-mode:¶  number: 1¶  tags: a/¶  priority: 0¶  game_mode: No¶ => mode@1:  |  | 0 | false | true | no
-mode:¶  stop_events: a, b¶  start_events:¶    - c¶    - d¶ => mode@1:  c@4 d@5 |  a@2 b@2 | 100 | true | true | no
-mode:¶  stop_on_ball_end: off¶  priority: 1000000¶ => mode@1:  |  | 1000000 | true | false | no
-mode:¶  use_wait_queue: Off¶ => mode@1:  |  | 100 | true | true | Off
+mode:¶ => mode@1:  |  | 100 | true | true | false
+mode:¶  number: 1¶  tags: a/¶  priority: 0¶  game_mode: No¶ => mode@1:  |  | 0 | false | true | false
+mode:¶  stop_events: a, b¶  start_events:¶    - c¶    - d¶ => mode@1:  c@4 d@5 |  a@2 b@2 | 100 | true | true | false
+mode:¶  stop_on_ball_end: off¶  priority: 1000000¶ => mode@1:  |  | 1000000 | true | false | false
+mode:¶  use_wait_queue: Off¶ => mode@1:  |  | 100 | true | true | false
+mode:¶  use_wait_queue: yes¶ => mode@1:  |  | 100 | true | true | true
+mode:¶  use_wait_queue: True¶  game_mode: no¶ => mode@1:  |  | 100 | false | true | true
 mode: a¶ => BadValue 1 mode
 mode: [a]¶ => BadValue 1 mode
 mode:¶  priority: -1¶ => BadValue 2 priority
 mode:¶  priority: 1000001¶ => BadValue 2 priority
 mode:¶  priority:¶ => BadValue 2 priority
 mode:¶  game_mode: 1¶ => BadValue 2 game_mode
-mode:¶  use_wait_queue: yes¶ => BadValue 2 use_wait_queue
-mode:¶  start_events: a, b{current_player.x==1}¶  stop_events:¶    - c{ current_player.y > 2 }¶ => mode@1:  a@2 b{x Equal 1}@2 |  c{y Greater 2}@4 | 100 | true | true | no
+mode:¶  use_wait_queue: oFf¶ => BadValue 2 use_wait_queue
+mode:¶  use_wait_queue: 1¶ => BadValue 2 use_wait_queue
+mode:¶  use_wait_queue:¶ => BadValue 2 use_wait_queue
+mode:¶  start_events: a, b{current_player.x==1}¶  stop_events:¶    - c{ current_player.y > 2 }¶ => mode@1:  a@2 b{x Equal 1}@2 |  c{y Greater 2}@4 | 100 | true | true | false
 mode:¶  start_events: a, b{current_player.x==1¶ => BadValue 2 start_events
 mode:¶  stop_events: {a: b}¶ => BadValue 2 stop_events
 mode:¶  start_events: [«1025 a, »]¶ => Limit 2 start_events

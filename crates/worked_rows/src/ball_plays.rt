@@ -349,6 +349,151 @@ ball_devices:
 5505 machine event game_ended
 5505 machine final 1 0
 
+=== mode that holds the end of the ball
+--- play
+@ config/config.yaml
+#config_version=6
+modes: bonus
+game:
+  balls_per_game: 1
+switches:
+  s_b1:
+    number: 1
+  s_b2:
+    number: 2
+  s_b3:
+    number: 3
+  s_b4:
+    number: 4
+  s_b5:
+    number: 5
+  s_start:
+    number: 6
+    tags: start
+  s_plunger:
+    number: 7
+  s_pf:
+    number: 8
+    tags: playfield_active
+coils:
+  c_trough:
+    number: 1
+  c_plunger:
+    number: 2
+ball_devices:
+  trough:
+    ball_switches: s_b1, s_b2, s_b3, s_b4, s_b5
+    eject_coil: c_trough
+    tags: trough, home, drain
+    eject_targets: plunger
+  plunger:
+    ball_switches: s_plunger
+    eject_coil: c_plunger
+@ modes/bonus/config/bonus.yaml
+#config_version=6
+mode:
+  start_events: ball_ending
+  stop_events: timer_b_complete
+  use_wait_queue: yes
+timers:
+  b:
+    end_value: 1
+    start_running: yes
+--- log
+0 s_b1 1
+0 s_b2 1
+0 s_b3 1
+0 s_b4 1
+0 s_b5 1
+1000
+1000 s_start 1
+1200 s_b1 0
+1800 s_plunger 1
+2400 s_plunger 0
+3000 s_pf 1
+4000
+5000 s_b1 1
+7000
+=> Yes
+5 machine switch s_b1 active
+5 machine event s_b1_active
+5 machine switch s_b2 active
+5 machine event s_b2_active
+5 machine switch s_b3 active
+5 machine event s_b3_active
+5 machine switch s_b4 active
+5 machine event s_b4_active
+5 machine switch s_b5 active
+5 machine event s_b5_active
+505 machine balls 1 1 0 0
+505 machine event balldevice_trough_ball_enter
+505 machine balls 2 2 0 0
+505 machine event balldevice_trough_ball_enter
+505 machine balls 3 3 0 0
+505 machine event balldevice_trough_ball_enter
+505 machine balls 4 4 0 0
+505 machine event balldevice_trough_ball_enter
+505 machine balls 5 5 0 0
+505 machine event balldevice_trough_ball_enter
+1005 machine switch s_start active
+1005 machine event s_start_active
+1005 machine event sw_start
+1005 machine event game_will_start
+1005 machine event game_starting
+1005 machine event player_added
+1005 machine event game_started
+1005 machine event player_turn_will_start
+1005 machine event player_turn_starting
+1005 machine event player_turn_started
+1005 machine event ball_will_start
+1005 machine event ball_starting
+1005 machine coil c_trough pulse 10 1000
+1005 machine event balldevice_trough_ball_eject_attempt
+1005 machine event balldevice_trough_ejecting_ball
+1005 machine event ball_started
+1205 machine switch s_b1 inactive
+1205 machine event s_b1_inactive
+1705 machine balls 5 4 1 0
+1805 machine switch s_plunger active
+1805 machine event s_plunger_active
+2305 machine balls 5 5 0 0
+2305 machine coil c_plunger pulse 10 1000
+2305 machine event balldevice_plunger_ball_enter
+2305 machine event balldevice_trough_ball_eject_success
+2305 machine event balldevice_plunger_ball_eject_attempt
+2305 machine event balldevice_plunger_ejecting_ball
+2405 machine switch s_plunger inactive
+2405 machine event s_plunger_inactive
+2905 machine balls 5 4 1 0
+3005 machine switch s_pf active
+3005 machine balls 5 4 0 1
+3005 machine event balldevice_plunger_ball_eject_success
+3005 machine event s_pf_active
+3005 machine event sw_playfield_active
+5005 machine switch s_b1 active
+5005 machine event s_b1_active
+5505 machine balls 5 5 0 0
+5505 machine event balldevice_trough_ball_enter
+5505 machine event ball_drain
+5505 machine event ball_will_end
+5505 machine event ball_ending
+5505 machine event mode_bonus_will_start
+5505 machine event mode_bonus_starting
+5505 machine event mode_bonus_started
+5505 bonus event timer_b_started
+6505 bonus event timer_b_tick
+6505 bonus event timer_b_complete
+6505 machine event mode_bonus_stopping
+6505 machine event mode_bonus_stopped
+6505 machine event ball_ended
+6505 machine event player_turn_will_end
+6505 machine event player_turn_ending
+6505 machine event player_turn_ended
+6505 machine event game_will_end
+6505 machine event game_ending
+6505 machine event game_ended
+6505 machine final 1 0
+
 === eject retried
 --- play
 @ config/config.yaml

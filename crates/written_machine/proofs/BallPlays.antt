@@ -8,7 +8,7 @@ use Rattle.std.proofs.lemmas.List.Concat.{flat_map-append}
 use Rattle.std.proofs.lemmas.List.Elements.{All-head, All-tail, All-get_or, All-nil, All-map, All-filter, All-from_get_or, filter_passes}
 use Rattle.std.proofs.lemmas.List.FromFn.{length-range_with_len, get_or-range_with_len}
 use Rattle.std.proofs.lemmas.List.Sorted.{All-permutation}
-use Rattle.plan_tables.specs.PlanView.{PlanView, act_of_listener, actions_at, binding_at, coil_numbers, first_trough, game_event, is_owner, is_trough, list_of_row, listeners_of, mode_event, no_binding, no_row, no_switch, places_of, posts_of, row_at, row_numbers, rows_of, switch_at, work_of}
+use Rattle.plan_tables.specs.PlanView.{PlanView, act_of_listener, actions_at, binding_at, coil_numbers, first_trough, game_event, may_hold_ball_end, is_owner, is_trough, list_of_row, listeners_of, mode_event, no_binding, no_row, no_switch, places_of, posts_of, row_at, row_numbers, rows_of, switch_at, work_of}
 use Rattle.plan_tables.specs.Valid.{HasEntries, IsBindingWithin, IsListenerWithin, IsTargetWithin}
 use Rattle.plan_tables.specs.Devices.{list_count}
 use Rattle.plan_tables.specs.declared.devices.Act.TheVariants as acts
@@ -52,7 +52,8 @@ use Rattle.event_queue.specs.Handlers.{runs_at, handlers, IsHandlerOrder}
 use Rattle.mode_stack.specs.ModeStep.{starts, started, stopped, stop_answer, entered, ended}
 use Rattle.mode_stack.specs.Modes.{needs_game, mode_state, running_of}
 use Rattle.player_game.specs.Players.{is_met, changed_to, after_change, score_of}
-use Rattle.player_game.specs.GameStep.{GameStep, game_step}
+use Rattle.plan_tables.specs.declared.entries.GameEvent.TheVariants.{BallEnded}
+use Rattle.player_game.specs.GameStep.{GameStep, ends_ball, game_step}
 use Rattle.switch_core.specs.declared.change.Change.{Change}
 use Rattle.written_machine.specs.declared.line.Happening.{Happening}
 use Rattle.written_machine.specs.declared.line.Happening.TheVariants as lines
@@ -60,7 +61,8 @@ use Rattle.plan_tables.specs.BallRows.{BooksNothing, actions_in, BooksRightly, I
 use Rattle.written_machine.specs.SwitchLines.{change_at, changes_of}
 use Rattle.written_machine.specs.EventStep.{taken, do_before, do_after, is_kept, before_handlers, after_event, handlers_in}
 use Rattle.written_machine.specs.Devices.{ActsAreOwn}
-use Rattle.written_machine.specs.Machine.{Machine, write, post, set_mode, set_device, set_coils, set_players, set_game, all_do, has_game, post_if, start_mode, is_post, stop_mode, told, ask_coil, release_coil, release_coils, tell_change, do_action_by, do_list_by, world_of, device_state, device_at, called, call_device_by, confirm_first_away, confirm_entry, call_device, call_devices, do_target, do_handler, home_of, write_final, write_finals, ask_trough, ask_ball, do_step, tell_listener, tell_listeners, confirm_on_playfield}
+use Rattle.written_machine.proofs.Does.{begun_mode}
+use Rattle.written_machine.specs.Machine.{Machine, write, post, set_mode, set_device, set_coils, set_players, set_game, all_do, has_game, post_if, release_ball_end, drop_hold, start_mode, is_post, stop_mode, told, ask_coil, release_coil, release_coils, tell_change, do_action_by, do_list_by, world_of, device_state, device_at, called, call_device_by, confirm_first_away, confirm_entry, call_device, call_devices, do_target, do_handler, home_of, write_final, write_finals, ask_trough, ask_ball, do_step, tell_listener, tell_listeners, confirm_on_playfield}
 use Rattle.written_machine.proofs.BallFeeders.{find-found}
 
 -- ---- what does not concern balls
@@ -270,7 +272,7 @@ module _ (plan : PlanView) where
     start-other : (m : ModeId) (s : Machine) → IsOther plan s (start_mode plan m s)
     start-other m s =
         let old = mode_state s.modes m in
-        let begun = set_mode m (started (needs_game plan m) (has_game s) old) s in
+        let begun = begun_mode plan m s in
         then-other (same-other s begun refl refl refl refl)
         (post_if-other (starts (needs_game plan m) (has_game s) old.phase) (mode_event plan m WillStart) begun)
 
@@ -280,6 +282,15 @@ module _ (plan : PlanView) where
         let over = set_mode m (stopped old) s in
         then-other (same-other s over refl refl refl refl)
         (post_if-other (is_post (stop_answer old.phase)) (mode_event plan m Stopping) over)
+
+    release-other : (m : ModeId) (s : Machine) → IsOther plan s (release_ball_end plan m s)
+    release-other m s = by (may_hold_ball_end plan m)
+      where
+        by : (holds : Bool) → IsOther plan s (if holds then post_if (ends_ball m s.game) (game_event plan BallEnded) (drop_hold m s) else s)
+        by true =
+            then-other (same-other s (drop_hold m s) refl refl refl refl)
+            (post_if-other (ends_ball m s.game) (game_event plan BallEnded) (drop_hold m s))
+        by false = nothing-other s
 
     target-other : (owner : Owner) (t : Target) (s : Machine) → IsOffBalls plan t → IsTargetWithin plan t
         → IsOther plan s (do_target plan owner t s)
@@ -427,7 +438,7 @@ module _ (plan : PlanView) where
             let idle = set_mode m (ended (mode_state s.modes m)) released in
             still (then-other (devices-other calls.ModeStop m s) (then-other (releases-other (owners.Mode m) over)
             (then-other (same-other released idle refl refl refl refl) (post-other owners.Machine (mode_event plan m Stopped) idle))))
-        after-plays kept (Mode m Stopped) s = still (nothing-other s)
+        after-plays kept (Mode m Stopped) s = still (release-other m s)
         after-plays kept (Game which) s = game-plays (game_step plan.game plan which (home_of plan s) s.game s.players) s
 
         -- an event step

@@ -24,7 +24,7 @@ use Rattle.written_machine.specs.declared.line.Line.{Line}
 use Rattle.written_machine.specs.Counted.{booked_at, bookings, IsLedgerOf, AreOriginsRight, AreCountsRight}
 use Rattle.written_machine.specs.EventStep.{taken, EventStep}
 use Rattle.written_machine.specs.Machine.{Machine, initial, write, told, counts_of}
-use Rattle.written_machine.specs.Moves.{Move, Wrote, Sent, Switched, Began, Ended, Marked, Turned, Asked, Booked as Books, Varied, Stepped, do_move, Licence, MayDo, Does, IsNoBooking, TakesPart, Begins, ordinary, working}
+use Rattle.written_machine.specs.Moves.{Move, Wrote, Sent, Switched, Began, Ended, Marked, Released, Turned, Asked, Booked as Books, Varied, Stepped, do_move, Licence, MayDo, Does, IsNoBooking, TakesPart, Begins, ordinary, working}
 use Rattle.written_machine.specs.Run.{Stimulus, IsAllowed, begin, IsRun, InEveryRun}
 use Rattle.written_machine.proofs.Does.{start-by, stop-by, book-by, does-keeps}
 use Rattle.written_machine.proofs.Parts.{does-before, does-after, does-begin}
@@ -261,6 +261,7 @@ module _ (plan : PlanView) where
       book-by owner call s (IsToldSoFar before)
       (λ can. subst (λ (ls : List Line). IsTold ls (after_call call s.ledger)) (append_assoc before s.lines (x ∷ []))
       (booking-told (before ++ s.lines) x s.ledger call can refl h)) h
+  told-move licence before (Released m) s may h = h
   told-move licence before (Varied v value) s may h = h
   told-move licence before (Stepped which) s may h = h
 

@@ -1,11 +1,11 @@
 -- What one cost pays for: single changes of the machine, one after another, each by a licence.
-use Rattle.std.proofs.Common.{◌≡◌, ℕ, ℤ, zero, suc, ◌+◌, ◌-◌, ◌≤◌, ◌<◌, inl, inr, Option, None, Some, Bool, true, false, List, [], ◌∷◌, ◌++◌, length, length-append, slice_index_or, slice_set, if◌then◌else◌, map, Contains, refl, ap, sym, subst, ◌∙◌, arith}
+use Rattle.std.proofs.Common.{◌≡◌, ◌&&◌, ℕ, ℤ, zero, suc, ◌+◌, ◌-◌, ◌≤◌, ◌<◌, inl, inr, Option, None, Some, Bool, true, false, List, [], ◌∷◌, ◌++◌, length, length-append, slice_index_or, slice_set, if◌then◌else◌, map, Contains, refl, ap, sym, subst, ◌∙◌, arith}
 use Rattle.std.proofs.lemmas.Bool.{cases_eq, cases_lt, false≢true}
 use Rattle.std.proofs.lemmas.Option.{none-some}
 use Rattle.std.specs.List.{All, AllByRecursion}
 use Rattle.std.proofs.lemmas.List.{length-map, length-set, get_or-map, get_or_past, get_or-set_same, get_or-set_other, set_past}
 use Rattle.std.proofs.lemmas.List.Elements.{All-head, All-tail}
-use Rattle.plan_tables.specs.PlanView.{PlanView, mode_event, no_row, row_at}
+use Rattle.plan_tables.specs.PlanView.{PlanView, may_hold_ball_end, mode_event, no_row, row_at}
 use Rattle.plan_tables.specs.Valid.{HasEntries}
 use Rattle.plan_tables.specs.declared.entries.EventId.{EventId}
 use Rattle.plan_tables.specs.declared.entries.Owner.{Owner}
@@ -23,6 +23,7 @@ use Rattle.device_objects.proofs.Shapes.{states_keep_their_shape}
 use Rattle.mode_stack.specs.declared.phase.ModeState.{ModeState}
 use Rattle.mode_stack.specs.ModeStep.{starts, started, stopped, stop_answer}
 use Rattle.mode_stack.specs.Modes.{needs_game, mode_state}
+use Rattle.player_game.specs.GameStep.{GameState, held_if, released}
 use Rattle.player_game.specs.Players.{PlayersState, player_at, with_value, after_change}
 use Rattle.player_game.specs.Choices.{AreFew}
 use Rattle.player_game.proofs.StayFew.{players_stay_few}
@@ -40,10 +41,10 @@ use Rattle.plan_tables.proofs.Owners.{is_owner-same}
 use Rattle.coil_guard.specs.Asked.{limits_of, after_asking, answer_asking}
 use Rattle.ball_devices.specs.Bookings.{LedgerCall, after_call, booked, can_book}
 use Rattle.written_machine.specs.declared.line.Happening.TheVariants as lines
-use Rattle.written_machine.specs.Machine.{told, Machine, write, post, set_ledger, counts_of, book, set_mode, home_of, has_game, is_post, post_if, start_mode, stop_mode, all_do, world_of, device_state, device_at, called}
+use Rattle.written_machine.specs.Machine.{told, Machine, write, post, set_ledger, counts_of, book, set_mode, set_game, home_of, has_game, is_post, post_if, start_mode, stop_mode, all_do, world_of, device_state, device_at, called}
 use Rattle.written_machine.specs.Devices.{HasDevices}
 use Rattle.written_machine.specs.StimulusCost.{weigh}
-use Rattle.written_machine.specs.Moves.{Move, Wrote, Sent, Switched, Began, Ended, Marked, Turned, Asked, Booked, Varied, Stepped, do_move, cost_of_move, MayHold, IsListed, Licence, MayDo, Does, quiet, moved, both, less, Grows}
+use Rattle.written_machine.specs.Moves.{Move, Wrote, Sent, Switched, Began, Ended, Marked, Released, Turned, Asked, Booked, Varied, Stepped, do_move, cost_of_move, MayHold, IsListed, Licence, MayDo, Does, quiet, moved, both, less, Grows}
 
 -- what these cost one after another, where each finds the state that the one before it leaves
 abbrev pub each_now : {X : Type 0} → (X → Machine → Machine) → (X → Machine → Cost) → List X → Machine → Cost
@@ -89,7 +90,9 @@ post_if-by P e s posted not false = not
 module _ (plan : PlanView) (m : ModeId) (s : Machine) where
   -- a mode that is told to start, and its event
   abbrev pub begun_mode : Machine
-  begun_mode = set_mode m (started (needs_game plan m) (has_game s) (mode_state s.modes m)) s
+  begun_mode =
+      set_game (held_if (starts (needs_game plan m) (has_game s) (mode_state s.modes m).phase && may_hold_ball_end plan m) m s.game)
+      (set_mode m (started (needs_game plan m) (has_game s) (mode_state s.modes m)) s)
 
   pub start-by : (P : Machine → Type 0) → P (post owners.Machine (mode_event plan m WillStart) begun_mode) → P begun_mode → P (start_mode plan m s)
   start-by P posted not = post_if-by P (mode_event plan m WillStart) begun_mode posted not (starts (needs_game plan m) (has_game s) (mode_state s.modes m).phase)
@@ -140,6 +143,7 @@ module _ (plan : PlanView) where
   potential-move w (Ended m) s =
       stop-by plan m s (λ t. potential w t ≤ potential w s + w (mode_event plan m Stopping)) (potential-post w owners.Machine (mode_event plan m Stopping) (ended_mode plan m s)) (omega arith)
   potential-move w (Marked m state) s = omega arith
+  potential-move w (Released m) s = omega arith
   potential-move w (Turned call r) s = omega arith
   potential-move w (Booked owner call) s = book-by owner call s (λ t. potential w t ≤ potential w s + 1) (λ is. omega (arith, booked-length owner call s)) (omega arith)
   potential-move w (Varied v value) s = omega arith
@@ -172,6 +176,7 @@ module _ (plan : PlanView) where
   grows-move (Began m) s = start-by plan m s (Grows s) (omega arith, omega (arith, length-append s.waiting (record { event = mode_event plan m WillStart; owner = owners.Machine } ∷ []))) (omega arith, omega arith)
   grows-move (Ended m) s = stop-by plan m s (Grows s) (omega arith, omega (arith, length-append s.waiting (record { event = mode_event plan m Stopping; owner = owners.Machine } ∷ []))) (omega arith, omega arith)
   grows-move (Marked m state) s = (omega arith, omega arith)
+  grows-move (Released m) s = (omega arith, omega arith)
   grows-move (Turned call r) s = (omega arith, omega arith)
   grows-move (Booked owner call) s = book-by owner call s (Grows s) (λ is. (omega (arith, booked-length owner call s), omega arith)) (omega arith, omega arith)
   grows-move (Varied v value) s = (omega arith, omega arith)
@@ -185,6 +190,7 @@ module _ (plan : PlanView) where
   moment-move (Began m) s = start-by plan m s (λ t. t.moment ≡ s.moment) refl refl
   moment-move (Ended m) s = stop-by plan m s (λ t. t.moment ≡ s.moment) refl refl
   moment-move (Marked m state) s = refl
+  moment-move (Released m) s = refl
   moment-move (Turned call r) s = refl
   moment-move (Asked owner command) s = refl
   moment-move (Booked owner call) s = book-by owner call s (λ t. t.moment ≡ s.moment) (λ is. refl) refl
@@ -280,6 +286,9 @@ module _ (plan : PlanView) where
   marked-has_states : (m : ModeId) (state : ModeState) (s : Machine) → HasStates s → HasStates (set_mode m state s)
   marked-has_states m state s h = record { kinds = h.kinds; switches = h.switches; modes = length-set s.modes m.0 state ∙ h.modes; devices = h.devices; coils = h.coils; players = h.players }
 
+  gamed-has_states : (g : GameState) (s : Machine) → HasStates s → HasStates (set_game g s)
+  gamed-has_states g s h = record { kinds = h.kinds; switches = h.switches; modes = h.modes; devices = h.devices; coils = h.coils; players = h.players }
+
   posted-has_states : (owner : Owner) (e : EventId) (s : Machine) → HasStates s → HasStates (post owner e s)
   posted-has_states owner e s h = record { kinds = h.kinds; switches = h.switches; modes = h.modes; devices = h.devices; coils = h.coils; players = h.players }
 
@@ -288,12 +297,13 @@ module _ (plan : PlanView) where
   has_states-move l (Sent owner e) s may h = posted-has_states owner e s h
   has_states-move l (Switched n switch) s may h = record { kinds = h.kinds; switches = length-set s.switches.states n.0 switch ∙ h.switches; modes = h.modes; devices = h.devices; coils = h.coils; players = h.players }
   has_states-move l (Began m) s may h =
-      let marked = marked-has_states m _ s h in
-      start-by plan m s HasStates (posted-has_states owners.Machine (mode_event plan m WillStart) (begun_mode plan m s) marked) marked
+      let begun = gamed-has_states _ _ (marked-has_states m _ s h) in
+      start-by plan m s HasStates (posted-has_states owners.Machine (mode_event plan m WillStart) (begun_mode plan m s) begun) begun
   has_states-move l (Ended m) s may h =
       let marked = marked-has_states m _ s h in
       stop-by plan m s HasStates (posted-has_states owners.Machine (mode_event plan m Stopping) (ended_mode plan m s) marked) marked
   has_states-move l (Marked m state) s may h = marked-has_states m state s h
+  has_states-move l (Released m) s may h = gamed-has_states (released m s.game) s h
   has_states-move l (Turned call r) s may h = record { kinds = h.kinds; switches = h.switches; modes = h.modes; devices = turned-has_devices call r s h.devices; coils = h.coils; players = h.players }
   has_states-move l (Asked owner command) s may h = record { kinds = h.kinds; switches = h.switches; modes = h.modes; devices = h.devices; coils = asked-has_coils owner command s.moment s.coils may.2 h.coils; players = h.players }
   has_states-move l (Booked owner call) s may h =
@@ -317,6 +327,7 @@ module _ (plan : PlanView) where
   has_devices-move (Began m) s h = start-by plan m s (λ t. HasDevices plan t.devices) h h
   has_devices-move (Ended m) s h = stop-by plan m s (λ t. HasDevices plan t.devices) h h
   has_devices-move (Marked m state) s h = h
+  has_devices-move (Released m) s h = h
   has_devices-move (Turned call r) s h = turned-has_devices call r s h
   has_devices-move (Asked owner command) s h = h
   has_devices-move (Booked owner call) s h = book-by owner call s (λ t. HasDevices plan t.devices) (λ is. h) h
@@ -347,6 +358,7 @@ module _ (plan : PlanView) where
     waits-move entries (Ended m) s may h =
         stop-by plan m s WaitsInPlan (of_plan-push s.waiting (record { event = mode_event plan m Stopping; owner = owners.Machine }) h (mode_event-within plan entries m Stopping (may entries))) h
     waits-move entries (Marked m state) s may h = h
+    waits-move entries (Released m) s may h = h
     waits-move entries (Turned call r) s may h = h
     waits-move entries (Asked owner command) s may h = h
     waits-move entries (Booked owner call) s may h = book-by owner call s WaitsInPlan (λ is. h) h
@@ -364,6 +376,7 @@ module _ (plan : PlanView) where
     switches-move none (Began m) s may = start-by plan m s (λ t. t.switches ≡ s.switches) refl refl
     switches-move none (Ended m) s may = stop-by plan m s (λ t. t.switches ≡ s.switches) refl refl
     switches-move none (Marked m state) s may = refl
+    switches-move none (Released m) s may = refl
     switches-move none (Turned call r) s may = refl
     switches-move none (Asked owner command) s may = refl
     switches-move none (Booked owner call) s may = book-by owner call s (λ t. t.switches ≡ s.switches) (λ is. refl) refl

@@ -12,7 +12,7 @@ use Rattle.written_machine.specs.declared.line.Happening.TheVariants as lines
 use Rattle.written_machine.specs.declared.line.Line.{Line}
 use Rattle.written_machine.specs.EventStep.{taken, EventStep}
 use Rattle.written_machine.specs.Machine.{Machine, initial, write, told, counts_of}
-use Rattle.written_machine.specs.Moves.{Move, Wrote, Sent, Switched, Began, Ended, Marked, Turned, Asked, Booked as Books, Varied, Stepped, do_move, Licence, MayDo, Does, TakesPart, Begins, ordinary, working}
+use Rattle.written_machine.specs.Moves.{Move, Wrote, Sent, Switched, Began, Ended, Marked, Released, Turned, Asked, Booked as Books, Varied, Stepped, do_move, Licence, MayDo, Does, TakesPart, Begins, ordinary, working}
 use Rattle.written_machine.specs.Run.{Stimulus, IsAllowed, begin, moment_of, InEveryRun}
 use Rattle.written_machine.proofs.Does.{start-by, stop-by, book-by, does-keeps}
 use Rattle.written_machine.proofs.Parts.{does-before, does-after, does-begin}
@@ -38,6 +38,7 @@ module _ (plan : PlanView) where
   timed-move licence (Books owner call) s may h =
       book-by owner call s IsTimed
       (λ can. write-timed owner (lines.Balls (booked call s.ledger) (counts_of (after_call call s.ledger))) (record s { ledger = after_call call s.ledger }) h) h
+  timed-move licence (Released m) s may h = h
   timed-move licence (Varied v value) s may h = h
   timed-move licence (Stepped which) s may h = h
 

@@ -6,7 +6,7 @@ use Rattle.std.proofs.lemmas.Bool.{cases_lt}
 use Rattle.std.proofs.lemmas.List.{get_or_past}
 use Rattle.std.proofs.lemmas.List.Elements.{All-get_or, All-nil, filter_passes}
 use Rattle.std.proofs.lemmas.List.Sorted.{All-permutation}
-use Rattle.plan_tables.specs.PlanView.{PlanView, act_of_listener, actions_of, coil_numbers, listeners_of, no_row, no_switch, no_binding, switch_at, posts_of, actions_at, binding_at, is_owner, list_of_row, places_of, first_trough, game_event, mode_event, row_at, row_numbers, rows_of, target_of, work_of}
+use Rattle.plan_tables.specs.PlanView.{PlanView, act_of_listener, actions_of, coil_numbers, listeners_of, no_row, no_switch, no_binding, switch_at, posts_of, actions_at, binding_at, is_owner, list_of_row, places_of, first_trough, game_event, may_hold_ball_end, mode_event, row_at, row_numbers, rows_of, target_of, work_of}
 use Rattle.plan_tables.specs.Valid.{HasEntries, HasGame, IsEventWithin, IsActionWithin, IsBindingWithin, IsTargetWithin, IsWorkAt}
 use Rattle.plan_tables.specs.declared.entries.EventId.{EventId}
 use Rattle.plan_tables.specs.declared.entries.ListId.{ListId}
@@ -17,9 +17,9 @@ use Rattle.plan_tables.specs.declared.entries.ModeId.{ModeId}
 use Rattle.plan_tables.specs.declared.entries.Work.{Work}
 use Rattle.plan_tables.specs.declared.entries.Work.TheVariants.{Nothing, Mode, Game}
 use Rattle.plan_tables.specs.declared.entries.GameEvent.{GameEvent}
-use Rattle.plan_tables.specs.declared.entries.GameEvent.TheVariants.{BallDrain}
+use Rattle.plan_tables.specs.declared.entries.GameEvent.TheVariants.{BallDrain, BallEnded}
 use Rattle.plan_tables.specs.declared.entries.VariableId.{VariableId}
-use Rattle.player_game.specs.GameStep.{is_ball_on}
+use Rattle.player_game.specs.GameStep.{ends_ball, is_ball_on}
 use Rattle.player_game.specs.Players.{is_met, changed_to, after_change as players_after_change, score_of}
 use Rattle.plan_tables.specs.declared.entries.Owner.{Owner}
 use Rattle.plan_tables.specs.declared.entries.Owner.TheVariants as owners
@@ -52,11 +52,11 @@ use Rattle.switch_core.specs.Switches.{kind_at, state_at, after_change, reported
 use Rattle.mode_stack.specs.ModeStep.{entered, ended}
 use Rattle.mode_stack.specs.Modes.{mode_state, running_of}
 use Rattle.written_machine.specs.declared.line.Happening.TheVariants as lines
-use Rattle.cascade_rank.specs.Cost.{Cost, Lines, Both, Greater, each_of, cost_of_post, cost_of_drain, cost_of_target, cost_of_binding, led_by, cost_if_led, cost_of_choice}
+use Rattle.cascade_rank.specs.Cost.{Cost, Lines, Both, Greater, each_of, cost_of_post, cost_of_drain, cost_of_target, cost_of_binding, led_by, led_by_stopped, cost_if_led, cost_of_choice}
 use Rattle.cascade_rank.proofs.Games.{game_event-below, game_has-event}
 use Rattle.cascade_rank.proofs.Within.{posts-below, mode_event-within}
 use Rattle.event_queue.specs.Handlers.{runs_at, handlers, IsHandlerOrder}
-use Rattle.written_machine.specs.Machine.{Machine, write, post, ask_coil, release_coil, release_coils, set_switches, set_mode, set_device, set_players, all_do, tell_change, post_game, write_final, write_finals, do_game, book, drain_if, after_entry, do_action_by, do_list_by, do_answer_by, call_device_by, first_away, no_confirm, confirm_of, confirm_first_away, confirm_entry, do_list, do_answer, world_of, device_at, called, call_device, call_devices, tell_listener, tell_listeners, confirm_on_playfield, ask_trough, ask_ball, do_target, do_handler, do_accepted, do_if_accepted}
+use Rattle.written_machine.specs.Machine.{Machine, write, post, post_if, release_ball_end, drop_hold, ask_coil, release_coil, release_coils, set_switches, set_mode, set_device, set_players, all_do, tell_change, post_game, write_final, write_finals, do_game, book, drain_if, after_entry, do_action_by, do_list_by, do_answer_by, call_device_by, first_away, no_confirm, confirm_of, confirm_first_away, confirm_entry, do_list, do_answer, world_of, device_at, called, call_device, call_devices, tell_listener, tell_listeners, confirm_on_playfield, ask_trough, ask_ball, do_target, do_handler, do_accepted, do_if_accepted}
 use Rattle.written_machine.specs.EventStep.{do_before, do_after, handlers_in}
 use Rattle.written_machine.specs.Run.{switch, device, Stimulus, SwitchChange, Alarm, Wait, moment_of, arrived, begin}
 use Rattle.written_machine.specs.StimulusCost.{cost_of_stimulus}
@@ -66,7 +66,7 @@ use Rattle.written_machine.specs.FreePosts.{IsFree, IsFreeAction, IsFreeSwitch, 
 use Rattle.written_machine.proofs.Feeding.{first_away-is, first_trough-is}
 use Rattle.written_machine.proofs.Listed.{binding-among, row-among, contains-at, enable-listed}
 use Rattle.written_machine.proofs.Does.{each_now, all_do-does, all_do-does_now, does-weaker}
-use Rattle.written_machine.specs.Moves.{Move, Wrote, Sent, Switched, Began, Ended, Marked, Turned, Asked, Booked, Varied, Stepped, step_now, do_move, MayHold, Licence, MayDo, IsFreeThere, Does, quiet, moved, both, less, TakesPart, IsMachine, ordinary, MayHandle, Begins, MayBegin, working, MayWork}
+use Rattle.written_machine.specs.Moves.{Move, Wrote, Sent, Switched, Began, Ended, Marked, Released, Turned, Asked, Booked, Varied, Stepped, step_now, do_move, MayHold, Licence, MayDo, IsFreeThere, Does, quiet, moved, both, less, TakesPart, IsMachine, ordinary, MayHandle, Begins, MayBegin, working, MayWork}
 
 -- ---- what is in a plan
 
@@ -512,6 +512,7 @@ module _ (plan : PlanView) where
       each (Began k) may = may
       each (Ended k) may = may
       each (Marked k state) may = absurd may
+      each (Released k) may = absurd may
       each (Turned turn r) may = may
       each (Asked owner command) may = may
       each (Booked owner call) may = may
@@ -560,6 +561,22 @@ module _ (plan : PlanView) where
       (all_do-does plan (MayWork plan) (post_game plan) (λ other. cost_of_post (game_event plan other)) (λ other. Unit {0})
       (λ other t h. moved (Sent owners.Machine (game_event plan other)) t (λ own. tt, λ entries. game_event-below plan entries (game_has-event plan entries e which is) other, tt)) step.posts (λ k d there. tt) (ask_ball plan step.requests written))))
 
+  -- a mode has stopped, and the ball may end
+  does-release : (m : ModeId) (s : Machine) → m.0 < length plan.modes → Does plan (MayWork plan) (cost_if_led (led_by_stopped plan m)) s (release_ball_end plan m s)
+  does-release m s there = by (may_hold_ball_end plan m)
+    where
+      some_event : HasEntries plan → 0 < length plan.events
+      some_event entries = omega (arith, mode_event-within plan entries m Stopped there)
+
+      ends : (b : Bool) (t : Machine) → Does plan (MayWork plan) (cost_of_post (game_event plan BallEnded)) t (post_if b (game_event plan BallEnded) t)
+      ends true t = moved (Sent owners.Machine (game_event plan BallEnded)) t (λ own. tt, λ entries. game_event-below plan entries (some_event entries) BallEnded, tt)
+      ends false t = less quiet (λ w. omega arith)
+
+      by : (holds : Bool) → Does plan (MayWork plan) (cost_if_led (if holds then Some (game_event plan BallEnded) else None)) s
+          (if holds then post_if (ends_ball m s.game) (game_event plan BallEnded) (drop_hold m s) else s)
+      by true = less (both (moved (Released m) s tt) (ends (ends_ball m s.game) (drop_hold m s))) (λ w. omega arith)
+      by false = quiet
+
   does-after_work : (kept : Bool) (w : Work) (e : EventId) → work_of plan e ≡ w → IsWorkAt plan e w → (s : Machine) → Does plan (MayWork plan) (after_now w s) s (do_after plan kept w s)
   does-after_work kept Nothing e is at s = quiet
   does-after_work kept (Mode m WillStart) e is at s = moved (Sent owners.Machine (mode_event plan m Starting)) s (λ own. tt, λ entries. mode_event-within plan entries m Starting at.0, tt)
@@ -571,7 +588,7 @@ module _ (plan : PlanView) where
       let released = release_coils plan (owners.Mode m) stopped in
       both (works-calls calls.ModeStop m s) (both (does-releases working m (λ own. tt) stopped) (both (moved (Marked m (ended (mode_state s.modes m))) released tt)
       (moved (Sent owners.Machine (mode_event plan m Stopped)) (set_mode m (ended (mode_state s.modes m)) released) (λ own. tt, λ entries. mode_event-within plan entries m Stopped at.0, tt))))
-  does-after_work kept (Mode m Stopped) e is at s = quiet
+  does-after_work kept (Mode m Stopped) e is at s = does-release m s at.0
   does-after_work kept (Game which) e is at s = does-game which e is s
 
   -- whether a stop was kept or not

@@ -4,7 +4,7 @@ use Rattle.std.proofs.Common.{◌≡◌, ℕ, ◌<◌, ◌⊎◌, if◌then◌el
 use Rattle.std.specs.List.{range_with_len}
 use Rattle.std.proofs.lemmas.Bool.{cases_eq, eq-eqb, ne_eqb}
 use Rattle.std.proofs.lemmas.List.{append-nil, get_or-replicate, length-replicate, length-set}
-use Rattle.plan_tables.specs.PlanView.{PlanView, coil_numbers, game_event, is_owner, mode_event, row_at, rows_of, work_of}
+use Rattle.plan_tables.specs.PlanView.{PlanView, coil_numbers, game_event, may_hold_ball_end, is_owner, mode_event, row_at, rows_of, work_of}
 use Rattle.plan_tables.specs.Valid.{HasGame, IsOwnerWithin, IsValid, IsWorkAt}
 use Rattle.plan_tables.specs.declared.entries.EventId.{EventId}
 use Rattle.plan_tables.specs.declared.entries.ModeId.{ModeId}
@@ -15,10 +15,12 @@ use Rattle.plan_tables.specs.declared.entries.Owner.TheVariants as owners
 use Rattle.plan_tables.specs.declared.entries.Work.{Work}
 use Rattle.plan_tables.specs.declared.entries.Work.TheVariants.{Nothing, Mode, Game}
 use Rattle.plan_tables.specs.declared.entries.GameEvent.{GameEvent}
-use Rattle.plan_tables.specs.declared.entries.GameEvent.TheVariants.{BallDrain}
+use Rattle.plan_tables.specs.declared.entries.GameEvent.TheVariants.{BallDrain, BallEnded}
+use Rattle.player_game.specs.GameStep.{ends_ball}
 use Rattle.player_game.specs.Players.{score_of}
 use Rattle.plan_tables.specs.declared.devices.RowId.{RowId}
 use Rattle.plan_tables.proofs.Owners.{rows_of-there}
+use Rattle.plan_tables.proofs.Holding.{holds-game}
 use Rattle.plan_tables.proofs.Worked.{work_found}
 use Rattle.device_objects.specs.declared.device.Call.{Call}
 use Rattle.device_objects.specs.declared.device.Call.TheVariants as calls
@@ -43,17 +45,17 @@ use Rattle.written_machine.specs.declared.line.Line.{Line}
 use Rattle.written_machine.specs.declared.line.Happening.TheVariants as lines
 use Rattle.written_machine.specs.Devices.{ActsAreOwn}
 use Rattle.written_machine.specs.FreePosts.{IsFreeWork, PostsAreFree}
-use Rattle.written_machine.specs.Machine.{Machine, initial, post, set_mode, has_game, post_game, write_final, write_finals, ask_ball, ask_coil, release_coil, release_coils, stop_mode, all_do, do_game, device_state, call_devices, do_handler}
+use Rattle.written_machine.specs.Machine.{Machine, initial, post, set_mode, has_game, post_if, release_ball_end, drop_hold, post_game, write_final, write_finals, ask_ball, ask_coil, release_coil, release_coils, stop_mode, all_do, do_game, device_state, call_devices, do_handler}
 use Rattle.written_machine.specs.EventStep.{taken, before_handlers, handlers_in, do_before, do_after}
 use Rattle.written_machine.specs.Run.{switch, device, source_due, Stimulus, SwitchChange, Alarm, Wait, moment_of, IsAllowed, arrived, begin, IsRun}
 use Rattle.written_machine.specs.Silent.{HasStarted, IsSilent}
-use Rattle.written_machine.specs.Moves.{Move, Wrote, Sent, Switched, Began, Ended, Marked, Turned, Asked, Booked, Varied, Stepped, step_now, do_move, MayDo, Does, TakesPart, IsMachine, Begins, ordinary, MayHandle}
+use Rattle.written_machine.specs.Moves.{Move, Wrote, Sent, Switched, Began, Ended, Marked, Released, Turned, Asked, Booked, Varied, Stepped, step_now, do_move, MayDo, Does, TakesPart, IsMachine, Begins, ordinary, MayHandle}
 use Rattle.written_machine.proofs.Does.{start-by, stop-by, book-by, does-keeps, off-has_coils}
 use Rattle.written_machine.proofs.Parts.{does-calls, does-releases, does-request, does-order, does-begin}
 use Rattle.written_machine.proofs.Keeps.{step-keeps, run-keeps}
 use Rattle.written_machine.proofs.Cycles.{mine, waiting_of, IsTurn, idle, turn-will_start, turn-starting, turn-started, turn-stopping, turn-stopped, stopping-runs, stopped-quiet}
 use Rattle.written_machine.proofs.Hearing.{Said, written, all_written, awaited, all_awaited, heard_at, heard_after, heard, IsFine, heard-push, fine-push, heard-started, fine-silent}
-use Rattle.written_machine.proofs.Speaking.{Holds, HoldsIn, heard_in, phase_in, IsRunning, takes-runs, runs-takes, own_state, other_state, wrote-holds, asked-holds, booked-holds, posted-holds, own_post, own_set, own_change, other_post, other_set, start-holds, stop-holds, lines-push}
+use Rattle.written_machine.proofs.Speaking.{Holds, HoldsIn, heard_in, phase_in, IsRunning, takes-runs, runs-takes, own_state, other_state, wrote-holds, asked-holds, booked-holds, posted-holds, gamed-holds, own_post, own_set, own_change, other_post, other_set, start-holds, stop-holds, lines-push}
 use Rattle.written_machine.proofs.Alarms.{initial-devices, initial-quiet}
 use Rattle.written_machine.proofs.Held.{IsHolding, off-not, released-none}
 use Rattle.written_machine.proofs.Resting.{stops-turn, stops-quiet, Rests, running-rests, runs-rests, quiet-rests, move-rests}
@@ -89,6 +91,7 @@ module _ (plan : PlanView) (by : Owner → Type 0) (switches : Type 0) where
       let same = starting_keeps_who_runs.stop s.modes k in
       stop-by plan k s (λ t. running_of t.modes ≡ running_of s.modes) same same
   still-move (Marked k state) s may = absurd may
+  still-move (Released k) s may = absurd may
   still-move (Turned call r) s may = refl
   still-move (Asked owner command) s may = refl
   still-move (Booked owner call) s may = book-by owner call s (λ t. running_of t.modes ≡ running_of s.modes) (λ is. refl) refl
@@ -156,6 +159,7 @@ module _ (plan : PlanView) (valid : IsValid plan) (free : PostsAreFree plan) (ow
     move-holds front (Began k) s may h = start-holds plan valid m within before front k s (may valid.entries) h.kept
     move-holds front (Ended k) s may h = stop-holds plan valid m within before front k s (may valid.entries) h.kept
     move-holds front (Marked k state) s may h = absurd may
+    move-holds front (Released k) s may h = absurd may
     move-holds front (Turned call r) s may h = record { count = h.kept.count; fine = h.kept.fine; holds = h.kept.holds }
     move-holds front (Varied v value) s may h = record { count = h.kept.count; fine = h.kept.fine; holds = h.kept.holds }
     move-holds front (Stepped which) s may h = record { count = h.kept.count; fine = h.kept.fine; holds = h.kept.holds }
@@ -267,20 +271,43 @@ module _ (plan : PlanView) (valid : IsValid plan) (free : PostsAreFree plan) (ow
         post-rests (mode_event plan k Stopped) (set_mode k (ended (mode_state s.modes k)) gone) (other_set-rests k (ended (mode_state s.modes k)) gone kept.0.count other kept.1),
       )
 
+  -- an event of the game is posted, which is none of the mode's
+  post-stays : (before : List Line) → HasGame plan → (which : GameEvent) (s : Machine) → Stays before [] s → Stays before [] (post_game plan which s)
+  post-stays before has which s h = (
+    posted-holds plan valid m within before [] owners.Machine (game_event plan which) s (ap (λ (w : Work). mine m w []) (valid.game_works which has)) (λ is. absurd (search (rules, is))) h.0,
+    post-rests (game_event plan which) s h.1,
+  )
+
+  -- a mode lets go of the end of the ball
+  release-stays : (before : List Line) (k : ModeId) (s : Machine) → Stays before [] s → Stays before [] (release_ball_end plan k s)
+  release-stays before k s h = by (may_hold_ball_end plan k) refl
+    where
+      gone : Stays before [] (drop_hold k s)
+      gone = (gamed-holds plan valid m within before [] (drop_hold k s).game s h.0, running-rests plan valid own m s (drop_hold k s) refl refl refl h.1)
+
+      ends : HasGame plan → (b : Bool) → Stays before [] (post_if b (game_event plan BallEnded) (drop_hold k s))
+      ends has true = post-stays before has BallEnded (drop_hold k s) gone
+      ends has false = gone
+
+      by : (holds : Bool) → may_hold_ball_end plan k ≡ holds → Stays before [] (if holds then post_if (ends_ball k s.game) (game_event plan BallEnded) (drop_hold k s) else s)
+      by true is = ends (holds-game plan k is) (ends_ball k s.game)
+      by false is = h
+
   own_after : (before : List Line) (kept : Bool) (which : ModeEvent) (s : Machine) → Stays before (still_due which) s → Stays before [] (do_after plan kept (Mode m which) s)
   own_after before kept WillStart s h = (own_post plan valid m within before (WillStart ∷ []) [] Starting s h.0 (turn-will_start (phase_in m s) (waiting_of plan m s.waiting) h.0.holds.turns), post-rests (mode_event plan m Starting) s h.1)
   own_after before kept Starting s h = (own_post plan valid m within before (Starting ∷ []) [] Started s h.0 (turn-starting (phase_in m s) (waiting_of plan m s.waiting) h.0.holds.turns), post-rests (mode_event plan m Started) s h.1)
   own_after before true Started s h = (stop-holds plan valid m within before [] m s within h.0, stop-rests m s h.1)
   own_after before false Started s h = h
   own_after before kept Stopping s h = own_ended before s h
-  own_after before kept Stopped s h = (
-    record {
-      count = h.0.count;
-      fine = h.0.fine;
-      holds = record { waits = h.0.holds.waits; turns = turn-stopped (phase_in m s) (waiting_of plan m s.waiting) h.0.holds.turns; speaks = h.0.holds.speaks };
-    },
-    h.1,
-  )
+  own_after before kept Stopped s h =
+      release-stays before m s (
+        record {
+          count = h.0.count;
+          fine = h.0.fine;
+          holds = record { waits = h.0.holds.waits; turns = turn-stopped (phase_in m s) (waiting_of plan m s.waiting) h.0.holds.turns; speaks = h.0.holds.speaks };
+        },
+        h.1,
+      )
 
   other_after : (before : List Line) (kept : Bool) (k : ModeId) (which : ModeEvent) (s : Machine) → k.0 < length plan.modes → (k.0 ≡ m.0 → ⊥) → Stays before [] s → Stays before [] (do_after plan kept (Mode k which) s)
   other_after before kept k WillStart s there other h = (other_post plan valid m within before [] k Starting s there other h.0, post-rests (mode_event plan k Starting) s h.1)
@@ -288,7 +315,7 @@ module _ (plan : PlanView) (valid : IsValid plan) (free : PostsAreFree plan) (ow
   other_after before true k Started s there other h = (stop-holds plan valid m within before [] k s there h.0, stop-rests k s h.1)
   other_after before false k Started s there other h = h
   other_after before kept k Stopping s there other h = other_ended before k s there other h
-  other_after before kept k Stopped s there other h = h
+  other_after before kept k Stopped s there other h = release-stays before k s h
 
   -- ---- the game
 
@@ -310,11 +337,7 @@ module _ (plan : PlanView) (valid : IsValid plan) (free : PostsAreFree plan) (ow
   -- the game's events are posted, none of which is the mode's
   posts-stay : (before : List Line) → HasGame plan → (posts : List GameEvent) (s : Machine) → Stays before [] s → Stays before [] (all_do (post_game plan) posts s)
   posts-stay before has [] s h = h
-  posts-stay before has (which ∷ posts) s h =
-      posts-stay before has posts (post_game plan which s) (
-        posted-holds plan valid m within before [] owners.Machine (game_event plan which) s (ap (λ (w : Work). mine m w []) (valid.game_works which has)) (λ is. absurd (search (rules, is))) h.0,
-        post-rests (game_event plan which) s h.1,
-      )
+  posts-stay before has (which ∷ posts) s h = posts-stay before has posts (post_game plan which s) (post-stays before has which s h)
 
   -- a trough is asked for a ball
   request-stays : (before : List Line) (asks : Bool) (s : Machine) → Stays before [] s → Stays before [] (ask_ball plan asks s)

@@ -1,10 +1,10 @@
 -- What holds of a mode at every moment of a run: which of its events wait, and that nothing of it waits to be written where
 -- it must not be heard.
-use Rattle.std.proofs.Common.{◌≡◌, ℕ, ◌<◌, inl, inr, Bool, true, false, cond, if◌then◌else◌, List, [], ◌∷◌, ◌++◌, length, refl, ap, sym, subst, ◌∙◌, append_assoc, arith, rules}
+use Rattle.std.proofs.Common.{◌≡◌, ◌&&◌, ℕ, ◌<◌, inl, inr, Bool, true, false, cond, if◌then◌else◌, List, [], ◌∷◌, ◌++◌, length, refl, ap, sym, subst, ◌∙◌, append_assoc, arith, rules}
 use Rattle.std.specs.List.{AllByRecursion}
 use Rattle.std.proofs.lemmas.Bool.{cases_eq, eq-eqb, ne_eqb}
 use Rattle.std.proofs.lemmas.List.{append-nil, get_or-set_same, get_or-set_other, get_or-map, length-set}
-use Rattle.plan_tables.specs.PlanView.{PlanView, mode_event, work_of}
+use Rattle.plan_tables.specs.PlanView.{PlanView, may_hold_ball_end, mode_event, work_of}
 use Rattle.plan_tables.specs.Valid.{IsValid}
 use Rattle.plan_tables.specs.declared.entries.EventId.{EventId}
 use Rattle.plan_tables.specs.declared.entries.ModeId.{ModeId}
@@ -14,6 +14,7 @@ use Rattle.plan_tables.specs.declared.entries.Owner.{Owner}
 use Rattle.plan_tables.specs.declared.entries.Owner.TheVariants as owners
 use Rattle.plan_tables.specs.declared.entries.Work.{Work}
 use Rattle.plan_tables.specs.declared.entries.Work.TheVariants.{Nothing, Mode, Game}
+use Rattle.player_game.specs.GameStep.{GameState, held_if}
 use Rattle.mode_stack.specs.declared.phase.Phase.{Phase}
 use Rattle.mode_stack.specs.declared.phase.Phase.TheVariants as phases
 use Rattle.mode_stack.specs.declared.phase.ModeState.{ModeState}
@@ -28,10 +29,10 @@ use Rattle.coil_guard.specs.declared.command.Answer.{Answer}
 use Rattle.coil_guard.specs.declared.command.Answer.TheVariants as answers
 use Rattle.coil_guard.specs.Asked.{after_asking, answer_asking}
 use Rattle.ball_devices.specs.Bookings.{LedgerCall, after_call, booked}
-use Rattle.written_machine.specs.Machine.{Machine, write, post, set_ledger, counts_of, book, set_coils, told, ask_coil, set_mode, has_game, is_post, post_if, start_mode, stop_mode}
+use Rattle.written_machine.specs.Machine.{Machine, write, post, set_ledger, counts_of, book, set_coils, told, ask_coil, set_mode, set_game, has_game, is_post, post_if, start_mode, stop_mode}
 use Rattle.written_machine.proofs.Cycles.{mine, waiting_of, IsTurn, waiting_of-push, turn-start, turn-stop, IsNoEnd, running-no_end}
 use Rattle.written_machine.proofs.Hearing.{Said, work_written, written, all_written, awaited, all_awaited, heard_at, heard_after, heard, IsFine, written-push, awaited-push, heard-push, fine-push}
-use Rattle.written_machine.proofs.Does.{book-by}
+use Rattle.written_machine.proofs.Does.{begun_mode, book-by}
 use Rattle.written_machine.specs.Moves.{IsNoEvent}
 
 -- Of the mode's events: the one that is being handled, as long as its work is still to come, and those that wait. And
@@ -218,6 +219,10 @@ module _ (plan : PlanView) (valid : IsValid plan) (m : ModeId) (within : m.0 < l
   pub other_post : (front : List ModeEvent) (k : ModeId) (which : ModeEvent) (s : Machine) → k.0 < length plan.modes → (k.0 ≡ m.0 → ⊥) → HoldsIn plan m before front s → HoldsIn plan m before front (post owners.Machine (mode_event plan k which) s)
   other_post front k which s there other h = posted-holds front owners.Machine (mode_event plan k which) s (other_mine k which there other) (λ is. absurd (search rules)) h
 
+  -- the game goes on
+  pub gamed-holds : (front : List ModeEvent) (g : GameState) (s : Machine) → HoldsIn plan m before front s → HoldsIn plan m before front (set_game g s)
+  gamed-holds front g s h = record { count = h.count; fine = h.fine; holds = h.holds }
+
   -- ---- starts and stops
 
   same_holds : (front : List ModeEvent) (s : Machine) → HoldsIn plan m before front s → HoldsIn plan m before front (set_mode m (mode_state s.modes m) s)
@@ -260,11 +265,15 @@ module _ (plan : PlanView) (valid : IsValid plan) (m : ModeId) (within : m.0 < l
         | inl is ↦
             let needs = needs_game plan m in
             subst (λ (n : ℕ). HoldsIn plan m before front (start_mode plan (record { 0 = n }) s)) (sym is)
-            (own_start front s (starts (needs_game plan m) (has_game s) (phase_in m s)) (idle_starts needs (has_game s) (phase_in m s)) h)
+            (own_start front (held_for m) (starts (needs_game plan m) (has_game s) (phase_in m s)) (idle_starts needs (has_game s) (phase_in m s)) (gamed-holds front (held_for m).game s h))
         | inr other ↦
-            other_if front k WillStart (starts (needs_game plan k) (has_game s) (phase_in k s)) (set_mode k (started (needs_game plan k) (has_game s) (mode_state s.modes k)) s) there other
-            (other_set front k (started (needs_game plan k) (has_game s) (mode_state s.modes k)) s other h)
+            other_if front k WillStart (starts (needs_game plan k) (has_game s) (phase_in k s)) (begun_mode plan k s) there other
+            (other_set front k (started (needs_game plan k) (has_game s) (mode_state s.modes k)) (held_for k) other (gamed-holds front (held_for k).game s h))
       ]
+    where
+      -- the end of the ball may wait for the mode
+      held_for : ModeId → Machine
+      held_for n = set_game (held_if (starts (needs_game plan n) (has_game s) (phase_in n s) && may_hold_ball_end plan n) n s.game) s
 
   pub stop-holds : (front : List ModeEvent) (k : ModeId) (s : Machine) → k.0 < length plan.modes → HoldsIn plan m before front s → HoldsIn plan m before front (stop_mode plan k s)
   stop-holds front k s there h =

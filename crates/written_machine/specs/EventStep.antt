@@ -13,7 +13,7 @@ use Rattle.mode_stack.specs.Modes.{mode_state, running_of}
 use Rattle.written_machine.specs.declared.line.Happening.TheVariants as lines
 use Rattle.event_queue.specs.declared.queue.Posted.{Posted}
 use Rattle.event_queue.specs.Handlers.{handlers, IsHandlerOrder}
-use Rattle.written_machine.specs.Machine.{Machine, write, post, set_mode, all_do, stop_mode, call_devices, release_coils, do_game, do_handler}
+use Rattle.written_machine.specs.Machine.{Machine, write, post, set_mode, all_do, stop_mode, release_ball_end, call_devices, release_coils, do_game, do_handler}
 
 -- the first waiting event is taken, and its line is written
 abbrev pub taken : Posted → List Posted → Machine → Machine
@@ -44,14 +44,14 @@ is_kept (Game which) s = false
 
 -- After the handlers: a mode goes on from one of its events to the next. At `stopping`, after its own handlers of that
 -- event, its devices stop, the coils that it holds are disabled, and then it ends. At `started` it is told to stop, where
--- a stop was kept. The game goes on as its event says.
+-- a stop was kept. At `stopped` it lets go of the end of the ball. The game goes on as its event says.
 abbrev pub do_after : PlanView → Bool → Work → Machine → Machine
 do_after plan kept Nothing s = s
 do_after plan kept (Mode m WillStart) s = post owners.Machine (mode_event plan m Starting) s
 do_after plan kept (Mode m Starting) s = post owners.Machine (mode_event plan m Started) s
 do_after plan kept (Mode m Started) s = if kept then stop_mode plan m s else s
 do_after plan kept (Mode m Stopping) s = post owners.Machine (mode_event plan m Stopped) (set_mode m (ended (mode_state s.modes m)) (release_coils plan (owners.Mode m) (call_devices plan calls.ModeStop m s)))
-do_after plan kept (Mode m Stopped) s = s
+do_after plan kept (Mode m Stopped) s = release_ball_end plan m s
 do_after plan kept (Game which) s = do_game plan which s
 
 abbrev pub work_before : PlanView → EventId → Machine → Machine

@@ -1,7 +1,7 @@
 -- The machine's state, and what each thing does to it.
 use Rattle.std.specs.Prelude.{ℕ, ℤ, Bool, true, false, not, ◌&&◌, if◌then◌else◌, find, Option, Some, None, List, [], ◌∷◌, ◌++◌, length, map, slice_index_or, slice_set}
 use Rattle.std.specs.List.{range_with_len}
-use Rattle.plan_tables.specs.PlanView.{PlanView, act_of_listener, actions_at, binding_at, coil_numbers, feeders_of, first_trough, game_event, home_rows, list_of_row, listeners_of, mode_event, no_row, posts_of, row_at, rows_of, switch_at, target_of}
+use Rattle.plan_tables.specs.PlanView.{PlanView, act_of_listener, actions_at, binding_at, coil_numbers, feeders_of, first_trough, game_event, may_hold_ball_end, home_rows, list_of_row, listeners_of, mode_event, no_row, posts_of, row_at, rows_of, switch_at, target_of}
 use Rattle.plan_tables.specs.declared.entries.EventId.{EventId}
 use Rattle.plan_tables.specs.declared.entries.SwitchId.{SwitchId}
 use Rattle.plan_tables.specs.declared.entries.ListId.{ListId}
@@ -13,9 +13,9 @@ use Rattle.plan_tables.specs.declared.entries.Action.TheVariants.{Post, Pulse, E
 use Rattle.plan_tables.specs.declared.entries.VariableId.{VariableId}
 use Rattle.plan_tables.specs.declared.entries.VariableAction.{VariableAction}
 use Rattle.plan_tables.specs.declared.entries.GameEvent.{GameEvent}
-use Rattle.plan_tables.specs.declared.entries.GameEvent.TheVariants.{BallDrain}
+use Rattle.plan_tables.specs.declared.entries.GameEvent.TheVariants.{BallDrain, BallEnded}
 use Rattle.player_game.specs.Players.{PlayersState, no_players, is_met, changed_to, after_change as players_after_change, score_of}
-use Rattle.player_game.specs.GameStep.{GameState, GameStep, no_game, game_step, is_none, is_ball_on}
+use Rattle.player_game.specs.GameStep.{GameState, GameStep, no_game, game_step, is_none, is_ball_on, held_if, released, ends_ball}
 use Rattle.plan_tables.specs.declared.entries.CoilId.{CoilId}
 use Rattle.plan_tables.specs.declared.entries.Listener.{Listener}
 use Rattle.plan_tables.specs.declared.entries.Target.{Target}
@@ -83,7 +83,7 @@ pub record Machine : Type 0 where
   pub lines : List Line
 
 -- At the beginning it is moment 0, all switches are inactive, all modes idle, all devices in their first states, all
--- coils off, no ball is known, there is no game, and nothing waits.
+-- coils off, no ball is known, there is no game, no mode holds the end of a ball, and nothing waits.
 abbrev pub initial : PlanView → Machine
 initial plan = record {
   moment = 0;
@@ -143,12 +143,15 @@ abbrev pub post_if : Bool → EventId → Machine → Machine
 post_if true e s = post owners.Machine e s
 post_if false e s = s
 
--- A mode is told to start. Where it starts, the event that says so is posted.
+-- A mode is told to start. Where it starts, the event that says so is posted. If it may hold the end of the ball, it holds
+-- that from now on.
 abbrev pub start_mode : PlanView → ModeId → Machine → Machine
 start_mode plan m s =
     let old = mode_state s.modes m in
     let needs = needs_game plan m in
-    post_if (starts needs (has_game s) old.phase) (mode_event plan m WillStart) (set_mode m (started needs (has_game s) old) s)
+    let begins = starts needs (has_game s) old.phase in
+    post_if begins (mode_event plan m WillStart)
+    (set_game (held_if (begins && may_hold_ball_end plan m) m s.game) (set_mode m (started needs (has_game s) old) s))
 
 -- whether a stop posts an event: where it is neither kept nor ignored
 abbrev pub is_post : StopAnswer → Bool
@@ -161,6 +164,17 @@ abbrev pub stop_mode : PlanView → ModeId → Machine → Machine
 stop_mode plan m s =
     let old = mode_state s.modes m in
     post_if (is_post (stop_answer old.phase)) (mode_event plan m Stopping) (set_mode m (stopped old) s)
+
+-- a mode no longer holds the end of the ball
+abbrev pub drop_hold : ModeId → Machine → Machine
+drop_hold m s = set_game (released m s.game) s
+
+-- A mode has stopped, and lets go of the end of the ball. If it was the last mode that held that, `ball_ended` is posted.
+abbrev pub release_ball_end : PlanView → ModeId → Machine → Machine
+release_ball_end plan m s =
+    if may_hold_ball_end plan m
+    then post_if (ends_ball m s.game) (game_event plan BallEnded) (drop_hold m s)
+    else s
 
 -- ---- coils
 

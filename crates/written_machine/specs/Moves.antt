@@ -29,7 +29,7 @@ use Rattle.coil_guard.specs.declared.command.Command.TheVariants as commands
 use Rattle.coil_guard.specs.Limits.{IsWithin}
 use Rattle.coil_guard.specs.Asked.{limits_of}
 use Rattle.written_machine.specs.CoilActions.{ActionsKeepLimits}
-use Rattle.written_machine.specs.Machine.{ask_coil, told, Machine, write, post, set_switches, set_mode, set_device, set_players, set_game, book, home_of, start_mode, stop_mode, called}
+use Rattle.written_machine.specs.Machine.{ask_coil, told, Machine, write, post, set_switches, set_mode, set_device, set_players, set_game, book, home_of, start_mode, stop_mode, drop_hold, called}
 use Rattle.written_machine.specs.Devices.{ActsAreOwn}
 use Rattle.written_machine.specs.FreePosts.{PostsAreFree, IsFree}
 use Rattle.plan_tables.specs.declared.entries.Work.TheVariants.{Mode, Game}
@@ -50,6 +50,8 @@ pub data Move : Type 0 where
   Ended : (m : ModeId) → Move
   -- a mode has this state from now on
   Marked : (m : ModeId) (state : ModeState) → Move
+  -- a mode no longer holds the end of the ball
+  Released : (m : ModeId) → Move
   -- a device is called, and goes on to its next state
   Turned : (call : Call) (r : RowId) → Move
   -- an owner asks for a command to a coil
@@ -72,6 +74,7 @@ do_move plan (Switched n state) s = set_switches (set_state n state s.switches) 
 do_move plan (Began m) s = start_mode plan m s
 do_move plan (Ended m) s = stop_mode plan m s
 do_move plan (Marked m state) s = set_mode m state s
+do_move plan (Released m) s = drop_hold m s
 do_move plan (Turned call r) s = set_device r (called plan call r s).0 s
 do_move plan (Asked owner command) s = ask_coil owner command s
 do_move plan (Booked owner call) s = book owner call s
@@ -85,6 +88,7 @@ cost_of_move plan (Switched n state) = Lines 0
 cost_of_move plan (Began m) = cost_of_post (mode_event plan m WillStart)
 cost_of_move plan (Ended m) = cost_of_post (mode_event plan m Stopping)
 cost_of_move plan (Marked m state) = Lines 0
+cost_of_move plan (Released m) = Lines 0
 cost_of_move plan (Turned call r) = Lines 0
 cost_of_move plan (Asked owner command) = Lines 1
 cost_of_move plan (Booked owner call) = Lines 1
@@ -127,8 +131,8 @@ IsListed plan owner (commands.Pulse coil ms power) = Unit {0}
 IsListed plan owner (commands.Enable coil power) = MayHold plan coil owner
 IsListed plan owner (commands.Disable coil) = Unit {0}
 
--- A licence: by which owners lines and events may come and devices be called, which events, and whether switches may
--- change and modes be marked.
+-- A licence: by which owners lines and events may come and devices be called, which events, whether switches may change,
+-- and whether modes may be marked and let go of the end of the ball.
 pub record Licence : Type 1 where
   pub by : Owner → Type 0
   pub posts : EventId → Type 0
@@ -144,6 +148,7 @@ MayDo plan l (Switched n state) = l.switches
 MayDo plan l (Began m) = HasEntries plan → m.0 < length plan.modes
 MayDo plan l (Ended m) = HasEntries plan → m.0 < length plan.modes
 MayDo plan l (Marked m state) = l.marks
+MayDo plan l (Released m) = l.marks
 MayDo plan l (Turned call r) = ActsAreOwn plan → l.by (row_at plan r).owner
 MayDo plan l (Asked owner command) = (ActsAreOwn plan → l.by owner) × (ActionsKeepLimits plan → IsWithin (limits_of plan) command) × IsListed plan owner command
 MayDo plan l (Booked owner call) = ActsAreOwn plan → l.by owner

@@ -183,6 +183,159 @@ event mode_m_stopped 1
 fault 10 Certificate Short mode_m_started 3
 no
 
+=== costs of a mode that holds the end of the ball
+--- check
+@ config/config.yaml
+#config_version=6
+modes: bonus
+game: {max_players: 1}
+@ modes/bonus/config/bonus.yaml
+#config_version=6
+mode:
+  start_events: ball_ending
+  stop_events: timer_b_complete
+  use_wait_queue: yes
+timers:
+  b:
+    end_value: 1
+    start_running: yes
+=> Yes
+yes
+pinball-certificate 1
+bound 14
+event sw_start 11
+event game_will_start 10
+event game_starting 9
+event player_added 1
+event game_started 7
+event player_turn_will_start 6
+event player_turn_starting 5
+event player_turn_started 4
+event ball_will_start 3
+event ball_starting 2
+event ball_started 1
+event ball_drain 29
+event ball_will_end 28
+event ball_ending 27
+event ball_ended 10
+event player_turn_will_end 9
+event player_turn_ending 8
+event player_turn_ended 7
+event game_will_end 4
+event game_ending 3
+event game_ended 2
+event mode_bonus_will_start 16
+event mode_bonus_starting 15
+event mode_bonus_started 14
+event mode_bonus_stopping 12
+event mode_bonus_stopped 11
+event timer_b_complete 13
+event timer_b_started 1
+event timer_b_stopped 1
+event timer_b_paused 1
+event timer_b_tick 1
+
+=== certificate that forgets what a held end leads to
+--- verify
+@ config/config.yaml
+#config_version=6
+modes: bonus
+game: {max_players: 1}
+@ modes/bonus/config/bonus.yaml
+#config_version=6
+mode:
+  start_events: ball_ending
+  stop_events: timer_b_complete
+  use_wait_queue: yes
+timers:
+  b:
+    end_value: 1
+    start_running: yes
+--- certificate
+pinball-certificate 1
+bound 14
+event sw_start 11
+event game_will_start 10
+event game_starting 9
+event player_added 1
+event game_started 7
+event player_turn_will_start 6
+event player_turn_starting 5
+event player_turn_started 4
+event ball_will_start 3
+event ball_starting 2
+event ball_started 1
+event ball_drain 29
+event ball_will_end 28
+event ball_ending 27
+event ball_ended 10
+event player_turn_will_end 9
+event player_turn_ending 8
+event player_turn_ended 7
+event game_will_end 4
+event game_ending 3
+event game_ended 2
+event mode_bonus_will_start 16
+event mode_bonus_starting 15
+event mode_bonus_started 14
+event mode_bonus_stopping 12
+event mode_bonus_stopped 1
+event timer_b_complete 13
+event timer_b_started 1
+event timer_b_stopped 1
+event timer_b_paused 1
+event timer_b_tick 1
+=> Refused
+fault 10 Certificate Short mode_bonus_stopped 11
+no
+
+=== mode that would hold the end of the ball, without a game
+--- check
+@ config/config.yaml
+#config_version=6
+modes: bonus
+@ modes/bonus/config/bonus.yaml
+#config_version=6
+mode:
+  start_events: ball_ending
+  stop_events: timer_b_complete
+  use_wait_queue: yes
+timers:
+  b:
+    end_value: 1
+    start_running: yes
+=> Yes
+yes
+pinball-certificate 1
+bound 4
+event mode_bonus_will_start 6
+event mode_bonus_starting 5
+event mode_bonus_started 4
+event mode_bonus_stopping 2
+event mode_bonus_stopped 1
+event ball_ending 7
+event timer_b_complete 3
+event timer_b_started 1
+event timer_b_stopped 1
+event timer_b_paused 1
+event timer_b_tick 1
+
+=== cycle through the end of the ball
+--- check
+@ config/config.yaml
+#config_version=6
+modes: bonus
+game: {max_players: 1}
+@ modes/bonus/config/bonus.yaml
+#config_version=6
+mode:
+  start_events: ball_ending
+  stop_events: player_turn_will_end
+  use_wait_queue: yes
+=> Refused
+fault 8 Cycle ball_ended player_turn_will_end mode_bonus_stopping mode_bonus_stopped
+no
+
 === absent mode note
 --- check
 @ config/config.yaml
@@ -270,15 +423,16 @@ modes: 123456789_123456789_123456789_123456789_123456789_123456789_12345
 error 6 BadValue config/config.yaml 2 modes
 no
 
-=== wait queue refused for now
+=== mode that holds the end of the ball and starts at another event
 --- check
 @ config/config.yaml
 #config_version=6
 modes: bonus
+game: {max_players: 1}
 @ modes/bonus/config/bonus.yaml
 #config_version=6
 mode:
-  start_events: ball_ending
+  start_events: ball_ending, x
   stop_events: timer_b_complete
   use_wait_queue: yes
 timers:
@@ -286,7 +440,21 @@ timers:
     end_value: 1
     start_running: yes
 => Refused
-error 6 BadValue modes/bonus/config/bonus.yaml 5 use_wait_queue
+error 6 BadValue modes/bonus/config/bonus.yaml 3 start_events
+no
+
+=== mode that holds the end of the ball and starts at nothing
+--- check
+@ config/config.yaml
+#config_version=6
+modes: bonus
+game: {max_players: 1}
+@ modes/bonus/config/bonus.yaml
+#config_version=6
+mode:
+  use_wait_queue: yes
+=> Refused
+error 6 BadValue modes/bonus/config/bonus.yaml 2 start_events
 no
 
 === fault in the text of a mode

@@ -358,6 +358,331 @@ event_player:
 40 machine switch s_x active
 40 machine event s_x_active
 
+=== two modes hold the end of the ball
+The ball ends once the last of them has stopped. Until then no ball of the game is on.
+--- play
+@ config/config.yaml
+#config_version=6
+modes: a, b
+game: {balls_per_game: 1}
+switches:
+  s_b: {number: 1, debounce: quick}
+  s_start: {number: 2, debounce: quick, tags: start}
+  s_x: {number: 3, debounce: quick}
+coils:
+  c: {number: 1}
+ball_devices:
+  trough:
+    ball_switches: s_b
+    eject_coil: c
+    entrance_count_delay: 1
+    exit_count_delay: 1
+    tags: trough, drain
+@ modes/a/config/a.yaml
+#config_version=6
+mode:
+  start_events: ball_ending
+  stop_events: s_x_active
+  use_wait_queue: yes
+@ modes/b/config/b.yaml
+#config_version=6
+mode:
+  start_events: ball_ending{current_player.ball==1}
+  stop_events: s_x_inactive
+  use_wait_queue: yes
+--- log
+0 s_b 1
+10 s_start 1
+20 s_b 0
+30 s_b 1
+40 s_x 1
+50 s_x 0
+=> Yes
+0 machine switch s_b active
+0 machine event s_b_active
+1 machine balls 1 1 0 0
+1 machine event balldevice_trough_ball_enter
+10 machine switch s_start active
+10 machine event s_start_active
+10 machine event sw_start
+10 machine event game_will_start
+10 machine event game_starting
+10 machine event player_added
+10 machine event game_started
+10 machine event player_turn_will_start
+10 machine event player_turn_starting
+10 machine event player_turn_started
+10 machine event ball_will_start
+10 machine event ball_starting
+10 machine coil c pulse 10 1000
+10 machine event balldevice_trough_ball_eject_attempt
+10 machine event balldevice_trough_ejecting_ball
+10 machine event ball_started
+20 machine switch s_b inactive
+20 machine event s_b_inactive
+21 machine balls 1 0 1 0
+30 machine switch s_b active
+30 machine event s_b_active
+31 machine balls 2 1 1 0
+31 machine event balldevice_trough_ball_enter
+31 machine event ball_drain
+31 machine event ball_will_end
+31 machine event ball_ending
+31 machine event mode_a_will_start
+31 machine event mode_b_will_start
+31 machine event mode_a_starting
+31 machine event mode_b_starting
+31 machine event mode_a_started
+31 machine event mode_b_started
+40 machine switch s_x active
+40 machine event s_x_active
+40 machine event mode_a_stopping
+40 machine event mode_a_stopped
+50 machine switch s_x inactive
+50 machine event s_x_inactive
+50 machine event mode_b_stopping
+50 machine event mode_b_stopped
+50 machine event ball_ended
+50 machine event player_turn_will_end
+50 machine event player_turn_ending
+50 machine event player_turn_ended
+50 machine event game_will_end
+50 machine event game_ending
+50 machine event game_ended
+50 machine final 1 0
+
+=== mode that is stopped while it starts holds the end of the ball
+It is started twice, and holds once. A mode that does not ask to holds nothing.
+--- play
+@ config/config.yaml
+#config_version=6
+modes: a, b
+game: {balls_per_game: 1}
+switches:
+  s_b: {number: 1, debounce: quick}
+  s_start: {number: 2, debounce: quick, tags: start}
+  s_x: {number: 3, debounce: quick}
+coils:
+  c: {number: 1}
+ball_devices:
+  trough:
+    ball_switches: s_b
+    eject_coil: c
+    entrance_count_delay: 1
+    exit_count_delay: 1
+    tags: trough, drain
+@ modes/a/config/a.yaml
+#config_version=6
+mode:
+  start_events: ball_ending, ball_ending
+  stop_events: mode_a_starting
+  use_wait_queue: yes
+@ modes/b/config/b.yaml
+#config_version=6
+mode:
+  start_events: ball_ending
+--- log
+0 s_b 1
+10 s_start 1
+20 s_b 0
+30 s_b 1
+40
+=> Yes
+0 machine switch s_b active
+0 machine event s_b_active
+1 machine balls 1 1 0 0
+1 machine event balldevice_trough_ball_enter
+10 machine switch s_start active
+10 machine event s_start_active
+10 machine event sw_start
+10 machine event game_will_start
+10 machine event game_starting
+10 machine event player_added
+10 machine event game_started
+10 machine event player_turn_will_start
+10 machine event player_turn_starting
+10 machine event player_turn_started
+10 machine event ball_will_start
+10 machine event ball_starting
+10 machine coil c pulse 10 1000
+10 machine event balldevice_trough_ball_eject_attempt
+10 machine event balldevice_trough_ejecting_ball
+10 machine event ball_started
+20 machine switch s_b inactive
+20 machine event s_b_inactive
+21 machine balls 1 0 1 0
+30 machine switch s_b active
+30 machine event s_b_active
+31 machine balls 2 1 1 0
+31 machine event balldevice_trough_ball_enter
+31 machine event ball_drain
+31 machine event ball_will_end
+31 machine event ball_ending
+31 machine event mode_a_will_start
+31 machine event mode_b_will_start
+31 machine event mode_a_starting
+31 machine event mode_b_starting
+31 machine event mode_a_started
+31 machine event mode_b_started
+31 machine event mode_a_stopping
+31 machine event mode_b_stopping
+31 machine event mode_a_stopped
+31 machine event mode_b_stopped
+31 machine event ball_ended
+31 machine event player_turn_will_end
+31 machine event player_turn_ending
+31 machine event player_turn_ended
+31 machine event game_will_end
+31 machine event game_ending
+31 machine event game_ended
+31 machine final 1 0
+
+=== end of the ball waits for a mode that did not start
+--- play
+@ config/config.yaml
+#config_version=6
+modes: a
+game: {balls_per_game: 1}
+switches:
+  s_b: {number: 1, debounce: quick}
+  s_start: {number: 2, debounce: quick, tags: start}
+  s_x: {number: 3, debounce: quick}
+coils:
+  c: {number: 1}
+ball_devices:
+  trough:
+    ball_switches: s_b
+    eject_coil: c
+    entrance_count_delay: 1
+    exit_count_delay: 1
+    tags: trough, drain
+@ modes/a/config/a.yaml
+#config_version=6
+mode:
+  start_events: ball_ending{current_player.ball==2}
+  use_wait_queue: yes
+--- log
+0 s_b 1
+10 s_start 1
+20 s_b 0
+30 s_b 1
+40
+=> Yes
+0 machine switch s_b active
+0 machine event s_b_active
+1 machine balls 1 1 0 0
+1 machine event balldevice_trough_ball_enter
+10 machine switch s_start active
+10 machine event s_start_active
+10 machine event sw_start
+10 machine event game_will_start
+10 machine event game_starting
+10 machine event player_added
+10 machine event game_started
+10 machine event player_turn_will_start
+10 machine event player_turn_starting
+10 machine event player_turn_started
+10 machine event ball_will_start
+10 machine event ball_starting
+10 machine coil c pulse 10 1000
+10 machine event balldevice_trough_ball_eject_attempt
+10 machine event balldevice_trough_ejecting_ball
+10 machine event ball_started
+20 machine switch s_b inactive
+20 machine event s_b_inactive
+21 machine balls 1 0 1 0
+30 machine switch s_b active
+30 machine event s_b_active
+31 machine balls 2 1 1 0
+31 machine event balldevice_trough_ball_enter
+31 machine event ball_drain
+31 machine event ball_will_end
+31 machine event ball_ending
+31 machine event ball_ended
+31 machine event player_turn_will_end
+31 machine event player_turn_ending
+31 machine event player_turn_ended
+31 machine event game_will_end
+31 machine event game_ending
+31 machine event game_ended
+31 machine final 1 0
+
+=== end of a ball that no mode lets go
+--- play
+@ config/config.yaml
+#config_version=6
+modes: a
+game: {balls_per_game: 1}
+switches:
+  s_b: {number: 1, debounce: quick}
+  s_start: {number: 2, debounce: quick, tags: start}
+  s_x: {number: 3, debounce: quick}
+coils:
+  c: {number: 1}
+ball_devices:
+  trough:
+    ball_switches: s_b
+    eject_coil: c
+    entrance_count_delay: 1
+    exit_count_delay: 1
+    tags: trough, drain
+@ modes/a/config/a.yaml
+#config_version=6
+mode:
+  start_events: ball_ending
+  game_mode: yes
+  stop_on_ball_end: yes
+  use_wait_queue: yes
+--- log
+0 s_b 1
+10 s_start 1
+20 s_b 0
+30 s_b 1
+1000 s_b 0
+1010 s_b 1
+2000
+=> Yes
+0 machine switch s_b active
+0 machine event s_b_active
+1 machine balls 1 1 0 0
+1 machine event balldevice_trough_ball_enter
+10 machine switch s_start active
+10 machine event s_start_active
+10 machine event sw_start
+10 machine event game_will_start
+10 machine event game_starting
+10 machine event player_added
+10 machine event game_started
+10 machine event player_turn_will_start
+10 machine event player_turn_starting
+10 machine event player_turn_started
+10 machine event ball_will_start
+10 machine event ball_starting
+10 machine coil c pulse 10 1000
+10 machine event balldevice_trough_ball_eject_attempt
+10 machine event balldevice_trough_ejecting_ball
+10 machine event ball_started
+20 machine switch s_b inactive
+20 machine event s_b_inactive
+21 machine balls 1 0 1 0
+30 machine switch s_b active
+30 machine event s_b_active
+31 machine balls 2 1 1 0
+31 machine event balldevice_trough_ball_enter
+31 machine event ball_drain
+31 machine event ball_will_end
+31 machine event ball_ending
+31 machine event mode_a_will_start
+31 machine event mode_a_starting
+31 machine event mode_a_started
+1000 machine switch s_b inactive
+1000 machine event s_b_inactive
+1001 machine balls 2 0 1 1
+1010 machine switch s_b active
+1010 machine event s_b_active
+1011 machine balls 2 1 1 0
+1011 machine event balldevice_trough_ball_enter
+
 === mode with a name of 64 bytes
 --- play
 @ config/config.yaml

@@ -5,10 +5,10 @@ use Rattle.plan_tables.specs.declared.entries.Mode.{Mode as ModeValue}
 use Rattle.plan_tables.specs.declared.entries.Owner.TheVariants.{Machine}
 use Rattle.plan_tables.specs.declared.entries.Work.{Work}
 use Rattle.plan_tables.specs.declared.entries.Work.TheVariants.{Mode}
-use Rattle.written_machine.specs.Machine.{post, stop_mode}
+use Rattle.written_machine.specs.Machine.{release_ball_end, post, stop_mode}
 use Rattle.written_machine.specs.EventStep.{do_after}
 use Rattle.machine_core.specs.Core.{after, follow}
-use Rattle.machine_core.proofs.Following.{follow-still, stop-still, ended-follows}
+use Rattle.machine_core.proofs.Following.{follow-still, release-still, stop-still, ended-follows}
 use Rattle.machine_core.proofs.Releasing.{stopped-room, stopped-coils}
 use Rattle.machine_core.proofs.parts.mode_after.Goals as goal
 
@@ -19,6 +19,14 @@ returns-then-kept g c =
     c.stop.ensures
     ∙ follow-still (stop_mode core.plan m) core c.requires.handlers (stop-still core.plan m core.machine)
     ∙ (λ i. follow (do_after core.plan (sym c.if-kept.true i) (sym (ap (Mode c.args.mode) c.in-Started.is) i)) core)
+
+pub returns-in-Stopped : goal.returns-in-Stopped
+returns-in-Stopped g c =
+    let m = c.args.mode in
+    let core = c.args.core.now in
+    c.release_ball_end.ensures
+    ∙ follow-still (release_ball_end core.plan m) core c.requires.handlers (release-still core.plan m core.machine)
+    ∙ ap (λ (w : Work). follow (do_after core.plan c.args.kept w) core) (sym (ap (Mode c.args.mode) c.in-Stopped.is))
 
 pub returns-in-Stopping : goal.returns-in-Stopping
 returns-in-Stopping g c =

@@ -23,7 +23,7 @@ loop-event-preserved g c =
     let i = c.loop-event.event-index in
     let event = get_or events i SwStart in
     let plan_is = c.plan-plan.ensures ∙ sym (ap (λ (v : CoreView). v.plan) c.loop-event.invariant) in
-    let event_is = c.game_event.ensures ∙ ap (λ (p : PlanView). game_event p event) plan_is in
+    let event_is = c.game_event.ensures.event ∙ ap (λ (p : PlanView). game_event p event) plan_is in
     all_do-first post_game core c.post.new.self (after (all_do (post_game c.args.core.now.plan) events) c.args.core.now) event (drop (i + 1) events) (drop i events)
     (drop_more events i SwStart c.loop-event-test.true) c.loop-event.invariant
     (c.post.ensures ∙ ap (λ (e : EventId). after (post Machine e) core) event_is)
