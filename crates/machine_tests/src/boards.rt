@@ -1,14 +1,15 @@
 //! Runs of logs on boards that fault at each command in turn. Each is ended after each of its steps, by a drop and by
 //! `shut_down`.
 
-use crate::cases::wrong_rows;
-use crate::courses::{Course, End, Script, Sent, coil_of, devices_of, end_of, no_command};
+use crate::asserts::assert_text;
+use crate::cases::{Subject, add, assert_rows};
+use crate::courses::{Course, End, Script, Sent, coil_of, devices_of, end_of};
+use crate::fuses::board_of;
 use coil_guard::{Command, FuseBoard, Taken};
 use config_checker::{Checked, check};
 use mpf_config::read_bundle;
 use plan_tables::CoilId;
-use std::alloc::{AllocError, Global};
-use std::test::Fail;
+use std::alloc::Global;
 use worked_rows::{
     BALL_PLAYS, COIL_PLAYS, FAULT_PLAYS, FLIPPER_PLAYS, Pen, Row, THREE_MACHINES_PLAY, written,
 };
@@ -130,10 +131,12 @@ impl<'t> Judge<'t> {
 
     /// Each coil is put off that is on at this moment, and the one whose command the board has not taken.
     fn put_all_off(&mut self, coils: &[Coil; 256], now: u64, faulted: Option<CoilId>) {
-        for (coil, number) in coils.iter().zip(0..256u16) {
+        let mut number = 0u16;
+        for coil in coils {
             if coil.is_on(now) || faulted == Some(CoilId(number)) {
                 self.put_off(CoilId(number));
             }
+            number = number.saturating_add(1);
         }
     }
 
@@ -195,34 +198,50 @@ impl Trials {
     }
 }
 
-/// Has a trial. Gives whether the board was to take every command.
-fn is_clean(
+/// Has a trial. Gives whether the board was to take every command, and so was there.
+fn is_clean(checked: &Checked, course: &Course, trial: Trial, trials: &mut Trials) -> bool {
+    let alloc = trials.wrong.alloc;
+    match board_of(alloc, trial.first, trial.onwards) {
+        Some((board, taken)) => {
+            let end = end_on(alloc, checked, course, trial, board);
+            add_taken(course, trial, trials, &taken, &end)
+        }
+        None => {
+            trials.wrong.is_lost = true;
+            true
+        }
+    }
+}
+
+/// How a rig on this board ends in a trial.
+fn end_on(
     alloc: Global,
     checked: &Checked,
     course: &Course,
     trial: Trial,
-    trials: &mut Trials,
-) -> Result<bool, AllocError> {
-    let taken = no_command(alloc)?;
-    let board = FuseBoard::new(trial.first, trial.onwards, taken.clone()?);
+    board: FuseBoard,
+) -> End {
     let steps = Script::Take(course.steps.get(..trial.steps).unwrap_or(&[]));
     let devices = devices_of(alloc, checked);
     let mut none = Course::new(alloc);
-    let end = end_of((checked, &mut none), devices, board, steps, trial.dropped);
+    end_of((checked, &mut none), devices, board, steps, trial.dropped)
+}
+
+/// Adds a trial whose run has ended, with what the board has taken.
+fn add_taken(course: &Course, trial: Trial, trials: &mut Trials, taken: &Taken, end: &End) -> bool {
     match taken.try_borrow() {
-        Ok(taken) => Ok(trials.add(course, trial, &taken, &end)),
-        Err(_) => Ok(false),
+        Ok(taken) => trials.add(course, trial, &taken, end),
+        Err(_) => trials.add(course, trial, &[], &End::Refused),
     }
 }
 
 /// Has the four trials of so many steps and a first fault. Gives whether each board was to take every command.
 fn are_clean(
-    alloc: Global,
     checked: &Checked,
     course: &Course,
     (steps, first): (usize, u64),
     trials: &mut Trials,
-) -> Result<bool, AllocError> {
+) -> bool {
     let mut are_clean = true;
     for number in 0..4u32 {
         let trial = Trial {
@@ -231,105 +250,95 @@ fn are_clean(
             onwards: number & 2 == 2,
             dropped: number & 1 == 1,
         };
-        are_clean = is_clean(alloc, checked, course, trial, trials)? && are_clean;
+        are_clean = is_clean(checked, course, trial, trials) && are_clean;
     }
-    Ok(are_clean)
+    are_clean
 }
 
 /// Has the trials of so many steps, with the first fault at each command in turn, until there is none.
-fn try_steps(
-    alloc: Global,
-    checked: &Checked,
-    course: &Course,
-    steps: usize,
-    trials: &mut Trials,
-) -> Result<(), AllocError> {
+fn try_steps(checked: &Checked, course: &Course, steps: usize, trials: &mut Trials) {
     for first in 1..2_000u64 {
-        if are_clean(alloc, checked, course, (steps, first), trials)? {
-            return Ok(());
+        if are_clean(checked, course, (steps, first), trials) {
+            return;
         }
     }
     trials.wrong.put("always a fault");
-    Ok(())
 }
 
 /// Has all trials of a course.
-fn try_course(
-    alloc: Global,
-    checked: &Checked,
-    course: &Course,
-    trials: &mut Trials,
-) -> Result<(), AllocError> {
+fn try_course(checked: &Checked, course: &Course, trials: &mut Trials) {
     for steps in 0..=course.steps.len() {
-        try_steps(alloc, checked, course, steps, trials)?;
+        try_steps(checked, course, steps, trials);
     }
-    Ok(())
 }
 
-/// Plays a log on a board that takes each command, and then has all trials of its course. Gives what the board took,
-/// and how the rig ended.
-fn try_log(
-    alloc: Global,
-    checked: &Checked,
-    log: &str,
-    trials: &mut Trials,
-) -> Result<(Taken, End), AllocError> {
-    let taken = no_command(alloc)?;
-    let board = FuseBoard::new(0, false, taken.clone()?);
-    let mut course = Course::new(alloc);
-    let devices = devices_of(alloc, checked);
-    let script = Script::Play(log);
-    let end = end_of((checked, &mut course), devices, board, script, false);
-    try_course(alloc, checked, &course, trials)?;
-    Ok((taken, end))
+/// Plays a log on a board that takes each command. Adds the commands, and how the rig ended. Gives the course of the
+/// log.
+fn course_of(pen: &mut Pen, checked: &Checked, log: &str) -> Course {
+    let mut course = Course::new(pen.alloc);
+    match board_of(pen.alloc, 0, false) {
+        Some((board, taken)) => {
+            let devices = devices_of(pen.alloc, checked);
+            let script = Script::Play(log);
+            let end = end_of((checked, &mut course), devices, board, script, false);
+            add_end(pen, &taken, &end);
+        }
+        None => pen.is_lost = true,
+    }
+    course
+}
+
+/// Adds the commands that a board took; and how many coils are put off at the end, and how many commands fault then.
+fn add_end(pen: &mut Pen, taken: &Taken, end: &End) {
+    if let Ok(taken) = taken.try_borrow() {
+        for command in taken.iter() {
+            add(pen, command);
+        }
+    }
+    if let End::Shut(off, faults) = end {
+        pen.put("off ");
+        pen.value(*off);
+        pen.put(", ");
+        pen.value(*faults);
+        pen.put(" faults, ");
+    }
 }
 
 /// Answers to a log: what a board takes that faults at no command; how many coils are put off at the end, and how many
 /// commands fault; how many trials there are; and what is wrong.
-pub(crate) fn boarded(
-    alloc: Global,
-    out: &mut String,
-    checked: &Checked,
-    log: &str,
-) -> Result<(), AllocError> {
-    let mut trials = Trials::new(alloc);
-    let (taken, end) = try_log(alloc, checked, log, &mut trials)?;
-    if let Ok(taken) = taken.try_borrow() {
-        for command in taken.iter() {
-            write!(out, "{command:?} ")?;
-        }
-    }
-    if let End::Shut(off, faults) = end {
-        write!(out, "off {off}, {faults} faults, ")?;
-    }
-    write!(out, "{} trials {}", trials.count, trials.wrong.end())
+pub(crate) fn boarded(pen: &mut Pen, checked: &Checked, log: &str) {
+    let course = course_of(pen, checked, log);
+    let mut trials = Trials::new(pen.alloc);
+    try_course(checked, &course, &mut trials);
+    pen.value(trials.count);
+    pen.put(" trials ");
+    pen.put(trials.wrong.end());
 }
 
 /// Has all trials of a row.
-fn try_row(alloc: Global, text: &str, trials: &mut Trials) -> Result<(), AllocError> {
+fn try_row(text: &str, trials: &mut Trials) {
+    let alloc = trials.wrong.alloc;
     let row = Row::of(text);
     let bundle = written(alloc, row.bundle);
     let Ok(config) = read_bundle(alloc, bundle.end().as_bytes()) else {
-        trials.wrong.put("a bundle that cannot be read");
-        return Ok(());
+        return trials.wrong.put("a bundle that cannot be read");
     };
     match check(alloc, &config) {
         Ok(checked) => {
-            try_log(alloc, &checked, row.other, trials)?;
+            let mut taken = Pen::new(alloc);
+            let course = course_of(&mut taken, &checked, row.other);
+            try_course(&checked, &course, trials);
         }
         Err(_) => trials.wrong.put("a bundle that is refused"),
     }
-    Ok(())
 }
 
-/// Has all trials of the rows of a table. Gives how many rows there are.
-fn try_rows(alloc: Global, table: &str, trials: &mut Trials) -> Result<u32, AllocError> {
-    let mut rows = 0u32;
+/// Has all trials of the rows of a table. Adds how many rows there are.
+fn try_rows(rows: &mut u32, table: &str, trials: &mut Trials) {
     for text in table.split("\n=== ").skip(1) {
-        try_row(alloc, text, trials)?;
-        rows = rows.saturating_add(1);
+        try_row(text, trials);
+        *rows = rows.saturating_add(1);
     }
-    Ok(rows)
 }
 
 // Switch 0 enables a flipper on coils 0 and 1, with switch 1, and an autofire coil, 2, with switch 2,
@@ -405,26 +414,19 @@ boards 105 s_k 1¶110 s_k 0¶120 s_k 1¶130 s_k 0 => \
 Pulse { coil: CoilId(0), ms: 20, power: 1000 } off 0, 0 faults, 48 trials";
 
 #[test]
-fn boards(rt: HostRuntime) -> Result<(), Fail> {
-    let wrong = wrong_rows(rt.alloc(), BOARDS)?;
-    assert_eq!(rt; wrong.as_str(), "");
-    Ok(())
+fn boards(rt: HostRuntime) {
+    assert_rows(&rt, Subject::Rig, BOARDS);
 }
 
 #[test]
-fn rows_on_boards_that_fault(rt: HostRuntime) -> Result<(), Fail> {
+fn rows_on_boards_that_fault(rt: HostRuntime) {
     let mut trials = Trials::new(rt.alloc());
     let mut rows = 0u32;
-    for table in [
-        COIL_PLAYS,
-        FLIPPER_PLAYS,
-        FAULT_PLAYS,
-        BALL_PLAYS,
-        THREE_MACHINES_PLAY,
-    ] {
-        rows = rows.saturating_add(try_rows(rt.alloc(), table, &mut trials)?);
-    }
-    assert_eq!(rt; trials.wrong.end(), "");
-    assert_eq!(rt; (rows, trials.count), (29, 2_668));
-    Ok(())
+    try_rows(&mut rows, COIL_PLAYS, &mut trials);
+    try_rows(&mut rows, FLIPPER_PLAYS, &mut trials);
+    try_rows(&mut rows, FAULT_PLAYS, &mut trials);
+    try_rows(&mut rows, BALL_PLAYS, &mut trials);
+    try_rows(&mut rows, THREE_MACHINES_PLAY, &mut trials);
+    add(&mut trials.wrong, &(rows, trials.count));
+    assert_text(&rt, &trials.wrong, "(29, 2668) ");
 }

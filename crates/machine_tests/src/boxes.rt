@@ -1,7 +1,7 @@
 //! Boxes that count how often they are stopped and dropped, and the rigs that they are handed to.
 
-use crate::cases::{add, wrong_rows};
-use crate::courses::no_command;
+use crate::cases::{Subject, add, assert_rows};
+use crate::fuses::board_of;
 use crate::steps::input_of;
 use coil_guard::{FuseBoard, Taken};
 use config_checker::Checked;
@@ -9,10 +9,10 @@ use device_objects::{Device, DeviceState, Outcome, World};
 use logic_blocks::Counter;
 use pin_rig::Rig;
 use plan_tables::{Act, DeviceRow};
-use std::alloc::{AllocError, Global};
+use std::alloc::Global;
 use std::cell::Cell;
 use std::rc::Rc;
-use std::test::Fail;
+use worked_rows::Pen;
 
 /// How often a device has been stopped, and how often it has been dropped.
 #[derive(Drop)]
@@ -90,36 +90,27 @@ fn counter_of(checked: &Checked, word: &str) -> Option<Counter> {
     Some(counter)
 }
 
-/// The counter with counts of its own, which are added to those of the others.
-fn with_counts(
-    alloc: Global,
-    counter: Counter,
-    all: &mut Vec<Rc<Counts>>,
-) -> Result<Counted, AllocError> {
-    let counts = Rc::new(
-        alloc,
-        Counts {
-            stops: Cell::new(0),
-            drops: Cell::new(0),
-        },
-    )?;
-    all.push(counts.clone()?)?;
-    Ok(Counted { counter, counts })
+/// Counts of a box, all 0, which are added to those of the others.
+fn new_counts(alloc: Global, all: &mut Vec<Rc<Counts>>) -> Option<Rc<Counts>> {
+    let stops = Cell::new(0);
+    let drops = Cell::new(0);
+    let counts = Rc::new(alloc, Counts { stops, drops }).ok()?;
+    all.push(counts.clone().ok()?).ok()?;
+    Some(counts)
 }
 
 /// Adds for each box how often it has been stopped, and how often dropped.
-pub(crate) fn add_counts(out: &mut String, all: &[Rc<Counts>]) -> Result<(), AllocError> {
+pub(crate) fn add_counts(pen: &mut Pen, all: &[Rc<Counts>]) {
     for counts in all {
-        add(out, &(counts.stops.get(), counts.drops.get()))?;
+        add(pen, &(counts.stops.get(), counts.drops.get()));
     }
-    Ok(())
 }
 
 /// Adds how many commands a board has taken.
-fn add_taken(out: &mut String, taken: &Taken) -> Result<(), AllocError> {
+fn add_taken(pen: &mut Pen, taken: &Taken) {
     match taken.try_borrow() {
-        Ok(taken) => add(out, &taken.len()),
-        Err(_) => out.push_str("a list that is lent"),
+        Ok(taken) => pen.value(taken.len()),
+        Err(_) => pen.put("a list that is lent"),
     }
 }
 
@@ -133,70 +124,66 @@ fn end<D: Device>(rig: Rig<'_, D, FuseBoard>, dropped: bool) {
 /// Adds whether the boxes make a rig, and what has become of them when it has taken one change, of switch 0. Then the
 /// rig ends, by a drop or not.
 fn add_rig<D: Device>(
-    (alloc, out): (Global, &mut String),
+    pen: &mut Pen,
     checked: &Checked,
     boxes: Vec<D>,
     board: FuseBoard,
     (all, dropped): (&[Rc<Counts>], bool),
-) -> Result<(), AllocError> {
-    match Rig::new(alloc, checked, boxes, board) {
+) {
+    match Rig::new(pen.alloc, checked, boxes, board) {
         Ok(mut rig) => {
             let _ = rig.step(input_of("0 0 1"));
-            add_counts(out, all)?;
+            add_counts(pen, all);
             end(rig, dropped);
-            Ok(())
         }
-        Err(fault) => add(out, &fault),
+        Err(fault) => add(pen, &fault),
     }
 }
 
-/// Adds a box with this counter.
-fn add_box(
+/// The box of the row that a word names. Its counts are added to the others.
+fn box_of(
     alloc: Global,
-    boxes: &mut Vec<Box<dyn Device>>,
-    counter: Counter,
+    checked: &Checked,
+    word: &str,
     all: &mut Vec<Rc<Counts>>,
-) -> Result<(), AllocError> {
-    let counted = with_counts(alloc, counter, all)?;
-    let counted: Box<dyn Device> = Box::new(alloc, counted)?;
-    boxes.push(counted)?;
-    Ok(())
+) -> Option<Box<dyn Device>> {
+    let counter = counter_of(checked, word)?;
+    let counts = new_counts(alloc, all)?;
+    let counted = Box::new(alloc, Counted { counter, counts }).ok()?;
+    Some(counted)
 }
 
-/// The boxes of the rows that the words name. Their counts are added to the others.
+/// The boxes of the rows that the words name. Their counts are added to the others. Where memory is out some are
+/// missing.
 pub(crate) fn boxes_of(
     alloc: Global,
     checked: &Checked,
     words: &str,
     all: &mut Vec<Rc<Counts>>,
-) -> Result<Vec<Box<dyn Device>>, AllocError> {
+) -> Vec<Box<dyn Device>> {
     let mut boxes = Vec::new(alloc);
     for word in words.split_whitespace() {
-        if let Some(counter) = counter_of(checked, word) {
-            add_box(alloc, &mut boxes, counter, all)?;
+        if let Some(counted) = box_of(alloc, checked, word, all) {
+            let _ = boxes.push(counted);
         }
     }
-    Ok(boxes)
+    boxes
 }
 
 /// Answers to words: whether the boxes of the rows that they name make a rig; what has become of each box at the end;
 /// and how many commands a board has taken that takes each. The first word says how the rig ends: `dropped`, or
 /// `shut_down`.
-pub(crate) fn boxed(
-    alloc: Global,
-    out: &mut String,
-    checked: &Checked,
-    words: &str,
-) -> Result<(), AllocError> {
+pub(crate) fn boxed(pen: &mut Pen, checked: &Checked, words: &str) {
     let (end, words) = words.split_once(' ').unwrap_or((words, ""));
-    let mut all = Vec::new(alloc);
-    let boxes = boxes_of(alloc, checked, words, &mut all)?;
-    let taken = no_command(alloc)?;
-    let board = FuseBoard::new(0, false, taken.clone()?);
-    let is_dropped = end == "dropped";
-    add_rig((alloc, out), checked, boxes, board, (&all, is_dropped))?;
-    add_counts(out, &all)?;
-    add_taken(out, &taken)
+    let Some((board, taken)) = board_of(pen.alloc, 0, false) else {
+        pen.is_lost = true;
+        return;
+    };
+    let mut all = Vec::new(pen.alloc);
+    let boxes = boxes_of(pen.alloc, checked, words, &mut all);
+    add_rig(pen, checked, boxes, board, (&all, end == "dropped"));
+    add_counts(pen, &all);
+    add_taken(pen, &taken);
 }
 
 // Row 0 is the machine's, 1 and 2 are of a mode. A pair has the stops and the drops of a box: those of
@@ -233,8 +220,6 @@ boxes dropped 0 +1 2 => WrongDevice(RowId(1)) (0, 1) (0, 1) (0, 1) 0
 boxes dropped => WrongDevice(RowId(0)) 0";
 
 #[test]
-fn boxes(rt: HostRuntime) -> Result<(), Fail> {
-    let wrong = wrong_rows(rt.alloc(), BOXES)?;
-    assert_eq!(rt; wrong.as_str(), "");
-    Ok(())
+fn boxes(rt: HostRuntime) {
+    assert_rows(&rt, Subject::Rig, BOXES);
 }

@@ -1,12 +1,11 @@
 //! Small configurations that are checked, with a certificate or without, and the texts that come of
 //! it.
 
-use crate::cases::wrong_rows;
+use crate::cases::{Subject, assert_rows};
 use config_checker::{Checked, Report, check, check_with, write_certificate, write_report};
 use mpf_config::Config;
-use std::alloc::{AllocError, Global};
 use std::io::Cursor;
-use std::test::Fail;
+use worked_rows::Pen;
 
 /// Writes the certificate, or the report. Gives how many bytes these are, if there is room for them.
 fn put(room: &mut [u8], answer: &Result<Checked, Report>) -> Option<usize> {
@@ -22,33 +21,30 @@ fn put(room: &mut [u8], answer: &Result<Checked, Report>) -> Option<usize> {
     Some(writer.position() as usize)
 }
 
-/// Adds the first bytes of the room, if there was room for them.
-fn add_written(out: &mut String, room: &[u8], count: Option<usize>) -> Result<(), AllocError> {
-    match count {
+/// Adds the certificate, or the report, if there is room for it.
+fn add_written(pen: &mut Pen, room: &mut [u8], answer: &Result<Checked, Report>) {
+    match put(room, answer) {
         Some(count) => {
             let text = std::str::from_utf8(room.get(..count).unwrap_or(&[]));
-            out.push_str(text.unwrap_or("no UTF-8"))
+            pen.put(text.unwrap_or("no UTF-8"));
         }
-        None => out.push_str("fails"),
+        None => pen.put("fails"),
     }
 }
 
-/// Answers to how many bytes can be written, and a certificate, or `-` for none.
-pub(crate) fn checked(
-    alloc: Global,
-    out: &mut String,
-    config: &Config,
-    question: &str,
-) -> Result<(), AllocError> {
-    let (room, certificate) = question.split_once(' ').unwrap_or((question, ""));
-    let mut room = vec![in alloc; 0u8; room.parse::<usize>().unwrap_or(0)]?;
+/// Answers to how many bytes can be written, up to 999, and a certificate, or `-` for none.
+pub(crate) fn checked(pen: &mut Pen, config: &Config, question: &str) {
+    let (count, certificate) = question.split_once(' ').unwrap_or((question, ""));
     let answer = if certificate == "-" {
-        check(alloc, config)
+        check(pen.alloc, config)
     } else {
-        check_with(alloc, config, certificate.as_bytes())
+        check_with(pen.alloc, config, certificate.as_bytes())
     };
-    let count = put(&mut room, &answer);
-    add_written(out, &room, count)
+    let mut room = [0u8; 999];
+    match room.get_mut(..count.parse::<usize>().unwrap_or(1_000)) {
+        Some(room) => add_written(pen, room, &answer),
+        None => pen.put("no room"),
+    }
 }
 
 const CHECKS: &str = "\
@@ -183,10 +179,7 @@ check 999 pinball-certificate 1¶bound 4¶event a 3¶event s_left.x-0 4294967296
 check 25 pinball-certificate 1¶bound 0¶event a 1¶event b 01¶ => fails";
 
 #[test]
-fn checks(rt: HostRuntime) -> Result<(), Fail> {
-    for table in [CHECKS, CERTIFICATES] {
-        let wrong = wrong_rows(rt.alloc(), table)?;
-        assert_eq!(rt; wrong.as_str(), "");
-    }
-    Ok(())
+fn checks(rt: HostRuntime) {
+    assert_rows(&rt, Subject::Check, CHECKS);
+    assert_rows(&rt, Subject::Check, CERTIFICATES);
 }

@@ -2,15 +2,12 @@
 
 use crate::spares::first_box;
 use crate::steps::number_at;
-use arrayvec::ArrayVec;
-use coil_guard::{Command, FuseBoard, Taken};
+use coil_guard::{Command, FuseBoard};
 use config_checker::Checked;
 use device_objects::Device;
 use pin_rig::{Input, Rig, StepFault, check_moment};
 use plan_tables::{CoilId, Plan, SwitchId};
-use std::alloc::{AllocError, Global};
-use std::cell::RefCell;
-use std::rc::Rc;
+use std::alloc::Global;
 use written_machine::{Happening, Line};
 
 /// A command that is sent, with its moment.
@@ -209,9 +206,4 @@ pub(crate) fn end_of<D: Device>(
     }
     let (_board, report) = rig.shut_down();
     End::Shut(report.off.len(), report.faults)
-}
-
-/// An empty list of commands that are taken.
-pub(crate) fn no_command(alloc: Global) -> Result<Taken, AllocError> {
-    Ok(Rc::new(alloc, RefCell::new(ArrayVec::new()))?)
 }

@@ -1,17 +1,17 @@
 //! A random run in which the device of each row is exchanged in every state, for each kind of code, beside the
 //! same run without exchanges.
 
-use crate::cases::{add, wrong_rows};
+use crate::cases::{Subject, add, assert_rows};
 use crate::spares::{Bench, Boxes, History, Make, Spare, repeated};
-use crate::steps::{add_step, number_at};
+use crate::steps::{add_step, number_at, with_memory};
 use coil_guard::MemoryBoard;
 use config_checker::Checked;
 use device_objects::{Device, is_same_state};
 use pin_rig::{Input, Refusal, Rig};
 use plan_tables::{DeviceRow, RowId, Settings, SwitchId};
-use std::alloc::{AllocError, Global};
+use std::alloc::Global;
 use std::cell::RefCell;
-use std::test::Fail;
+use worked_rows::Pen;
 
 /// How many switches the machine has.
 const SWITCHES: u32 = 10;
@@ -180,16 +180,11 @@ fn is_same_step<D: Device, E: Device>(
     other: &mut Rig<'_, E, MemoryBoard>,
     input: Input,
 ) -> bool {
-    let mut both = String::new(alloc);
-    let is_told = add_step(&mut both, one, input).is_ok();
-    let middle = both.len();
-    let is_found = add_step(&mut both, other, input).is_ok();
-    let bytes = both.as_bytes();
-    let is_same = match (bytes.get(..middle), bytes.get(middle..)) {
-        (Some(wanted), Some(found)) => wanted == found,
-        _ => false,
-    };
-    is_told && is_found && is_same && one.next_due() == other.next_due()
+    let mut wanted = Pen::new(alloc);
+    let mut found = Pen::new(alloc);
+    add_step(&mut wanted, one, input);
+    add_step(&mut found, other, input);
+    wanted.end() == found.end() && one.next_due() == other.next_due()
 }
 
 /// Whether the device of a row is in the same state in both rigs.
@@ -272,9 +267,7 @@ fn rig_of<'c, D: Device, M: Make<D>>(
     make: &M,
     seats: &[Seat],
 ) -> Option<Rig<'c, D, MemoryBoard>> {
-    let board = MemoryBoard::new(alloc).ok()?;
-    let devices = first_devices(alloc, make, seats);
-    Rig::new(alloc, checked, devices, board).ok()
+    with_memory(alloc, checked, first_devices(alloc, make, seats))
 }
 
 /// The run beside this rig, with a second one whose devices are exchanged.
@@ -306,13 +299,13 @@ fn run_both<D: Device, M: Make<D>>(
     }
 }
 
-/// A seat for each row.
-fn seats_of(alloc: Global, checked: &Checked) -> Result<Vec<Seat>, AllocError> {
+/// A seat for each row. Where memory is out some are missing.
+fn seats_of(alloc: Global, checked: &Checked) -> Vec<Seat> {
     let mut seats = Vec::new(alloc);
     for row in checked.plan().rows() {
-        seats.push(Seat::new(*row))?;
+        let _ = seats.push(Seat::new(*row));
     }
-    Ok(seats)
+    seats
 }
 
 /// The name of a kind of devices.
@@ -331,46 +324,36 @@ fn name_of(settings: &Settings) -> &'static str {
 
 /// Adds the kind of a row, and how often its device was exchanged, as in `Seat::pairs`. Before that comes what was
 /// wrong.
-fn add_seat(out: &mut String, seat: &Seat) -> Result<(), AllocError> {
+fn add_seat(pen: &mut Pen, seat: &Seat) {
     if seat.is_wrong {
-        out.push_str("wrong ")?;
+        pen.put("wrong ");
     }
     if seat.refused < 100 {
-        out.push_str("in few states ")?;
+        pen.put("in few states ");
     }
-    out.push_str(name_of(&seat.row.settings))?;
-    add(out, &seat.pairs)
+    pen.put(name_of(&seat.row.settings));
+    add(pen, &seat.pairs);
 }
 
 /// Adds how many lines a run has if they are few, and what is found at each row.
-fn add_run(
-    (alloc, out): (Global, &mut String),
-    checked: &Checked,
-    history: &History,
-    inputs: u64,
-) -> Result<(), AllocError> {
-    let mut seats = seats_of(alloc, checked)?;
+fn add_run(pen: &mut Pen, checked: &Checked, history: &History, inputs: u64) {
+    let alloc = pen.alloc;
+    let mut seats = seats_of(alloc, checked);
     let make = &Boxes { alloc };
     let bench = (alloc, &Bench { make, history });
     let lines = run_both::<Box<dyn Device>, Boxes>(bench, checked, &mut seats, inputs);
     if lines < 400 {
-        add(out, &lines)?;
+        add(pen, &lines);
     }
     for seat in seats.iter() {
-        add_seat(out, seat)?;
+        add_seat(pen, seat);
     }
-    Ok(())
 }
 
 /// Answers to how many inputs a run has, with what is found.
-pub(crate) fn exchanged_run(
-    alloc: Global,
-    out: &mut String,
-    checked: &Checked,
-    question: &str,
-) -> Result<(), AllocError> {
-    let history: History = RefCell::new(Vec::new(alloc));
-    add_run((alloc, out), checked, &history, number_at(question, 0))
+pub(crate) fn exchanged_run(pen: &mut Pen, checked: &Checked, question: &str) {
+    let history: History = RefCell::new(Vec::new(pen.alloc));
+    add_run(pen, checked, &history, number_at(question, 0));
 }
 
 // A machine with a device of each kind. Most act all the time; the timer is of a mode, and shots act in a
@@ -502,8 +485,6 @@ flipper [1000, 0, 0, 0] autofire [1000, 0, 0, 0] \
 ball_device [1000, 0, 0, 0] ball_device [1000, 0, 0, 0] timer [1000, 0, 0, 0]";
 
 #[test]
-fn exchanged_runs(rt: HostRuntime) -> Result<(), Fail> {
-    let wrong = wrong_rows(rt.alloc(), EXCHANGED_RUNS)?;
-    assert_eq!(rt; wrong.as_str(), "");
-    Ok(())
+fn exchanged_runs(rt: HostRuntime) {
+    assert_rows(&rt, Subject::Rig, EXCHANGED_RUNS);
 }

@@ -1,18 +1,18 @@
 //! Devices that are exchanged in a rig: what is answered, what comes out, and what becomes of the boxes.
 
 use crate::boxes::{Counts, add_counts, boxes_of};
-use crate::cases::{add, wrong_rows};
-use crate::courses::{devices_of, no_command};
+use crate::cases::{Subject, add, add_fault, assert_rows};
+use crate::courses::devices_of;
+use crate::fuses::board_of;
 use crate::spares::{Boxes, Make};
-use crate::steps::{input_of, number_at};
-use coil_guard::{Board, FuseBoard, MemoryBoard};
+use crate::steps::{input_of, number_at, with_memory};
+use coil_guard::{Board, FuseBoard};
 use config_checker::Checked;
 use device_objects::{Device, DeviceState, is_same_state};
 use pin_rig::Rig;
 use plan_tables::{Plan, RowId};
-use std::alloc::{AllocError, Global};
 use std::rc::Rc;
-use std::test::Fail;
+use worked_rows::Pen;
 use written_machine::{Happening, Line};
 
 /// The row of a number, which is beyond the last one where it is none.
@@ -24,21 +24,22 @@ fn row_of(number: u64) -> RowId {
 /// the refusal, and whether the state of the device that is handed back has changed. Either device is dropped
 /// then.
 fn add_exchange<D: Device, B: Board>(
-    out: &mut String,
+    pen: &mut Pen,
     rig: &mut Rig<'_, D, B>,
     row: RowId,
     device: D,
-) -> Result<(), AllocError> {
+) {
     let state = device.state();
     match rig.exchange(row, device) {
-        Ok(taken) => write!(out, "taken, due {:?} ", taken.due()),
+        Ok(taken) => {
+            pen.put("taken, due ");
+            add(pen, &taken.due());
+        }
         Err((refusal, back)) => {
-            let changed = if is_same_state(&state, &back.state()) {
-                ""
-            } else {
-                "changed "
-            };
-            write!(out, "{} {refusal} {changed}", refusal.number())
+            add_fault(pen, refusal.number(), refusal);
+            if !is_same_state(&state, &back.state()) {
+                pen.put("changed ");
+            }
         }
     }
 }
@@ -46,65 +47,60 @@ fn add_exchange<D: Device, B: Board>(
 /// Has a rig take one change, of switch 0. Then adds the answer where a device is to take the place of that of
 /// a row, and what has become of each box while the rig is there.
 fn add_change<D: Device, B: Board>(
-    out: &mut String,
+    pen: &mut Pen,
     rig: &mut Rig<'_, D, B>,
     row: RowId,
     device: D,
     all: &[Rc<Counts>],
-) -> Result<(), AllocError> {
+) {
     let _ = rig.step(input_of("0 0 1"));
-    add_exchange(out, rig, row, device)?;
-    add_counts(out, all)
+    add_exchange(pen, rig, row, device);
+    add_counts(pen, all);
 }
 
 /// Adds the answer where a device is to take the place of that of a row in the rig of these boxes.
 fn add_with<D: Device>(
-    (alloc, out): (Global, &mut String),
+    pen: &mut Pen,
     checked: &Checked,
     (boxes, device): (Vec<D>, D),
     board: FuseBoard,
     (row, all): (RowId, &[Rc<Counts>]),
-) -> Result<(), AllocError> {
-    match Rig::new(alloc, checked, boxes, board) {
-        Ok(mut rig) => add_change(out, &mut rig, row, device, all),
-        Err(fault) => add(out, &fault),
+) {
+    match Rig::new(pen.alloc, checked, boxes, board) {
+        Ok(mut rig) => add_change(pen, &mut rig, row, device, all),
+        Err(fault) => add(pen, &fault),
     }
 }
 
 /// Adds the answer where the last box is to take the place of that of a row in the rig of the others. The board
 /// faults at its command of this number, if it is not 0.
 fn add_with_last<D: Device>(
-    (alloc, out): (Global, &mut String),
+    pen: &mut Pen,
     checked: &Checked,
     mut boxes: Vec<D>,
     fault: u64,
     (row, all): (RowId, &[Rc<Counts>]),
-) -> Result<(), AllocError> {
-    let taken = no_command(alloc)?;
+) {
+    let Some((board, _taken)) = board_of(pen.alloc, fault, false) else {
+        pen.is_lost = true;
+        return;
+    };
     match boxes.pop() {
-        Some(device) => {
-            let board = FuseBoard::new(fault, false, taken);
-            add_with((alloc, out), checked, (boxes, device), board, (row, all))
-        }
-        None => out.push_str("no box"),
+        Some(device) => add_with(pen, checked, (boxes, device), board, (row, all)),
+        None => pen.put("no box"),
     }
 }
 
 /// Answers to the number of the command at which the board faults, a row, and words for boxes: those of
 /// the rig, and the one that is to take the place of that of the row. What has become of each box comes
 /// last.
-pub(crate) fn exchanged(
-    alloc: Global,
-    out: &mut String,
-    checked: &Checked,
-    question: &str,
-) -> Result<(), AllocError> {
+pub(crate) fn exchanged(pen: &mut Pen, checked: &Checked, question: &str) {
     let (first, words) = question.split_once(": ").unwrap_or(("", question));
     let [fault, row] = [number_at(first, 0), number_at(first, 1)];
-    let mut all: Vec<Rc<Counts>> = Vec::new(alloc);
-    let boxes = boxes_of(alloc, checked, words, &mut all)?;
-    add_with_last((alloc, out), checked, boxes, fault, (row_of(row), &all))?;
-    add_counts(out, &all)
+    let mut all = Vec::new(pen.alloc);
+    let boxes = boxes_of(pen.alloc, checked, words, &mut all);
+    add_with_last(pen, checked, boxes, fault, (row_of(row), &all));
+    add_counts(pen, &all);
 }
 
 /// The name of what a line says of a switch or an event of the plan.
@@ -121,28 +117,29 @@ fn name_of(plan: &Plan, happening: Happening) -> &[u8] {
 }
 
 /// Adds the moment and the name of each line.
-fn add_names(out: &mut String, plan: &Plan, lines: &[Line]) -> Result<(), AllocError> {
+fn add_names(pen: &mut Pen, plan: &Plan, lines: &[Line]) {
     for line in lines {
-        let name = std::str::from_utf8(name_of(plan, line.happening)).unwrap_or("no UTF-8");
-        write!(out, "{} {name} ", line.moment)?;
+        pen.value(line.moment);
+        pen.put(" ");
+        let name = std::str::from_utf8(name_of(plan, line.happening));
+        pen.put(name.unwrap_or("no UTF-8"));
+        pen.put(" ");
     }
-    Ok(())
 }
 
 /// Adds the lines of each input, or why it is refused.
 fn add_inputs<D: Device, B: Board>(
-    out: &mut String,
+    pen: &mut Pen,
     plan: &Plan,
     rig: &mut Rig<'_, D, B>,
     inputs: &str,
-) -> Result<(), AllocError> {
+) {
     for text in inputs.split(',') {
         match rig.step(input_of(text)) {
-            Ok(lines) => add_names(out, plan, lines)?,
-            Err(fault) => add(out, &fault)?,
+            Ok(lines) => add_names(pen, plan, lines),
+            Err(fault) => add(pen, &fault),
         }
     }
-    Ok(())
 }
 
 /// A mask of row 0: one as it begins, or one in this state.
@@ -162,47 +159,42 @@ fn mask_for<D: Device, M: Make<D>>(
 /// Adds the lines of the inputs before, then the answer where the mask of a word is to take the place of the
 /// device of a row, and the lines of the inputs after.
 fn add_swap<D: Device, B: Board, M: Make<D>>(
-    out: &mut String,
+    pen: &mut Pen,
     plan: &Plan,
     rig: &mut Rig<'_, D, B>,
     make: &M,
     question: &str,
-) -> Result<(), AllocError> {
+) {
     let (place, inputs) = question.split_once(": ").unwrap_or(("", ""));
     let (before, after) = inputs.split_once("; ").unwrap_or(("", ""));
-    add_inputs(out, plan, rig, before)?;
-    let is_new = place.ends_with("new");
-    match mask_for(make, plan, rig.state(RowId(0)), is_new) {
-        Some(mask) => add_exchange(out, rig, row_of(number_at(place, 0)), mask)?,
-        None => out.push_str("no mask ")?,
+    add_inputs(pen, plan, rig, before);
+    match mask_for(make, plan, rig.state(RowId(0)), place.ends_with("new")) {
+        Some(mask) => add_exchange(pen, rig, row_of(number_at(place, 0)), mask),
+        None => pen.put("no mask "),
     }
-    add_inputs(out, plan, rig, after)
+    add_inputs(pen, plan, rig, after);
 }
 
 /// Adds the answer where a mask is to take the place of one of these devices.
 fn add_swap_with<D: Device, M: Make<D>>(
-    (alloc, out): (Global, &mut String),
+    pen: &mut Pen,
     checked: &Checked,
     devices: Vec<D>,
     make: &M,
     question: &str,
-) -> Result<(), AllocError> {
-    match Rig::new(alloc, checked, devices, MemoryBoard::new(alloc)?) {
-        Ok(mut rig) => add_swap(out, checked.plan(), &mut rig, make, question),
-        Err(fault) => add(out, &fault),
+) {
+    match with_memory(pen.alloc, checked, devices) {
+        Some(mut rig) => add_swap(pen, checked.plan(), &mut rig, make, question),
+        None => pen.put("no rig"),
     }
 }
 
 /// Answers to a row, a word for a mask, and the inputs before and after it is to take the place of the device of
 /// the row.
-pub(crate) fn swapped(
-    alloc: Global,
-    out: &mut String,
-    checked: &Checked,
-    question: &str,
-) -> Result<(), AllocError> {
-    let devices = devices_of(alloc, checked);
-    add_swap_with((alloc, out), checked, devices, &Boxes { alloc }, question)
+pub(crate) fn swapped(pen: &mut Pen, checked: &Checked, question: &str) {
+    let make = Boxes { alloc: pen.alloc };
+    let devices = devices_of(pen.alloc, checked);
+    add_swap_with(pen, checked, devices, &make, question);
 }
 
 // Row 0 is the machine's, and is hit at moment 0, when coil 0 is pulsed; 1 and 2 are of a mode. A pair
@@ -267,10 +259,7 @@ swap 1 resumed: 0 1 1; 10 0 1,20 2 1 => \
 20 s_c 20 s_c_active 20 logicblock_q_updated 20 logicblock_q_hit 20 logicblock_q_complete";
 
 #[test]
-fn exchanges(rt: HostRuntime) -> Result<(), Fail> {
-    for table in [EXCHANGES, SWAPS] {
-        let wrong = wrong_rows(rt.alloc(), table)?;
-        assert_eq!(rt; wrong.as_str(), "");
-    }
-    Ok(())
+fn exchanges(rt: HostRuntime) {
+    assert_rows(&rt, Subject::Rig, EXCHANGES);
+    assert_rows(&rt, Subject::Rig, SWAPS);
 }

@@ -1,126 +1,124 @@
 //! Plans of small configurations with the limits of their tables, and what is made of a plan: handlers
 //! and weights. Also queues.
 
-use crate::cases::{add, wrong_rows};
+use crate::cases::{Subject, add, assert_rows};
 use cascade_rank::{Weights, find, verify};
 use event_queue::{Handlers, Posted, Queue};
 use mpf_config::Config;
 use mpf_plan::plan;
 use plan_tables::{BindingId, EventId, ListId, Owner, Plan, SwitchId};
-use std::alloc::{AllocError, Global};
-use std::test::Fail;
+use worked_rows::Pen;
 
 /// Adds the entry of a table with this number: a list, a binding, what is bound to an event, or the
 /// kind of a switch and what it posts. Or adds that there is none.
-fn add_entry(out: &mut String, plan: &Plan, word: &str, number: u16) -> Result<(), AllocError> {
+fn add_entry(pen: &mut Pen, plan: &Plan, word: &str, number: u16) {
     let place = number as usize;
-    if word == "list" && place < plan.list_count() {
-        add(out, &plan.list(ListId(u32::from(number))))
-    } else if word == "binding" && place < plan.binding_count() {
-        add(out, &plan.binding(BindingId(number)))
-    } else if word == "bound" && place < plan.event_count() {
-        add(out, &plan.bindings_of(EventId(number)))
-    } else if word == "switch" && place < plan.switch_count() {
-        let switch = SwitchId(number);
-        let posts = (plan.posts(switch, true), plan.posts(switch, false));
-        add(out, &(plan.switch_kind(switch), posts))
-    } else {
-        out.push_str("none")
+    match word {
+        "list" if place < plan.list_count() => add(pen, &plan.list(ListId(u32::from(number)))),
+        "binding" if place < plan.binding_count() => add(pen, &plan.binding(BindingId(number))),
+        "bound" if place < plan.event_count() => add(pen, &plan.bindings_of(EventId(number))),
+        "switch" if place < plan.switch_count() => {
+            let switch = SwitchId(number);
+            let posts = (plan.posts(switch, true), plan.posts(switch, false));
+            add(pen, &(plan.switch_kind(switch), posts));
+        }
+        _ => pen.put("none"),
     }
 }
 
 /// Adds the first two handlers of the event of this name, or of an event that no plan has.
-fn handled(alloc: Global, out: &mut String, plan: &Plan, name: &str) -> Result<(), AllocError> {
-    let handlers = Handlers::new(alloc, plan)?;
-    let event = plan
-        .find_event(name.as_bytes())
-        .unwrap_or(EventId(u16::MAX));
-    add(out, &(handlers.nth(event, 0), handlers.nth(event, 1)))
+fn handled(pen: &mut Pen, plan: &Plan, name: &str) {
+    let event = plan.find_event(name.as_bytes());
+    let event = event.unwrap_or(EventId(u16::MAX));
+    match Handlers::new(pen.alloc, plan) {
+        Ok(handlers) => add(pen, &(handlers.nth(event, 0), handlers.nth(event, 1))),
+        Err(_) => pen.is_lost = true,
+    }
 }
 
-/// Adds the least weights, up to the first event that has none, or why there are none.
-fn add_least(alloc: Global, out: &mut String, plan: &Plan) -> Result<(), AllocError> {
-    let weights = match find(alloc, plan) {
-        Ok(weights) => weights,
-        Err(fault) => return add(out, &fault),
-    };
-    for number in 0..=u16::MAX {
-        let Some(weight) = weights.get(EventId(number)) else {
-            break;
-        };
-        add(out, &weight)?;
+/// Adds the least weights, or why there are none.
+fn add_least(pen: &mut Pen, plan: &Plan) {
+    match find(pen.alloc, plan) {
+        Ok(weights) => add_weights(pen, &weights),
+        Err(fault) => add(pen, &fault),
     }
-    Ok(())
+}
+
+/// Adds weights, up to the first event that has none.
+fn add_weights(pen: &mut Pen, weights: &Weights) {
+    for number in 0..=u16::MAX {
+        match weights.get(EventId(number)) {
+            Some(weight) => add(pen, &weight),
+            None => return,
+        }
+    }
 }
 
 /// Adds what `verify` says of these weights.
-fn judged(alloc: Global, out: &mut String, plan: &Plan, numbers: &str) -> Result<(), AllocError> {
-    let mut weights = Vec::new(alloc);
+fn judged(pen: &mut Pen, plan: &Plan, numbers: &str) {
+    let mut weights = Vec::new(pen.alloc);
     for word in numbers.split_whitespace() {
-        weights.push(word.parse::<u32>().unwrap_or(0))?;
+        if weights.push(word.parse::<u32>().unwrap_or(0)).is_err() {
+            pen.is_lost = true;
+        }
     }
-    add(out, &verify(plan, &Weights::of(weights)))
+    add(pen, &verify(plan, &Weights::of(weights)));
 }
 
 /// Answers to a question about a plan: to `counts` with how many events, bindings and switches it has,
-/// to `named` with the event and the switch of a name.
-fn told(
-    alloc: Global,
-    out: &mut String,
-    plan: &Plan,
-    word: &str,
-    rest: &str,
-) -> Result<(), AllocError> {
+/// to `named` with the event and the switch of a name. Of a queue the plan says nothing.
+fn told(pen: &mut Pen, plan: &Plan, word: &str, rest: &str) {
     let name = rest.as_bytes();
     match word {
         "counts" => {
             let [events, bindings] = [plan.event_count(), plan.bindings().len()];
-            add(out, &(events, bindings, plan.switch_count()))
+            add(pen, &(events, bindings, plan.switch_count()));
         }
-        "named" => add(out, &(plan.find_event(name), plan.find_switch(name))),
-        "handlers" => handled(alloc, out, plan, rest),
-        "find" => add_least(alloc, out, plan),
-        "verify" => judged(alloc, out, plan, rest),
-        _ => add_entry(out, plan, word, rest.parse::<u16>().unwrap_or(u16::MAX)),
+        "named" => add(pen, &(plan.find_event(name), plan.find_switch(name))),
+        "handlers" => handled(pen, plan, rest),
+        "find" => add_least(pen, plan),
+        "verify" => judged(pen, plan, rest),
+        "queue" => queued(pen, rest),
+        _ => add_entry(pen, plan, word, rest.parse::<u16>().unwrap_or(u16::MAX)),
     }
 }
 
 /// Answers to a question about the plan of the configuration, or with the reason why there is none.
-pub(crate) fn planned(
-    alloc: Global,
-    out: &mut String,
-    config: &Config,
-    word: &str,
-    rest: &str,
-) -> Result<(), AllocError> {
-    match plan(alloc, config) {
-        Ok(plan) => told(alloc, out, &plan, word, rest),
-        Err(fault) => write!(out, "{fault}"),
+pub(crate) fn planned(pen: &mut Pen, config: &Config, word: &str, rest: &str) {
+    match plan(pen.alloc, config) {
+        Ok(plan) => told(pen, &plan, word, rest),
+        Err(fault) => pen.value(fault),
     }
 }
 
 /// Adds what comes of a call of a queue: `take`, or the number of an event to be pushed.
-fn add_call(out: &mut String, queue: &mut Queue, word: &str) -> Result<(), AllocError> {
+fn add_call(pen: &mut Pen, queue: &mut Queue, word: &str) {
     match word.parse::<u16>() {
         Ok(number) => {
             let posted = Posted {
                 event: EventId(number),
                 owner: Owner::Machine,
             };
-            add(out, &queue.push(posted))
+            add(pen, &queue.push(posted));
         }
-        Err(_) => add(out, &queue.take()),
+        Err(_) => add(pen, &queue.take()),
+    }
+}
+
+/// Adds what comes of calls of a queue.
+fn add_calls(pen: &mut Pen, queue: &mut Queue, calls: &str) {
+    for word in calls.split_whitespace() {
+        add_call(pen, queue, word);
     }
 }
 
 /// Adds what comes of the calls that follow the size of a queue.
-pub(crate) fn queued(alloc: Global, out: &mut String, question: &str) -> Result<(), AllocError> {
+fn queued(pen: &mut Pen, question: &str) {
     let (size, calls) = question.split_once(": ").unwrap_or((question, ""));
-    let mut queue = Queue::new(alloc, size.parse::<usize>().unwrap_or(0))?;
-    for word in calls.split_whitespace() {
-        add_call(out, &mut queue, word)?;
+    match Queue::new(pen.alloc, size.parse::<usize>().unwrap_or(0)) {
+        Ok(mut queue) => add_calls(pen, &mut queue, calls),
+        Err(_) => pen.is_lost = true,
     }
-    Ok(())
 }
 
 const PLANS: &str = "\
@@ -404,10 +402,10 @@ event_player:
 find => Cycle([EventId(1)])";
 
 #[test]
-fn plans(rt: HostRuntime) -> Result<(), Fail> {
-    for table in [PLANS, LIMITS, HANDLERS, QUEUES, WEIGHTS] {
-        let wrong = wrong_rows(rt.alloc(), table)?;
-        assert_eq!(rt; wrong.as_str(), "");
-    }
-    Ok(())
+fn plans(rt: HostRuntime) {
+    assert_rows(&rt, Subject::Plan, PLANS);
+    assert_rows(&rt, Subject::Plan, LIMITS);
+    assert_rows(&rt, Subject::Plan, HANDLERS);
+    assert_rows(&rt, Subject::Plan, QUEUES);
+    assert_rows(&rt, Subject::Plan, WEIGHTS);
 }

@@ -1,14 +1,14 @@
 //! A machine by hand, one input at a time.
 
-use crate::cases::{add, wrong_rows};
+use crate::cases::{Subject, add, add_fault, assert_rows};
 use coil_guard::{Board, MemoryBoard};
 use config_checker::Checked;
 use device_objects::Device;
 use logic_blocks::Counter;
 use pin_rig::{Input, Rig};
 use plan_tables::SwitchId;
-use std::alloc::{AllocError, Global};
-use std::test::Fail;
+use std::alloc::Global;
+use worked_rows::Pen;
 
 /// The word of a text at this place as a number, the greatest where it is none.
 pub(crate) fn number_at(text: &str, place: usize) -> u64 {
@@ -34,44 +34,40 @@ pub(crate) fn input_of(text: &str) -> Input {
 }
 
 /// Adds the lines of an input, or the number and the name of its refusal.
-pub(crate) fn add_step<D: Device, B: Board>(
-    out: &mut String,
-    rig: &mut Rig<'_, D, B>,
-    input: Input,
-) -> Result<(), AllocError> {
+pub(crate) fn add_step<D: Device, B: Board>(pen: &mut Pen, rig: &mut Rig<'_, D, B>, input: Input) {
     match rig.step(input) {
-        Ok(lines) => add(out, &lines),
-        Err(fault) => write!(out, "{} {fault} ", fault.number()),
+        Ok(lines) => add(pen, &lines),
+        Err(fault) => add_fault(pen, fault.number(), fault),
     }
 }
 
 /// Adds what comes of each input; then the latest moment, and that of the alarm that is due next. The
 /// lines of the latest stimulus come last.
-fn add_steps<D: Device, B: Board>(
-    out: &mut String,
-    rig: &mut Rig<'_, D, B>,
-    inputs: &str,
-) -> Result<(), AllocError> {
+fn add_steps<D: Device, B: Board>(pen: &mut Pen, rig: &mut Rig<'_, D, B>, inputs: &str) {
     for text in inputs.split(',') {
-        add_step(out, rig, input_of(text))?;
-        add(out, &(rig.now(), rig.next_due()))?;
+        add_step(pen, rig, input_of(text));
+        add(pen, &(rig.now(), rig.next_due()));
     }
-    add(out, &rig.trace())
+    add(pen, &rig.trace());
 }
 
 /// Answers to inputs, in a machine without devices.
-pub(crate) fn stepped(
-    alloc: Global,
-    out: &mut String,
-    checked: &Checked,
-    inputs: &str,
-) -> Result<(), AllocError> {
-    let board = MemoryBoard::new(alloc)?;
-    let devices: Vec<Counter> = Vec::new(alloc);
-    match Rig::new(alloc, checked, devices, board) {
-        Ok(mut rig) => add_steps(out, &mut rig, inputs),
-        Err(_) => out.push_str("no rig"),
+pub(crate) fn stepped(pen: &mut Pen, checked: &Checked, inputs: &str) {
+    let devices: Vec<Counter> = Vec::new(pen.alloc);
+    match with_memory(pen.alloc, checked, devices) {
+        Some(mut rig) => add_steps(pen, &mut rig, inputs),
+        None => pen.put("no rig"),
     }
+}
+
+/// A rig of these devices on a board in memory, if there is one and memory for it.
+pub(crate) fn with_memory<D: Device>(
+    alloc: Global,
+    checked: &Checked,
+    devices: Vec<D>,
+) -> Option<Rig<'_, D, MemoryBoard>> {
+    let board = MemoryBoard::new(alloc).ok()?;
+    Rig::new(alloc, checked, devices, board).ok()
 }
 
 // A normal switch, 0, and a quick one, 1, whose activation posts `a`, which posts `b` twice.
@@ -163,10 +159,7 @@ Line { moment: 25, owner: Machine, happening: Event(EventId(5)) }] (25, Some(26)
 Line { moment: 25, owner: Machine, happening: Event(EventId(5)) }]";
 
 #[test]
-fn steps(rt: HostRuntime) -> Result<(), Fail> {
-    for table in [STEPS, LEVELS] {
-        let wrong = wrong_rows(rt.alloc(), table)?;
-        assert_eq!(rt; wrong.as_str(), "");
-    }
-    Ok(())
+fn steps(rt: HostRuntime) {
+    assert_rows(&rt, Subject::Rig, STEPS);
+    assert_rows(&rt, Subject::Rig, LEVELS);
 }

@@ -1,10 +1,10 @@
 //! Readers that fail or never end, writers that fail, and what is said of it.
 
+use crate::asserts::assert_text;
 use crate::checks::row::{assert_rows, assert_walks};
 use pinball_shell::{Failure, ShellFault, read_all};
 use std::alloc::Global;
-use std::test::Fail;
-use worked_rows::Source;
+use worked_rows::{Pen, Source};
 
 // Readers and writers that fail.
 const FAILING: &str = "
@@ -156,53 +156,62 @@ fn readers_never_end(rt: HostRuntime) {
     assert_rows(&rt, ENDLESS);
 }
 
-/// Whether a text is read within this limit, in so many reads that give a byte each.
-fn is_read(alloc: Global, text: &str, limit: usize, reads: u64) -> bool {
+/// Adds what is read of a text within this limit, or why it is not, and in how many reads that give a byte each.
+fn add_read(pen: &mut Pen, text: &str, limit: usize) {
     let mut reader = Source::slow(text.as_bytes());
-    let is_whole = match read_all(alloc, &mut reader, limit) {
-        Ok(all) => all.as_slice() == text.as_bytes(),
-        Err(_) => false,
-    };
-    is_whole && reader.reads() == reads
-}
-
-/// Whether a text is refused as too long, in so many reads that give a byte each.
-fn is_too_long(alloc: Global, text: &str, limit: usize, reads: u64) -> bool {
-    let mut reader = Source::slow(text.as_bytes());
-    let answer = read_all(alloc, &mut reader, limit);
-    matches!(answer, Err(ShellFault::TooLong)) && reader.reads() == reads
+    match read_all(pen.alloc, &mut reader, limit) {
+        Ok(all) => pen.put(std::str::from_utf8(&all).unwrap_or("no UTF-8")),
+        Err(fault) => pen.put(fault.name()),
+    }
+    reader.show(pen);
+    pen.put("\n");
 }
 
 #[test]
 fn text_within_its_limit_is_read(rt: HostRuntime) {
-    let alloc = rt.alloc();
-    assert!(rt; is_read(alloc, "abc", 3, 4));
-    assert!(rt; is_read(alloc, "", 0, 1));
-    assert!(rt; is_too_long(alloc, "abcd", 3, 4));
-    assert!(rt; is_too_long(alloc, "a", 0, 1));
+    let mut pen = Pen::new(rt.alloc());
+    add_read(&mut pen, "abc", 3);
+    add_read(&mut pen, "", 0);
+    add_read(&mut pen, "abcd", 3);
+    add_read(&mut pen, "a", 0);
+    assert_text(&rt, &pen, "abc 4\n 1\nTooLong 4\nTooLong 1\n");
 }
 
-/// Whether standard error gets this of a fault in the file `a b`, or in none.
-fn is_said(alloc: Global, fault: ShellFault, of_file: bool, wanted: &str) -> Result<bool, Fail> {
-    let failure = if of_file {
-        Failure::at(fault, String::from_str(alloc, "a b")?)
-    } else {
-        Failure::from(fault)
-    };
-    let mut writer = Vec::new(alloc);
-    failure.write(&mut writer)?;
-    Ok(writer.as_slice() == wanted.as_bytes())
+/// A fault in the file `a b`.
+fn in_file(alloc: Global, fault: ShellFault) -> Failure {
+    match String::from_str(alloc, "a b") {
+        Ok(path) => Failure::at(fault, path),
+        Err(_) => Failure::from(ShellFault::NoMemory),
+    }
 }
 
-/// What standard error gets of a fault: a second line names the file, where one is at fault.
+/// Adds what standard error gets of a fault.
+fn add_said(pen: &mut Pen, failure: &Failure) {
+    let mut writer = Vec::new(pen.alloc);
+    if failure.write(&mut writer).is_err() {
+        pen.is_lost = true;
+    }
+    pen.put(std::str::from_utf8(&writer).unwrap_or("no UTF-8"));
+}
+
+// A second line names the file, where one is at fault.
+const SAID: &str = "\
+fault: Read
+file: a b
+fault: TooLong
+file: a b
+fault: Read
+fault: Write
+fault: NoMemory
+";
+
 #[test]
-fn faults_are_said(rt: HostRuntime) -> Result<(), Fail> {
-    let alloc = rt.alloc();
-    let fault = ShellFault::TooLong;
-    assert!(rt; is_said(alloc, ShellFault::Read, true, "fault: Read\nfile: a b\n")?);
-    assert!(rt; is_said(alloc, fault, true, "fault: TooLong\nfile: a b\n")?);
-    assert!(rt; is_said(alloc, ShellFault::Read, false, "fault: Read\n")?);
-    assert!(rt; is_said(alloc, ShellFault::Write, true, "fault: Write\n")?);
-    assert!(rt; is_said(alloc, ShellFault::NoMemory, true, "fault: NoMemory\n")?);
-    Ok(())
+fn faults_are_said(rt: HostRuntime) {
+    let mut pen = Pen::new(rt.alloc());
+    add_said(&mut pen, &in_file(rt.alloc(), ShellFault::Read));
+    add_said(&mut pen, &in_file(rt.alloc(), ShellFault::TooLong));
+    add_said(&mut pen, &Failure::from(ShellFault::Read));
+    add_said(&mut pen, &in_file(rt.alloc(), ShellFault::Write));
+    add_said(&mut pen, &in_file(rt.alloc(), ShellFault::NoMemory));
+    assert_text(&rt, &pen, SAID);
 }

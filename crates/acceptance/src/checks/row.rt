@@ -1,19 +1,18 @@
 //! What answers rows: the calls that check and verify.
 
+use crate::asserts::assert_text;
 use pinball_shell::{check_text, verify_text};
 use std::process::Abort;
 use worked_rows::{Answers, Pen, Row, Sink, Source, wrong_rows, wrong_walks};
 
 /// Each row of the table is answered and printed as it says.
 pub(crate) fn assert_rows<R: Abort + AllocGlobal>(rt: &R, table: &str) {
-    let wrong = wrong_rows(rt.alloc(), &Checker, table);
-    assert_eq!(rt; wrong.end(), "");
+    assert_text(rt, &wrong_rows(rt.alloc(), &Checker, table), "");
 }
 
 /// Each row of the table is answered as it should whichever read or write fails (`wrong_walks`).
 pub(crate) fn assert_walks<R: Abort + AllocGlobal>(rt: &R, table: &str) {
-    let wrong = wrong_walks(rt.alloc(), &Checker, table);
-    assert_eq!(rt; wrong.end(), "");
+    assert_text(rt, &wrong_walks(rt.alloc(), &Checker, table), "");
 }
 
 /// Checks bundles, and verifies certificates on them.

@@ -1,5 +1,6 @@
 //! Whole games by switch changes alone, beside a plain model of whose turn it is and who has scored what.
 
+use crate::asserts::assert_text;
 use crate::plays::row::Player;
 use std::alloc::Global;
 use worked_rows::{Pen, Row, answered};
@@ -189,8 +190,11 @@ fn played(alloc: Global, log: &str) -> Pen {
 
 #[test]
 fn four_players_have_three_balls_each(rt: HostRuntime) {
-    let story = story_of(rt.alloc());
+    let mut story = story_of(rt.alloc());
+    story.wanted.put("12 balls\n");
     let out = played(rt.alloc(), story.log.end());
-    assert_eq!(rt; count(out.end(), " machine event ball_started\n"), 12);
-    assert_eq!(rt; on_players(rt.alloc(), out.end()).end(), story.wanted.end());
+    let mut found = on_players(rt.alloc(), out.end());
+    found.value(count(out.end(), " machine event ball_started\n"));
+    found.put(" balls\n");
+    assert_text(&rt, &found, story.wanted.end());
 }

@@ -10,7 +10,7 @@ use logic_blocks::{Accrual, Counter, Sequence, Timer};
 use pinball_shell::{ShellFault, Verdict, play_text};
 use plan_tables::DeviceRow;
 use shot_groups::ShotBank;
-use std::alloc::{AllocError, Global};
+use std::alloc::Global;
 use std::cell::RefCell;
 use std::rc::Rc;
 use worked_rows::{Pen, Sink, Source};
@@ -26,72 +26,94 @@ pub(crate) fn play_log(
     log: &mut Source<'_>,
     sink: &mut Sink,
 ) {
-    let mut devices = Vec::new(pen.alloc);
-    add_devices(pen, &mut devices, checked.plan().rows());
-    let played = match board.trim_ascii().split_once(' ') {
+    let devices = devices_of(pen, checked.plan().rows());
+    match board.trim_ascii().split_once(' ') {
         None => play(pen, checked, devices, log, sink),
         Some((word, number)) => {
             let first = number.parse::<u64>().unwrap_or(0);
-            play_on_fuse(pen, checked, devices, (first, word == "faults"), log, sink)
+            play_on_fuse(pen, checked, devices, (first, word == "faults"), log, sink);
         }
-    };
-    if played.is_err() {
-        pen.is_lost = true;
     }
 }
 
-/// Adds a device for each row.
-fn add_devices(pen: &mut Pen, devices: &mut Devices, rows: &[DeviceRow]) {
+/// A device for each row. Where memory is out some are missing, and what is written is lost.
+fn devices_of(pen: &mut Pen, rows: &[DeviceRow]) -> Devices {
+    let mut devices = Vec::new(pen.alloc);
     for row in rows {
-        if add_device(pen.alloc, devices, row).is_err() {
+        if !is_added(pen.alloc, &mut devices, row) {
             pen.is_lost = true;
         }
     }
+    devices
 }
 
-/// Adds the device of a row.
-fn add_device(alloc: Global, devices: &mut Devices, row: &DeviceRow) -> Result<(), AllocError> {
-    let device: Box<dyn Device> = if let Some(counter) = Counter::new(row) {
-        boxed(alloc, counter)?
-    } else if let Some(accrual) = Accrual::new(row) {
-        boxed(alloc, accrual)?
-    } else if let Some(sequence) = Sequence::new(row) {
-        boxed(alloc, sequence)?
-    } else if let Some(timer) = Timer::new(row) {
-        boxed(alloc, timer)?
-    } else if let Some(bank) = ShotBank::new(row) {
-        boxed(alloc, bank)?
-    } else if let Some(flipper) = Flipper::new(row) {
-        boxed(alloc, flipper)?
-    } else if let Some(autofire) = Autofire::new(row) {
-        boxed(alloc, autofire)?
-    } else if let Some(device) = BallDevice::new(row) {
-        boxed(alloc, device)?
-    } else {
-        return Ok(());
+/// Adds the device of a row, if there is memory for it.
+fn is_added(alloc: Global, devices: &mut Devices, row: &DeviceRow) -> bool {
+    let device = match block(alloc, row) {
+        Some(device) => Some(device),
+        None => other_device(alloc, row),
     };
-    Ok(devices.push(device)?)
+    match device {
+        Some(device) => devices.push(device).is_ok(),
+        None => false,
+    }
 }
 
-/// A box of a device.
-fn boxed<D: Device>(alloc: Global, device: D) -> Result<Box<D>, AllocError> {
-    Ok(Box::new(alloc, device)?)
+/// A box of a device, if there is one and memory for it.
+fn boxed<D: Device>(alloc: Global, device: Option<D>) -> Option<Box<D>> {
+    Box::new(alloc, device?).ok()
+}
+
+/// The logic block or the timer of a row.
+fn block(alloc: Global, row: &DeviceRow) -> Option<Box<dyn Device>> {
+    if let Some(counter) = boxed(alloc, Counter::new(row)) {
+        return Some(counter);
+    }
+    if let Some(accrual) = boxed(alloc, Accrual::new(row)) {
+        return Some(accrual);
+    }
+    if let Some(sequence) = boxed(alloc, Sequence::new(row)) {
+        return Some(sequence);
+    }
+    Some(boxed(alloc, Timer::new(row))?)
+}
+
+/// Another device of a row.
+fn other_device(alloc: Global, row: &DeviceRow) -> Option<Box<dyn Device>> {
+    if let Some(bank) = boxed(alloc, ShotBank::new(row)) {
+        return Some(bank);
+    }
+    if let Some(flipper) = boxed(alloc, Flipper::new(row)) {
+        return Some(flipper);
+    }
+    if let Some(autofire) = boxed(alloc, Autofire::new(row)) {
+        return Some(autofire);
+    }
+    Some(boxed(alloc, BallDevice::new(row))?)
+}
+
+/// A board in memory.
+fn memory_board(alloc: Global) -> Option<Box<dyn Board>> {
+    let board = MemoryBoard::new(alloc).ok()?;
+    Some(Box::new(alloc, board).ok()?)
 }
 
 /// Plays a log on a board in memory.
-fn play(
-    pen: &mut Pen,
-    checked: &Checked,
-    devices: Devices,
-    log: &mut Source<'_>,
-    sink: &mut Sink,
-) -> Result<(), AllocError> {
-    let board: Box<dyn Board> = Box::new(pen.alloc, MemoryBoard::new(pen.alloc)?)?;
-    add_answer(
-        pen,
-        play_text(pen.alloc, checked, devices, board, log, sink),
-    );
-    Ok(())
+fn play(pen: &mut Pen, checked: &Checked, devices: Devices, log: &mut Source<'_>, sink: &mut Sink) {
+    match memory_board(pen.alloc) {
+        Some(board) => {
+            let answer = play_text(pen.alloc, checked, devices, board, log, sink);
+            add_answer(pen, answer);
+        }
+        None => pen.is_lost = true,
+    }
+}
+
+/// A board that faults at this command alone, or from it on, and the list of what it takes.
+fn fuse_board(alloc: Global, first: u64, onwards: bool) -> Option<(FuseBoard, Taken)> {
+    let taken: Taken = Rc::new(alloc, RefCell::new(ArrayVec::new())).ok()?;
+    let board = FuseBoard::new(first, onwards, taken.clone().ok()?);
+    Some((board, taken))
 }
 
 /// Plays a log on a board that faults at this command alone, or from it on. Adds how many commands were taken.
@@ -102,15 +124,15 @@ fn play_on_fuse(
     (first, onwards): (u64, bool),
     log: &mut Source<'_>,
     sink: &mut Sink,
-) -> Result<(), AllocError> {
-    let taken: Taken = Rc::new(pen.alloc, RefCell::new(ArrayVec::new()))?;
-    let board = FuseBoard::new(first, onwards, taken.clone()?);
-    add_answer(
-        pen,
-        play_text(pen.alloc, checked, devices, board, log, sink),
-    );
-    add_count(pen, &taken);
-    Ok(())
+) {
+    match fuse_board(pen.alloc, first, onwards) {
+        Some((board, taken)) => {
+            let answer = play_text(pen.alloc, checked, devices, board, log, sink);
+            add_answer(pen, answer);
+            add_count(pen, &taken);
+        }
+        None => pen.is_lost = true,
+    }
 }
 
 fn add_answer(pen: &mut Pen, answer: Result<Verdict, ShellFault>) {

@@ -1,5 +1,6 @@
 //! What answers rows: the calls that load a bundle and play a log.
 
+use crate::asserts::assert_text;
 use crate::plays::machine::play_log;
 use pinball_shell::load_text;
 use std::process::Abort;
@@ -7,14 +8,12 @@ use worked_rows::{Answers, Pen, Row, Sink, Source, wrong_rows, wrong_walks};
 
 /// Each row of the table is answered and printed as it says.
 pub(crate) fn assert_rows<R: Abort + AllocGlobal>(rt: &R, table: &str) {
-    let wrong = wrong_rows(rt.alloc(), &Player, table);
-    assert_eq!(rt; wrong.end(), "");
+    assert_text(rt, &wrong_rows(rt.alloc(), &Player, table), "");
 }
 
 /// Each row of the table is answered as it should whichever read or write fails (`wrong_walks`).
 pub(crate) fn assert_walks<R: Abort + AllocGlobal>(rt: &R, table: &str) {
-    let wrong = wrong_walks(rt.alloc(), &Player, table);
-    assert_eq!(rt; wrong.end(), "");
+    assert_text(rt, &wrong_walks(rt.alloc(), &Player, table), "");
 }
 
 /// Plays logs on bundles, or prints why a bundle is refused.

@@ -1,10 +1,10 @@
 //! A model of the guard that keeps every command that was sent, and looks at all of them whenever
 //! it is asked.
 
-use crate::guarded::{Call, command_of};
+use crate::parts::guarded::{Call, command_of};
 use coil_guard::Command;
 use plan_tables::{CoilId, CoilLimits};
-use std::alloc::{AllocError, Global};
+use std::alloc::Global;
 
 /// A command was sent by this call.
 #[derive(Clone, Copy)]
@@ -34,14 +34,13 @@ impl Past {
         }
     }
 
-    /// A command was sent to the coil by the call.
-    pub(crate) fn add(&mut self, at: u32, coil: CoilId, call: Call) -> Result<(), AllocError> {
+    /// A command was sent to the coil by the call. Gives whether there was memory to keep it.
+    pub(crate) fn add(&mut self, at: u32, coil: CoilId, call: Call) -> bool {
         let call = Call {
             coil: coil.0,
             ..call
         };
-        self.entries.push(Entry { at, call })?;
-        Ok(())
+        self.entries.push(Entry { at, call }).is_ok()
     }
 
     /// What the commands that were sent at or before the moment say of the coil.

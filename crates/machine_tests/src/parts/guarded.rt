@@ -4,7 +4,7 @@ ghost use Rattle.std.specs.Prelude.{◌≡◌, length};
 
 use coil_guard::{Answer, Coils, Command};
 use plan_tables::{CoilId, ModeId, Owner, Plan};
-use std::alloc::{AllocError, Global};
+use std::alloc::Global;
 
 /// A call of the guard: `p` a pulse, `e` enable, `d` disable, `r` release. Coils and owners are numbers;
 /// owner 0 is the machine, and mode 0 is owner 1.
@@ -44,10 +44,10 @@ pub(crate) struct Guarded {
 }
 
 impl Guarded {
-    pub(crate) fn new(alloc: Global, plan: &Plan) -> Result<Guarded, AllocError> {
-        let coils = Coils::new(alloc, plan)?;
+    pub(crate) fn new(alloc: Global, plan: &Plan) -> Option<Guarded> {
+        let coils = Coils::new(alloc, plan).ok()?;
         let count = plan.coil_count() as u16;
-        Ok(Guarded { coils, count })
+        Some(Guarded { coils, count })
     }
 
     /// What the call sends; nothing, if there is no such coil.

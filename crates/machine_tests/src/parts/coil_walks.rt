@@ -1,12 +1,13 @@
 //! Random calls of the guard, beside a model that keeps the whole past.
 
-use crate::guarded::{Call, Guarded, command_of};
-use crate::past::Past;
-use crate::plans::{NOTHING, add_coil, draw, draw_short, plan_of};
+use crate::asserts::assert_right;
+use crate::parts::guarded::{Call, Guarded, command_of};
+use crate::parts::past::Past;
+use crate::parts::plans::{NOTHING, add_coil, draw, draw_short, plan_of};
 use coil_guard::Command;
 use plan_tables::{CoilId, CoilLimits, Plan};
-use std::alloc::{AllocError, Global};
-use std::test::Fail;
+use std::alloc::Global;
+use worked_rows::Pen;
 
 /// How many milliseconds a list of calls takes.
 const END: u32 = 40;
@@ -109,7 +110,7 @@ fn call_twice(
     guard: &mut Guarded,
     past: &mut Past,
     tally: &mut Tally,
-) -> Result<bool, AllocError> {
+) -> bool {
     let mut same = true;
     for _ in 0..draw(state, 3) {
         let call = draw_call(state);
@@ -117,40 +118,40 @@ fn call_twice(
         let sent = guard.call(call, now);
         same = same && sent == wanted;
         if let Some(command) = sent {
-            past.add(now, coil_of(command), call)?;
+            same = past.add(now, coil_of(command), call) && same;
             tally.count(call.what);
         }
     }
-    Ok(same && guard.next_on(now) == past.lowest(None, now))
+    same && guard.next_on(now) == past.lowest(None, now)
 }
 
-/// One list of calls on coils with these limits, which are those of the plan, while all is as in the model.
+/// One list of calls on coils with these limits, which are those of the guard, while all is as in the model.
 fn walk(
     alloc: Global,
     state: &mut u64,
     tally: &mut Tally,
     limits: &[CoilLimits; 3],
-    plan: &Plan,
-) -> Result<bool, AllocError> {
-    let mut guard = Guarded::new(alloc, plan)?;
+    guard: &mut Guarded,
+) -> bool {
     let mut past = Past::new(alloc);
     let mut same = true;
     for now in 0..END {
-        same = same && call_twice(state, now, limits, &mut guard, &mut past, tally)?;
+        same = same && call_twice(state, now, limits, guard, &mut past, tally);
     }
-    Ok(same && stretches_are_short(&past, limits, tally))
+    same && stretches_are_short(&past, limits, tally)
 }
 
 /// The plan of coils with these limits, and nothing else.
-fn plan_with(alloc: Global, limits: &[CoilLimits]) -> Result<Plan, Fail> {
-    let mut bundle = String::from_str(alloc, NOTHING)?;
-    bundle.push_str("coils:\n")?;
+fn plan_with(alloc: Global, limits: &[CoilLimits]) -> Option<Plan> {
+    let mut bundle = Pen::new(alloc);
+    bundle.put(NOTHING);
+    bundle.put("coils:\n");
     let mut number = 0u32;
     for coil in limits {
-        add_coil(&mut bundle, number, *coil)?;
+        add_coil(&mut bundle, number, *coil);
         number = number.saturating_add(1);
     }
-    plan_of(alloc, &bundle)
+    plan_of(alloc, bundle.end())
 }
 
 /// Ten lists of calls on three coils.
@@ -159,18 +160,19 @@ fn walk_coils(
     state: &mut u64,
     tally: &mut Tally,
     limits: &[CoilLimits; 3],
-    plan: &Plan,
-) -> Result<bool, AllocError> {
+) -> Option<bool> {
+    let plan = plan_with(alloc, limits)?;
     let mut same = true;
     for _ in 0..10u32 {
-        same = same && walk(alloc, state, tally, limits, plan)?;
+        let mut guard = Guarded::new(alloc, &plan)?;
+        same = same && walk(alloc, state, tally, limits, &mut guard);
     }
-    Ok(same)
+    Some(same)
 }
 
-/// 10,000 lists of calls.
+/// 10,000 lists of calls: ten on each of 1,000 threes of coils.
 #[test]
-fn random_calls(rt: HostRuntime) -> Result<(), Fail> {
+fn random_calls(rt: HostRuntime) {
     let mut state = 1u64;
     let mut tally = Tally {
         pulses: 0,
@@ -179,15 +181,14 @@ fn random_calls(rt: HostRuntime) -> Result<(), Fail> {
         releases: 0,
         longest: 0,
     };
-    for coils in 0..1_000u32 {
+    for coils in 0..1_000usize {
         let limits = draw_three(&mut state);
-        let plan = plan_with(rt.alloc(), &limits)?;
-        let same = walk_coils(rt.alloc(), &mut state, &mut tally, &limits, &plan)?;
-        assert!(rt; same, "coils {coils}");
+        let same = walk_coils(rt.alloc(), &mut state, &mut tally, &limits);
+        assert_right(&rt, same == Some(true), coils);
     }
     let least = tally.pulses.min(tally.enables).min(tally.disables);
-    assert!(rt; least.min(tally.releases).min(tally.longest) > 3_000);
-    Ok(())
+    let least = least.min(tally.releases).min(tally.longest);
+    assert_right(&rt, least > 3_000, 1_000);
 }
 
 const HELD: CoilLimits = CoilLimits {
@@ -222,18 +223,23 @@ fn call_all(guard: &mut Guarded, disables: bool, moment: u32) -> u32 {
 }
 
 /// Whether 256 coils are on at once, some held and some by pulses, and are put off in order.
-fn turns_all(alloc: Global, plan: &Plan) -> Result<bool, AllocError> {
-    let mut guard = Guarded::new(alloc, plan)?;
-    let on = call_all(&mut guard, false, 3);
-    let off = call_all(&mut guard, true, 12);
-    Ok(on == 256 && off == 256 && guard.next_on(12).is_none())
+fn turns_all(guard: &mut Guarded) -> bool {
+    let on = call_all(guard, false, 3);
+    let off = call_all(guard, true, 12);
+    on == 256 && off == 256 && guard.next_on(12).is_none()
+}
+
+/// A guard of 256 coils that may be held.
+fn guard_of_held(alloc: Global) -> Option<Guarded> {
+    let plan = plan_with(alloc, &[HELD; 256])?;
+    Guarded::new(alloc, &plan)
 }
 
 #[test]
-fn all_coils_on(rt: HostRuntime) -> Result<(), Fail> {
-    let limits = vec![in rt.alloc(); HELD; 256]?;
-    let plan = plan_with(rt.alloc(), &limits)?;
-    let right = turns_all(rt.alloc(), &plan)?;
-    assert!(rt; right);
-    Ok(())
+fn all_coils_on(rt: HostRuntime) {
+    let right = match guard_of_held(rt.alloc()) {
+        Some(mut guard) => turns_all(&mut guard),
+        None => false,
+    };
+    assert_right(&rt, right, 0);
 }

@@ -5,12 +5,13 @@
 //! that is on. The numbers are the coil, the milliseconds and the power of a `pulse`; the coil, the power and the
 //! owner of an `enable`; the coil of a `disable`; and the owner of a `release`.
 
-use crate::guarded::{Call, Guarded, command_of};
-use crate::plans::plan_of;
+use crate::asserts::assert_right;
+use crate::parts::guarded::{Call, Guarded, command_of};
+use crate::parts::plans::plan_of;
 use coil_guard::Command;
-use plan_tables::{CoilId, Plan};
-use std::alloc::{AllocError, Global};
-use std::test::Fail;
+use plan_tables::CoilId;
+use std::alloc::Global;
+use std::process::Abort;
 
 /// Coils 0 and 2 may be held with half of their power, and coil 1 may not.
 const COILS: &str = "\
@@ -137,37 +138,39 @@ fn one_more(coil: Option<CoilId>) -> u32 {
 }
 
 /// How much of a script is read until a line does not hold.
-fn place_of_fault(alloc: Global, plan: &Plan, script: &[u8]) -> Result<usize, AllocError> {
-    let mut guard = Guarded::new(alloc, plan)?;
+fn place_of_fault(guard: &mut Guarded, script: &[u8]) -> usize {
     let mut line = EMPTY;
     let mut place = 0usize;
     for byte in script {
         line.read(*byte);
         if *byte == b'\n' {
-            if !line.holds(&mut guard) {
+            if !line.holds(guard) {
                 break;
             }
             line = EMPTY;
         }
         place = place.saturating_add(1);
     }
-    Ok(place)
+    place
 }
 
-/// Fails with the first line of the script that does not hold, and what is behind it.
-fn assert_script(alloc: Global, plan: &Plan, script: &'static str) -> Result<(), Fail> {
-    let place = place_of_fault(alloc, plan, script.as_bytes())?;
-    if place == script.len() {
-        return Ok(());
-    }
-    Err(Fail::from(script.get(place..)))
+/// The same with a new guard of `COILS`.
+fn place_in_script(alloc: Global, script: &[u8]) -> Option<usize> {
+    let plan = plan_of(alloc, COILS)?;
+    let mut guard = Guarded::new(alloc, &plan)?;
+    Some(place_of_fault(&mut guard, script))
+}
+
+/// Each line of the script holds. If not, the place of the first that does not is told.
+fn assert_script<R: Abort + AllocGlobal>(rt: &R, script: &str) {
+    let place = place_in_script(rt.alloc(), script.as_bytes()).unwrap_or(0);
+    assert_right(rt, place == script.len(), place);
 }
 
 #[test]
-fn scripts_hold(rt: HostRuntime) -> Result<(), Fail> {
-    let plan = plan_of(rt.alloc(), COILS)?;
-    assert_script(rt.alloc(), &plan, PULSES)?;
-    assert_script(rt.alloc(), &plan, LIMITED)?;
-    assert_script(rt.alloc(), &plan, AT_ONCE)?;
-    assert_script(rt.alloc(), &plan, RELEASED)
+fn scripts_hold(rt: HostRuntime) {
+    assert_script(&rt, PULSES);
+    assert_script(&rt, LIMITED);
+    assert_script(&rt, AT_ONCE);
+    assert_script(&rt, RELEASED);
 }

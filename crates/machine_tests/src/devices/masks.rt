@@ -1,8 +1,9 @@
 //! Devices that keep flags as bits, beside those that do not.
 
-use crate::calls::{call_of, row_of, told};
-use crate::settings::{draw, draw_device};
-use crate::walks::{OF_BANKS, OF_BLOCKS, change_world, draw_call};
+use crate::asserts::assert_right;
+use crate::devices::calls::{call_of, row_of, told};
+use crate::devices::settings::{draw, draw_device};
+use crate::devices::walks::{OF_BANKS, OF_BLOCKS, change_world, draw_call};
 use device_objects::{Device, World, is_same_state};
 use logic_blocks::{Accrual, MaskAccrual};
 use shot_groups::{MaskBank, ShotBank};
@@ -56,11 +57,17 @@ fn are_alike_banks(state: &mut u64, number: u32) -> bool {
     }
 }
 
+/// The number that is told is that of an accrual, or 1,000 more than that of a bank.
 #[test]
 fn masks_are_like_the_others(rt: HostRuntime) {
     let mut state = 1u64;
     for number in 0..256u32 {
-        assert!(rt; are_alike_accruals(&mut state, number), "accrual {number}");
-        assert!(rt; are_alike_banks(&mut state, number), "bank {number}");
+        let place = number as usize;
+        assert_right(&rt, are_alike_accruals(&mut state, number), place);
+        assert_right(
+            &rt,
+            are_alike_banks(&mut state, number),
+            place.saturating_add(1_000),
+        );
     }
 }

@@ -1,11 +1,11 @@
 //! Random calls of the players, beside a plain model.
 
-use crate::plain_players::{Book, GREATEST};
-use crate::plans::{NOTHING, USUAL, draw, draw_short, game_plan, plan_of};
-use crate::seats::{Seats, variable};
+use crate::asserts::assert_right;
+use crate::parts::plain_players::{Book, GREATEST};
+use crate::parts::plans::{NOTHING, USUAL, draw, draw_short, game_plan, plan_of};
+use crate::parts::seats::{Seats, variable};
 use plan_tables::{Plan, VariableAction};
-use std::alloc::{AllocError, Global};
-use std::test::Fail;
+use std::alloc::Global;
 
 /// How many changes there were, and how many of them ended at an end of the values.
 #[derive(Clone, Copy)]
@@ -87,61 +87,68 @@ fn are_all_same(seats: &mut Seats<'_>, book: &mut Book) -> bool {
     same
 }
 
-/// So many calls, while all is as in the model.
+/// 1,000 calls, while all is as in the model.
 fn walk(
-    alloc: Global,
     state: &mut u64,
-    plan: &Plan,
+    score: u16,
+    seats: &mut Seats<'_>,
+    book: &mut Book,
     tally: &mut Tally,
-) -> Result<bool, AllocError> {
-    let score = variable(plan, b"score");
-    let ball = variable(plan, b"ball");
-    let number = variable(plan, b"number");
-    let mut book = Book::new(alloc, ball, number, USUAL.most)?;
-    let mut seats = Seats::new(alloc, plan)?;
+) -> bool {
     let mut same = true;
     for _ in 0..1_000u32 {
         let answered = if draw(state, 4) == 0 {
-            call(state, &mut seats, &mut book)
+            call(state, seats, book)
         } else {
-            change(state, &mut seats, &mut book, tally)
+            change(state, seats, book, tally)
         };
-        same = same && answered && is_same(state, &seats, &book, score);
+        same = same && answered && is_same(state, seats, book, score);
     }
-    Ok(same && are_all_same(&mut seats, &mut book))
+    same && are_all_same(seats, book)
+}
+
+/// 1,000 calls on new players of this plan, while all is as in the model.
+fn walk_plan(alloc: Global, state: &mut u64, plan: &Plan, tally: &mut Tally) -> Option<bool> {
+    let [score, ball] = [variable(plan, b"score"), variable(plan, b"ball")];
+    let mut book = Book::new(alloc, ball, variable(plan, b"number"), USUAL.most)?;
+    let mut seats = Seats::new(alloc, plan)?;
+    Some(walk(state, score, &mut seats, &mut book, tally))
 }
 
 /// 1,000 calls on players with 256 variables, ten times.
-#[test]
-fn random_calls(rt: HostRuntime) -> Result<(), Fail> {
+fn walk_ten(alloc: Global, tally: &mut Tally) -> Option<bool> {
     let mut state = 1u64;
+    let plan = game_plan(alloc, USUAL, 253)?;
+    let mut same = plan.variable_count() == 256;
+    for _ in 0..10u32 {
+        same = walk_plan(alloc, &mut state, &plan, tally)? && same;
+    }
+    Some(same)
+}
+
+#[test]
+fn random_calls(rt: HostRuntime) {
     let mut tally = Tally {
         changes: 0,
         ends: 0,
     };
-    let plan = game_plan(rt.alloc(), USUAL, 253)?;
-    let mut same = plan.variable_count() == 256;
-    for _ in 0..10u32 {
-        same = walk(rt.alloc(), &mut state, &plan, &mut tally)? && same;
-    }
-    assert!(rt; same && tally.changes > 2_000 && tally.ends > 1_000);
-    Ok(())
+    let same = walk_ten(rt.alloc(), &mut tally);
+    let is_far = tally.changes > 2_000 && tally.ends > 1_000;
+    assert_right(&rt, same == Some(true) && is_far, 0);
 }
 
 /// Whether there are no players.
-fn has_nobody(alloc: Global, plan: &Plan) -> Result<bool, AllocError> {
-    let mut seats = Seats::new(alloc, plan)?;
+fn has_nobody(alloc: Global) -> Option<bool> {
+    let plan = plan_of(alloc, NOTHING)?;
+    let mut seats = Seats::new(alloc, &plan)?;
     let added = seats.add();
     seats.turn(1);
     let count = seats.players.count();
-    Ok(!added && count == 0 && seats.players.current() == 0 && seats.get(0) == 0)
+    Some(!added && count == 0 && seats.players.current() == 0 && seats.get(0) == 0)
 }
 
 /// Without a game there are no players.
 #[test]
-fn no_players(rt: HostRuntime) -> Result<(), Fail> {
-    let plan = plan_of(rt.alloc(), NOTHING)?;
-    let nobody = has_nobody(rt.alloc(), &plan)?;
-    assert!(rt; nobody);
-    Ok(())
+fn no_players(rt: HostRuntime) {
+    assert_right(&rt, has_nobody(rt.alloc()) == Some(true), 0);
 }

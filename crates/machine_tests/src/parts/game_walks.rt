@@ -1,13 +1,13 @@
 //! Random events of the game, beside a plain model.
 
-use crate::plain_game::{Plain, and, with_flags};
-use crate::plain_players::Book;
-use crate::plans::{Rules, draw, game_plan};
-use crate::seats::{Seats, variable};
+use crate::asserts::assert_right;
+use crate::parts::plain_game::{Plain, and, with_flags};
+use crate::parts::plain_players::Book;
+use crate::parts::plans::{Rules, draw, game_plan};
+use crate::parts::seats::{Seats, variable};
 use plan_tables::{GAME_EVENTS, GameEvent, Plan};
 use player_game::{Game, GamePhase, GameWork};
-use std::alloc::{AllocError, Global};
-use std::test::Fail;
+use std::alloc::Global;
 
 /// How many games began and ended, and the most players that there were.
 #[derive(Clone, Copy)]
@@ -66,43 +66,48 @@ fn step(
     seats: &mut Seats<'_>,
     plain: &mut Plain,
     tally: &mut Tally,
-) -> Result<bool, AllocError> {
+) -> bool {
     let event = next_event(state, queue);
     let home = draw(state, 4);
     let work = seats.work(game, event, home);
-    let same = told(&work) == plain.work(event, home);
     tally.ended = tally.ended.saturating_add(u32::from(work.finals));
     tally.players = tally.players.max(plain.book.count);
-    queue.extend_from_slice(work.posts.as_slice())?;
-    Ok(same)
+    let is_kept = queue.extend_from_slice(work.posts.as_slice()).is_ok();
+    is_kept && told(&work) == plain.work(event, home)
 }
 
-/// 2,000 events of a game with these rules, while all is as in the model.
+/// 2,000 events of a game, while all is as in the model.
 fn walk(
     alloc: Global,
     state: &mut u64,
     plan: &Plan,
-    rules: Rules,
+    (seats, plain): (&mut Seats<'_>, &mut Plain),
     tally: &mut Tally,
-) -> Result<bool, AllocError> {
+) -> bool {
     let ball = variable(plan, b"ball");
-    let number = variable(plan, b"number");
-    let mut plain = Plain::new(rules, Book::new(alloc, ball, number, rules.most)?);
     let mut game = Game::new(plan);
-    let mut seats = Seats::new(alloc, plan)?;
     let mut queue = Vec::new(alloc);
     let mut same = true;
     for _ in 0..2_000u32 {
-        let is_right = step(state, &mut queue, &mut game, &mut seats, &mut plain, tally)?;
-        same = same && is_right && is_same(&game, &seats, &plain, ball);
+        let is_right = step(state, &mut queue, &mut game, seats, plain, tally);
+        same = same && is_right && is_same(&game, seats, plain, ball);
     }
     tally.begun = tally.begun.saturating_add(plain.begun);
-    Ok(same)
+    same
+}
+
+/// 2,000 events of a game with these rules, while all is as in the model.
+fn walk_rules(alloc: Global, state: &mut u64, rules: Rules, tally: &mut Tally) -> Option<bool> {
+    let plan = game_plan(alloc, rules, 1)?;
+    let [ball, number] = [variable(&plan, b"ball"), variable(&plan, b"number")];
+    let mut plain = Plain::new(rules, Book::new(alloc, ball, number, rules.most)?);
+    let mut seats = Seats::new(alloc, &plan)?;
+    Some(walk(alloc, state, &plan, (&mut seats, &mut plain), tally))
 }
 
 /// 2,000 events for each kind of rules.
 #[test]
-fn random_events(rt: HostRuntime) -> Result<(), Fail> {
+fn random_events(rt: HostRuntime) {
     let mut state = 1u64;
     let mut tally = Tally {
         begun: 0,
@@ -115,10 +120,9 @@ fn random_events(rt: HostRuntime) -> Result<(), Fail> {
             balls: 1 + number % 2,
             most: 1 + number / 3,
         };
-        let plan = game_plan(rt.alloc(), rules, 1)?;
-        let same = walk(rt.alloc(), &mut state, &plan, rules, &mut tally)?;
-        assert!(rt; same, "rules {number}");
+        let same = walk_rules(rt.alloc(), &mut state, rules, &mut tally);
+        assert_right(&rt, same == Some(true), number as usize);
     }
-    assert!(rt; tally.begun > 100 && tally.ended > 100 && tally.players == 4);
-    Ok(())
+    let is_far = tally.begun > 100 && tally.ended > 100 && tally.players == 4;
+    assert_right(&rt, is_far, 12);
 }

@@ -1,11 +1,11 @@
 //! What devices are to do, by plain rules: what is remembered for each player, and the coils. A player who
 //! has a slot of their own has a first one again as soon as a game begins.
 
-use crate::banks::call_bank;
-use crate::blocks::call_block;
-use crate::calls::NOT_DUE;
-use crate::seen::bits;
-use crate::timers::call_timer;
+use crate::devices::banks::call_bank;
+use crate::devices::blocks::call_block;
+use crate::devices::calls::NOT_DUE;
+use crate::devices::seen::bits;
+use crate::devices::timers::call_timer;
 use device_objects::World;
 use plan_tables::{Direction, Settings};
 

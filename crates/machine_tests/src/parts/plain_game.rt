@@ -1,7 +1,7 @@
 //! A plain model of the game: its events in their order, and the players.
 
-use crate::plain_players::Book;
-use crate::plans::Rules;
+use crate::parts::plain_players::Book;
+use crate::parts::plans::Rules;
 use plan_tables::{GAME_EVENTS, GameEvent};
 
 /// A game, as its events have made it.

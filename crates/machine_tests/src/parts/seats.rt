@@ -4,7 +4,7 @@ ghost use Rattle.std.specs.Prelude.{◌≡◌, length};
 
 use plan_tables::{Comparison, Condition, GameEvent, Plan, VariableAction, VariableId};
 use player_game::{Game, GameWork, Players};
-use std::alloc::{AllocError, Global};
+use std::alloc::Global;
 
 /// The players of a plan, and how many variables it has.
 #[derive(Drop)]
@@ -15,10 +15,10 @@ pub(crate) struct Seats<'p> {
 }
 
 impl<'p> Seats<'p> {
-    pub(crate) fn new(alloc: Global, plan: &'p Plan) -> Result<Seats<'p>, AllocError> {
-        let players = Players::new(alloc, plan)?;
+    pub(crate) fn new(alloc: Global, plan: &'p Plan) -> Option<Seats<'p>> {
+        let players = Players::new(alloc, plan).ok()?;
         let variables = plan.variable_count() as u16;
-        Ok(Seats { players, variables })
+        Some(Seats { players, variables })
     }
 
     pub(crate) fn clear(&mut self) {

@@ -1,9 +1,10 @@
 //! Random calls of random devices, each beside its plain model.
 
-use crate::calls::{Job, NOT_DUE, call_of, do_with, told};
-use crate::plain::{Plain, call, plain_of};
-use crate::seen::agrees;
-use crate::settings::{draw, draw_device};
+use crate::asserts::assert_right;
+use crate::devices::calls::{Job, NOT_DUE, call_of, do_with, told};
+use crate::devices::plain::{Plain, call, plain_of};
+use crate::devices::seen::agrees;
+use crate::devices::settings::{draw, draw_device};
 use device_objects::{Device, World};
 
 /// What is called how often: blocks and timers, coils, and banks.
@@ -165,14 +166,15 @@ fn walked(kind: u32) -> (u32, Option<u32>) {
 }
 
 /// 500 devices of each kind, with 40 calls of each. And 8 walks of banks of each kind, and 8 orderly ones, with 80 calls
-/// in each.
+/// in each. The number that is told has the kind, and in its last four digits the device.
 #[test]
 fn random_devices(rt: HostRuntime) {
     for kind in 0..7u32 {
         let (completed, wrong) = walked(kind);
-        assert!(rt;
-            wrong.is_none() && completed > kind_of(kind).least,
-            "{wrong:?} of kind {kind}"
-        );
+        let right = wrong.is_none() && completed > kind_of(kind).least;
+        let number = kind
+            .saturating_mul(10_000)
+            .saturating_add(wrong.unwrap_or(9_999));
+        assert_right(&rt, right, number as usize);
     }
 }

@@ -1,8 +1,8 @@
 //! What banks of shots are to do. The value of a slot has 4 bits for the state of each shot.
 
-use crate::blocks::bit_of;
-use crate::calls::and;
-use crate::plain::Slot;
+use crate::devices::blocks::bit_of;
+use crate::devices::calls::and;
+use crate::devices::plain::Slot;
 use plan_tables::BankSettings;
 
 fn shift_of(shot: i64) -> u32 {

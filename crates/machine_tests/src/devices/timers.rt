@@ -1,7 +1,7 @@
 //! What timers are to do.
 
-use crate::calls::NOT_DUE;
-use crate::plain::{Slot, is_at_end, sum};
+use crate::devices::calls::NOT_DUE;
+use crate::devices::plain::{Slot, is_at_end, sum};
 use plan_tables::{Direction, TimerSettings};
 
 /// The timer runs from now on.

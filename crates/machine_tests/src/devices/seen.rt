@@ -2,8 +2,8 @@
 
 ghost use Rattle.std.specs.Prelude.{◌<◌};
 
-use crate::banks::with_state;
-use crate::plain::{Plain, Slot, first_slot, has_players};
+use crate::devices::banks::with_state;
+use crate::devices::plain::{Plain, Slot, first_slot, has_players};
 use device_objects::{DeviceState, World};
 use plan_tables::Settings;
 

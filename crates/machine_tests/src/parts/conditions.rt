@@ -1,10 +1,10 @@
 //! Conditions at their edges.
 
-use crate::plans::{USUAL, game_plan};
-use crate::seats::{Seats, variable};
+use crate::asserts::assert_right;
+use crate::parts::plans::{USUAL, game_plan};
+use crate::parts::seats::{Seats, variable};
 use plan_tables::{Comparison, Plan, VariableAction};
-use std::alloc::{AllocError, Global};
-use std::test::Fail;
+use std::alloc::Global;
 
 /// A value, a number that it is compared with, and which of the comparisons hold, in their order.
 const CASES: &str = "
@@ -62,23 +62,28 @@ fn place_of_fault(seats: &mut Seats<'_>, score: u16, table: &[u8]) -> usize {
 }
 
 /// Of nobody no condition is met. Then how much of the table is right for a player.
-fn read_table(alloc: Global, plan: &Plan) -> Result<usize, AllocError> {
-    let mut seats = Seats::new(alloc, plan)?;
+fn read_table(seats: &mut Seats<'_>, plan: &Plan) -> usize {
     let score = variable(plan, b"score");
-    let nobody = place_of_fault(&mut seats, score, b"0 0 nnnnnn");
+    let nobody = place_of_fault(seats, score, b"0 0 nnnnnn");
     let added = seats.add();
     seats.turn(1);
-    if !added || nobody != 10 {
-        return Ok(0);
+    if added && nobody == 10 {
+        place_of_fault(seats, score, CASES.as_bytes())
+    } else {
+        0
     }
-    Ok(place_of_fault(&mut seats, score, CASES.as_bytes()))
+}
+
+/// How much of the table is right for the player of a game.
+fn read_in_game(alloc: Global) -> Option<usize> {
+    let plan = game_plan(alloc, USUAL, 4)?;
+    let mut seats = Seats::new(alloc, &plan)?;
+    Some(read_table(&mut seats, &plan))
 }
 
 /// All six comparisons, below, at and above the number.
 #[test]
-fn conditions(rt: HostRuntime) -> Result<(), Fail> {
-    let plan = game_plan(rt.alloc(), USUAL, 4)?;
-    let place = read_table(rt.alloc(), &plan)?;
-    assert!(rt; place == CASES.len(), "at byte {place}");
-    Ok(())
+fn conditions(rt: HostRuntime) {
+    let place = read_in_game(rt.alloc()).unwrap_or(0);
+    assert_right(&rt, place == CASES.len(), place);
 }

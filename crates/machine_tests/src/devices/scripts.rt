@@ -10,9 +10,10 @@
 //!   1,000 on;
 //! - `Value=N` says which value the first player has now.
 
-use crate::calls::{Job, call_of, do_with, told};
-use crate::seen::value_of;
-use crate::settings::{counter_of, steps_of, timer_of};
+use crate::asserts::assert_right;
+use crate::devices::calls::{Job, call_of, do_with, told};
+use crate::devices::seen::value_of;
+use crate::devices::settings::{counter_of, steps_of, timer_of};
 use device_objects::{Device, World};
 use plan_tables::{BankSettings, Settings};
 use std::process::Abort;
@@ -203,13 +204,10 @@ fn place_of_fault(text: &str, window: u32) -> usize {
     script.place
 }
 
-/// Each word of the script answers as it says.
+/// Each word of the script answers as it says. If not, the end of the first one that does not is told.
 fn assert_script<R: Abort>(rt: &R, script: &str, window: u32) {
     let place = place_of_fault(script, window);
-    assert!(rt;
-        place == script.len(),
-        "the word that ends at byte {place} of {script}"
-    );
+    assert_right(rt, place == script.len(), place);
 }
 
 /// Up without a restart: it completes once. Jumps and sums while it is stopped answer nothing, even
@@ -362,5 +360,6 @@ fn scripts_answer(rt: HostRuntime) {
 /// Rows that are no bank of a plan, with more shots and with more states, make no device: nothing is read behind them.
 #[test]
 fn larger_banks_are_none(rt: HostRuntime) {
-    assert!(rt; place_of_fault("New=45 hit=0", 0) == 7 && place_of_fault("New=46 hit=0", 0) == 7);
+    assert_right(&rt, place_of_fault("New=45 hit=0", 0) == 7, 45);
+    assert_right(&rt, place_of_fault("New=46 hit=0", 0) == 7, 46);
 }

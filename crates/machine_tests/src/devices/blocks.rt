@@ -1,6 +1,6 @@
 //! What counters, accruals and sequences are to do.
 
-use crate::plain::{Slot, first_slot, has_players, is_at_end, sum};
+use crate::devices::plain::{Slot, first_slot, has_players, is_at_end, sum};
 use plan_tables::{CounterSettings, Direction, Settings};
 
 /// The value after a count, if it is not too early.

@@ -1,7 +1,7 @@
 //! A plain model of the players: a number for each variable of each player.
 
 use plan_tables::VariableAction;
-use std::alloc::{AllocError, Global};
+use std::alloc::Global;
 
 /// No value is further from 0.
 pub(crate) const GREATEST: i64 = 999_999_999_999_999;
@@ -26,14 +26,10 @@ fn place_of(player: u32, variable: u16) -> usize {
 }
 
 impl Book {
-    pub(crate) fn new(
-        alloc: Global,
-        ball: u16,
-        number: u16,
-        most: u32,
-    ) -> Result<Book, AllocError> {
-        Ok(Book {
-            values: vec![in alloc; 0; 1_280]?,
+    pub(crate) fn new(alloc: Global, ball: u16, number: u16, most: u32) -> Option<Book> {
+        let values = vec![in alloc; 0; 1_280].ok()?;
+        Some(Book {
+            values,
             ball,
             number,
             most,
