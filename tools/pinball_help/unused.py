@@ -5,7 +5,7 @@ from typing import Iterator
 
 from . import outline, profile
 from .answers import Answer
-from .graph import Graph, names_of, setting, text_of
+from .graph import Graph, names_of, says_yes, setting, text_of
 from .machine_graph import GAME, graph_of
 from .near import nearest
 from .outline import Entry
@@ -137,6 +137,7 @@ class Looker:
                 )
             elif listed and name in self.scene.texts:
                 yield from self.starts_of(item.text, name)
+                yield from self.stops_of(item.text, name)
         for name in self.scene.texts:
             if name not in self.scene.read:
                 yield Unused("text that is not read", name, name, 1, "`modes` does not list its mode")
@@ -148,6 +149,13 @@ class Looker:
         events = {event_of(it.text) for it in starts.value.texts()} if starts else set()
         if starts and not events & self.posted:
             yield self.at("mode that nothing starts", mode, text, starts, hint="nothing posts its `start_events`")
+
+    def stops_of(self, mode: str, text: str) -> Iterator[Unused]:
+        """A mode that the end of the ball waits for, and whose `stop_events` are posted by nothing."""
+        entry = next((it for it in self.scene.outlines[text].entries or [] if it.key == "mode"), None)
+        if entry and says_yes(entry, "use_wait_queue", False) and not {*names_of(entry, "stop_events")} & self.posted:
+            hint = "the end of the ball waits until the mode has stopped"
+            yield self.at("mode that nothing stops", mode, text, entry, hint=hint)
 
     def variables(self) -> Iterator[Unused]:
         changed = {it.key for _, entry in self.scene.entries_of("variable_player") for it in entry.value.entries or []}

@@ -428,5 +428,5 @@ fn rows_on_boards_that_fault(rt: HostRuntime) {
     try_rows(&mut rows, BALL_PLAYS, &mut trials);
     try_rows(&mut rows, THREE_MACHINES_PLAY, &mut trials);
     add(&mut trials.wrong, &(rows, trials.count));
-    assert_text(&rt, &trials.wrong, "(29, 2668) ");
+    assert_text(&rt, &trials.wrong, "(30, 2940) ");
 }
