@@ -23,10 +23,11 @@ SHARES: dict[float, str] = {
         | line: refused TooLate | line: off | note skipped | note unlisted | verify: fault 10 Certificate Short
         | verify: fault 10 Certificate Bound | verify: fault 10 Certificate Events | folder""",
     5: """error 1 Bundle | error 2 Version | error 7 Missing | Yaml DuplicateKey | Yaml Flow | Yaml NotUtf8
-        | line: skip enable | line: skip disable | damaged bundle: verify""",
+        | line: skip enable | line: skip disable | damaged bundle: verify | ball held by 1 | the last hold""",
     2: """error 8 Duplicate | error 9 Limit | fault 2 PulseLimit | fault 3 PowerLimit | fault 4 HoldNotAllowed
         | fault 5 TimerAtEnd | fault 6 BallRoute | fault 7 Limit | fault 8 Cycle | fault 9 Bound | Yaml Quote | Yaml Tab
-        | timer, list 1 | timer, list 2 | release | verify: fault 9 | Yaml TooDeep""",
+        | timer, list 1 | timer, list 2 | release | verify: fault 9 | Yaml TooDeep | ball held by 2 | a hold less
+        | kept stop of a holder""",
     0.5: """Yaml TooLong | limit of switches | limit of coils | limit of variables""",
     0.05: """limit of events | limit of bindings | limit of rows""",
 }
