@@ -1,11 +1,12 @@
 -- What settings have, in the order in which they are written.
-use Rattle.std.proofs.Common.{◌≡◌, ℕ, List, [], ◌∷◌, ◌++◌, map, codes, refl, ap, ◌∙◌, arith}
+use Rattle.std.proofs.Common.{◌≡◌, ◌==◌, ℕ, true, List, length, [], ◌∷◌, ◌++◌, map, codes, refl, ap, sym, ◌∙◌, arith}
 use Rattle.std.specs.List.{All, flat_map}
+use Rattle.std.proofs.lemmas.Bool.{eqb-true}
 use Rattle.section_tables.specs.Kinds.{Setting}
 use Rattle.mpf_tables.specs.SectionTables as tables
 use Rattle.mpf_sections.specs.Rows.{Written, Switch, Block, Counter, StepBlock}
 use Rattle.mpf_sections.specs.Typed.{place_of}
-use Rattle.row_faults.specs.AsWritten.{ordered_by, written_before, in_order, as_written}
+use Rattle.row_faults.specs.AsWritten.{put_by, ordered_by, written_before, in_order, as_written}
 use Rattle.row_faults.specs.Reserved.{switch_posts, block_posts, counter_posts, step_posts}
 use Rattle.row_faults.proofs.None.{flat_map-none, each-All, map-All}
 use Rattle.row_faults.proofs.ByLine.{ordered-all, ordered-seen}
@@ -66,3 +67,26 @@ module _ {A X : Type 0} (see : A → List X) (order : List ℕ) where
       let before : ℕ × List X → ℕ = λ part. written_before order part.0 in
       seen-each (ordered_by (λ part. written_before order part.0) parts)
       ∙ ap (flat_map (λ (part : ℕ × List X). part.1)) (ordered-seen seen before parts)
+
+-- where none is written, they stay as they are
+module _ {A : Type 0} where
+  abbrev first : ℕ × A → ℕ
+  first part = written_before [] part.0
+
+  put-first : (p : ℕ × A) (ps : List (ℕ × A)) → put_by first p ps ≡ p ∷ ps
+  put-first p [] = refl
+  put-first p (q ∷ qs) = refl
+
+  ordered-unwritten : (ps : List (ℕ × A)) → ordered_by first ps ≡ ps
+  ordered-unwritten [] = refl
+  ordered-unwritten (p ∷ ps) = ap (put_by first p) (ordered-unwritten ps) ∙ put-first p ps
+
+eqb-none : (order : List ℕ) → length order == 0 ≡ true → order ≡ []
+eqb-none [] e = refl
+eqb-none (x ∷ xs) e = absurd (omega (arith, eqb-true (length (x ∷ xs)) 0 e))
+
+pub seen-unwritten : {A X : Type 0} (see : A → List X) (order : List ℕ) (parts : List (ℕ × A)) → length order == 0 ≡ true → flat_map (λ part. see part.1) parts ≡ in_order order (map (λ part. (part.0, see part.1)) parts)
+seen-unwritten see order parts none =
+    ap (flat_map (λ part. see part.1)) (sym (ordered-unwritten parts))
+    ∙ seen-in_order see [] parts
+    ∙ ap (λ (places : List ℕ). in_order places (map (λ part. (part.0, see part.1)) parts)) (sym (eqb-none order none))

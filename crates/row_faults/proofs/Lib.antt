@@ -9,3 +9,4 @@ pub mod Sound
 pub mod Numbers
 pub mod Leads
 pub mod Routed
+mod Short

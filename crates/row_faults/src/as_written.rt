@@ -60,7 +60,7 @@ pub(crate) fn as_written<T: Copy>(
 }
 
 /// Adds what is wrong with the names that settings have, in the order in which the settings are
-/// written.
+/// written. Where none is written, nothing has to be put in order.
 pub(crate) fn add_as_written(
     faults: &mut Faults<'_, '_>,
     order: &[usize],
@@ -68,6 +68,10 @@ pub(crate) fn add_as_written(
 ) -> Result<(), AllocError>
     ensures { OnOk result (Gains faults.old faults.new (in_order order.now (map (λ part. (part.0, named_faults faults.old.rows faults.old.text part.1)) parts.now))) }
 {
+    if order.is_empty() {
+        add_parts(faults, parts)?;
+        return Ok(());
+    }
     let sorted = as_written(faults.alloc, order, parts)?;
     add_parts(faults, &sorted)?;
     Ok(())

@@ -2,21 +2,22 @@
 
 ghost use Rattle.std.specs.Prelude.{◌≡◌, ◌||◌, ℕ, List, [], map, not, IfOk};
 ghost use Rattle.std.specs.Str.{bytes_eq};
-ghost use Rattle.yaml_subset.specs.Keys.{is_among};
+ghost use Rattle.yaml_subset.specs.Keys.{is_among, copies_view};
 ghost use Rattle.row_faults.specs.FaultText.{row_fault_line};
 ghost use Rattle.row_faults.specs.RowFaults.{listed_once};
-ghost use Rattle.row_faults.specs.View.{keys_view, row_fault_view, row_faults_view};
+ghost use Rattle.row_faults.specs.View.{row_fault_view, row_faults_view};
 
 use crate::fault::RowFault;
 use crate::fault_text::write_row_fault;
 use std::alloc::{AllocError, Global};
-use std::collections::BTreeSet;
+use std::hash::{DefaultHasher, FoldHasher, Hasher};
+use yaml_subset::keys::{KeyHashing, KeySet, no_keys, take_key};
 
 /// The faults, without those that print the line of a fault before them.
 pub(crate) fn listed_once(alloc: Global, faults: Vec<RowFault>) -> Result<Vec<RowFault>, AllocError>
     ensures { IfOk result (λ listed. row_faults_view listed.items ≡ listed_once [] (row_faults_view faults.items)) }
 {
-    let mut lines = BTreeSet::new(alloc);
+    let mut lines = no_keys(alloc, hashing_of(&faults));
     let mut listed = Vec::new(alloc);
     for fault in faults {
         let fresh = is_new(alloc, &mut lines, &fault)?;
@@ -29,18 +30,26 @@ pub(crate) fn listed_once(alloc: Global, faults: Vec<RowFault>) -> Result<Vec<Ro
     Ok(listed)
 }
 
+/// Hashing by the names and the lines of all faults. Another name or line changes every hash.
+fn hashing_of(faults: &[RowFault]) -> KeyHashing {
+    let mut all = DefaultHasher::new();
+    for fault in faults {
+        all.write(&fault.name);
+        all.write_u32(fault.line);
+    }
+    let mut start = FoldHasher::default();
+    start.write_u64(all.finish());
+    KeyHashing { start }
+}
+
 /// Takes the line of a fault, and says whether it is new. Where memory runs out it may be taken or
 /// not.
-fn is_new(
-    alloc: Global,
-    lines: &mut BTreeSet<Vec<u8>>,
-    fault: &RowFault,
-) -> Result<bool, AllocError>
-    ensures fresh { IfOk result (λ fresh. fresh ≡ not (is_among (keys_view lines.old) (row_fault_line (row_fault_view fault.now)))) }
-    ensures known { IfOk result (λ fresh. (q : List ℕ) → is_among (keys_view lines.new) q ≡ (bytes_eq (row_fault_line (row_fault_view fault.now)) q || is_among (keys_view lines.old) q)) }
+fn is_new(alloc: Global, lines: &mut KeySet, fault: &RowFault) -> Result<bool, AllocError>
+    ensures fresh { IfOk result (λ fresh. fresh ≡ not (is_among (copies_view lines.old) (row_fault_line (row_fault_view fault.now)))) }
+    ensures known { IfOk result (λ fresh. (q : List ℕ) → is_among (copies_view lines.new) q ≡ (bytes_eq (row_fault_line (row_fault_view fault.now)) q || is_among (copies_view lines.old) q)) }
 {
     let line = line_of(alloc, fault)?;
-    let fresh = lines.insert(line)?;
+    let fresh = take_key(lines, line)?;
     Ok(fresh)
 }
 

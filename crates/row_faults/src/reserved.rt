@@ -6,6 +6,7 @@ ghost use Rattle.yaml_subset.specs.Keys.{is_among};
 ghost use Rattle.mpf_sections.specs.View.{name_view, entry_view, section_view};
 ghost use Rattle.mpf_config.specs.View.{mode_view};
 ghost use Rattle.mpf_sections.specs.Typed.{step_block_of, switches_in, event_players_in, counters_in};
+ghost use Rattle.machine_definitions.specs.GameEvents.{reserved_game_events};
 ghost use Rattle.row_faults.specs.AsWritten.{in_order};
 ghost use Rattle.row_faults.specs.Collected.{Gains, post_faults};
 ghost use Rattle.row_faults.specs.Reserved.{mode_events, events_of_modes, is_reserved_by, switch_posts, player_posts, counter_posts, step_posts, posts_in};
@@ -83,11 +84,25 @@ fn add_event(
     Ok(())
 }
 
+/// The length of the shortest name of an event of a game that no row may post.
+const SHORTEST: usize = 10;
+
+/// Whether a name is that of an event of a game that no row may post. Most names are shorter than
+/// these.
+fn is_of_game(name: &[u8]) -> bool
+    ensures { result ≡ is_among reserved_game_events name.now }
+{
+    if name.len() < SHORTEST {
+        return false;
+    }
+    is_reserved_game_event(name)
+}
+
 /// Whether a name is one of an event of a game, or one of these events of modes.
 pub(crate) fn is_reserved(modes: &ModeEvents, name: &[u8]) -> bool
     ensures { result ≡ is_reserved_by (keys_view modes.now) name.now }
 {
-    is_reserved_game_event(name) || modes.contains(name)
+    is_of_game(name) || modes.contains(name)
 }
 
 // ---- posts
@@ -165,7 +180,8 @@ fn add_step_blocks(faults: &mut Faults<'_, '_>, entries: &[Entry]) -> Result<(),
     Ok(())
 }
 
-/// Adds those of the names that settings have, in the order in which the settings are written.
+/// Adds those of the names that settings have, in the order in which the settings are written. Where
+/// none is written, nothing has to be put in order.
 fn add_in_order(
     faults: &mut Faults<'_, '_>,
     order: &[usize],
@@ -173,6 +189,10 @@ fn add_in_order(
 ) -> Result<(), AllocError>
     ensures { OnOk result (Gains faults.old faults.new (post_faults faults.old (in_order order.now (map (λ part. (part.0, map name_view part.1.now)) parts.now)))) }
 {
+    if order.is_empty() {
+        add_parts(faults, parts)?;
+        return Ok(());
+    }
     let sorted = as_written(faults.alloc, order, parts)?;
     add_parts(faults, &sorted)?;
     Ok(())
