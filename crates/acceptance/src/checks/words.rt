@@ -2,6 +2,7 @@
 
 use crate::asserts::assert_text;
 use command_line::{AskFault, command};
+use std::alloc::Global;
 use worked_rows::Pen;
 
 // Words of a command line, where `''` is an empty one, and what they ask for.
@@ -95,14 +96,11 @@ fn words_ask(rt: HostRuntime) {
     assert_text(&rt, &wrong, "");
 }
 
-/// Adds the usage that is told, if it does not name what is wrong.
-fn add_usage(pen: &mut Pen, words: Vec<String>) {
-    match command(pen.alloc, words) {
-        Err(AskFault::Usage(text))
-            if text.contains("unrecognized subcommand 'prove'")
-                && text.contains("Usage: pinball <COMMAND>") => {}
-        Err(AskFault::Usage(text)) => pen.put(&text),
-        _ => pen.put("no usage"),
+/// The usage that is told; empty where none is.
+fn usage(alloc: Global, words: Vec<String>) -> String {
+    match command(alloc, words) {
+        Err(AskFault::Usage(text)) => text,
+        _ => String::new(alloc),
     }
 }
 
@@ -110,6 +108,12 @@ fn add_usage(pen: &mut Pen, words: Vec<String>) {
 fn usage_names_what_is_wrong(rt: HostRuntime) {
     let mut pen = Pen::new(rt.alloc());
     let words = words_of(&mut pen, "prove");
-    add_usage(&mut pen, words);
+    let told = usage(pen.alloc, words);
+    let names = told.contains("unrecognized subcommand 'prove'")
+        && told.contains("Usage: pinball <COMMAND>");
+    if !names {
+        pen.put("another usage: ");
+        pen.put(&told);
+    }
     assert_text(&rt, &pen, "");
 }
