@@ -187,7 +187,7 @@ pub(crate) fn gone(settings: &BallSettings, state: &mut BallState, now: u64) -> 
     }
 }
 
-/// A trough is to eject this many more balls. A request that would make more than 255 is ignored.
+/// A trough is to eject this many more balls, as far as 255 allows.
 pub(crate) fn request(
     settings: &BallSettings,
     state: &mut BallState,
@@ -198,9 +198,9 @@ pub(crate) fn request(
     ensures state { state.new ≡ (requested settings.now balls now state.old).0 }
     ensures lists { result.items ≡ (requested settings.now balls now state.old).1 }
 {
-    if !settings.trough || balls > usize::from(255 - state.wanted) {
+    if !settings.trough {
         return Outcome::new();
     }
-    state.wanted += balls as u8;
+    state.wanted = usize::from(state.wanted).saturating_add(balls).min(255) as u8;
     begin(settings, state, now, Outcome::new())
 }

@@ -12,6 +12,7 @@ pub mod FirstEvent
 pub mod Verifying
 pub mod Mentioned
 pub mod Posted
+pub mod Passing
 pub mod Ranking
 pub mod Cycles
 pub mod Ordering

@@ -12,7 +12,7 @@ use Rattle.plan_tables.specs.Owned.{binding_numbers, bindings_of_owner}
 use Rattle.plan_tables.specs.Devices.{list_count}
 use Rattle.plan_tables.specs.Valid.{IsActionWithin, IsValid}
 use Rattle.plan_tables.specs.declared.entries.Action.{Action}
-use Rattle.plan_tables.specs.declared.entries.Action.TheVariants.{Post, Pulse, Enable, Disable, Change, Enter, Leave, Lose, Arrive}
+use Rattle.plan_tables.specs.declared.entries.Action.TheVariants.{Post, Pulse, Enable, Disable, Change, Enter, Leave, Lose, Arrive, Request, AddBalls}
 use Rattle.plan_tables.specs.declared.entries.Binding.{Binding}
 use Rattle.plan_tables.specs.declared.entries.BindingId.{BindingId}
 use Rattle.plan_tables.specs.declared.devices.RowId.{RowId}
@@ -73,6 +73,8 @@ coils-marked plan valid l within =
     there (Leave r) h = tt
     there (Lose r) h = tt
     there (Arrive r) h = tt
+    there (Request n) h = tt
+    there (AddBalls n) h = tt
 
 -- ---- the actions of an owner, by the places of its bindings and by its rows
 

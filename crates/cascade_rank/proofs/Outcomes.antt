@@ -7,6 +7,7 @@ use Rattle.plan_tables.specs.PlanView.{PlanView, row_at}
 use Rattle.plan_tables.specs.Devices.{list_count}
 use Rattle.plan_tables.specs.declared.entries.EventId.{EventId}
 use Rattle.plan_tables.specs.declared.devices.RowId.{RowId}
+use Rattle.plan_tables.specs.declared.devices.Telling.{Telling}
 use Rattle.plan_tables.specs.declared.devices.DeviceRow.{DeviceRow}
 use Rattle.device_objects.specs.declared.device.Call.{Call}
 use Rattle.device_objects.proofs.Lists.{outcomes_of_row}
@@ -29,19 +30,19 @@ module _ {X : Type 0} (items : X → List ℕ) (plan : PlanView) (r : RowId) (ca
       subst (All (λ k. k < list_count (row_at plan r).settings)) (get_or-map items answers i d (items d) l)
       (All-get_or (All (λ k. k < list_count (row_at plan r).settings)) (map items answers) i (items d) listed whole)
 
-  module _ (told : RowId → Cost) where
-    answers-price : (w : EventId → ℕ) → price w (dearest_of (λ a. cost_of_answer_by plan told r (items a)) answers) ≡ price w (cost_of_call_by plan told r call)
-    answers-price w = ap (price w) (dearest_of-map (cost_of_answer_by plan told r) items answers ∙ ap (dearest_of (cost_of_answer_by plan told r)) are)
+  module _ (tell : Telling → Cost) where
+    answers-price : (w : EventId → ℕ) → price w (dearest_of (λ a. cost_of_answer_by plan tell r (items a)) answers) ≡ price w (cost_of_call_by plan tell r call)
+    answers-price w = ap (price w) (dearest_of-map (cost_of_answer_by plan tell r) items answers ∙ ap (dearest_of (cost_of_answer_by plan tell r)) are)
 
     -- once all answers are gone through
-    pub price-answers_all : (w : EventId → ℕ) (i dearest : ℕ) → length answers ≤ i → dearest ≡ price w (dearest_of (λ a. cost_of_answer_by plan told r (items a)) (take i answers)) → dearest ≡ price w (cost_of_call_by plan told r call)
+    pub price-answers_all : (w : EventId → ℕ) (i dearest : ℕ) → length answers ≤ i → dearest ≡ price w (dearest_of (λ a. cost_of_answer_by plan tell r (items a)) (take i answers)) → dearest ≡ price w (cost_of_call_by plan tell r call)
     price-answers_all w i dearest whole so_far =
-        so_far ∙ ap (λ (all : List X). price w (dearest_of (λ a. cost_of_answer_by plan told r (items a)) all)) (take_all i answers whole) ∙ answers-price w
+        so_far ∙ ap (λ (all : List X). price w (dearest_of (λ a. cost_of_answer_by plan tell r (items a)) all)) (take_all i answers whole) ∙ answers-price w
 
-    pub answers-weights : weights_in (each_of (λ a. cost_of_answer_by plan told r (items a)) answers) ≡ weights_in (cost_of_call_by plan told r call)
+    pub answers-weights : weights_in (each_of (λ a. cost_of_answer_by plan tell r (items a)) answers) ≡ weights_in (cost_of_call_by plan tell r call)
     answers-weights =
-        ap weights_in (each_of-map (cost_of_answer_by plan told r) items answers) ∙ weights-dearest (cost_of_answer_by plan told r) (map items answers)
-        ∙ ap (λ (ls : List (List ℕ)). weights_in (dearest_of (cost_of_answer_by plan told r) ls)) are
+        ap weights_in (each_of-map (cost_of_answer_by plan tell r) items answers) ∙ weights-dearest (cost_of_answer_by plan tell r) (map items answers)
+        ∙ ap (λ (ls : List (List ℕ)). weights_in (dearest_of (cost_of_answer_by plan tell r) ls)) are
 
 -- what was read of a row
 pub outcomes-read : (plan : PlanView) (r : RowId) (call : Call) (row : DeviceRow) (all : List (List ℕ)) → row ≡ row_at plan r → all ≡ outcomes row.settings call → all ≡ outcomes (row_at plan r).settings call

@@ -5,14 +5,14 @@ use Rattle.std.specs.List.{All, AllByRecursion, find}
 use Rattle.std.proofs.lemmas.Bool.{cases_lt, or_cases, eqb-true, false≢true}
 use Rattle.std.proofs.lemmas.List.Elements.{recursion_from_All, All-get_or, All-weaker, All-nil, All-cons, All-append, All-filter}
 use Rattle.std.proofs.lemmas.List.{get_or_past}
-use Rattle.plan_tables.specs.PlanView.{PlanSwitch, PlanView, feeders_of, feeds, first_trough, may_hold_ball_end, is_trough, game_event, no_mode, mode_at, mode_event, work_of, no_switch, switch_at, act_of_listener, listeners_of, actions_at, posts_of, bound_to, is_owner, list_of_row, row_at, row_numbers, rows_of}
+use Rattle.plan_tables.specs.PlanView.{PlanSwitch, PlanView, act_told, feeders_of, feeds, first_trough, may_hold_ball_end, is_multiball, is_save, is_trough, multiball_rows, save_rows, game_event, no_mode, mode_at, mode_event, work_of, no_switch, switch_at, act_of_listener, listeners_of, actions_at, posts_of, bound_to, is_owner, list_of_row, row_at, row_numbers, rows_of}
 use Rattle.plan_tables.specs.Devices.{list_count}
 use Rattle.plan_tables.specs.declared.entries.ModeId.{ModeId}
 use Rattle.plan_tables.specs.declared.entries.ModeEvent.{ModeEvent}
 use Rattle.plan_tables.specs.declared.entries.ModeEvent.TheVariants.{WillStart, Starting, Started, Stopping, Stopped}
 use Rattle.plan_tables.specs.declared.entries.GameEvent.{GameEvent}
 use Rattle.plan_tables.specs.declared.entries.GameEvent.TheVariants.{BallDrain, BallEnded}
-use Rattle.player_game.specs.Choices.{asks_for_ball, choices}
+use Rattle.player_game.specs.Choices.{asks_for_ball, choices, is_drain}
 use Rattle.plan_tables.specs.declared.entries.Work.{Work}
 use Rattle.plan_tables.specs.declared.entries.Work.TheVariants as works
 use Rattle.plan_tables.proofs.Worked.{work_found}
@@ -22,11 +22,13 @@ use Rattle.plan_tables.specs.declared.entries.SwitchId.{SwitchId}
 use Rattle.plan_tables.specs.declared.entries.Listener.{Listener}
 use Rattle.plan_tables.specs.declared.entries.ListId.{ListId}
 use Rattle.plan_tables.specs.declared.entries.Action.{Action}
-use Rattle.plan_tables.specs.declared.entries.Action.TheVariants.{Post, Pulse, Enable, Disable, Change, Enter, Leave, Lose, Arrive}
+use Rattle.plan_tables.specs.declared.entries.Action.TheVariants.{Post, Pulse, Enable, Disable, Change, Enter, Leave, Lose, Arrive, Request, AddBalls}
 use Rattle.plan_tables.specs.declared.entries.Target.{Target}
 use Rattle.plan_tables.specs.declared.entries.Target.TheVariants.{Run, Start, Stop, Act}
 use Rattle.plan_tables.specs.declared.entries.Owner.TheVariants as owners
-use Rattle.plan_tables.specs.declared.devices.Act.TheVariants.{Confirm, Request}
+use Rattle.plan_tables.specs.declared.devices.Act.TheVariants.{Save, End}
+use Rattle.plan_tables.specs.declared.devices.Telling.{Telling}
+use Rattle.plan_tables.specs.declared.devices.Telling.TheVariants.{Arrived, Wanted}
 use Rattle.plan_tables.specs.declared.devices.BallTarget.{BallTarget}
 use Rattle.plan_tables.specs.declared.devices.BallTarget.TheVariants.{Playfield, Device}
 use Rattle.plan_tables.specs.declared.devices.RowId.{RowId}
@@ -34,9 +36,10 @@ use Rattle.device_objects.specs.declared.device.Call.{Call}
 use Rattle.device_objects.specs.declared.device.Call.TheVariants as calls
 use Rattle.device_objects.specs.Outcomes.{outcomes}
 use Rattle.plan_tables.specs.declared.entries.Binding.{Binding}
-use Rattle.cascade_rank.specs.Cost.{Cost, Lines, Weight, Both, Greater, mentions, each_of, dearest_of, cost_of_post, cost_of_drain, cost_of_action_by, cost_of_list_by, cost_of_answer_by, cost_of_call_by, no_confirm_cost, cost_of_arrival, entry_confirm_cost, cost_of_call, cost_of_target, cost_of_binding, led_by, cost_if_led, cost_of_starts, cost_of_releases, cost_of_choice, cost_of_trough, cost_of_request, cost_of_game, cost_of_work, cost_of_event, cost_of_listener, cost_of_playfield_switch, cost_of_acceptance, cost_of_switch, switches_of, cost_of_stimuli}
+use Rattle.cascade_rank.specs.Cost.{Cost, Lines, Weight, Both, Greater, mentions, each_of, dearest_of, cost_of_post, cost_of_drain, cost_of_action_by, cost_of_list_by, cost_of_answer_by, cost_of_call_by, cost_of_nobody, cost_of_told, cost_of_arrival, cost_of_trough, cost_of_telling, cost_of_call, cost_of_target, cost_of_binding, led_by, cost_if_led, cost_of_starts, cost_of_releases, cost_of_choice, cost_of_request, cost_of_drained_ball, cost_of_game, cost_of_work, cost_of_event, cost_of_listener, cost_of_playfield_switch, cost_of_acceptance, cost_of_switch, switches_of, cost_of_stimuli}
 use Rattle.cascade_rank.specs.Below.{IsBelow}
 use Rattle.cascade_rank.specs.Mentions.{weights_in}
+use Rattle.cascade_rank.specs.Tellings.{IsTellingWithin}
 use Rattle.device_objects.proofs.Lists.{outcomes_of_row}
 use Rattle.cascade_rank.proofs.Games.{game_event-below, game_has-event}
 use Rattle.cascade_rank.proofs.Rows.{rows-within}
@@ -131,45 +134,55 @@ module _ (plan : PlanView) (valid : HasEntries plan) where
   list_of_row-within r l k less = omega (arith, less, (valid.rows r l).lists)
 
   -- what a device of the plan answers to a call, where what telling costs is within
-  module _ (told : RowId → Cost) (within : (r : RowId) → r.0 < length plan.rows → IsBelow (length plan.events) (told r)) where
-    IsBelow-action : (a : Action) → IsActionWithin plan a → IsBelow (length plan.events) (cost_of_action_by plan told a)
+  module _ (tell : Telling → Cost) (within : (telling : Telling) → IsTellingWithin (length plan.rows) telling → IsBelow (length plan.events) (tell telling)) where
+    IsBelow-action : (a : Action) → IsActionWithin plan a → IsBelow (length plan.events) (cost_of_action_by plan tell a)
     IsBelow-action (Post e) h = h
     IsBelow-action (Pulse coil ms power) h = tt
     IsBelow-action (Enable coil power) h = tt
     IsBelow-action (Disable coil) h = tt
     IsBelow-action (Change v action n e) h = (tt, h.1)
-    IsBelow-action (Enter r e drain) h = let some : 0 < length plan.events = omega (arith, h.1) in (tt, (h.1, (IsBelow-drain drain some, within r h.0)))
+    IsBelow-action (Enter r e drain) h = let some : 0 < length plan.events = omega (arith, h.1) in (tt, (h.1, (IsBelow-drain drain some, within (Arrived (Device r)) h.0)))
     IsBelow-action (Leave r) h = tt
     IsBelow-action (Lose r) h = tt
     IsBelow-action (Arrive r) h = tt
+    IsBelow-action (Request n) h = within (Wanted n) tt
+    IsBelow-action (AddBalls n) h = within (Wanted n) tt
 
-    IsBelow-list : (l : ListId) → l.0 < length plan.lists → IsBelow (length plan.events) (cost_of_list_by plan told l)
+    IsBelow-list : (l : ListId) → l.0 < length plan.lists → IsBelow (length plan.events) (cost_of_list_by plan tell l)
     IsBelow-list l h =
-        each_below (length plan.events) (cost_of_action_by plan told) (IsActionWithin plan) IsBelow-action (actions_at plan l)
+        each_below (length plan.events) (cost_of_action_by plan tell) (IsActionWithin plan) IsBelow-action (actions_at plan l)
         (All-get_or (All (IsActionWithin plan)) plan.lists l.0 [] h valid.lists)
 
-    IsBelow-answer : (r : RowId) → r.0 < length plan.rows → (lists : List ℕ) → All (λ k. k < list_count (row_at plan r).settings) lists → IsBelow (length plan.events) (cost_of_answer_by plan told r lists)
+    IsBelow-answer : (r : RowId) → r.0 < length plan.rows → (lists : List ℕ) → All (λ k. k < list_count (row_at plan r).settings) lists → IsBelow (length plan.events) (cost_of_answer_by plan tell r lists)
     IsBelow-answer r l lists h =
-        each_below (length plan.events) (λ k. cost_of_list_by plan told (list_of_row plan r k)) (λ k. k < list_count (row_at plan r).settings)
+        each_below (length plan.events) (λ k. cost_of_list_by plan tell (list_of_row plan r k)) (λ k. k < list_count (row_at plan r).settings)
         (λ k less. IsBelow-list (list_of_row plan r k) (list_of_row-within r l k less)) lists h
 
-    IsBelow-call_by : (r : RowId) (call : Call) → r.0 < length plan.rows → IsBelow (length plan.events) (cost_of_call_by plan told r call)
+    IsBelow-call_by : (r : RowId) (call : Call) → r.0 < length plan.rows → IsBelow (length plan.events) (cost_of_call_by plan tell r call)
     IsBelow-call_by r call l =
-        dearest_within (length plan.events) (cost_of_answer_by plan told r) (All (λ k. k < list_count (row_at plan r).settings)) (IsBelow-answer r l)
+        dearest_within (length plan.events) (cost_of_answer_by plan tell r) (All (λ k. k < list_count (row_at plan r).settings)) (IsBelow-answer r l)
         (outcomes (row_at plan r).settings call) (outcomes_of_row (row_at plan r).settings call)
 
-  -- what the devices answer that may be told of an arrival
+  -- what a told device answers
+  IsBelow-told : (telling : Telling) (r : RowId) → r.0 < length plan.rows → IsBelow (length plan.events) (cost_of_told plan telling r)
+  IsBelow-told telling r l = IsBelow-call_by cost_of_nobody (λ t h. tt) r (calls.Act (act_told telling)) l
+
   IsBelow-arrival : (target : BallTarget) → IsBelow (length plan.events) (cost_of_arrival plan target)
   IsBelow-arrival target =
-      dearest_within (length plan.events) (λ r. cost_of_call_by plan no_confirm_cost r (calls.Act Confirm)) (λ r. r.0 < length plan.rows)
-      (λ r l. IsBelow-call_by no_confirm_cost (λ q k. tt) r (calls.Act Confirm) l) (feeders_of plan target)
+      dearest_within (length plan.events) (cost_of_told plan (Arrived target)) (λ r. r.0 < length plan.rows) (IsBelow-told (Arrived target)) (feeders_of plan target)
       (All-filter (λ r. feeds target (row_at plan r).settings) (λ r. r.0 < length plan.rows) (row_numbers plan) (rows-within plan))
 
-  IsBelow-told : (r : RowId) → r.0 < length plan.rows → IsBelow (length plan.events) (entry_confirm_cost plan r)
-  IsBelow-told r l = IsBelow-arrival (Device r)
+  IsBelow-trough : (n : ℕ) (o : Option RowId) → IfSome o (λ r. r.0 < length plan.rows) → IsBelow (length plan.events) (cost_of_trough plan n o)
+  IsBelow-trough n None h = tt
+  IsBelow-trough n (Some r) h = IsBelow-told (Wanted n) r h
+
+  IsBelow-telling : (telling : Telling) → IsBelow (length plan.events) (cost_of_telling plan telling)
+  IsBelow-telling (Arrived target) = IsBelow-arrival target
+  IsBelow-telling (Wanted n) =
+      IsBelow-trough n (first_trough plan) (IfSome-find (λ r. is_trough (row_at plan r).settings) (λ r. r.0 < length plan.rows) (row_numbers plan) (rows-within plan))
 
   pub IsBelow-call : (r : RowId) (call : Call) → r.0 < length plan.rows → IsBelow (length plan.events) (cost_of_call plan r call)
-  IsBelow-call r call l = IsBelow-call_by (entry_confirm_cost plan) IsBelow-told r call l
+  IsBelow-call r call l = IsBelow-call_by (cost_of_telling plan) (λ telling h. IsBelow-telling telling) r call l
 
   -- and what the devices of a mode answer when it starts
   IsBelow-starts : (w : Work) → IsBelow (length plan.events) (cost_of_starts plan w)
@@ -199,22 +212,35 @@ module _ (plan : PlanView) (valid : HasEntries plan) where
       dearest_below (length plan.events) (cost_of_choice plan)
       (λ posts. each_below (length plan.events) (λ which. cost_of_post (game_event plan which)) (λ which. Unit {0}) (λ which h. game_event-below plan valid some which) posts (λ i d l. tt)) ways
 
-  -- and what the first trough answers is
-  IsBelow-trough : (o : Option RowId) → IfSome o (λ r. r.0 < length plan.rows) → IsBelow (length plan.events) (cost_of_trough plan o)
-  IsBelow-trough None h = tt
-  IsBelow-trough (Some r) h = IsBelow-call r (calls.Act (Request 1)) h
-
   IsBelow-request : (which : GameEvent) → IsBelow (length plan.events) (cost_of_request plan which)
   IsBelow-request which = by (asks_for_ball which)
     where
-      by : (b : Bool) → IsBelow (length plan.events) (if b then cost_of_trough plan (first_trough plan) else Lines 0)
-      by true = IsBelow-trough (first_trough plan) (IfSome-find (λ r. is_trough (row_at plan r).settings) (λ r. r.0 < length plan.rows) (row_numbers plan) (rows-within plan))
+      by : (b : Bool) → IsBelow (length plan.events) (if b then cost_of_telling plan (Wanted 1) else Lines 0)
+      by true = IsBelow-telling (Wanted 1)
+      by false = tt
+
+  -- so it is of what ball saves answer that may save a ball, and multiballs that may end
+  IsBelow-saves : IsBelow (length plan.events) (dearest_of (λ r. cost_of_call plan r (calls.Act Save)) (save_rows plan))
+  IsBelow-saves =
+      dearest_within (length plan.events) (λ r. cost_of_call plan r (calls.Act Save)) (λ r. r.0 < length plan.rows) (λ r. IsBelow-call r (calls.Act Save)) (save_rows plan)
+      (All-filter (λ r. is_save (row_at plan r).settings) (λ r. r.0 < length plan.rows) (row_numbers plan) (rows-within plan))
+
+  IsBelow-ends : IsBelow (length plan.events) (each_of (λ r. cost_of_call plan r (calls.Act End)) (multiball_rows plan))
+  IsBelow-ends =
+      each_below (length plan.events) (λ r. cost_of_call plan r (calls.Act End)) (λ r. r.0 < length plan.rows) (λ r. IsBelow-call r (calls.Act End)) (multiball_rows plan)
+      (All-filter (λ r. is_multiball (row_at plan r).settings) (λ r. r.0 < length plan.rows) (row_numbers plan) (rows-within plan))
+
+  IsBelow-drained_ball : (which : GameEvent) → IsBelow (length plan.events) (cost_of_drained_ball plan which)
+  IsBelow-drained_ball which = by (is_drain which)
+    where
+      by : (b : Bool) → IsBelow (length plan.events) (if b then Greater (dearest_of (λ r. cost_of_call plan r (calls.Act Save)) (save_rows plan)) (each_of (λ r. cost_of_call plan r (calls.Act End)) (multiball_rows plan)) else Lines 0)
+      by true = (IsBelow-saves, IsBelow-ends)
       by false = tt
 
   IsBelow-game : (w : Work) (e : EventId) → work_of plan e ≡ w → IsBelow (length plan.events) (cost_of_game plan w)
   IsBelow-game works.Nothing e is = tt
   IsBelow-game (works.Mode m which) e is = tt
-  IsBelow-game (works.Game which) e is = (tt, (IsBelow-request which, IsBelow-choices (game_has-event plan valid e which is) (choices which)))
+  IsBelow-game (works.Game which) e is = (tt, (IsBelow-request which, (IsBelow-drained_ball which, IsBelow-choices (game_has-event plan valid e which is) (choices which))))
 
   pub IsBelow-work : (e : EventId) → IsBelow (length plan.events) (cost_of_work plan e)
   IsBelow-work e = (
@@ -223,7 +249,7 @@ module _ (plan : PlanView) (valid : HasEntries plan) where
   )
 
   pub IsBelow-target : (t : Target) → IsTargetWithin plan t → IsBelow (length plan.events) (cost_of_target plan t)
-  IsBelow-target (Run l) h = IsBelow-list (entry_confirm_cost plan) IsBelow-told l h
+  IsBelow-target (Run l) h = IsBelow-list (cost_of_telling plan) (λ telling k. IsBelow-telling telling) l h
   IsBelow-target (Start m) h = mode_event-within m WillStart h
   IsBelow-target (Stop m) h = mode_event-within m Stopping h
   IsBelow-target (Act r act) h = IsBelow-call r (calls.Act act) h
@@ -265,8 +291,8 @@ module _ (plan : PlanView) (valid : HasEntries plan) where
   IsBelow-playfield_switch : (s : SwitchId) (active : Bool) → IsBelow (length plan.events) (cost_of_playfield_switch plan s active)
   IsBelow-playfield_switch s active = by (active && (switch_at plan s).confirms_playfield)
     where
-      by : (b : Bool) → IsBelow (length plan.events) (if b then cost_of_arrival plan Playfield else Lines 0)
-      by true = IsBelow-arrival Playfield
+      by : (b : Bool) → IsBelow (length plan.events) (if b then cost_of_telling plan (Arrived Playfield) else Lines 0)
+      by true = IsBelow-telling (Arrived Playfield)
       by false = tt
 
   pub IsBelow-acceptance : (s : SwitchId) (active : Bool) → IsBelow (length plan.events) (cost_of_acceptance plan s active)

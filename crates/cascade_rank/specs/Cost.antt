@@ -1,13 +1,13 @@
 -- What a thing costs: the lines that it prints and the weights of the events that it posts, added up or compared.
 use Rattle.std.specs.Prelude.{ℕ, ◌+◌, max, Bool, true, false, ◌&&◌, ◌||◌, ◌==◌, if◌then◌else◌, Option, None, Some, List, [], ◌∷◌, length, map}
 use Rattle.std.specs.List.{range_with_len}
-use Rattle.plan_tables.specs.PlanView.{PlanView, coils_enabled, act_of_listener, feeders_of, first_trough, may_hold_ball_end, listeners_of, posts_of, actions_at, bound_to, list_of_row, game_event, mode_event, row_at, row_numbers, rows_of, switch_at, work_of}
+use Rattle.plan_tables.specs.PlanView.{PlanView, coils_enabled, act_of_listener, act_told, feeders_of, first_trough, may_hold_ball_end, listeners_of, posts_of, actions_at, bound_to, list_of_row, game_event, mode_event, multiball_rows, row_at, row_numbers, rows_of, save_rows, switch_at, work_of}
 use Rattle.plan_tables.specs.declared.entries.EventId.{EventId}
 use Rattle.plan_tables.specs.declared.entries.SwitchId.{SwitchId}
 use Rattle.plan_tables.specs.declared.entries.ListId.{ListId}
 use Rattle.plan_tables.specs.declared.entries.Listener.{Listener}
 use Rattle.plan_tables.specs.declared.entries.Action.{Action}
-use Rattle.plan_tables.specs.declared.entries.Action.TheVariants.{Post, Pulse, Enable, Disable, Change, Enter, Leave, Lose, Arrive}
+use Rattle.plan_tables.specs.declared.entries.Action.TheVariants.{Post, Pulse, Enable, Disable, Change, Enter, Leave, Lose, Arrive, Request, AddBalls}
 use Rattle.plan_tables.specs.declared.entries.Target.{Target}
 use Rattle.plan_tables.specs.declared.entries.Target.TheVariants.{Run, Start, Stop, Act}
 use Rattle.plan_tables.specs.declared.entries.ModeId.{ModeId}
@@ -16,11 +16,13 @@ use Rattle.plan_tables.specs.declared.entries.Work.{Work}
 use Rattle.plan_tables.specs.declared.entries.Work.TheVariants.{Nothing, Mode, Game}
 use Rattle.plan_tables.specs.declared.entries.GameEvent.{GameEvent}
 use Rattle.plan_tables.specs.declared.entries.GameEvent.TheVariants.{BallDrain, BallEnded}
-use Rattle.plan_tables.specs.declared.devices.Act.TheVariants.{Confirm, Request}
+use Rattle.plan_tables.specs.declared.devices.Act.TheVariants.{Save, End}
+use Rattle.plan_tables.specs.declared.devices.Telling.{Telling}
+use Rattle.plan_tables.specs.declared.devices.Telling.TheVariants.{Arrived, Wanted}
 use Rattle.plan_tables.specs.declared.devices.BallTarget.{BallTarget}
 use Rattle.plan_tables.specs.declared.devices.BallTarget.TheVariants.{Playfield, Device}
 use Rattle.player_game.specs.Players.{most_players}
-use Rattle.player_game.specs.Choices.{asks_for_ball, choices, tells_scores}
+use Rattle.player_game.specs.Choices.{asks_for_ball, choices, is_drain, tells_scores}
 use Rattle.plan_tables.specs.declared.entries.Binding.{Binding}
 use Rattle.plan_tables.specs.declared.entries.Owner.TheVariants as owners
 use Rattle.plan_tables.specs.declared.devices.RowId.{RowId}
@@ -76,53 +78,59 @@ cost_of_drain plan drain = if drain then cost_of_post (game_event plan BallDrain
 -- An action of a coil costs its line, whether its command is sent or skipped. One of a variable costs its line and the
 -- post that follows it, whether the variable changes or not. A booking costs its line. A ball that enters a device costs
 -- also the post of its event, and the dearer of the two that may follow: that it drains, or that the device that
--- ejected it is told, at the cost that `confirm_cost` gives.
-abbrev pub cost_of_action_by : PlanView → (RowId → Cost) → Action → Cost
-cost_of_action_by plan confirm_cost (Post e) = cost_of_post e
-cost_of_action_by plan confirm_cost (Pulse coil ms power) = Lines 1
-cost_of_action_by plan confirm_cost (Enable coil power) = Lines 1
-cost_of_action_by plan confirm_cost (Disable coil) = Lines 1
-cost_of_action_by plan confirm_cost (Change v action n e) = Both (Lines 1) (cost_of_post e)
-cost_of_action_by plan confirm_cost (Enter r e drain) = Both (Lines 1) (Both (cost_of_post e) (Greater (cost_of_drain plan drain) (confirm_cost r)))
-cost_of_action_by plan confirm_cost (Leave r) = Lines 1
-cost_of_action_by plan confirm_cost (Lose r) = Lines 1
-cost_of_action_by plan confirm_cost (Arrive r) = Lines 1
+-- ejected it is told. To tell a device costs what `tell_cost` gives, and so do actions that ask for more balls.
+abbrev pub cost_of_action_by : PlanView → (Telling → Cost) → Action → Cost
+cost_of_action_by plan tell_cost (Post e) = cost_of_post e
+cost_of_action_by plan tell_cost (Pulse coil ms power) = Lines 1
+cost_of_action_by plan tell_cost (Enable coil power) = Lines 1
+cost_of_action_by plan tell_cost (Disable coil) = Lines 1
+cost_of_action_by plan tell_cost (Change v action n e) = Both (Lines 1) (cost_of_post e)
+cost_of_action_by plan tell_cost (Enter r e drain) = Both (Lines 1) (Both (cost_of_post e) (Greater (cost_of_drain plan drain) (tell_cost (Arrived (Device r)))))
+cost_of_action_by plan tell_cost (Leave r) = Lines 1
+cost_of_action_by plan tell_cost (Lose r) = Lines 1
+cost_of_action_by plan tell_cost (Arrive r) = Lines 1
+cost_of_action_by plan tell_cost (Request n) = tell_cost (Wanted n)
+cost_of_action_by plan tell_cost (AddBalls n) = tell_cost (Wanted n)
 
 -- the actions of an effect list
-abbrev pub cost_of_list_by : PlanView → (RowId → Cost) → ListId → Cost
-cost_of_list_by plan confirm_cost l = each_of (cost_of_action_by plan confirm_cost) (actions_at plan l)
+abbrev pub cost_of_list_by : PlanView → (Telling → Cost) → ListId → Cost
+cost_of_list_by plan tell_cost l = each_of (cost_of_action_by plan tell_cost) (actions_at plan l)
 
 -- the effect lists of a row that a device answers, one after another
-abbrev pub cost_of_answer_by : PlanView → (RowId → Cost) → RowId → List ℕ → Cost
-cost_of_answer_by plan confirm_cost r lists = each_of (λ k. cost_of_list_by plan confirm_cost (list_of_row plan r k)) lists
+abbrev pub cost_of_answer_by : PlanView → (Telling → Cost) → RowId → List ℕ → Cost
+cost_of_answer_by plan tell_cost r lists = each_of (λ k. cost_of_list_by plan tell_cost (list_of_row plan r k)) lists
 
 -- a call of a device costs the dearest of what it can answer, whatever the device's state
-abbrev pub cost_of_call_by : PlanView → (RowId → Cost) → RowId → Call → Cost
-cost_of_call_by plan confirm_cost r call = dearest_of (cost_of_answer_by plan confirm_cost r) (outcomes (row_at plan r).settings call)
+abbrev pub cost_of_call_by : PlanView → (Telling → Cost) → RowId → Call → Cost
+cost_of_call_by plan tell_cost r call = dearest_of (cost_of_answer_by plan tell_cost r) (outcomes (row_at plan r).settings call)
 
--- the lists of a device that is told of an arrival confirm nothing
-abbrev pub no_confirm_cost : RowId → Cost
-no_confirm_cost r = Lines 0
+-- the lists of a device that is told something tell nobody
+abbrev pub cost_of_nobody : Telling → Cost
+cost_of_nobody telling = Lines 0
+
+-- a device that is told something
+abbrev pub cost_of_told : PlanView → Telling → RowId → Cost
+cost_of_told plan telling r = cost_of_call_by plan cost_of_nobody r (calls.Act (act_told telling))
 
 -- a ball has arrived at the target: the dearest of the devices that may be told
 abbrev pub cost_of_arrival : PlanView → BallTarget → Cost
-cost_of_arrival plan target = dearest_of (λ r. cost_of_call_by plan no_confirm_cost r (calls.Act Confirm)) (feeders_of plan target)
+cost_of_arrival plan target = dearest_of (cost_of_told plan (Arrived target)) (feeders_of plan target)
 
--- at a device
-abbrev pub entry_confirm_cost : PlanView → RowId → Cost
-entry_confirm_cost plan r = cost_of_arrival plan (Device r)
+-- a trough is told that so many more balls are wanted, if there is one
+abbrev pub cost_of_trough : PlanView → ℕ → Option RowId → Cost
+cost_of_trough plan n None = Lines 0
+cost_of_trough plan n (Some r) = cost_of_told plan (Wanted n) r
 
-abbrev pub cost_of_action : PlanView → Action → Cost
-cost_of_action plan a = cost_of_action_by plan (entry_confirm_cost plan) a
+-- what it costs to tell a device
+abbrev pub cost_of_telling : PlanView → Telling → Cost
+cost_of_telling plan (Arrived target) = cost_of_arrival plan target
+cost_of_telling plan (Wanted n) = cost_of_trough plan n (first_trough plan)
 
 abbrev pub cost_of_list : PlanView → ListId → Cost
-cost_of_list plan l = cost_of_list_by plan (entry_confirm_cost plan) l
-
-abbrev pub cost_of_answer : PlanView → RowId → List ℕ → Cost
-cost_of_answer plan r lists = cost_of_answer_by plan (entry_confirm_cost plan) r lists
+cost_of_list plan l = cost_of_list_by plan (cost_of_telling plan) l
 
 abbrev pub cost_of_call : PlanView → RowId → Call → Cost
-cost_of_call plan r call = cost_of_call_by plan (entry_confirm_cost plan) r call
+cost_of_call plan r call = cost_of_call_by plan (cost_of_telling plan) r call
 
 abbrev pub cost_of_target : PlanView → Target → Cost
 cost_of_target plan (Run l) = cost_of_list plan l
@@ -181,20 +189,25 @@ cost_of_choice plan posts = each_of (λ which. cost_of_post (game_event plan whi
 abbrev pub cost_of_scores : PlanView → GameEvent → Cost
 cost_of_scores plan which = Lines (if tells_scores which then most_players plan.game else 0)
 
--- the request to the first trough, if there is one, where a ball is asked for
-abbrev pub cost_of_trough : PlanView → Option RowId → Cost
-cost_of_trough plan None = Lines 0
-cost_of_trough plan (Some r) = cost_of_call plan r (calls.Act (Request 1))
-
+-- one ball more is wanted, where a ball is asked for
 abbrev pub cost_of_request : PlanView → GameEvent → Cost
-cost_of_request plan which = if asks_for_ball which then cost_of_trough plan (first_trough plan) else Lines 0
+cost_of_request plan which = if asks_for_ball which then cost_of_telling plan (Wanted 1) else Lines 0
+
+-- a ball has drained: the dearer of the dearest ball save that may save it, and all multiballs that may end
+abbrev pub cost_of_drained_ball : PlanView → GameEvent → Cost
+cost_of_drained_ball plan which =
+    if is_drain which
+    then Greater (dearest_of (λ r. cost_of_call plan r (calls.Act Save)) (save_rows plan))
+    (each_of (λ r. cost_of_call plan r (calls.Act End)) (multiball_rows plan))
+    else Lines 0
 
 -- the dearest way that an event of the game can go
 abbrev pub cost_of_game : PlanView → Work → Cost
 cost_of_game plan Nothing = Lines 0
 cost_of_game plan (Mode m which) = Lines 0
 cost_of_game plan (Game which) =
-    Both (cost_of_scores plan which) (Both (cost_of_request plan which) (dearest_of (cost_of_choice plan) (choices which)))
+    Both (cost_of_scores plan which)
+    (Both (cost_of_request plan which) (Greater (cost_of_drained_ball plan which) (dearest_of (cost_of_choice plan) (choices which))))
 
 -- what the machine itself does at an event, before and after its handlers
 abbrev pub cost_of_work : PlanView → EventId → Cost
@@ -213,7 +226,7 @@ cost_of_listener plan active l = cost_of_call plan l.row (calls.Act (act_of_list
 -- a ball that presses the switch may have arrived on the playfield
 abbrev pub cost_of_playfield_switch : PlanView → SwitchId → Bool → Cost
 cost_of_playfield_switch plan switch active =
-    if active && (switch_at plan switch).confirms_playfield then cost_of_arrival plan Playfield else Lines 0
+    if active && (switch_at plan switch).confirms_playfield then cost_of_telling plan (Arrived Playfield) else Lines 0
 
 -- To accept a switch as active or inactive costs its line, the acts of the devices that listen to it, that a ball arrives
 -- on the playfield, and its posts.

@@ -11,6 +11,7 @@ pub mod CycleOrWeights
 pub mod Verified
 -- No promise rests on these: contracts of private functions cite them, and proofs, here and in the crates above.
 pub mod Below
+pub mod Tellings
 pub mod Mentions
 pub mod Order
 pub mod Lowest

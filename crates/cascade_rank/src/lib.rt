@@ -2,7 +2,6 @@
 //! a cycle makes a cascade endless.
 #![tactic(auto)]
 
-mod confirms;
 pub mod fault;
 mod ground;
 pub mod law;
@@ -12,6 +11,7 @@ mod posts;
 mod price;
 mod releases;
 mod stimuli;
+mod tellings;
 pub mod verdict;
 mod walk;
 pub mod weights;

@@ -2,29 +2,33 @@
 //!
 //! One pass over all that an event leads to. What follows depends only on which events these are.
 //! A change of a variable leads to its post, whether the variable changes or not. A ball that enters a
-//! device leads to its event, to its drain, and to what each of the devices answers that may be told. An
-//! event of the game leads to what it posts by any of the ways that it can go. What is bound leads to
-//! its posts whether its condition is met or not.
+//! device leads to its event, to its drain, and to what each of the devices answers that may be told.
+//! Where more balls are wanted, that leads to what the first trough answers. An event of the game leads
+//! to what it posts by any of the ways that it can go, and where a ball has drained, to what each ball
+//! save answers that may save it, and each multiball that may end. What is bound leads to its posts
+//! whether its condition is met or not.
 
 ghost use Rattle.std.specs.Prelude.{◌≡◌, ◌<◌, ◌++◌, true, length, OnOk};
 ghost use Rattle.std.specs.List.{All};
 ghost use Rattle.plan_tables.specs.declared.entries.Owner.TheVariants as owners;
 ghost use Rattle.plan_tables.specs.Devices.{list_count};
 ghost use Rattle.plan_tables.specs.Valid.{HasGame, IsActionWithin, IsBindingWithin, IsTargetThere, IsTargetWithin, IsValid};
-ghost use Rattle.plan_tables.specs.PlanView.{bound_to, row_at, rows_of, work_of};
+ghost use Rattle.plan_tables.specs.PlanView.{bound_to, first_trough, multiball_rows, row_at, rows_of, save_rows, work_of};
+ghost use Rattle.plan_tables.specs.declared.devices.Act.TheVariants.{Save, End};
 ghost use Rattle.device_objects.specs.declared.device.Call.TheVariants as calls;
 ghost use Rattle.player_game.specs.Choices.{choices};
-ghost use Rattle.cascade_rank.specs.Cost.{each_of, dearest_of, cost_of_action_by, cost_of_answer_by, cost_of_arrival, cost_of_binding, cost_of_call, cost_of_call_by, cost_of_choice, cost_if_led, cost_of_drain, cost_of_event, cost_of_game, cost_of_request, cost_of_starts, cost_of_target, cost_of_work, led_by};
+ghost use Rattle.cascade_rank.specs.Cost.{each_of, dearest_of, cost_of_action_by, cost_of_answer_by, cost_of_arrival, cost_of_binding, cost_of_call, cost_of_call_by, cost_of_choice, cost_if_led, cost_of_drain, cost_of_event, cost_of_game, cost_of_request, cost_of_drained_ball, cost_of_starts, cost_of_target, cost_of_telling, cost_of_told, cost_of_trough, cost_of_work, led_by};
+ghost use Rattle.cascade_rank.specs.Tellings.{IsTellingWithin};
 ghost use Rattle.cascade_rank.specs.Mentions.{weights_in};
 
-use crate::confirms::{Confirms, Told, Untold};
+use crate::tellings::{Tells, Told, Untold};
 use crate::work::led_by;
 use device_objects::{Call, outcomes};
 use plan_tables::{
     Act, Action, BallTarget, Binding, EventId, GameEvent, ModeEvent, ModeId, Plan, RowId, Target,
-    Work,
+    Telling, Work,
 };
-use player_game::{asks_for_ball, choices};
+use player_game::{asks_for_ball, choices, is_drain};
 use std::alloc::AllocError;
 
 /// Lists the events whose weights are in what an event costs, each as often as it is there.
@@ -75,7 +79,7 @@ fn push_target(posts: &mut Vec<EventId>, plan: &Plan, target: Target) -> Result<
     Ok(())
 }
 
-fn push_actions<C: Confirms>(
+fn push_actions<C: Tells>(
     posts: &mut Vec<EventId>,
     plan: &Plan,
     actions: &[Action],
@@ -89,7 +93,7 @@ fn push_actions<C: Confirms>(
     Ok(())
 }
 
-fn push_action<C: Confirms>(
+fn push_action<C: Tells>(
     posts: &mut Vec<EventId>,
     plan: &Plan,
     action: Action,
@@ -107,7 +111,10 @@ fn push_action<C: Confirms>(
         } => {
             posts.push(event)?;
             push_drain(posts, plan, drain)?;
-            C::push(posts, plan, device)?;
+            C::push(posts, plan, Telling::Arrived(BallTarget::Device(device)))?;
+        }
+        Action::Request { balls } | Action::AddBalls { balls } => {
+            C::push(posts, plan, Telling::Wanted(usize::from(balls)))?
         }
         Action::Pulse { .. } | Action::Enable { .. } | Action::Disable { .. } => {}
         Action::Leave { .. } | Action::Lose { .. } | Action::Arrive { .. } => {}
@@ -126,23 +133,57 @@ fn push_drain(posts: &mut Vec<EventId>, plan: &Plan, drain: bool) -> Result<(), 
     Ok(())
 }
 
-/// Adds those of each device that may be told of an arrival at a target.
-pub(crate) fn push_arrival(
+/// Adds those of what it costs to tell a ball device.
+pub(crate) fn push_telling(
     posts: &mut Vec<EventId>,
     plan: &Plan,
-    target: BallTarget,
+    telling: Telling,
 ) -> Result<(), AllocError>
+    requires { IsTellingWithin (length plan.now.rows) telling }
+    ensures { OnOk result (posts.new.items ≡ posts.old.items ++ weights_in (cost_of_telling plan.now telling)) }
+{
+    match telling {
+        Telling::Arrived(target) => push_arrival(posts, plan, target),
+        Telling::Wanted(balls) => push_trough(posts, plan, balls),
+    }
+}
+
+/// Adds those of each device that may be told of an arrival at a target.
+fn push_arrival(posts: &mut Vec<EventId>, plan: &Plan, target: BallTarget) -> Result<(), AllocError>
     requires { IsTargetThere (length plan.now.rows) target }
     ensures { OnOk result (posts.new.items ≡ posts.old.items ++ weights_in (cost_of_arrival plan.now target)) }
 {
     for row in plan.feeders(target) {
-        push_call::<Untold>(posts, plan, *row, Call::Act(Act::Confirm))?;
+        push_told(posts, plan, Telling::Arrived(target), *row)?;
     }
     Ok(())
 }
 
+/// Adds those of what the first trough answers, if there is one, when so many more balls are wanted.
+fn push_trough(posts: &mut Vec<EventId>, plan: &Plan, balls: usize) -> Result<(), AllocError>
+    ensures { OnOk result (posts.new.items ≡ posts.old.items ++ weights_in (cost_of_trough plan.now balls (first_trough plan.now))) }
+{
+    match plan.first_trough() {
+        Some(row) => push_told(posts, plan, Telling::Wanted(balls), row),
+        None => Ok(()),
+    }
+}
+
+/// Adds those of all that a ball device can answer that is told this.
+fn push_told(
+    posts: &mut Vec<EventId>,
+    plan: &Plan,
+    telling: Telling,
+    row: RowId,
+) -> Result<(), AllocError>
+    requires { row.0 < length plan.now.rows }
+    ensures { OnOk result (posts.new.items ≡ posts.old.items ++ weights_in (cost_of_told plan.now telling row)) }
+{
+    push_call::<Untold>(posts, plan, row, Call::Act(telling.act()))
+}
+
 /// Adds those of all that a call of a device can answer.
-fn push_call<C: Confirms>(
+fn push_call<C: Tells>(
     posts: &mut Vec<EventId>,
     plan: &Plan,
     row: RowId,
@@ -159,7 +200,7 @@ fn push_call<C: Confirms>(
 }
 
 /// Adds those of the effect lists of a row that its device answers.
-fn push_answer<C: Confirms>(
+fn push_answer<C: Tells>(
     posts: &mut Vec<EventId>,
     plan: &Plan,
     row: RowId,
@@ -226,6 +267,7 @@ fn push_game(posts: &mut Vec<EventId>, plan: &Plan, event: EventId) -> Result<()
     match plan.work(event) {
         Work::Game(which) => {
             push_request(posts, plan, which)?;
+            push_drained_ball(posts, plan, which)?;
             push_choices(posts, plan, which)
         }
         _ => Ok(()),
@@ -236,13 +278,52 @@ fn push_game(posts: &mut Vec<EventId>, plan: &Plan, event: EventId) -> Result<()
 fn push_request(posts: &mut Vec<EventId>, plan: &Plan, which: GameEvent) -> Result<(), AllocError>
     ensures { OnOk result (posts.new.items ≡ posts.old.items ++ weights_in (cost_of_request plan.now which)) }
 {
-    if !asks_for_ball(which) {
-        return Ok(());
+    if asks_for_ball(which) {
+        push_telling(posts, plan, Telling::Wanted(1))?;
     }
-    match plan.first_trough() {
-        Some(row) => push_call::<Told>(posts, plan, row, Call::Act(Act::Request(1))),
-        None => Ok(()),
+    Ok(())
+}
+
+/// Where a ball has drained, adds those of each ball save that may save it, and of each multiball that
+/// may end.
+fn push_drained_ball(
+    posts: &mut Vec<EventId>,
+    plan: &Plan,
+    which: GameEvent,
+) -> Result<(), AllocError>
+    ensures { OnOk result (posts.new.items ≡ posts.old.items ++ weights_in (cost_of_drained_ball plan.now which)) }
+{
+    if is_drain(which) {
+        push_saves(posts, plan)?;
+        push_ends(posts, plan)?;
     }
+    Ok(())
+}
+
+/// Adds those of each ball save that may save a ball.
+fn push_saves(posts: &mut Vec<EventId>, plan: &Plan) -> Result<(), AllocError>
+    ensures { OnOk result (posts.new.items ≡ posts.old.items ++ weights_in (dearest_of (λ r. cost_of_call plan.now r (calls.Act Save)) (save_rows plan.now))) }
+{
+    for number in 0..plan.rows().len() {
+        let row = RowId(number as u16);
+        if plan.row(row).settings.is_save() {
+            push_call::<Told>(posts, plan, row, Call::Act(Act::Save))?;
+        }
+    }
+    Ok(())
+}
+
+/// Adds those of each multiball that may end.
+fn push_ends(posts: &mut Vec<EventId>, plan: &Plan) -> Result<(), AllocError>
+    ensures { OnOk result (posts.new.items ≡ posts.old.items ++ weights_in (each_of (λ r. cost_of_call plan.now r (calls.Act End)) (multiball_rows plan.now))) }
+{
+    for number in 0..plan.rows().len() {
+        let row = RowId(number as u16);
+        if plan.row(row).settings.is_multiball() {
+            push_call::<Told>(posts, plan, row, Call::Act(Act::End))?;
+        }
+    }
+    Ok(())
 }
 
 /// Adds those of each way that an event of the game can go.

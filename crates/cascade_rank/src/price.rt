@@ -2,14 +2,16 @@
 //!
 //! A change of a variable costs its line and the weight of the event that it posts. A ball that enters
 //! a device costs also the dearer of two: that it drains, and that the device that ejected it is told.
-//! An event of the game costs the weights of the dearest way that it can go; where all scores are told,
-//! it costs a line for each player there can be, and where a ball is asked for, what the first trough
-//! answers. The condition of a binding is taken as met.
+//! Where more balls are wanted, that costs what the first trough answers. An event of the game costs the
+//! weights of the dearest way that it can go; where all scores are told, it costs a line for each player
+//! there can be, and where a ball is asked for, what the first trough answers. Where a ball has drained,
+//! the dearest way may also be that a ball save saves it, or that all multiballs end. The condition of a
+//! binding is taken as met.
 //!
 //! Nothing is cut off: a weight is below 2^32, so an action that tells no device costs at most 2^33. An
-//! effect list has at most 1,024 actions, so what a device answers to an arrival costs at most 2^45, and
-//! to any other call at most 2^58. A plan has too few bindings and devices for a sum of their prices to
-//! reach 2^73.
+//! effect list has at most 1,024 actions, so what a told device answers costs at most 2^45, and what one
+//! answers to any other call at most 2^58. A plan has too few bindings and devices for a sum of their
+//! prices to reach 2^73.
 
 ghost use Rattle.plan_tables.specs.declared.entries.EventId.{EventId as EventIdValue};
 ghost use Rattle.std.specs.Prelude.{ℕ, ◌≡◌, ◌+◌, ◌*◌, ◌^◌, ◌<◌, ◌≤◌, true, length};
@@ -17,21 +19,23 @@ ghost use Rattle.std.specs.List.{All};
 ghost use Rattle.plan_tables.specs.Valid.{HasGame, IsActionWithin, IsTargetThere, IsTargetWithin, IsBindingWithin, IsEventWithin};
 ghost use Rattle.plan_tables.specs.declared.entries.Owner.TheVariants as owners;
 ghost use Rattle.plan_tables.specs.Devices.{list_count};
-ghost use Rattle.plan_tables.specs.PlanView.{bound_to, row_at, rows_of, work_of};
+ghost use Rattle.plan_tables.specs.PlanView.{bound_to, first_trough, multiball_rows, row_at, rows_of, save_rows, work_of};
+ghost use Rattle.plan_tables.specs.declared.devices.Act.TheVariants.{Save, End};
 ghost use Rattle.device_objects.specs.declared.device.Call.TheVariants as calls;
 ghost use Rattle.player_game.specs.Choices.{choices};
 ghost use Rattle.cascade_rank.specs.Events.{weight_of};
-ghost use Rattle.cascade_rank.specs.Cost.{price, each_of, dearest_of, cost_of_post, cost_of_drain, cost_of_action_by, cost_of_list_by, cost_of_answer_by, cost_of_call_by, cost_of_arrival, cost_of_call, cost_of_target, cost_of_binding, cost_of_starts, cost_of_releases, cost_if_led, led_by, cost_of_choice, cost_of_scores, cost_of_request, cost_of_game, cost_of_work, cost_of_event};
+ghost use Rattle.cascade_rank.specs.Cost.{price, each_of, dearest_of, cost_of_post, cost_of_drain, cost_of_action_by, cost_of_list_by, cost_of_answer_by, cost_of_call_by, cost_of_told, cost_of_arrival, cost_of_trough, cost_of_telling, cost_of_call, cost_of_target, cost_of_binding, cost_of_starts, cost_of_releases, cost_if_led, led_by, cost_of_choice, cost_of_scores, cost_of_request, cost_of_drained_ball, cost_of_game, cost_of_work, cost_of_event};
+ghost use Rattle.cascade_rank.specs.Tellings.{IsTellingWithin};
 
-use crate::confirms::{Confirms, Told, Untold};
 use crate::releases::count_enabled;
+use crate::tellings::{Tells, Told, Untold};
 use crate::work::led_by;
 use device_objects::{Call, outcomes};
 use plan_tables::{
     Act, Action, BallTarget, Binding, EventId, GameEvent, ListId, ModeEvent, ModeId, Plan, RowId,
-    Target, Work,
+    Target, Telling, Work,
 };
-use player_game::{asks_for_ball, choices, tells_scores};
+use player_game::{asks_for_ball, choices, is_drain, tells_scores};
 
 /// What an event costs: its line, all that is bound to it, and the machine's work.
 pub(crate) fn need(plan: &Plan, weights: &[u32], event: EventId) -> u128
@@ -50,7 +54,7 @@ fn price_of_work(plan: &Plan, weights: &[u32], event: EventId) -> u128
     requires event { event.0 < length plan.now.events }
     requires weights { length weights.now ≡ length plan.now.events }
     ensures price { result ≡ price (weight_of weights.now) (cost_of_work plan.now event) }
-    ensures small { result < 2 ^ 69 }
+    ensures small { result < 2 ^ 70 }
 {
     let starts = price_of_starts(plan, weights, event);
     let releases = price_of_releases(plan, event);
@@ -72,19 +76,20 @@ fn price_of_led(plan: &Plan, weights: &[u32], event: EventId) -> u128
     }
 }
 
-/// The scores that are told, the ball that is asked for, and the dearest way that the game can go, if
-/// the event is one of the game's.
+/// The scores that are told, the ball that is asked for, and the dearest way that it can go, if the
+/// event is one of the game's.
 fn price_of_game(plan: &Plan, weights: &[u32], event: EventId) -> u128
     requires event { event.0 < length plan.now.events }
     requires weights { length weights.now ≡ length plan.now.events }
     ensures price { result ≡ price (weight_of weights.now) (cost_of_game plan.now (work_of plan.now event)) }
-    ensures small { result < 2 ^ 59 }
+    ensures small { result < 2 ^ 69 }
 {
     match plan.work(event) {
         Work::Game(which) => {
             let scores = price_of_scores(plan, which);
             let request = price_of_request(plan, weights, which);
-            scores + (request + dearest_choice(plan, weights, which))
+            let drained = price_of_drained_ball(plan, weights, which);
+            scores + (request + drained.max(dearest_choice(plan, weights, which)))
         }
         _ => 0,
     }
@@ -107,15 +112,59 @@ fn price_of_scores(plan: &Plan, which: GameEvent) -> u128
 fn price_of_request(plan: &Plan, weights: &[u32], which: GameEvent) -> u128
     requires { length weights.now ≡ length plan.now.events }
     ensures price { result ≡ price (weight_of weights.now) (cost_of_request plan.now which) }
+    ensures small { result ≤ 2 ^ 45 }
+{
+    if asks_for_ball(which) {
+        price_of_telling(plan, weights, Telling::Wanted(1))
+    } else {
+        0
+    }
+}
+
+/// Where a ball has drained, the dearer of the dearest ball save that may save it, and all multiballs
+/// that may end.
+fn price_of_drained_ball(plan: &Plan, weights: &[u32], which: GameEvent) -> u128
+    requires { length weights.now ≡ length plan.now.events }
+    ensures price { result ≡ price (weight_of weights.now) (cost_of_drained_ball plan.now which) }
+    ensures small { result ≤ 2 ^ 68 }
+{
+    if is_drain(which) {
+        dearest_save(plan, weights).max(price_of_ends(plan, weights))
+    } else {
+        0
+    }
+}
+
+/// The dearest of what the ball saves answer that may save a ball.
+fn dearest_save(plan: &Plan, weights: &[u32]) -> u128
+    requires { length weights.now ≡ length plan.now.events }
+    ensures price { result ≡ price (weight_of weights.now) (dearest_of (λ r. cost_of_call plan.now r (calls.Act Save)) (save_rows plan.now)) }
     ensures small { result ≤ 2 ^ 58 }
 {
-    if !asks_for_ball(which) {
-        return 0;
+    let mut dearest = 0u128;
+    for number in 0..plan.rows().len() {
+        let row = RowId(number as u16);
+        if plan.row(row).settings.is_save() {
+            dearest = dearest.max(price_of_call::<Told>(plan, weights, row, Call::Act(Act::Save)));
+        }
     }
-    match plan.first_trough() {
-        Some(row) => price_of_call::<Told>(plan, weights, row, Call::Act(Act::Request(1))),
-        None => 0,
+    dearest
+}
+
+/// What all multiballs answer that may end.
+fn price_of_ends(plan: &Plan, weights: &[u32]) -> u128
+    requires { length weights.now ≡ length plan.now.events }
+    ensures price { result ≡ price (weight_of weights.now) (each_of (λ r. cost_of_call plan.now r (calls.Act End)) (multiball_rows plan.now)) }
+    ensures small { result ≤ 2 ^ 68 }
+{
+    let mut total = 0u128;
+    for number in 0..plan.rows().len() {
+        let row = RowId(number as u16);
+        if plan.row(row).settings.is_multiball() {
+            total += price_of_call::<Told>(plan, weights, row, Call::Act(Act::End));
+        }
     }
+    total
 }
 
 /// The dearest way that an event of the game can go.
@@ -225,12 +274,7 @@ fn price_of_target(plan: &Plan, weights: &[u32], target: Target) -> u128
 }
 
 /// The dearest of what a call of a device can answer.
-pub(crate) fn price_of_call<C: Confirms>(
-    plan: &Plan,
-    weights: &[u32],
-    row: RowId,
-    call: Call,
-) -> u128
+pub(crate) fn price_of_call<C: Tells>(plan: &Plan, weights: &[u32], row: RowId, call: Call) -> u128
     requires row { row.0 < length plan.now.rows }
     requires weights { length weights.now ≡ length plan.now.events }
     ensures price { result ≡ price (weight_of weights.now) (cost_of_call_by plan.now (C.cost plan.now) row call) }
@@ -245,7 +289,7 @@ pub(crate) fn price_of_call<C: Confirms>(
 }
 
 /// The effect lists of a row that its device answers.
-fn price_of_answer<C: Confirms>(plan: &Plan, weights: &[u32], row: RowId, lists: &[u16]) -> u128
+fn price_of_answer<C: Tells>(plan: &Plan, weights: &[u32], row: RowId, lists: &[u16]) -> u128
     requires row { row.0 < length plan.now.rows }
     requires lists { All (λ k. k < list_count (row_at plan.now row).settings) lists.now }
     requires few { length lists.now ≤ 4 }
@@ -260,7 +304,7 @@ fn price_of_answer<C: Confirms>(plan: &Plan, weights: &[u32], row: RowId, lists:
     total
 }
 
-fn price_of_list<C: Confirms>(plan: &Plan, weights: &[u32], list: ListId) -> u128
+fn price_of_list<C: Tells>(plan: &Plan, weights: &[u32], list: ListId) -> u128
     requires list { list.0 < length plan.now.lists }
     requires weights { length weights.now ≡ length plan.now.events }
     ensures price { result ≡ price (weight_of weights.now) (cost_of_list_by plan.now (C.cost plan.now) list) }
@@ -269,7 +313,7 @@ fn price_of_list<C: Confirms>(plan: &Plan, weights: &[u32], list: ListId) -> u12
     price_of_actions::<C>(plan, weights, plan.list(list))
 }
 
-fn price_of_actions<C: Confirms>(plan: &Plan, weights: &[u32], actions: &[Action]) -> u128
+fn price_of_actions<C: Tells>(plan: &Plan, weights: &[u32], actions: &[Action]) -> u128
     requires actions { All (IsActionWithin plan.now) actions.now }
     requires few { length actions.now ≤ 1024 }
     requires weights { length weights.now ≡ length plan.now.events }
@@ -283,7 +327,7 @@ fn price_of_actions<C: Confirms>(plan: &Plan, weights: &[u32], actions: &[Action
     total
 }
 
-fn price_of_action<C: Confirms>(plan: &Plan, weights: &[u32], action: Action) -> u128
+fn price_of_action<C: Tells>(plan: &Plan, weights: &[u32], action: Action) -> u128
     requires action { IsActionWithin plan.now action }
     requires weights { length weights.now ≡ length plan.now.events }
     ensures price { result ≡ price (weight_of weights.now) (cost_of_action_by plan.now (C.cost plan.now) action) }
@@ -298,8 +342,11 @@ fn price_of_action<C: Confirms>(plan: &Plan, weights: &[u32], action: Action) ->
             drain,
         } => {
             let drained = price_of_drain(plan, weights, drain);
-            let told = C::price(plan, weights, device);
+            let told = C::price(plan, weights, Telling::Arrived(BallTarget::Device(device)));
             1 + (price_of_post(weights, event) + drained.max(told))
+        }
+        Action::Request { balls } | Action::AddBalls { balls } => {
+            C::price(plan, weights, Telling::Wanted(usize::from(balls)))
         }
         Action::Pulse { .. } | Action::Enable { .. } | Action::Disable { .. } => 1,
         Action::Leave { .. } | Action::Lose { .. } | Action::Arrive { .. } => 1,
@@ -320,8 +367,21 @@ fn price_of_drain(plan: &Plan, weights: &[u32], drain: bool) -> u128
     }
 }
 
+/// What it costs to tell a ball device.
+pub(crate) fn price_of_telling(plan: &Plan, weights: &[u32], telling: Telling) -> u128
+    requires telling { IsTellingWithin (length plan.now.rows) telling }
+    requires weights { length weights.now ≡ length plan.now.events }
+    ensures price { result ≡ price (weight_of weights.now) (cost_of_telling plan.now telling) }
+    ensures small { result ≤ 2 ^ 45 }
+{
+    match telling {
+        Telling::Arrived(target) => price_of_arrival(plan, weights, target),
+        Telling::Wanted(balls) => price_of_trough(plan, weights, balls),
+    }
+}
+
 /// The dearest of what the devices answer that may be told of an arrival at a target.
-pub(crate) fn price_of_arrival(plan: &Plan, weights: &[u32], target: BallTarget) -> u128
+fn price_of_arrival(plan: &Plan, weights: &[u32], target: BallTarget) -> u128
     requires target { IsTargetThere (length plan.now.rows) target }
     requires weights { length weights.now ≡ length plan.now.events }
     ensures price { result ≡ price (weight_of weights.now) (cost_of_arrival plan.now target) }
@@ -329,10 +389,32 @@ pub(crate) fn price_of_arrival(plan: &Plan, weights: &[u32], target: BallTarget)
 {
     let mut dearest = 0u128;
     for row in plan.feeders(target) {
-        let told = price_of_call::<Untold>(plan, weights, *row, Call::Act(Act::Confirm));
+        let told = price_of_told(plan, weights, Telling::Arrived(target), *row);
         dearest = dearest.max(told);
     }
     dearest
+}
+
+/// What the first trough answers, if there is one, when so many more balls are wanted.
+fn price_of_trough(plan: &Plan, weights: &[u32], balls: usize) -> u128
+    requires { length weights.now ≡ length plan.now.events }
+    ensures price { result ≡ price (weight_of weights.now) (cost_of_trough plan.now balls (first_trough plan.now)) }
+    ensures small { result ≤ 2 ^ 45 }
+{
+    match plan.first_trough() {
+        Some(row) => price_of_told(plan, weights, Telling::Wanted(balls), row),
+        None => 0,
+    }
+}
+
+/// The dearest of what a ball device can answer that is told this.
+fn price_of_told(plan: &Plan, weights: &[u32], telling: Telling, row: RowId) -> u128
+    requires row { row.0 < length plan.now.rows }
+    requires weights { length weights.now ≡ length plan.now.events }
+    ensures price { result ≡ price (weight_of weights.now) (cost_of_told plan.now telling row) }
+    ensures small { result ≤ 2 ^ 45 }
+{
+    price_of_call::<Untold>(plan, weights, row, Call::Act(telling.act()))
 }
 
 pub(crate) fn price_of_post(weights: &[u32], event: EventId) -> u128

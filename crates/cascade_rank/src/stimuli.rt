@@ -11,10 +11,10 @@ ghost use Rattle.device_objects.specs.declared.device.Call.TheVariants as calls;
 ghost use Rattle.cascade_rank.specs.Events.{weight_of};
 ghost use Rattle.cascade_rank.specs.Cost.{price, each_of, dearest_of, cost_of_post, cost_of_call, cost_of_listener, cost_of_playfield_switch, cost_of_acceptance, cost_of_switch, switches_of, cost_of_stimuli};
 
-use crate::confirms::Told;
-use crate::price::{price_of_arrival, price_of_call, price_of_post};
+use crate::price::{price_of_call, price_of_post, price_of_telling};
+use crate::tellings::Told;
 use device_objects::Call;
-use plan_tables::{BallTarget, EventId, Listener, Plan, RowId, SwitchId};
+use plan_tables::{BallTarget, EventId, Listener, Plan, RowId, SwitchId, Telling};
 
 /// The greatest cost of any stimulus.
 pub(crate) fn bound_of(plan: &Plan, weights: &[u32]) -> u128
@@ -81,7 +81,7 @@ fn price_of_playfield_switch(plan: &Plan, weights: &[u32], switch: SwitchId, act
     ensures small { result ≤ 2 ^ 45 }
 {
     if active && plan.confirms_playfield(switch) {
-        price_of_arrival(plan, weights, BallTarget::Playfield)
+        price_of_telling(plan, weights, Telling::Arrived(BallTarget::Playfield))
     } else {
         0
     }

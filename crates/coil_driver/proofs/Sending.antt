@@ -26,7 +26,7 @@ use Rattle.written_machine.specs.declared.line.Happening.TheVariants as lines
 use Rattle.written_machine.specs.Machine.{Machine, write, set_ledger, told, ask_coil, book, counts_of}
 use Rattle.written_machine.specs.EventStep.{taken, EventStep, EventSteps}
 use Rattle.written_machine.specs.Run.{Stimulus, begin}
-use Rattle.written_machine.specs.Moves.{Move, Wrote, Sent, Switched, Began, Ended, Marked, Released, Turned, Asked, Booked, Varied, Stepped, do_move, Licence, MayDo, Does, IsNoCommand, TakesPart, Begins, ordinary, working}
+use Rattle.written_machine.specs.Moves.{Move, Wrote, Sent, Switched, Began, Ended, Marked, Released, Turned, Asked, Booked, Varied, Stepped, AddedBalls, do_move, Licence, MayDo, Does, IsNoCommand, TakesPart, Begins, ordinary, working}
 use Rattle.written_machine.proofs.Does.{start-by, stop-by, does-keeps}
 use Rattle.written_machine.proofs.Parts.{does-before, does-after, does-begin}
 use Rattle.written_machine.proofs.Held.{asked-count}
@@ -191,6 +191,7 @@ module _ (plan : PlanView) (start : List CoilState) where
   agrees-move licence (Released m) s may h = record { coils = h.coils; sent = h.sent }
   agrees-move licence (Varied v value) s may h = record { coils = h.coils; sent = h.sent }
   agrees-move licence (Stepped which) s may h = record { coils = h.coils; sent = h.sent }
+  agrees-move licence (AddedBalls n) s may h = record { coils = h.coils; sent = h.sent }
 
   agrees-does : (licence : Licence) {c : Cost} {s t : Machine} → Does plan (MayDo plan licence) c s t → Agrees start s → Agrees start t
   agrees-does licence d h = does-keeps plan (MayDo plan licence) (Agrees start) (agrees-move licence) d h

@@ -16,6 +16,7 @@ use Rattle.machine_definitions.specs.Players.{player_event}
 use Rattle.plan_contributions.specs.Contributions.{event_ending, mode_event_name}
 use Rattle.plan_contributions.specs.DeviceEntries.{block_event, block_endings, timer_event, timer_endings}
 use Rattle.plan_contributions.specs.BallEntries.{ball_event, ball_endings}
+use Rattle.plan_contributions.specs.SaveEntries.{save_event, save_endings, multiball_event, multiball_endings}
 use Rattle.plan_contributions.specs.ShotEntries.{shot_events, group_events}
 use Rattle.mpf_plan.specs.PlanOf.{plan_of}
 use Rattle.mpf_plan.proofs.EventNames.{event_names}
@@ -130,6 +131,29 @@ ball-words name h =
     of_ball : (ending : List ℕ) → length ending ≤ 19 → AllInWord ending → IsEventWord (ball_event name ending)
     of_ball ending few letters = own-word (codes "balldevice_") ending name (omega arith) (omega (arith, few)) (AllPass-from_list_all is_in_word (codes "balldevice_") refl) letters h
 
+save-words : (name : List ℕ) → IsName name → All (λ ending. IsEventWord (save_event name ending)) save_endings
+save-words name h =
+    All-from_recursion (λ ending. IsEventWord (save_event name ending)) save_endings (
+      of_save (codes "_enabled") (omega arith) (AllPass-from_list_all is_in_word (codes "_enabled") refl),
+      (
+        of_save (codes "_disabled") (omega arith) (AllPass-from_list_all is_in_word (codes "_disabled") refl),
+        (of_save (codes "_saving_ball") (omega arith) (AllPass-from_list_all is_in_word (codes "_saving_ball") refl), tt),
+      ),
+    )
+  where
+    of_save : (ending : List ℕ) → length ending ≤ 12 → AllInWord ending → IsEventWord (save_event name ending)
+    of_save ending few letters = own-word (codes "ball_save_") ending name (omega arith) (omega (arith, few)) (AllPass-from_list_all is_in_word (codes "ball_save_") refl) letters h
+
+multiball-words : (name : List ℕ) → IsName name → All (λ ending. IsEventWord (multiball_event name ending)) multiball_endings
+multiball-words name h =
+    All-from_recursion (λ ending. IsEventWord (multiball_event name ending)) multiball_endings (
+      of_multiball (codes "_started") (omega arith) (AllPass-from_list_all is_in_word (codes "_started") refl),
+      (of_multiball (codes "_ended") (omega arith) (AllPass-from_list_all is_in_word (codes "_ended") refl), tt),
+    )
+  where
+    of_multiball : (ending : List ℕ) → length ending ≤ 8 → AllInWord ending → IsEventWord (multiball_event name ending)
+    of_multiball ending few letters = own-word (codes "multiball_") ending name (omega arith) (omega (arith, few)) (AllPass-from_list_all is_in_word (codes "multiball_") refl) letters h
+
 player-word : (name : List ℕ) → IsName name → IsEventWord (player_event name)
 player-word name h =
     let few = h.few in
@@ -218,6 +242,8 @@ module _ (rows : Rows) (machine : All IsNamed rows.machine) (modes : All IsNamed
     block = block-words;
     timer = timer-words;
     ball_device = ball-words;
+    save = save-words;
+    multiball = multiball-words;
     shot = shot-words;
     group = λ name state n s. (group-words 4 (codes "_hit") name state (omega arith) hit n s, group-words 9 (codes "_complete") name state (omega arith) complete n s);
   }) rows machine modes

@@ -1,5 +1,5 @@
--- The events that switches, blocks, timers, ball devices, shots and groups of shots post by their own names are not
--- reserved.
+-- The events that switches, blocks, timers, ball devices, ball saves, multiballs, shots and groups of shots post by their
+-- own names are not reserved.
 use Rattle.std.proofs.Common.{◌≡◌, ℕ, ◌+◌, ◌*◌, ◌==◌, Bool, true, false, ◌||◌, List, [], ◌∷◌, ◌++◌, slice_index, codes, refl, sym, ap, ◌∙◌, true≢false}
 use Rattle.std.specs.List.{All, list_any}
 use Rattle.std.specs.Str.{bytes_eq}
@@ -10,6 +10,7 @@ use Rattle.yaml_subset.specs.Keys.{is_among}
 use Rattle.mpf_config.specs.Rows.{Rows}
 use Rattle.plan_contributions.specs.DeviceEntries.{block_event, timer_event}
 use Rattle.plan_contributions.specs.BallEntries.{ball_event}
+use Rattle.plan_contributions.specs.SaveEntries.{save_event, multiball_event}
 use Rattle.plan_contributions.specs.ShotEntries.{shot_events, group_events}
 use Rattle.machine_definitions.specs.GameEvents.{reserved_game_events}
 use Rattle.row_faults.specs.Reserved.{events_of_modes, mode_names, is_reserved}
@@ -83,6 +84,35 @@ ball-free name ending rows =
     let event = ball_event name ending in
     let game : is_among reserved_game_events event ≡ false = not_among fifth_of event reserved_game_events refl in
     let mode : is_among (events_of_modes (mode_names rows)) event ≡ false = not_among fifth_of event (events_of_modes (mode_names rows)) (fifth-other (mode_names rows)) in
+    λ i. game i || mode i
+
+-- ---- names with a seventh or a second byte of their own
+
+abbrev seventh_of : List ℕ → ℕ
+seventh_of name = slice_index name 6
+
+abbrev second_of : List ℕ → ℕ
+second_of name = slice_index name 1
+
+-- `o` is the second byte of the events of modes
+second-other : (ws : List (List ℕ)) → list_any (λ e. second_of e == 117) (events_of_modes ws) ≡ false
+second-other [] = refl
+second-other (w ∷ ws) = second-other ws
+
+-- the events of ball saves
+pub save-free : (name ending : List ℕ) (rows : Rows) → is_reserved rows (save_event name ending) ≡ false
+save-free name ending rows =
+    let event = save_event name ending in
+    let game : is_among reserved_game_events event ≡ false = not_among seventh_of event reserved_game_events refl in
+    let mode : is_among (events_of_modes (mode_names rows)) event ≡ false = not_among first_of event (events_of_modes (mode_names rows)) (first-other 98 refl (mode_names rows)) in
+    λ i. game i || mode i
+
+-- the events of multiballs
+pub multiball-free : (name ending : List ℕ) (rows : Rows) → is_reserved rows (multiball_event name ending) ≡ false
+multiball-free name ending rows =
+    let event = multiball_event name ending in
+    let game : is_among reserved_game_events event ≡ false = not_among second_of event reserved_game_events refl in
+    let mode : is_among (events_of_modes (mode_names rows)) event ≡ false = not_among second_of event (events_of_modes (mode_names rows)) (second-other (mode_names rows)) in
     λ i. game i || mode i
 
 -- ---- names with last bytes of their own

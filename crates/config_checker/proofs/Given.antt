@@ -15,7 +15,7 @@ use Rattle.plan_tables.specs.declared.table.Table.{Table}
 use Rattle.plan_tables.specs.declared.table.Table.TheVariants.{Events, Switches, Coils, Variables}
 use Rattle.plan_tables.specs.Limits.{order_of}
 use Rattle.machine_definitions.specs.Definitions.{latest_coil, coil_called}
-use Rattle.plan_contributions.specs.DeviceEntries.{Effect, posts, works, changes, enters, leaves, loses, arrives}
+use Rattle.plan_contributions.specs.DeviceEntries.{Effect, posts, works, changes, enters, leaves, loses, arrives, requests, adds_balls}
 use Rattle.plan_contributions.specs.CoilEntries.{limits_of_coil}
 use Rattle.plan_contributions.specs.Contributions.{Contribution, gives, reads, active, inactive, mode, mode_event, mode_event_name, binds, does, device, does_in, listens, mentions, unknown, coil, under, plays, contributions_of}
 use Rattle.plan_contributions.specs.Doing.{IsMention, Does}
@@ -130,6 +130,8 @@ module _ (rows : Rows) (sound : IsSound rows) where
   effect-given leaves h = tt
   effect-given loses h = tt
   effect-given arrives h = tt
+  effect-given (requests n) h = tt
+  effect-given (adds_balls n) h = tt
 
   -- what a setting names
   mention-given : (t : Table) (n : List ℕ) → IsMention (IsFine rows) (IsUnreserved rows) (IsThere rows) t n → IsGiven cs (Some (t, n))

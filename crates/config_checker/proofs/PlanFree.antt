@@ -20,7 +20,7 @@ use Rattle.plan_tables.specs.declared.entries.EventId.{EventId}
 use Rattle.plan_tables.specs.declared.entries.ModeEvent.{ModeEvent}
 use Rattle.plan_tables.specs.declared.entries.ModeEvent.TheVariants.{WillStart, Starting, Started, Stopping, Stopped}
 use Rattle.plan_tables.specs.declared.entries.Action.{Action}
-use Rattle.plan_tables.specs.declared.entries.Action.TheVariants.{Post, Pulse, Enable, Disable, Change as ChangeVariable, Enter, Leave, Lose, Arrive}
+use Rattle.plan_tables.specs.declared.entries.Action.TheVariants.{Post, Pulse, Enable, Disable, Change as ChangeVariable, Enter, Leave, Lose, Arrive, Request, AddBalls}
 use Rattle.plan_tables.specs.declared.entries.CoilId.{CoilId}
 use Rattle.plan_tables.specs.declared.entries.CoilLimits.{CoilLimits}
 use Rattle.plan_tables.specs.declared.entries.Owner.{Owner}
@@ -160,6 +160,8 @@ module _ (rows : Rows) (none : faults_of_rows rows ≡ []) (plan : PlanView) (is
   action-free (Leave r) by h = tt
   action-free (Lose r) by h = tt
   action-free (Arrive r) by h = tt
+  action-free (Request n) by h = tt
+  action-free (AddBalls n) by h = tt
 
   abbrev IsNamedFree : EventId → Type 0
   IsNamedFree e = IsUnreserved rows (name_of_event plan e)
@@ -213,6 +215,8 @@ module _ (rows : Rows) (none : faults_of_rows rows ≡ []) (plan : PlanView) (is
   action-keeps_limits (Leave r) within h = tt
   action-keeps_limits (Lose r) within h = tt
   action-keeps_limits (Arrive r) within h = tt
+  action-keeps_limits (Request n) within h = tt
+  action-keeps_limits (AddBalls n) within h = tt
 
   plan_keeps_limits : ActionsKeepLimits plan
   plan_keeps_limits =

@@ -16,25 +16,28 @@ use Rattle.mpf_sections.specs.Typed.{counters_name, accruals_name, sequences_nam
 use Rattle.mpf_sections.specs.TypedCoils.{coil_players_in, flippers_in, autofires_in}
 use Rattle.mpf_sections.specs.TypedShots.{shots_in, shot_groups_in}
 use Rattle.mpf_sections.specs.TypedBalls.{playfield, ball_devices_in}
+use Rattle.mpf_sections.specs.TypedSaves.{ball_saves_name, multiballs_name, ball_save_of, multiball_of}
 use Rattle.plan_tables.specs.declared.devices.StepSettings.{StepSettings}
 use Rattle.plan_tables.specs.declared.devices.Settings.{Settings}
 use Rattle.plan_tables.specs.declared.devices.Settings.TheVariants as kinds
 use Rattle.machine_definitions.specs.Definitions.{has_switch, ball_devices_of, latest_ball_device}
 use Rattle.machine_definitions.specs.Shots.{Profile, profile_of_name}
-use Rattle.plan_contributions.specs.DeviceEntries.{Effect, posts, works, changes, enters, leaves, loses, arrives, Device, counter_device, step_device, step_settings, timer_device, device_of, block_event, or_own, block_lists, timer_event, timer_endings, timer_lists}
+use Rattle.plan_contributions.specs.DeviceEntries.{Effect, posts, works, changes, enters, leaves, loses, arrives, requests, adds_balls, Device, counter_device, step_device, step_settings, timer_device, device_of, block_event, or_own, block_lists, timer_event, timer_endings, timer_lists}
 use Rattle.plan_contributions.specs.CoilEntries.{defaults_called, own_pulse, item_effect, flipper_device, autofire_device}
 use Rattle.plan_contributions.specs.BallEntries.{drains, ball_event, eject_pulse, ball_lists}
+use Rattle.plan_contributions.specs.SaveEntries.{save_event, save_device, multiball_event, multiball_device, save_device_of}
 use Rattle.plan_contributions.specs.ShotEntries.{shot_events, group_events, shot_lists, state_lists, group_lists}
 use Rattle.plan_rows.specs.Members.{members_of}
 use Rattle.plan_contributions.specs.Contributions.{texts, tag_event}
 use Rattle.plan_contributions.specs.Doing.{IsSwitchDoing, IsPlayerDoing, IsDeviceDoing, IsEntryDoing, IsCoilPlayerDoing, IsVariablePlayerDoing, IsShotDoing, IsShotGroupDoing, has_target, IsBallDeviceDoing, IsDoing, IsMachineDoing, AreDoing}
 use Rattle.plan_contributions.proofs.Before.{All-flat_map}
+use Rattle.plan_contributions.proofs.SaveFacts.{all_save, all_multiball}
 use Rattle.row_faults.specs.Reserved.{is_reserved, switch_posts, player_posts, counter_posts, step_posts, posts_in, posts_of}
 use Rattle.row_faults.specs.Sound.{ChangesNothingBarred, IsChangeFree, IsItemSound, IsCoilSound, IsCoilSuch, IsCoilPlayerSound, IsFlipperSound, IsAutofireSound, IsShotSound, IsShotGroupSound, IsBallDeviceSound, IsSectionSound, IsSound}
 use Rattle.row_faults.specs.Routes.{switch_names}
 use Rattle.row_faults.proofs.AsWritten.{switch-posts, counter-posts, step-posts}
 use Rattle.row_faults.specs.BallFaults.{is_place}
-use Rattle.config_checker.proofs.FreeNames.{active-free, inactive-free, tag-free, block-free, timer-free, ball-free, shot-free, group_hit-free, group_complete-free}
+use Rattle.config_checker.proofs.FreeNames.{active-free, inactive-free, tag-free, block-free, timer-free, ball-free, save-free, multiball-free, shot-free, group_hit-free, group_complete-free}
 use Rattle.config_checker.proofs.CoilDeeds.{IsDeedSound, item_deed, pulse_deed, flipper_doing, autofire_doing}
 
 -- ---- parts of lists
@@ -84,6 +87,8 @@ module _ (rows : Rows) where
   IsFine leaves = Unit {0}
   IsFine loses = Unit {0}
   IsFine arrives = Unit {0}
+  IsFine (requests n) = Unit {0}
+  IsFine (adds_balls n) = Unit {0}
 
   -- a switch to which a device listens is defined
   abbrev pub IsThere : List ℕ → Type 0
@@ -156,6 +161,20 @@ module _ (rows : Rows) where
   abbrev IsEntry : Option Device → Type 0
   IsEntry o = IsEntryDoing IsFine IsUnreserved IsThere o
 
+  -- ball saves and multiballs post just events of their own
+  saves-doing : (section : List ℕ) (e : Entry) → IsEntry (save_device_of section e)
+  unfolding save_device_of
+  saves-doing section e = by (bytes_eq section ball_saves_name) (bytes_eq section multiballs_name)
+    where
+      by : (b m : Bool) → IsEntry (if b then Some (save_device (ball_save_of e)) else (if m then Some (multiball_device (multiball_of e)) else None))
+      by true m =
+          let name = (ball_save_of e).name.text in
+          record { lists = all_save IsFine name (λ ending. save-free name ending rows) tt; listens = All-nil IsThere }
+      by false true =
+          let balls = multiball_of e in
+          record { lists = all_multiball IsFine balls.name.text balls.balls (λ ending. multiball-free balls.name.text ending rows) tt; listens = All-nil IsThere }
+      by false false = tt
+
   -- the devices of a section that stand in any text
   entries-doing : (s : SectionRows) → All IsFreePost (flat_map counter_posts (counters_in s)) → All IsFreePost (flat_map step_posts (accruals_in s)) → All IsFreePost (flat_map step_posts (sequences_in s))
       → All (λ e. IsEntry (device_of s.name e)) (entries_in s.content)
@@ -178,13 +197,13 @@ module _ (rows : Rows) where
           → All (λ e. IsEntry (if c then Some (counter_device (counter_of e))
           else (if a then Some (step_device (kinds.Accrual (step_settings (step_block_of e))) (step_block_of e))
           else (if q then Some (step_device (kinds.Sequence (step_settings (step_block_of e))) (step_block_of e))
-          else (if t then Some (timer_device (timer_of e)) else None))))) es
+          else (if t then Some (timer_device (timer_of e)) else save_device_of s.name e))))) es
       by true a q t hc ha hq =
           All-weaker (λ e. All IsFreePost (counter_posts (counter_of e))) _ counter es (hc refl)
       by false true q t hc ha hq = All-weaker (λ e. All IsFreePost (step_posts (step_block_of e))) _ (steps kinds.Accrual) es (ha refl)
       by false false true t hc ha hq = All-weaker (λ e. All IsFreePost (step_posts (step_block_of e))) _ (steps kinds.Sequence) es (hq refl)
       by false false false true hc ha hq = λ i d within. record { lists = timer-all (timer_of (get_or es i d)).name.text; listens = All-nil IsThere }
-      by false false false false hc ha hq = λ i d within. tt
+      by false false false false hc ha hq = λ i d within. saves-doing s.name (get_or es i d)
 
   flipper-doing : (f : Flipper) → IsFlipperSound rows.machine f → IsDeviceDoing IsFine IsUnreserved IsThere (flipper_device rows.machine f)
   flipper-doing f h = record {

@@ -39,6 +39,8 @@ use Rattle.device_objects.specs.Outcomes.{silent, only_if, completing, going_on,
 use Rattle.device_objects.proofs.Slots.{in_use-answers}
 use Rattle.device_objects.proofs.Among.{In, here, there, contains, at_last, in_range, in_flat_map, if_holds, by, either}
 use Rattle.device_objects.proofs.BallAnswers.{ball-in}
+use Rattle.device_objects.proofs.Saves.{save-in}
+use Rattle.device_objects.proofs.Multiballs.{multiball-in}
 
 -- ---- values
 
@@ -339,4 +341,8 @@ answers_are_outcomes kinds.Flipper call now world (states.Flipper s) shape may =
 answers_are_outcomes kinds.Autofire call now world (states.Autofire s) shape may = contains (autofire-in call s may)
 answers_are_outcomes (kinds.BallDevice d) call now world (states.BallDevice s) shape may =
     contains (ball-in d call now s shape may)
+answers_are_outcomes (kinds.BallSave b) call now world (states.BallSave s) shape may =
+    contains (save-in b call now s shape may)
+answers_are_outcomes (kinds.Multiball m) call now world (states.Multiball s) shape may =
+    contains (multiball-in m call world s may)
 answers_are_outcomes _ call now world _ shape may = elim shape [ ]

@@ -43,6 +43,8 @@ use Rattle.device_objects.specs.DeviceStep.{first_state, device_step}
 use Rattle.device_objects.proofs.Flat.{All-flat_map_range}
 use Rattle.device_objects.proofs.Among.{none, one, all_if, by_test, if_true, if_false}
 use Rattle.device_objects.proofs.BallAttained.{ball-comes}
+use Rattle.device_objects.proofs.Saves.{save-comes}
+use Rattle.device_objects.proofs.Multiballs.{multiball-comes}
 use Rattle.device_objects.proofs.Shapes.{first-shape, next-within}
 use Rattle.device_objects.proofs.Answered.{completed-is}
 use Rattle.device_objects.specs.Laws.{HasBankShape, IsAnswer, MayCome, OutcomesComeAbout}
@@ -84,10 +86,10 @@ goes_on_at Down (Some end) by within =
 
 -- player 1 in no game, and nobody
 abbrev alone : World
-alone = record { games = 0; player = 1 }
+alone = record { games = 0; player = 1; in_play = 0 }
 
 abbrev nobody : World
-nobody = record { games = 0; player = 0 }
+nobody = record { games = 0; player = 0; in_play = 0 }
 
 in_use : {S : Type 0} (step : S → S × List ℕ) (slot : S) (persist : Bool) → (step_in_use step (replicate 4 slot) (slot_in_use persist alone)).1 ≡ (step slot).1
 in_use step slot true = refl
@@ -622,3 +624,5 @@ outcomes_come_about kinds.Autofire calls.ModeStart limits = one (IsAnswer kinds.
 outcomes_come_about kinds.Autofire calls.ModeStop limits = one (IsAnswer kinds.Autofire calls.ModeStop) [] (first_answer kinds.Autofire calls.ModeStop [] tt refl)
 outcomes_come_about kinds.Autofire calls.Fire limits = none (IsAnswer kinds.Autofire calls.Fire)
 outcomes_come_about (kinds.BallDevice d) call limits = ball-comes d limits call
+outcomes_come_about (kinds.BallSave b) call limits = save-comes b call
+outcomes_come_about (kinds.Multiball m) call limits = multiball-comes m call

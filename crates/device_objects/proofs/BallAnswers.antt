@@ -1,7 +1,7 @@
 -- What ball devices answer is among their outcomes.
-use Rattle.std.proofs.Common.{◌≡◌, ℕ, zero, suc, ◌+◌, ◌<◌, ◌≤◌, min, Bool, true, false, Option, None, Some, is_some, List, [], ◌∷◌, ◌++◌, ◌&&◌, drop, option_map, nat_lt, nat_le, if◌then◌else◌, refl, sym, ap, ◌∙◌, arith}
+use Rattle.std.proofs.Common.{◌≡◌, ℕ, zero, suc, ◌+◌, ◌<◌, ◌≤◌, min, Bool, true, false, Option, None, Some, is_some, List, [], ◌∷◌, ◌++◌, ◌&&◌, drop, option_map, nat_lt, if◌then◌else◌, refl, sym, ap, ◌∙◌, arith}
 use Rattle.std.specs.List.{All, list_any}
-use Rattle.std.proofs.lemmas.Bool.{and_from, and_parts, leb-true, le-leb, lt-ltb, ltb-true, or_left, or_right, false≢true, true≢false}
+use Rattle.std.proofs.lemmas.Bool.{and_from, lt-ltb, ltb-true, or_left, or_right, false≢true, true≢false}
 use Rattle.std.proofs.lemmas.List.{append-nil}
 use Rattle.std.proofs.lemmas.List.Elements.{All-weaker}
 use Rattle.std.proofs.lemmas.List.Folds.{list_any_none}
@@ -154,27 +154,22 @@ module _ (d : BallSettings) where
       (ending-in (confirmed d.target) now (ended s) (may_begin-from (ended s) shape)))
 
   either_request : (n : ℕ) (asked can : Bool) (x y z : BallState)
-      → (asked ≡ true → can ≡ true → (d.trough && (may_begin d && nat_le n 255)) ≡ true)
+      → (asked ≡ true → can ≡ true → (d.trough && may_begin d) ≡ true)
       → In (if◌then◌else◌ {A = BallState × List ℕ} asked (if can then (x, attempted ∷ []) else (y, [])) (z, [])).1
       (of_ball_act d (acts.Request n))
-  either_request n true true x y z may =
-      there (if_holds (d.trough && (may_begin d && nat_le n 255)) (may refl refl) here)
+  either_request n true true x y z may = there (if_holds (d.trough && may_begin d) (may refl refl) here)
   either_request n true false x y z may = here
   either_request n false can x y z may = here
 
   requested-in : (n now : ℕ) (s : BallState) → HasBallShape d s
       → In (requested d n now s).1 (of_ball_act d (acts.Request n))
   requested-in n now s shape =
-      let t : BallState = record s { wanted = s.wanted + n } in
-      either_request n (d.trough && nat_le (s.wanted + n) 255) (can_begin d t) (attempt d 1 now t).0 t s
+      let t : BallState = record s { wanted = min (s.wanted + n) 255 } in
+      either_request n d.trough (can_begin d t) (attempt d 1 now t).0 t s
       (λ asked can.
-      let parts = and_parts d.trough (nat_le (s.wanted + n) 255) asked in
-      let few : s.wanted + n ≤ 255 = leb-true (s.wanted + n) 255 parts.1 in
       let begins = can_begin-parts d t can in
-      and_from d.trough (may_begin d && nat_le n 255) parts.0
-      (and_from (may_begin d) (nat_le n 255)
-      (and_from d.has_coil (nat_lt 0 d.switches) begins.1 (some_switch d.switches s.switches shape.unused begins.0))
-      (le-leb n 255 (omega (arith, few)))))
+      and_from d.trough (may_begin d) asked
+      (and_from d.has_coil (nat_lt 0 d.switches) begins.1 (some_switch d.switches s.switches shape.unused begins.0)))
 
   act-in : (act : Act) (now : ℕ) (s : BallState) → HasBallShape d s → In (act_step d act now s).1 (of_ball_act d act)
   act-in (acts.SwitchOn i) now s shape = here

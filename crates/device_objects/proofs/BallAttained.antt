@@ -1,8 +1,8 @@
 -- Each outcome of a ball device is the answer of some state.
-use Rattle.std.proofs.Common.{◌≡◌, ℕ, zero, suc, ◌+◌, ◌<◌, ◌≤◌, min, max, inl, inr, Bool, true, false, Option, None, Some, is_some, List, [], ◌∷◌, ◌++◌, ◌&&◌, ◌||◌, not, drop, replicate, nat_lt, nat_le, refl, ap, ◌∙◌, arith}
+use Rattle.std.proofs.Common.{◌≡◌, ℕ, zero, suc, ◌+◌, ◌<◌, ◌≤◌, min, max, inl, inr, Bool, true, false, Option, None, Some, is_some, List, [], ◌∷◌, ◌++◌, ◌&&◌, ◌||◌, not, drop, replicate, nat_lt, refl, ap, ◌∙◌, arith}
 use Rattle.std.specs.List.{All}
 use Rattle.std.specs.Option.{option_map_or}
-use Rattle.std.proofs.lemmas.Bool.{and_from, and_left, and_parts, cases_Bool, cases_eq, le-leb, le-ltb, leb-true, lt-ltb, ltb-true, or_cases, or_right, false≢true}
+use Rattle.std.proofs.lemmas.Bool.{and_from, and_left, and_parts, cases_Bool, le-ltb, lt-ltb, ltb-true, or_cases, or_right, false≢true}
 use Rattle.std.proofs.lemmas.List.{append-nil}
 use Rattle.std.proofs.lemmas.List.Elements.{All-append, All-cons, All-drop, All-replicate}
 use Rattle.plan_tables.specs.declared.devices.Act.{Act}
@@ -59,7 +59,7 @@ module _ (d : BallSettings) (limits : IsWithinLimits (kinds.BallDevice d)) where
       → (ball_step d call 0 s).1 ≡ lists → IsAnswer (kinds.BallDevice d) call lists
   answered call lists s shape may answers = record {
     now = 0;
-    world = record { games = 0; player = 0 };
+    world = record { games = 0; player = 0; in_play = 0 };
     state = states.BallDevice s;
     shape = shape;
     may_come = may;
@@ -226,36 +226,25 @@ module _ (d : BallSettings) (limits : IsWithinLimits (kinds.BallDevice d)) where
   -- a request that changes nothing, as there is no ball
   refused : (n : ℕ) → IsAnswer (kinds.BallDevice d) (calls.Act (acts.Request n)) []
   refused n =
-      let asked : Bool = d.trough && nat_le (0 + n) 255 in
-      let t : BallState = record first_state { wanted = 0 + n } in
-      elim (cases_Bool asked) [
-        | inl is ↦ quiet (calls.Act (acts.Request n)) tt (if_true asked (begin d 0 t) (first_state, []) is)
-        | inr is ↦ quiet (calls.Act (acts.Request n)) tt (if_false asked (begin d 0 t) (first_state, []) is)
+      let t : BallState = record first_state { wanted = min (0 + n) 255 } in
+      elim (cases_Bool d.trough) [
+        | inl is ↦ quiet (calls.Act (acts.Request n)) tt (if_true d.trough (begin d 0 t) (first_state, []) is)
+        | inr is ↦ quiet (calls.Act (acts.Request n)) tt (if_false d.trough (begin d 0 t) (first_state, []) is)
       ]
 
-  -- a request of n balls, before which so many are wanted
-  granted : (n wanted : ℕ) → may_begin d ≡ true → d.trough ≡ true → wanted + n ≤ 255 → 0 < wanted + n
-      → IsAnswer (kinds.BallDevice d) (calls.Act (acts.Request n)) (attempted ∷ [])
-  granted n wanted begins trough few some =
-      let parts = and_parts d.has_coil (nat_lt 0 d.switches) begins in
-      let s : BallState = state_with full Idle wanted in
-      let t : BallState = record s { wanted = wanted + n } in
-      answered (calls.Act (acts.Request n)) (attempted ∷ []) s
-      (shape_with full Idle wanted (ltb-true 0 d.switches parts.1) tt (omega (arith, few))) tt
-      (if_true (d.trough && nat_le (wanted + n) 255) (begin d 0 t) (s, [])
-      (and_from d.trough (nat_le (wanted + n) 255) trough (le-leb (wanted + n) 255 few))
-      ∙ began t (can parts.0 (nat_lt 0 (wanted + n)) (lt-ltb 0 (wanted + n) some)))
-
-  request-comes : (n : ℕ) → (d.trough && (may_begin d && nat_le n 255)) ≡ true
+  -- a request of any number of balls, before which one is wanted
+  request-comes : (n : ℕ) → (d.trough && may_begin d) ≡ true
       → IsAnswer (kinds.BallDevice d) (calls.Act (acts.Request n)) (attempted ∷ [])
   request-comes n is =
-      let parts = and_parts d.trough (may_begin d && nat_le n 255) is in
-      let more = and_parts (may_begin d) (nat_le n 255) parts.1 in
-      let few : n ≤ 255 = leb-true n 255 more.1 in
-      elim (cases_eq n 0) [
-        | inl none ↦ granted n 1 more.0 parts.0 (omega (arith, none)) (omega arith)
-        | inr some ↦ granted n 0 more.0 parts.0 (omega (arith, few)) (omega (arith, some))
-      ]
+      let may = and_parts d.trough (may_begin d) is in
+      let parts = and_parts d.has_coil (nat_lt 0 d.switches) may.1 in
+      let s : BallState = state_with full Idle 1 in
+      let most : ℕ = min (1 + n) 255 in
+      let t : BallState = record s { wanted = most } in
+      answered (calls.Act (acts.Request n)) (attempted ∷ []) s
+      (shape_with full Idle 1 (ltb-true 0 d.switches parts.1) tt (omega arith)) tt
+      (if_true d.trough (begin d 0 t) (s, []) may.0
+      ∙ began t (can parts.0 (nat_lt 0 most) (lt-ltb 0 most (omega arith))))
 
   act-comes : (act : Act) → All (IsAnswer (kinds.BallDevice d) (calls.Act act)) (of_ball_act d act)
   act-comes acts.Confirm =
@@ -266,7 +255,7 @@ module _ (d : BallSettings) (limits : IsWithinLimits (kinds.BallDevice d)) where
       (λ may. ending-comes (calls.Act acts.Confirm) (confirmed d.target) may tt tt refl refl))
   act-comes (acts.Request n) =
       let Answer : List ℕ → Type 0 = IsAnswer (kinds.BallDevice d) (calls.Act (acts.Request n)) in
-      let begins : Bool = d.trough && (may_begin d && nat_le n 255) in
+      let begins : Bool = d.trough && may_begin d in
       All-cons Answer [] (only_if begins ((attempted ∷ []) ∷ [])) (refused n)
       (all_if Answer begins ((attempted ∷ []) ∷ []) (λ is. one Answer (attempted ∷ []) (request-comes n is)))
   act-comes (acts.SwitchOn i) =

@@ -1,5 +1,5 @@
 -- Each effect list that a ball device answers is one of its seven.
-use Rattle.std.proofs.Common.{ℕ, suc, ◌+◌, ◌<◌, min, Bool, true, false, Option, None, Some, is_some, List, [], ◌∷◌, ◌++◌, ◌&&◌, nat_lt, nat_le, if◌then◌else◌, arith}
+use Rattle.std.proofs.Common.{ℕ, suc, ◌+◌, ◌<◌, min, Bool, true, false, Option, None, Some, is_some, List, [], ◌∷◌, ◌++◌, ◌&&◌, nat_lt, if◌then◌else◌, arith}
 use Rattle.std.specs.List.{All}
 use Rattle.std.proofs.lemmas.List.Elements.{All-append, All-cons}
 use Rattle.plan_tables.specs.declared.devices.Act.{Act}
@@ -87,7 +87,7 @@ module _ (d : BallSettings) where
       (all_if AreLists (may_eject d) (ending d (confirmed d.target))
       (λ may. ending-lists (confirmed d.target) (confirmed-lists d.target)))
   act_outcomes-lists (acts.Request n) =
-      let begins : Bool = d.trough && (may_begin d && nat_le n 255) in
+      let begins : Bool = d.trough && may_begin d in
       All-cons AreLists [] (only_if begins ((attempted ∷ []) ∷ [])) no_list
       (all_if AreLists begins ((attempted ∷ []) ∷ [])
       (λ is. one AreLists (attempted ∷ []) (one_list attempted (omega arith))))
@@ -153,8 +153,8 @@ module _ (d : BallSettings) where
 
   requested-lists : (n now : ℕ) (s : BallState) → AreLists (requested d n now s).1
   requested-lists n now s =
-      let t : BallState = record s { wanted = s.wanted + n } in
-      either (d.trough && nat_le (s.wanted + n) 255) (begin d now t) (s, []) (begin-lists now t) no_list
+      let t : BallState = record s { wanted = min (s.wanted + n) 255 } in
+      either d.trough (begin d now t) (s, []) (begin-lists now t) no_list
 
   act-lists : (act : Act) (now : ℕ) (s : BallState) → AreLists (act_step d act now s).1
   act-lists (acts.SwitchOn i) now s = no_list

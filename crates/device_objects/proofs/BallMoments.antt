@@ -1,5 +1,5 @@
 -- When ball devices are due.
-use Rattle.std.proofs.Common.{◌≡◌, ℕ, zero, suc, ◌+◌, ◌<◌, ◌≤◌, min, ◌⊎◌, inl, inr, Bool, true, false, Option, None, Some, IfSome, is_some, List, [], ◌∷◌, ◌&&◌, length, get_or, set, option_map, nat_lt, nat_le, if◌then◌else◌, refl, sym, ap, ◌∙◌, subst, arith}
+use Rattle.std.proofs.Common.{◌≡◌, ℕ, zero, suc, ◌+◌, ◌<◌, ◌≤◌, min, ◌⊎◌, inl, inr, Bool, true, false, Option, None, Some, IfSome, is_some, List, [], ◌∷◌, length, get_or, set, option_map, nat_lt, if◌then◌else◌, refl, sym, ap, ◌∙◌, subst, arith}
 use Rattle.std.proofs.lemmas.Bool.{cases_lt, le-ltb, lt-ltb, ltb-true, ltb-false, false≢true}
 use Rattle.std.proofs.lemmas.List.{length-map, length-set}
 use Rattle.std.proofs.lemmas.Option.{IfSome_then, MatchOption-from_none, none-some, same_Some}
@@ -137,8 +137,8 @@ module _ (d : BallSettings) (now : ℕ) (limits : IsBallDeviceWithin d) (old : B
 
   requested-later : (n : ℕ) (s : BallState) → IsLater s → IsLater (requested d n now s).0
   requested-later n s h =
-      let t : BallState = record s { wanted = s.wanted + n } in
-      either (d.trough && nat_le (s.wanted + n) 255) (begin d now t) (s, []) (begin-later t h) h
+      let t : BallState = record s { wanted = min (s.wanted + n) 255 } in
+      either d.trough (begin d now t) (s, []) (begin-later t h) h
 
   act-later : (act : Act) (s : BallState) → IsLater s → IsLater (act_step d act now s).0
   act-later (acts.SwitchOn i) s h = switched-later i true s h

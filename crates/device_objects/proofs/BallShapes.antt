@@ -1,8 +1,8 @@
 -- Ball devices keep their shape.
-use Rattle.std.proofs.Common.{◌≡◌, ℕ, suc, ◌+◌, ◌-◌, ◌<◌, ◌≤◌, min, max, inl, inr, Bool, true, false, Option, None, Some, List, [], ◌∷◌, ◌&&◌, length, get_or, set, drop, map, replicate, nat_lt, nat_le, if◌then◌else◌, refl, sym, ap, ◌∙◌, arith}
+use Rattle.std.proofs.Common.{◌≡◌, ℕ, suc, ◌+◌, ◌-◌, ◌<◌, ◌≤◌, min, max, inl, inr, Bool, true, false, Option, None, Some, List, [], ◌∷◌, length, get_or, set, drop, map, replicate, nat_lt, if◌then◌else◌, refl, sym, ap, ◌∙◌, arith}
 use Rattle.std.specs.List.{All}
 use Rattle.std.specs.Option.{option_map_or}
-use Rattle.std.proofs.lemmas.Bool.{and_parts, cases_lt, leb-true, ltb-true, or_left, or_right}
+use Rattle.std.proofs.lemmas.Bool.{and_parts, cases_lt, ltb-true, or_left, or_right}
 use Rattle.std.proofs.lemmas.List.{drop-map, get_or-drop, get_or_past, length-drop, length-map, length-set, drop-set-lt}
 use Rattle.std.proofs.lemmas.List.Elements.{All-drop, All-map, All-replicate, All-same, All-weaker}
 use Rattle.std.proofs.lemmas.Option.{none-some}
@@ -144,11 +144,10 @@ module _ (d : BallSettings) where
 
   requested-shape : (n now : ℕ) (s : BallState) → HasBallShape d s → HasBallShape d (requested d n now s).0
   requested-shape n now s shape =
-      one_answer (d.trough && nat_le (s.wanted + n) 255) (begin d now (record s { wanted = s.wanted + n })) (s, [])
-      (λ asked. begin-shape now (record s { wanted = s.wanted + n })
-      (with_eject s s.eject (s.wanted + n) shape shape.eject
-      (leb-true (s.wanted + n) 255 (and_parts d.trough (nat_le (s.wanted + n) 255) asked).1)))
-      shape
+      let most : ℕ = min (s.wanted + n) 255 in
+      let t : BallState = record s { wanted = most } in
+      one_answer d.trough (begin d now t) (s, [])
+      (λ trough. begin-shape now t (with_eject s s.eject most shape shape.eject (omega arith))) shape
 
   -- ---- ball switches
 

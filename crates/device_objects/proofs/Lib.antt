@@ -5,6 +5,8 @@ pub mod Flat
 pub mod Among
 pub mod BallDue
 pub mod BallShapes
+pub mod Saves
+pub mod Multiballs
 pub mod Shapes
 pub mod BallAnswers
 pub mod Answered
@@ -14,3 +16,5 @@ pub mod BallMoments
 pub mod Moments
 pub mod BallLists
 pub mod Lists
+pub mod Requests
+pub mod Inactive

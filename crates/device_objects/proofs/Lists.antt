@@ -40,6 +40,8 @@ use Rattle.device_objects.specs.Outcomes.{only_if, can_complete, hit_completing,
 use Rattle.device_objects.proofs.Among.{contains}
 use Rattle.device_objects.proofs.Answered.{bank_slot-in}
 use Rattle.device_objects.proofs.BallLists.{ball_outcomes-lists, ball_step-lists}
+use Rattle.device_objects.proofs.Saves.{save_outcomes-lists, save_step-lists}
+use Rattle.device_objects.proofs.Multiballs.{multiball_outcomes-lists, multiball_step-lists}
 use Rattle.device_objects.proofs.Flat.{All-flat_map_range}
 use Rattle.device_objects.proofs.Shapes.{next-within}
 
@@ -297,6 +299,8 @@ outcomes_of_row (kinds.Bank b) call = bank-all_below b call
 outcomes_of_row kinds.Flipper call = search rules
 outcomes_of_row kinds.Autofire call = search rules
 outcomes_of_row (kinds.BallDevice d) call = ball_outcomes-lists d call
+outcomes_of_row (kinds.BallSave b) call = save_outcomes-lists b call
+outcomes_of_row (kinds.Multiball m) call = multiball_outcomes-lists call
 
 -- and what a device answers
 pub lists_are_of_the_row : (settings : Settings) (call : Call) (now : ℕ) (world : World) (state : DeviceState) → All (λ k. k < list_count settings) (device_step settings call now world state).1
@@ -308,4 +312,6 @@ lists_are_of_the_row (kinds.Bank b) call now world (states.Bank slots) = bank-li
 lists_are_of_the_row kinds.Flipper call now world (states.Flipper s) = flipper-below call s
 lists_are_of_the_row kinds.Autofire call now world (states.Autofire s) = autofire-below call s
 lists_are_of_the_row (kinds.BallDevice d) call now world (states.BallDevice s) = ball_step-lists d call now s
+lists_are_of_the_row (kinds.BallSave b) call now world (states.BallSave s) = save_step-lists b call now s
+lists_are_of_the_row (kinds.Multiball m) call now world (states.Multiball s) = multiball_step-lists call world s
 lists_are_of_the_row settings call now world state = none (list_count settings)

@@ -18,6 +18,7 @@ use Rattle.device_objects.specs.Timer as timer
 use Rattle.device_objects.specs.DeviceStep.{due_of, part_due, first_state, device_step}
 use Rattle.device_objects.specs.Laws.{ArmsLaterMoments, DevicesAreDueWithTheirParts, FiresFirstPart, FirstPartsFire, HasShape, IsDone, IsFirstPart, NothingIsDue}
 use Rattle.device_objects.proofs.BallMoments.{ball-arms_later, ball-fired, ball-fires_first, ball-parts_none, ball-parts_one, ball-parts_first, ball-parts_few, ball-stopped_quiet}
+use Rattle.device_objects.proofs.Saves.{save-fired, save-first, save-later}
 
 -- a timer that is due at a moment at which it was due before, or later than now
 module _ (t : TimerSettings) (now : ℕ) (some : 1 ≤ t.interval) (Before : ℕ → Type 0) where
@@ -74,6 +75,10 @@ arms-later (kinds.Timer t) call now world (states.Timer s) limits zero due is =
 arms-later (kinds.Timer t) call now world (states.Timer s) limits (suc k) due is = absurd (none-some due is)
 arms-later (kinds.BallDevice d) call now world (states.BallDevice s) limits k due is =
     ball-arms_later d call now s limits k due is
+arms-later (kinds.BallSave b) call now world (states.BallSave s) limits zero due is =
+    save-later b now (λ d. s.due ≡ Some d) call s (λ d same. inl same) due is
+arms-later (kinds.BallSave b) call now world (states.BallSave s) limits (suc k) due is = absurd (none-some due is)
+arms-later (kinds.Multiball m) call now world (states.Multiball s) limits k due is = absurd (none-some due is)
 arms-later (kinds.Counter c) call now world (states.Counter slots) limits k due is = absurd (none-some due is)
 arms-later (kinds.Accrual a) call now world (states.Accrual slots) limits k due is = absurd (none-some due is)
 arms-later (kinds.Bank b) call now world (states.Bank slots) limits k due is = absurd (none-some due is)
@@ -106,6 +111,8 @@ pub fired-done : (settings : Settings) (now : ℕ) (world : World) (state : Devi
     → IfSome (due_of state) (λ due. IsDone now due state (device_step settings calls.Fire now world state).0)
 fired-done (kinds.Timer t) now world (states.Timer s) limits shape = timer-fired t now s limits.0
 fired-done (kinds.BallDevice d) now world (states.BallDevice s) limits shape = ball-fired d now s limits
+fired-done (kinds.BallSave b) now world (states.BallSave s) limits shape = save-fired b now s shape
+fired-done (kinds.Multiball m) now world (states.Multiball s) limits shape = tt
 fired-done (kinds.Counter c) now world (states.Counter slots) limits shape = tt
 fired-done (kinds.Accrual a) now world (states.Accrual slots) limits shape = tt
 fired-done (kinds.Bank b) now world (states.Bank slots) limits shape = tt
@@ -132,6 +139,10 @@ first_parts_fire (kinds.Timer t) now world (states.Timer s) shape =
     if_some s.due (FiresFirstPart (kinds.Timer t) now world (states.Timer s))
     (λ due is. record { part = 0; first = timer-first s due is; step = refl })
 first_parts_fire (kinds.BallDevice d) now world (states.BallDevice s) shape = ball-fires_first d now world s
+first_parts_fire (kinds.BallSave b) now world (states.BallSave s) shape =
+    if_some s.due (FiresFirstPart (kinds.BallSave b) now world (states.BallSave s))
+    (λ due is. record { part = 0; first = save-first s due is; step = refl })
+first_parts_fire (kinds.Multiball m) now world (states.Multiball s) shape = tt
 first_parts_fire (kinds.Counter c) now world (states.Counter slots) shape = tt
 first_parts_fire (kinds.Accrual a) now world (states.Accrual slots) shape = tt
 first_parts_fire (kinds.Bank b) now world (states.Bank slots) shape = tt
@@ -154,6 +165,8 @@ pub parts-none : (state : DeviceState) → due_of state ≡ None → (k : ℕ) �
 parts-none (states.Timer s) is zero = is
 parts-none (states.Timer s) is (suc k) = refl
 parts-none (states.BallDevice s) is k = ball-parts_none s is k
+parts-none (states.BallSave s) is zero = is
+parts-none (states.BallSave s) is (suc k) = refl
 parts-none _ is k = refl
 
 -- while it is, one is due at the same moment
@@ -161,6 +174,8 @@ pub parts-one : (state : DeviceState) → IfSome (due_of state) (λ due. (k : �
 parts-one (states.Timer s) =
     if_some s.due (λ due. (k : ℕ) × (part_due (states.Timer s) k ≡ Some due)) (λ due is. (0, is))
 parts-one (states.BallDevice s) = ball-parts_one s
+parts-one (states.BallSave s) =
+    if_some s.due (λ due. (k : ℕ) × (part_due (states.BallSave s) k ≡ Some due)) (λ due is. (0, is))
 parts-one _ = tt
 
 -- no part is due before the device is
@@ -171,6 +186,10 @@ parts-first (states.Timer s) = IfSome_then s.due (timer-part s.due) (λ due leas
   | suc k ↦ (λ other is. absurd (none-some other is))
 ])
 parts-first (states.BallDevice s) = ball-parts_first s
+parts-first (states.BallSave s) = IfSome_then s.due (timer-part s.due) (λ due least. elim [
+  | zero ↦ (λ other is. least other is)
+  | suc k ↦ (λ other is. absurd (none-some other is))
+])
 parts-first _ = tt
 
 -- no part from 17 on is due
@@ -179,6 +198,9 @@ pub parts-few : (settings : Settings) (state : DeviceState) (k : ℕ) → HasSha
 parts-few (kinds.Timer t) (states.Timer s) zero shape past = absurd (omega (arith, past))
 parts-few (kinds.Timer t) (states.Timer s) (suc k) shape past = refl
 parts-few (kinds.BallDevice d) (states.BallDevice s) k shape past = ball-parts_few s k shape.switches past
+parts-few (kinds.BallSave b) (states.BallSave s) zero shape past = absurd (omega (arith, past))
+parts-few (kinds.BallSave b) (states.BallSave s) (suc k) shape past = refl
+parts-few (kinds.Multiball m) (states.Multiball s) k shape past = refl
 parts-few (kinds.Counter c) (states.Counter slots) k shape past = refl
 parts-few (kinds.Accrual a) (states.Accrual slots) k shape past = refl
 parts-few (kinds.Bank b) (states.Bank slots) k shape past = refl
@@ -202,6 +224,8 @@ first-quiet (kinds.Bank b) = refl
 first-quiet kinds.Flipper = refl
 first-quiet kinds.Autofire = refl
 first-quiet (kinds.BallDevice d) = refl
+first-quiet (kinds.BallSave b) = refl
+first-quiet (kinds.Multiball m) = refl
 
 -- nor when the device's mode has stopped; and to that it answers nothing
 pub stopped-quiet : (settings : Settings) (now : ℕ) (world : World) (state : DeviceState) → HasShape settings state → due_of (device_step settings calls.ModeStop now world state).0 ≡ None
@@ -213,6 +237,8 @@ stopped-quiet (kinds.Sequence q) now world (states.Sequence slots) shape = refl
 stopped-quiet kinds.Flipper now world (states.Flipper s) shape = refl
 stopped-quiet kinds.Autofire now world (states.Autofire s) shape = refl
 stopped-quiet (kinds.BallDevice d) now world (states.BallDevice s) shape = ball-stopped_quiet s
+stopped-quiet (kinds.BallSave b) now world (states.BallSave s) shape = refl
+stopped-quiet (kinds.Multiball m) now world (states.Multiball s) shape = refl
 stopped-quiet _ now world _ shape = elim shape [ ]
 
 pub stopped-silent : (settings : Settings) (now : ℕ) (world : World) (state : DeviceState) → (device_step settings calls.ModeStop now world state).1 ≡ []
@@ -224,6 +250,8 @@ stopped-silent (kinds.Bank b) now world (states.Bank slots) = refl
 stopped-silent kinds.Flipper now world (states.Flipper s) = refl
 stopped-silent kinds.Autofire now world (states.Autofire s) = refl
 stopped-silent (kinds.BallDevice d) now world (states.BallDevice s) = refl
+stopped-silent (kinds.BallSave b) now world (states.BallSave s) = refl
+stopped-silent (kinds.Multiball m) now world (states.Multiball s) = refl
 stopped-silent _ now world _ = refl
 
 pub nothing_is_due : NothingIsDue

@@ -29,6 +29,7 @@ use Rattle.device_objects.specs.DeviceStep.{first_state, device_step}
 use Rattle.device_objects.specs.Laws.{HasBankShape, HasMarks, HasShape, StatesKeepTheirShape}
 use Rattle.device_objects.proofs.Slots.{step_in_use-length, step_in_use-all, All-at}
 use Rattle.device_objects.proofs.BallShapes.{first_ball-shape, ball_step-shape}
+use Rattle.device_objects.proofs.Saves.{first_save-shape, save_step-shape}
 
 -- slots of which the first may begin anew
 pub anew-length : {S : Type 0} (keep : Bool) (slots : List S) (first : S) → length (if keep then slots else slice_set slots 0 first) ≡ length slots
@@ -234,6 +235,8 @@ first-shape (kinds.Bank b) = (refl, All-replicate (HasBankShape b) 4 (bank.first
 first-shape kinds.Flipper = tt
 first-shape kinds.Autofire = tt
 first-shape (kinds.BallDevice d) = first_ball-shape d
+first-shape (kinds.BallSave b) = first_save-shape b
+first-shape (kinds.Multiball m) = tt
 
 step-shape : (settings : Settings) (call : Call) (now : ℕ) (world : World) (state : DeviceState) → HasShape settings state → HasShape settings (device_step settings call now world state).0
 step-shape (kinds.Counter c) call now world (states.Counter slots) four = counter_step-length c call now world slots ∙ four
@@ -245,6 +248,8 @@ step-shape (kinds.Bank b) call now world (states.Bank slots) shape =
 step-shape kinds.Flipper call now world (states.Flipper s) shape = tt
 step-shape kinds.Autofire call now world (states.Autofire s) shape = tt
 step-shape (kinds.BallDevice d) call now world (states.BallDevice s) shape = ball_step-shape d call now s shape
+step-shape (kinds.BallSave b) call now world (states.BallSave s) shape = save_step-shape b call now s shape
+step-shape (kinds.Multiball m) call now world (states.Multiball s) shape = tt
 step-shape _ call now world _ shape = elim shape [ ]
 
 pub states_keep_their_shape : StatesKeepTheirShape

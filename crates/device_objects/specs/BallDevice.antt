@@ -231,10 +231,9 @@ fire d now s =
 abbrev pub fire_part : BallSettings → ℕ → ℕ → BallState → BallState × List ℕ
 fire_part d k now s = if nat_lt k (length s.switches) then count d now k s else time_out d now s.eject s
 
--- A trough is to eject this many more balls. A request that would make more than 255 is ignored.
+-- A trough is to eject this many more balls, as far as 255 allows.
 abbrev pub requested : BallSettings → ℕ → ℕ → BallState → BallState × List ℕ
-requested d n now s =
-    if d.trough && nat_le (s.wanted + n) 255 then begin d now (record s { wanted = s.wanted + n }) else (s, [])
+requested d n now s = if d.trough then begin d now (record s { wanted = min (s.wanted + n) 255 }) else (s, [])
 
 abbrev pub act_step : BallSettings → Act → ℕ → BallState → BallState × List ℕ
 act_step d (acts.SwitchOn i) now s = (switched d i true now s, [])

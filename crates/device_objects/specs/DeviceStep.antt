@@ -13,6 +13,8 @@ use Rattle.device_objects.specs.declared.state.BankSlot.{BankSlot}
 use Rattle.device_objects.specs.declared.state.FlipperState.{FlipperState}
 use Rattle.device_objects.specs.declared.state.AutofireState.{AutofireState}
 use Rattle.device_objects.specs.declared.state.BallState.{BallState}
+use Rattle.device_objects.specs.declared.state.SaveState.{SaveState}
+use Rattle.device_objects.specs.declared.state.MultiballState.{MultiballState}
 use Rattle.device_objects.specs.declared.state.DeviceState.{DeviceState}
 use Rattle.device_objects.specs.declared.state.DeviceState.TheVariants as states
 use Rattle.device_objects.specs.Counter as counter
@@ -23,6 +25,8 @@ use Rattle.device_objects.specs.Bank as bank
 use Rattle.device_objects.specs.Flipper as flipper
 use Rattle.device_objects.specs.Autofire as autofire
 use Rattle.device_objects.specs.BallDevice as balls
+use Rattle.device_objects.specs.BallSave as save
+use Rattle.device_objects.specs.Multiball as multiball
 
 -- the state at first
 abbrev pub first_state : Settings → DeviceState
@@ -34,8 +38,10 @@ first_state (kinds.Bank b) = states.Bank (bank.first_slots b)
 first_state kinds.Flipper = states.Flipper flipper.first_state
 first_state kinds.Autofire = states.Autofire autofire.first_state
 first_state (kinds.BallDevice d) = states.BallDevice balls.first_state
+first_state (kinds.BallSave b) = states.BallSave save.first_state
+first_state (kinds.Multiball m) = states.Multiball multiball.first_state
 
--- The moment at which the device is due, if there is one. Only timers and ball devices are ever due.
+-- The moment at which the device is due, if there is one. Only timers, ball devices and ball saves are ever due.
 abbrev pub due_of : DeviceState → Option ℕ
 due_of (states.Counter slots) = None
 due_of (states.Accrual slots) = None
@@ -45,8 +51,10 @@ due_of (states.Bank slots) = None
 due_of (states.Flipper s) = None
 due_of (states.Autofire s) = None
 due_of (states.BallDevice s) = balls.due_of s
+due_of (states.BallSave s) = s.due
+due_of (states.Multiball s) = None
 
--- The moment at which a part of the device is due, by the part's number. A timer has just one part.
+-- The moment at which a part of the device is due, by the part's number. A timer and a ball save have just one part.
 abbrev pub part_due : DeviceState → ℕ → Option ℕ
 part_due (states.Counter slots) k = None
 part_due (states.Accrual slots) k = None
@@ -57,6 +65,9 @@ part_due (states.Bank slots) k = None
 part_due (states.Flipper s) k = None
 part_due (states.Autofire s) k = None
 part_due (states.BallDevice s) k = balls.part_due s k
+part_due (states.BallSave s) zero = s.due
+part_due (states.BallSave s) (suc k) = None
+part_due (states.Multiball s) k = None
 
 -- ---- what a state holds, if it is one of this kind
 
@@ -92,6 +103,14 @@ abbrev pub ball_state : DeviceState → Option BallState
 ball_state (states.BallDevice s) = Some s
 ball_state _ = None
 
+abbrev pub save_state : DeviceState → Option SaveState
+save_state (states.BallSave s) = Some s
+save_state _ = None
+
+abbrev pub multiball_state : DeviceState → Option MultiballState
+multiball_state (states.Multiball s) = Some s
+multiball_state _ = None
+
 -- ---- steps
 
 abbrev pub counter_answer : List CounterSlot × List ℕ → DeviceState × List ℕ
@@ -118,6 +137,12 @@ autofire_answer a = (states.Autofire a.0, a.1)
 abbrev pub ball_answer : BallState × List ℕ → DeviceState × List ℕ
 ball_answer a = (states.BallDevice a.0, a.1)
 
+abbrev pub save_answer : SaveState × List ℕ → DeviceState × List ℕ
+save_answer a = (states.BallSave a.0, a.1)
+
+abbrev pub multiball_answer : MultiballState × List ℕ → DeviceState × List ℕ
+multiball_answer a = (states.Multiball a.0, a.1)
+
 -- the answer of what the state holds, if it is of the device's kind; a state of another kind stays
 abbrev pub of_kind : {S : Type 0} → (S × List ℕ → DeviceState × List ℕ) → (S → S × List ℕ) → DeviceState → Option S
     → DeviceState × List ℕ
@@ -142,9 +167,13 @@ device_step kinds.Autofire call now world state =
     of_kind autofire_answer (autofire.autofire_step call) state (autofire_state state)
 device_step (kinds.BallDevice d) call now world state =
     of_kind ball_answer (balls.ball_step d call now) state (ball_state state)
+device_step (kinds.BallSave b) call now world state =
+    of_kind save_answer (save.save_step b call now) state (save_state state)
+device_step (kinds.Multiball m) call now world state =
+    of_kind multiball_answer (multiball.multiball_step call world) state (multiball_state state)
 
 -- What a part does when its moment has come, by the part's number: a timer ticks, a ball switch counts, an attempt is
--- over. Other devices have no such parts.
+-- over, a ball save is disabled. Other devices have no such parts.
 abbrev pub fire_part : Settings → ℕ → ℕ → DeviceState → DeviceState × List ℕ
 fire_part (kinds.Counter c) k now state = (state, [])
 fire_part (kinds.Accrual a) k now state = (state, [])
@@ -154,3 +183,5 @@ fire_part (kinds.Bank b) k now state = (state, [])
 fire_part kinds.Flipper k now state = (state, [])
 fire_part kinds.Autofire k now state = (state, [])
 fire_part (kinds.BallDevice d) k now state = of_kind ball_answer (balls.fire_part d k now) state (ball_state state)
+fire_part (kinds.BallSave b) k now state = of_kind save_answer (save.save_step b calls.Fire now) state (save_state state)
+fire_part (kinds.Multiball m) k now state = (state, [])

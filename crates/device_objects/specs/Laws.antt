@@ -4,6 +4,7 @@ use Rattle.std.specs.Option.{option_map_or}
 use Rattle.std.specs.List.{All}
 use Rattle.plan_tables.specs.declared.devices.BallSettings.{BallSettings}
 use Rattle.plan_tables.specs.declared.devices.BankSettings.{BankSettings}
+use Rattle.plan_tables.specs.declared.devices.SaveSettings.{SaveSettings}
 use Rattle.plan_tables.specs.declared.devices.Settings.{Settings}
 use Rattle.plan_tables.specs.declared.devices.Settings.TheVariants as kinds
 use Rattle.plan_tables.specs.Devices.{IsWithinLimits, list_count}
@@ -13,11 +14,12 @@ use Rattle.device_objects.specs.declared.state.World.{World}
 use Rattle.device_objects.specs.declared.state.AccrualSlot.{AccrualSlot}
 use Rattle.device_objects.specs.declared.state.BankSlot.{BankSlot}
 use Rattle.device_objects.specs.declared.state.BallState.{BallState}
+use Rattle.device_objects.specs.declared.state.SaveState.{SaveState}
 use Rattle.device_objects.specs.declared.state.Eject.{Eject}
 use Rattle.device_objects.specs.declared.state.Eject.TheVariants.{Idle, Pulsing, Away}
 use Rattle.device_objects.specs.declared.state.DeviceState.{DeviceState}
 use Rattle.device_objects.specs.BallDevice.{empty}
-use Rattle.device_objects.specs.DeviceStep.{first_state, due_of, part_due, counter_slots, accrual_slots, sequence_slots, timer_state, bank_slots, flipper_state, autofire_state, ball_state, device_step, fire_part}
+use Rattle.device_objects.specs.DeviceStep.{first_state, due_of, part_due, counter_slots, accrual_slots, sequence_slots, timer_state, bank_slots, flipper_state, autofire_state, ball_state, save_state, multiball_state, device_step, fire_part}
 use Rattle.device_objects.specs.Outcomes.{may_eject, outcomes, silent}
 
 -- a slot of an accrual: with 16 marks
@@ -46,10 +48,15 @@ pub record HasBallShape (d : BallSettings) (s : BallState) : Type 0 where
   pub eject : IsEjectOf d s.eject
   pub wanted : s.wanted ≤ 255
 
+-- the state of a ball save: no more balls are left than it saves, and it is due only while it is active and has an end
+pub record HasSaveShape (b : SaveSettings) (s : SaveState) : Type 0 where
+  pub left : s.left ≤ b.balls
+  pub due : IsSome s.due → (s.active ≡ true) × (0 < b.active_time)
+
 -- A state of the shape that the settings ask for. It is of their kind. A block or a bank has four slots, in each of
 -- which an accrual has 16 marks, and a bank its flags and 16 states of its profile. `HasBallShape` says what a ball
--- device has. All else may be anything, such as a mark of a step that an accrual does not have, or a next step that a
--- sequence does not have.
+-- device has, and `HasSaveShape` what a ball save has. All else may be anything, such as a mark of a step that an accrual
+-- does not have, or a next step that a sequence does not have.
 abbrev pub HasShape : Settings → DeviceState → Type 0
 HasShape (kinds.Counter c) state = IsSomeAnd (counter_slots state) (λ slots. length slots ≡ 4)
 HasShape (kinds.Accrual a) state =
@@ -60,6 +67,8 @@ HasShape (kinds.Bank b) state = IsSomeAnd (bank_slots state) (λ slots. (length 
 HasShape kinds.Flipper state = IsSomeAnd (flipper_state state) (λ s. Unit {0})
 HasShape kinds.Autofire state = IsSomeAnd (autofire_state state) (λ s. Unit {0})
 HasShape (kinds.BallDevice d) state = IsSomeAnd (ball_state state) (HasBallShape d)
+HasShape (kinds.BallSave b) state = IsSomeAnd (save_state state) (HasSaveShape b)
+HasShape (kinds.Multiball m) state = IsSomeAnd (multiball_state state) (λ s. Unit {0})
 
 -- The first state has the shape of its settings, and each step leaves it so.
 pub record StatesKeepTheirShape : Type 0 where

@@ -9,6 +9,8 @@ pub mod Bank
 pub mod Flipper
 pub mod Autofire
 pub mod BallDevice
+pub mod BallSave
+pub mod Multiball
 pub mod DeviceStep
 pub mod Outcomes
 pub mod Laws

@@ -1,5 +1,5 @@
 -- The lists that a call of a device can answer, whatever its state.
-use Rattle.std.specs.Prelude.{ℕ, suc, ◌==◌, nat_lt, nat_le, Bool, not, ◌&&◌, ◌||◌, is_some, if◌then◌else◌, List, [], ◌∷◌, ◌++◌}
+use Rattle.std.specs.Prelude.{ℕ, suc, ◌==◌, nat_lt, Bool, not, ◌&&◌, ◌||◌, is_some, if◌then◌else◌, List, [], ◌∷◌, ◌++◌}
 use Rattle.std.specs.List.{flat_map, range_with_len}
 use Rattle.plan_tables.specs.declared.devices.Act.{Act}
 use Rattle.plan_tables.specs.declared.devices.Act.TheVariants as acts
@@ -9,6 +9,7 @@ use Rattle.plan_tables.specs.declared.devices.StepSettings.{StepSettings}
 use Rattle.plan_tables.specs.declared.devices.TimerSettings.{TimerSettings}
 use Rattle.plan_tables.specs.declared.devices.BankSettings.{BankSettings}
 use Rattle.plan_tables.specs.declared.devices.BallSettings.{BallSettings}
+use Rattle.plan_tables.specs.declared.devices.SaveSettings.{SaveSettings}
 use Rattle.plan_tables.specs.declared.devices.Settings.{Settings}
 use Rattle.plan_tables.specs.declared.devices.Settings.TheVariants as kinds
 use Rattle.plan_tables.specs.Devices.{state_count}
@@ -23,6 +24,8 @@ use Rattle.device_objects.specs.Bank.{next_state, hit_lists, group_complete}
 use Rattle.device_objects.specs.Flipper.{on, off}
 use Rattle.device_objects.specs.Autofire.{fires}
 use Rattle.device_objects.specs.BallDevice.{entered, attempted, left, lost, failed, overdue, confirmed, may_try_again}
+use Rattle.device_objects.specs.BallSave as save
+use Rattle.device_objects.specs.Multiball as multiball
 
 -- no list at all
 abbrev pub silent : List (List ℕ)
@@ -154,7 +157,7 @@ of_ball_fire d =
 
 abbrev pub of_ball_act : BallSettings → Act → List (List ℕ)
 of_ball_act d acts.Confirm = [] ∷ only_if (may_eject d) (ending d (confirmed d.target))
-of_ball_act d (acts.Request n) = [] ∷ only_if (d.trough && (may_begin d && nat_le n 255)) ((attempted ∷ []) ∷ [])
+of_ball_act d (acts.Request n) = [] ∷ only_if (d.trough && may_begin d) ((attempted ∷ []) ∷ [])
 of_ball_act d _ = silent
 
 abbrev pub of_ball_device : BallSettings → Call → List (List ℕ)
@@ -162,6 +165,26 @@ of_ball_device d calls.ModeStart = silent
 of_ball_device d calls.ModeStop = silent
 of_ball_device d calls.Fire = of_ball_fire d
 of_ball_device d (calls.Act act) = of_ball_act d act
+
+-- A ball save that saves only one ball is disabled after it. One that saves more may have some left.
+abbrev pub of_save_act : SaveSettings → Act → List (List ℕ)
+of_save_act b acts.Enable = [] ∷ (save.enabled ∷ []) ∷ []
+of_save_act b acts.Disable = [] ∷ (save.disabled ∷ []) ∷ []
+of_save_act b acts.Save =
+    [] ∷ only_if (nat_lt 1 b.balls) ((save.saving ∷ []) ∷ []) ++ (save.saving ∷ save.disabled ∷ []) ∷ []
+of_save_act b _ = silent
+
+-- one that has no end is never due
+abbrev pub of_save : SaveSettings → Call → List (List ℕ)
+of_save b calls.ModeStart = silent
+of_save b calls.ModeStop = silent
+of_save b calls.Fire = only_if (nat_lt 0 b.active_time) ((save.disabled ∷ []) ∷ [])
+of_save b (calls.Act act) = of_save_act b act
+
+abbrev pub of_multiball : Act → List (List ℕ)
+of_multiball acts.Start = [] ∷ (multiball.started ∷ []) ∷ []
+of_multiball acts.End = [] ∷ (multiball.ended ∷ []) ∷ []
+of_multiball _ = silent
 
 -- what a device that is never due answers to its acts; it is silent when its mode starts and stops
 abbrev pub by_act : (Act → List (List ℕ)) → Call → List (List ℕ)
@@ -180,3 +203,5 @@ outcomes (kinds.Bank b) call = by_act (of_bank b) call
 outcomes kinds.Flipper call = by_act of_flipper call
 outcomes kinds.Autofire call = by_act of_autofire call
 outcomes (kinds.BallDevice d) call = of_ball_device d call
+outcomes (kinds.BallSave b) call = of_save b call
+outcomes (kinds.Multiball m) call = by_act of_multiball call

@@ -6,15 +6,15 @@ ghost use Rattle.plan_tables.specs.declared.devices.Settings.TheVariants as kind
 ghost use Rattle.arrayvec.specs.ArrayVec.{array_vec_len};
 ghost use Rattle.device_objects.specs.declared.device.Call.TheVariants as calls;
 ghost use Rattle.device_objects.specs.BallDevice.{confirmed, overdue};
-ghost use Rattle.device_objects.specs.Outcomes.{can_complete, hit_completing, ending, may_begin, may_eject, of_accrual, of_attempt, of_autofire, of_ball_act, of_ball_device, of_ball_fire, of_bank, of_block, of_change, of_count, of_counter, of_flipper, of_hit, of_hit_in, of_sequence, of_switch, of_timer, of_timer_act, only_if, outcomes, resetting, silent, timer_completing};
+ghost use Rattle.device_objects.specs.Outcomes.{can_complete, hit_completing, ending, may_begin, may_eject, of_accrual, of_attempt, of_autofire, of_ball_act, of_ball_device, of_ball_fire, of_bank, of_block, of_change, of_count, of_counter, of_flipper, of_hit, of_hit_in, of_multiball, of_save, of_save_act, of_sequence, of_switch, of_timer, of_timer_act, only_if, outcomes, resetting, silent, timer_completing};
 
 use crate::bank::{group_complete, hit_lists, next_state};
 use crate::device::{Call, Outcome};
 use crate::values::{clamped, is_at_end};
 use arrayvec::ArrayVec;
 use plan_tables::{
-    Act, BallSettings, BallTarget, BankSettings, BlockSettings, CounterSettings, Settings,
-    StepSettings, TimerSettings,
+    Act, BallSettings, BallTarget, BankSettings, BlockSettings, CounterSettings, SaveSettings,
+    Settings, StepSettings, TimerSettings,
 };
 
 /// What a call of a device can answer, whatever the device's state. A hit of a shot has most outcomes:
@@ -35,6 +35,8 @@ pub fn outcomes(settings: &Settings, call: Call) -> Outcomes
         (Settings::Flipper, Call::Act(act)) => of_flipper(act),
         (Settings::Autofire, Call::Act(act)) => of_autofire(act),
         (Settings::BallDevice(device), call) => of_ball_device(device, call),
+        (Settings::BallSave(save), call) => of_save(save, call),
+        (Settings::Multiball(_), Call::Act(act)) => of_multiball(act),
         (_, Call::Fire) => none(),
         _ => silent(),
     }
@@ -367,10 +369,7 @@ fn of_ball_act(device: &BallSettings, act: Act) -> Outcomes
 {
     match act {
         Act::Confirm if may_eject(device) => with_ending(silent(), device, confirmed(device)),
-        Act::Request(balls) => {
-            let begins = device.trough && may_begin(device) && balls <= 255;
-            with_if(silent(), begins, &[1])
-        }
+        Act::Request(_) => with_if(silent(), device.trough && may_begin(device), &[1]),
         _ => silent(),
     }
 }
@@ -382,5 +381,36 @@ fn of_ball_device(device: &BallSettings, call: Call) -> Outcomes
         Call::ModeStart | Call::ModeStop => silent(),
         Call::Fire => of_ball_fire(device),
         Call::Act(act) => of_ball_act(device, act),
+    }
+}
+
+fn of_save_act(save: &SaveSettings, act: Act) -> Outcomes
+    ensures { map (λ o. o.items) result.items ≡ of_save_act save.now act }
+{
+    match act {
+        Act::Enable => with(silent(), &[0]),
+        Act::Disable => with(silent(), &[1]),
+        Act::Save => with(with_if(silent(), 1 < save.balls, &[2]), &[2, 1]),
+        _ => silent(),
+    }
+}
+
+fn of_save(save: &SaveSettings, call: Call) -> Outcomes
+    ensures { map (λ o. o.items) result.items ≡ of_save save.now call }
+{
+    match call {
+        Call::ModeStart | Call::ModeStop => silent(),
+        Call::Fire => with_if(none(), save.active_time > 0, &[1]),
+        Call::Act(act) => of_save_act(save, act),
+    }
+}
+
+fn of_multiball(act: Act) -> Outcomes
+    ensures { map (λ o. o.items) result.items ≡ of_multiball act }
+{
+    match act {
+        Act::Start => with(silent(), &[0]),
+        Act::End => with(silent(), &[1]),
+        _ => silent(),
     }
 }

@@ -5,7 +5,7 @@ ghost use Rattle.device_objects.specs.DeviceStep.{first_state};
 
 use crate::state::{
     AccrualSlot, AutofireState, BallState, BallSwitch, BankSlot, CounterSlot, DeviceState, Eject,
-    FlipperState, SequenceSlot, TimerState,
+    FlipperState, MultiballState, SaveState, SequenceSlot, TimerState,
 };
 use plan_tables::Settings;
 
@@ -52,5 +52,11 @@ pub fn first_state(settings: &Settings) -> DeviceState
             eject: Eject::Idle,
             wanted: 0,
         }),
+        Settings::BallSave(_) => DeviceState::BallSave(SaveState {
+            active: false,
+            left: 0,
+            due: None,
+        }),
+        Settings::Multiball(_) => DeviceState::Multiball(MultiballState { running: false }),
     }
 }

@@ -21,5 +21,5 @@ pub use same::{is_same_row, is_same_state};
 pub use shape::has_shape;
 pub use state::{
     AccrualSlot, Attempt, AutofireState, BallState, BallSwitch, BankSlot, CounterSlot, DeviceState,
-    Eject, FlipperState, SequenceSlot, TimerState, World,
+    Eject, FlipperState, MultiballState, SaveState, SequenceSlot, TimerState, World,
 };

@@ -4,11 +4,11 @@ ghost use Rattle.std.specs.Prelude.{◌≡◌, ◌↔◌, IsTrue};
 
 use crate::state::{
     AccrualSlot, Attempt, AutofireState, BallState, BallSwitch, BankSlot, CounterSlot, DeviceState,
-    Eject, FlipperState, SequenceSlot, TimerState,
+    Eject, FlipperState, MultiballState, SaveState, SequenceSlot, TimerState,
 };
 use plan_tables::{
     BallSettings, BallTarget, BankSettings, BlockSettings, CounterSettings, DeviceRow, Direction,
-    Owner, Settings, StepSettings, TimerSettings,
+    MultiballSettings, Owner, SaveSettings, Settings, StepSettings, TimerSettings,
 };
 
 /// Whether two rows are the same.
@@ -33,6 +33,8 @@ pub fn is_same_state(a: &DeviceState, b: &DeviceState) -> bool
         (DeviceState::Flipper(a), DeviceState::Flipper(b)) => is_same_flipper(a, b),
         (DeviceState::Autofire(a), DeviceState::Autofire(b)) => is_same_autofire(a, b),
         (DeviceState::BallDevice(a), DeviceState::BallDevice(b)) => is_same_ball_state(a, b),
+        (DeviceState::BallSave(a), DeviceState::BallSave(b)) => is_same_save_state(a, b),
+        (DeviceState::Multiball(a), DeviceState::Multiball(b)) => { is_same_multiball_state(a, b) }
         _ => false,
     }
 }
@@ -130,6 +132,18 @@ fn is_same_ball_kind(a: &BallSettings, b: &BallSettings) -> bool
         && a.home == b.home
 }
 
+fn is_same_save_kind(a: &SaveSettings, b: &SaveSettings) -> bool
+    ensures { IsTrue result ↔ (a.now ≡ b.now) }
+{
+    a.active_time == b.active_time && a.balls == b.balls
+}
+
+fn is_same_multiball_kind(a: &MultiballSettings, b: &MultiballSettings) -> bool
+    ensures { IsTrue result ↔ (a.now ≡ b.now) }
+{
+    a.balls == b.balls
+}
+
 fn is_same_settings(a: &Settings, b: &Settings) -> bool
     ensures { IsTrue result ↔ (a.now ≡ b.now) }
 {
@@ -142,6 +156,8 @@ fn is_same_settings(a: &Settings, b: &Settings) -> bool
         (Settings::Flipper, Settings::Flipper) => true,
         (Settings::Autofire, Settings::Autofire) => true,
         (Settings::BallDevice(a), Settings::BallDevice(b)) => is_same_ball_kind(a, b),
+        (Settings::BallSave(a), Settings::BallSave(b)) => is_same_save_kind(a, b),
+        (Settings::Multiball(a), Settings::Multiball(b)) => is_same_multiball_kind(a, b),
         _ => false,
     }
 }
@@ -242,6 +258,18 @@ fn is_same_ball_state(a: &BallState, b: &BallState) -> bool
     are_same_ball_switches(&a.switches, &b.switches)
         && is_same_eject(&a.eject, &b.eject)
         && a.wanted == b.wanted
+}
+
+fn is_same_save_state(a: &SaveState, b: &SaveState) -> bool
+    ensures { IsTrue result ↔ (a.now ≡ b.now) }
+{
+    a.active == b.active && a.left == b.left && a.due == b.due
+}
+
+fn is_same_multiball_state(a: &MultiballState, b: &MultiballState) -> bool
+    ensures { IsTrue result ↔ (a.now ≡ b.now) }
+{
+    a.running == b.running
 }
 
 fn are_same_counters(a: &[CounterSlot; 4], b: &[CounterSlot; 4]) -> bool

@@ -3,10 +3,12 @@
 ghost use Rattle.std.specs.Prelude.{◌≡◌, ◌≤◌, ◌↔◌, IsTrue, length};
 ghost use Rattle.std.specs.List.{All};
 ghost use Rattle.device_objects.specs.BallDevice.{empty};
-ghost use Rattle.device_objects.specs.Laws.{HasBallShape, HasBankShape, HasMarks, HasShape, IsAttempt, IsEjectOf};
+ghost use Rattle.device_objects.specs.Laws.{HasBallShape, HasBankShape, HasMarks, HasSaveShape, HasShape, IsAttempt, IsEjectOf};
 
-use crate::state::{AccrualSlot, Attempt, BallState, BallSwitch, BankSlot, DeviceState, Eject};
-use plan_tables::{BallSettings, BankSettings, Settings};
+use crate::state::{
+    AccrualSlot, Attempt, BallState, BallSwitch, BankSlot, DeviceState, Eject, SaveState,
+};
+use plan_tables::{BallSettings, BankSettings, SaveSettings, Settings};
 
 /// Whether a state is of the shape that these settings ask for: of their kind, and such that what the device
 /// acts on is within the settings.
@@ -26,6 +28,8 @@ pub fn has_shape(settings: &Settings, state: &DeviceState) -> bool
         (Settings::BallDevice(device), DeviceState::BallDevice(state)) => {
             is_of_ball_device(device, state)
         }
+        (Settings::BallSave(save), DeviceState::BallSave(state)) => is_of_save(save, state),
+        (Settings::Multiball(_), DeviceState::Multiball(_)) => true,
         _ => false,
     }
 }
@@ -135,4 +139,11 @@ fn is_of_ball_device(device: &BallSettings, state: &BallState) -> bool
 {
     let switches = usize::from(device.switches).min(16);
     are_empty(&state.switches[switches..]) && is_eject(device, state.eject)
+}
+
+/// Whether the state is of the shape that the ball save asks for.
+fn is_of_save(save: &SaveSettings, state: &SaveState) -> bool
+    ensures { IsTrue result ↔ HasSaveShape save.now state.now }
+{
+    state.left <= save.balls && (state.due.is_none() || (state.active && save.active_time > 0))
 }

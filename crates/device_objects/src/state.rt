@@ -7,6 +7,8 @@ pub struct World {
     pub games: u64,
     /// The current player, from 1 to 4; 0 where there is none.
     pub player: usize,
+    /// How many balls are in play: 0 unless a ball is on.
+    pub in_play: u32,
 }
 
 /// What a counter remembers for one player.
@@ -119,6 +121,24 @@ pub struct BallState {
     pub wanted: u8,
 }
 
+/// What a ball save remembers.
+#[derive(Clone, Copy)]
+pub struct SaveState {
+    /// Whether it saves balls.
+    pub active: bool,
+    /// How many balls it still saves, while it is active.
+    pub left: u8,
+    /// The moment at which it is disabled, if it has an end.
+    pub due: Option<u64>,
+}
+
+/// What a multiball remembers.
+#[derive(Clone, Copy)]
+pub struct MultiballState {
+    /// Whether it has started, and has not ended yet.
+    pub running: bool,
+}
+
 /// What a device remembers. A persistent block and a bank of shots have a slot for each player;
 /// another block uses only the first.
 #[derive(Clone, Copy)]
@@ -131,4 +151,6 @@ pub enum DeviceState {
     Flipper(FlipperState),
     Autofire(AutofireState),
     BallDevice(BallState),
+    BallSave(SaveState),
+    Multiball(MultiballState),
 }

@@ -7,7 +7,7 @@ use Rattle.plan_tables.specs.Valid.{HasEntries, IsActionWithin}
 use Rattle.plan_tables.specs.declared.entries.ListId.{ListId}
 use Rattle.cascade_rank.specs.Cost.{Cost}
 use Rattle.written_machine.specs.Machine.{Machine}
-use Rattle.written_machine.specs.Moves.{Move, Wrote, Sent, Switched, Began, Ended, Marked, Released, Turned, Asked, Booked, Varied, Stepped, do_move, Does}
+use Rattle.written_machine.specs.Moves.{Move, Wrote, Sent, Switched, Began, Ended, Marked, Released, Turned, Asked, Booked, Varied, Stepped, AddedBalls, do_move, Does}
 use Rattle.written_machine.proofs.Does.{start-by, stop-by, does-keeps, has_devices-does, moment-does}
 use Rattle.written_machine.proofs.Held.{asked-count}
 use Rattle.machine_core.specs.Core.{CoreView, CanCall}
@@ -27,6 +27,7 @@ module _ (plan : PlanView) where
   count-move (Released m) s = refl
   count-move (Varied v value) s = refl
   count-move (Stepped which) s = refl
+  count-move (AddedBalls n) s = refl
 
   count-does : {may : Move → Type 0} {c : Cost} {s t : Machine} → Does plan may c s t → length t.coils ≡ length s.coils
   count-does {may} {c} {s} {t} d = does-keeps plan may (λ u. length u.coils ≡ length s.coils) (λ x u allowed h. count-move x u ∙ h) d refl

@@ -11,25 +11,25 @@ use Rattle.ball_devices.specs.declared.booking.Origin.TheVariants.{Awaited, Foun
 use Rattle.ball_devices.specs.Ledger.{origin_of}
 use Rattle.ball_devices.specs.Bookings.{is_awaited}
 use Rattle.ball_devices.specs.Bookings as calls_of_ledger
-use Rattle.written_machine.specs.Machine.{Machine, post, book, drain_if, after_entry, enter_ball, no_confirm}
+use Rattle.written_machine.specs.Machine.{Machine, post, book, drain_if, after_entry, enter_ball, tell_nobody}
 use Rattle.machine_core.specs.Core.{CoreView, HasRoom, after}
-use Rattle.machine_core.proofs.Going.{goes-post, goes-after_entry, goes-no_confirm}
+use Rattle.machine_core.proofs.Going.{goes-post, goes-after_entry, goes-tell_nobody}
 use Rattle.machine_core.proofs.Listing.{grown}
 use Rattle.machine_core.proofs.Room.{room-before}
 
 module _ (plan : PlanView) (owner : Owner) (r : RowId) (drain : Bool) where
   -- where it was on its way, nothing more happens here, and else it may have drained
-  rest-awaited : (o : Origin) (s : Machine) → is_awaited o ≡ true → after_entry plan no_confirm owner r drain o s ≡ s
+  rest-awaited : (o : Origin) (s : Machine) → is_awaited o ≡ true → after_entry plan tell_nobody owner r drain o s ≡ s
   rest-awaited Awaited s h = refl
   rest-awaited Found s h = absurd (false≢true h)
   rest-awaited New s h = absurd (false≢true h)
 
-  rest-other : (o : Origin) (s : Machine) → is_awaited o ≡ false → after_entry plan no_confirm owner r drain o s ≡ drain_if plan owner drain s
+  rest-other : (o : Origin) (s : Machine) → is_awaited o ≡ false → after_entry plan tell_nobody owner r drain o s ≡ drain_if plan owner drain s
   rest-other Awaited s h = absurd (false≢true (sym h))
   rest-other Found s h = refl
   rest-other New s h = refl
 
-module _ (owner : Owner) (r : RowId) (drain : Bool) (e : EventId) (old : CoreView) (room : HasRoom old.room (enter_ball old.plan no_confirm owner r e drain old.machine)) where
+module _ (owner : Owner) (r : RowId) (drain : Bool) (e : EventId) (old : CoreView) (room : HasRoom old.room (enter_ball old.plan tell_nobody owner r e drain old.machine)) where
   abbrev told : Machine
   told = book owner (calls_of_ledger.Enter r) old.machine
 
@@ -41,8 +41,8 @@ module _ (owner : Owner) (r : RowId) (drain : Bool) (e : EventId) (old : CoreVie
 
   posted-fits : HasRoom old.room posted
   posted-fits =
-      let entered = enter_ball old.plan no_confirm owner r e drain old.machine in
-      room-before old.room posted entered (grown old.plan posted entered (goes-after_entry old.plan no_confirm (goes-no_confirm old.plan) owner r drain origin posted)) room
+      let entered = enter_ball old.plan tell_nobody owner r e drain old.machine in
+      room-before old.room posted entered (grown old.plan posted entered (goes-after_entry old.plan tell_nobody (goes-tell_nobody old.plan) owner r drain origin posted)) room
 
   pub booked-room : HasRoom old.room told
   booked-room = room-before old.room told posted (grown old.plan told posted (goes-post old.plan owner e told)) posted-fits
@@ -57,7 +57,7 @@ module _ (owner : Owner) (r : RowId) (drain : Bool) (e : EventId) (old : CoreVie
       now-is : now ≡ after (λ s. posted) old
       now-is = now_is ∙ ap (after (post owner e)) booked_is
 
-      pub entered-awaited : is_awaited origin ≡ true → now ≡ after (enter_ball old.plan no_confirm owner r e drain) old
+      pub entered-awaited : is_awaited origin ≡ true → now ≡ after (enter_ball old.plan tell_nobody owner r e drain) old
       entered-awaited awaited = now-is ∙ ap (λ (s : Machine). after (λ t. s) old) (sym (rest-awaited old.plan owner r drain origin posted awaited))
 
       pub drain-game : (drain ≡ true → HasGame old.plan) → drain ≡ true → HasGame now.plan
@@ -68,7 +68,7 @@ module _ (owner : Owner) (r : RowId) (drain : Bool) (e : EventId) (old : CoreVie
           subst (λ (c : CoreView). HasRoom c.room (drain_if c.plan owner drain c.machine)) (sym now-is)
           (subst (HasRoom old.room) (rest-other old.plan owner r drain origin posted other) room)
 
-      pub entered-other : is_awaited origin ≡ false → (last : CoreView) → last ≡ after (drain_if now.plan owner drain) now → last ≡ after (enter_ball old.plan no_confirm owner r e drain) old
+      pub entered-other : is_awaited origin ≡ false → (last : CoreView) → last ≡ after (drain_if now.plan owner drain) now → last ≡ after (enter_ball old.plan tell_nobody owner r e drain) old
       entered-other other last last_is =
           last_is ∙ ap (λ (c : CoreView). after (drain_if c.plan owner drain) c) now-is
           ∙ ap (λ (s : Machine). after (λ t. s) old) (sym (rest-other old.plan owner r drain origin posted other))

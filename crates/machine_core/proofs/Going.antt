@@ -1,17 +1,18 @@
--- What is kept while actions are done, devices are called, and balls that have arrived are confirmed.
-use Rattle.std.specs.Prelude.{◌&&◌}
-use Rattle.std.proofs.Common.{◌≡◌, ℕ, ℤ, ◌≤◌, Bool, true, false, if◌then◌else◌, Option, None, Some, List, [], ◌∷◌, length, length-append, refl, ◌∙◌, arith}
-use Rattle.plan_tables.specs.PlanView.{PlanView, actions_at, first_trough, game_event, list_of_row, row_at, switch_at, target_of}
+-- What is kept while actions are done, devices are called, and other devices are told.
+use Rattle.std.specs.Prelude.{◌&&◌, ◌==◌}
+use Rattle.std.proofs.Common.{◌≡◌, ℕ, zero, suc, ℤ, ◌≤◌, Bool, true, false, if◌then◌else◌, Option, None, Some, List, [], ◌∷◌, length, length-append, refl, ◌∙◌, arith}
+use Rattle.plan_tables.specs.PlanView.{PlanView, act_told, actions_at, game_event, list_of_row, multiball_rows, row_at, switch_at, target_of}
 use Rattle.plan_tables.specs.declared.entries.Action.{Action}
-use Rattle.plan_tables.specs.declared.entries.Action.TheVariants.{Post, Pulse, Enable, Disable, Change as ChangeVariable, Enter, Leave, Lose, Arrive}
+use Rattle.plan_tables.specs.declared.entries.Action.TheVariants.{Post, Pulse, Enable, Disable, Change as ChangeVariable, Enter, Leave, Lose, Arrive, Request, AddBalls}
 use Rattle.plan_tables.specs.declared.entries.EventId.{EventId}
 use Rattle.plan_tables.specs.declared.entries.GameEvent.TheVariants.{BallDrain}
 use Rattle.plan_tables.specs.declared.entries.Owner.{Owner}
 use Rattle.plan_tables.specs.declared.entries.VariableId.{VariableId}
-use Rattle.plan_tables.specs.declared.devices.Act.TheVariants.{Confirm, Request}
-use Rattle.plan_tables.specs.declared.devices.BallTarget.{BallTarget}
+use Rattle.plan_tables.specs.declared.devices.Act.TheVariants.{End}
 use Rattle.plan_tables.specs.declared.devices.BallTarget.TheVariants as targets
 use Rattle.plan_tables.specs.declared.devices.RowId.{RowId}
+use Rattle.plan_tables.specs.declared.devices.Telling.{Telling}
+use Rattle.plan_tables.specs.declared.devices.Telling.TheVariants.{Arrived, Wanted}
 use Rattle.ball_devices.specs.Bookings.{LedgerCall, after_call, booked, can_book}
 use Rattle.ball_devices.specs.Bookings as calls_of_ledger
 use Rattle.ball_devices.specs.Ledger.{origin_of}
@@ -21,13 +22,13 @@ use Rattle.coil_guard.specs.declared.command.Command.{Command}
 use Rattle.coil_guard.specs.declared.command.Command.TheVariants as commands
 use Rattle.device_objects.specs.declared.device.Call.{Call}
 use Rattle.device_objects.specs.declared.device.Call.TheVariants as calls
-use Rattle.player_game.specs.GameStep.{is_ball_on}
+use Rattle.player_game.specs.GameStep.{GameState, in_play, is_ball_on, missing, more_balls}
 use Rattle.player_game.specs.Players.{PlayersState, changed_to, after_change}
 use Rattle.switch_core.specs.declared.change.Change.{Change}
 use Rattle.written_machine.specs.declared.line.Happening.{Happening}
 use Rattle.written_machine.specs.declared.line.Happening.TheVariants as lines
 use Rattle.written_machine.specs.Devices.{HasDevices}
-use Rattle.written_machine.specs.Machine.{Machine, write, post, set_device, set_ledger, set_players, all_do, ask_coil, tell_change, book, counts_of, drain_if, after_entry, enter_ball, do_action_by, do_list_by, do_answer_by, called, call_device_by, first_away, no_confirm, confirm_of, confirm_first_away, confirm_entry, do_action, do_list, call_device, ask_trough, ask_ball, confirm_on_playfield}
+use Rattle.written_machine.specs.Machine.{Machine, write, post, set_device, set_game, set_ledger, set_players, all_do, ask_coil, tell_change, book, counts_of, drain_if, after_entry, enter_ball, want_balls, add_balls, do_action_by, do_list_by, do_answer_by, called, call_device_by, tell_nobody, told_device, tell_device, tell_first, do_action, do_list, call_device, ask_ball, end_multiballs, confirm_on_playfield}
 use Rattle.written_machine.specs.Moves.{Turned, Does, moved}
 use Rattle.written_machine.proofs.Does.{has_devices-does}
 use Rattle.written_machine.proofs.Growth.{post-grows, asked-grows, told-grows}
@@ -88,6 +89,9 @@ module _ (plan : PlanView) where
       let g = told-grows owner player v e (Some value) (set_players players s) in
       record { lines = g.0; waiting = g.1; modes = refl; moment = refl; coils = refl; devices = λ h. h }
 
+  goes-game : (game : GameState) (s : Machine) → Goes plan s (set_game game s)
+  goes-game game s = record { lines = omega arith; waiting = omega arith; modes = refl; moment = refl; coils = refl; devices = λ h. h }
+
   -- a device is called, and goes on to its next state
   pub goes-turn : (call : Call) (r : RowId) (s : Machine) → Goes plan s (set_device r (called plan call r s).0 s)
   goes-turn call r s =
@@ -115,23 +119,32 @@ module _ (plan : PlanView) where
   goes-all f each [] s = goes-none s
   goes-all f each (x ∷ xs) s = goes-then s (f x s) (all_do f xs (f x s)) (each x s) (goes-all f each xs (f x s))
 
-  -- ---- actions, lists and calls, whoever is told of an entry
+  -- ---- actions, lists and calls, whoever is told of them
 
-  module _ (confirm : RowId → Machine → Machine) (each : (r : RowId) (s : Machine) → Goes plan s (confirm r s)) where
-    pub goes-after_entry : (owner : Owner) (r : RowId) (drain : Bool) (o : Origin) (s : Machine) → Goes plan s (after_entry plan confirm owner r drain o s)
-    goes-after_entry owner r drain Awaited s = each r s
+  module _ (tell : Telling → Machine → Machine) (each : (telling : Telling) (s : Machine) → Goes plan s (tell telling s)) where
+    pub goes-after_entry : (owner : Owner) (r : RowId) (drain : Bool) (o : Origin) (s : Machine) → Goes plan s (after_entry plan tell owner r drain o s)
+    goes-after_entry owner r drain Awaited s = each (Arrived (targets.Device r)) s
     goes-after_entry owner r drain Found s = goes-drain owner drain s
     goes-after_entry owner r drain New s = goes-drain owner drain s
 
-    goes-enter : (owner : Owner) (r : RowId) (e : EventId) (drain : Bool) (s : Machine) → Goes plan s (enter_ball plan confirm owner r e drain s)
+    goes-enter : (owner : Owner) (r : RowId) (e : EventId) (drain : Bool) (s : Machine) → Goes plan s (enter_ball plan tell owner r e drain s)
     goes-enter owner r e drain s =
         let told = book owner (calls_of_ledger.Enter r) s in
         let posted = post owner e told in
-        goes-then s posted (enter_ball plan confirm owner r e drain s)
+        goes-then s posted (enter_ball plan tell owner r e drain s)
         (goes-then s told posted (goes-book owner (calls_of_ledger.Enter r) s) (goes-post owner e told))
         (goes-after_entry owner r drain (origin_of r s.ledger) posted)
 
-    pub goes-action_by : (owner : Owner) (a : Action) (s : Machine) → Goes plan s (do_action_by plan confirm owner a s)
+    goes-want : (n : ℕ) (s : Machine) → Goes plan s (want_balls tell n s)
+    goes-want zero s = goes-none s
+    goes-want (suc n) s = each (Wanted (suc n)) s
+
+    goes-add : (n : ℕ) (s : Machine) → Goes plan s (add_balls tell n s)
+    goes-add n s =
+        let more = set_game (more_balls n s.game) s in
+        goes-then s more (add_balls tell n s) (goes-game (more_balls n s.game) s) (goes-want (missing n s.game) more)
+
+    pub goes-action_by : (owner : Owner) (a : Action) (s : Machine) → Goes plan s (do_action_by plan tell owner a s)
     goes-action_by owner (Post e) s = goes-post owner e s
     goes-action_by owner (Pulse coil ms power) s = goes-asked owner (commands.Pulse coil ms power) s
     goes-action_by owner (Enable coil power) s = goes-asked owner (commands.Enable coil power) s
@@ -143,51 +156,51 @@ module _ (plan : PlanView) where
     goes-action_by owner (Leave r) s = goes-book owner (calls_of_ledger.Leave r (target_of plan r)) s
     goes-action_by owner (Lose r) s = goes-book owner (calls_of_ledger.Lose r) s
     goes-action_by owner (Arrive r) s = goes-book owner (calls_of_ledger.Arrive (target_of plan r)) s
+    goes-action_by owner (Request n) s = each (Wanted n) s
+    goes-action_by owner (AddBalls n) s = goes-add n s
 
-    pub goes-list_by : (r : RowId) (k : ℕ) (s : Machine) → Goes plan s (do_list_by plan confirm (row_at plan r).owner (list_of_row plan r k) s)
-    goes-list_by r k s = goes-all (do_action_by plan confirm (row_at plan r).owner) (goes-action_by (row_at plan r).owner) (actions_at plan (list_of_row plan r k)) s
+    pub goes-list_by : (r : RowId) (k : ℕ) (s : Machine) → Goes plan s (do_list_by plan tell (row_at plan r).owner (list_of_row plan r k) s)
+    goes-list_by r k s = goes-all (do_action_by plan tell (row_at plan r).owner) (goes-action_by (row_at plan r).owner) (actions_at plan (list_of_row plan r k)) s
 
-    pub goes-answer_by : (r : RowId) (lists : List ℕ) (s : Machine) → Goes plan s (do_answer_by plan confirm r lists s)
-    goes-answer_by r lists s = goes-all (λ k. do_list_by plan confirm (row_at plan r).owner (list_of_row plan r k)) (goes-list_by r) lists s
+    pub goes-answer_by : (r : RowId) (lists : List ℕ) (s : Machine) → Goes plan s (do_answer_by plan tell r lists s)
+    goes-answer_by r lists s = goes-all (λ k. do_list_by plan tell (row_at plan r).owner (list_of_row plan r k)) (goes-list_by r) lists s
 
-    pub goes-call_by : (call : Call) (r : RowId) (s : Machine) → Goes plan s (call_device_by plan confirm call r s)
+    pub goes-call_by : (call : Call) (r : RowId) (s : Machine) → Goes plan s (call_device_by plan tell call r s)
     goes-call_by call r s =
         let turned = set_device r (called plan call r s).0 s in
-        goes-then s turned (call_device_by plan confirm call r s) (goes-turn call r s) (goes-answer_by r (called plan call r s).1 turned)
+        goes-then s turned (call_device_by plan tell call r s) (goes-turn call r s) (goes-answer_by r (called plan call r s).1 turned)
 
   -- ---- where nobody is told
 
-  pub goes-no_confirm : (r : RowId) (s : Machine) → Goes plan s (no_confirm r s)
-  goes-no_confirm r s = goes-none s
+  pub goes-tell_nobody : (telling : Telling) (s : Machine) → Goes plan s (tell_nobody telling s)
+  goes-tell_nobody telling s = goes-none s
 
-  goes-confirm_of : (found : Option RowId) (s : Machine) → Goes plan s (confirm_of plan found s)
-  goes-confirm_of None s = goes-none s
-  goes-confirm_of (Some r) s = goes-call_by no_confirm goes-no_confirm (calls.Act Confirm) r s
+  goes-device : (telling : Telling) (found : Option RowId) (s : Machine) → Goes plan s (tell_device plan telling found s)
+  goes-device telling None s = goes-none s
+  goes-device telling (Some r) s = goes-call_by tell_nobody goes-tell_nobody (calls.Act (act_told telling)) r s
 
-  pub goes-confirm : (target : BallTarget) (s : Machine) → Goes plan s (confirm_first_away plan target s)
-  goes-confirm target s = goes-confirm_of (first_away plan target s) s
+  -- ---- where the device is told that is to know it
 
-  -- ---- where the first device that is Away is told
-
-  pub goes-confirm_entry : (r : RowId) (s : Machine) → Goes plan s (confirm_entry plan r s)
-  goes-confirm_entry r s = goes-confirm (targets.Device r) s
+  pub goes-tell_first : (telling : Telling) (s : Machine) → Goes plan s (tell_first plan telling s)
+  goes-tell_first telling s = goes-device telling (told_device plan telling s) s
 
   pub goes-action : (owner : Owner) (a : Action) (s : Machine) → Goes plan s (do_action plan owner a s)
-  goes-action owner a s = goes-action_by (confirm_entry plan) goes-confirm_entry owner a s
+  goes-action owner a s = goes-action_by (tell_first plan) goes-tell_first owner a s
 
   pub goes-list : (r : RowId) (k : ℕ) (s : Machine) → Goes plan s (do_list plan (row_at plan r).owner (list_of_row plan r k) s)
-  goes-list r k s = goes-list_by (confirm_entry plan) goes-confirm_entry r k s
+  goes-list r k s = goes-list_by (tell_first plan) goes-tell_first r k s
 
   pub goes-call : (call : Call) (r : RowId) (s : Machine) → Goes plan s (call_device plan call r s)
-  goes-call call r s = goes-call_by (confirm_entry plan) goes-confirm_entry call r s
-
-  goes-trough : (found : Option RowId) (s : Machine) → Goes plan s (ask_trough plan found s)
-  goes-trough None s = goes-none s
-  goes-trough (Some r) s = goes-call (calls.Act (Request 1)) r s
+  goes-call call r s = goes-call_by (tell_first plan) goes-tell_first call r s
 
   pub goes-ask : (asks : Bool) (s : Machine) → Goes plan s (ask_ball plan asks s)
-  goes-ask true s = goes-trough (first_trough plan) s
-  goes-ask false s = goes-none s
+  goes-ask asks s = goes-if asks s (tell_first plan (Wanted 1) s) (goes-tell_first (Wanted 1) s)
 
   pub goes-playfield : (a : Change) (s : Machine) → Goes plan s (confirm_on_playfield plan a s)
-  goes-playfield a s = goes-if (a.active && (switch_at plan a.switch).confirms_playfield) s (confirm_first_away plan targets.Playfield s) (goes-confirm targets.Playfield s)
+  goes-playfield a s =
+      goes-if (a.active && (switch_at plan a.switch).confirms_playfield) s (tell_first plan (Arrived targets.Playfield) s) (goes-tell_first (Arrived targets.Playfield) s)
+
+  pub goes-end : (s : Machine) → Goes plan s (end_multiballs plan s)
+  goes-end s =
+      goes-if (in_play s.game == 1) s (all_do (call_device plan (calls.Act End)) (multiball_rows plan) s)
+      (goes-all (call_device plan (calls.Act End)) (goes-call (calls.Act End)) (multiball_rows plan) s)

@@ -7,10 +7,11 @@ pub mod Listing
 pub mod Fitting
 pub mod Accepting
 pub mod Entering
-pub mod Confirming
+pub mod Telling
 pub mod Homes
 pub mod Handling
 pub mod Playing
+pub mod Draining
 pub mod Stepping
 pub mod Settling
 pub mod Following

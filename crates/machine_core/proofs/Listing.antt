@@ -1,5 +1,7 @@
 -- The rows of a plan, one after another, and what their devices answer.
-use Rattle.std.proofs.Common.{◌≡◌, ℕ, ◌+◌, ◌<◌, ◌≤◌, Bool, true, false, cond, List, [], ◌∷◌, length, filter, drop, ap, sym, ◌∙◌, subst, arith}
+use Rattle.std.specs.Prelude.{◌&&◌, find}
+use Rattle.std.proofs.Common.{◌≡◌, ℕ, ◌+◌, ◌<◌, ◌≤◌, Bool, true, false, cond, Option, None, Some, List, [], ◌∷◌, length, filter, drop, refl, ap, sym, ◌∙◌, subst, arith}
+use Rattle.std.proofs.lemmas.Bool.{and_parts, false≢true}
 use Rattle.std.specs.List.{All}
 use Rattle.std.proofs.lemmas.List.{drop_all, drop_more}
 use Rattle.std.proofs.lemmas.List.Elements.{All-get_or}
@@ -51,6 +53,30 @@ module _ (plan : PlanView) where
 
   pub rows-end : (i : ℕ) → length plan.rows ≤ i → drop i (row_numbers plan) ≡ []
   rows-end i past = drop_all i (row_numbers plan) (omega (arith, past, length-rows plan))
+
+  -- the first of those that are meant which meets a test, from a number on
+  module _ (meant meets : RowId → Bool) where
+    abbrev pub first_from : ℕ → Option RowId
+    first_from i = find meets (filter meant (drop i (row_numbers plan)))
+
+    pub first-here : (i : ℕ) → i < length plan.rows → (meant (record { 0 = i }) && meets (record { 0 = i })) ≡ true → first_from i ≡ Some (record { 0 = i })
+    first-here i there both =
+        let r : RowId = record { 0 = i } in
+        let parts = and_parts (meant r) (meets r) both in
+        ap (find meets) (row-first meant i there parts.0)
+        ∙ ap (λ (b : Bool). cond b (Some r) (find meets (filter meant (drop (i + 1) (row_numbers plan))))) parts.1
+
+    pub first-later : (i : ℕ) → i < length plan.rows → (meant (record { 0 = i }) && meets (record { 0 = i })) ≡ false → first_from i ≡ first_from (i + 1)
+    first-later i there neither = by (meant (record { 0 = i })) (meets (record { 0 = i })) refl refl neither
+      where
+        by : (m t : Bool) → meant (record { 0 = i }) ≡ m → meets (record { 0 = i }) ≡ t → (m && t) ≡ false → first_from i ≡ first_from (i + 1)
+        by true true is of h = absurd (false≢true (sym h))
+        by true false is of h =
+            ap (find meets) (row-first meant i there is) ∙ ap (λ (b : Bool). cond b (Some (record { 0 = i })) (first_from (i + 1))) of
+        by false t is of h = ap (find meets) (row-other meant i there is)
+
+    pub first-end : (i : ℕ) → length plan.rows ≤ i → first_from i ≡ None
+    first-end i past = ap (λ (rs : List RowId). find meets (filter meant rs)) (rows-end i past)
 
   -- what a device answers are lists of its row
   pub answer-lists : (call : Call) (r : RowId) (s : Machine) → r.0 < length plan.rows → HasDevices plan s.devices → MayCome call (device_at s r) → All (λ k. k < list_count (row_at plan r).settings) (called plan call r s).1

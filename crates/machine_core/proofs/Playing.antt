@@ -1,9 +1,14 @@
 -- What an event of the game leads to.
-use Rattle.std.proofs.Common.{◌≡◌, ℕ, suc, ◌+◌, ◌-◌, ◌<◌, ◌≤◌, Bool, true, false, List, [], ◌∷◌, length, ap, sym, ◌∙◌, subst, arith}
+use Rattle.std.proofs.Common.{◌≡◌, ℕ, suc, ◌+◌, ◌-◌, ◌<◌, ◌≤◌, Bool, true, false, if◌then◌else◌, Option, None, Some, List, [], ◌∷◌, length, refl, ap, sym, ◌∙◌, subst, arith}
 use Rattle.std.specs.List.{range_with_len}
 use Rattle.plan_tables.specs.PlanView.{PlanView}
 use Rattle.plan_tables.specs.Valid.{HasGame}
 use Rattle.plan_tables.specs.declared.entries.GameEvent.{GameEvent}
+use Rattle.plan_tables.specs.declared.entries.GameEvent.TheVariants.{BallDrain}
+use Rattle.plan_tables.specs.declared.devices.Act.TheVariants.{Save}
+use Rattle.plan_tables.specs.declared.devices.RowId.{RowId}
+use Rattle.device_objects.specs.declared.device.Call.TheVariants as calls
+use Rattle.player_game.specs.Choices.{is_drain}
 use Rattle.plan_tables.specs.declared.entries.Owner.TheVariants as owners
 use Rattle.mode_stack.specs.declared.phase.ModeState.{ModeState}
 use Rattle.mode_stack.specs.Modes.{running_of}
@@ -12,10 +17,10 @@ use Rattle.player_game.specs.GameStep.{GameStep}
 use Rattle.player_game.specs.Players.{score_of}
 use Rattle.plan_tables.specs.PlanView.{game_event}
 use Rattle.written_machine.specs.declared.line.Happening.TheVariants as lines
-use Rattle.written_machine.specs.Machine.{Machine, all_do, ask_ball, do_game, post_game, write_final, write_finals}
+use Rattle.written_machine.specs.Machine.{Machine, all_do, ask_ball, do_game, drain_ball, end_multiballs, first_active_save, post_game, step_game, write_final, write_finals}
 use Rattle.machine_core.specs.Core.{CoreView, CanCall, HasRoom, IsWorkOfGame, after, played, step_at}
 use Rattle.machine_core.specs.Goes.{Goes}
-use Rattle.machine_core.proofs.Going.{goes-none, goes-can, goes-all, goes-post, goes-write, goes-ask}
+use Rattle.machine_core.proofs.Going.{goes-none, goes-then, goes-can, goes-all, goes-post, goes-write, goes-call, goes-ask, goes-end}
 use Rattle.machine_core.proofs.Listing.{grown}
 use Rattle.machine_core.proofs.Room.{room-before}
 
@@ -31,14 +36,37 @@ module _ (plan : PlanView) where
   goes-events : (events : List GameEvent) (s : Machine) → Goes plan s (all_do (post_game plan) events s)
   goes-events events s = goes-all plan (post_game plan) (λ e t. goes-post plan owners.Machine (game_event plan e) t) events s
 
-  -- the same modes run
-  pub game-still : (which : GameEvent) (s : Machine) → running_of (do_game plan which s).modes ≡ running_of s.modes
-  game-still which s =
+  -- the game goes on
+  goes-gone : (which : GameEvent) (s : Machine) → Goes plan s (played plan which s)
+  goes-gone which s = record { lines = omega arith; waiting = omega arith; modes = refl; moment = refl; coils = refl; devices = λ h. h }
+
+  pub goes-step : (which : GameEvent) (s : Machine) → Goes plan s (step_game plan which s)
+  goes-step which s =
       let step = step_at plan which s in
       let gone = played plan which s in
       let told = write_finals plan step.finals gone in
       let asked = ask_ball plan step.requests told in
-      ap (λ (states : List ModeState). running_of states) ((goes-events step.posts asked).modes ∙ (goes-ask plan step.requests told).modes ∙ (goes-finals step.finals gone).modes)
+      goes-then plan s asked (step_game plan which s)
+      (goes-then plan s told asked (goes-then plan s gone told (goes-gone which s) (goes-finals step.finals gone)) (goes-ask plan step.requests told))
+      (goes-events step.posts asked)
+
+  -- a ball drains
+  goes-drained : (save : Option RowId) (s : Machine) → Goes plan s (drain_ball plan save s)
+  goes-drained None s =
+      let stepped = step_game plan BallDrain s in
+      goes-then plan s stepped (end_multiballs plan stepped) (goes-step BallDrain s) (goes-end plan stepped)
+  goes-drained (Some r) s = goes-call plan (calls.Act Save) r s
+
+  goes-game_work : (which : GameEvent) (s : Machine) → Goes plan s (do_game plan which s)
+  goes-game_work which s = by (is_drain which)
+    where
+      by : (drains : Bool) → Goes plan s (if drains then drain_ball plan (first_active_save plan s) s else step_game plan which s)
+      by true = goes-drained (first_active_save plan s) s
+      by false = goes-step which s
+
+  -- the same modes run
+  pub game-still : (which : GameEvent) (s : Machine) → running_of (do_game plan which s).modes ≡ running_of s.modes
+  game-still which s = ap (λ (states : List ModeState). running_of states) (goes-game_work which s).modes
 
 -- ---- scores, one player after another
 
@@ -67,12 +95,12 @@ module _ (which : GameEvent) (old next : CoreView) (next_is : next ≡ after (pl
   abbrev asked_machine : Machine
   asked_machine = ask_ball old.plan step.requests scored
 
-  asked-fits : HasRoom old.room (do_game old.plan which old.machine) → HasRoom old.room asked_machine
+  asked-fits : HasRoom old.room (step_game old.plan which old.machine) → HasRoom old.room asked_machine
   asked-fits room =
-      let done = do_game old.plan which old.machine in
+      let done = step_game old.plan which old.machine in
       room-before old.room asked_machine done (grown old.plan asked_machine done (goes-events old.plan step.posts asked_machine)) room
 
-  pub scores-room : HasRoom old.room (do_game old.plan which old.machine) → HasRoom next.room (write_finals next.plan work.finals next.machine)
+  pub scores-room : HasRoom old.room (step_game old.plan which old.machine) → HasRoom next.room (write_finals next.plan work.finals next.machine)
   scores-room room =
       let here : HasRoom old.room scored = room-before old.room scored asked_machine (grown old.plan scored asked_machine (goes-ask old.plan step.requests scored)) (asked-fits room) in
       subst (λ (v : CoreView). HasRoom v.room (write_finals v.plan work.finals v.machine)) (sym next_is)
@@ -88,7 +116,7 @@ module _ (which : GameEvent) (old next : CoreView) (next_is : next ≡ after (pl
         subst CanCall (sym told-is)
         (goes-can (after (played old.plan which) old) (λ s. scored) (goes-finals old.plan step.finals gone) (record { devices = h.devices; coils = h.coils; early = h.early }))
 
-    pub ask-room : HasRoom old.room (do_game old.plan which old.machine) → HasRoom told.room (ask_ball told.plan work.requests told.machine)
+    pub ask-room : HasRoom old.room (step_game old.plan which old.machine) → HasRoom told.room (ask_ball told.plan work.requests told.machine)
     ask-room room =
         subst (λ (v : CoreView). HasRoom v.room (ask_ball v.plan work.requests v.machine)) (sym told-is)
         (subst (λ (b : Bool). HasRoom old.room (ask_ball old.plan b scored)) (sym work_is.requests) (asked-fits room))
@@ -102,10 +130,10 @@ module _ (which : GameEvent) (old next : CoreView) (next_is : next ≡ after (pl
       asked-game game = subst (λ (v : CoreView). HasGame v.plan) (sym asked-is) game
 
       module _ (posts : List GameEvent) (posts_is : posts ≡ work.posts.items) where
-        pub events-room : HasRoom old.room (do_game old.plan which old.machine) → HasRoom asked.room (all_do (post_game asked.plan) posts asked.machine)
+        pub events-room : HasRoom old.room (step_game old.plan which old.machine) → HasRoom asked.room (all_do (post_game asked.plan) posts asked.machine)
         events-room room =
             subst (λ (v : CoreView). HasRoom v.room (all_do (post_game v.plan) posts v.machine)) (sym asked-is)
             (subst (λ (es : List GameEvent). HasRoom old.room (all_do (post_game old.plan) es asked_machine)) (sym (posts_is ∙ work_is.posts)) room)
 
-        pub game-done : (last : CoreView) → last ≡ after (all_do (post_game asked.plan) posts) asked → last ≡ after (do_game old.plan which) old
+        pub game-done : (last : CoreView) → last ≡ after (all_do (post_game asked.plan) posts) asked → last ≡ after (step_game old.plan which) old
         game-done last last_is = last_is ∙ (λ i. after (all_do (post_game (asked-is i).plan) ((posts_is ∙ work_is.posts) i)) (asked-is i))

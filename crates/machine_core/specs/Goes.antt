@@ -1,7 +1,7 @@
--- What is kept while a ball that enters a device is confirmed, or not.
+-- What is kept while another device is told of an action, or not.
 use Rattle.std.specs.Prelude.{◌≡◌, ◌≤◌, length}
 use Rattle.plan_tables.specs.PlanView.{PlanView}
-use Rattle.plan_tables.specs.declared.devices.RowId.{RowId}
+use Rattle.plan_tables.specs.declared.devices.Telling.{Telling}
 use Rattle.written_machine.specs.Devices.{HasDevices}
 use Rattle.written_machine.specs.Machine.{Machine}
 
@@ -15,10 +15,10 @@ pub record Goes (plan : PlanView) (s t : Machine) : Type 0 where
   pub coils : length t.coils ≡ length s.coils
   pub devices : HasDevices plan s.devices → HasDevices plan t.devices
 
--- how the device is told whose ball has entered the device of a row
-abbrev pub Confirm : Type 0
-Confirm = PlanView → RowId → Machine → Machine
+-- how another device is told
+abbrev pub Tell : Type 0
+Tell = PlanView → Telling → Machine → Machine
 
 -- in every state
-abbrev pub AlwaysGoes : Confirm → Type 0
-AlwaysGoes confirm = (plan : PlanView) (r : RowId) (s : Machine) → Goes plan s (confirm plan r s)
+abbrev pub AlwaysGoes : Tell → Type 0
+AlwaysGoes tell = (plan : PlanView) (telling : Telling) (s : Machine) → Goes plan s (tell plan telling s)

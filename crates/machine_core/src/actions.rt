@@ -1,24 +1,24 @@
-//! The actions of effect lists, before a ball that one of them lets into a device is confirmed.
+//! The actions of effect lists, before another device is told of one.
 
 ghost use Rattle.std.specs.Prelude.{◌≡◌, ◌<◌, true, length};
 ghost use Rattle.plan_tables.specs.Valid.{HasGame, IsActionWithin, IsTargetThere};
 ghost use Rattle.plan_tables.specs.PlanView.{target_of};
-ghost use Rattle.written_machine.specs.Machine.{do_action_by, drain_if, enter_ball, no_confirm};
-ghost use Rattle.machine_core.specs.Balls.{awaited_entry};
+ghost use Rattle.written_machine.specs.Machine.{do_action_by, drain_if, enter_ball, tell_nobody};
+ghost use Rattle.machine_core.specs.Balls.{told_by, wanted};
 ghost use Rattle.machine_core.specs.Core.{CanCall, HasRoom, after};
 
 use crate::balls::BallCall;
 use crate::core_state::Core;
 use coil_guard::Command;
 use device_objects::Device;
-use plan_tables::{Action, BallTarget, EventId, GameEvent, Owner, Plan, RowId};
+use plan_tables::{Action, BallTarget, EventId, GameEvent, Owner, Plan, RowId, Telling};
 
-/// An action. A ball that it lets into a device is not confirmed yet.
+/// An action. No other device is told of it yet.
 pub(crate) fn run_alone<D: Device>(core: &mut Core<'_, D>, owner: Owner, action: Action)
     requires action { IsActionWithin core.old.plan action }
     requires calls { CanCall core.old }
-    requires room { HasRoom core.old.room (do_action_by core.old.plan no_confirm owner action core.old.machine) }
-    ensures { core.new ≡ after (do_action_by core.old.plan no_confirm owner action) core.old }
+    requires room { HasRoom core.old.room (do_action_by core.old.plan tell_nobody owner action core.old.machine) }
+    ensures { core.new ≡ after (do_action_by core.old.plan tell_nobody owner action) core.old }
 {
     match action {
         Action::Post(event) => core.post(owner, event),
@@ -45,6 +45,8 @@ pub(crate) fn run_alone<D: Device>(core: &mut Core<'_, D>, owner: Owner, action:
             let target = target_of(core.plan(), device);
             core.book(owner, BallCall::Arrive(target));
         }
+        Action::Request { .. } => {}
+        Action::AddBalls { balls } => core.add_balls(balls),
     }
 }
 
@@ -59,8 +61,8 @@ fn enter<D: Device>(
 )
     requires device { device.0 < length core.old.plan.rows }
     requires game { drain ≡ true → HasGame core.old.plan }
-    requires room { HasRoom core.old.room (enter_ball core.old.plan no_confirm owner device event drain core.old.machine) }
-    ensures { core.new ≡ after (enter_ball core.old.plan no_confirm owner device event drain) core.old }
+    requires room { HasRoom core.old.room (enter_ball core.old.plan tell_nobody owner device event drain core.old.machine) }
+    ensures { core.new ≡ after (enter_ball core.old.plan tell_nobody owner device event drain) core.old }
 {
     let awaited = core.awaits(device);
     core.book(owner, BallCall::Enter(device));
@@ -82,20 +84,33 @@ fn post_drain<D: Device>(core: &mut Core<'_, D>, owner: Owner, drain: bool)
     }
 }
 
-/// The device into which the action lets a ball that is on its way there, if it does.
-pub(crate) fn awaited_entry<D: Device>(core: &Core<'_, D>, action: Action) -> Option<RowId>
+/// What another device is to be told of the action, if anything. The action is not done yet.
+pub(crate) fn told_by<D: Device>(core: &Core<'_, D>, action: Action) -> Option<Telling>
     requires { IsActionWithin core.now.plan action }
-    ensures { result ≡ awaited_entry action core.now.machine }
+    ensures { result ≡ told_by action core.now.machine }
 {
     match action {
         Action::Enter { device, .. } => {
             if core.awaits(device) {
-                Some(device)
+                Some(Telling::Arrived(BallTarget::Device(device)))
             } else {
                 None
             }
         }
+        Action::Request { balls } => Some(Telling::Wanted(usize::from(balls))),
+        Action::AddBalls { balls } => wanted(core.missing(balls)),
         _ => None,
+    }
+}
+
+/// So many more balls are wanted, if any.
+fn wanted(balls: usize) -> Option<Telling>
+    ensures { result ≡ wanted balls }
+{
+    if balls == 0 {
+        None
+    } else {
+        Some(Telling::Wanted(balls))
     }
 }
 

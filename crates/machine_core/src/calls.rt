@@ -8,12 +8,12 @@ ghost use Rattle.device_objects.specs.Laws.{MayCome};
 ghost use Rattle.written_machine.specs.Machine.{all_do, device_at, do_action, call_device, call_devices};
 ghost use Rattle.machine_core.specs.Core.{CanCall, HasRoom, after};
 
-use crate::actions::{awaited_entry, run_alone};
-use crate::arrivals::confirm;
+use crate::actions::{run_alone, told_by};
 use crate::core_state::Core;
-use crate::lists::{Confirming, actions_by, call_by};
+use crate::lists::{Tells, actions_by, call_by};
+use crate::tellings::tell;
 use device_objects::{Call, Device};
-use plan_tables::{Action, BallTarget, ModeId, Owner, Plan, RowId};
+use plan_tables::{Action, ModeId, Owner, Plan, RowId};
 
 /// The devices of a mode are called, in the order of their rows.
 pub(crate) fn call_devices<D: Device>(core: &mut Core<'_, D>, mode: ModeId, call: Call)
@@ -39,16 +39,16 @@ pub(crate) fn call_device<D: Device>(core: &mut Core<'_, D>, row: RowId, call: C
     requires room { HasRoom core.old.room (call_device core.old.plan call row core.old.machine) }
     ensures { core.new ≡ after (call_device core.old.plan call row) core.old }
 {
-    call_by::<D, Confirmed>(core, row, call);
+    call_by::<D, TellsFirst>(core, row, call);
 }
 
-/// Entries of balls are confirmed.
-struct Confirmed;
+/// The ball device that is to know of an action is told.
+struct TellsFirst;
 
-impl Confirming for Confirmed {
-    ghost use Rattle.written_machine.specs.Machine.{confirm_entry};
+impl Tells for TellsFirst {
+    ghost use Rattle.written_machine.specs.Machine.{tell_first};
 
-    ghost confirm = { confirm_entry };
+    ghost tell = { tell_first };
 
     fn run<D: Device>(core: &mut Core<'_, D>, owner: Owner, action: Action) {
         run_action(core, owner, action);
@@ -62,19 +62,19 @@ pub(crate) fn run_actions<D: Device>(core: &mut Core<'_, D>, owner: Owner, actio
     requires room { HasRoom core.old.room (all_do (do_action core.old.plan owner) actions.now core.old.machine) }
     ensures { core.new ≡ after (all_do (do_action core.old.plan owner) actions.now) core.old }
 {
-    actions_by::<D, Confirmed>(core, owner, actions);
+    actions_by::<D, TellsFirst>(core, owner, actions);
 }
 
-/// An action. Where it lets a ball into a device that was on its way there, that is confirmed.
+/// An action. If a ball device is to know of it, that one is told.
 fn run_action<D: Device>(core: &mut Core<'_, D>, owner: Owner, action: Action)
     requires action { IsActionWithin core.old.plan action }
     requires calls { CanCall core.old }
     requires room { HasRoom core.old.room (do_action core.old.plan owner action core.old.machine) }
     ensures { core.new ≡ after (do_action core.old.plan owner action) core.old }
 {
-    let entry = awaited_entry(core, action);
+    let told = told_by(core, action);
     run_alone(core, owner, action);
-    if let Some(row) = entry {
-        confirm(core, BallTarget::Device(row));
+    if let Some(telling) = told {
+        tell(core, telling);
     }
 }

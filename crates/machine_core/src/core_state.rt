@@ -17,7 +17,7 @@ ghost use Rattle.written_machine.specs.Run.{arrived};
 ghost use Rattle.device_objects.specs.DeviceStep.{device_step, due_of};
 ghost use Rattle.plan_tables.specs.PlanView.{row_at};
 ghost use Rattle.plan_tables.specs.Valid.{IsConditionWithin};
-ghost use Rattle.player_game.specs.GameStep.{ends_ball, held, is_ball_on};
+ghost use Rattle.player_game.specs.GameStep.{ends_ball, held, in_play, is_ball_on, missing, more_balls};
 ghost use Rattle.player_game.specs.Players.{is_met, no_players};
 ghost use Rattle.ball_devices.specs.Bookings.{is_awaited};
 ghost use Rattle.ball_devices.specs.Ledger.{no_balls, origin_of};
@@ -337,6 +337,31 @@ impl<'p, D: Device> Core<'p, D> {
             GamePhase::Ball => true,
             GamePhase::None | GamePhase::Between => false,
         }
+    }
+
+    /// How many balls are in play: none unless a ball is on.
+    pub(crate) fn in_play(&self) -> u32
+        ensures { result ≡ in_play self.now.machine.game }
+    {
+        self.game.in_play()
+    }
+
+    /// How many balls are missing, while a ball is on, for so many to be in play.
+    pub(crate) fn missing(&self, balls: u8) -> usize
+        ensures { result ≡ missing balls self.now.machine.game }
+    {
+        if self.is_ball_on() {
+            usize::from(balls).saturating_sub(self.in_play() as usize)
+        } else {
+            0
+        }
+    }
+
+    /// At least so many balls are in play from now on, while a ball is on.
+    pub(crate) fn add_balls(&mut self, balls: u8)
+        ensures { self.new ≡ after (λ s. set_game (more_balls balls s.game) s) self.old }
+    {
+        let _ = self.game.add_balls(balls);
     }
 
     /// Whether a game goes on.

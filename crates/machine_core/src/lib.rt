@@ -2,16 +2,18 @@
 #![tactic(auto)]
 
 mod actions;
-mod arrivals;
 mod balls;
 mod calls;
 pub mod core_state;
+mod drains;
 mod exchange;
 pub mod fault;
 mod fit;
+mod game_steps;
 mod lists;
 pub mod parts;
 pub mod stimulus;
+mod tellings;
 
 pub use core_state::Core;
 pub use fault::CoreFault;

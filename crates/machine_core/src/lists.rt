@@ -1,4 +1,4 @@
-//! The effect lists that a device answers to a call, with entries of balls that are confirmed, or not.
+//! The effect lists that a device answers to a call, where another device is told of them, or not.
 
 ghost use Rattle.std.specs.Prelude.{◌≡◌, ◌<◌, length};
 ghost use Rattle.std.specs.List.{All};
@@ -8,66 +8,66 @@ ghost use Rattle.plan_tables.specs.Valid.{IsActionWithin};
 ghost use Rattle.device_objects.specs.Laws.{MayCome};
 ghost use Rattle.written_machine.specs.Machine.{all_do, call_device_by, device_at, do_action_by, do_answer_by};
 ghost use Rattle.machine_core.specs.Core.{CanCall, HasRoom, after};
-ghost use Rattle.machine_core.specs.Goes.{AlwaysGoes, Confirm};
+ghost use Rattle.machine_core.specs.Goes.{AlwaysGoes, Tell};
 
 use crate::core_state::Core;
 use device_objects::{Call, Device};
 use plan_tables::{Action, Owner, RowId};
 
-/// Whether a ball that an action lets into a device is confirmed.
-pub(crate) trait Confirming {
-    ghost confirm: { Confirm };
+/// How another device is told of an action.
+pub(crate) trait Tells {
+    ghost tell: { Tell };
 
     /// Does an action.
     fn run<D: Device>(core: &mut Core<'_, D>, owner: Owner, action: Action)
         requires action { IsActionWithin core.old.plan action }
         requires calls { CanCall core.old }
-        requires room { HasRoom core.old.room (do_action_by core.old.plan (confirm core.old.plan) owner action core.old.machine) }
-        ensures { core.new ≡ after (do_action_by core.old.plan (confirm core.old.plan) owner action) core.old };
+        requires room { HasRoom core.old.room (do_action_by core.old.plan (tell core.old.plan) owner action core.old.machine) }
+        ensures { core.new ≡ after (do_action_by core.old.plan (tell core.old.plan) owner action) core.old };
 }
 
 /// A device is called, and the effect lists that it answers are run for its owner.
-pub(crate) fn call_by<D: Device, C: Confirming>(core: &mut Core<'_, D>, row: RowId, call: Call)
+pub(crate) fn call_by<D: Device, T: Tells>(core: &mut Core<'_, D>, row: RowId, call: Call)
     requires row { row.0 < length core.old.plan.rows }
     requires may { MayCome call (device_at core.old.machine row) }
-    requires goes { AlwaysGoes C.confirm }
+    requires goes { AlwaysGoes T.tell }
     requires calls { CanCall core.old }
-    requires room { HasRoom core.old.room (call_device_by core.old.plan (C.confirm core.old.plan) call row core.old.machine) }
-    ensures { core.new ≡ after (call_device_by core.old.plan (C.confirm core.old.plan) call row) core.old }
+    requires room { HasRoom core.old.room (call_device_by core.old.plan (T.tell core.old.plan) call row core.old.machine) }
+    ensures { core.new ≡ after (call_device_by core.old.plan (T.tell core.old.plan) call row) core.old }
 {
     let lists = core.call(row, call);
-    lists_by::<D, C>(core, row, &lists);
+    lists_by::<D, T>(core, row, &lists);
 }
 
 /// Effect lists of a row run, one after another, for the row's owner.
-fn lists_by<D: Device, C: Confirming>(core: &mut Core<'_, D>, row: RowId, lists: &[u16])
+fn lists_by<D: Device, T: Tells>(core: &mut Core<'_, D>, row: RowId, lists: &[u16])
     requires row { row.0 < length core.old.plan.rows }
     requires lists { All (λ list. list < list_count (row_at core.old.plan row).settings) lists.now }
-    requires goes { AlwaysGoes C.confirm }
+    requires goes { AlwaysGoes T.tell }
     requires calls { CanCall core.old }
-    requires room { HasRoom core.old.room (do_answer_by core.old.plan (C.confirm core.old.plan) row lists.now core.old.machine) }
-    ensures { core.new ≡ after (do_answer_by core.old.plan (C.confirm core.old.plan) row lists.now) core.old }
+    requires room { HasRoom core.old.room (do_answer_by core.old.plan (T.tell core.old.plan) row lists.now core.old.machine) }
+    ensures { core.new ≡ after (do_answer_by core.old.plan (T.tell core.old.plan) row lists.now) core.old }
 {
     let plan = core.plan();
     let owner = plan.row(row).owner;
     for list in lists {
-        actions_by::<D, C>(core, owner, plan.list(plan.list_of_row(row, *list)));
+        actions_by::<D, T>(core, owner, plan.list(plan.list_of_row(row, *list)));
     }
 }
 
 /// The actions of an effect list, one after another.
-pub(crate) fn actions_by<D: Device, C: Confirming>(
+pub(crate) fn actions_by<D: Device, T: Tells>(
     core: &mut Core<'_, D>,
     owner: Owner,
     actions: &[Action],
 )
     requires actions { All (IsActionWithin core.old.plan) actions.now }
-    requires goes { AlwaysGoes C.confirm }
+    requires goes { AlwaysGoes T.tell }
     requires calls { CanCall core.old }
-    requires room { HasRoom core.old.room (all_do (do_action_by core.old.plan (C.confirm core.old.plan) owner) actions.now core.old.machine) }
-    ensures { core.new ≡ after (all_do (do_action_by core.old.plan (C.confirm core.old.plan) owner) actions.now) core.old }
+    requires room { HasRoom core.old.room (all_do (do_action_by core.old.plan (T.tell core.old.plan) owner) actions.now core.old.machine) }
+    ensures { core.new ≡ after (all_do (do_action_by core.old.plan (T.tell core.old.plan) owner) actions.now) core.old }
 {
     for action in actions {
-        C::run(core, owner, *action);
+        T::run(core, owner, *action);
     }
 }

@@ -8,22 +8,25 @@ ghost use Rattle.plan_tables.specs.PlanView.{work_of};
 ghost use Rattle.mode_stack.specs.Modes.{running_of};
 ghost use Rattle.event_queue.specs.PlanOrder.{in_order};
 ghost use Rattle.std.specs.List.{All};
-ghost use Rattle.written_machine.specs.Machine.{all_do, post, post_if, release_ball_end, start_mode, stop_mode, release_coils, tell_listener, do_target, do_binding, do_game, do_handler, post_game, write_finals, ask_ball, confirm_on_playfield, do_accepted, change_switch};
+ghost use Rattle.written_machine.specs.Machine.{all_do, post, post_if, release_ball_end, start_mode, stop_mode, release_coils, tell_listener, do_target, do_binding, do_game, do_handler, confirm_on_playfield, do_accepted, change_switch};
 ghost use Rattle.written_machine.specs.EventStep.{is_kept, do_before, do_after};
 ghost use Rattle.written_machine.specs.Run.{begin as begun, fire as fired};
 ghost use Rattle.written_machine.specs.NextAlarm.{next_alarm};
 ghost use Rattle.machine_core.specs.Core.{IsWhole, CanCall, HasHandlers, IsWorkOf, IsPlayable, HasRoom, StaysWithin, HasSettled, after, follow, after_taken};
 ghost use Rattle.machine_core.specs.Stimuli.{source_view, stimulus_view};
 
-use crate::arrivals::confirm;
 use crate::calls::{call_device, call_devices, run_actions};
 use crate::core_state::Core;
+use crate::drains::drain_ball;
+use crate::game_steps::step_game;
 use crate::stimulus::{Source, Stimulus};
+use crate::tellings::tell;
 use device_objects::{Call, Device};
 use plan_tables::{
-    Act, BallTarget, Binding, EventId, GameEvent, Listener, ModeEvent, ModeId, Owner, Plan,
-    SwitchId, Target, Work,
+    BallTarget, Binding, EventId, GameEvent, Listener, ModeEvent, ModeId, Owner, Plan, SwitchId,
+    Target, Telling, Work,
 };
+use player_game::is_drain;
 use switch_core::Change;
 use written_machine::Happening;
 
@@ -115,7 +118,7 @@ fn confirm_on_playfield<D: Device>(core: &mut Core<'_, D>, change: Change)
     ensures { core.new ≡ after (confirm_on_playfield core.old.plan change) core.old }
 {
     if change.active && core.plan().confirms_playfield(change.switch) {
-        confirm(core, BallTarget::Playfield);
+        tell(core, Telling::Arrived(BallTarget::Playfield));
     }
 }
 
@@ -237,55 +240,17 @@ fn mode_after<D: Device>(core: &mut Core<'_, D>, kept: bool, mode: ModeId, which
     }
 }
 
-/// What an event of the game leads to is done.
+/// What the machine itself does at an event of the game. A ball that drains may be saved.
 fn play<D: Device>(core: &mut Core<'_, D>, event: GameEvent)
     requires game { HasGame core.old.plan }
     requires calls { CanCall core.old }
     requires room { HasRoom core.old.room (do_game core.old.plan event core.old.machine) }
     ensures { core.new ≡ after (do_game core.old.plan event) core.old }
 {
-    let work = core.play(event);
-    tell_scores(core, work.finals);
-    ask_ball(core, work.requests);
-    post_game(core, work.posts.as_slice());
-}
-
-/// The first trough is asked for one ball more, where that is so.
-fn ask_ball<D: Device>(core: &mut Core<'_, D>, asks: bool)
-    requires calls { CanCall core.old }
-    requires room { HasRoom core.old.room (ask_ball core.old.plan asks core.old.machine) }
-    ensures { core.new ≡ after (ask_ball core.old.plan asks) core.old }
-{
-    if !asks {
-        return;
-    }
-    if let Some(row) = core.plan().first_trough() {
-        call_device(core, row, Call::Act(Act::Request(1)));
-    }
-}
-
-/// The scores of all players are told, where that is so.
-fn tell_scores<D: Device>(core: &mut Core<'_, D>, tells: bool)
-    requires { HasRoom core.old.room (write_finals core.old.plan tells core.old.machine) }
-    ensures { core.new ≡ after (write_finals core.old.plan tells) core.old }
-{
-    if !tells {
-        return;
-    }
-    for place in 0..core.player_count() {
-        core.tell_score(place + 1);
-    }
-}
-
-/// The machine posts these events of the game.
-fn post_game<D: Device>(core: &mut Core<'_, D>, events: &[GameEvent])
-    requires game { HasGame core.old.plan }
-    requires room { HasRoom core.old.room (all_do (post_game core.old.plan) events.now core.old.machine) }
-    ensures { core.new ≡ after (all_do (post_game core.old.plan) events.now) core.old }
-{
-    let plan = core.plan();
-    for event in events {
-        core.post(Owner::Machine, plan.game_event(*event));
+    if is_drain(event) {
+        drain_ball(core);
+    } else {
+        step_game(core, event);
     }
 }
 

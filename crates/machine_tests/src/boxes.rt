@@ -84,6 +84,7 @@ fn counter_of(checked: &Checked, word: &str) -> Option<Counter> {
         let world = World {
             games: 0,
             player: 0,
+            in_play: 0,
         };
         counter.act(Act::Count, 0, world);
     }

@@ -319,6 +319,8 @@ fn name_of(settings: &Settings) -> &'static str {
         Settings::Flipper => "flipper ",
         Settings::Autofire => "autofire ",
         Settings::BallDevice(_) => "ball_device ",
+        Settings::BallSave(_) => "ball_save ",
+        Settings::Multiball(_) => "multiball ",
     }
 }
 
@@ -464,6 +466,10 @@ ball_devices:
     eject_timeouts: 70ms
     entrance_count_delay: 20ms
     exit_count_delay: 20ms
+ball_saves:
+  few: {active_time: 200ms, balls_to_save: 2, enable_events: s_a_active, disable_events: s_c_active}
+multiballs:
+  two: {ball_count: 2, start_events: s_b_active}
 @ modes/m/config/m.yaml
 #config_version=6
 mode:
@@ -482,7 +488,8 @@ counter [1000, 0, 0, 0] counter [1000, 0, 0, 0] \
 accrual [200, 300, 200, 300] accrual [200, 300, 200, 300] accrual [200, 300, 200, 300] \
 sequence [1000, 0, 0, 0] bank [200, 300, 200, 300] bank [200, 300, 200, 300] \
 flipper [1000, 0, 0, 0] autofire [1000, 0, 0, 0] \
-ball_device [1000, 0, 0, 0] ball_device [1000, 0, 0, 0] timer [1000, 0, 0, 0]";
+ball_device [1000, 0, 0, 0] ball_device [1000, 0, 0, 0] \
+ball_save [1000, 0, 0, 0] multiball [1000, 0, 0, 0] timer [1000, 0, 0, 0]";
 
 #[test]
 fn exchanged_runs(rt: HostRuntime) {

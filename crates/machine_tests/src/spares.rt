@@ -2,7 +2,7 @@
 //! same calls. Any row has devices with *plain* code. Those of accruals and banks of shots can also be *masks*,
 //! which keep flags as bits.
 
-use ball_devices::BallDevice;
+use ball_devices::{BallDevice, BallSave, Multiball};
 use coil_rules::{Autofire, Flipper};
 use device_objects::{Call, Device, DeviceState, Outcome, World};
 use logic_blocks::{Accrual, Counter, MaskAccrual, Sequence, Timer};
@@ -170,7 +170,18 @@ fn plain_other(alloc: Global, row: &DeviceRow) -> Option<Box<dyn Device>> {
     if let Some(autofire) = boxed(alloc, Autofire::new(row)) {
         return Some(autofire);
     }
-    Some(boxed(alloc, BallDevice::new(row))?)
+    plain_ball(alloc, row)
+}
+
+/// A device of balls with plain code, as it begins.
+fn plain_ball(alloc: Global, row: &DeviceRow) -> Option<Box<dyn Device>> {
+    if let Some(device) = boxed(alloc, BallDevice::new(row)) {
+        return Some(device);
+    }
+    if let Some(save) = boxed(alloc, BallSave::new(row)) {
+        return Some(save);
+    }
+    Some(boxed(alloc, Multiball::new(row))?)
 }
 
 /// A device with plain code, as it begins.

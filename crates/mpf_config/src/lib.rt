@@ -25,19 +25,21 @@ pub use escape::{escaped_makes_no_line, write_escaped};
 pub use fault::{ConfigFault, Fault, FaultKind, write_fault};
 // The sections: their names, and their entries by the names of their settings.
 pub use mpf_sections::{
-    Autofire, BallDevice, Block, Coil, CoilItem, CoilPlayer, Control, Counter, EventPlayer,
-    Flipper, GameSettings, HandledAt, ModeSettings, NameAt, Shot, ShotGroup, ShotProfile,
-    StepBlock, Switch, Timer, VariableItem, VariablePlayer, as_autofire, as_ball_device, as_coil,
-    as_coil_item, as_coil_player, as_control, as_counter, as_event_player, as_flipper, as_game,
-    as_handled, as_shot, as_shot_group, as_shot_profile, as_state, as_step_block, as_switch,
-    as_timer, as_variable_item, as_variable_player, blocks, coil_rules, coils, game, listed_modes,
-    min_balls, mode_settings, timers, typed,
+    Autofire, BallDevice, BallSave, Block, Coil, CoilItem, CoilPlayer, Control, Counter,
+    EventPlayer, Flipper, GameSettings, HandledAt, ModeSettings, Multiball, NameAt, Shot,
+    ShotGroup, ShotProfile, StepBlock, Switch, Timer, VariableItem, VariablePlayer, as_autofire,
+    as_ball_device, as_ball_save, as_coil, as_coil_item, as_coil_player, as_control, as_counter,
+    as_event_player, as_flipper, as_game, as_handled, as_multiball, as_shot, as_shot_group,
+    as_shot_profile, as_state, as_step_block, as_switch, as_timer, as_variable_item,
+    as_variable_player, blocks, coil_rules, coils, game, listed_modes, min_balls, mode_settings,
+    timers, typed,
 };
 pub use mpf_tables::tables::{
-    ACCRUALS_NAME, AUTOFIRE_COILS_NAME, BALL_DEVICES_NAME, COIL_PLAYER_NAME, COILS_NAME,
-    COUNTERS_NAME, DEFAULT_PROFILE, EVENT_PLAYER_NAME, FLIPPERS_NAME, GAME_NAME,
-    MACHINE_SECTION_NAME, MODE_NAME, MODES_NAME, PLAYFIELD, SEQUENCES_NAME, SHOT_GROUPS_NAME,
-    SHOT_PROFILES_NAME, SHOTS_NAME, SWITCHES_NAME, TIMERS_NAME, VARIABLE_PLAYER_NAME,
+    ACCRUALS_NAME, AUTOFIRE_COILS_NAME, BALL_DEVICES_NAME, BALL_SAVES_NAME, COIL_PLAYER_NAME,
+    COILS_NAME, COUNTERS_NAME, DEFAULT_PROFILE, EVENT_PLAYER_NAME, FLIPPERS_NAME, GAME_NAME,
+    MACHINE_SECTION_NAME, MODE_NAME, MODES_NAME, MULTIBALLS_NAME, PLAYFIELD, SEQUENCES_NAME,
+    SHOT_GROUPS_NAME, SHOT_PROFILES_NAME, SHOTS_NAME, SWITCHES_NAME, TIMERS_NAME,
+    VARIABLE_PLAYER_NAME,
 };
 pub use notes::write_note;
 pub use section_tables::rows::{Entry, Fields, Guard, Handler, Keyed, Name, Plain, Player, Value};

@@ -12,7 +12,7 @@ use Rattle.plan_tables.specs.PlanView.{PlanView}
 use Rattle.plan_tables.specs.Valid.{HasGame}
 use Rattle.plan_contributions.specs.declared.contribution.Aim.{Aim}
 use Rattle.plan_contributions.specs.declared.contribution.Aim.TheVariants.{Run}
-use Rattle.plan_contributions.specs.DeviceEntries.{pulse, enable, disable, Effect, posts, works, changes, enters}
+use Rattle.plan_contributions.specs.DeviceEntries.{pulse, enable, disable, Effect, posts, works, changes, enters, requests, adds_balls}
 use Rattle.plan_contributions.specs.Contributions.{Contribution, gives, binds, does, device, does_in, listens}
 use Rattle.plan_contributions.specs.BallFacts.{IsOfNoBall, LastRow, last_after, IsFitting, AreFitting, is_plays, DrainsIn, DrainsInGame, AllDrainInGame}
 use Rattle.mpf_plan.specs.Uses.{Names, number_among}
@@ -70,6 +70,8 @@ module _ (names : Names) where
   there n r within (works x disable) = tt
   there n r within (posts x) = tt
   there n r within (changes v action m) = tt
+  there n r within (requests m) = tt
+  there n r within (adds_balls m) = tt
   there n r within _ = within
 
   of_none : (n : ℕ) (r : RowId) (e : Effect) → IsOfNoBall e → IsOfRows n (action_of names r e)
@@ -78,6 +80,8 @@ module _ (names : Names) where
   of_none n r (works x disable) is = tt
   of_none n r (posts x) is = tt
   of_none n r (changes v action m) is = tt
+  of_none n r (requests m) is = tt
+  of_none n r (adds_balls m) is = tt
   of_none n r _ is = absurd is
 
   -- so it is with all actions, and where a row came last there is one

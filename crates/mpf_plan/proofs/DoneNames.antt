@@ -10,10 +10,10 @@ use Rattle.plan_tables.specs.declared.entries.EventId.{EventId}
 use Rattle.plan_tables.specs.declared.entries.CoilId.{CoilId}
 use Rattle.plan_tables.specs.declared.entries.VariableId.{VariableId}
 use Rattle.plan_tables.specs.declared.entries.Action.{Action}
-use Rattle.plan_tables.specs.declared.entries.Action.TheVariants.{Post, Pulse, Enable, Disable, Change, Enter, Leave, Lose, Arrive}
+use Rattle.plan_tables.specs.declared.entries.Action.TheVariants.{Post, Pulse, Enable, Disable, Change, Enter, Leave, Lose, Arrive, Request, AddBalls}
 use Rattle.plan_tables.specs.declared.table.Table.TheVariants.{Events, Coils, Variables}
 use Rattle.plan_tables.specs.PlanView.{PlanCoil, no_coil, PlanView, coil_at, name_of_event, name_of_variable}
-use Rattle.plan_contributions.specs.DeviceEntries.{pulse, enable, disable, Effect, works, posts, changes, enters, leaves, loses, arrives}
+use Rattle.plan_contributions.specs.DeviceEntries.{pulse, enable, disable, Effect, works, posts, changes, enters, leaves, loses, arrives, requests, adds_balls}
 use Rattle.plan_contributions.specs.Contributions.{Contribution, active, inactive, does, does_in, contributions_of}
 use Rattle.plan_contributions.specs.Doing.{Does}
 use Rattle.plan_contributions.specs.UsedNames.{used_by}
@@ -59,6 +59,8 @@ module _ (cs : List Contribution) where
   named_is (Leave r) = refl
   named_is (Lose r) = refl
   named_is (Arrive r) = refl
+  named_is (Request n) = refl
+  named_is (AddBalls n) = refl
 
 -- ---- what is done
 
@@ -113,6 +115,8 @@ module _ (cs : List Contribution) where
   effect_by_variable leaves known ready r = tt
   effect_by_variable loses known ready r = tt
   effect_by_variable arrives known ready r = tt
+  effect_by_variable (requests n) known ready r = tt
+  effect_by_variable (adds_balls n) known ready r = tt
   effect_by_variable (changes v action n) known ready r = at_number (names_from cs Events) (player_event v) ready ∙ ap player_event (sym (at_number (names_from cs Variables) v known))
 
   change_is_met : (c : Contribution) → IsKnown (names_from cs) c → IsReady (IsNumberedIn (names_from cs Events)) c → IsMet (λ e. Unit {0}) AtVariable (names_from cs) c

@@ -7,6 +7,7 @@ use Rattle.std.proofs.lemmas.List.Elements.{All-nil, All-cons, All-append, All-h
 use Rattle.mpf_sections.specs.Rows.{Written, Entry, Player, Switch, VariableItem, VariablePlayer, Shot, ShotGroup, BallDevice, GameSettings, ModeSettings, SectionRows}
 use Rattle.mpf_config.specs.Rows.{Rows}
 use Rattle.mpf_sections.specs.Typed.{switches_name, event_player_name, counters_name, accruals_name, sequences_name, timers_name, switch_of, event_player_of}
+use Rattle.mpf_sections.specs.TypedSaves.{ball_saves_name, multiballs_name}
 use Rattle.mpf_sections.specs.TypedCoils.{coils_name, coil_player_name, coil_of, coil_player_of}
 use Rattle.mpf_sections.specs.TypedGame.{variable_player_name, game_name, variable_player_of, game_of, min_balls_of}
 use Rattle.machine_definitions.specs.GameEvents.{game_event_names}
@@ -21,6 +22,7 @@ use Rattle.machine_definitions.specs.Shots.{Profile}
 use Rattle.plan_tables.specs.declared.devices.Act.{Act}
 use Rattle.plan_contributions.specs.DeviceEntries.{Device, device_of}
 use Rattle.plan_contributions.specs.ShotEntries.{shot_acts, lone_device, group_device}
+use Rattle.plan_contributions.specs.SaveEntries.{save_device_of}
 use Rattle.plan_contributions.specs.BallEntries.{is_known, ball_device_from}
 use Rattle.plan_rows.specs.declared.destination.Destination.{Destination}
 use Rattle.plan_rows.specs.Seats.{Seat}
@@ -176,14 +178,21 @@ abbrev ListensToNone : Option Device → Type 0
 ListensToNone None = Unit {0}
 ListensToNone (Some d) = d.listens ≡ []
 
+listens_if : (b : Bool) (o p : Option Device) → ListensToNone o → ListensToNone p → ListensToNone (if b then o else p)
+listens_if true o p h k = h
+listens_if false o p h k = k
+
+save_listens_to_none : (section : List ℕ) (e : Entry) → ListensToNone (save_device_of section e)
+unfolding save_device_of
+save_listens_to_none section e = listens_if (bytes_eq section ball_saves_name) _ _ refl (listens_if (bytes_eq section multiballs_name) _ None refl tt)
+
 -- such are all but flippers, autofire coils and ball devices
 listens_to_none : (section : List ℕ) (e : Entry) → ListensToNone (device_of section e)
 unfolding device_of
-listens_to_none section e = when (bytes_eq section counters_name) _ _ refl (when (bytes_eq section accruals_name) _ _ refl (when (bytes_eq section sequences_name) _ _ refl (when (bytes_eq section timers_name) _ None refl tt)))
-  where
-    when : (b : Bool) (o p : Option Device) → ListensToNone o → ListensToNone p → ListensToNone (if b then o else p)
-    when true o p h k = h
-    when false o p h k = k
+listens_to_none section e =
+    listens_if (bytes_eq section counters_name) _ _ refl
+    (listens_if (bytes_eq section accruals_name) _ _ refl
+    (listens_if (bytes_eq section sequences_name) _ _ refl (listens_if (bytes_eq section timers_name) _ _ refl (save_listens_to_none section e))))
 
 silent_where : (place : Place) (o : Option Device) → ListensToNone o → AreHeard None (where_device place o)
 silent_where place None none = tt

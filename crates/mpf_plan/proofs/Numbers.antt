@@ -4,10 +4,10 @@ use Rattle.std.specs.Str.{bytes_eq}
 use Rattle.std.specs.List.{position_or_len}
 use Rattle.std.proofs.lemmas.Slice.Eq.{bytes_eq-Decides}
 use Rattle.plan_tables.specs.declared.entries.Action.{Action}
-use Rattle.plan_tables.specs.declared.entries.Action.TheVariants.{Post, Pulse, Enable, Disable, Change, Enter, Leave, Lose, Arrive}
+use Rattle.plan_tables.specs.declared.entries.Action.TheVariants.{Post, Pulse, Enable, Disable, Change, Enter, Leave, Lose, Arrive, Request, AddBalls}
 use Rattle.plan_tables.specs.declared.devices.RowId.{RowId}
 use Rattle.plan_tables.specs.declared.table.Table.TheVariants.{Events, Coils, Variables}
-use Rattle.plan_contributions.specs.DeviceEntries.{pulse, enable, disable, Effect, posts, works, changes, enters, leaves, loses, arrives}
+use Rattle.plan_contributions.specs.DeviceEntries.{pulse, enable, disable, Effect, posts, works, changes, enters, leaves, loses, arrives, requests, adds_balls}
 use Rattle.plan_contributions.specs.UsedNames.{used_by}
 use Rattle.mpf_plan.specs.Uses.{Names, number_among}
 use Rattle.mpf_plan.specs.PlanOf.{action_of}
@@ -35,6 +35,8 @@ named_effect names (Enter r e drain) = enters (slice_index_or (names Events) e.0
 named_effect names (Leave r) = leaves
 named_effect names (Lose r) = loses
 named_effect names (Arrive r) = arrives
+named_effect names (Request n) = requests n
+named_effect names (AddBalls n) = adds_balls n
 
 -- an effect is what its action does, by names
 pub effect_named : (names : Names) (r : RowId) (e : Effect) → IsAmong names (used_by e) → named_effect names (action_of names r e) ≡ e
@@ -47,3 +49,5 @@ effect_named names r (enters n drain) known = ap (λ m. enters m drain) (at_numb
 effect_named names r leaves known = refl
 effect_named names r loses known = refl
 effect_named names r arrives known = refl
+effect_named names r (requests n) known = refl
+effect_named names r (adds_balls n) known = refl

@@ -13,6 +13,7 @@ use Rattle.section_tables.specs.Rows.{number, Value, one}
 use Rattle.mpf_sections.specs.Rows.{Entry, Player, Block, Flipper, VariableItem, VariablePlayer, Shot, ShotGroup, BallDevice, ModeSettings, SectionRows, Written}
 use Rattle.mpf_config.specs.Rows.{Rows}
 use Rattle.mpf_sections.specs.Typed.{switches_name, event_player_name, counters_name, accruals_name, sequences_name, timers_name, switch_of, event_player_of, counter_of, step_block_of, timer_of, setting_of, row_or, content_named, natural_within}
+use Rattle.mpf_sections.specs.TypedSaves.{ball_saves_name, multiballs_name, ball_save_of, multiball_of}
 use Rattle.mpf_sections.specs.TypedCoils.{coils_name, coil_player_name, flippers_name, autofire_coils_name, coil_of, coil_player_of, flipper_of}
 use Rattle.mpf_tables.specs.SectionTables as tables
 use Rattle.mpf_sections.specs.TypedGame.{variable_player_name, machine_section_name, game_name, variable_player_of, game_of, min_balls_of}
@@ -23,7 +24,7 @@ use Rattle.plan_rows.specs.declared.place.Place.TheVariants.{Machine, Control, M
 use Rattle.plan_contributions.specs.declared.contribution.Aim.TheVariants.{Run}
 use Rattle.plan_tables.specs.declared.table.Table.TheVariants.{Events}
 use Rattle.plan_contributions.specs.VariableEntries.{item_change}
-use Rattle.plan_contributions.specs.DeviceEntries.{texts, disable, Effect, posts, works, changes, enters, leaves, loses, arrives, Device, device_of, block_event, block_lists, or_own, timer_event, timer_endings}
+use Rattle.plan_contributions.specs.DeviceEntries.{texts, disable, Effect, posts, works, changes, enters, leaves, loses, arrives, requests, adds_balls, Device, device_of, block_event, block_lists, or_own, timer_event, timer_endings}
 use Rattle.machine_definitions.specs.Shots.{Profile}
 use Rattle.plan_contributions.specs.ShotEntries.{shot_events, shot_lists, group_events, state_lists, group_lists, shot_acts, lone_device, group_device}
 use Rattle.plan_contributions.specs.BallEntries.{eject_pulse, ball_lists, is_known, ball_device_from}
@@ -31,6 +32,7 @@ use Rattle.plan_rows.specs.declared.destination.Destination.{Destination}
 use Rattle.plan_rows.specs.Seats.{Seat}
 use Rattle.plan_rows.specs.Members.{Members}
 use Rattle.plan_contributions.specs.CoilEntries.{flipper_on, flipper_off, flipper_device}
+use Rattle.plan_contributions.specs.SaveEntries.{save_event, save_lists, multiball_event, multiball_lists, save_device_of}
 use Rattle.plan_contributions.specs.Contributions.{Contribution, device, does, does_in, mentions, coil, plays, bound, switch_contributions, player_contributions, coil_contributions, coil_player_contributions, item_contributions, variable_player_contributions, game_contributions, mode, later_events, controls, mode_contributions, act_binding, effects_from, listens_from, device_contributions, where_device, unknown_unless, shot_switch, act_at, seated, shot_contributions, group_contributions, ball_device_contributions, machine_device, machine_entry_contributions, entry_contributions, alone_contributions, player_entry_contributions, row_contributions, given_by, contributions_of}
 use Rattle.plan_rows.specs.Rows.{Row, entry, alone, shot, group, ball_device, player, of_mode, rows_of}
 use Rattle.plan_contributions.specs.UsedNames.{used, name_in_table, uses}
@@ -110,6 +112,8 @@ both cs ds a b =
 abbrev IsPlainEffect : Effect → Type 0
 IsPlainEffect (posts n) = Unit {0}
 IsPlainEffect (works n deed) = Unit {0}
+IsPlainEffect (requests n) = Unit {0}
+IsPlainEffect (adds_balls n) = Unit {0}
 IsPlainEffect _ = ⊥
 
 abbrev IsPlain : Contribution → Type 0
@@ -124,11 +128,15 @@ plain_ready cs plain = All-weaker IsPlain (IsReady (IsUsed cs)) by cs plain
     effect : (e : Effect) → IsPlainEffect e → IsReadyEffect (IsUsed cs) e
     effect (posts n) is = tt
     effect (works n deed) is = tt
+    effect (requests n) is = tt
+    effect (adds_balls n) is = tt
     effect _ is = absurd is
 
     low : (k : ℕ) (e : Effect) → IsPlainEffect e → IsLow k e
     low k (posts n) is = tt
     low k (works n deed) is = tt
+    low k (requests n) is = tt
+    low k (adds_balls n) is = tt
     low k _ is = absurd is
 
     by : (c : Contribution) → IsPlain c → IsReady (IsUsed cs) c
@@ -194,13 +202,34 @@ when : (b : Bool) (o p : Option Device) → IsPlainDevice o → IsPlainDevice p 
 when true o p h k = h
 when false o p h k = k
 
+of_save : (name : List ℕ) → ArePlain (save_lists name)
+of_save name =
+    let asking = posts (save_event name (codes "_saving_ball")) ∷ requests 1 ∷ [] in
+    let disabled = posts (save_event name (codes "_disabled")) in
+    list_then (posts (save_event name (codes "_enabled")) ∷ []) ((disabled ∷ []) ∷ asking ∷ []) (one_effect (posts (save_event name (codes "_enabled"))) tt)
+    (list_then (disabled ∷ []) (asking ∷ []) (one_effect disabled tt)
+    (one_list asking (All-cons IsPlainEffect (posts (save_event name (codes "_saving_ball"))) (requests 1 ∷ []) tt (one_effect (requests 1) tt))))
+
+of_multiball : (name : List ℕ) (balls : ℕ) → ArePlain (multiball_lists name balls)
+of_multiball name balls =
+    let started = posts (multiball_event name (codes "_started")) in
+    let ended = posts (multiball_event name (codes "_ended")) in
+    list_then (started ∷ adds_balls balls ∷ []) ((ended ∷ []) ∷ []) (All-cons IsPlainEffect started (adds_balls balls ∷ []) tt (one_effect (adds_balls balls) tt))
+    (one_list (ended ∷ []) (one_effect ended tt))
+
+plain_save : (section : List ℕ) (e : Entry) → IsPlainDevice (save_device_of section e)
+unfolding save_device_of
+plain_save section e =
+    when (bytes_eq section ball_saves_name) _ _ (of_save (ball_save_of e).name.text)
+    (when (bytes_eq section multiballs_name) _ None (of_multiball (multiball_of e).name.text (multiball_of e).balls) tt)
+
 plain_device : (section : List ℕ) (e : Entry) → IsPlainDevice (device_of section e)
 unfolding device_of
 plain_device section e =
     let steps = of_block (step_block_of e).name.text (step_block_of e).block in
     when (bytes_eq section counters_name) _ _ (of_block (counter_of e).name.text (counter_of e).block)
     (when (bytes_eq section accruals_name) _ _ steps
-    (when (bytes_eq section sequences_name) _ _ steps (when (bytes_eq section timers_name) _ None (of_timer (timer_of e).name.text timer_endings) tt)))
+    (when (bytes_eq section sequences_name) _ _ steps (when (bytes_eq section timers_name) _ _ (of_timer (timer_of e).name.text timer_endings) (plain_save section e))))
 
 plain_on : (machine : List SectionRows) (main : Written) (hold : Option Written) → All IsPlainEffect (flipper_on machine main hold)
 plain_on machine main None = one_effect (works _ _) tt
@@ -288,6 +317,8 @@ low_list : (k : ℕ) (e : Effect) → k < 7 → IsLow k e
 low_list k (posts n) low = tt
 low_list k (works n deed) low = tt
 low_list k (changes v action n) low = tt
+low_list k (requests n) low = tt
+low_list k (adds_balls n) low = tt
 low_list k _ low = low
 
 -- seven lists at most

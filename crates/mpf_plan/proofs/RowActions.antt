@@ -18,10 +18,10 @@ use Rattle.plan_tables.specs.declared.entries.Target.{Target}
 use Rattle.plan_tables.specs.declared.entries.Target.TheVariants.{Run, Start, Stop, Act}
 use Rattle.plan_tables.specs.declared.table.Table.TheVariants.{Events}
 use Rattle.plan_tables.specs.PlanView.{no_row}
-use Rattle.plan_contributions.specs.DeviceEntries.{pulse, enable, disable, Effect, posts, works, changes}
-use Rattle.plan_contributions.specs.BallFacts.{IsOfNoBall, IsRightRow, LastRow, first_row, with_switch, with_effect, IsRight}
+use Rattle.plan_contributions.specs.DeviceEntries.{pulse, enable, disable, Effect, posts, works, changes, requests, adds_balls}
+use Rattle.plan_contributions.specs.BallFacts.{IsOfNoBall, IsBallFree, IsRightRow, LastRow, first_row, with_switch, with_effect, IsRight}
 use Rattle.plan_rows.specs.declared.place.Place.{Place}
-use Rattle.plan_tables.specs.BallRows.{BooksNothing, BooksRightly}
+use Rattle.plan_tables.specs.BallRows.{BooksNothing, IsPlain, BooksRightly}
 use Rattle.mpf_plan.specs.Uses.{Names}
 use Rattle.mpf_plan.specs.PlanOf.{event_of, action_of, first_of_last, with_one_more}
 use Rattle.mpf_plan.proofs.Steps.{All-changed, blank_end}
@@ -35,10 +35,24 @@ no_ball names r (works x (enable power)) is = tt
 no_ball names r (works x disable) is = tt
 no_ball names r (posts x) is = tt
 no_ball names r (changes v action m) is = tt
+no_ball names r (requests m) is = tt
+no_ball names r (adds_balls m) is = tt
 no_ball names r _ is = absurd is
 
 no_balls : (names : Names) (r : RowId) (es : List Effect) → All IsOfNoBall es → All BooksNothing (map (action_of names r) es)
 no_balls names r es none = All-map BooksNothing (action_of names r) es (All-weaker IsOfNoBall (λ e. BooksNothing (action_of names r e)) (no_ball names r) es none)
+
+-- what has to do with no balls at all is plain by number
+plain_free : (names : Names) (r : RowId) (e : Effect) → IsBallFree e → IsPlain (action_of names r e)
+plain_free names r (works x (pulse ms power)) is = tt
+plain_free names r (works x (enable power)) is = tt
+plain_free names r (works x disable) is = tt
+plain_free names r (posts x) is = tt
+plain_free names r (changes v action m) is = tt
+plain_free names r _ is = absurd is
+
+all_plain : (names : Names) (r : RowId) (es : List Effect) → All IsBallFree es → All IsPlain (map (action_of names r) es)
+all_plain names r es free = All-map IsPlain (action_of names r) es (All-weaker IsBallFree (λ e. IsPlain (action_of names r e)) (plain_free names r) es free)
 
 -- what a row does that is right is right by number
 right_made : (names : Names) (r : RowId) (place : Place) (settings : Settings) (done : ℕ → List Effect) → IsRightRow place settings done → BooksRightly r settings (λ k. map (action_of names r) (done k))
@@ -48,12 +62,12 @@ right_made names r place (kinds.BallDevice d) done is =
       event = event_of (names Events) h.event;
       drain = h.drain;
       entered = ap (map (action_of names r)) h.entered;
-      attempted = no_balls names r (done 1) h.attempted;
+      attempted = all_plain names r (done 1) h.attempted;
       left = ap (map (action_of names r)) h.left;
       lost = ap (map (action_of names r)) h.lost;
-      succeeded = no_balls names r (done 4) h.succeeded;
+      succeeded = all_plain names r (done 4) h.succeeded;
       arrived = ap (map (action_of names r)) h.arrived;
-      failed = no_balls names r (done 6) h.failed;
+      failed = all_plain names r (done 6) h.failed;
     }
 right_made names r place _ done is = λ k within. no_balls names r (done k) (is k)
 
@@ -63,12 +77,12 @@ same_right r (kinds.BallDevice d) old new same h = record {
   event = h.event;
   drain = h.drain;
   entered = same 0 (omega arith) ∙ h.entered;
-  attempted = subst (All BooksNothing) (sym (same 1 (omega arith))) h.attempted;
+  attempted = subst (All IsPlain) (sym (same 1 (omega arith))) h.attempted;
   left = same 2 (omega arith) ∙ h.left;
   lost = same 3 (omega arith) ∙ h.lost;
-  succeeded = subst (All BooksNothing) (sym (same 4 (omega arith))) h.succeeded;
+  succeeded = subst (All IsPlain) (sym (same 4 (omega arith))) h.succeeded;
   arrived = same 5 (omega arith) ∙ h.arrived;
-  failed = subst (All BooksNothing) (sym (same 6 (omega arith))) h.failed;
+  failed = subst (All IsPlain) (sym (same 6 (omega arith))) h.failed;
 }
 same_right r _ old new same h = λ k within. subst (All BooksNothing) (sym (same k within)) (h k within)
 

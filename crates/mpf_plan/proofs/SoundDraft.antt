@@ -10,7 +10,7 @@ use Rattle.plan_contributions.specs.declared.contribution.Aim.TheVariants as aim
 use Rattle.plan_rows.specs.declared.place.Place.{Place}
 use Rattle.plan_rows.specs.declared.place.Place.TheVariants as places
 use Rattle.plan_tables.specs.declared.entries.Action.{Action}
-use Rattle.plan_tables.specs.declared.entries.Action.TheVariants.{Post, Pulse, Enable, Disable, Change, Enter, Leave, Lose, Arrive}
+use Rattle.plan_tables.specs.declared.entries.Action.TheVariants.{Post, Pulse, Enable, Disable, Change, Enter, Leave, Lose, Arrive, Request, AddBalls}
 use Rattle.plan_tables.specs.declared.entries.EventId.{EventId}
 use Rattle.plan_tables.specs.declared.entries.ModeEvent.{ModeEvent}
 use Rattle.plan_tables.specs.declared.entries.ModeEvent.TheVariants.{WillStart, Starting, Started, Stopping, Stopped}
@@ -32,7 +32,7 @@ use Rattle.plan_tables.specs.declared.devices.Settings.TheVariants as kinds
 use Rattle.plan_tables.specs.Devices.{list_count}
 use Rattle.plan_tables.specs.PlanView.{PlanSwitch, PlanCoil, PlanMode, no_binding, no_mode, no_row, row_at, list_of_row, target_in, target_of, PlanView}
 use Rattle.plan_tables.specs.Valid.{IsEventWithin, IsSwitchWithin, IsListenerWithin, IsModeWithin, IsActionWithin, IsOwnerWithin, IsTargetWithin, IsConditionWithin, IsBindingWithin, IsGameWithin, IsTargetThere, IsRowWithin, HasGame, HasEntries}
-use Rattle.plan_contributions.specs.DeviceEntries.{pulse, enable, disable, Effect, posts, works, changes, enters, leaves, loses, arrives}
+use Rattle.plan_contributions.specs.DeviceEntries.{pulse, enable, disable, Effect, posts, works, changes, enters, leaves, loses, arrives, requests, adds_balls}
 use Rattle.plan_contributions.specs.UsedNames.{used_by}
 use Rattle.plan_contributions.specs.Contributions.{Contribution, gives, reads, active, inactive, mode, mode_event, mode_event_name, binds, does, device, does_in, listens, mentions, unknown, coil, under, plays}
 use Rattle.mpf_plan.specs.Uses.{Names, names_from, number_among}
@@ -381,6 +381,8 @@ module _ (names : Names) where
     effect_known leaves known ready drains r = tt
     effect_known loses known ready drains r = tt
     effect_known arrives known ready drains r = tt
+    effect_known (requests n) known ready drains r = tt
+    effect_known (adds_balls n) known ready drains r = tt
 
     done_known : (c : Contribution) → IsKnown names c → IsReady (IsNumberedIn (names Events)) c → DrainsWell game c → IsMet (IsEventWithin (length (names Events))) IsNumbered names c
     done_known (active x) known ready drains = known
@@ -405,6 +407,8 @@ module _ (names : Names) where
     action_within plan events coils variables has (Leave r) within there = there
     action_within plan events coils variables has (Lose r) within there = there
     action_within plan events coils variables has (Arrive r) within there = there
+    action_within plan events coils variables has (Request n) within there = tt
+    action_within plan events coils variables has (AddBalls n) within there = tt
 
 -- what contributions make is sound, where a mode came before what is of one, and a row before what acts on it
 pub sound_drafted : (cs : List Contribution) → AreOpened 0 cs → ArePlaced None cs → AreAimed (row_places 0 cs) 0 cs → AreHeard None cs → All (HasTarget (row_settings cs)) cs

@@ -22,7 +22,7 @@ use Rattle.plan_tables.specs.declared.entries.Listener.{Listener}
 use Rattle.plan_tables.specs.declared.entries.Target.{Target}
 use Rattle.plan_tables.specs.declared.entries.Target.TheVariants.{Run, Start, Stop, Act}
 use Rattle.plan_tables.specs.declared.table.Table.TheVariants.{Events, Switches}
-use Rattle.plan_contributions.specs.DeviceEntries.{Effect, posts, works, changes, enters, leaves, loses, arrives}
+use Rattle.plan_contributions.specs.DeviceEntries.{Effect, posts, works, changes, enters, leaves, loses, arrives, requests, adds_balls}
 use Rattle.plan_contributions.specs.Contributions.{Contribution, gives, reads, active, inactive, mode, mode_event, binds, does, device, does_in, listens, mentions, unknown, coil, under, plays, contributions_of}
 use Rattle.plan_contributions.specs.BallFacts.{IsOfNoBall, IsRightRow, LastRow, with_switch, with_effect, last_after, IsRight, IfRow, IsOffBallsAt, IsFitting, AreFitting, row_settings, ActsOffBalls, heard_after, IsHeardOnce, AreHeardOnce}
 use Rattle.plan_contributions.specs.Facts.{effects_after, effects_in_after, full, IsRoomy, AreShort, IsPlaceOf, IsOfMachine}
@@ -50,6 +50,8 @@ low_nothing k (enters n drain) from low = absurd (omega (arith, from, low))
 low_nothing k leaves from low = absurd (omega (arith, from, low))
 low_nothing k loses from low = absurd (omega (arith, from, low))
 low_nothing k arrives from low = absurd (omega (arith, from, low))
+low_nothing k (requests n) from low = tt
+low_nothing k (adds_balls n) from low = tt
 
 right_nothing : (place : Place) (settings : Settings) (done : ℕ → List Effect) → IsNoBallDevice settings → IsRightRow place settings done → (k : ℕ) → All IsOfNoBall (done k)
 right_nothing place (kinds.BallDevice d) done none right = absurd none

@@ -5,12 +5,12 @@ use Rattle.std.specs.Str.{bytes_eq}
 use Rattle.plan_tables.specs.declared.entries.CoilId.{CoilId}
 use Rattle.plan_tables.specs.declared.entries.CoilLimits.{CoilLimits}
 use Rattle.plan_tables.specs.declared.entries.Action.{Action}
-use Rattle.plan_tables.specs.declared.entries.Action.TheVariants.{Post, Pulse, Enable, Disable, Change, Enter, Leave, Lose, Arrive}
+use Rattle.plan_tables.specs.declared.entries.Action.TheVariants.{Post, Pulse, Enable, Disable, Change, Enter, Leave, Lose, Arrive, Request, AddBalls}
 use Rattle.machine_definitions.specs.Players.{player_event}
 use Rattle.plan_tables.specs.declared.entries.Owner.TheVariants as owners
 use Rattle.plan_tables.specs.declared.table.Table.{Table}
 use Rattle.plan_tables.specs.PlanView.{PlanView, name_of_event, name_of_variable, coil_at, row_at}
-use Rattle.plan_contributions.specs.DeviceEntries.{pulse, enable, disable, Effect, posts, works, changes, enters, leaves, loses, arrives}
+use Rattle.plan_contributions.specs.DeviceEntries.{pulse, enable, disable, Effect, posts, works, changes, enters, leaves, loses, arrives, requests, adds_balls}
 use Rattle.plan_contributions.specs.Contributions.{Contribution}
 use Rattle.plan_contributions.specs.UsedNames.{used, given_names}
 use Rattle.plan_contributions.specs.Facts.{given_coil}
@@ -29,6 +29,8 @@ effect_of plan (Enter r e drain) = enters (name_of_event plan e) drain
 effect_of plan (Leave r) = leaves
 effect_of plan (Lose r) = loses
 effect_of plan (Arrive r) = arrives
+effect_of plan (Request n) = requests n
+effect_of plan (AddBalls n) = adds_balls n
 
 -- P holds of all that effect lists do, and S of the name of each event that a switch posts
 pub record IsDone (P : Effect → Type 0) (S : List ℕ → Type 0) (plan : PlanView) : Type 0 where

@@ -13,7 +13,7 @@ use Rattle.plan_tables.specs.declared.entries.ModeEvents.{ModeEvents}
 use Rattle.plan_tables.specs.declared.entries.Owner.{Owner}
 use Rattle.plan_tables.specs.declared.entries.Owner.TheVariants as owners
 use Rattle.plan_tables.specs.declared.entries.Action.{Action}
-use Rattle.plan_tables.specs.declared.entries.Action.TheVariants.{Post, Pulse, Enable, Disable, Change, Enter, Leave, Lose, Arrive}
+use Rattle.plan_tables.specs.declared.entries.Action.TheVariants.{Post, Pulse, Enable, Disable, Change, Enter, Leave, Lose, Arrive, Request, AddBalls}
 use Rattle.mpf_values.specs.Events.{Condition}
 use Rattle.plan_tables.specs.declared.entries.Condition as numbered
 use Rattle.plan_tables.specs.declared.entries.VariableId.{VariableId}
@@ -37,7 +37,7 @@ use Rattle.plan_tables.specs.declared.table.Table.TheVariants.{Events, Switches,
 use Rattle.mpf_plan.specs.declared.fault.PlanFault.{PlanFault}
 use Rattle.mpf_plan.specs.declared.fault.PlanFault.TheVariants as faults
 use Rattle.plan_tables.specs.PlanView.{PlanSwitch, no_switch, PlanCoil, no_binding, no_coil, PlanMode, no_event, no_mode, PlanView}
-use Rattle.plan_contributions.specs.DeviceEntries.{Deed, pulse, enable, disable, Effect, posts, works, changes, enters, leaves, loses, arrives}
+use Rattle.plan_contributions.specs.DeviceEntries.{Deed, pulse, enable, disable, Effect, posts, works, changes, enters, leaves, loses, arrives, requests, adds_balls}
 use Rattle.plan_contributions.specs.Contributions.{Contribution, gives, reads, active, inactive, mode, mode_event, mode_event_name, binds, does, device, does_in, listens, mentions, unknown, coil, under, plays, contributions_of}
 use Rattle.mpf_plan.specs.Uses.{Names, names_from, number_among, lacks_name}
 use Rattle.plan_tables.specs.Limits.{first_above, IsFirstAbove}
@@ -60,7 +60,7 @@ action_with c (pulse ms power) = Pulse c ms power
 action_with c (enable power) = Enable c power
 action_with c disable = Disable c
 
--- what an effect list does, by number; what happens with balls is of this row
+-- what an effect list does, by number; what happens with the balls of a device is of this row
 abbrev pub action_of : Names → RowId → Effect → Action
 action_of names r (posts n) = Post (event_of (names Events) n)
 action_of names r (works n deed) = action_with (coil_of (names Coils) n) deed
@@ -69,6 +69,8 @@ action_of names r (enters n drain) = Enter r (event_of (names Events) n) drain
 action_of names r leaves = Leave r
 action_of names r loses = Lose r
 action_of names r arrives = Arrive r
+action_of names r (requests n) = Request n
+action_of names r (adds_balls n) = AddBalls n
 
 -- a condition, by number
 abbrev pub condition_of : Names → Condition → numbered.Condition

@@ -485,7 +485,7 @@ fn add_effect(
     Ok(())
 }
 
-/// What an effect list does, by number. What happens with balls is of this row.
+/// What an effect list does, by number. What happens with the balls of a device is of this row.
 fn action_of(
     names: &NameSets,
     text: &mut Vec<u8>,
@@ -515,6 +515,8 @@ fn action_of(
         Effect::Leave => Ok(Action::Leave { device: row }),
         Effect::Lose => Ok(Action::Lose { device: row }),
         Effect::Arrive => Ok(Action::Arrive { device: row }),
+        Effect::Request(balls) => Ok(Action::Request { balls }),
+        Effect::AddBalls(balls) => Ok(Action::AddBalls { balls }),
     }
 }
 

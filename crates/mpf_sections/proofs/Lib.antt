@@ -6,3 +6,4 @@ pub mod CoilRows
 pub mod GameRows
 pub mod ShotRows
 pub mod BallRows
+pub mod SaveRows

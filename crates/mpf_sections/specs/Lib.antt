@@ -4,6 +4,7 @@ pub mod TypedCoils
 pub mod TypedGame
 pub mod TypedShots
 pub mod TypedBalls
+pub mod TypedSaves
 pub mod Named
 pub mod Short
 pub mod SectionView

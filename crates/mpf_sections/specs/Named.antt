@@ -2,7 +2,7 @@
 use Rattle.std.specs.Prelude.{List, IfSome}
 use Rattle.std.specs.List.{All}
 pub use Rattle.section_tables.specs.Named.{IsNamedHandled, IsNamedEntry, IsNamedPlayer}
-use Rattle.mpf_sections.specs.Rows.{Written, Handled, Switch, EventPlayer, Coil, CoilPlayer, VariablePlayer, Flipper, Autofire, Shot, ShotGroup, ShotProfile, BallDevice, Block, Counter, StepBlock, Timer, ModeSettings, Content, entries, players, entry, listed, SectionRows}
+use Rattle.mpf_sections.specs.Rows.{Written, Handled, Switch, EventPlayer, Coil, CoilPlayer, VariablePlayer, Flipper, Autofire, Shot, ShotGroup, ShotProfile, BallDevice, BallSave, Multiball, Block, Counter, StepBlock, Timer, ModeSettings, Content, entries, players, entry, listed, SectionRows}
 pub use Rattle.mpf_values.specs.Names.{IsName}
 
 -- each name in a list is one
@@ -88,6 +88,17 @@ pub record IsNamedBallDevice (d : BallDevice) : Type 0 where
   pub eject_coil : IfSome d.eject_coil (λ w. IsName w.text)
   pub target : IsName d.target.text
   pub tags : AllNames d.tags
+
+-- the name of a ball save is one, and so are those of its events
+pub record IsNamedBallSave (b : BallSave) : Type 0 where
+  pub name : IsName b.name.text
+  pub enable_events : AllNamedEvents b.enable_events
+  pub disable_events : AllNamedEvents b.disable_events
+
+-- those of a multiball, too
+pub record IsNamedMultiball (m : Multiball) : Type 0 where
+  pub name : IsName m.name.text
+  pub start_events : AllNamedEvents m.start_events
 
 -- the events of a logic block are names
 pub record IsNamedBlock (b : Block) : Type 0 where

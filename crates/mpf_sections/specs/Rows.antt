@@ -103,6 +103,21 @@ pub record BallDevice : Type 0 where
   pub tags : List Written
   pub order : List ℕ
 
+-- An entry of `ball_saves`: for how many milliseconds it is active once it is enabled, 0 for no end; how many balls it saves
+-- each time; and the events that enable and disable it.
+pub record BallSave : Type 0 where
+  pub name : Written
+  pub active_time : ℕ
+  pub balls : ℕ
+  pub enable_events : List Handled
+  pub disable_events : List Handled
+
+-- an entry of `multiballs`: how many balls are to be in play, and the events that start it
+pub record Multiball : Type 0 where
+  pub name : Written
+  pub balls : ℕ
+  pub start_events : List Handled
+
 -- what `mode` says of a mode: the events that start and stop it, its priority, whether it runs only in a game, whether
 -- it stops with the ball, and whether it may hold the end of the ball
 pub record ModeSettings : Type 0 where

@@ -2,7 +2,7 @@
 use Rattle.std.specs.Prelude.{ℕ, ◌≤◌, ℤ, pos, neg_ℤ, ◌≤ℤ◌, Option, IfSome, length}
 use Rattle.std.specs.List.{All}
 pub use Rattle.section_tables.specs.Named.{IsShortEntry, IsShortPlayer}
-use Rattle.mpf_sections.specs.Rows.{Switch, EventPlayer, Coil, CoilItem, CoilPlayer, VariableItem, VariablePlayer, GameSettings, Flipper, Autofire, Shot, ShotGroup, ShotProfile, BallDevice, Block, Counter, StepBlock, Timer, Content, SectionRows}
+use Rattle.mpf_sections.specs.Rows.{Switch, EventPlayer, Coil, CoilItem, CoilPlayer, VariableItem, VariablePlayer, GameSettings, Flipper, Autofire, Shot, ShotGroup, ShotProfile, BallDevice, BallSave, Multiball, Block, Counter, StepBlock, Timer, Content, SectionRows}
 use Rattle.mpf_sections.specs.Typed.{entries_in, players_in, entry_in, names_in}
 
 -- No list in a section is longer, whatever its settings are; the coils of an entry of `coil_player` are such a list, and
@@ -106,6 +106,16 @@ pub record IsShortBallDevice (d : BallDevice) : Type 0 where
   pub exit_delay : IsSomeTime d.exit_delay
   pub max_attempts : d.max_attempts ≤ 1000
   pub tags : length d.tags ≤ 1024
+
+-- how many balls a ball save saves
+pub record IsShortBallSave (b : BallSave) : Type 0 where
+  pub some_balls : 1 ≤ b.balls
+  pub few_balls : b.balls ≤ 99
+
+-- how many balls a multiball has
+pub record IsShortMultiball (m : Multiball) : Type 0 where
+  pub some_balls : 2 ≤ m.balls
+  pub few_balls : m.balls ≤ 99
 
 -- the events that a logic block posts
 pub record IsShortBlock (b : Block) : Type 0 where

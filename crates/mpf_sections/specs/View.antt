@@ -27,7 +27,9 @@ use Rattle.mpf_sections.specs.declared.shots.Shot as typed_shots
 use Rattle.mpf_sections.specs.declared.shots.ShotGroup as typed_groups
 use Rattle.mpf_sections.specs.declared.shots.ShotProfile as typed_profiles
 use Rattle.mpf_sections.specs.declared.balls.BallDevice as typed_balls
-use Rattle.mpf_sections.specs.Rows.{Written, Handled, Switch, EventPlayer, Coil, CoilItem, CoilPlayer, VariableItem, VariablePlayer, GameSettings, Flipper, Autofire, Shot, ShotGroup, ShotProfile, BallDevice, Block, Counter, StepBlock, Control, Timer, ModeSettings}
+use Rattle.mpf_sections.specs.declared.saves.BallSave as typed_saves
+use Rattle.mpf_sections.specs.declared.saves.Multiball as typed_multiballs
+use Rattle.mpf_sections.specs.Rows.{Written, Handled, Switch, EventPlayer, Coil, CoilItem, CoilPlayer, VariableItem, VariablePlayer, GameSettings, Flipper, Autofire, Shot, ShotGroup, ShotProfile, BallDevice, BallSave, Multiball, Block, Counter, StepBlock, Control, Timer, ModeSettings}
 use Rattle.mpf_sections.specs.Typed.{controls_of}
 use Rattle.mpf_sections.specs.TypedCoils.{coil_item_of}
 use Rattle.mpf_sections.specs.TypedGame.{variable_item_of}
@@ -212,3 +214,15 @@ ball_device_view d = record {
   tags = map name_view d.tags.now;
   order = d.order.now;
 }
+
+abbrev pub ball_save_view : typed_saves.BallSave → BallSave
+ball_save_view b = record {
+  name = name_view b.name.now;
+  active_time = b.active_time;
+  balls = b.balls;
+  enable_events = map handler_view b.enable_events.now;
+  disable_events = map handler_view b.disable_events.now;
+}
+
+abbrev pub multiball_view : typed_multiballs.Multiball → Multiball
+multiball_view m = record { name = name_view m.name.now; balls = m.balls; start_events = map handler_view m.start_events.now }

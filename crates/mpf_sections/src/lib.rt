@@ -4,7 +4,8 @@
 //! of the table: [`as_switch`], [`as_event_player`], [`as_coil`], [`as_coil_player`],
 //! [`as_variable_player`], [`as_flipper`], [`as_autofire`], [`as_counter`], [`as_step_block`],
 //! [`as_timer`], [`as_shot`], [`as_shot_group`], [`as_shot_profile`], [`as_ball_device`],
-//! [`as_game`], [`min_balls`], [`as_mode_settings`] and [`mode_settings`] give each setting by its name.
+//! [`as_ball_save`], [`as_multiball`], [`as_game`], [`min_balls`], [`as_mode_settings`] and
+//! [`mode_settings`] give each setting by its name.
 #![tactic(auto)]
 
 pub mod balls;
@@ -12,6 +13,7 @@ pub mod blocks;
 pub mod coil_rules;
 pub mod coils;
 pub mod game;
+pub mod saves;
 pub mod section;
 pub mod shots;
 pub mod timers;
@@ -27,6 +29,7 @@ pub use game::{
     GameSettings, VariableItem, VariablePlayer, as_game, as_variable_item, as_variable_player,
     min_balls,
 };
+pub use saves::{BallSave, Multiball, as_ball_save, as_multiball};
 pub use section::{Content, Section};
 pub use shots::{Shot, ShotGroup, ShotProfile, as_shot, as_shot_group, as_shot_profile, as_state};
 pub use timers::{Control, Timer, as_control, as_timer};

@@ -11,7 +11,7 @@ use Rattle.section_tables.specs.Rows.{Handled}
 use Rattle.section_tables.specs.Kinds.{Shape}
 use Rattle.section_tables.specs.Entries.{handled_at}
 use Rattle.section_tables.specs.Named.{IsNamedHandled, IsNamedKinds, IsNamedTable, IsNamedShape, IsShortTable, IsShortShape}
-use Rattle.mpf_tables.specs.SectionTables.{switches, coils, rule_events, flippers, autofire_coils, playfield, ball_devices, block, counters, step_blocks, timers, default_profile, shots, shot_groups, shot_profiles, shot_shapes, mode, machine, game, event_player, coil_player, variable_player, shared_shapes, device_shapes, machine_shapes, mode_shapes, named_in, shape_of}
+use Rattle.mpf_tables.specs.SectionTables.{switches, coils, rule_events, flippers, autofire_coils, playfield, ball_devices, ball_saves, multiballs, save_shapes, block, counters, step_blocks, timers, default_profile, shots, shot_groups, shot_profiles, shot_shapes, mode, machine, game, event_player, coil_player, variable_player, shared_shapes, device_shapes, machine_shapes, mode_shapes, named_in, shape_of}
 use Rattle.mpf_tables.specs.TableRules.{IsRight}
 use Rattle.section_tables.proofs.RowNames.{no_items, few_items}
 use Rattle.section_tables.proofs.Steps.{word_is}
@@ -131,6 +131,20 @@ ball_devices_named = ((tt, tt), ((tt, tt), ((playfield_named, tt), ((tt, tt), ((
 ball_devices_short : (longest : ℕ) → IsShortTable longest ball_devices
 ball_devices_short longest = let none = no_items longest in (none, (none, (none, (none, (none, (none, (none, (none, (none, tt)))))))))
 
+-- ---- `ball_saves` and `multiballs`
+
+ball_saves_named : IsNamedTable ball_saves
+ball_saves_named = ((tt, tt), ((tt, tt), ((tt, tt), ((tt, tt), tt))))
+
+ball_saves_short : (longest : ℕ) → IsShortTable longest ball_saves
+ball_saves_short longest = let none = no_items longest in (none, (none, (none, (none, tt))))
+
+multiballs_named : IsNamedTable multiballs
+multiballs_named = ((tt, tt), ((tt, tt), tt))
+
+multiballs_short : (longest : ℕ) → IsShortTable longest multiballs
+multiballs_short longest = let none = no_items longest in (none, (none, tt))
+
 -- ---- `mode`
 
 mode_named : IsNamedTable mode
@@ -173,14 +187,23 @@ variable_player_named = record { key = tt; value = (tt, (tt, tt)) }
 abbrev AllShapes : (Shape → Type 0) → List (List ℕ × Shape) → Type 0
 AllShapes P = AllByRecursion (λ t. P t.1)
 
+save_named : AllShapes IsNamedShape save_shapes
+save_named = (ball_saves_named, (multiballs_named, tt))
+
+save_short : (longest : ℕ) → AllShapes (IsShortShape longest) save_shapes
+save_short longest = (ball_saves_short longest, (multiballs_short longest, tt))
+
+save_right : AllShapes IsRight save_shapes
+save_right = (refl, (refl, tt))
+
 shot_named : AllShapes IsNamedShape shot_shapes
-shot_named = (shots_named, (shot_groups_named, (shot_profiles_named, tt)))
+shot_named = (shots_named, (shot_groups_named, (shot_profiles_named, save_named)))
 
 shot_short : (longest : ℕ) → AllShapes (IsShortShape longest) shot_shapes
-shot_short longest = (shots_short longest, (shot_groups_short longest, (shot_profiles_short longest, tt)))
+shot_short longest = (shots_short longest, (shot_groups_short longest, (shot_profiles_short longest, save_short longest)))
 
 shot_right : AllShapes IsRight shot_shapes
-shot_right = (refl, (refl, (refl, tt)))
+shot_right = (refl, (refl, (refl, save_right)))
 
 shared_named : AllShapes IsNamedShape shared_shapes
 shared_named = (player_named, (variable_player_named, (coil_player_named, (counters_named, (step_blocks_named, (step_blocks_named, shot_named))))))

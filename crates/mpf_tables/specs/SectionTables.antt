@@ -258,6 +258,23 @@ ball_devices =
     ∷ naming (codes "tags")
     ∷ []
 
+-- a time, 0 by default
+abbrev any_time : List ℕ → Setting
+any_time key = row key (single (time_within 0 4294967295)) (default (one (time 0)))
+
+-- without an end of the time that it is active, that is 0; it saves 1 to 99 balls
+abbrev pub ball_saves : List Setting
+ball_saves =
+    any_time (codes "active_time")
+    ∷ whole (codes "balls_to_save") 1 99 1
+    ∷ handling (codes "enable_events")
+    ∷ handling (codes "disable_events")
+    ∷ []
+
+-- 2 to 99 balls
+abbrev pub multiballs : List Setting
+multiballs = row (codes "ball_count") (single (number_within (pos 2) (pos 99))) required ∷ handling (codes "start_events") ∷ []
+
 -- what holds of the whole machine
 abbrev pub machine : List Setting
 machine = whole (codes "min_balls") 0 99 1 ∷ []
@@ -313,6 +330,12 @@ shot_groups_name = codes "shot_groups"
 abbrev pub shot_profiles_name : List ℕ
 shot_profiles_name = codes "shot_profiles"
 
+abbrev pub ball_saves_name : List ℕ
+ball_saves_name = codes "ball_saves"
+
+abbrev pub multiballs_name : List ℕ
+multiballs_name = codes "multiballs"
+
 -- the list of modes
 abbrev pub modes_name : List ℕ
 modes_name = codes "modes"
@@ -333,15 +356,22 @@ game_name = codes "game"
 abbrev pub not_a_device : List (List ℕ)
 not_a_device = playfield ∷ []
 
--- the sections of shots, each with how it is written
+-- the sections of ball saves and multiballs, each with how it is written
+abbrev pub save_shapes : List (List ℕ × Shape)
+save_shapes =
+    (ball_saves_name, by_entries not_a_device ball_saves)
+    ∷ (multiballs_name, by_entries not_a_device multiballs)
+    ∷ []
+
+-- those of shots, and of what saves and adds balls
 abbrev pub shot_shapes : List (List ℕ × Shape)
 shot_shapes =
     (shots_name, by_entries not_a_device shots)
     ∷ (shot_groups_name, by_entries not_a_device shot_groups)
     ∷ (shot_profiles_name, by_entries (default_profile ∷ []) shot_profiles)
-    ∷ []
+    ∷ save_shapes
 
--- those of logic blocks, and of shots
+-- those of logic blocks, and of shots and the like
 abbrev pub block_shapes : List (List ℕ × Shape)
 block_shapes =
     (counters_name, by_entries not_a_device counters)

@@ -5,7 +5,7 @@ ghost use Rattle.std.specs.Prelude.{◌≡◌, ℕ, List, Some};
 ghost use Rattle.mpf_tables.specs.declared.tables.TextKind.{TextKind as Text};
 ghost use Rattle.mpf_tables.specs.declared.tables.TextKind.TheVariants.{Machine, Mode};
 ghost use Rattle.section_tables.specs.Kinds.{Shape as SectionShape};
-ghost use Rattle.mpf_tables.specs.SectionTables.{shot_shapes, block_shapes, shared_shapes, device_shapes, named_in, shape_of};
+ghost use Rattle.mpf_tables.specs.SectionTables.{save_shapes, shot_shapes, block_shapes, shared_shapes, device_shapes, named_in, shape_of};
 ghost use Rattle.mpf_tables.specs.TableRules.{IsRight};
 ghost use Rattle.section_tables.specs.Reading.{give};
 ghost use Rattle.section_tables.specs.TableView.{shape_view};
@@ -83,6 +83,10 @@ const FULL_POWER: Without = Without::One(Absent::Power(1_000));
 
 /// A time of at least a millisecond.
 const SOME_TIME: Kind = Kind::One(Scalar::Time(1, u32::MAX));
+
+const ANY_TIME: Kind = Kind::One(Scalar::Time(0, u32::MAX));
+
+const NO_TIME: Without = Without::One(Absent::Time(0));
 
 const DIRECTION: Setting = setting!(
     b"direction",
@@ -163,11 +167,7 @@ pub const COUNTERS: &[Setting] = block_settings!(
     ),
     setting!(b"count_complete_value", NUMBER, NOTHING),
     DIRECTION,
-    setting!(
-        b"multiple_hit_window",
-        Kind::One(Scalar::Time(0, u32::MAX)),
-        Without::One(Absent::Time(0))
-    )
+    setting!(b"multiple_hit_window", ANY_TIME, NO_TIME)
 );
 
 /// `accruals`, and `sequences`: at most 16 steps.
@@ -301,6 +301,24 @@ pub const BALL_DEVICES: &[Setting] = &[
     setting!(b"tags", Kind::Names(ANY), Without::NoNames),
 ];
 
+/// `ball_saves`: an `active_time` of 0 has no end.
+pub const BALL_SAVES: &[Setting] = &[
+    setting!(b"active_time", ANY_TIME, NO_TIME),
+    setting!(
+        b"balls_to_save",
+        Kind::One(Scalar::Number(1, 99)),
+        Without::One(Absent::Number(1))
+    ),
+    setting!(b"enable_events", EVENTS, Without::NoEvents),
+    setting!(b"disable_events", EVENTS, Without::NoEvents),
+];
+
+/// `multiballs`: how many balls are to be in play.
+pub const MULTIBALLS: &[Setting] = &[
+    setting!(b"ball_count", Kind::One(Scalar::Number(2, 99)), REQUIRED),
+    setting!(b"start_events", EVENTS, Without::NoEvents),
+];
+
 /// `mode`: the settings of a mode itself.
 pub const MODE: &[Setting] = &[
     setting!(b"start_events", EVENTS, Without::NoEvents),
@@ -426,6 +444,12 @@ pub const SHOT_GROUPS_NAME: &[u8] = b"shot_groups";
 /// The name of the section [`SHOT_PROFILES`].
 pub const SHOT_PROFILES_NAME: &[u8] = b"shot_profiles";
 
+/// The name of the section [`BALL_SAVES`].
+pub const BALL_SAVES_NAME: &[u8] = b"ball_saves";
+
+/// The name of the section [`MULTIBALLS`].
+pub const MULTIBALLS_NAME: &[u8] = b"multiballs";
+
 /// The name that no device has.
 const NOT_A_DEVICE: Barred = Barred {
     names: &[PLAYFIELD],
@@ -459,7 +483,20 @@ pub enum TextKind {
     Mode,
 }
 
-// How a section of shots is written.
+// How a section of ball saves or multiballs is written.
+fn save_shape(section: &[u8]) -> Option<Shape>
+    ensures { give shape_view result ≡ named_in section.now save_shapes }
+{
+    if section == BALL_SAVES_NAME {
+        return Some(Shape::Entries(NOT_A_DEVICE, BALL_SAVES));
+    }
+    if section == MULTIBALLS_NAME {
+        return Some(Shape::Entries(NOT_A_DEVICE, MULTIBALLS));
+    }
+    None
+}
+
+// How a section of shots, or of what saves and adds balls, is written.
 fn shot_shape(section: &[u8]) -> Option<Shape>
     ensures { give shape_view result ≡ named_in section.now shot_shapes }
 {
@@ -472,10 +509,10 @@ fn shot_shape(section: &[u8]) -> Option<Shape>
     if section == SHOT_PROFILES_NAME {
         return Some(Shape::Entries(NOT_DEFAULT, SHOT_PROFILES));
     }
-    None
+    save_shape(section)
 }
 
-// How a section of logic blocks, or of shots, is written.
+// How a section of logic blocks, or of shots and the like, is written.
 fn block_shape(section: &[u8]) -> Option<Shape>
     ensures { give shape_view result ≡ named_in section.now block_shapes }
 {

@@ -34,6 +34,8 @@ stopped-ejects_nothing (kinds.Bank b) now world (states.Bank slots) shape = tt
 stopped-ejects_nothing kinds.Flipper now world (states.Flipper s) shape = tt
 stopped-ejects_nothing kinds.Autofire now world (states.Autofire s) shape = tt
 stopped-ejects_nothing (kinds.BallDevice d) now world (states.BallDevice s) shape = refl
+stopped-ejects_nothing (kinds.BallSave b) now world (states.BallSave s) shape = tt
+stopped-ejects_nothing (kinds.Multiball m) now world (states.Multiball s) shape = tt
 stopped-ejects_nothing _ now world _ shape = elim shape [ ]
 
 module _ (checked : CheckedView) (core : CoreView) (driver : DriverView) (shown : ℕ) (held : IsHeld checked core driver shown)

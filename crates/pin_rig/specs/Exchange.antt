@@ -63,6 +63,8 @@ EjectsNothing (states.Bank slots) = Unit {0}
 EjectsNothing (states.Flipper s) = Unit {0}
 EjectsNothing (states.Autofire s) = Unit {0}
 EjectsNothing (states.BallDevice s) = s.eject ≡ Idle
+EjectsNothing (states.BallSave s) = Unit {0}
+EjectsNothing (states.Multiball s) = Unit {0}
 
 -- A device of this row, in this state, may be the one that was there, once it has stopped: it has the same row, and
 -- the state to which the stop of its mode leads at the moment of the latest stimulus. Nothing of it is due, and it

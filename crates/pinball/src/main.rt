@@ -1,7 +1,7 @@
 //! The program `pinball`: words, files and the exit status. All else is in the libraries.
 #![tactic(auto)]
 
-use ball_devices::BallDevice;
+use ball_devices::{BallDevice, BallSave, Multiball};
 use coil_guard::MemoryBoard;
 use coil_rules::{Autofire, Flipper};
 use command_line::{Ask, AskFault, command};
@@ -169,6 +169,10 @@ fn play_log<L: Read, W: Write>(
             boxed(alloc, autofire)?
         } else if let Some(device) = BallDevice::new(row) {
             boxed(alloc, device)?
+        } else if let Some(save) = BallSave::new(row) {
+            boxed(alloc, save)?
+        } else if let Some(multiball) = Multiball::new(row) {
+            boxed(alloc, multiball)?
         } else {
             continue;
         };

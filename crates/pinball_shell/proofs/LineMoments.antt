@@ -6,7 +6,7 @@ use Rattle.written_machine.specs.Machine.{Machine}
 use Rattle.written_machine.specs.EventStep.{taken, EventStep, EventSteps}
 use Rattle.written_machine.specs.Run.{Stimulus, moment_of, begin}
 use Rattle.written_machine.specs.PlanOrder.{settled}
-use Rattle.written_machine.specs.Moves.{Move, Wrote, Sent, Switched, Began, Ended, Marked, Released, Turned, Asked, Booked, Varied, Stepped, do_move, Does}
+use Rattle.written_machine.specs.Moves.{Move, Wrote, Sent, Switched, Began, Ended, Marked, Released, Turned, Asked, Booked, Varied, Stepped, AddedBalls, do_move, Does}
 use Rattle.written_machine.proofs.Does.{start-by, stop-by, book-by, does-keeps, moment-move}
 use Rattle.written_machine.proofs.Parts.{does-begin, does-before, does-after}
 use Rattle.written_machine.proofs.Keeps.{step-keeps, steps-keep}
@@ -42,6 +42,7 @@ module _ (plan : PlanView) (m : ℕ) where
   lines-move (Released m) s h = h.1
   lines-move (Varied v value) s h = h.1
   lines-move (Stepped which) s h = h.1
+  lines-move (AddedBalls n) s h = h.1
 
   at-does : {may : Move → Type 0} {c : _} {s t : Machine} → Does plan may c s t → IsAt m s → IsAt m t
   at-does {may} {c} {s} {t} d = does-keeps plan may (IsAt m) (λ x u allowed h. (moment-move plan x u ∙ h.0, lines-move x u h)) d

@@ -35,7 +35,7 @@ use Rattle.plan_contributions.specs.DeviceEntries.{texts, Effect, posts, works, 
 use Rattle.plan_contributions.specs.BallEntries.{is_entry, is_game, has_game, drains, ball_event, eject_pulse, ball_lists, target_of, ball_settings, ball_device_from}
 use Rattle.plan_contributions.specs.Contributions.{Contribution, binds, does, device, does_in, listens, mentions, under, Device, act_binding, effects_from, listens_from, device_contributions, game_contributions, alone_contributions, row_contributions, given_by, contributions_of}
 use Rattle.plan_tables.specs.BallRows.{IsNoBallDevice, IsSwitchOf}
-use Rattle.plan_contributions.specs.BallFacts.{IsOfNoBall, IsRightRow, LastRow, last_after, IsRight, IsFitting, AreFitting, row_settings, IsTargetAmong, HasTarget, ActsOffBalls, is_plays, DrainsIn, DrainsInGame, AllDrainInGame, AreHeardOnce}
+use Rattle.plan_contributions.specs.BallFacts.{IsOfNoBall, IsBallFree, IsRightRow, LastRow, last_after, IsRight, IsFitting, AreFitting, row_settings, IsTargetAmong, HasTarget, ActsOffBalls, is_plays, DrainsIn, DrainsInGame, AllDrainInGame, AreHeardOnce}
 use Rattle.plan_contributions.specs.Doing.{IsBallDeviceDoing, IsMachineDoing, AreDoing}
 use Rattle.plan_contributions.proofs.Before.{each_before, all_before, under_before, All-bound, each_some}
 use Rattle.plan_contributions.proofs.RowFacts.{All-each, All-made, All-listens, All-lists, one, attempts, seven}
@@ -136,8 +136,8 @@ fitting_ball_device machine d to o right =
     failure : List ℕ
     failure = ball_event d.name.text (codes "_ball_eject_failed")
 
-    nothing : (n : List ℕ) → All IsOfNoBall (posts n ∷ [])
-    nothing n = All-cons IsOfNoBall (posts n) [] tt (All-nil IsOfNoBall)
+    nothing : (n : List ℕ) → All IsBallFree (posts n ∷ [])
+    nothing n = All-cons IsBallFree (posts n) [] tt (All-nil IsBallFree)
 
     lists : (heard : ℕ) (o : Option Written)
         → AreFitting (at Machine (ball_settings d to) heard (λ k. [])) (effects_from 0 ((enters enter (drains machine d) ∷ []) ∷ (posts attempted ∷ posts ejecting ∷ eject_pulse machine o) ∷ (leaves ∷ []) ∷ (loses ∷ []) ∷ (posts success ∷ []) ∷ (arrives ∷ []) ∷ (posts failure ∷ []) ∷ []))
@@ -163,7 +163,7 @@ fitting_ball_device machine d to o right =
                         event = enter;
                         drain = drains machine d;
                         entered = refl;
-                        attempted = All-cons IsOfNoBall (posts attempted) (posts ejecting ∷ []) tt (nothing ejecting);
+                        attempted = All-cons IsBallFree (posts attempted) (posts ejecting ∷ []) tt (nothing ejecting);
                         left = refl;
                         lost = refl;
                         succeeded = nothing success;
@@ -204,7 +204,7 @@ fitting_ball_device machine d to o right =
                               event = enter;
                               drain = drains machine d;
                               entered = refl;
-                              attempted = All-cons IsOfNoBall (posts attempted) (posts ejecting ∷ pulsed ∷ []) tt (All-cons IsOfNoBall (posts ejecting) (pulsed ∷ []) tt (All-cons IsOfNoBall pulsed [] tt (All-nil IsOfNoBall)));
+                              attempted = All-cons IsBallFree (posts attempted) (posts ejecting ∷ pulsed ∷ []) tt (All-cons IsBallFree (posts ejecting) (pulsed ∷ []) tt (All-cons IsBallFree pulsed [] tt (All-nil IsBallFree)));
                               left = refl;
                               lost = refl;
                               succeeded = nothing success;

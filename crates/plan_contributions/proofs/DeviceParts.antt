@@ -19,6 +19,7 @@ use Rattle.plan_rows.specs.declared.place.Place.{Place}
 use Rattle.section_tables.specs.declared.rows.Name.{Name}
 use Rattle.mpf_sections.specs.View.{name_view}
 use Rattle.plan_contributions.specs.DeviceEntries.{texts, device_of, step_settings, step_device, timer_device, acts, step_acts, controlled, Effect}
+use Rattle.plan_contributions.specs.SaveEntries.{save_device_of}
 use Rattle.plan_contributions.specs.Contributions.{Contribution, device, does_in, listens, mentions, Device, act_binding, effects_from, listens_from, device_contributions}
 use Rattle.plan_contributions.specs.View.{contribution_view, contributions_view}
 
@@ -100,3 +101,7 @@ module _ (section : List ℕ) (e : Entry) (others : bytes_eq section counters_na
     pub timer_there : bytes_eq section sequences_name ≡ false → bytes_eq section timers_name ≡ true → Some (timer_device (timer_of e)) ≡ device_of section e
     unfolding device_of
     timer_there last is = rw (others, more, last, is) refl
+
+    pub save_there : bytes_eq section sequences_name ≡ false → bytes_eq section timers_name ≡ false → save_device_of section e ≡ device_of section e
+    unfolding device_of
+    save_there last none = rw (others, more, last, none) refl

@@ -8,7 +8,7 @@ use Rattle.mpf_sections.specs.Named.{IsName, IsNamed}
 use Rattle.mpf_config.specs.Named.{IsNamedMode}
 use Rattle.plan_tables.specs.declared.table.Table.{Table}
 use Rattle.plan_tables.specs.declared.table.Table.TheVariants.{Events, Switches, Coils, Variables}
-use Rattle.plan_contributions.specs.DeviceEntries.{Effect, posts, works, changes, enters, leaves, loses, arrives}
+use Rattle.plan_contributions.specs.DeviceEntries.{Effect, posts, works, changes, enters, leaves, loses, arrives, requests, adds_balls}
 use Rattle.plan_contributions.specs.Contributions.{Contribution, gives, reads, active, inactive, mode, mode_event, binds, does, device, does_in, listens, mentions, unknown, coil, under, plays, contributions_of}
 use Rattle.plan_contributions.specs.UsedNames.{used_by, used, uses, name_in_table}
 use Rattle.plan_contributions.proofs.Before.{All-flat_map}
@@ -29,6 +29,8 @@ module _ (P : List ℕ → Type 0) where
   effect_fit leaves h = tt
   effect_fit loses h = tt
   effect_fit arrives h = tt
+  effect_fit (requests n) h = tt
+  effect_fit (adds_balls n) h = tt
 
   use_fit : (c : Contribution) → IsFit P c → IsFitUse P (used c)
   use_fit (gives t n) h = h

@@ -8,12 +8,13 @@ use Rattle.std.proofs.lemmas.List.{append_assoc, append-nil}
 use Rattle.std.proofs.lemmas.List.Elements.{All-nil, All-cons, All-head, All-tail, All-append, All-map}
 use Rattle.std.proofs.lemmas.Grind.{flat_map-append}
 use Rattle.mpf_values.specs.Events.{Condition, Event}
-use Rattle.mpf_sections.specs.Rows.{Written, Entry, Player, Switch, EventPlayer, CoilPlayer, VariablePlayer, VariableItem, GameSettings, Coil, Flipper, Autofire, Counter, StepBlock, Timer, Shot, ShotGroup, BallDevice, ModeSettings, Content, entries, players, SectionRows}
+use Rattle.mpf_sections.specs.Rows.{Written, Entry, Player, Switch, EventPlayer, CoilPlayer, VariablePlayer, VariableItem, GameSettings, Coil, Flipper, Autofire, Counter, StepBlock, Timer, Shot, ShotGroup, BallDevice, BallSave, Multiball, ModeSettings, Content, entries, players, SectionRows}
 use Rattle.mpf_sections.specs.Rows as sections
 use Rattle.mpf_sections.specs.Typed.{switches_name, event_player_name, counters_name, accruals_name, sequences_name, timers_name, switch_of, event_player_of, counter_of, step_block_of, timer_of, mode_settings}
 use Rattle.mpf_sections.specs.TypedCoils.{coils_name, coil_player_name, flippers_name, autofire_coils_name, coil_of, coil_player_of, flipper_of, autofire_of}
 use Rattle.mpf_sections.specs.TypedShots.{shot_of}
 use Rattle.mpf_sections.specs.TypedBalls.{ball_devices_name, playfield, ball_device_of, ball_devices_in}
+use Rattle.mpf_sections.specs.TypedSaves.{ball_saves_name, multiballs_name, ball_save_of, multiball_of}
 use Rattle.mpf_sections.specs.TypedGame.{variable_player_name, game_name, variable_player_of, game_of, min_balls_of}
 use Rattle.mpf_config.specs.Rows.{ModeRows, Rows}
 use Rattle.machine_definitions.specs.GameEvents.{game_event_names}
@@ -38,11 +39,13 @@ use Rattle.plan_contributions.specs.CoilEntries.{limits_of_coil, defaults_called
 use Rattle.plan_contributions.specs.DeviceEntries.{posts, works, texts, events, device_of, step_settings, step_device, counter_device, timer_event, timer_endings, timer_device, always}
 use Rattle.plan_contributions.specs.ShotEntries.{shot_acts, lone_device, group_device}
 use Rattle.plan_contributions.specs.BallEntries.{is_known, ball_device_from}
+use Rattle.plan_contributions.specs.SaveEntries.{save_device, multiball_device, save_device_of}
 use Rattle.plan_contributions.specs.Contributions.{Contribution, gives, reads, active, inactive, mode, mode_event, binds, does, device, does_in, listens, mentions, unknown, coil, under, plays, under_where, bound, kind_of, confirms, active_posts, inactive_posts, switch_contributions, player_contributions, coil_contributions, coil_player_contributions, item_contributions, variable_player_contributions, game_contributions, starter, stopper, stopper_where, later_events, stops_at_ball_end, stops_at_game_end, controls, mode_contributions, Device, device_contributions, where_device, machine_device, unknown_unless, shot_switch, act_at, seated, shot_contributions, group_contributions, ball_device_contributions, machine_entry_contributions, entry_contributions, alone_contributions, player_entry_contributions, row_contributions, given_by, contributions_of}
 use Rattle.plan_tables.specs.BallRows.{IsNoBallDevice}
 use Rattle.plan_contributions.specs.BallFacts.{IsOfNoBall}
 use Rattle.plan_contributions.proofs.CoilFacts.{flips_on, flips_off}
 use Rattle.plan_contributions.proofs.ShotFacts.{posts_of_shot, posts_of_group}
+use Rattle.plan_contributions.proofs.SaveFacts.{all_save, all_multiball}
 use Rattle.plan_contributions.proofs.RowFacts.{all_block, entry_such, sections_each}
 use Rattle.plan_contributions.proofs.Silent.{told}
 use Rattle.plan_contributions.proofs.SeatFacts.{row_given, silent, rows_told, rows_of_text, IsRowAt, seat_at, rows_told_are, rows_counted, ball_row_at}
@@ -134,6 +137,12 @@ module _ (machine : List SectionRows) where
       let own = works a.coil.text (own_pulse (defaults_called machine a.coil.text)) in
       record { settings = tt; lists = All-cons (All IsOfNoBall) (own ∷ []) [] (All-cons IsOfNoBall own [] tt (All-nil IsOfNoBall)) (All-nil (All IsOfNoBall)); listens = omega arith }
 
+  plain_save : (s : BallSave) → IsPlainDevice (save_device s)
+  plain_save s = record { settings = tt; lists = all_save IsOfNoBall s.name.text (λ ending. tt) tt; listens = omega arith }
+
+  plain_multiball : (m : Multiball) → IsPlainDevice (multiball_device m)
+  plain_multiball m = record { settings = tt; lists = all_multiball IsOfNoBall m.name.text m.balls (λ ending. tt) tt; listens = omega arith }
+
   plain_lone : (p : Profile) (s : Shot) → IsPlainDevice (lone_device p s)
   plain_lone p s = record { settings = tt; lists = posts_of_shot IsOfNoBall posts_nothing p s.name.text; listens = omega arith }
 
@@ -149,6 +158,12 @@ module _ (machine : List SectionRows) where
   plain_if true o q first other = first
   plain_if false o q first other = other
 
+  plain_save_entry : (section : List ℕ) (e : Entry) → IsPlainWhere (save_device_of section e)
+  unfolding save_device_of
+  plain_save_entry section e =
+      plain_if (bytes_eq section ball_saves_name) (Some (save_device (ball_save_of e))) _ (plain_save (ball_save_of e))
+      (plain_if (bytes_eq section multiballs_name) (Some (multiball_device (multiball_of e))) None (plain_multiball (multiball_of e)) tt)
+
   plain_entry : (section : List ℕ) (e : Entry) → IsPlainWhere (device_of section e)
   unfolding device_of
   plain_entry section e =
@@ -158,7 +173,7 @@ module _ (machine : List SectionRows) where
       plain_if (bytes_eq section counters_name) (Some (counter_device (counter_of e))) _ (plain_counter (counter_of e))
       (plain_if (bytes_eq section accruals_name) (Some (step_device accrual block)) _ (plain_steps accrual block tt)
       (plain_if (bytes_eq section sequences_name) (Some (step_device sequence block)) _ (plain_steps sequence block tt)
-      (plain_if (bytes_eq section timers_name) (Some (timer_device (timer_of e))) None (plain_timer (timer_of e)) tt)))
+      (plain_if (bytes_eq section timers_name) (Some (timer_device (timer_of e))) (save_device_of section e) (plain_timer (timer_of e)) (plain_save_entry section e))))
 
   plain_machine : (section : List ℕ) (e : Entry) → IsPlainWhere (machine_device machine section e)
   plain_machine section e =

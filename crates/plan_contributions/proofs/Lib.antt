@@ -7,6 +7,8 @@ pub mod Short
 pub mod Opened
 pub mod CoilFacts
 pub mod ShotFacts
+pub mod SaveParts
+pub mod SaveFacts
 pub mod RowFacts
 pub mod Silent
 pub mod SeatFacts

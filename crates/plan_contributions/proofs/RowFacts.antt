@@ -7,17 +7,18 @@ use Rattle.std.proofs.lemmas.Grind.{flat_map-append}
 use Rattle.std.proofs.lemmas.List.{length-map}
 use Rattle.std.proofs.lemmas.List.Elements.{All-nil, All-cons, All-head, All-tail, All-append, All-map, All-weaker}
 use Rattle.mpf_values.specs.Events.{Event}
-use Rattle.mpf_sections.specs.Rows.{Written, Handled, Entry, Player, Switch, EventPlayer, Coil, CoilItem, CoilPlayer, VariableItem, VariablePlayer, GameSettings, Flipper, Autofire, Block, Counter, StepBlock, Control as TimerControl, Timer, Shot, ShotGroup, BallDevice, ModeSettings, Content, entries, players, SectionRows}
+use Rattle.mpf_sections.specs.Rows.{Written, Handled, Entry, Player, Switch, EventPlayer, Coil, CoilItem, CoilPlayer, VariableItem, VariablePlayer, GameSettings, Flipper, Autofire, Block, Counter, StepBlock, Control as TimerControl, Timer, Shot, ShotGroup, BallDevice, BallSave, Multiball, ModeSettings, Content, entries, players, SectionRows}
 use Rattle.mpf_config.specs.Rows.{ModeRows, Rows}
 use Rattle.mpf_sections.specs.Rows as sections
-use Rattle.mpf_sections.specs.Named.{IsName, AllNames, IsNamedHandled, AllNamedEvents, IsNamedEntry, IsNamedPlayer, IsNamedSwitch, IsNamedEventPlayer, IsNamedCoil, IsNamedCoilPlayer, IsNamedVariablePlayer, IsNamedFlipper, IsNamedAutofire, IsNamedShot, IsNamedShotGroup, IsNamedBallDevice, IsNamedBlock, IsNamedCounter, IsNamedStepBlock, IsNamedTimer, AreNamedSettings, IsNamedContent, IsNamed}
+use Rattle.mpf_sections.specs.Named.{IsName, AllNames, IsNamedHandled, AllNamedEvents, IsNamedEntry, IsNamedPlayer, IsNamedSwitch, IsNamedEventPlayer, IsNamedCoil, IsNamedCoilPlayer, IsNamedVariablePlayer, IsNamedFlipper, IsNamedAutofire, IsNamedShot, IsNamedShotGroup, IsNamedBallDevice, IsNamedBallSave, IsNamedMultiball, IsNamedBlock, IsNamedCounter, IsNamedStepBlock, IsNamedTimer, AreNamedSettings, IsNamedContent, IsNamed}
 use Rattle.mpf_config.specs.Named.{IsNamedMode}
 use Rattle.mpf_sections.specs.Typed.{switches_name, event_player_name, counters_name, accruals_name, sequences_name, timers_name, switch_of, event_player_of, counter_of, step_block_of, timer_of, mode_settings}
 use Rattle.mpf_sections.specs.TypedCoils.{coils_name, coil_player_name, flippers_name, autofire_coils_name, coil_of, coil_player_of, flipper_of, autofire_of}
 use Rattle.mpf_sections.specs.TypedShots.{shots_name, shot_groups_name, shot_of, shot_group_of}
 use Rattle.mpf_sections.specs.TypedBalls.{ball_devices_name, ball_device_of}
+use Rattle.mpf_sections.specs.TypedSaves.{ball_saves_name, multiballs_name, ball_save_of, multiball_of}
 use Rattle.mpf_sections.specs.TypedGame.{variable_player_name, game_name, variable_player_of, game_of, min_balls_of}
-use Rattle.mpf_sections.specs.Short.{IsGameInRange, IsCoilInRange, IsItemInRange, IsCoilPlayerInRange, IsShortEntry, IsShortPlayer, IsShortBlock, IsShortCounter, IsShortStepBlock, IsShortTimer, IsShortBallDevice, IsShortContent, IsShortSection}
+use Rattle.mpf_sections.specs.Short.{IsGameInRange, IsCoilInRange, IsItemInRange, IsCoilPlayerInRange, IsShortEntry, IsShortPlayer, IsShortBlock, IsShortCounter, IsShortStepBlock, IsShortTimer, IsShortBallDevice, IsShortBallSave, IsShortMultiball, IsShortContent, IsShortSection}
 use Rattle.mpf_config.specs.Short.{IsShortMode, AreListsShort}
 use Rattle.mpf_sections.proofs.RowNames.{switch_named, event_player_named, mode_settings_named}
 use Rattle.mpf_sections.proofs.ShortRows.{event_player_short}
@@ -25,6 +26,7 @@ use Rattle.mpf_sections.proofs.DeviceRows.{counter_named, step_block_named, time
 use Rattle.mpf_sections.proofs.CoilRows.{coil_named, coil_player_named, flipper_named, autofire_named, coil_in_range, coil_player_short, coil_player_in_range}
 use Rattle.mpf_sections.proofs.ShotRows.{shot_named, shot_group_named, shot_group_short}
 use Rattle.mpf_sections.proofs.BallRows.{ball_device_named, ball_device_short}
+use Rattle.mpf_sections.proofs.SaveRows.{ball_save_named, multiball_named, ball_save_short, multiball_short}
 use Rattle.mpf_sections.proofs.GameRows.{variable_player_named, variable_player_short, game_in_range, min_balls_few}
 use Rattle.plan_contributions.specs.declared.contribution.Aim.{Aim}
 use Rattle.plan_contributions.specs.declared.contribution.Aim.TheVariants.{Run, Start, Stop, Do, On}
@@ -32,7 +34,7 @@ use Rattle.plan_rows.specs.declared.place.Place.{Place}
 use Rattle.plan_rows.specs.declared.place.Place.TheVariants.{Machine, Control, Mode}
 use Rattle.plan_tables.specs.Devices.{IsAttemptsWithin, IsWithinLimits}
 use Rattle.plan_tables.specs.declared.devices.Act.{Act}
-use Rattle.plan_tables.specs.declared.devices.Act.TheVariants.{Count, Step, Enable, Disable, Reset, Restart}
+use Rattle.plan_tables.specs.declared.devices.Act.TheVariants.{Count, Step, Enable, Disable, Reset, Restart, Start as Begin}
 use Rattle.plan_tables.specs.declared.devices.Settings.{Settings}
 use Rattle.plan_tables.specs.declared.devices.Settings.TheVariants as kinds
 use Rattle.machine_definitions.specs.GameEvents.{game_event_names}
@@ -40,8 +42,9 @@ use Rattle.machine_definitions.specs.Players.{player_event}
 use Rattle.machine_definitions.specs.Shots.{Profile}
 use Rattle.plan_contributions.specs.VariableEntries.{item_change}
 use Rattle.plan_contributions.specs.CoilEntries.{limits_of_coil, defaults_called, own_pulse, own_hold, item_effect, flipper_on, flipper_off, flipper_device, autofire_device}
-use Rattle.plan_contributions.specs.DeviceEntries.{disable, Effect, posts, works, changes, enters, leaves, loses, arrives, events, device_of, acts, block_acts, block_mentions, block_event, or_own, block_lists, counter_device, step_acts, step_settings, step_device, controlled, timer_event, timer_endings, timer_device, always}
+use Rattle.plan_contributions.specs.DeviceEntries.{disable, Effect, posts, works, changes, enters, leaves, loses, arrives, requests, adds_balls, events, device_of, acts, block_acts, block_mentions, block_event, or_own, block_lists, counter_device, step_acts, step_settings, step_device, controlled, timer_event, timer_endings, timer_device, always}
 use Rattle.plan_contributions.specs.BallEntries.{drains, ball_event, ball_endings, eject_pulse, attempt_effects, drain_mentions, attempts_of, ball_device_from, is_known}
+use Rattle.plan_contributions.specs.SaveEntries.{save_device, multiball_device, save_device_of}
 use Rattle.plan_contributions.specs.ShotEntries.{shot_events, group_events, shot_acts, lone_device, group_device}
 use Rattle.plan_rows.specs.declared.destination.Destination.{Destination}
 use Rattle.plan_rows.specs.Seats.{Seat, seat_of, destination_of, rows_after_text}
@@ -57,6 +60,7 @@ use Rattle.plan_contributions.proofs.Before.{each_before, each_alone, all_before
 use Rattle.plan_contributions.proofs.CoilFacts.{pulse_ranged, hold_ranged, item_ranged, flips_on, flips_off}
 use Rattle.plan_contributions.proofs.Short.{AreShort-append, AreShort-under, AreShort-listens, AreShort-does, AreShort-changes, AreShort-lists}
 use Rattle.plan_contributions.proofs.ShotFacts.{OfHandled, all_shot_acts, all_group_acts, all_shot_lists, all_group_lists, posts_of_shot, posts_of_group, IsFew, shot_lists_few, group_lists_few, IsShortProfile, IsShortGroup, flags_of, bank_within, IsNamedProfile, profile_named, members_named, profile_short, members_short}
+use Rattle.plan_contributions.proofs.SaveFacts.{all_save_by, all_save, all_multiball_by, all_multiball, save_lists_few, multiball_lists_few, save_within, multiball_within}
 use Rattle.plan_contributions.proofs.Opened.{AreOpened-append, AreOpened-under, AreOpened-listens, AreOpened-lists}
 use Rattle.plan_contributions.proofs.Placed.{ArePlaced-append, ArePlaced-under, ArePlaced-listens, ArePlaced-effects}
 
@@ -78,6 +82,8 @@ IsFitEffect P (enters e drain) = P e
 IsFitEffect P leaves = Unit {0}
 IsFitEffect P loses = Unit {0}
 IsFitEffect P arrives = Unit {0}
+IsFitEffect P (requests n) = Unit {0}
+IsFitEffect P (adds_balls n) = Unit {0}
 
 -- so it is with the name that a contribution uses
 abbrev pub IsFit : (List ℕ → Type 0) → Contribution → Type 0
@@ -220,6 +226,22 @@ short_timer place t h = record {
   limits = (h.interval, h.end);
   effects = All-map (All IsEffectInRange) (λ ending. posts (timer_event t.name.text ending) ∷ []) timer_endings
       (λ i d within. All-cons IsEffectInRange (posts (timer_event t.name.text (get_or timer_endings i d))) [] tt (All-nil IsEffectInRange));
+  place_of = tt;
+}
+
+short_save : (place : Place) (s : BallSave) → IsShortBallSave s → IsRightDevice place (save_device s)
+short_save place s h = record {
+  lists = save_lists_few s.name.text;
+  limits = save_within s h;
+  effects = all_save IsEffectInRange s.name.text (λ ending. tt) tt;
+  place_of = tt;
+}
+
+short_multiball : (place : Place) (m : Multiball) → IsShortMultiball m → IsRightDevice place (multiball_device m)
+short_multiball place m h = record {
+  lists = multiball_lists_few m.name.text m.balls;
+  limits = multiball_within m h;
+  effects = all_multiball IsEffectInRange m.name.text m.balls (λ ending. tt) tt;
   place_of = tt;
 }
 
@@ -553,9 +575,25 @@ module _ (machine : List SectionRows) (P : List ℕ → Type 0) (of : IsOfNames 
         (λ ending k. All-cons (IsFitEffect P) (posts (timer_event t.name.text ending)) [] k (All-nil (IsFitEffect P))) timer_endings (of.timer t.name.text h.name));
   }
 
-  -- what enables and disables a flipper or an autofire coil
+  -- what enables and disables a flipper, an autofire coil or a ball save
   fit_rule : (enables disables : List Handled) → AllNamedEvents enables → AllNamedEvents disables → All (λ h. IsFitEvent P h.0) (acts Enable enables ++ acts Disable disables)
   fit_rule enables disables h k = All-append (λ (x : Event × Act). IsFitEvent P x.0) (acts Enable enables) (acts Disable disables) (all_acts Enable enables h) (all_acts Disable disables k)
+
+  fit_save : (s : BallSave) → IsNamedBallSave s → IsFitDevice (save_device s)
+  fit_save s h = record {
+    listens = All-nil IsName;
+    handled = fit_rule s.enable_events s.disable_events h.enable_events h.disable_events;
+    mentioned = All-nil P;
+    lists = all_save_by (IsFitEffect P) s.name.text (of.save s.name.text h.name) tt;
+  }
+
+  fit_multiball : (m : Multiball) → IsNamedMultiball m → IsFitDevice (multiball_device m)
+  fit_multiball m h = record {
+    listens = All-nil IsName;
+    handled = all_acts Begin m.start_events h.start_events;
+    mentioned = All-nil P;
+    lists = all_multiball_by (IsFitEffect P) m.name.text m.balls (of.multiball m.name.text h.name) tt;
+  }
 
   fit_flipper : (f : Flipper) → IsNamedFlipper f → IsFitDevice (flipper_device machine f)
   fit_flipper f h =
@@ -752,6 +790,15 @@ module _ (machine : List SectionRows) (P : List ℕ → Type 0) (of : IsOfNames 
   good_where place e true o q first other = first
   good_where place e false o q first other = other
 
+  good_save : (place : Place) (section : List ℕ) (e : Entry) → IsGood place e (save_device_of section e)
+  unfolding save_device_of
+  good_save place section e =
+      let save = ball_save_of e in
+      let balls = multiball_of e in
+      good_where place e (bytes_eq section ball_saves_name) (Some (save_device save)) _ (λ h. fit_save save (ball_save_named e h), λ h. short_save place save (ball_save_short e), no_listener place)
+      (good_where place e (bytes_eq section multiballs_name) (Some (multiball_device balls)) None
+      (λ h. fit_multiball balls (multiball_named e h), λ h. short_multiball place balls (multiball_short e), no_listener place) tt)
+
   good_device : (place : Place) (section : List ℕ) (e : Entry) → IsGood place e (device_of section e)
   unfolding device_of
   good_device place section e =
@@ -765,7 +812,7 @@ module _ (machine : List SectionRows) (P : List ℕ → Type 0) (of : IsOfNames 
       (λ h. fit_steps (kinds.Accrual (step_settings block)) block (step_block_named e h), λ h. short_steps place (kinds.Accrual (step_settings block)) block (let short = step_block_short e h in short.steps) tt (step_block_short e h), no_listener place)
       (good_where place e (bytes_eq section sequences_name) (Some sequence) _
       (λ h. fit_steps (kinds.Sequence (step_settings block)) block (step_block_named e h), λ h. short_steps place (kinds.Sequence (step_settings block)) block (let short = step_block_short e h in short.steps) tt (step_block_short e h), no_listener place)
-      (good_where place e (bytes_eq section timers_name) (Some timer) None (λ h. fit_timer (timer_of e) (timer_named e h), λ h. short_timer place (timer_of e) (timer_in_range e), no_listener place) tt)))
+      (good_where place e (bytes_eq section timers_name) (Some timer) _ (λ h. fit_timer (timer_of e) (timer_named e h), λ h. short_timer place (timer_of e) (timer_in_range e), no_listener place) (good_save place section e))))
 
   good_machine : (section : List ℕ) (e : Entry) → IsGood Machine e (machine_device machine section e)
   good_machine section e =
@@ -933,6 +980,8 @@ any_name = record {
   block = λ n k i d within. tt;
   timer = λ n k i d within. tt;
   ball_device = λ n k i d within. tt;
+  save = λ n k i d within. tt;
+  multiball = λ n k i d within. tt;
   shot = λ name profile state h k l i d within. tt;
   group = λ name state h k. (λ i d within. tt, λ i d within. tt);
 }

@@ -16,6 +16,7 @@ use Rattle.mpf_sections.specs.Typed.{entries_of, switches_name, counters_name, a
 use Rattle.mpf_sections.specs.TypedCoils.{coils_name, flippers_name, autofire_coils_name, coil_of, flipper_of, autofire_of}
 use Rattle.mpf_sections.specs.TypedShots.{shots_name, shot_groups_name, shot_of, shot_group_of, shot_groups_in}
 use Rattle.mpf_sections.specs.TypedBalls.{ball_devices_name, playfield, ball_device_of, ball_devices_in}
+use Rattle.mpf_sections.specs.TypedSaves.{ball_saves_name, multiballs_name, ball_save_of, multiball_of}
 use Rattle.mpf_config.specs.Rows.{Rows}
 use Rattle.machine_definitions.specs.Shots.{profile_of_name}
 use Rattle.plan_tables.specs.declared.devices.Settings.{Settings}
@@ -25,6 +26,7 @@ use Rattle.plan_rows.specs.declared.destination.Destination.TheVariants as desti
 use Rattle.plan_rows.specs.declared.place.Place.{Place}
 use Rattle.plan_rows.specs.declared.place.Place.TheVariants.{Machine, Control, Mode}
 use Rattle.plan_contributions.specs.BallEntries.{is_known}
+use Rattle.plan_contributions.specs.SaveEntries.{save_device, multiball_device, save_device_of}
 use Rattle.plan_contributions.specs.CoilEntries.{flipper_device, autofire_device}
 use Rattle.plan_contributions.specs.DeviceEntries.{counter_device, step_settings, step_device, timer_device, device_of}
 use Rattle.plan_rows.specs.Seats.{section_entries, text_entries, lists_shot, is_grouped, row_sections, has_row, rows_after, rows_after_all, Seat, seats_at, given_from, latest, found_in, entry_seats, seat_of, entry_ball_row, ball_row_of, row_or_unknown, destination_of, rows_after_text}
@@ -111,18 +113,32 @@ groups_no_balls Control = refl
 groups_no_balls Mode = refl
 
 module _ (machine : List SectionRows) where
+  -- an entry has a row where it is a ball save or a multiball
+  save_row : (place : Place) (section : List ℕ) (e : Entry) → bytes_eq section shot_groups_name ≡ false
+      → told_where row_given silent place (save_device_of section e) ≡ row_if (bytes_eq section ball_saves_name || (bytes_eq section multiballs_name || (bytes_eq section shot_groups_name || false))) false
+  unfolding save_device_of
+  save_row place section e = by (bytes_eq section ball_saves_name) (bytes_eq section multiballs_name) (bytes_eq section shot_groups_name)
+    where
+      by : (s m g : Bool) → g ≡ false → told_where row_given silent place (if s then Some (save_device (ball_save_of e)) else (if m then Some (multiball_device (multiball_of e)) else None)) ≡ row_if (s || (m || (g || false))) false
+      by true m g other = refl
+      by false true g other = refl
+      by false false g other = ap (λ b. row_if (b || false) false) (sym other)
+
   -- an entry that is neither a shot nor a group has a row where it is a device
   device_row : (place : Place) (section : List ℕ) (e : Entry) → bytes_eq section shot_groups_name ≡ false → told_where row_given silent place (device_of section e) ≡ row_if (list_any (bytes_eq section) (row_sections Mode)) false
   unfolding device_of
-  device_row place section e = by (bytes_eq section counters_name) (bytes_eq section accruals_name) (bytes_eq section sequences_name) (bytes_eq section timers_name) (bytes_eq section shot_groups_name)
+  device_row place section e other = by (bytes_eq section counters_name) (bytes_eq section accruals_name) (bytes_eq section sequences_name) (bytes_eq section timers_name)
     where
-      by : (c a s t g : Bool) → g ≡ false → told_where row_given silent place (if c then Some (counter_device (counter_of e)) else (if a then Some (step_device (kinds.Accrual (step_settings (step_block_of e))) (step_block_of e))
-          else (if s then Some (step_device (kinds.Sequence (step_settings (step_block_of e))) (step_block_of e)) else (if t then Some (timer_device (timer_of e)) else None)))) ≡ row_if (c || (a || (s || (t || (g || false))))) false
-      by true a s t g other = refl
-      by false true s t g other = refl
-      by false false true t g other = refl
-      by false false false true g other = refl
-      by false false false false g other = ap (λ b. row_if (b || false) false) (sym other)
+      saves : Bool
+      saves = bytes_eq section ball_saves_name || (bytes_eq section multiballs_name || (bytes_eq section shot_groups_name || false))
+
+      by : (c a s t : Bool) → told_where row_given silent place (if c then Some (counter_device (counter_of e)) else (if a then Some (step_device (kinds.Accrual (step_settings (step_block_of e))) (step_block_of e))
+          else (if s then Some (step_device (kinds.Sequence (step_settings (step_block_of e))) (step_block_of e)) else (if t then Some (timer_device (timer_of e)) else save_device_of section e)))) ≡ row_if (c || (a || (s || (t || saves)))) false
+      by true a s t = refl
+      by false true s t = refl
+      by false false true t = refl
+      by false false false true = refl
+      by false false false false = save_row place section e other
 
   -- the machine text has flippers and autofire coils, too, and ball devices
   machine_device_row : (section : List ℕ) (e : Entry) → bytes_eq section shot_groups_name ≡ false → bytes_eq section ball_devices_name ≡ false

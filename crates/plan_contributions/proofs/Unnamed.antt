@@ -11,7 +11,7 @@ use Rattle.plan_tables.specs.declared.table.Table.{Table}
 use Rattle.plan_tables.specs.declared.table.Table.TheVariants.{Events, Bindings, Switches, Coils, Variables, Rows}
 use Rattle.plan_rows.specs.declared.place.Place.{Place}
 use Rattle.plan_rows.specs.declared.place.Place.TheVariants.{Machine, Control, Mode}
-use Rattle.plan_contributions.specs.DeviceEntries.{Effect, posts, works, changes, enters, leaves, loses, arrives}
+use Rattle.plan_contributions.specs.DeviceEntries.{Effect, posts, works, changes, enters, leaves, loses, arrives, requests, adds_balls}
 use Rattle.plan_contributions.specs.DeviceEntries.{device_of}
 use Rattle.plan_contributions.specs.Contributions.{Contribution, mode_event_name, device, coil_contributions, machine_device, given_by}
 use Rattle.plan_rows.specs.Rows.{Row, entry, alone, shot, group, ball_device, player, of_mode}
@@ -32,6 +32,8 @@ module _ (t : Table) (no_event : (n : List ℕ) → name_in_table t (Some (Event
   no_effect leaves = refl
   no_effect loses = refl
   no_effect arrives = refl
+  no_effect (requests n) = refl
+  no_effect (adds_balls n) = refl
 
   silent : IsSilent name_of
   silent = record {

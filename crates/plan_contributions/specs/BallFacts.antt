@@ -10,12 +10,12 @@ use Rattle.plan_tables.specs.declared.devices.Settings.{Settings}
 use Rattle.plan_tables.specs.declared.devices.Settings.TheVariants.{BallDevice}
 use Rattle.plan_tables.specs.Valid.{IsTargetThere}
 use Rattle.plan_tables.specs.BallRows.{IsNoBallDevice, IsSwitchOf}
-use Rattle.plan_contributions.specs.DeviceEntries.{Effect, enters, leaves, loses, arrives}
+use Rattle.plan_contributions.specs.DeviceEntries.{Effect, enters, leaves, loses, arrives, requests, adds_balls}
 use Rattle.plan_contributions.specs.Contributions.{Contribution, binds, does, device, does_in, listens, plays}
 
 -- ---- one row
 
--- what has nothing to do with balls
+-- what has nothing to do with the balls of a device; that more balls are asked for is none of it
 abbrev pub IsOfNoBall : Effect → Type 0
 IsOfNoBall (enters e drain) = ⊥
 IsOfNoBall leaves = ⊥
@@ -23,18 +23,28 @@ IsOfNoBall loses = ⊥
 IsOfNoBall arrives = ⊥
 IsOfNoBall _ = Unit {0}
 
+-- what has to do with no balls at all: it asks for none either
+abbrev pub IsBallFree : Effect → Type 0
+IsBallFree (enters e drain) = ⊥
+IsBallFree leaves = ⊥
+IsBallFree loses = ⊥
+IsBallFree arrives = ⊥
+IsBallFree (requests n) = ⊥
+IsBallFree (adds_balls n) = ⊥
+IsBallFree _ = Unit {0}
+
 -- What the effect lists of a ball device do, by their numbers: a ball enters it in list 0, leaves it in list 2, is lost in
--- list 3 and arrives in list 5. The other lists have nothing to do with balls.
+-- list 3 and arrives in list 5. The other lists have to do with no balls at all.
 pub record AreBallLists (done : ℕ → List Effect) : Type 0 where
   pub event : List ℕ
   pub drain : Bool
   pub entered : done 0 ≡ enters event drain ∷ []
-  pub attempted : All IsOfNoBall (done 1)
+  pub attempted : All IsBallFree (done 1)
   pub left : done 2 ≡ leaves ∷ []
   pub lost : done 3 ≡ loses ∷ []
-  pub succeeded : All IsOfNoBall (done 4)
+  pub succeeded : All IsBallFree (done 4)
   pub arrived : done 5 ≡ arrives ∷ []
-  pub failed : All IsOfNoBall (done 6)
+  pub failed : All IsBallFree (done 6)
 
 -- a row of this place and with these settings, whose effect lists do this
 abbrev pub IsRightRow : Place → Settings → (ℕ → List Effect) → Type 0

@@ -27,7 +27,7 @@ use Rattle.plan_tables.specs.declared.devices.Settings.{Settings}
 use Rattle.plan_tables.specs.declared.devices.Act.{Act}
 use Rattle.plan_tables.specs.declared.table.Table.{Table}
 use Rattle.plan_tables.specs.declared.table.Table.TheVariants.{Events, Switches}
-pub use Rattle.plan_contributions.specs.DeviceEntries.{texts, events, Effect, posts, works, changes, enters, leaves, loses, arrives, Device, always, device_of}
+pub use Rattle.plan_contributions.specs.DeviceEntries.{texts, events, Effect, posts, works, changes, enters, leaves, loses, arrives, requests, adds_balls, Device, always, device_of}
 use Rattle.machine_definitions.specs.Definitions.{makes_quick}
 use Rattle.plan_contributions.specs.CoilEntries.{limits_of_coil, item_effect, flipper_device, autofire_device}
 use Rattle.mpf_sections.specs.Rows.{Coil, CoilPlayer, Shot, ShotGroup, BallDevice}

@@ -1,4 +1,4 @@
--- What the entries of devices say: of counters, accruals, sequences and timers.
+-- What the entries of devices say: of counters, accruals, sequences and timers; and the device of each entry.
 use Rattle.std.specs.Prelude.{ℕ, suc, ℤ, Bool, if◌then◌else◌, List, [], ◌∷◌, ◌++◌, length, map, Option, None, Some, codes}
 use Rattle.std.specs.Str.{bytes_eq}
 use Rattle.mpf_sections.specs.declared.words.Direction.{Direction as WrittenDirection}
@@ -7,7 +7,6 @@ use Rattle.mpf_sections.specs.declared.words.ControlAction.{ControlAction}
 use Rattle.mpf_sections.specs.declared.words.ControlAction.TheVariants as actions
 use Rattle.mpf_values.specs.Events.{Event}
 use Rattle.section_tables.specs.Rows.{Handled}
-use Rattle.plan_tables.specs.declared.entries.VariableAction.{VariableAction}
 use Rattle.mpf_sections.specs.Rows.{Written, Entry, Block, Counter, StepBlock, Control, Timer}
 use Rattle.mpf_sections.specs.Typed.{counters_name, accruals_name, sequences_name, timers_name, counter_of, step_block_of, timer_of}
 use Rattle.plan_tables.specs.declared.devices.Direction.{Direction}
@@ -19,49 +18,8 @@ use Rattle.plan_tables.specs.declared.devices.Settings.TheVariants as kinds
 use Rattle.plan_tables.specs.declared.devices.Act.{Act}
 use Rattle.plan_tables.specs.declared.devices.Act.TheVariants.{Count, Step, Enable, Disable, Reset, Restart, Start, Stop, Pause, Add, Subtract, Jump}
 use Rattle.plan_rows.specs.Members.{is_none}
-
-abbrev pub texts : List Written → List (List ℕ)
-texts ws = map (λ w. w.text) ws
-
-abbrev pub events : List Handled → List Event
-events hs = map (λ h. h.event) hs
-
--- What is done with a coil: it is pulsed, for so many milliseconds and with this power in thousandths; or enabled with
--- this power; or disabled.
-pub data Deed : Type 0 where
-  pulse : (ms : ℕ) (power : ℕ) → Deed
-  enable : (power : ℕ) → Deed
-  disable : Deed
-
--- One thing that an effect list does: it posts the event of this name, does this with the coil of this name, or does this
--- with the variable of this name, with a number. Or it is what happens with the balls of its row, a ball device: a ball
--- enters it, which posts the event of this name and may have drained where `drain` holds; the ball that it ejects leaves
--- it; a ball is lost from it; or a ball that was on its way from it is on the playfield.
-pub data Effect : Type 0 where
-  posts : (event : List ℕ) → Effect
-  works : (coil : List ℕ) → Deed → Effect
-  changes : (variable : List ℕ) → VariableAction → (number : ℤ) → Effect
-  enters : (event : List ℕ) → (drain : Bool) → Effect
-  leaves : Effect
-  loses : Effect
-  arrives : Effect
-
--- What the entry of a device says: its settings; the switches to which it listens, by name; each event that it handles,
--- and what the event does; other events that its settings name; and what each of its effect lists does.
-pub record Device : Type 0 where
-  pub settings : Settings
-  pub listens : List (List ℕ)
-  pub handled : List (Event × Act)
-  pub mentioned : List (List ℕ)
-  pub lists : List (List Effect)
-
--- an event of this name, which is handled always
-abbrev pub always : List ℕ → Event
-always name = record { name = name; condition = None }
-
--- each of the events does this
-abbrev pub acts : Act → List Handled → List (Event × Act)
-acts act hs = map (λ h. (h.event, act)) hs
+use Rattle.plan_contributions.specs.SaveEntries.{save_device_of}
+pub use Rattle.plan_contributions.specs.Effects.{texts, events, Deed, pulse, enable, disable, Effect, posts, works, changes, enters, leaves, loses, arrives, requests, adds_balls, Device, always, acts}
 
 -- which way a value goes, in the plan
 abbrev pub direction_in_plan : WrittenDirection → Direction
@@ -201,4 +159,4 @@ device_of section e =
     then Some (step_device (kinds.Accrual (step_settings (step_block_of e))) (step_block_of e))
     else (if bytes_eq section sequences_name
     then Some (step_device (kinds.Sequence (step_settings (step_block_of e))) (step_block_of e))
-    else (if bytes_eq section timers_name then Some (timer_device (timer_of e)) else None)))
+    else (if bytes_eq section timers_name then Some (timer_device (timer_of e)) else save_device_of section e)))

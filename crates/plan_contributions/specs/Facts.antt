@@ -14,10 +14,11 @@ use Rattle.plan_tables.specs.declared.devices.Settings.{Settings}
 use Rattle.plan_tables.specs.declared.devices.Settings.TheVariants.{Flipper, Autofire, BallDevice}
 use Rattle.plan_tables.specs.declared.entries.CoilLimits.{CoilLimits}
 use Rattle.plan_tables.specs.declared.entries.ModeEvent.{ModeEvent}
-use Rattle.plan_contributions.specs.DeviceEntries.{Deed, pulse, enable, disable, Effect, posts, works, changes, enters, leaves, loses, arrives, block_event, block_endings, timer_event, timer_endings}
+use Rattle.plan_contributions.specs.DeviceEntries.{Deed, pulse, enable, disable, Effect, posts, works, changes, enters, leaves, loses, arrives, requests, adds_balls, block_event, block_endings, timer_event, timer_endings}
 use Rattle.plan_contributions.specs.CoilEntries.{limits_of_coil}
 use Rattle.plan_contributions.specs.ShotEntries.{shot_events, group_events}
 use Rattle.plan_contributions.specs.BallEntries.{ball_event, ball_endings}
+use Rattle.plan_contributions.specs.SaveEntries.{save_event, save_endings, multiball_event, multiball_endings}
 use Rattle.plan_contributions.specs.Contributions.{Contribution, mode, mode_event_name, binds, does, device, does_in, listens, coil, plays}
 use Rattle.machine_definitions.specs.GameEvents.{game_event_names}
 use Rattle.machine_definitions.specs.Players.{player_event}
@@ -38,6 +39,8 @@ pub record IsOfNames (P : List ℕ → Type 0) : Type 0 where
   pub block : (n : List ℕ) → IsName n → All (λ ending. P (block_event n ending)) block_endings
   pub timer : (n : List ℕ) → IsName n → All (λ ending. P (timer_event n ending)) timer_endings
   pub ball_device : (n : List ℕ) → IsName n → All (λ ending. P (ball_event n ending)) ball_endings
+  pub save : (n : List ℕ) → IsName n → All (λ ending. P (save_event n ending)) save_endings
+  pub multiball : (n : List ℕ) → IsName n → All (λ ending. P (multiball_event n ending)) multiball_endings
   pub shot : (name profile state : List ℕ) → IsName name → IsName profile → IsName state → All P (shot_events name profile state)
   pub group : (name state : List ℕ) → IsName name → IsName state → All P (group_events (codes "_hit") name state) × All P (group_events (codes "_complete") name state)
 
@@ -93,6 +96,8 @@ IsEffectInRange (enters e drain) = Unit {0}
 IsEffectInRange leaves = Unit {0}
 IsEffectInRange loses = Unit {0}
 IsEffectInRange arrives = Unit {0}
+IsEffectInRange (requests n) = Unit {0}
+IsEffectInRange (adds_balls n) = Unit {0}
 
 -- at most 99 balls at home, from 1 to 99 balls a player, and from 1 to 4 players
 pub record AreRules (min_balls balls_per_game max_players : ℕ) : Type 0 where

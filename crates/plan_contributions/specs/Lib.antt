@@ -1,3 +1,5 @@
+pub mod Effects
+pub mod SaveEntries
 pub mod DeviceEntries
 pub mod CoilEntries
 pub mod ShotEntries

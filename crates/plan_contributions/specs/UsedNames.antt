@@ -5,7 +5,7 @@ use Rattle.plan_tables.specs.declared.entries.ModeEvent.TheVariants.{WillStart}
 use Rattle.plan_tables.specs.declared.table.Table.{Table}
 use Rattle.plan_tables.specs.declared.table.Table.TheVariants.{Events, Switches, Coils, Variables}
 use Rattle.plan_tables.specs.Limits.{order_of}
-use Rattle.plan_contributions.specs.Contributions.{Contribution, gives, active, inactive, mode, mode_event, mode_event_name, binds, Effect, posts, works, changes, enters, leaves, loses, arrives, does, does_in, listens, mentions, coil, under}
+use Rattle.plan_contributions.specs.Contributions.{Contribution, gives, active, inactive, mode, mode_event, mode_event_name, binds, Effect, posts, works, changes, enters, leaves, loses, arrives, requests, adds_balls, does, does_in, listens, mentions, coil, under}
 
 -- ---- one contribution
 
@@ -18,6 +18,8 @@ used_by (enters e drain) = Some (Events, e)
 used_by leaves = None
 used_by loses = None
 used_by arrives = None
+used_by (requests n) = None
+used_by (adds_balls n) = None
 
 -- the name that a contribution uses, and its table; giving something under a name is a use of it
 abbrev pub used : Contribution → Option (Table × List ℕ)

@@ -8,7 +8,7 @@ use Rattle.plan_contributions.specs.declared.contribution.Effect as effects
 use Rattle.plan_contributions.specs.declared.contribution.Effect.TheVariants as effect
 use Rattle.plan_contributions.specs.declared.collect_coils.Defaults as defaults
 use Rattle.plan_contributions.specs.CoilEntries.{Defaults}
-use Rattle.plan_contributions.specs.DeviceEntries.{Deed, pulse, enable, disable, Effect, posts, works, changes, enters, leaves, loses, arrives}
+use Rattle.plan_contributions.specs.DeviceEntries.{Deed, pulse, enable, disable, Effect, posts, works, changes, enters, leaves, loses, arrives, requests, adds_balls}
 use Rattle.plan_contributions.specs.declared.contribution.Contribution as contributions
 use Rattle.plan_contributions.specs.declared.contribution.Contribution.TheVariants as contribution
 use Rattle.plan_contributions.specs.Contributions.{Contribution, gives, reads, active, inactive, mode, mode_event, binds, does, device, does_in, listens, mentions, unknown, coil, under, plays}
@@ -33,6 +33,8 @@ effect_view (effect.Enter n drain) = enters (parts_text n) drain
 effect_view effect.Leave = leaves
 effect_view effect.Lose = loses
 effect_view effect.Arrive = arrives
+effect_view (effect.Request n) = requests n
+effect_view (effect.AddBalls n) = adds_balls n
 
 abbrev pub contribution_view : contributions.Contribution → Contribution
 contribution_view (contribution.Gives table n) = gives table n.now

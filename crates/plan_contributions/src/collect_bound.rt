@@ -3,12 +3,14 @@
 ghost use Rattle.std.specs.Prelude.{◌≡◌, ◌++◌, map, OnOk};
 ghost use Rattle.std.specs.List.{flat_map};
 ghost use Rattle.mpf_sections.specs.View.{handler_view, handled_at_view};
-ghost use Rattle.plan_contributions.specs.Contributions.{events, bound};
+ghost use Rattle.plan_contributions.specs.Contributions.{events, bound, act_binding};
+ghost use Rattle.plan_contributions.specs.DeviceEntries.{acts};
 ghost use Rattle.plan_contributions.specs.View.{contributions_view};
 
 use crate::contribution::{Aim, Contribution, add, whole};
 use mpf_config::{HandledAt, Handler, as_handled};
 use plan_rows::Place;
+use plan_tables::devices::Act;
 use std::alloc::AllocError;
 
 /// The event is bound, under its condition.
@@ -46,4 +48,16 @@ pub(crate) fn collect_each<'a>(
         collect_bound(contributions, as_handled(handler), place, aim)?;
     }
     Ok(())
+}
+
+/// Each of the events does this with the row that came last.
+pub(crate) fn collect_acts<'a>(
+    contributions: &mut Vec<Contribution<'a>>,
+    place: Place,
+    act: Act,
+    handlers: &'a [Handler],
+) -> Result<(), AllocError>
+    ensures { OnOk result (contributions_view contributions.new.items ≡ contributions_view contributions.old.items ++ flat_map (act_binding place) (acts act (map handler_view handlers.now))) }
+{
+    collect_each(contributions, handlers, place, Aim::Do(act))
 }

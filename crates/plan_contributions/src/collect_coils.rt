@@ -9,8 +9,7 @@ ghost use Rattle.plan_contributions.specs.Contributions.{does, does_in, effects_
 ghost use Rattle.plan_rows.specs.declared.place.Place.TheVariants.{Machine};
 ghost use Rattle.plan_contributions.specs.View.{deed_view, defaults_view, contributions_view};
 
-use crate::collect_bound::collect_bound;
-use crate::collect_devices::collect_acts;
+use crate::collect_bound::{collect_acts, collect_bound};
 use crate::collect_effects::collect_effect;
 use crate::contribution::{Aim, Contribution, Deed, Effect, add};
 use machine_definitions::Definitions;

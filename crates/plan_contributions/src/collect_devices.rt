@@ -1,17 +1,18 @@
-//! What the entries of devices give to a plan: counters, accruals, sequences and timers.
+//! What the entries of devices give to a plan: counters, accruals, sequences and timers; and those of other devices.
 
 ghost use Rattle.std.specs.Prelude.{◌≡◌, ◌++◌, [], map, OnOk};
 ghost use Rattle.std.specs.List.{flat_map};
 ghost use Rattle.mpf_sections.specs.Typed.{control_of, controls_of, with_control};
-ghost use Rattle.mpf_sections.specs.View.{name_view, handler_view, handlers_view, fields_view, entry_view, block_view, counter_view, step_block_view, timer_view};
-ghost use Rattle.plan_contributions.specs.DeviceEntries.{acts, direction_in_plan, block_settings, block_acts, block_mentions, block_event, or_own, block_lists, counter_settings, counter_device, step_acts, step_settings, step_device, control_act, controlled, timer_event, timer_lists, timer_settings, timer_device, device_of};
+ghost use Rattle.mpf_sections.specs.View.{name_view, handlers_view, fields_view, entry_view, block_view, counter_view, step_block_view, timer_view};
+ghost use Rattle.plan_contributions.specs.DeviceEntries.{direction_in_plan, block_settings, block_acts, block_mentions, block_event, or_own, block_lists, counter_settings, counter_device, step_acts, step_settings, step_device, control_act, controlled, timer_event, timer_lists, timer_settings, timer_device, device_of};
 ghost use Rattle.plan_rows.specs.Members.{is_none};
 ghost use Rattle.plan_contributions.specs.Contributions.{mentions, does_in, effects_from, posts, texts, act_binding, device_contributions, where_device};
 ghost use Rattle.plan_contributions.specs.View.{parts_text, contributions_view};
 ghost use Rattle.plan_tables.specs.declared.table.Table.TheVariants.{Events};
 
-use crate::collect_bound::{collect_bound, collect_each};
+use crate::collect_bound::{collect_acts, collect_bound};
 use crate::collect_effects::{collect_event, collect_post};
+use crate::collect_saves::collect_save_device;
 use crate::contribution::{Aim, Contribution, Parts, add, joined, whole};
 use mpf_config::config::{ControlAction, Direction as WrittenDirection};
 use mpf_config::{
@@ -58,7 +59,7 @@ pub(crate) fn collect_device<'a>(
     if section == TIMERS_NAME {
         return collect_timer(contributions, place, as_timer(entry));
     }
-    Ok(())
+    collect_save_device(contributions, place, section, entry)
 }
 
 /// Which way a value goes, in the plan.
@@ -69,18 +70,6 @@ pub fn direction_in_plan(direction: WrittenDirection) -> Direction
         WrittenDirection::Up => Direction::Up,
         WrittenDirection::Down => Direction::Down,
     }
-}
-
-/// Each of the events does this with the row that came last.
-pub(crate) fn collect_acts<'a>(
-    contributions: &mut Vec<Contribution<'a>>,
-    place: Place,
-    act: Act,
-    handlers: &'a [Handler],
-) -> Result<(), AllocError>
-    ensures { OnOk result (contributions_view contributions.new.items ≡ contributions_view contributions.old.items ++ flat_map (act_binding place) (acts act (map handler_view handlers.now))) }
-{
-    collect_each(contributions, handlers, place, Aim::Do(act))
 }
 
 // ---- logic blocks

@@ -11,8 +11,7 @@ ghost use Rattle.plan_contributions.specs.Contributions.{does_in, effects_from, 
 ghost use Rattle.plan_contributions.specs.View.{parts_text, contributions_view};
 ghost use Rattle.plan_rows.specs.View.{seat_view, members_view};
 
-use crate::collect_bound::collect_each;
-use crate::collect_devices::collect_acts;
+use crate::collect_bound::{collect_acts, collect_each};
 use crate::collect_effects::collect_post;
 use crate::contribution::{Aim, Contribution, Parts, add, joined, whole};
 use machine_definitions::Profile;

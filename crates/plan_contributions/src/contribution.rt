@@ -69,6 +69,10 @@ pub enum Effect<'a> {
     Lose,
     /// A ball that was on its way from the ball device of the row is on the playfield.
     Arrive,
+    /// The first trough is asked for this many balls more.
+    Request(u8),
+    /// At least this many balls are to be in play: the first trough is asked for those that are not.
+    AddBalls(u8),
 }
 
 /// One thing that a row gives to a plan. What comes last depends on the order: it is the last that
@@ -220,7 +224,8 @@ fn used_by(effect: Effect<'_>) -> Option<(Table, Parts<'_>)>
         Effect::Coil(name, _) => Some((Table::Coils, whole(name))),
         Effect::Variable(name, _, _) => Some((Table::Variables, whole(name))),
         Effect::Enter(name, _) => Some((Table::Events, name)),
-        Effect::Leave | Effect::Lose | Effect::Arrive => None,
+        Effect::Leave | Effect::Lose | Effect::Arrive | Effect::Request(_) | Effect::AddBalls(_) =>
+            None,
     }
 }
 

@@ -12,6 +12,7 @@ mod collect_coils;
 mod collect_devices;
 mod collect_effects;
 mod collect_game;
+mod collect_saves;
 mod collect_shots;
 mod collect_variables;
 pub mod contribution;

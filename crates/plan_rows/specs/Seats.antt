@@ -8,6 +8,7 @@ use Rattle.mpf_sections.specs.Typed.{entries_in, counters_name, accruals_name, s
 use Rattle.mpf_sections.specs.TypedCoils.{flippers_name, autofire_coils_name}
 use Rattle.mpf_sections.specs.TypedShots.{shots_name, shot_groups_name, shot_group_of, shot_groups_in}
 use Rattle.mpf_sections.specs.TypedBalls.{ball_devices_name, playfield, ball_device_of}
+use Rattle.mpf_sections.specs.TypedSaves.{ball_saves_name, multiballs_name}
 use Rattle.plan_rows.specs.declared.destination.Destination.{Destination}
 use Rattle.plan_rows.specs.declared.destination.Destination.TheVariants.{Playfield, Device, Unknown}
 use Rattle.plan_rows.specs.declared.place.Place.{Place}
@@ -27,13 +28,16 @@ lists_shot name g = list_any (λ w. bytes_eq name w.text) g.shots
 abbrev pub is_grouped : List SectionRows → List ℕ → Bool
 is_grouped sections name = list_any (lists_shot name) (flat_map shot_groups_in sections)
 
--- the sections whose entries each have a row, in a text of this place; beside them there are shots
+-- the sections of a text of any place whose entries each have a row; beside them there are shots
+abbrev pub shared_row_sections : List (List ℕ)
+shared_row_sections =
+    counters_name ∷ accruals_name ∷ sequences_name ∷ timers_name ∷ ball_saves_name ∷ multiballs_name ∷ shot_groups_name ∷ []
+
+-- those of a text of this place
 abbrev pub row_sections : Place → List (List ℕ)
-row_sections Machine =
-    flippers_name ∷ autofire_coils_name ∷ ball_devices_name
-    ∷ counters_name ∷ accruals_name ∷ sequences_name ∷ timers_name ∷ shot_groups_name ∷ []
-row_sections Control = counters_name ∷ accruals_name ∷ sequences_name ∷ timers_name ∷ shot_groups_name ∷ []
-row_sections Mode = counters_name ∷ accruals_name ∷ sequences_name ∷ timers_name ∷ shot_groups_name ∷ []
+row_sections Machine = flippers_name ∷ autofire_coils_name ∷ ball_devices_name ∷ shared_row_sections
+row_sections Control = shared_row_sections
+row_sections Mode = shared_row_sections
 
 -- Here `grouped` says of a name whether a group of the text lists the shot of this name.
 module _ (place : Place) (grouped : List ℕ → Bool) where

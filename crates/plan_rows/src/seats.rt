@@ -15,9 +15,9 @@ ghost use Rattle.plan_rows.specs.View.{found_seat, found_row, found_destination}
 use crate::destination::Destination;
 use crate::place::Place;
 use mpf_config::{
-    ACCRUALS_NAME, AUTOFIRE_COILS_NAME, BALL_DEVICES_NAME, COUNTERS_NAME, Entry, FLIPPERS_NAME,
-    Name, PLAYFIELD, SEQUENCES_NAME, SHOT_GROUPS_NAME, SHOTS_NAME, Section, TIMERS_NAME,
-    as_ball_device, as_shot_group,
+    ACCRUALS_NAME, AUTOFIRE_COILS_NAME, BALL_DEVICES_NAME, BALL_SAVES_NAME, COUNTERS_NAME, Entry,
+    FLIPPERS_NAME, MULTIBALLS_NAME, Name, PLAYFIELD, SEQUENCES_NAME, SHOT_GROUPS_NAME, SHOTS_NAME,
+    Section, TIMERS_NAME, as_ball_device, as_shot_group,
 };
 use section_tables::is_one_of;
 use std::alloc::{AllocError, Global};
@@ -68,7 +68,7 @@ fn row_or_unknown(row: Option<usize>) -> Destination
 }
 
 /// The sections whose entries each have a row, first those that the machine text alone can have.
-const ROW_SECTIONS: [&[u8]; 8] = [
+const ROW_SECTIONS: [&[u8]; 10] = [
     FLIPPERS_NAME,
     AUTOFIRE_COILS_NAME,
     BALL_DEVICES_NAME,
@@ -76,6 +76,8 @@ const ROW_SECTIONS: [&[u8]; 8] = [
     ACCRUALS_NAME,
     SEQUENCES_NAME,
     TIMERS_NAME,
+    BALL_SAVES_NAME,
+    MULTIBALLS_NAME,
     SHOT_GROUPS_NAME,
 ];
 

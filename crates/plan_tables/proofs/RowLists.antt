@@ -2,7 +2,7 @@
 use Rattle.std.proofs.Common.{suc, ◌+◌, ◌≤◌, Bool, true, false, if◌then◌else◌, arith}
 use Rattle.std.proofs.lemmas.Nat.{mul-le}
 use Rattle.plan_tables.specs.declared.devices.Settings.{Settings}
-use Rattle.plan_tables.specs.declared.devices.Settings.TheVariants.{Counter, Accrual, Sequence, Timer, Bank, Flipper, Autofire, BallDevice}
+use Rattle.plan_tables.specs.declared.devices.Settings.TheVariants.{Counter, Accrual, Sequence, Timer, Bank, Flipper, Autofire, BallDevice, BallSave, Multiball}
 use Rattle.plan_tables.specs.Devices.{IsWithinLimits, list_count}
 
 of_group : (group : Bool) → (if group then 2 else 0) ≤ 2
@@ -22,3 +22,5 @@ few_lists (Bank b) limits =
 few_lists Flipper limits = omega arith
 few_lists Autofire limits = omega arith
 few_lists (BallDevice d) limits = omega arith
+few_lists (BallSave b) limits = omega arith
+few_lists (Multiball m) limits = omega arith

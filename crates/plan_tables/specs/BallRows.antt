@@ -7,7 +7,7 @@ use Rattle.plan_tables.specs.declared.devices.RowId.{RowId}
 use Rattle.plan_tables.specs.declared.devices.Settings.{Settings}
 use Rattle.plan_tables.specs.declared.devices.Settings.TheVariants.{BallDevice}
 use Rattle.plan_tables.specs.declared.entries.Action.{Action}
-use Rattle.plan_tables.specs.declared.entries.Action.TheVariants.{Enter, Leave, Lose, Arrive}
+use Rattle.plan_tables.specs.declared.entries.Action.TheVariants.{Enter, Leave, Lose, Arrive, Request, AddBalls}
 use Rattle.plan_tables.specs.declared.entries.EventId.{EventId}
 use Rattle.plan_tables.specs.declared.entries.Listener.{Listener}
 use Rattle.plan_tables.specs.declared.entries.Owner.{Owner}
@@ -44,18 +44,28 @@ BooksNothing (Lose r) = ⊥
 BooksNothing (Arrive r) = ⊥
 BooksNothing _ = Unit {0}
 
--- What the effect lists of a ball device book, by their numbers: a ball enters it in list 0, leaves it in list 2, is lost
--- in list 3 and arrives in list 5. The others book nothing.
+-- it books nothing, and tells no other device anything
+abbrev pub IsPlain : Action → Type 0
+IsPlain (Enter r e drain) = ⊥
+IsPlain (Leave r) = ⊥
+IsPlain (Lose r) = ⊥
+IsPlain (Arrive r) = ⊥
+IsPlain (Request n) = ⊥
+IsPlain (AddBalls n) = ⊥
+IsPlain _ = Unit {0}
+
+-- What the effect lists of a ball device do, by their numbers: a ball enters it in list 0, leaves it in list 2, is lost in
+-- list 3 and arrives in list 5. The others book nothing, and tell no other device anything.
 pub record BooksBalls (r : RowId) (lists : ℕ → List Action) : Type 0 where
   pub event : EventId
   pub drain : Bool
   pub entered : lists 0 ≡ Enter r event drain ∷ []
-  pub attempted : All BooksNothing (lists 1)
+  pub attempted : All IsPlain (lists 1)
   pub left : lists 2 ≡ Leave r ∷ []
   pub lost : lists 3 ≡ Lose r ∷ []
-  pub succeeded : All BooksNothing (lists 4)
+  pub succeeded : All IsPlain (lists 4)
   pub arrived : lists 5 ≡ Arrive r ∷ []
-  pub failed : All BooksNothing (lists 6)
+  pub failed : All IsPlain (lists 6)
 
 -- the lists of a ball device do so, and those of any other device book nothing
 abbrev pub BooksRightly : RowId → Settings → (ℕ → List Action) → Type 0
@@ -68,7 +78,7 @@ actions_in plan r k = actions_at plan (list_of_row plan r k)
 
 -- ---- bindings
 
--- what a binding does is done to no ball device, and books nothing
+-- a binding acts on no ball device, and the list that it runs books nothing
 abbrev pub IsOffBalls : PlanView → Target → Type 0
 IsOffBalls plan (Run l) = All BooksNothing (actions_at plan l)
 IsOffBalls plan (Start m) = Unit {0}
@@ -87,8 +97,8 @@ AreOfTwoRows a b = a.row ≡ b.row → ⊥
 
 -- ---- the plan
 
--- Only the lists of ball devices book balls, each what it is for, and no binding acts on a ball device: only switches,
--- alarms, arrivals and the game do. Each ball switch of a device is one switch, and that switch is no other ball switch of
+-- Only the lists of ball devices book balls, each what it is for. No binding acts on a ball device: only switches, alarms,
+-- arrivals and requests for balls do. Each ball switch of a device is one switch, and that switch is no other ball switch of
 -- it.
 pub record BookingsAreRight (plan : PlanView) : Type 0 where
   pub rows : (r : RowId) → r.0 < length plan.rows → BooksRightly r (row_at plan r).settings (actions_in plan r)

@@ -3,7 +3,7 @@ use Rattle.std.specs.Prelude.{◌≡◌, ℕ, suc, ◌+◌, ◌*◌, ◌≤◌, 
 use Rattle.plan_tables.specs.declared.devices.BallSettings.{BallSettings}
 use Rattle.plan_tables.specs.declared.devices.BankSettings.{BankSettings}
 use Rattle.plan_tables.specs.declared.devices.Settings.{Settings}
-use Rattle.plan_tables.specs.declared.devices.Settings.TheVariants.{Counter, Accrual, Sequence, Timer, Bank, Flipper, Autofire, BallDevice}
+use Rattle.plan_tables.specs.declared.devices.Settings.TheVariants.{Counter, Accrual, Sequence, Timer, Bank, Flipper, Autofire, BallDevice, BallSave, Multiball}
 
 -- a number of a setting
 abbrev pub IsNumberWithin : ℤ → Type 0
@@ -26,7 +26,7 @@ pub record IsBallDeviceWithin (d : BallSettings) : Type 0 where
   pub attempts : IsAttemptsWithin d.max_attempts
 
 -- At most 16 steps, shots and states, a flag for each of 16 shots, at least a millisecond between the ticks of a timer,
--- and ends that a value can pass.
+-- and ends that a value can pass. A ball save saves 1 to 99 balls, and a multiball asks for 2 to 99.
 abbrev pub IsWithinLimits : Settings → Type 0
 IsWithinLimits (Counter c) = IsEndWithin c.complete
 IsWithinLimits (Accrual a) = a.steps ≤ 16
@@ -36,6 +36,8 @@ IsWithinLimits (Bank b) = (b.shots ≤ 16) × (b.last_state ≤ 15) × (length b
 IsWithinLimits Flipper = Unit {0}
 IsWithinLimits Autofire = Unit {0}
 IsWithinLimits (BallDevice d) = IsBallDeviceWithin d
+IsWithinLimits (BallSave b) = (1 ≤ b.balls) × (b.balls ≤ 99)
+IsWithinLimits (Multiball m) = (2 ≤ m.balls) × (m.balls ≤ 99)
 
 -- how many states the profile of a bank has
 abbrev pub state_count : BankSettings → ℕ
@@ -46,7 +48,7 @@ abbrev pub bank_list_count : BankSettings → ℕ
 bank_list_count b = state_count b * (b.shots + (if b.group then 2 else 0))
 
 -- how many effect lists a row has: three of a block, five of a timer, those of a bank, two of a flipper, one of an
--- autofire coil, and seven of a ball device
+-- autofire coil, seven of a ball device, three of a ball save, and two of a multiball
 abbrev pub list_count : Settings → ℕ
 list_count (Counter c) = 3
 list_count (Accrual a) = 3
@@ -56,3 +58,5 @@ list_count (Bank b) = bank_list_count b
 list_count Flipper = 2
 list_count Autofire = 1
 list_count (BallDevice d) = 7
+list_count (BallSave b) = 3
+list_count (Multiball m) = 2

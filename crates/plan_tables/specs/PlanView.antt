@@ -34,12 +34,14 @@ use Rattle.plan_tables.specs.Devices.{list_count}
 use Rattle.plan_tables.specs.declared.entries.Binding.{Binding}
 use Rattle.plan_tables.specs.declared.devices.RowId.{RowId}
 use Rattle.plan_tables.specs.declared.devices.Act.{Act}
-use Rattle.plan_tables.specs.declared.devices.Act.TheVariants.{SwitchOn, SwitchOff}
+use Rattle.plan_tables.specs.declared.devices.Act.TheVariants.{SwitchOn, SwitchOff, Confirm, Request}
+use Rattle.plan_tables.specs.declared.devices.Telling.{Telling}
+use Rattle.plan_tables.specs.declared.devices.Telling.TheVariants.{Arrived, Wanted}
 use Rattle.plan_tables.specs.declared.devices.DeviceRow.{DeviceRow}
 use Rattle.plan_tables.specs.declared.devices.BallTarget.{BallTarget}
 use Rattle.plan_tables.specs.declared.devices.BallTarget.TheVariants as targets
 use Rattle.plan_tables.specs.declared.devices.Settings.{Settings}
-use Rattle.plan_tables.specs.declared.devices.Settings.TheVariants.{Accrual, BallDevice}
+use Rattle.plan_tables.specs.declared.devices.Settings.TheVariants.{Accrual, BallDevice, BallSave, Multiball}
 
 -- a switch: its name, how it is read, which devices listen to it, whether a ball that presses it is on the playfield, and
 -- what it posts when it becomes active and inactive
@@ -309,6 +311,11 @@ is_trough _ = false
 abbrev pub first_trough : PlanView → Option RowId
 first_trough plan = find (λ r. is_trough (row_at plan r).settings) (row_numbers plan)
 
+-- the act of a ball device that is told this
+abbrev pub act_told : Telling → Act
+act_told (Arrived target) = Confirm
+act_told (Wanted n) = Request n
+
 -- whether balls in a device are at home
 abbrev pub is_home : Settings → Bool
 is_home (BallDevice d) = d.home
@@ -317,6 +324,24 @@ is_home _ = false
 -- the devices in which balls are at home
 abbrev pub home_rows : PlanView → List RowId
 home_rows plan = filter (λ r. is_home (row_at plan r).settings) (row_numbers plan)
+
+-- ---- ball saves and multiballs
+
+abbrev pub is_save : Settings → Bool
+is_save (BallSave b) = true
+is_save _ = false
+
+-- the ball saves, in row order
+abbrev pub save_rows : PlanView → List RowId
+save_rows plan = filter (λ r. is_save (row_at plan r).settings) (row_numbers plan)
+
+abbrev pub is_multiball : Settings → Bool
+is_multiball (Multiball m) = true
+is_multiball _ = false
+
+-- the multiballs, in row order
+abbrev pub multiball_rows : PlanView → List RowId
+multiball_rows plan = filter (λ r. is_multiball (row_at plan r).settings) (row_numbers plan)
 
 -- ---- coils
 

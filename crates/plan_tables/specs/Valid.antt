@@ -5,7 +5,7 @@ use Rattle.plan_tables.specs.declared.entries.EventId.{EventId}
 use Rattle.plan_tables.specs.declared.entries.Owner.{Owner}
 use Rattle.plan_tables.specs.declared.entries.Owner.TheVariants.{Machine, Mode}
 use Rattle.plan_tables.specs.declared.entries.Action.{Action}
-use Rattle.plan_tables.specs.declared.entries.Action.TheVariants.{Post, Pulse, Enable, Disable, Change, Enter, Leave, Lose, Arrive}
+use Rattle.plan_tables.specs.declared.entries.Action.TheVariants.{Post, Pulse, Enable, Disable, Change, Enter, Leave, Lose, Arrive, Request, AddBalls}
 use Rattle.plan_tables.specs.declared.entries.Condition.{Condition}
 use Rattle.plan_tables.specs.declared.entries.GameEvent.{GameEvent}
 use Rattle.plan_tables.specs.declared.entries.GameRules.{GameRules}
@@ -50,6 +50,8 @@ IsActionWithin plan (Enter r e drain) = (r.0 < length plan.rows) × (e.0 < lengt
 IsActionWithin plan (Leave r) = r.0 < length plan.rows
 IsActionWithin plan (Lose r) = r.0 < length plan.rows
 IsActionWithin plan (Arrive r) = r.0 < length plan.rows
+IsActionWithin plan (Request n) = Unit {0}
+IsActionWithin plan (AddBalls n) = Unit {0}
 
 abbrev pub IsTargetWithin : PlanView → Target → Type 0
 IsTargetWithin plan (Run l) = l.0 < length plan.lists

@@ -133,6 +133,22 @@ pub struct BallSettings {
     pub home: bool,
 }
 
+/// A ball save, which gives balls back that drain while it is active.
+#[derive(Clone, Copy)]
+pub struct SaveSettings {
+    /// It is disabled so many milliseconds after it was enabled; 0: it has no end of its own.
+    pub active_time: u32,
+    /// How many balls it saves before it is active no more: from 1 to 99.
+    pub balls: u8,
+}
+
+/// A multiball.
+#[derive(Clone, Copy)]
+pub struct MultiballSettings {
+    /// At least so many balls are in play from its start on: from 2 to 99.
+    pub balls: u8,
+}
+
 /// Of which kind a device is, and its settings.
 #[derive(Clone, Copy)]
 pub enum Settings {
@@ -146,12 +162,14 @@ pub enum Settings {
     /// An autofire coil. Its effect list says which coil it pulses.
     Autofire,
     BallDevice(BallSettings),
+    BallSave(SaveSettings),
+    Multiball(MultiballSettings),
 }
 
 impl Settings {
     ghost use Rattle.std.specs.Prelude.{◌≡◌, ◌≤◌};
     ghost use Rattle.plan_tables.specs.Devices.{list_count};
-    ghost use Rattle.plan_tables.specs.PlanView.{target_in, feeds, is_trough, is_home};
+    ghost use Rattle.plan_tables.specs.PlanView.{target_in, feeds, is_trough, is_home, is_save, is_multiball};
 
     /// Where a ball device ejects its balls to; none for another device.
     pub fn target(self) -> Option<BallTarget>
@@ -193,6 +211,20 @@ impl Settings {
         }
     }
 
+    /// Whether it is a ball save.
+    pub fn is_save(self) -> bool
+        ensures { result ≡ is_save self }
+    {
+        matches!(self, Settings::BallSave(_))
+    }
+
+    /// Whether it is a multiball.
+    pub fn is_multiball(self) -> bool
+        ensures { result ≡ is_multiball self }
+    {
+        matches!(self, Settings::Multiball(_))
+    }
+
     /// How many effect lists a row with these settings has: of a row of a plan at most 288.
     pub fn list_count(self) -> u32
         ensures { result ≡ list_count self }
@@ -206,6 +238,8 @@ impl Settings {
             Settings::Flipper => 2,
             Settings::Autofire => 1,
             Settings::BallDevice(_) => 7,
+            Settings::BallSave(_) => 3,
+            Settings::Multiball(_) => 2,
         }
     }
 }
@@ -251,7 +285,7 @@ pub enum Act {
     Reset,
     /// The device begins anew, and acts from now on.
     Restart,
-    /// A timer runs.
+    /// A timer runs, or a multiball starts.
     Start,
     /// A timer stops running, and reports `stopped`.
     Stop,
@@ -285,4 +319,32 @@ pub enum Act {
     Confirm,
     /// A trough is asked to eject this many more balls.
     Request(usize),
+    /// A ball save saves a ball that has drained.
+    Save,
+    /// A multiball ends.
+    End,
+}
+
+/// What a ball device is told of what happens elsewhere in the machine.
+#[derive(Clone, Copy, Debug)]
+pub enum Telling {
+    /// A ball has arrived at the target. The first ball device whose ball was on its way there is told.
+    Arrived(BallTarget),
+    /// This many more balls are wanted in play. The first trough is told.
+    Wanted(usize),
+}
+
+impl Telling {
+    ghost use Rattle.std.specs.Prelude.{◌≡◌};
+    ghost use Rattle.plan_tables.specs.PlanView.{act_told};
+
+    /// What the device is told to do.
+    pub fn act(self) -> Act
+        ensures { result ≡ act_told self }
+    {
+        match self {
+            Telling::Arrived(_) => Act::Confirm,
+            Telling::Wanted(balls) => Act::Request(balls),
+        }
+    }
 }

@@ -280,6 +280,15 @@ pub enum Action {
     Arrive {
         device: RowId,
     },
+    /// The first trough, if there is one, is asked to eject this many more balls.
+    Request {
+        balls: u8,
+    },
+    /// At least this many balls are to be in play: where fewer are in play, those that are missing are in play from
+    /// now on, and the first trough, if there is one, is asked to eject them.
+    AddBalls {
+        balls: u8,
+    },
 }
 
 /// What a binding does when its turn comes.

@@ -12,7 +12,8 @@ mod works;
 
 pub use devices::{
     Act, BallSettings, BallTarget, BankSettings, BlockSettings, CounterSettings, DeviceRow,
-    Direction, RowId, Settings, StepSettings, TimerSettings,
+    Direction, MultiballSettings, RowId, SaveSettings, Settings, StepSettings, Telling,
+    TimerSettings,
 };
 pub use entries::{
     Action, Binding, BindingId, CoilId, CoilLimits, Condition, Contact, EventId, GAME_EVENTS,

@@ -1,3 +1,5 @@
 pub mod Chosen
+pub mod Draining
 pub mod StayFew
 pub mod Slots
+pub mod DrainEvent

@@ -41,6 +41,11 @@ abbrev pub asks_for_ball : GameEvent → Bool
 asks_for_ball BallStarting = true
 asks_for_ball _ = false
 
+-- whether it says that a ball has drained
+abbrev pub is_drain : GameEvent → Bool
+is_drain BallDrain = true
+is_drain _ = false
+
 -- ---- laws
 
 -- what an event posts is one of its choices, or nothing; scores are told where it tells them, and a ball is asked for where

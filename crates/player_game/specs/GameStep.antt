@@ -1,4 +1,4 @@
--- What the machine itself does at the events of the game.
+-- What the game itself does at its events. When a ball drains, ball saves are asked before it (`written_machine`).
 use Rattle.std.specs.Prelude.{ℕ, ◌+◌, ◌-◌, ◌^◌, ◌==◌, nat_lt, nat_le, Bool, true, false, not, ◌&&◌, if◌then◌else◌, pos, Option, None, Some, List, [], ◌∷◌, length, replicate, slice_index_or, slice_set}
 use Rattle.std.specs.List.{list_any}
 use Rattle.std.specs.Ordering.{int_eq}
@@ -70,6 +70,18 @@ started rules plan home g p =
 -- a ball begins
 abbrev pub ball_started : GameState → GameState
 ball_started g = record g { phase = phases.Ball; balls = 1 }
+
+-- how many balls are in play: none unless a ball is on
+abbrev pub in_play : GameState → ℕ
+in_play g = if is_ball_on g.phase then g.balls else 0
+
+-- how many balls are missing, while a ball is on, for so many to be in play
+abbrev pub missing : ℕ → GameState → ℕ
+missing n g = if is_ball_on g.phase then n - g.balls else 0
+
+-- those that are missing are in play from now on
+abbrev pub more_balls : ℕ → GameState → GameState
+more_balls n g = record g { balls = g.balls + missing n g }
 
 -- a ball is lost: the last one ends the turn
 abbrev pub drained : GameState → PlayersState → GameStep

@@ -1,7 +1,7 @@
 //! What the events of the game can post, whatever the state of the game.
 
 ghost use Rattle.std.specs.Prelude.{◌≡◌, map};
-ghost use Rattle.player_game.specs.Choices.{asks_for_ball, choices, tells_scores};
+ghost use Rattle.player_game.specs.Choices.{asks_for_ball, choices, is_drain, tells_scores};
 
 use plan_tables::GameEvent;
 
@@ -49,4 +49,11 @@ pub fn asks_for_ball(event: GameEvent) -> bool
     ensures { result ≡ asks_for_ball event }
 {
     matches!(event, GameEvent::BallStarting)
+}
+
+/// Whether an event of the game says that a ball has drained. A ball save may save that ball.
+pub fn is_drain(event: GameEvent) -> bool
+    ensures { result ≡ is_drain event }
+{
+    matches!(event, GameEvent::BallDrain)
 }

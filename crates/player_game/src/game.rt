@@ -116,7 +116,7 @@ impl Model for Game {
 
 impl Game {
     ghost use Rattle.std.specs.Prelude.{◌≡◌, ◌<◌, true, false, [], ◌∷◌};
-    ghost use Rattle.player_game.specs.GameStep.{ball_ending, ball_started, can_begin, can_join, drained, ended, ends_ball, game_step, held, is_held, no_game, released, started};
+    ghost use Rattle.player_game.specs.GameStep.{ball_ending, ball_started, can_begin, can_join, drained, ended, ends_ball, game_step, held, in_play, is_held, missing, more_balls, no_game, released, started};
     ghost use Rattle.player_game.specs.Players.{PlayersState, turned};
 
     /// The game of a plan. No game goes on, and none has begun.
@@ -150,11 +150,38 @@ impl Game {
     pub fn world(&self, players: &Players<'_>) -> World
         ensures games { result.games ≡ self.now.state.begun }
         ensures player { result.player ≡ players.now.state.current }
+        ensures in_play { result.in_play ≡ in_play self.now.state }
     {
         World {
             games: self.begun,
             player: players.current(),
+            in_play: self.in_play(),
         }
+    }
+
+    /// How many balls are in play: none unless a ball is on.
+    pub fn in_play(&self) -> u32
+        ensures { result ≡ in_play self.now.state }
+    {
+        if self.phase.is_ball_on() {
+            self.balls
+        } else {
+            0
+        }
+    }
+
+    /// While a ball is on, at least so many balls are in play from now on. Reports how many were missing for that.
+    /// While no ball is on nothing changes, and the answer is 0.
+    pub fn add_balls(&mut self, balls: u8) -> u8
+        ensures game { self.new ≡ record self.old { state = more_balls balls self.old.state } }
+        ensures missing { result ≡ missing balls self.old.state }
+    {
+        if !self.phase.is_ball_on() {
+            return 0;
+        }
+        let missing = u32::from(balls).saturating_sub(self.balls);
+        self.balls += missing;
+        missing as u8
     }
 
     /// Does what the machine itself does when it takes this event of the game, while so many balls

@@ -6,6 +6,7 @@ use crate::coils::{COILS, show_coil_sections};
 use crate::devices::{DEVICES, SAME_NAMES, show_device_sections};
 use crate::game::{GAMES, show_game, show_variables};
 use crate::pen::Pen;
+use crate::saves::{SAVES, show_save_sections};
 use crate::shots::{SHOTS, show_shot_sections};
 use mpf_config::{
     Config, ConfigFault, MODES_NAME, ModeText, Note, Section, as_event_player, as_switch,
@@ -216,6 +217,7 @@ fn show_section(pen: &mut Pen, section: &Section) {
     show_device_sections(pen, section);
     show_shot_sections(pen, section);
     show_ball_devices(pen, section);
+    show_save_sections(pen, section);
 }
 
 fn show_sections(pen: &mut Pen, sections: &[Section]) {
@@ -378,6 +380,7 @@ fn bundles(rt: HostRuntime) {
     assert_rows(&rt, &Subject::Texts, GAMES);
     assert_rows(&rt, &Subject::Texts, SHOTS);
     assert_rows(&rt, &Subject::Texts, BALLS);
+    assert_rows(&rt, &Subject::Texts, SAVES);
 }
 
 #[test]

@@ -16,6 +16,8 @@ mod game;
 #[cfg(test)]
 mod pen;
 #[cfg(test)]
+mod saves;
+#[cfg(test)]
 mod shots;
 #[cfg(test)]
 mod tables;

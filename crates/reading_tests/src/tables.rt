@@ -3,7 +3,7 @@
 use crate::cases::{Subject, assert_rows};
 use crate::pen::Pen;
 use crate::yaml::tree_of;
-use crate::{balls, shots};
+use crate::{balls, saves, shots};
 use mpf_sections::as_handled;
 use mpf_tables::{TextKind, shape_of};
 use section_tables::fault::ConfigFault;
@@ -653,4 +653,6 @@ fn entries_by_tables(rt: HostRuntime) {
     assert_rows(&rt, &Subject::Section, shots::SECTIONS);
     assert_rows(&rt, &Subject::ModeSection, shots::SECTIONS);
     assert_rows(&rt, &Subject::Section, balls::SECTIONS);
+    assert_rows(&rt, &Subject::Section, saves::SECTIONS);
+    assert_rows(&rt, &Subject::ModeSection, saves::SECTIONS);
 }

@@ -13,7 +13,7 @@ mod source;
 mod texts;
 mod walks;
 
-pub use ball_plays::{BALL_PLAYS, THREE_MACHINES_PLAY};
+pub use ball_plays::{BALL_PLAYS, SAVE_PLAYS, THREE_MACHINES_PLAY};
 pub use coil_plays::{COIL_PLAYS, FAULT_PLAYS, FLIPPER_PLAYS};
 pub use pen::Pen;
 pub use row::{Answers, Row, answered, written, wrong_rows};

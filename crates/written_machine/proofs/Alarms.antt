@@ -30,7 +30,7 @@ use Rattle.written_machine.specs.PlanOrder.{settled}
 use Rattle.written_machine.specs.AlarmsEnd.{IsPartDone}
 use Rattle.written_machine.specs.Run.{Source, switch, device, source_due, part_due, IsNothingLate, IsNextAlarm, Stimulus, SwitchChange, Alarm, Wait, moment_of, IsAllowed, arrived, begin, IsRun}
 use Rattle.cascade_rank.specs.Cost.{Cost}
-use Rattle.written_machine.specs.Moves.{Move, Wrote, Sent, Switched, Began, Ended, Marked, Released, Turned, Asked, Booked, Varied, Stepped, do_move, Does, TakesPart, Begins, IsMachine, ordinary, working, MayWork}
+use Rattle.written_machine.specs.Moves.{Move, Wrote, Sent, Switched, Began, Ended, Marked, Released, Turned, Asked, Booked, Varied, Stepped, AddedBalls, do_move, Does, TakesPart, Begins, IsMachine, ordinary, working, MayWork}
 use Rattle.written_machine.proofs.Does.{start-by, stop-by, book-by, does-keeps, due-row, off-has_coils, HasStates, moment-move, moment-does, has_states-does, switches-does}
 use Rattle.device_objects.proofs.Lists.{lists_are_of_the_row}
 use Rattle.written_machine.proofs.Parts.{does-answer, does-call, does-accepted, does-if_accepted, does-begin, does-before, does-after}
@@ -98,6 +98,7 @@ module _ (plan : PlanView) where
     later-move (Released m) s = λ r k due is. inl is
     later-move (Varied v value) s = λ r k due is. inl is
     later-move (Stepped which) s = λ r k due is. inl is
+    later-move (AddedBalls n) s = λ r k due is. inl is
 
     later-then : (s m t : Machine) → m.moment ≡ s.moment → IsLater s m → IsLater m t → IsLater s t
     later-then s m t here one next r k due is =

@@ -2,10 +2,10 @@
 use Rattle.std.proofs.Common.{◌≡◌, ℕ, ◌+◌, ◌<◌, ◌≤◌, ◌==◌, ◌&&◌, inl, inr, if◌then◌else◌, Bool, true, false, Option, Some, None, List, [], ◌∷◌, length, refl, sym, ap, ap₂, ◌∙◌, subst, arith}
 use Rattle.std.specs.Prelude.{unwrap_or}
 use Rattle.std.specs.List.{All, count_by}
-use Rattle.std.proofs.lemmas.Bool.{eq-eqb, ne_eqb}
+use Rattle.std.proofs.lemmas.Bool.{eq-eqb, ne_eqb, false≢true}
 use Rattle.std.proofs.lemmas.List.Elements.{All-filter, filter_passes}
 use Rattle.plan_tables.specs.declared.entries.GameEvent.TheVariants.{BallDrain}
-use Rattle.plan_tables.specs.PlanView.{PlanView, feeders_of, feeds, game_event, is_target, list_of_row, row_at, row_numbers, target_in, target_of}
+use Rattle.plan_tables.specs.PlanView.{PlanView, feeders_of, feeds, game_event, is_target, list_of_row, row_at, row_numbers, target_in, target_of, first_trough, is_trough}
 use Rattle.plan_tables.specs.Valid.{IsTargetThere, IsValid}
 use Rattle.plan_tables.specs.declared.devices.Act.TheVariants as acts
 use Rattle.plan_tables.specs.declared.devices.BallSettings.{BallSettings}
@@ -37,16 +37,22 @@ use Rattle.device_objects.specs.DeviceStep.{device_step}
 use Rattle.device_objects.specs.Laws.{HasBallShape}
 use Rattle.device_objects.proofs.BallShapes.{ball_step-shape}
 use Rattle.player_game.specs.GameStep.{is_ball_on}
-use Rattle.plan_tables.specs.BallRows.{BooksNothing, actions_in, BooksBalls, BooksRightly, BookingsAreRight}
-use Rattle.written_machine.specs.Machine.{Machine, post, set_device, all_do, book, drain_if, after_entry, do_action_by, do_list_by, world_of, device_at, do_answer_by, call_device_by, is_device_away, first_away, no_confirm, confirm_of, confirm_first_away, confirm_entry, call_device}
-use Rattle.written_machine.proofs.BallSteps.{balls_in, IsQuiet, AreQuiet, Answer, nothing, enters, leaves, loses, arrives, IsAnswer, IsUsual, step-answer, confirm-answer, step-confirmed}
+use Rattle.plan_tables.specs.BallRows.{BooksNothing, actions_in, BooksBalls, BooksRightly, BookingsAreRight, IsPlain}
+use Rattle.plan_tables.specs.declared.devices.Telling.{Telling}
+use Rattle.plan_tables.specs.declared.devices.Telling.TheVariants.{Arrived, Wanted}
+use Rattle.written_machine.specs.Machine.{Machine, post, set_device, all_do, book, drain_if, after_entry, do_action_by, do_list_by, world_of, device_at, do_answer_by, call_device_by, is_device_away, first_away, tell_nobody, tell_device, tell_first, call_device}
+use Rattle.written_machine.proofs.BallSteps.{balls_in, IsQuiet, AreQuiet, Answer, nothing, enters, leaves, loses, arrives, IsAnswer, IsUsual, step-answer, confirm-answer, step-confirmed, requested-answer}
 use Rattle.written_machine.proofs.BallFeeders.{Found, find-found, row-counts}
-use Rattle.written_machine.proofs.BallPlays.{IsOther, nothing-other, then-other, post-other, list-other, Plays, still, ball, arrival, both}
+use Rattle.written_machine.proofs.BallPlays.{IsOther, nothing-other, then-other, post-other, list-other, Plays, still, ball, arrival, both, IsNoCall, request}
 use Rattle.written_machine.proofs.BallCalm.{balls_at, no_lag, lag_at, limit, IsCalm, feeder, one-no, one-yes, surely_booked, other-calm, room, turned-calm}
+use Rattle.written_machine.proofs.Feeding.{first_trough-is}
 
 is_target-itself : (a : BallTarget) → is_target a a ≡ true
 is_target-itself Playfield = refl
 is_target-itself (Device r) = eq-eqb r.0 r.0 refl
+
+pub no_call-usual : (call : Call) → IsNoCall call → IsUsual call
+no_call-usual call none = absurd none
 
 module _ (plan : PlanView) (valid : IsValid plan) (right : BookingsAreRight plan) where
   -- ---- a ball device, and what it is called
@@ -63,23 +69,23 @@ module _ (plan : PlanView) (valid : IsValid plan) (right : BookingsAreRight plan
         ap₂ (λ (target : BallTarget) (settings : Settings). feeds target settings) target_is is ∙ is_target-itself d.target
 
     -- a list of its own that has just one action
-    one_action : (P : Machine → Type 0) (confirm : RowId → Machine → Machine) (k : ℕ) (a : Action) (u : Machine) → actions_in plan r k ≡ a ∷ []
-        → P (do_action_by plan confirm (row_at plan r).owner a u) → P (do_list_by plan confirm (row_at plan r).owner (list_of_row plan r k) u)
-    one_action P confirm k a u only done =
-        subst (λ (actions : List Action). P (all_do (do_action_by plan confirm (row_at plan r).owner) actions u)) (sym only) done
+    one_action : (P : Machine → Type 0) (tell : Telling → Machine → Machine) (k : ℕ) (a : Action) (u : Machine) → actions_in plan r k ≡ a ∷ []
+        → P (do_action_by plan tell (row_at plan r).owner a u) → P (do_list_by plan tell (row_at plan r).owner (list_of_row plan r k) u)
+    one_action P tell k a u only done =
+        subst (λ (actions : List Action). P (all_do (do_action_by plan tell (row_at plan r).owner) actions u)) (sym only) done
 
-    -- its lists that book nothing
-    quiet_list : (k : ℕ) → IsQuiet k → All BooksNothing (actions_in plan r k)
-    quiet_list k (inl one) = subst (λ (j : ℕ). All BooksNothing (actions_in plan r j)) (sym one) ball_row.attempted
-    quiet_list k (inr (inl one)) = subst (λ (j : ℕ). All BooksNothing (actions_in plan r j)) (sym one) ball_row.succeeded
-    quiet_list k (inr (inr one)) = subst (λ (j : ℕ). All BooksNothing (actions_in plan r j)) (sym one) ball_row.failed
+    -- its lists that book nothing, and tell no other device anything
+    quiet_list : (k : ℕ) → IsQuiet k → All IsPlain (actions_in plan r k)
+    quiet_list k (inl one) = subst (λ (j : ℕ). All IsPlain (actions_in plan r j)) (sym one) ball_row.attempted
+    quiet_list k (inr (inl one)) = subst (λ (j : ℕ). All IsPlain (actions_in plan r j)) (sym one) ball_row.succeeded
+    quiet_list k (inr (inr one)) = subst (λ (j : ℕ). All IsPlain (actions_in plan r j)) (sym one) ball_row.failed
 
-    quiet-other : (confirm : RowId → Machine → Machine) (ks : List ℕ) (u : Machine) → AreQuiet ks
-        → IsOther plan u (do_answer_by plan confirm r ks u)
-    quiet-other confirm [] u quiet = nothing-other plan u
-    quiet-other confirm (k ∷ ks) u quiet =
-        then-other plan (list-other plan confirm (row_at plan r).owner (list_of_row plan r k) (quiet_list k quiet.0) u)
-        (quiet-other confirm ks (do_list_by plan confirm (row_at plan r).owner (list_of_row plan r k) u) quiet.1)
+    quiet-other : (tell : Telling → Machine → Machine) (ks : List ℕ) (u : Machine) → AreQuiet ks
+        → IsOther plan u (do_answer_by plan tell r ks u)
+    quiet-other tell [] u quiet = nothing-other plan u
+    quiet-other tell (k ∷ ks) u quiet =
+        then-other plan (list-other plan tell (row_at plan r).owner (list_of_row plan r k) (quiet_list k quiet.0) u)
+        (quiet-other tell ks (do_list_by plan tell (row_at plan r).owner (list_of_row plan r k) u) quiet.1)
 
     -- ---- what is answered
 
@@ -193,44 +199,44 @@ module _ (plan : PlanView) (valid : IsValid plan) (right : BookingsAreRight plan
           by true = other-calm plan (post-other plan owner (game_event plan BallDrain) v) calm
           by false = calm
 
-      module _ (enter : Type 0) (confirm : RowId → Machine → Machine)
-          (confirms : enter → (v : Machine) → IsCalm plan (lag_at (Device r)) v → IsCalm plan no_lag (confirm r v)) where
+      module _ (enter : Type 0) (tell : Telling → Machine → Machine)
+          (tells : enter → (v : Machine) → IsCalm plan (lag_at (Device r)) v → IsCalm plan no_lag (tell (Arrived (Device r)) v)) where
         origin-calm : enter → (owner : Owner) (drain : Bool) (o : Origin) (v : Machine) → IsCalm plan (λ target. one (is_end_for target (Entered r o))) v
-            → IsCalm plan no_lag (after_entry plan confirm owner r drain o v)
-        origin-calm may owner drain Awaited v calm = confirms may v calm
+            → IsCalm plan no_lag (after_entry plan tell owner r drain o v)
+        origin-calm may owner drain Awaited v calm = tells may v calm
         origin-calm may owner drain OfPlayfield v calm = drain-calm owner drain v calm
         origin-calm may owner drain New v calm = drain-calm owner drain v calm
 
         answer-calm : {t : BallState} {ks : List ℕ} → HasBallShape d t → Answer enter b t ks
-            → IsCalm plan no_lag (do_answer_by plan confirm r ks (set_device r (states.BallDevice t) s))
+            → IsCalm plan no_lag (do_answer_by plan tell r ks (set_device r (states.BallDevice t) s))
         answer-calm shape (nothing t ks balls away quiet) =
-            other-calm plan (quiet-other confirm ks (set_device r (states.BallDevice t) s) quiet) (nothing-calm t shape balls away)
+            other-calm plan (quiet-other tell ks (set_device r (states.BallDevice t) s) quiet) (nothing-calm t shape balls away)
         answer-calm shape (enters may t rest balls away quiet) =
             let owner = (row_at plan r).owner in
             let u = set_device r (states.BallDevice t) s in
             let event = ball_row.event in
             let drain = ball_row.drain in
             let in_it = book owner (ledger_calls.Enter r) u in
-            other-calm plan (quiet-other confirm rest (do_list_by plan confirm owner (list_of_row plan r lists.entered) u) quiet)
-            (one_action (IsCalm plan no_lag) confirm lists.entered (Enter r event drain) u ball_row.entered
+            other-calm plan (quiet-other tell rest (do_list_by plan tell owner (list_of_row plan r lists.entered) u) quiet)
+            (one_action (IsCalm plan no_lag) tell lists.entered (Enter r event drain) u ball_row.entered
             (origin-calm may owner drain (origin_of r s.ledger) (post owner event in_it)
             (other-calm plan (post-other plan owner event in_it) (entered-calm t shape balls away owner))))
         answer-calm shape (leaves t balls before after) =
-            one_action (IsCalm plan no_lag) confirm lists.left (Leave r) (set_device r (states.BallDevice t) s) ball_row.left
+            one_action (IsCalm plan no_lag) tell lists.left (Leave r) (set_device r (states.BallDevice t) s) ball_row.left
             (left-calm t shape balls before after (row_at plan r).owner)
         answer-calm shape (loses t balls away) =
-            one_action (IsCalm plan no_lag) confirm lists.lost (Lose r) (set_device r (states.BallDevice t) s) ball_row.lost
+            one_action (IsCalm plan no_lag) tell lists.lost (Lose r) (set_device r (states.BallDevice t) s) ball_row.lost
             (lost-calm t shape balls away (row_at plan r).owner)
         answer-calm shape (arrives t rest balls before after quiet) =
             let u = set_device r (states.BallDevice t) s in
-            other-calm plan (quiet-other confirm rest (do_list_by plan confirm (row_at plan r).owner (list_of_row plan r lists.arrived) u) quiet)
-            (one_action (IsCalm plan no_lag) confirm lists.arrived (Arrive r) u ball_row.arrived
+            other-calm plan (quiet-other tell rest (do_list_by plan tell (row_at plan r).owner (list_of_row plan r lists.arrived) u) quiet)
+            (one_action (IsCalm plan no_lag) tell lists.arrived (Arrive r) u ball_row.arrived
             (arrived-calm t shape balls before after (row_at plan r).owner))
 
         answered-calm : (call : Call) → HasBallShape d b → IsAnswer enter b (ball_step d call s.moment b)
-            → IsCalm plan no_lag (call_device_by plan confirm call r s)
+            → IsCalm plan no_lag (call_device_by plan tell call r s)
         answered-calm call shape answer =
-            subst (λ (a : DeviceState × List ℕ). IsCalm plan no_lag (do_answer_by plan confirm r a.1 (set_device r a.0 s)))
+            subst (λ (a : DeviceState × List ℕ). IsCalm plan no_lag (do_answer_by plan tell r a.1 (set_device r a.0 s)))
             (sym (ap₂ (λ (x : Settings) (y : DeviceState). device_step x call s.moment (world_of s) y) is was))
             (answer-calm (ball_step-shape d call s.moment b shape) answer)
 
@@ -238,15 +244,15 @@ module _ (plan : PlanView) (valid : IsValid plan) (right : BookingsAreRight plan
 
     module _ (to : RowId) (s : Machine) (h : IsCalm plan (lag_at (Device to)) s) (b : BallState) (was : device_at s r ≡ states.BallDevice b)
         (shape : HasBallShape d b) (away : is_away b.eject ≡ true) (target : d.target ≡ Device to) where
-      told-calm : IsCalm plan no_lag (call_device_by plan no_confirm (calls.Act acts.Confirm) r s)
+      told-calm : IsCalm plan no_lag (call_device_by plan tell_nobody (calls.Act acts.Confirm) r s)
       told-calm =
           let a = ball_step d (calls.Act acts.Confirm) s.moment b in
           let done = step-confirmed d s.moment b to away target in
           let balls : balls_in a.0 ≡ balls_in b = ap (λ (bs : _). count_by (λ x. x.counted) bs) done.switches in
           let u = set_device r (states.BallDevice a.0) s in
-          subst (λ (x : DeviceState × List ℕ). IsCalm plan no_lag (do_answer_by plan no_confirm r x.1 (set_device r x.0 s)))
+          subst (λ (x : DeviceState × List ℕ). IsCalm plan no_lag (do_answer_by plan tell_nobody r x.1 (set_device r x.0 s)))
           (sym (ap₂ (λ (x : Settings) (y : DeviceState). device_step x (calls.Act acts.Confirm) s.moment (world_of s) y) is was))
-          (other-calm plan (quiet-other no_confirm a.1 u done.quiet)
+          (other-calm plan (quiet-other tell_nobody a.1 u done.quiet)
           (turned-calm plan s r d within is b a.0 was (ball_step-shape d (calls.Act acts.Confirm) s.moment b shape) u refl h refl h.ledger h.most
           (h.held r d within is ∙ (ap balls_at was ∙ sym balls)) (λ e inside other. refl)
           (λ x there.
@@ -268,13 +274,13 @@ module _ (plan : PlanView) (valid : IsValid plan) (right : BookingsAreRight plan
       (λ k e there. record { within = inside k e there; feeds_it = passes k e there })
 
   entry-calm : (to : RowId) → to.0 < length plan.rows → (s : Machine) → IsCalm plan (lag_at (Device to)) s
-      → IsCalm plan no_lag (confirm_entry plan to s)
+      → IsCalm plan no_lag (tell_first plan (Arrived (Device to)) s)
   entry-calm to inside s h = by (first_away plan (Device to) s) (find-found p (IsFeedingRow (Device to)) (feeders_of plan (Device to)) (feeding_rows (Device to)) (first_away plan (Device to) s) refl)
     where
       p : RowId → Bool
       p q = is_device_away (device_at s q)
 
-      by : (o : Option RowId) → Found p (IsFeedingRow (Device to)) (feeders_of plan (Device to)) o → IsCalm plan no_lag (confirm_of plan o s)
+      by : (o : Option RowId) → Found p (IsFeedingRow (Device to)) (feeders_of plan (Device to)) o → IsCalm plan no_lag (tell_device plan (Arrived (Device to)) o s)
       by None none =
           let late : one (to.0 == to.0) ≡ 1 = ap one (eq-eqb to.0 to.0 refl) in
           absurd (omega (arith, none, late, h.away (Device to) inside))
@@ -283,25 +289,51 @@ module _ (plan : PlanView) (valid : IsValid plan) (right : BookingsAreRight plan
           let state = h.shapes q of.d row.within of.is in
           told-calm q of.d row.within of.is to s h state.ball state.is state.shape (sym (ap is_device_away state.is) ∙ away) of.to
 
-  pub arrival-calm : (s : Machine) → IsCalm plan no_lag s → IsCalm plan no_lag (confirm_first_away plan Playfield s)
+  pub arrival-calm : (s : Machine) → IsCalm plan no_lag s → IsCalm plan no_lag (tell_first plan (Arrived Playfield) s)
   arrival-calm s h = by (first_away plan Playfield s) (find-found p (IsFeedingRow Playfield) (feeders_of plan Playfield) (feeding_rows Playfield) (first_away plan Playfield s) refl)
     where
       p : RowId → Bool
       p q = is_device_away (device_at s q)
 
-      by : (o : Option RowId) → Found p (IsFeedingRow Playfield) (feeders_of plan Playfield) o → IsCalm plan no_lag (confirm_of plan o s)
+      by : (o : Option RowId) → Found p (IsFeedingRow Playfield) (feeders_of plan Playfield) o → IsCalm plan no_lag (tell_device plan (Arrived Playfield) o s)
       by None none = h
       by (Some q) (away, row) =
           let of = feeder Playfield (row_at plan q).settings row.feeds_it in
           let state = h.shapes q of.d row.within of.is in
-          answered-calm q of.d row.within of.is s h state.ball state.is ⊥ no_confirm (λ none. absurd none) (calls.Act acts.Confirm) state.shape
+          answered-calm q of.d row.within of.is s h state.ball state.is ⊥ tell_nobody (λ none. absurd none) (calls.Act acts.Confirm) state.shape
           (confirm-answer of.d ⊥ s.moment state.ball of.to)
+
+  -- a trough is a ball device
+  trough-ball : (settings : Settings) → is_trough settings ≡ true → (d : BallSettings) × (settings ≡ kinds.BallDevice d)
+  trough-ball (kinds.BallDevice d) is = (d, refl)
+  trough-ball (kinds.Counter c) is = absurd (false≢true is)
+  trough-ball (kinds.Accrual a) is = absurd (false≢true is)
+  trough-ball (kinds.Sequence q) is = absurd (false≢true is)
+  trough-ball (kinds.Timer t) is = absurd (false≢true is)
+  trough-ball (kinds.Bank b) is = absurd (false≢true is)
+  trough-ball kinds.Flipper is = absurd (false≢true is)
+  trough-ball kinds.Autofire is = absurd (false≢true is)
+  trough-ball (kinds.BallSave b) is = absurd (false≢true is)
+  trough-ball (kinds.Multiball m) is = absurd (false≢true is)
+
+  -- the first trough is asked for balls
+  request-calm : (n : ℕ) (s : Machine) → IsCalm plan no_lag s → IsCalm plan no_lag (tell_first plan (Wanted n) s)
+  request-calm n s h = by (first_trough plan) refl
+    where
+      by : (o : Option RowId) → first_trough plan ≡ o → IsCalm plan no_lag (tell_device plan (Wanted n) o s)
+      by None none = h
+      by (Some q) is =
+          let first = first_trough-is plan q is in
+          let of = trough-ball (row_at plan q).settings first.trough in
+          let state = h.shapes q of.0 first.there of.1 in
+          answered-calm q of.0 first.there of.1 s h state.ball state.is ⊥ tell_nobody (λ none. absurd none) (calls.Act (acts.Request n)) state.shape
+          (requested-answer of.0 ⊥ n s.moment state.ball)
 
   pub call-calm : (call : Call) (r : RowId) (d : BallSettings) → r.0 < length plan.rows → (row_at plan r).settings ≡ kinds.BallDevice d
       → IsUsual call → (s : Machine) → IsCalm plan no_lag s → IsCalm plan no_lag (call_device plan call r s)
   call-calm call r d within is usual s h =
       let state = h.shapes r d within is in
-      answered-calm r d within is s h state.ball state.is (Unit {0}) (confirm_entry plan) (λ may v calm. entry-calm r within v calm) call state.shape
+      answered-calm r d within is s h state.ball state.is (Unit {0}) (tell_first plan) (λ may v calm. entry-calm r within v calm) call state.shape
       (step-answer d (Unit {0}) tt call s.moment state.ball usual)
 
   -- ---- all together
@@ -311,4 +343,5 @@ module _ (plan : PlanView) (valid : IsValid plan) (right : BookingsAreRight plan
   plays-calm usual (still other) h = other-calm plan other h
   plays-calm usual (ball call r d s within is may) h = call-calm call r d within is (usual call may) s h
   plays-calm usual (arrival s) h = arrival-calm s h
+  plays-calm usual (request n s) h = request-calm n s h
   plays-calm usual (both a b) h = plays-calm usual b (plays-calm usual a h)

@@ -96,6 +96,8 @@ feeder target (kinds.Timer t) is = absurd (false≢true is)
 feeder target (kinds.Bank b) is = absurd (false≢true is)
 feeder target kinds.Flipper is = absurd (false≢true is)
 feeder target kinds.Autofire is = absurd (false≢true is)
+feeder target (kinds.Multiball m) is = absurd (false≢true is)
+feeder target (kinds.BallSave b) is = absurd (false≢true is)
 
 pub one-no : (x y : Bool) → y ≡ false → one (x && y) ≡ 0
 one-no true y not = ap one not

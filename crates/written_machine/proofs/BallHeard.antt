@@ -45,26 +45,19 @@ use Rattle.written_machine.specs.SwitchLines.{LevelChange, change_at, changes_of
 use Rattle.written_machine.specs.Counted.{ball_switches, is_counted}
 use Rattle.written_machine.specs.EventStep.{EventStep}
 use Rattle.written_machine.specs.Devices.{ActsAreOwn}
-use Rattle.written_machine.specs.Machine.{Machine, initial, write, set_switches, set_device, world_of, device_at, called, confirm_entry, tell_listeners, do_accepted, do_if_accepted, call_device}
+use Rattle.written_machine.specs.Machine.{Machine, initial, write, set_switches, set_device, world_of, device_at, called, tell_first, tell_listeners, do_accepted, do_if_accepted, call_device}
 use Rattle.written_machine.specs.Run.{Source, switch, device, source_due, IsNoAlarmDueBy, IsNothingLate, Stimulus, SwitchChange, Alarm, Wait, IsAllowed, arrived, begin, InEveryRun}
 use Rattle.written_machine.proofs.Does.{HasStates}
 use Rattle.written_machine.proofs.Alarms.{switches-steps, switches-begin, not_late-steps, not_late-begin, not_late-initial, allowed-first, forward, has_states-step, has_states-begin, has_states-initial}
 use Rattle.written_machine.proofs.Keeps.{run-keeps}
-use Rattle.written_machine.proofs.BallPlays.{is_ball, call-other, accepted-plays, event-plays}
+use Rattle.written_machine.proofs.BallPlays.{is_ball, other-plays, accepted-plays, event-plays, IsNoCall}
 use Rattle.written_machine.proofs.BallCalm.{balls_at, no_lag, IsCalm, calm-other}
-use Rattle.written_machine.proofs.BallRuns.{IsRequest, first-ball, calm-initial, step-calm, begin-calm, due-within}
+use Rattle.written_machine.proofs.BallRuns.{first-ball, calm-initial, step-calm, begin-calm, due-within}
 use Rattle.written_machine.proofs.BallLevels.{Follows, first-follows, not_yet, turned-follows, IsInTime, noted-follows}
 use Rattle.written_machine.proofs.BallCounting.{is_for, is_heard, row-count}
-use Rattle.written_machine.proofs.BallSteady.{ball_of, switches_at, IsSteady, IsKeeping, other-steady, answer-steady, entered-steady, plays-steady}
+use Rattle.written_machine.proofs.BallSteady.{ball_of, switches_at, IsSteady, IsKeeping, answer-steady, telling-steady, plays-steady, no_call-keeping}
 use Rattle.written_machine.proofs.BallFired.{IsFired, fire-fired}
 use Rattle.written_machine.proofs.BallListeners.{ball_switch, heard-all, switches-apart, IsListener, IsNotedBy, listeners-noted}
-
-request-keeping : (call : Call) → IsRequest call → IsKeeping call
-request-keeping calls.ModeStart may = absurd may
-request-keeping calls.ModeStop may = absurd may
-request-keeping calls.Fire may = absurd may
-request-keeping (calls.Act (acts.Request n)) may = tt
-request-keeping (calls.Act _) may = absurd may
 
 -- ---- one ball switch
 
@@ -257,7 +250,7 @@ module _ (plan : PlanView) where
     step-followed : (before : List Line) (s t : Machine) → EventStep plan s t → IsFollowed before s → IsFollowed before t
     step-followed before s t st h = record {
       heard =
-          let steady = subst (IsSteady plan s) (sym st.new_is) (plays-steady plan {may = IsRequest} request-keeping (event-plays plan valid.entries own right IsRequest tt st.first st.rest st.order s st.in_order)) in
+          let steady = subst (IsSteady plan s) (sym st.new_is) (plays-steady plan no_call-keeping (event-plays plan valid.entries own right IsNoCall st.first st.rest st.order s st.in_order)) in
           steady-heard before s t steady (switches-steps plan 1 s t (t, st, refl)) h.heard;
       calm = step-calm plan valid own right s t st h.calm;
       states = has_states-step plan s t st h.states;
@@ -316,7 +309,7 @@ module _ (plan : PlanView) where
       finished = do_accepted plan acceptance (set_switches v (arrived at s))
 
       rest : IsSteady plan (tell_listeners plan acceptance written) finished
-      rest = plays-steady plan {may = IsRequest} request-keeping (accepted-plays plan valid.entries own right IsRequest acceptance (tell_listeners plan acceptance written))
+      rest = plays-steady plan no_call-keeping (accepted-plays plan valid.entries own right IsNoCall acceptance (tell_listeners plan acceptance written))
 
       final_moment : finished.moment ≡ at
       final_moment = rest.moment ∙ told.moment
@@ -411,7 +404,7 @@ module _ (plan : PlanView) where
       after_alarm = call_device plan calls.Fire r (arrived at s)
 
       answered : IsSteady plan (set_device r next (arrived at s)) after_alarm
-      answered = answer-steady plan (confirm_entry plan) (entered-steady plan) r (called plan calls.Fire r (arrived at s)).1 (set_device r next (arrived at s))
+      answered = answer-steady plan (tell_first plan) (telling-steady plan) r (called plan calls.Fire r (arrived at s)).1 (set_device r next (arrived at s))
 
       here : switches_at after_alarm r ≡ fired.switches
       here =
@@ -531,15 +524,15 @@ module _ (plan : PlanView) where
               fired-heard ls s r is.0 at h.heard h.calm is.1 later allowed.0.due
               (λ n t due. elim (allowed.0.least (switch n) t due) [ inl past ↦ past | inr never ↦ absurd never.1 ]) still
           | inr not ↦
-              let other = call-other plan valid.entries own right (confirm_entry plan) calls.Fire r (arrived at s) (due-within plan valid own right s r at h.calm allowed.0.due) not in
-              let steady = other-steady plan other in
-              let now = other.moment in
+              let goes = other-plays plan valid.entries own right IsNoCall calls.Fire r (arrived at s) (due-within plan valid own right s r at h.calm allowed.0.due) not in
+              let steady = plays-steady plan no_call-keeping goes in
+              let now = steady.moment in
               on-heard ls (ls ++ (begin plan (Alarm at (device r)) s).lines) s (begin plan (Alarm at (device r)) s) (omega (arith, later, now))
               (λ n t due. inl (ap (λ (v : SwitchesView). due_of v n) (sym still) ∙ due))
               (λ n fast. ap (λ (v : SwitchesView). due_of v n) still ∙ h.heard.quick n fast)
               steady.switches
               (λ n. flat_map-append (λ l. change_at n l.moment l.happening) ls (begin plan (Alarm at (device r)) s).lines
-              ∙ (ap (λ xs. changes_of n ls ++ xs) (other.changes n) ∙ append-nil (changes_of n ls)))
+              ∙ (ap (λ xs. changes_of n ls ++ xs) (steady.changes n) ∙ append-nil (changes_of n ls)))
               (λ n. ap (λ (v : SwitchesView). active_at v n) still) (subst AreRead (sym still) h.heard.reads) h.heard
         ]
     begin-heard before (Alarm at (switch n)) s allowed h =

@@ -24,13 +24,13 @@ use Rattle.device_objects.specs.DeviceStep.{ball_answer, device_step, first_stat
 use Rattle.plan_tables.specs.BallRows.{AreApart, BookingsAreRight, IsNoBallDevice, IsSwitchOf}
 use Rattle.written_machine.specs.SwitchLines.{changes_of}
 use Rattle.written_machine.specs.Devices.{ActsAreOwn}
-use Rattle.written_machine.specs.Machine.{Machine, set_device, all_do, world_of, device_at, do_answer_by, confirm_entry, tell_listener}
-use Rattle.written_machine.proofs.BallPlays.{is_ball, not_both, one_row, call-other}
+use Rattle.written_machine.specs.Machine.{Machine, set_device, all_do, world_of, device_at, do_answer_by, tell_first, tell_listener}
+use Rattle.written_machine.proofs.BallPlays.{is_ball, not_both, one_row, other-plays, IsNoCall}
 use Rattle.written_machine.proofs.BallCalm.{no_lag, IsCalm, other-calm}
-use Rattle.written_machine.proofs.BallCalls.{call-calm}
+use Rattle.written_machine.proofs.BallCalls.{call-calm, plays-calm, no_call-usual}
 use Rattle.written_machine.proofs.BallRuns.{usual-listener}
 use Rattle.written_machine.proofs.BallCounting.{is_for, is_heard, pairs-head, pairs-tail}
-use Rattle.written_machine.proofs.BallSteady.{ball_of, switches_at}
+use Rattle.written_machine.proofs.BallSteady.{ball_of, switches_at, plays-steady, no_call-keeping}
 
 -- a ball switch of a row
 abbrev pub ball_switch : Machine → RowId → ℕ → BallSwitch
@@ -209,7 +209,7 @@ module _ (plan : PlanView) (valid : IsValid plan) (own : ActsAreOwn plan) (right
             let told = call-calm plan valid right (calls.Act (act_of_listener active l)) l.row is.0 fit.within is.1 (usual-listener active l) s calm in
             let path = called-is l is.0 is.1 fit s calm in
             let states_after : (P : Machine → Type 0) → P (after l is.0 is.1 fit s calm) → P (tell_listener plan active l s) =
-            λ P h. subst (λ (a : DeviceState × List ℕ). P (do_answer_by plan (confirm_entry plan) l.row a.1 (set_device l.row a.0 s))) (sym path) h in
+            λ P h. subst (λ (a : DeviceState × List ℕ). P (do_answer_by plan (tell_first plan) l.row a.1 (set_device l.row a.0 s))) (sym path) h in
             record {
               moment = states_after (λ t. t.moment ≡ s.moment) refl;
               changes = λ n. states_after (λ t. changes_of n t.lines ≡ changes_of n s.lines) refl;
@@ -220,16 +220,17 @@ module _ (plan : PlanView) (valid : IsValid plan) (own : ActsAreOwn plan) (right
                   ∙ ap (λ (b : Bool). cond b (noted e active s.moment (ball_switch s r j)) (ball_switch s r j)) (sym (or_none (is_for r j l))));
             }
         | inr not ↦
-            let other = call-other plan valid.entries own right (confirm_entry plan) (calls.Act (act_of_listener active l)) l.row s fit.within not in
+            let goes = other-plays plan valid.entries own right IsNoCall (calls.Act (act_of_listener active l)) l.row s fit.within not in
+            let steady = plays-steady plan no_call-keeping goes in
             record {
-              moment = other.moment;
-              changes = other.changes;
-              calm = other-calm plan other calm;
+              moment = steady.moment;
+              changes = steady.changes;
+              calm = plays-calm plan valid right no_call-usual goes calm;
               switches = λ r e j of.
                   let elsewhere : (l.row.0 == r.0) ≡ false =
                   ne_eqb l.row.0 r.0 (λ same. not_both (row_at plan r).settings e of (subst IsNoBallDevice (one_row plan l.row r same) not)) in
                   let not_for : (is_for r j l || false) ≡ false = ap (λ (b : Bool). (b && l.switch == j) || false) elsewhere in
-                  ap (λ (x : DeviceState). get_or (ball_of x).switches j empty) (other.balls r e of)
+                  ap (λ (bs : List BallSwitch). get_or bs j empty) (steady.switches r e of)
                   ∙ ap (λ (b : Bool). cond b (noted e active s.moment (ball_switch s r j)) (ball_switch s r j)) (sym not_for);
             }
       ]

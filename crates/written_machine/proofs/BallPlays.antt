@@ -1,6 +1,6 @@
 -- What the parts of the machine do with balls: a ball device is called, a ball has arrived on the playfield, or nothing
 -- that concerns balls happens.
-use Rattle.std.proofs.Common.{◌≡◌, ℕ, ℤ, ◌<◌, ◌==◌, ◌&&◌, inl, inr, ◌⊎◌, if◌then◌else◌, Bool, true, false, Option, Some, None, List, [], ◌∷◌, ◌++◌, length, refl, sym, ap, ◌∙◌, subst, arith}
+use Rattle.std.proofs.Common.{◌≡◌, ℕ, ℤ, ◌<◌, ◌==◌, ◌&&◌, inl, inr, ◌⊎◌, if◌then◌else◌, Bool, true, false, Option, Some, None, List, [], ◌∷◌, ◌++◌, length, refl, sym, ap, ◌∙◌, subst, arith, zero, suc}
 use Rattle.std.specs.List.{All, filter, range_with_len}
 use Rattle.std.proofs.lemmas.Bool.{cases_lt, false≢true}
 use Rattle.std.proofs.lemmas.List.{append-nil, get_or_past, length-set, get_or-set_other}
@@ -8,7 +8,7 @@ use Rattle.std.proofs.lemmas.List.Concat.{flat_map-append}
 use Rattle.std.proofs.lemmas.List.Elements.{All-head, All-tail, All-get_or, All-nil, All-map, All-filter, All-from_get_or, filter_passes}
 use Rattle.std.proofs.lemmas.List.FromFn.{length-range_with_len, get_or-range_with_len}
 use Rattle.std.proofs.lemmas.List.Sorted.{All-permutation}
-use Rattle.plan_tables.specs.PlanView.{PlanView, act_of_listener, actions_at, binding_at, coil_numbers, first_trough, game_event, may_hold_ball_end, is_owner, is_trough, list_of_row, listeners_of, mode_event, no_binding, no_row, no_switch, places_of, posts_of, row_at, row_numbers, rows_of, switch_at, work_of}
+use Rattle.plan_tables.specs.PlanView.{PlanView, act_of_listener, actions_at, binding_at, coil_numbers, first_trough, game_event, may_hold_ball_end, is_owner, is_trough, list_of_row, listeners_of, mode_event, no_binding, no_row, no_switch, places_of, posts_of, row_at, row_numbers, rows_of, switch_at, work_of, is_multiball, is_save, multiball_rows, save_rows}
 use Rattle.plan_tables.specs.Valid.{HasEntries, IsBindingWithin, IsListenerWithin, IsTargetWithin}
 use Rattle.plan_tables.specs.Devices.{list_count}
 use Rattle.plan_tables.specs.declared.devices.Act.TheVariants as acts
@@ -18,7 +18,7 @@ use Rattle.plan_tables.specs.declared.devices.RowId.{RowId}
 use Rattle.plan_tables.specs.declared.devices.Settings.{Settings}
 use Rattle.plan_tables.specs.declared.devices.Settings.TheVariants as kinds
 use Rattle.plan_tables.specs.declared.entries.Action.{Action}
-use Rattle.plan_tables.specs.declared.entries.Action.TheVariants.{Post, Pulse, Enable, Disable, Change as ChangeVariable, Enter, Leave, Lose, Arrive}
+use Rattle.plan_tables.specs.declared.entries.Action.TheVariants.{Post, Pulse, Enable, Disable, Change as ChangeVariable, Enter, Leave, Lose, Arrive, Request, AddBalls}
 use Rattle.plan_tables.specs.declared.entries.BindingId.{BindingId}
 use Rattle.plan_tables.specs.declared.entries.CoilId.{CoilId}
 use Rattle.plan_tables.specs.declared.entries.EventId.{EventId}
@@ -52,18 +52,24 @@ use Rattle.event_queue.specs.Handlers.{runs_at, handlers, IsHandlerOrder}
 use Rattle.mode_stack.specs.ModeStep.{starts, started, stopped, stop_answer, entered, ended}
 use Rattle.mode_stack.specs.Modes.{needs_game, mode_state, running_of}
 use Rattle.player_game.specs.Players.{is_met, changed_to, after_change, score_of}
-use Rattle.plan_tables.specs.declared.entries.GameEvent.TheVariants.{BallEnded}
-use Rattle.player_game.specs.GameStep.{GameStep, ends_ball, game_step}
+use Rattle.plan_tables.specs.declared.entries.GameEvent.TheVariants.{BallEnded, BallDrain}
+use Rattle.player_game.specs.GameStep.{GameStep, ends_ball, game_step, missing, more_balls, in_play}
 use Rattle.switch_core.specs.declared.change.Change.{Change}
 use Rattle.written_machine.specs.declared.line.Happening.{Happening}
 use Rattle.written_machine.specs.declared.line.Happening.TheVariants as lines
-use Rattle.plan_tables.specs.BallRows.{BooksNothing, actions_in, BooksRightly, IsNoBallDevice, IsOwnBallDevice, IsOffBalls, BookingsAreRight}
+use Rattle.plan_tables.specs.BallRows.{BooksNothing, actions_in, BooksRightly, IsNoBallDevice, IsOwnBallDevice, IsOffBalls, BookingsAreRight, IsPlain}
 use Rattle.written_machine.specs.SwitchLines.{change_at, changes_of}
 use Rattle.written_machine.specs.EventStep.{taken, do_before, do_after, is_kept, before_handlers, after_event, handlers_in}
 use Rattle.written_machine.specs.Devices.{ActsAreOwn}
 use Rattle.written_machine.proofs.Does.{begun_mode}
-use Rattle.written_machine.specs.Machine.{Machine, write, post, set_mode, set_device, set_coils, set_players, set_game, all_do, has_game, post_if, release_ball_end, drop_hold, start_mode, is_post, stop_mode, told, ask_coil, release_coil, release_coils, tell_change, do_action_by, do_list_by, world_of, device_state, device_at, called, call_device_by, confirm_first_away, confirm_entry, call_device, call_devices, do_target, do_handler, home_of, write_final, write_finals, ask_trough, ask_ball, do_step, tell_listener, tell_listeners, confirm_on_playfield}
+use Rattle.plan_tables.specs.declared.devices.Telling.{Telling}
+use Rattle.plan_tables.specs.declared.devices.Telling.TheVariants.{Arrived, Wanted}
+use Rattle.written_machine.specs.Machine.{Machine, write, post, set_mode, set_device, set_coils, set_players, set_game, all_do, has_game, post_if, release_ball_end, drop_hold, start_mode, is_post, stop_mode, told, ask_coil, release_coil, release_coils, tell_change, do_action_by, do_list_by, world_of, device_state, device_at, called, call_device_by, tell_first, call_device, call_devices, do_target, do_handler, home_of, write_final, write_finals, ask_ball, do_step, tell_listener, tell_listeners, confirm_on_playfield, do_action, do_list, end_multiballs, first_active_save, want_balls, step_game, drain_ball, do_game}
 use Rattle.written_machine.proofs.BallFeeders.{find-found}
+use Rattle.player_game.specs.Choices.{is_drain}
+use Rattle.written_machine.proofs.Feeding.{All-at, multiballs-within, first_active_save-is}
+use Rattle.written_machine.specs.Moves.{step_now}
+use Rattle.plan_tables.specs.declared.entries.GameEvent.{GameEvent}
 
 -- ---- what does not concern balls
 
@@ -75,13 +81,19 @@ pub record IsOther (plan : PlanView) (s t : Machine) : Type 0 where
   pub balls : (r : RowId) (d : BallSettings) → (row_at plan r).settings ≡ kinds.BallDevice d → device_at t r ≡ device_at s r
   pub changes : (n : SwitchId) → changes_of n t.lines ≡ changes_of n s.lines
 
--- The machine goes on by what does not concern balls, by such calls of ball devices, and by arrivals on the playfield.
+-- The machine goes on by what does not concern balls, by such calls of ball devices, by arrivals on the playfield, and by
+-- requests for balls.
 pub data Plays (plan : PlanView) (may : Call → Type 0) : Machine → Machine → Type 0 where
   still : {s t : Machine} → IsOther plan s t → Plays plan may s t
   ball : (call : Call) (r : RowId) (d : BallSettings) (s : Machine) → r.0 < length plan.rows
       → (row_at plan r).settings ≡ kinds.BallDevice d → may call → Plays plan may s (call_device plan call r s)
-  arrival : (s : Machine) → Plays plan may s (confirm_first_away plan Playfield s)
+  arrival : (s : Machine) → Plays plan may s (tell_first plan (Arrived Playfield) s)
+  request : (n : ℕ) (s : Machine) → Plays plan may s (tell_first plan (Wanted n) s)
   both : {s m t : Machine} → Plays plan may s m → Plays plan may m t → Plays plan may s t
+
+-- no ball device is called but by what it is told
+abbrev pub IsNoCall : Call → Type 0
+IsNoCall call = ⊥
 
 -- the line is not that of a switch
 abbrev pub IsNoChange : Happening → Type 0
@@ -111,6 +123,32 @@ is_ball (kinds.Timer t) = inr tt
 is_ball (kinds.Bank b) = inr tt
 is_ball kinds.Flipper = inr tt
 is_ball kinds.Autofire = inr tt
+is_ball (kinds.BallSave b) = inr tt
+is_ball (kinds.Multiball m) = inr tt
+
+save-no_ball : (settings : Settings) → is_save settings ≡ true → IsNoBallDevice settings
+save-no_ball (kinds.BallDevice d) is = absurd (false≢true is)
+save-no_ball (kinds.Counter c) is = tt
+save-no_ball (kinds.Accrual a) is = tt
+save-no_ball (kinds.Sequence q) is = tt
+save-no_ball (kinds.Timer t) is = tt
+save-no_ball (kinds.Bank b) is = tt
+save-no_ball kinds.Flipper is = tt
+save-no_ball kinds.Autofire is = tt
+save-no_ball (kinds.BallSave b) is = tt
+save-no_ball (kinds.Multiball m) is = tt
+
+multiball-no_ball : (settings : Settings) → is_multiball settings ≡ true → IsNoBallDevice settings
+multiball-no_ball (kinds.BallDevice d) is = absurd (false≢true is)
+multiball-no_ball (kinds.Counter c) is = tt
+multiball-no_ball (kinds.Accrual a) is = tt
+multiball-no_ball (kinds.Sequence q) is = tt
+multiball-no_ball (kinds.Timer t) is = tt
+multiball-no_ball (kinds.Bank b) is = tt
+multiball-no_ball kinds.Flipper is = tt
+multiball-no_ball kinds.Autofire is = tt
+multiball-no_ball (kinds.BallSave b) is = tt
+multiball-no_ball (kinds.Multiball m) is = tt
 
 pub not_both : (settings : Settings) (d : BallSettings) → settings ≡ kinds.BallDevice d → IsNoBallDevice settings → ⊥
 not_both settings d is not = subst IsNoBallDevice is not
@@ -178,8 +216,9 @@ module _ (plan : PlanView) where
   change-other owner player v e (Some value) s =
       then-other (write-other owner (lines.Player player v value) s tt) (post-other owner e (write owner (lines.Player player v value) s))
 
-  pub action-other : (confirm : RowId → Machine → Machine) (owner : Owner) (a : Action) (s : Machine) → BooksNothing a
-      → IsOther plan s (do_action_by plan confirm owner a s)
+  -- an action that books nothing, and tells no other device anything
+  pub action-other : (tell : Telling → Machine → Machine) (owner : Owner) (a : Action) (s : Machine) → IsPlain a
+      → IsOther plan s (do_action_by plan tell owner a s)
   action-other confirm owner (Post e) s none = post-other owner e s
   action-other confirm owner (Pulse coil ms power) s none = ask-other owner (commands.Pulse coil ms power) s
   action-other confirm owner (Enable coil power) s none = ask-other owner (commands.Enable coil power) s
@@ -192,11 +231,45 @@ module _ (plan : PlanView) where
   action-other confirm owner (Leave r) s none = absurd none
   action-other confirm owner (Lose r) s none = absurd none
   action-other confirm owner (Arrive r) s none = absurd none
+  action-other confirm owner (Request n) s none = absurd none
+  action-other confirm owner (AddBalls n) s none = absurd none
 
-  pub list-other : (confirm : RowId → Machine → Machine) (owner : Owner) (l : ListId) → All BooksNothing (actions_at plan l)
-      → (s : Machine) → IsOther plan s (do_list_by plan confirm owner l s)
-  list-other confirm owner l none s =
-      all-other (do_action_by plan confirm owner) BooksNothing (action-other confirm owner) (actions_at plan l) none s
+  pub list-other : (tell : Telling → Machine → Machine) (owner : Owner) (l : ListId) → All IsPlain (actions_at plan l)
+      → (s : Machine) → IsOther plan s (do_list_by plan tell owner l s)
+  list-other tell owner l none s =
+      all-other (do_action_by plan tell owner) IsPlain (action-other tell owner) (actions_at plan l) none s
+
+  -- one after another
+  pub all-play : {X : Type 0} {may : Call → Type 0} (f : X → Machine → Machine) (Q : X → Type 0) → ((x : X) (s : Machine) → Q x → Plays plan may s (f x s))
+      → (xs : List X) → All Q xs → (s : Machine) → Plays plan may s (all_do f xs s)
+  all-play f Q each [] all s = still (nothing-other s)
+  all-play f Q each (x ∷ xs) all s =
+      both (each x s (All-head Q x xs all)) (all-play f Q each xs (All-tail Q x xs all) (f x s))
+
+  module _ (may : Call → Type 0) where
+    -- balls that are wanted, if any
+    want-plays : (n : ℕ) (s : Machine) → Plays plan may s (want_balls (tell_first plan) n s)
+    want-plays zero s = still (nothing-other s)
+    want-plays (suc n) s = request (suc n) s
+
+    -- an action that books nothing may ask for balls
+    action-plays : (owner : Owner) (a : Action) (s : Machine) → BooksNothing a → Plays plan may s (do_action plan owner a s)
+    action-plays owner (Post e) s none = still (action-other (tell_first plan) owner (Post e) s tt)
+    action-plays owner (Pulse coil ms power) s none = still (action-other (tell_first plan) owner (Pulse coil ms power) s tt)
+    action-plays owner (Enable coil power) s none = still (action-other (tell_first plan) owner (Enable coil power) s tt)
+    action-plays owner (Disable coil) s none = still (action-other (tell_first plan) owner (Disable coil) s tt)
+    action-plays owner (ChangeVariable v action n e) s none = still (action-other (tell_first plan) owner (ChangeVariable v action n e) s tt)
+    action-plays owner (Enter r e drain) s none = absurd none
+    action-plays owner (Leave r) s none = absurd none
+    action-plays owner (Lose r) s none = absurd none
+    action-plays owner (Arrive r) s none = absurd none
+    action-plays owner (Request n) s none = request n s
+    action-plays owner (AddBalls n) s none =
+        let more = set_game (more_balls n s.game) s in
+        both (still (same-other s more refl refl refl refl)) (want-plays (missing n s.game) more)
+
+    list-plays : (owner : Owner) (l : ListId) → All BooksNothing (actions_at plan l) → (s : Machine) → Plays plan may s (do_list plan owner l s)
+    list-plays owner l none s = all-play (do_action plan owner) BooksNothing (action-plays owner) (actions_at plan l) none s
 
   -- ---- devices
 
@@ -224,15 +297,18 @@ module _ (plan : PlanView) where
   books-nothing r (kinds.Bank b) not books k below = books k below
   books-nothing r kinds.Flipper not books k below = books k below
   books-nothing r kinds.Autofire not books k below = books k below
+  books-nothing r (kinds.BallSave b) not books k below = books k below
+  books-nothing r (kinds.Multiball m) not books k below = books k below
 
   module _ (entries : HasEntries plan) (own : ActsAreOwn plan) (right : BookingsAreRight plan) where
-    pub call-other : (confirm : RowId → Machine → Machine) (call : Call) (r : RowId) (s : Machine) → r.0 < length plan.rows
-        → IsNoBallDevice (row_at plan r).settings → IsOther plan s (call_device_by plan confirm call r s)
-    call-other confirm call r s within not =
+    -- a device that is no ball device
+    pub other-plays : (may : Call → Type 0) (call : Call) (r : RowId) (s : Machine) → r.0 < length plan.rows
+        → IsNoBallDevice (row_at plan r).settings → Plays plan may s (call_device plan call r s)
+    other-plays may call r s within not =
         let next = called plan call r s in
-        then-other (turned-other r next.0 s not)
-        (all-other (λ k. do_list_by plan confirm (row_at plan r).owner (list_of_row plan r k)) (λ k. k < list_count (row_at plan r).settings)
-        (λ k t below. list-other confirm (row_at plan r).owner (list_of_row plan r k)
+        both (still (turned-other r next.0 s not))
+        (all-play (λ k. do_list plan (row_at plan r).owner (list_of_row plan r k)) (λ k. k < list_count (row_at plan r).settings)
+        (λ k t below. list-plays may (row_at plan r).owner (list_of_row plan r k)
         (books-nothing r (row_at plan r).settings not (right.rows r within) k below) t) next.1
         (lists_are_of_the_row (row_at plan r).settings call s.moment (world_of s) (device_at s r)) (set_device r next.0 s))
 
@@ -253,15 +329,6 @@ module _ (plan : PlanView) where
     record IsOfMode (m : ModeId) (r : RowId) : Type 0 where
       its : is_owner (owners.Mode m) (row_at plan r).owner ≡ true
       within : r.0 < length plan.rows
-
-    devices-other : (call : Call) (m : ModeId) (s : Machine) → IsOther plan s (call_devices plan call m s)
-    devices-other call m s =
-        let test : RowId → Bool = λ r. is_owner (owners.Mode m) (row_at plan r).owner in
-        let passes = filter_passes test (row_numbers plan) in
-        let within = All-filter test (λ r. r.0 < length plan.rows) (row_numbers plan) (rows-within plan) in
-        all-other (call_device plan call) (IsOfMode m)
-        (λ r t of. call-other (confirm_entry plan) call r t of.within (no_mode_has_balls m r of.within of.its))
-        (rows_of plan (owners.Mode m)) (λ k d there. record { its = passes k d there; within = within k d there }) s
 
     -- ---- targets
 
@@ -292,23 +359,6 @@ module _ (plan : PlanView) where
             (post_if-other (ends_ball m s.game) (game_event plan BallEnded) (drop_hold m s))
         by false = nothing-other s
 
-    target-other : (owner : Owner) (t : Target) (s : Machine) → IsOffBalls plan t → IsTargetWithin plan t
-        → IsOther plan s (do_target plan owner t s)
-    target-other owner (Run l) s off within = list-other (confirm_entry plan) owner l off s
-    target-other owner (Start m) s off within = start-other m s
-    target-other owner (Stop m) s off within = stop-other m s
-    target-other owner (ActOn r act) s off within = call-other (confirm_entry plan) (calls.Act act) r s within off
-
-    handler-other : (place : BindingId) (s : Machine) → place.0 < length plan.bindings → IsOther plan s (do_handler plan place s)
-    handler-other place s within = by (is_met plan s.players (binding_at plan place).condition)
-      where
-        by : (met : Bool) → IsOther plan s (if met then do_target plan (binding_at plan place).owner (binding_at plan place).target s else s)
-        by true =
-            target-other (binding_at plan place).owner (binding_at plan place).target s
-            (All-get_or (λ b. IsOffBalls plan b.target) plan.bindings place.0 no_binding within right.bindings)
-            (All-get_or (IsBindingWithin plan) plan.bindings place.0 no_binding within entries.bindings).2
-        by false = nothing-other s
-
     -- the places of handlers are those of bindings
     numbers-below : (n : ℕ) → All (λ k. k < n) (range_with_len 0 n)
     numbers-below n =
@@ -321,14 +371,6 @@ module _ (plan : PlanView) where
         All-map (λ (p : BindingId). p.0 < length plan.bindings) (λ n. record { 0 = n }) (filter test (range_with_len 0 (length plan.bindings)))
         (All-filter test (λ n. n < length plan.bindings) (range_with_len 0 (length plan.bindings)) (numbers-below (length plan.bindings)))
 
-    handlers-other : (s : Machine) (e : EventId) (order : List BindingId) → IsHandlerOrder plan (handlers_in plan s e) order
-        → IsOther plan s (all_do (do_handler plan) order s)
-    handlers-other s e order h =
-        let within : BindingId → Type 0 = λ p. p.0 < length plan.bindings in
-        all-other (do_handler plan) within handler-other order
-        (All-permutation within (handlers plan (running_of s.modes) e) order h.permutation
-        (All-filter (runs_at plan (running_of s.modes)) within (places_of plan e) (places-within e))) s
-
     -- ---- the machine's work
 
     releases-other : (owner : Owner) (s : Machine) → IsOther plan s (release_coils plan owner s)
@@ -339,17 +381,6 @@ module _ (plan : PlanView) where
         one : (coil : CoilId) (t : Machine) (held : Bool) → IsOther plan t (if held then ask_coil owner (commands.Disable coil) t else t)
         one coil t true = ask-other owner (commands.Disable coil) t
         one coil t false = nothing-other t
-
-    before-other : (w : Work) (s : Machine) → IsOther plan s (do_before plan w s)
-    before-other Nothing s = nothing-other s
-    before-other (Mode m WillStart) s = nothing-other s
-    before-other (Mode m Starting) s = nothing-other s
-    before-other (Mode m Started) s =
-        let active = set_mode m (entered (mode_state s.modes m)) s in
-        then-other (same-other s active refl refl refl refl) (devices-other calls.ModeStart m active)
-    before-other (Mode m Stopping) s = nothing-other s
-    before-other (Mode m Stopped) s = nothing-other s
-    before-other (Game which) s = nothing-other s
 
     finals-other : (b : Bool) (s : Machine) → IsOther plan s (write_finals plan b s)
     finals-other true s =
@@ -369,14 +400,8 @@ module _ (plan : PlanView) where
       call-plays call r s within allowed =
           elim (is_ball (row_at plan r).settings) [
             | inl is ↦ ball call r is.0 s within is.1 allowed
-            | inr not ↦ still (call-other (confirm_entry plan) call r s within not)
+            | inr not ↦ other-plays may call r s within not
           ]
-
-      pub all-play : {X : Type 0} (f : X → Machine → Machine) (Q : X → Type 0) → ((x : X) (s : Machine) → Q x → Plays plan may s (f x s))
-          → (xs : List X) → All Q xs → (s : Machine) → Plays plan may s (all_do f xs s)
-      all-play f Q each [] all s = still (nothing-other s)
-      all-play f Q each (x ∷ xs) all s =
-          both (each x s (All-head Q x xs all)) (all-play f Q each xs (All-tail Q x xs all) (f x s))
 
       -- ---- switches
 
@@ -401,56 +426,131 @@ module _ (plan : PlanView) where
           both (confirms (a.active && (switch_at plan a.switch).confirms_playfield))
           (still (posts-other (λ e. e) (posts_of plan a.switch a.active) (confirm_on_playfield plan a s)))
         where
-          confirms : (b : Bool) → Plays plan may s (if b then confirm_first_away plan Playfield s else s)
+          confirms : (b : Bool) → Plays plan may s (if b then tell_first plan (Arrived Playfield) s else s)
           confirms true = arrival s
           confirms false = still (nothing-other s)
 
+      -- ---- what is bound to events
+
+      target-plays : (owner : Owner) (t : Target) (s : Machine) → IsOffBalls plan t → IsTargetWithin plan t
+          → Plays plan may s (do_target plan owner t s)
+      target-plays owner (Run l) s off within = list-plays may owner l off s
+      target-plays owner (Start m) s off within = still (start-other m s)
+      target-plays owner (Stop m) s off within = still (stop-other m s)
+      target-plays owner (ActOn r act) s off within = other-plays may (calls.Act act) r s within off
+
+      handler-plays : (place : BindingId) (s : Machine) → place.0 < length plan.bindings → Plays plan may s (do_handler plan place s)
+      handler-plays place s within = by (is_met plan s.players (binding_at plan place).condition)
+        where
+          by : (met : Bool) → Plays plan may s (if met then do_target plan (binding_at plan place).owner (binding_at plan place).target s else s)
+          by true =
+              target-plays (binding_at plan place).owner (binding_at plan place).target s
+              (All-get_or (λ b. IsOffBalls plan b.target) plan.bindings place.0 no_binding within right.bindings)
+              (All-get_or (IsBindingWithin plan) plan.bindings place.0 no_binding within entries.bindings).2
+          by false = still (nothing-other s)
+
+      handlers-play : (s : Machine) (e : EventId) (order : List BindingId) → IsHandlerOrder plan (handlers_in plan s e) order
+          → Plays plan may s (all_do (do_handler plan) order s)
+      handlers-play s e order h =
+          let within : BindingId → Type 0 = λ p. p.0 < length plan.bindings in
+          all-play (do_handler plan) within handler-plays order
+          (All-permutation within (handlers plan (running_of s.modes) e) order h.permutation
+          (All-filter (runs_at plan (running_of s.modes)) within (places_of plan e) (places-within e))) s
+
+      -- ---- modes
+
+      devices-play : (call : Call) (m : ModeId) (s : Machine) → Plays plan may s (call_devices plan call m s)
+      devices-play call m s =
+          let test : RowId → Bool = λ r. is_owner (owners.Mode m) (row_at plan r).owner in
+          let passes = filter_passes test (row_numbers plan) in
+          let within = All-filter test (λ r. r.0 < length plan.rows) (row_numbers plan) (rows-within plan) in
+          all-play (call_device plan call) (IsOfMode m)
+          (λ r t of. other-plays may call r t of.within (no_mode_has_balls m r of.within of.its))
+          (rows_of plan (owners.Mode m)) (λ k d there. record { its = passes k d there; within = within k d there }) s
+
+      before-plays : (w : Work) (s : Machine) → Plays plan may s (do_before plan w s)
+      before-plays Nothing s = still (nothing-other s)
+      before-plays (Mode m WillStart) s = still (nothing-other s)
+      before-plays (Mode m Starting) s = still (nothing-other s)
+      before-plays (Mode m Started) s =
+          let active = set_mode m (entered (mode_state s.modes m)) s in
+          both (still (same-other s active refl refl refl refl)) (devices-play calls.ModeStart m active)
+      before-plays (Mode m Stopping) s = still (nothing-other s)
+      before-plays (Mode m Stopped) s = still (nothing-other s)
+      before-plays (Game which) s = still (nothing-other s)
+
       -- ---- the game, and events
 
-      module _ (asks : may (calls.Act (acts.Request 1))) where
-        trough-plays : (o : Option RowId) → first_trough plan ≡ o → (s : Machine) → Plays plan may s (ask_trough plan o s)
-        trough-plays None is s = still (nothing-other s)
-        trough-plays (Some r) is s =
-            let there = find-found (λ r. is_trough (row_at plan r).settings) (λ r. r.0 < length plan.rows) (row_numbers plan) (rows-within plan) (Some r) is in
-            call-plays (calls.Act (acts.Request 1)) r s there.1 asks
+      ask-plays : (b : Bool) (s : Machine) → Plays plan may s (ask_ball plan b s)
+      ask-plays true s = request 1 s
+      ask-plays false s = still (nothing-other s)
 
-        ask-plays : (b : Bool) (s : Machine) → Plays plan may s (ask_ball plan b s)
-        ask-plays true s = trough-plays (first_trough plan) refl s
-        ask-plays false s = still (nothing-other s)
+      step-plays : (step : GameStep) (s : Machine) → Plays plan may s (do_step plan step s)
+      step-plays step s =
+          let stepped = set_players step.players (set_game step.game s) in
+          let finals = write_finals plan step.finals stepped in
+          both (still (then-other (same-other s stepped refl refl refl refl) (finals-other step.finals stepped)))
+          (both (ask-plays step.requests finals)
+          (still (posts-other (game_event plan) step.posts (ask_ball plan step.requests finals))))
 
-        game-plays : (step : GameStep) (s : Machine) → Plays plan may s (do_step plan step s)
-        game-plays step s =
-            let stepped = set_players step.players (set_game step.game s) in
-            let finals = write_finals plan step.finals stepped in
-            both (still (then-other (same-other s stepped refl refl refl refl) (finals-other step.finals stepped)))
-            (both (ask-plays step.requests finals)
-            (still (posts-other (game_event plan) step.posts (ask_ball plan step.requests finals))))
+      -- ball saves and multiballs are no ball devices
+      saves-play : (r : RowId) → r.0 < length plan.rows → is_save (row_at plan r).settings ≡ true → (s : Machine) → Plays plan may s (call_device plan (calls.Act acts.Save) r s)
+      saves-play r within is s = other-plays may (calls.Act acts.Save) r s within (save-no_ball (row_at plan r).settings is)
 
-        after-plays : (kept : Bool) (w : Work) (s : Machine) → Plays plan may s (do_after plan kept w s)
-        after-plays kept Nothing s = still (nothing-other s)
-        after-plays kept (Mode m WillStart) s = still (post-other owners.Machine (mode_event plan m Starting) s)
-        after-plays kept (Mode m Starting) s = still (post-other owners.Machine (mode_event plan m Started) s)
-        after-plays true (Mode m Started) s = still (stop-other m s)
-        after-plays false (Mode m Started) s = still (nothing-other s)
-        after-plays kept (Mode m Stopping) s =
-            let over = call_devices plan calls.ModeStop m s in
-            let released = release_coils plan (owners.Mode m) over in
-            let idle = set_mode m (ended (mode_state s.modes m)) released in
-            still (then-other (devices-other calls.ModeStop m s) (then-other (releases-other (owners.Mode m) over)
-            (then-other (same-other released idle refl refl refl refl) (post-other owners.Machine (mode_event plan m Stopped) idle))))
-        after-plays kept (Mode m Stopped) s = still (release-other m s)
-        after-plays kept (Game which) s = game-plays (game_step plan.game plan which (home_of plan s) s.game s.players) s
+      record IsMultiball (r : RowId) : Type 0 where
+        within : r.0 < length plan.rows
+        is : is_multiball (row_at plan r).settings ≡ true
 
-        -- an event step
-        pub event-plays : (first : Posted) (rest : List Posted) (order : List BindingId) (s : Machine)
-            → IsHandlerOrder plan (handlers_in plan (before_handlers plan first rest s) first.event) order
-            → Plays plan may s (after_event plan first rest order s)
-        event-plays first rest order s in_order =
-            let fewer : Machine = record s { waiting = rest } in
-            let begun = taken first rest s in
-            let ready = before_handlers plan first rest s in
-            let done = all_do (do_handler plan) order ready in
-            both (still (then-other (same-other s fewer refl refl refl refl)
-            (then-other (write-other first.owner (lines.Event first.event) fewer tt)
-            (then-other (before-other (work_of plan first.event) begun) (handlers-other ready first.event order in_order)))))
-            (after-plays (is_kept (work_of plan first.event) s) (work_of plan first.event) done)
+      ends-play : (s : Machine) → Plays plan may s (end_multiballs plan s)
+      ends-play s = by (in_play s.game == 1)
+        where
+          by : (b : Bool) → Plays plan may s (if b then all_do (call_device plan (calls.Act acts.End)) (multiball_rows plan) s else s)
+          by true =
+              let passes = filter_passes (λ r. is_multiball (row_at plan r).settings) (row_numbers plan) in
+              all-play (call_device plan (calls.Act acts.End)) IsMultiball
+              (λ r t of. other-plays may (calls.Act acts.End) r t of.within (multiball-no_ball (row_at plan r).settings of.is))
+              (multiball_rows plan) (λ k d there. record { within = multiballs-within plan k d there; is = passes k d there }) s
+          by false = still (nothing-other s)
+
+      drained-plays : (s : Machine) (o : Option RowId) → first_active_save plan s ≡ o → Plays plan may s (drain_ball plan o s)
+      drained-plays s None is = both (step-plays (step_now plan BallDrain s) s) (ends-play (step_game plan BallDrain s))
+      drained-plays s (Some r) is =
+          let first = first_active_save-is plan s r is in
+          let saves = All-at (λ q. is_save (row_at plan q).settings ≡ true) (save_rows plan) r (filter_passes (λ q. is_save (row_at plan q).settings) (row_numbers plan)) first.listed in
+          saves-play r first.there saves s
+
+      game-plays : (which : GameEvent) (s : Machine) → Plays plan may s (do_game plan which s)
+      game-plays which s = by (is_drain which)
+        where
+          by : (b : Bool) → Plays plan may s (if b then drain_ball plan (first_active_save plan s) s else step_game plan which s)
+          by true = drained-plays s (first_active_save plan s) refl
+          by false = step-plays (step_now plan which s) s
+
+      after-plays : (kept : Bool) (w : Work) (s : Machine) → Plays plan may s (do_after plan kept w s)
+      after-plays kept Nothing s = still (nothing-other s)
+      after-plays kept (Mode m WillStart) s = still (post-other owners.Machine (mode_event plan m Starting) s)
+      after-plays kept (Mode m Starting) s = still (post-other owners.Machine (mode_event plan m Started) s)
+      after-plays true (Mode m Started) s = still (stop-other m s)
+      after-plays false (Mode m Started) s = still (nothing-other s)
+      after-plays kept (Mode m Stopping) s =
+          let over = call_devices plan calls.ModeStop m s in
+          let released = release_coils plan (owners.Mode m) over in
+          let idle = set_mode m (ended (mode_state s.modes m)) released in
+          both (devices-play calls.ModeStop m s) (still (then-other (releases-other (owners.Mode m) over)
+          (then-other (same-other released idle refl refl refl refl) (post-other owners.Machine (mode_event plan m Stopped) idle))))
+      after-plays kept (Mode m Stopped) s = still (release-other m s)
+      after-plays kept (Game which) s = game-plays which s
+
+      -- an event step
+      pub event-plays : (first : Posted) (rest : List Posted) (order : List BindingId) (s : Machine)
+          → IsHandlerOrder plan (handlers_in plan (before_handlers plan first rest s) first.event) order
+          → Plays plan may s (after_event plan first rest order s)
+      event-plays first rest order s in_order =
+          let fewer : Machine = record s { waiting = rest } in
+          let begun = taken first rest s in
+          let ready = before_handlers plan first rest s in
+          let done = all_do (do_handler plan) order ready in
+          both (still (then-other (same-other s fewer refl refl refl refl) (write-other first.owner (lines.Event first.event) fewer tt)))
+          (both (before-plays (work_of plan first.event) begun)
+          (both (handlers-play ready first.event order in_order)
+          (after-plays (is_kept (work_of plan first.event) s) (work_of plan first.event) done)))

@@ -34,24 +34,9 @@ use Rattle.written_machine.specs.Run.{switch, device, Stimulus, SwitchChange, Al
 use Rattle.written_machine.proofs.Keeps.{run-keeps}
 use Rattle.written_machine.proofs.BallSteps.{IsUsual}
 use Rattle.written_machine.proofs.BallFeeders.{filter-same}
-use Rattle.written_machine.proofs.BallPlays.{call-plays, listeners-play, accepted-plays, event-plays}
+use Rattle.written_machine.proofs.BallPlays.{call-plays, listeners-play, accepted-plays, event-plays, IsNoCall}
 use Rattle.written_machine.proofs.BallCalm.{balls_at, no_lag, IsCalm, feeder, calm-other}
-use Rattle.written_machine.proofs.BallCalls.{plays-calm}
-
--- only requests come with events
-abbrev pub IsRequest : Call → Type 0
-IsRequest calls.ModeStart = ⊥
-IsRequest calls.ModeStop = ⊥
-IsRequest calls.Fire = ⊥
-IsRequest (calls.Act (acts.Request n)) = Unit {0}
-IsRequest (calls.Act _) = ⊥
-
-pub request-usual : (call : Call) → IsRequest call → IsUsual call
-request-usual calls.ModeStart may = absurd may
-request-usual calls.ModeStop may = absurd may
-request-usual calls.Fire may = absurd may
-request-usual (calls.Act (acts.Request n)) may = tt
-request-usual (calls.Act _) may = absurd may
+use Rattle.written_machine.proofs.BallCalls.{plays-calm, no_call-usual}
 
 pub usual-listener : (active : Bool) (l : Listener) → IsUsual (calls.Act (act_of_listener active l))
 usual-listener true l = tt
@@ -110,7 +95,7 @@ module _ (plan : PlanView) where
     pub step-calm : (s t : Machine) → EventStep plan s t → IsCalm plan no_lag s → IsCalm plan no_lag t
     step-calm s t st h =
         subst (IsCalm plan no_lag) (sym st.new_is)
-        (plays-calm plan valid right request-usual (event-plays plan valid.entries own right IsRequest tt st.first st.rest st.order s st.in_order) h)
+        (plays-calm plan valid right no_call-usual (event-plays plan valid.entries own right IsNoCall st.first st.rest st.order s st.in_order) h)
 
     -- ---- stimuli
 
@@ -123,7 +108,7 @@ module _ (plan : PlanView) where
     accepted-calm a s h =
         let written = write owners.Machine (lines.Switch a.switch a.active) s in
         let heard = plays-calm plan valid right {may = IsUsual} (λ call may. may) (listeners-play plan valid.entries own right IsUsual a written (usual-listener a.active)) (same-calm s written refl refl h) in
-        plays-calm plan valid right request-usual (accepted-plays plan valid.entries own right IsRequest a (tell_listeners plan a written)) heard
+        plays-calm plan valid right no_call-usual (accepted-plays plan valid.entries own right IsNoCall a (tell_listeners plan a written)) heard
 
     if_accepted-calm : (o : Option Change) (s : Machine) → IsCalm plan no_lag s → IsCalm plan no_lag (do_if_accepted plan o s)
     if_accepted-calm None s h = h

@@ -1,9 +1,9 @@
 -- Only the calls of switches, and alarms, concern the ball switches of a device.
-use Rattle.std.proofs.Common.{◌≡◌, ℕ, ◌+◌, ◌&&◌, inl, inr, if◌then◌else◌, nat_le, Bool, true, false, Option, Some, None, List, [], ◌∷◌, length, refl, sym, ap, ◌∙◌, subst}
+use Rattle.std.proofs.Common.{◌≡◌, ℕ, ◌+◌, ◌&&◌, inl, inr, if◌then◌else◌, nat_le, Bool, true, false, Option, Some, None, List, [], ◌∷◌, length, refl, sym, ap, ◌∙◌, subst, min, zero, suc}
 use Rattle.std.proofs.lemmas.Bool.{cases_eq, cases_lt, cond_both}
 use Rattle.std.proofs.lemmas.List.{append-nil, length-set, get_or-set_same, get_or-set_other, set_past}
 use Rattle.std.proofs.lemmas.List.Concat.{flat_map-append}
-use Rattle.plan_tables.specs.PlanView.{PlanView, actions_at, game_event, list_of_row, no_row, row_at, target_of}
+use Rattle.plan_tables.specs.PlanView.{PlanView, actions_at, game_event, list_of_row, no_row, row_at, target_of, act_told}
 use Rattle.plan_tables.specs.declared.devices.Act.TheVariants as acts
 use Rattle.plan_tables.specs.declared.devices.BallSettings.{BallSettings}
 use Rattle.plan_tables.specs.declared.devices.BallTarget.{BallTarget}
@@ -12,7 +12,7 @@ use Rattle.plan_tables.specs.declared.devices.RowId.{RowId}
 use Rattle.plan_tables.specs.declared.devices.Settings.{Settings}
 use Rattle.plan_tables.specs.declared.devices.Settings.TheVariants as kinds
 use Rattle.plan_tables.specs.declared.entries.Action.{Action}
-use Rattle.plan_tables.specs.declared.entries.Action.TheVariants.{Post, Pulse, Enable, Disable, Change as ChangeVariable, Enter, Leave, Lose, Arrive}
+use Rattle.plan_tables.specs.declared.entries.Action.TheVariants.{Post, Pulse, Enable, Disable, Change as ChangeVariable, Enter, Leave, Lose, Arrive, Request, AddBalls}
 use Rattle.plan_tables.specs.declared.entries.GameEvent.TheVariants.{BallDrain}
 use Rattle.plan_tables.specs.declared.entries.Owner.{Owner}
 use Rattle.plan_tables.specs.declared.entries.SwitchId.{SwitchId}
@@ -33,14 +33,16 @@ use Rattle.device_objects.specs.declared.state.World.{World}
 use Rattle.device_objects.specs.BallDevice.{begin, confirm, ended, requested, ball_step}
 use Rattle.device_objects.specs.BallDevice as balls
 use Rattle.device_objects.specs.DeviceStep.{device_step, first_state}
-use Rattle.player_game.specs.GameStep.{is_ball_on}
+use Rattle.player_game.specs.GameStep.{is_ball_on, missing, more_balls}
 use Rattle.written_machine.specs.declared.line.Happening.TheVariants as lines
 use Rattle.written_machine.specs.declared.line.Line.{Line}
 use Rattle.written_machine.specs.SwitchLines.{change_at, changes_of}
-use Rattle.written_machine.specs.Machine.{Machine, post, set_device, set_ledger, all_do, counts_of, book, drain_if, after_entry, do_action_by, do_list_by, world_of, device_state, device_at, called, do_answer_by, call_device_by, first_away, no_confirm, confirm_of, confirm_first_away, confirm_entry}
+use Rattle.plan_tables.specs.declared.devices.Telling.{Telling}
+use Rattle.plan_tables.specs.declared.devices.Telling.TheVariants.{Arrived, Wanted}
+use Rattle.written_machine.specs.Machine.{Machine, post, set_device, set_ledger, all_do, counts_of, book, drain_if, after_entry, do_action_by, do_list_by, world_of, device_state, device_at, called, do_answer_by, call_device_by, first_away, tell_nobody, tell_device, tell_first, told_device, want_balls, set_game}
 use Rattle.written_machine.proofs.Does.{book-by}
 use Rattle.written_machine.proofs.BallSteps.{begin-begun}
-use Rattle.written_machine.proofs.BallPlays.{IsOther, one_row, post-other, action-other, Plays, still, ball, arrival, both}
+use Rattle.written_machine.proofs.BallPlays.{IsOther, one_row, post-other, action-other, Plays, still, ball, arrival, both, IsNoCall, request, same-other}
 
 -- the state of a ball device
 abbrev pub ball_of : DeviceState → BallState
@@ -67,6 +69,9 @@ IsKeeping (calls.Act acts.Confirm) = Unit {0}
 IsKeeping (calls.Act (acts.Request n)) = Unit {0}
 IsKeeping (calls.Act _) = ⊥
 
+pub no_call-keeping : (call : Call) → IsNoCall call → IsKeeping call
+no_call-keeping call none = absurd none
+
 module _ (d : BallSettings) where
   confirm-switches : (now : ℕ) (eject : Eject) (b : BallState) → (confirm d now eject b).0.switches ≡ b.switches
   confirm-switches now Idle b = refl
@@ -75,8 +80,8 @@ module _ (d : BallSettings) where
 
   request-switches : (n now : ℕ) (b : BallState) → (requested d n now b).0.switches ≡ b.switches
   request-switches n now b =
-      let more : BallState = record b { wanted = b.wanted + n } in
-      cond_both (d.trough && nat_le (b.wanted + n) 255) (begin d now more) (b, []) (λ a. a.0.switches ≡ b.switches)
+      let more : BallState = record b { wanted = min (b.wanted + n) 255 } in
+      cond_both d.trough (begin d now more) (b, []) (λ a. a.0.switches ≡ b.switches)
       (λ asked. let begun = begin-begun d now more in begun.same.switches) (λ not. refl)
 
   step-switches : (call : Call) (now : ℕ) (b : BallState) → IsKeeping call → (ball_step d call now b).0.switches ≡ b.switches
@@ -97,6 +102,8 @@ module _ (d : BallSettings) where
   state-switches call now world (states.Bank x) keeps = refl
   state-switches call now world (states.Flipper x) keeps = refl
   state-switches call now world (states.Autofire x) keeps = refl
+  state-switches call now world (states.BallSave x) keeps = refl
+  state-switches call now world (states.Multiball x) keeps = refl
 
 module _ (plan : PlanView) where
   pub other-steady : {s t : Machine} → IsOther plan s t → IsSteady plan s t
@@ -136,7 +143,7 @@ module _ (plan : PlanView) where
         changes = λ n. flat_map-append (λ l. change_at n l.moment l.happening) s.lines (line ∷ []) ∙ append-nil (changes_of n s.lines);
       }) (nothing-steady s)
 
-  module _ (confirm_it : RowId → Machine → Machine) (confirms : (r : RowId) (s : Machine) → IsSteady plan s (confirm_it r s)) where
+  module _ (tell : Telling → Machine → Machine) (tells : (telling : Telling) (s : Machine) → IsSteady plan s (tell telling s)) where
     drain-steady : (owner : Owner) (drain : Bool) (s : Machine) → IsSteady plan s (drain_if plan owner drain s)
     drain-steady owner drain s = by (drain && is_ball_on s.game.phase)
       where
@@ -144,17 +151,21 @@ module _ (plan : PlanView) where
         by true = other-steady (post-other plan owner (game_event plan BallDrain) s)
         by false = nothing-steady s
 
-    entry-steady : (owner : Owner) (r : RowId) (drain : Bool) (o : Origin) (s : Machine) → IsSteady plan s (after_entry plan confirm_it owner r drain o s)
-    entry-steady owner r drain Awaited s = confirms r s
+    entry-steady : (owner : Owner) (r : RowId) (drain : Bool) (o : Origin) (s : Machine) → IsSteady plan s (after_entry plan tell owner r drain o s)
+    entry-steady owner r drain Awaited s = tells (Arrived (Device r)) s
     entry-steady owner r drain OfPlayfield s = drain-steady owner drain s
     entry-steady owner r drain New s = drain-steady owner drain s
 
-    action-steady : (owner : Owner) (a : Action) (s : Machine) → IsSteady plan s (do_action_by plan confirm_it owner a s)
-    action-steady owner (Post e) s = other-steady (action-other plan confirm_it owner (Post e) s tt)
-    action-steady owner (Pulse coil ms power) s = other-steady (action-other plan confirm_it owner (Pulse coil ms power) s tt)
-    action-steady owner (Enable coil power) s = other-steady (action-other plan confirm_it owner (Enable coil power) s tt)
-    action-steady owner (Disable coil) s = other-steady (action-other plan confirm_it owner (Disable coil) s tt)
-    action-steady owner (ChangeVariable v action n e) s = other-steady (action-other plan confirm_it owner (ChangeVariable v action n e) s tt)
+    want-steady : (n : ℕ) (s : Machine) → IsSteady plan s (want_balls tell n s)
+    want-steady zero s = nothing-steady s
+    want-steady (suc n) s = tells (Wanted (suc n)) s
+
+    action-steady : (owner : Owner) (a : Action) (s : Machine) → IsSteady plan s (do_action_by plan tell owner a s)
+    action-steady owner (Post e) s = other-steady (action-other plan tell owner (Post e) s tt)
+    action-steady owner (Pulse coil ms power) s = other-steady (action-other plan tell owner (Pulse coil ms power) s tt)
+    action-steady owner (Enable coil power) s = other-steady (action-other plan tell owner (Enable coil power) s tt)
+    action-steady owner (Disable coil) s = other-steady (action-other plan tell owner (Disable coil) s tt)
+    action-steady owner (ChangeVariable v action n e) s = other-steady (action-other plan tell owner (ChangeVariable v action n e) s tt)
     action-steady owner (Enter r e drain) s =
         let in_it = book owner (ledger_calls.Enter r) s in
         then-steady (book-steady owner (ledger_calls.Enter r) s)
@@ -162,11 +173,15 @@ module _ (plan : PlanView) where
     action-steady owner (Leave r) s = book-steady owner (ledger_calls.Leave r (target_of plan r)) s
     action-steady owner (Lose r) s = book-steady owner (ledger_calls.Lose r) s
     action-steady owner (Arrive r) s = book-steady owner (ledger_calls.Arrive (target_of plan r)) s
+    action-steady owner (Request n) s = tells (Wanted n) s
+    action-steady owner (AddBalls n) s =
+        let more = set_game (more_balls n s.game) s in
+        then-steady (other-steady (same-other plan s more refl refl refl refl)) (want-steady (missing n s.game) more)
 
-    pub answer-steady : (r : RowId) (ks : List ℕ) (s : Machine) → IsSteady plan s (do_answer_by plan confirm_it r ks s)
+    pub answer-steady : (r : RowId) (ks : List ℕ) (s : Machine) → IsSteady plan s (do_answer_by plan tell r ks s)
     answer-steady r ks s =
-        all-steady (λ k. do_list_by plan confirm_it (row_at plan r).owner (list_of_row plan r k))
-        (λ k t. all-steady (do_action_by plan confirm_it (row_at plan r).owner) (action-steady (row_at plan r).owner) (actions_at plan (list_of_row plan r k)) t) ks s
+        all-steady (λ k. do_list_by plan tell (row_at plan r).owner (list_of_row plan r k))
+        (λ k t. all-steady (do_action_by plan tell (row_at plan r).owner) (action-steady (row_at plan r).owner) (actions_at plan (list_of_row plan r k)) t) ks s
 
     -- a call that keeps the ball switches
     turned-steady : (call : Call) → IsKeeping call → (r : RowId) (s : Machine) → IsSteady plan s (set_device r (called plan call r s).0 s)
@@ -201,24 +216,26 @@ module _ (plan : PlanView) where
               | inr other ↦ ap (λ (state : DeviceState). (ball_of state).switches) (get_or-set_other s.devices r.0 q.0 next (first_state no_row.settings) other)
             ]
 
-    call-steady : (call : Call) → IsKeeping call → (r : RowId) (s : Machine) → IsSteady plan s (call_device_by plan confirm_it call r s)
+    call-steady : (call : Call) → IsKeeping call → (r : RowId) (s : Machine) → IsSteady plan s (call_device_by plan tell call r s)
     call-steady call keeps r s =
         then-steady (turned-steady call keeps r s) (answer-steady r (called plan call r s).1 (set_device r (called plan call r s).0 s))
 
-  -- ---- arrivals
+  -- ---- what ball devices are told
 
-  told-steady : (o : Option RowId) (s : Machine) → IsSteady plan s (confirm_of plan o s)
-  told-steady None s = nothing-steady s
-  told-steady (Some q) s = call-steady no_confirm (λ r t. nothing-steady t) (calls.Act acts.Confirm) tt q s
+  telling-keeps : (telling : Telling) → IsKeeping (calls.Act (act_told telling))
+  telling-keeps (Arrived target) = tt
+  telling-keeps (Wanted n) = tt
 
-  pub arrival-steady : (target : BallTarget) (s : Machine) → IsSteady plan s (confirm_first_away plan target s)
-  arrival-steady target s = told-steady (first_away plan target s) s
+  told-steady : (telling : Telling) (o : Option RowId) (s : Machine) → IsSteady plan s (tell_device plan telling o s)
+  told-steady telling None s = nothing-steady s
+  told-steady telling (Some q) s = call-steady tell_nobody (λ other t. nothing-steady t) (calls.Act (act_told telling)) (telling-keeps telling) q s
 
-  pub entered-steady : (r : RowId) (s : Machine) → IsSteady plan s (confirm_entry plan r s)
-  entered-steady r s = arrival-steady (Device r) s
+  pub telling-steady : (telling : Telling) (s : Machine) → IsSteady plan s (tell_first plan telling s)
+  telling-steady telling s = told-steady telling (told_device plan telling s) s
 
   pub plays-steady : {may : Call → Type 0} → ((call : Call) → may call → IsKeeping call) → {s t : Machine} → Plays plan may s t → IsSteady plan s t
   plays-steady keeps (still other) = other-steady other
-  plays-steady keeps (ball call r d s within is may) = call-steady (confirm_entry plan) entered-steady call (keeps call may) r s
-  plays-steady keeps (arrival s) = arrival-steady Playfield s
+  plays-steady keeps (ball call r d s within is may) = call-steady (tell_first plan) telling-steady call (keeps call may) r s
+  plays-steady keeps (arrival s) = telling-steady (Arrived Playfield) s
+  plays-steady keeps (request n s) = telling-steady (Wanted n) s
   plays-steady keeps (both a b) = then-steady (plays-steady keeps a) (plays-steady keeps b)

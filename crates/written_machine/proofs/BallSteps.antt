@@ -194,12 +194,13 @@ module _ (d : BallSettings) (enter : Type 0) where
   pub confirm-answer : (now : ℕ) (s : BallState) → d.target ≡ Playfield → IsAnswer enter s (ball_step d (calls.Act acts.Confirm) now s)
   confirm-answer now s target = to_playfield now s.eject s refl target
 
-  requested-answer : (n now : ℕ) (s : BallState) → IsAnswer enter s (requested d n now s)
+  pub requested-answer : (n now : ℕ) (s : BallState) → IsAnswer enter s (requested d n now s)
   requested-answer n now s =
-      cond_both (d.trough && nat_le (s.wanted + n) 255) (begin d now (record s { wanted = s.wanted + n })) (s, []) (IsAnswer enter s)
+      let more : BallState = record s { wanted = min (s.wanted + n) 255 } in
+      cond_both d.trough (begin d now more) (s, []) (IsAnswer enter s)
       (λ asked.
-      let begun = begin-begun d now (record s { wanted = s.wanted + n }) in
-      let next = begin d now (record s { wanted = s.wanted + n }) in
+      let begun = begin-begun d now more in
+      let next = begin d now more in
       nothing next.0 next.1 (same-balls s next.0 begun.same.switches) begun.same.away begun.quiet)
       (λ not. nothing s [] refl refl tt)
 

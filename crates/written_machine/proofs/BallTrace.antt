@@ -24,7 +24,7 @@ use Rattle.written_machine.specs.declared.line.Line.{Line}
 use Rattle.written_machine.specs.Counted.{booked_at, bookings, IsLedgerOf, AreOriginsRight, AreCountsRight}
 use Rattle.written_machine.specs.EventStep.{taken, EventStep}
 use Rattle.written_machine.specs.Machine.{Machine, initial, write, told, counts_of}
-use Rattle.written_machine.specs.Moves.{Move, Wrote, Sent, Switched, Began, Ended, Marked, Released, Turned, Asked, Booked as Books, Varied, Stepped, do_move, Licence, MayDo, Does, IsNoBooking, TakesPart, Begins, ordinary, working}
+use Rattle.written_machine.specs.Moves.{Move, Wrote, Sent, Switched, Began, Ended, Marked, Released, Turned, Asked, Booked as Books, Varied, Stepped, AddedBalls, do_move, Licence, MayDo, Does, IsNoBooking, TakesPart, Begins, ordinary, working}
 use Rattle.written_machine.specs.Run.{Stimulus, IsAllowed, begin, IsRun, InEveryRun}
 use Rattle.written_machine.proofs.Does.{start-by, stop-by, book-by, does-keeps}
 use Rattle.written_machine.proofs.Parts.{does-before, does-after, does-begin}
@@ -264,6 +264,7 @@ module _ (plan : PlanView) where
   told-move licence before (Released m) s may h = h
   told-move licence before (Varied v value) s may h = h
   told-move licence before (Stepped which) s may h = h
+  told-move licence before (AddedBalls n) s may h = h
 
   told-does : (licence : Licence) (before : List Line) {c : Cost} {s t : Machine} → Does plan (MayDo plan licence) c s t → IsToldSoFar before s → IsToldSoFar before t
   told-does licence before d h = does-keeps plan (MayDo plan licence) (IsToldSoFar before) (told-move licence before) d h

@@ -94,7 +94,7 @@ module _ (plan : PlanView) (valid : IsValid plan) (w : EventId → ℕ) (fits : 
       let after = potential-does plan w (does-after plan (is_kept work s) st.first.event done) in
       let begun : HasStates plan (taken st.first st.rest s) = record { kinds = states.kinds; switches = states.switches; modes = states.modes; devices = states.devices; coils = states.coils; players = states.players } in
       let handled = has_states-does plan (ordinary plan (TakesPart ready) ⊥) (does-order plan ready st.first.event st.order st.in_order) (has_states-does plan working opens begun) in
-      let led = after-priced plan valid.entries w work done handled.devices handled.coils handled.players in
+      let led = after-priced plan valid.entries w st.first.event work refl done handled.devices handled.coils handled.players in
       let paid = order_cost plan w ready st.first.event st.order st.in_order in
       let line = length-append s.lines (record { moment = s.moment; owner = st.first.owner; happening = lines.Event st.first.event } ∷ []) in
       let weighs = ap (weigh w) st.waiting in

@@ -23,7 +23,7 @@ use Rattle.device_objects.proofs.Shapes.{states_keep_their_shape}
 use Rattle.mode_stack.specs.declared.phase.ModeState.{ModeState}
 use Rattle.mode_stack.specs.ModeStep.{starts, started, stopped, stop_answer}
 use Rattle.mode_stack.specs.Modes.{needs_game, mode_state}
-use Rattle.player_game.specs.GameStep.{GameState, held_if, released}
+use Rattle.player_game.specs.GameStep.{GameState, held_if, released, more_balls}
 use Rattle.player_game.specs.Players.{PlayersState, player_at, with_value, after_change}
 use Rattle.player_game.specs.Choices.{AreFew}
 use Rattle.player_game.proofs.StayFew.{players_stay_few}
@@ -44,7 +44,7 @@ use Rattle.written_machine.specs.declared.line.Happening.TheVariants as lines
 use Rattle.written_machine.specs.Machine.{told, Machine, write, post, set_ledger, counts_of, book, set_mode, set_game, home_of, has_game, is_post, post_if, start_mode, stop_mode, all_do, world_of, device_state, device_at, called}
 use Rattle.written_machine.specs.Devices.{HasDevices}
 use Rattle.written_machine.specs.StimulusCost.{weigh}
-use Rattle.written_machine.specs.Moves.{Move, Wrote, Sent, Switched, Began, Ended, Marked, Released, Turned, Asked, Booked, Varied, Stepped, do_move, cost_of_move, MayHold, IsListed, Licence, MayDo, Does, quiet, moved, both, less, Grows}
+use Rattle.written_machine.specs.Moves.{Move, Wrote, Sent, Switched, Began, Ended, Marked, Released, Turned, Asked, Booked, Varied, Stepped, AddedBalls, do_move, cost_of_move, MayHold, IsListed, Licence, MayDo, Does, quiet, moved, both, less, Grows}
 
 -- what these cost one after another, where each finds the state that the one before it leaves
 abbrev pub each_now : {X : Type 0} → (X → Machine → Machine) → (X → Machine → Cost) → List X → Machine → Cost
@@ -148,6 +148,7 @@ module _ (plan : PlanView) where
   potential-move w (Booked owner call) s = book-by owner call s (λ t. potential w t ≤ potential w s + 1) (λ is. omega (arith, booked-length owner call s)) (omega arith)
   potential-move w (Varied v value) s = omega arith
   potential-move w (Stepped which) s = omega arith
+  potential-move w (AddedBalls n) s = omega arith
   potential-move w (Asked owner command) s = omega (arith, length-append s.lines (record { moment = s.moment; owner = owner; happening = told command (answer_asking command owner s.moment s.coils) } ∷ []))
 
   pub potential-does : {may : Move → Type 0} (w : EventId → ℕ) {c : Cost} {s t : Machine} → Does plan may c s t → potential w t ≤ potential w s + price w c
@@ -181,6 +182,7 @@ module _ (plan : PlanView) where
   grows-move (Booked owner call) s = book-by owner call s (Grows s) (λ is. (omega (arith, booked-length owner call s), omega arith)) (omega arith, omega arith)
   grows-move (Varied v value) s = (omega arith, omega arith)
   grows-move (Stepped which) s = (omega arith, omega arith)
+  grows-move (AddedBalls n) s = (omega arith, omega arith)
   grows-move (Asked owner command) s = (omega (arith, length-append s.lines (record { moment = s.moment; owner = owner; happening = told command (answer_asking command owner s.moment s.coils) } ∷ [])), omega arith)
 
   pub moment-move : (x : Move) (s : Machine) → (do_move plan x s).moment ≡ s.moment
@@ -196,6 +198,7 @@ module _ (plan : PlanView) where
   moment-move (Booked owner call) s = book-by owner call s (λ t. t.moment ≡ s.moment) (λ is. refl) refl
   moment-move (Varied v value) s = refl
   moment-move (Stepped which) s = refl
+  moment-move (AddedBalls n) s = refl
 
   -- each coil of the plan has a state, and a mode holds only what its actions enable
   pub record HasCoils (coils : List CoilState) : Type 0 where
@@ -309,6 +312,7 @@ module _ (plan : PlanView) where
   has_states-move l (Booked owner call) s may h =
       book-by owner call s HasStates (λ is. record { kinds = h.kinds; switches = h.switches; modes = h.modes; devices = h.devices; coils = h.coils; players = h.players }) h
   has_states-move l (Varied v value) s may h = record { kinds = h.kinds; switches = h.switches; modes = h.modes; devices = h.devices; coils = h.coils; players = varied-few v value s.players h.players }
+  has_states-move l (AddedBalls n) s may h = gamed-has_states (more_balls n s.game) s h
   has_states-move l (Stepped which) s may h =
       record { kinds = h.kinds; switches = h.switches; modes = h.modes; devices = h.devices; coils = h.coils; players = players_stay_few plan which (home_of plan s) s.game s.players h.players }
 
@@ -333,6 +337,7 @@ module _ (plan : PlanView) where
   has_devices-move (Booked owner call) s h = book-by owner call s (λ t. HasDevices plan t.devices) (λ is. h) h
   has_devices-move (Varied v value) s h = h
   has_devices-move (Stepped which) s h = h
+  has_devices-move (AddedBalls n) s h = h
 
   module _ {may : Move → Type 0} {c : Cost} {s t : Machine} where
     pub has_devices-does : Does plan may c s t → HasDevices plan s.devices → HasDevices plan t.devices
@@ -364,6 +369,7 @@ module _ (plan : PlanView) where
     waits-move entries (Booked owner call) s may h = book-by owner call s WaitsInPlan (λ is. h) h
     waits-move entries (Varied v value) s may h = h
     waits-move entries (Stepped which) s may h = h
+    waits-move entries (AddedBalls n) s may h = h
 
     pub waits-does : HasEntries plan → {c : Cost} {s t : Machine} → Does plan (MayDo plan l) c s t → WaitsInPlan s → WaitsInPlan t
     waits-does entries d h = does-keeps plan (MayDo plan l) WaitsInPlan (waits-move entries) d h
@@ -382,6 +388,7 @@ module _ (plan : PlanView) where
     switches-move none (Booked owner call) s may = book-by owner call s (λ t. t.switches ≡ s.switches) (λ is. refl) refl
     switches-move none (Varied v value) s may = refl
     switches-move none (Stepped which) s may = refl
+    switches-move none (AddedBalls n) s may = refl
 
     pub switches-does : (l.switches → ⊥) → {c : Cost} {s t : Machine} → Does plan (MayDo plan l) c s t → t.switches ≡ s.switches
     switches-does none {c} {s} {t} d = does-keeps plan (MayDo plan l) (λ u. u.switches ≡ s.switches) (λ x u may h. switches-move none x u may ∙ h) d refl

@@ -1,22 +1,25 @@
 -- The ball devices that may be told of a ball that has arrived, and the first trough.
-use Rattle.std.proofs.Common.{◌≡◌, suc, ◌<◌, Bool, true, false, cond, Some, List, [], ◌∷◌, length, refl, sym, subst, inl, inr, arith}
+use Rattle.std.proofs.Common.{◌≡◌, suc, ◌<◌, Bool, true, false, cond, Some, List, [], ◌∷◌, length, refl, sym, subst, inl, inr, arith, if◌then◌else◌, None, Option}
 use Rattle.std.specs.Prelude.{Contains, find}
 use Rattle.std.specs.List.{All}
 use Rattle.std.proofs.lemmas.Bool.{cases_lt, false≢true}
 use Rattle.std.proofs.lemmas.List.{get_or_past}
 use Rattle.std.proofs.lemmas.List.Elements.{All-filter, All-get_or, filter_passes}
 use Rattle.std.proofs.lemmas.Option.{none-some}
-use Rattle.plan_tables.specs.PlanView.{PlanView, feeders_of, feeds, first_trough, is_trough, no_row, row_at, row_numbers}
+use Rattle.plan_tables.specs.PlanView.{PlanView, feeders_of, feeds, first_trough, is_trough, no_row, row_at, row_numbers, multiball_rows, save_rows, is_save, is_multiball}
 use Rattle.plan_tables.specs.declared.devices.BallTarget.{BallTarget}
 use Rattle.plan_tables.specs.declared.devices.RowId.{RowId}
 use Rattle.plan_tables.specs.declared.devices.Settings.{Settings}
-use Rattle.plan_tables.specs.declared.devices.Settings.TheVariants.{Counter, Accrual, Sequence, Timer, Bank, Flipper, Autofire, BallDevice}
+use Rattle.plan_tables.specs.declared.devices.Settings.TheVariants.{Counter, Accrual, Sequence, Timer, Bank, Flipper, Autofire, BallDevice, BallSave, Multiball}
 use Rattle.plan_tables.specs.declared.entries.Owner.{Owner}
 use Rattle.plan_tables.specs.declared.entries.Owner.TheVariants as owners
 use Rattle.plan_tables.proofs.Owners.{row_numbers-within}
 use Rattle.plan_tables.specs.BallRows.{IsOwnBallDevice}
 use Rattle.written_machine.specs.Devices.{ActsAreOwn}
-use Rattle.written_machine.specs.Machine.{Machine, device_at, first_away, is_device_away}
+use Rattle.plan_tables.specs.declared.devices.Telling.{Telling}
+use Rattle.plan_tables.specs.declared.devices.Telling.TheVariants.{Arrived, Wanted}
+use Rattle.written_machine.specs.Machine.{Machine, device_at, first_away, is_device_away, told_device, first_active_save, is_active_save}
+use Rattle.player_game.specs.GameStep.{is_ball_on}
 
 -- ---- what is found in a list
 
@@ -49,6 +52,8 @@ feeds-own target (Timer d) owner is own = absurd (false≢true is)
 feeds-own target (Bank d) owner is own = absurd (false≢true is)
 feeds-own target Flipper owner is own = absurd (false≢true is)
 feeds-own target Autofire owner is own = absurd (false≢true is)
+feeds-own target (BallSave d) owner is own = absurd (false≢true is)
+feeds-own target (Multiball d) owner is own = absurd (false≢true is)
 
 trough-own : (settings : Settings) (owner : Owner) → is_trough settings ≡ true → IsOwnBallDevice settings owner → owner ≡ owners.Machine
 trough-own (BallDevice d) owner is own = own
@@ -59,6 +64,8 @@ trough-own (Timer d) owner is own = absurd (false≢true is)
 trough-own (Bank d) owner is own = absurd (false≢true is)
 trough-own Flipper owner is own = absurd (false≢true is)
 trough-own Autofire owner is own = absurd (false≢true is)
+trough-own (BallSave d) owner is own = absurd (false≢true is)
+trough-own (Multiball d) owner is own = absurd (false≢true is)
 
 module _ (plan : PlanView) where
   -- a ball device is the machine's
@@ -104,3 +111,34 @@ module _ (plan : PlanView) where
         trough = trough;
         owner = λ own. trough-own (row_at plan r).settings (row_at plan r).owner trough (ball_row-own own r);
       }
+
+  -- who is told something is a device of the plan, and the machine's
+  pub record IsToldDevice (r : RowId) : Type 0 where
+    pub there : r.0 < length plan.rows
+    pub owner : ActsAreOwn plan → (row_at plan r).owner ≡ owners.Machine
+
+  pub told_device-is : (telling : Telling) (s : Machine) (r : RowId) → told_device plan telling s ≡ Some r → IsToldDevice r
+  told_device-is (Arrived target) s r is = let first = first_away-is target s r is in record { there = first.there; owner = first.owner }
+  told_device-is (Wanted n) s r is = let first = first_trough-is r is in record { there = first.there; owner = first.owner }
+
+  -- ball saves and multiballs are devices of the plan
+  pub saves-within : All (λ r. r.0 < length plan.rows) (save_rows plan)
+  saves-within = All-filter (λ r. is_save (row_at plan r).settings) (λ r. r.0 < length plan.rows) (row_numbers plan) (row_numbers-within plan)
+
+  pub multiballs-within : All (λ r. r.0 < length plan.rows) (multiball_rows plan)
+  multiballs-within = All-filter (λ r. is_multiball (row_at plan r).settings) (λ r. r.0 < length plan.rows) (row_numbers plan) (row_numbers-within plan)
+
+  -- the first active ball save is a device of the plan, and is active; a ball is on then
+  pub record IsFirstSave (s : Machine) (r : RowId) : Type 0 where
+    pub listed : Contains (save_rows plan) r
+    pub there : r.0 < length plan.rows
+    pub active : is_active_save (device_at s r) ≡ true
+
+  pub first_active_save-is : (s : Machine) (r : RowId) → first_active_save plan s ≡ Some r → IsFirstSave s r
+  first_active_save-is s r is = by (is_ball_on s.game.phase) is
+    where
+      by : (b : Bool) → (if b then find (λ q. is_active_save (device_at s q)) (save_rows plan) else None) ≡ Some r → IsFirstSave s r
+      by true here =
+          let (listed, active) = found (λ q. is_active_save (device_at s q)) (save_rows plan) r here in
+          record { listed = listed; there = All-at (λ q. q.0 < length plan.rows) (save_rows plan) r saves-within listed; active = active }
+      by false here = absurd (none-some r here)

@@ -1,11 +1,11 @@
 -- What the machine does only adds to its lines and waiting events.
-use Rattle.std.proofs.Common.{ℕ, ℤ, ◌≤◌, ◌<◌, Bool, true, false, if◌then◌else◌, Option, None, Some, List, [], ◌∷◌, length, length-append, arith}
+use Rattle.std.proofs.Common.{ℕ, ℤ, ◌≤◌, ◌<◌, Bool, true, false, if◌then◌else◌, Option, None, Some, List, [], ◌∷◌, length, length-append, arith, suc, zero}
 use Rattle.std.specs.Prelude.{◌&&◌}
 use Rattle.plan_tables.specs.PlanView.{PlanView, act_of_listener, game_event, listeners_of, posts_of, switch_at, target_of, work_of}
 use Rattle.plan_tables.specs.declared.devices.BallTarget.{BallTarget}
 use Rattle.plan_tables.specs.declared.devices.BallTarget.TheVariants.{Playfield, Device}
 use Rattle.plan_tables.specs.declared.entries.GameEvent.TheVariants.{BallDrain}
-use Rattle.player_game.specs.GameStep.{is_ball_on}
+use Rattle.player_game.specs.GameStep.{is_ball_on, missing, more_balls}
 use Rattle.ball_devices.specs.declared.booking.Origin.{Origin}
 use Rattle.ball_devices.specs.declared.booking.Origin.TheVariants.{Awaited, Found, New}
 use Rattle.ball_devices.specs.Ledger.{origin_of}
@@ -16,7 +16,7 @@ use Rattle.plan_tables.specs.declared.entries.BindingId.{BindingId}
 use Rattle.plan_tables.specs.declared.entries.Owner.{Owner}
 use Rattle.plan_tables.specs.declared.entries.Owner.TheVariants as owners
 use Rattle.plan_tables.specs.declared.entries.Action.{Action}
-use Rattle.plan_tables.specs.declared.entries.Action.TheVariants.{Post, Pulse, Enable, Disable, Change as ChangeVariable, Enter, Leave, Lose, Arrive}
+use Rattle.plan_tables.specs.declared.entries.Action.TheVariants.{Post, Pulse, Enable, Disable, Change as ChangeVariable, Enter, Leave, Lose, Arrive, Request, AddBalls}
 use Rattle.plan_tables.specs.declared.entries.VariableId.{VariableId}
 use Rattle.player_game.specs.Players.{changed_to, after_change}
 use Rattle.plan_tables.specs.declared.devices.RowId.{RowId}
@@ -29,11 +29,13 @@ use Rattle.switch_core.specs.declared.change.Change.{Change}
 use Rattle.written_machine.specs.declared.line.Line.{Line}
 use Rattle.written_machine.specs.declared.line.Happening.TheVariants as lines
 use Rattle.event_queue.specs.declared.queue.Posted.{Posted}
-use Rattle.written_machine.specs.Machine.{Machine, write, post, ask_coil, told, all_do, set_players, tell_change, book, drain_if, after_entry, do_action_by, do_action, call_device, confirm_first_away, confirm_entry, tell_listener, tell_listeners, confirm_on_playfield, ask_ball, do_handler, do_accepted}
+use Rattle.plan_tables.specs.declared.devices.Telling.{Telling}
+use Rattle.plan_tables.specs.declared.devices.Telling.TheVariants.{Arrived, Wanted}
+use Rattle.written_machine.specs.Machine.{Machine, write, post, ask_coil, told, all_do, set_players, tell_change, book, drain_if, after_entry, do_action_by, do_action, call_device, tell_first, want_balls, set_game, tell_listener, tell_listeners, confirm_on_playfield, ask_ball, do_handler, do_accepted}
 use Rattle.written_machine.specs.EventStep.{taken, is_kept, before_handlers, after_event}
-use Rattle.written_machine.specs.Moves.{Booked, Grows}
+use Rattle.written_machine.specs.Moves.{Booked, Grows, AddedBalls}
 use Rattle.written_machine.proofs.Does.{grows-does, grows-move}
-use Rattle.written_machine.proofs.Parts.{does-arrival, does-call, does-handler, does-request, does-before, does-after}
+use Rattle.written_machine.proofs.Parts.{does-telling, does-call, does-handler, does-request, does-before, does-after}
 
 -- where each adds, all do
 pub all_do-grows : {X : Type 0} (f : X → Machine → Machine) → ((x : X) (s : Machine) → Grows s (f x s)) → (xs : List X) (s : Machine) → Grows s (all_do f xs s)
@@ -72,22 +74,26 @@ module _ (plan : PlanView) where
       by true = post-grows owner (game_event plan BallDrain) s
       by false = (omega arith, omega arith)
 
-  -- a ball has arrived at the target
-  pub arrival-grows : (target : BallTarget) (s : Machine) → Grows s (confirm_first_away plan target s)
-  arrival-grows target s = grows-does plan (does-arrival plan (λ o. Unit {0}) ⊥ tt target s)
+  -- a device is told something
+  pub telling-grows : (telling : Telling) (s : Machine) → Grows s (tell_first plan telling s)
+  telling-grows telling s = grows-does plan (does-telling plan (λ o. Unit {0}) ⊥ tt telling s)
 
   -- a trough is asked for a ball
   pub request-grows : (asks : Bool) (s : Machine) → Grows s (ask_ball plan asks s)
   request-grows asks s = grows-does plan (does-request plan (λ o. Unit {0}) tt asks s)
 
-  -- where each confirm adds
-  module _ (confirm : RowId → Machine → Machine) (confirms : (r : RowId) (s : Machine) → Grows s (confirm r s)) where
-    pub entry-grows : (owner : Owner) (r : RowId) (drain : Bool) (origin : Origin) (s : Machine) → Grows s (after_entry plan confirm owner r drain origin s)
-    entry-grows owner r drain Awaited s = confirms r s
+  -- where each telling adds
+  module _ (tell : Telling → Machine → Machine) (tells : (telling : Telling) (s : Machine) → Grows s (tell telling s)) where
+    pub entry-grows : (owner : Owner) (r : RowId) (drain : Bool) (origin : Origin) (s : Machine) → Grows s (after_entry plan tell owner r drain origin s)
+    entry-grows owner r drain Awaited s = tells (Arrived (Device r)) s
     entry-grows owner r drain Found s = drain-grows owner drain s
     entry-grows owner r drain New s = drain-grows owner drain s
 
-    pub action-grows_by : (owner : Owner) (a : Action) (s : Machine) → Grows s (do_action_by plan confirm owner a s)
+    want-grows : (n : ℕ) (s : Machine) → Grows s (want_balls tell n s)
+    want-grows zero s = (omega arith, omega arith)
+    want-grows (suc n) s = tells (Wanted (suc n)) s
+
+    pub action-grows_by : (owner : Owner) (a : Action) (s : Machine) → Grows s (do_action_by plan tell owner a s)
     action-grows_by owner (Post e) s = post-grows owner e s
     action-grows_by owner (Pulse coil ms power) s = asked-grows owner (commands.Pulse coil ms power) s
     action-grows_by owner (Enable coil power) s = asked-grows owner (commands.Enable coil power) s
@@ -98,14 +104,18 @@ module _ (plan : PlanView) where
     action-grows_by owner (Enter r e drain) s =
         let booked = book owner (calls_of_ledger.Enter r) s in
         let posted = post owner e booked in
-        grows-then s posted (do_action_by plan confirm owner (Enter r e drain) s) (grows-then s booked posted (book-grows owner (calls_of_ledger.Enter r) s) (post-grows owner e booked))
+        grows-then s posted (do_action_by plan tell owner (Enter r e drain) s) (grows-then s booked posted (book-grows owner (calls_of_ledger.Enter r) s) (post-grows owner e booked))
         (entry-grows owner r drain (origin_of r s.ledger) posted)
     action-grows_by owner (Leave r) s = book-grows owner (calls_of_ledger.Leave r (target_of plan r)) s
     action-grows_by owner (Lose r) s = book-grows owner (calls_of_ledger.Lose r) s
     action-grows_by owner (Arrive r) s = book-grows owner (calls_of_ledger.Arrive (target_of plan r)) s
+    action-grows_by owner (Request n) s = tells (Wanted n) s
+    action-grows_by owner (AddBalls n) s =
+        let more = set_game (more_balls n s.game) s in
+        grows-then s more (do_action_by plan tell owner (AddBalls n) s) (grows-move plan (AddedBalls n) s) (want-grows (missing n s.game) more)
 
   pub action-grows : (owner : Owner) (a : Action) (s : Machine) → Grows s (do_action plan owner a s)
-  action-grows = action-grows_by (confirm_entry plan) (λ r s. arrival-grows (Device r) s)
+  action-grows = action-grows_by (tell_first plan) telling-grows
 
   -- whoever takes part
   pub handler-grows : (place : BindingId) (s : Machine) → Grows s (do_handler plan place s)
@@ -117,8 +127,8 @@ module _ (plan : PlanView) where
   pub playfield-grows : (a : Change) (s : Machine) → Grows s (confirm_on_playfield plan a s)
   playfield-grows a s = by (a.active && (switch_at plan a.switch).confirms_playfield)
     where
-      by : (b : Bool) → Grows s (if b then confirm_first_away plan Playfield s else s)
-      by true = arrival-grows Playfield s
+      by : (b : Bool) → Grows s (if b then tell_first plan (Arrived Playfield) s else s)
+      by true = telling-grows (Arrived Playfield) s
       by false = (omega arith, omega arith)
 
   -- an acceptance adds its line

@@ -33,7 +33,7 @@ use Rattle.written_machine.specs.EventStep.{taken, EventStep}
 use Rattle.written_machine.specs.Run.{Stimulus, moment_of, IsAllowed, IsNothingLate, arrived, begin, IsRun}
 use Rattle.written_machine.specs.CoilActions.{ActionsKeepLimits}
 use Rattle.written_machine.specs.Sent.{sent_at, sent_in, sendings, IsIdle, AreSkippedIdle}
-use Rattle.written_machine.specs.Moves.{Move, Wrote, Sent, Switched, Began, Ended, Marked, Released, Turned, Asked, Booked, Varied, Stepped, do_move, Licence, MayDo, Does, IsNoCommand, TakesPart, Begins, ordinary, working}
+use Rattle.written_machine.specs.Moves.{Move, Wrote, Sent, Switched, Began, Ended, Marked, Released, Turned, Asked, Booked, Varied, Stepped, AddedBalls, do_move, Licence, MayDo, Does, IsNoCommand, TakesPart, Begins, ordinary, working}
 use Rattle.written_machine.proofs.Does.{start-by, stop-by, book-by, does-keeps}
 use Rattle.written_machine.proofs.Parts.{does-before, does-after, does-begin}
 use Rattle.written_machine.proofs.Held.{IsHolding}
@@ -233,6 +233,7 @@ module _ (plan : PlanView) (allowed : ActionsKeepLimits plan) where
   guarded-move licence before (Released m) s may h = record { follows = h.follows; idle = h.idle }
   guarded-move licence before (Varied v value) s may h = record { follows = h.follows; idle = h.idle }
   guarded-move licence before (Stepped which) s may h = record { follows = h.follows; idle = h.idle }
+  guarded-move licence before (AddedBalls n) s may h = record { follows = h.follows; idle = h.idle }
   guarded-move licence before (Asked owner command) s may h = asked-guarded before owner command s (may.1 allowed) h
 
   guarded-does : (licence : Licence) (before : List Line) {c : Cost} {s t : Machine} → Does plan (MayDo plan licence) c s t → IsGuarded before s → IsGuarded before t

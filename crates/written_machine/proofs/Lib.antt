@@ -1,6 +1,7 @@
 pub mod Feeding
 pub mod Does
 pub mod Parts
+pub mod Drains
 pub mod Pricing
 pub mod Growth
 pub mod Order
@@ -16,6 +17,7 @@ pub mod AlarmsEnd
 pub mod Cycles
 pub mod Hearing
 pub mod Speaking
+pub mod Inactive
 pub mod Resting
 pub mod Silence
 pub mod BallSteps

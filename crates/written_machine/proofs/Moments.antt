@@ -12,7 +12,7 @@ use Rattle.written_machine.specs.declared.line.Happening.TheVariants as lines
 use Rattle.written_machine.specs.declared.line.Line.{Line}
 use Rattle.written_machine.specs.EventStep.{taken, EventStep}
 use Rattle.written_machine.specs.Machine.{Machine, initial, write, told, counts_of}
-use Rattle.written_machine.specs.Moves.{Move, Wrote, Sent, Switched, Began, Ended, Marked, Released, Turned, Asked, Booked as Books, Varied, Stepped, do_move, Licence, MayDo, Does, TakesPart, Begins, ordinary, working}
+use Rattle.written_machine.specs.Moves.{Move, Wrote, Sent, Switched, Began, Ended, Marked, Released, Turned, Asked, Booked as Books, Varied, Stepped, AddedBalls, do_move, Licence, MayDo, Does, TakesPart, Begins, ordinary, working}
 use Rattle.written_machine.specs.Run.{Stimulus, IsAllowed, begin, moment_of, InEveryRun}
 use Rattle.written_machine.proofs.Does.{start-by, stop-by, book-by, does-keeps}
 use Rattle.written_machine.proofs.Parts.{does-before, does-after, does-begin}
@@ -41,6 +41,7 @@ module _ (plan : PlanView) where
   timed-move licence (Released m) s may h = h
   timed-move licence (Varied v value) s may h = h
   timed-move licence (Stepped which) s may h = h
+  timed-move licence (AddedBalls n) s may h = h
 
   timed-does : (licence : Licence) {c : Cost} {s t : Machine} → Does plan (MayDo plan licence) c s t → IsTimed s → IsTimed t
   timed-does licence d h = does-keeps plan (MayDo plan licence) IsTimed (timed-move licence) d h

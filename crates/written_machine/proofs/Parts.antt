@@ -1,12 +1,12 @@
 -- What each part of the machine does, and by which licence.
-use Rattle.std.proofs.Common.{◌≡◌, ℕ, ℤ, ◌<◌, ◌≤◌, get_or, if◌then◌else◌, Bool, true, false, Option, Some, None, List, [], length, refl, sym, ap, subst, inl, inr, arith}
+use Rattle.std.proofs.Common.{◌≡◌, ℕ, ℤ, ◌<◌, ◌≤◌, get_or, if◌then◌else◌, Bool, true, false, Option, Some, None, List, [], length, refl, sym, ap, subst, inl, inr, arith, suc, zero, ◌==◌, ◌∙◌}
 use Rattle.std.specs.List.{All, range_with_len}
 use Rattle.std.specs.Prelude.{◌&&◌, Contains}
 use Rattle.std.proofs.lemmas.Bool.{cases_lt}
 use Rattle.std.proofs.lemmas.List.{get_or_past}
 use Rattle.std.proofs.lemmas.List.Elements.{All-get_or, All-nil, filter_passes}
 use Rattle.std.proofs.lemmas.List.Sorted.{All-permutation}
-use Rattle.plan_tables.specs.PlanView.{PlanView, act_of_listener, actions_of, coil_numbers, listeners_of, no_row, no_switch, no_binding, switch_at, posts_of, actions_at, binding_at, is_owner, list_of_row, places_of, first_trough, game_event, may_hold_ball_end, mode_event, row_at, row_numbers, rows_of, target_of, work_of}
+use Rattle.plan_tables.specs.PlanView.{PlanView, act_of_listener, actions_of, coil_numbers, listeners_of, no_row, no_switch, no_binding, switch_at, posts_of, actions_at, binding_at, is_owner, list_of_row, places_of, first_trough, game_event, may_hold_ball_end, mode_event, row_at, row_numbers, rows_of, target_of, work_of, act_told, multiball_rows}
 use Rattle.plan_tables.specs.Valid.{HasEntries, HasGame, IsEventWithin, IsActionWithin, IsBindingWithin, IsTargetWithin, IsWorkAt}
 use Rattle.plan_tables.specs.declared.entries.EventId.{EventId}
 use Rattle.plan_tables.specs.declared.entries.ListId.{ListId}
@@ -19,19 +19,19 @@ use Rattle.plan_tables.specs.declared.entries.Work.TheVariants.{Nothing, Mode, G
 use Rattle.plan_tables.specs.declared.entries.GameEvent.{GameEvent}
 use Rattle.plan_tables.specs.declared.entries.GameEvent.TheVariants.{BallDrain, BallEnded}
 use Rattle.plan_tables.specs.declared.entries.VariableId.{VariableId}
-use Rattle.player_game.specs.GameStep.{ends_ball, is_ball_on}
+use Rattle.player_game.specs.GameStep.{ends_ball, is_ball_on, in_play, missing, more_balls}
 use Rattle.player_game.specs.Players.{is_met, changed_to, after_change as players_after_change, score_of}
 use Rattle.plan_tables.specs.declared.entries.Owner.{Owner}
 use Rattle.plan_tables.specs.declared.entries.Owner.TheVariants as owners
 use Rattle.plan_tables.specs.declared.entries.Action.{Action}
-use Rattle.plan_tables.specs.declared.entries.Action.TheVariants.{Post, Pulse, Enable, Disable, Change as ChangeVariable, Enter, Leave, Lose, Arrive}
+use Rattle.plan_tables.specs.declared.entries.Action.TheVariants.{Post, Pulse, Enable, Disable, Change as ChangeVariable, Enter, Leave, Lose, Arrive, AddBalls, Request}
 use Rattle.plan_tables.specs.declared.entries.Target.{Target}
 use Rattle.plan_tables.specs.declared.entries.Target.TheVariants.{Run, Start, Stop, Act}
 use Rattle.plan_tables.specs.Devices.{list_count}
 use Rattle.plan_tables.specs.declared.devices.RowId.{RowId}
 use Rattle.plan_tables.specs.declared.devices.BallTarget.{BallTarget}
 use Rattle.plan_tables.specs.declared.devices.BallTarget.TheVariants.{Playfield, Device}
-use Rattle.plan_tables.specs.declared.devices.Act.TheVariants.{Confirm, Request}
+use Rattle.plan_tables.specs.declared.devices.Act.TheVariants.{End, Save}
 use Rattle.ball_devices.specs.declared.booking.Origin.{Origin}
 use Rattle.ball_devices.specs.declared.booking.Origin.TheVariants.{Awaited, Found, New}
 use Rattle.ball_devices.specs.Ledger.{origin_of}
@@ -56,17 +56,21 @@ use Rattle.cascade_rank.specs.Cost.{Cost, Lines, Both, Greater, each_of, cost_of
 use Rattle.cascade_rank.proofs.Games.{game_event-below, game_has-event}
 use Rattle.cascade_rank.proofs.Within.{posts-below, mode_event-within}
 use Rattle.event_queue.specs.Handlers.{runs_at, handlers, IsHandlerOrder}
-use Rattle.written_machine.specs.Machine.{Machine, write, post, post_if, release_ball_end, drop_hold, ask_coil, release_coil, release_coils, set_switches, set_mode, set_device, set_players, all_do, tell_change, post_game, write_final, write_finals, do_game, book, drain_if, after_entry, do_action_by, do_list_by, do_answer_by, call_device_by, first_away, no_confirm, confirm_of, confirm_first_away, confirm_entry, do_list, do_answer, world_of, device_at, called, call_device, call_devices, tell_listener, tell_listeners, confirm_on_playfield, ask_trough, ask_ball, do_target, do_handler, do_accepted, do_if_accepted}
+use Rattle.plan_tables.specs.declared.devices.Telling.{Telling}
+use Rattle.plan_tables.specs.declared.devices.Telling.TheVariants.{Arrived, Wanted}
+use Rattle.written_machine.specs.Machine.{Machine, write, post, post_if, release_ball_end, drop_hold, ask_coil, release_coil, release_coils, set_switches, set_mode, set_device, set_players, all_do, tell_change, post_game, write_final, write_finals, do_game, book, drain_if, after_entry, do_action_by, do_list_by, do_answer_by, call_device_by, first_away, tell_nobody, told_device, tell_device, tell_first, do_list, do_answer, world_of, device_at, called, call_device, call_devices, tell_listener, tell_listeners, confirm_on_playfield, ask_ball, do_target, do_handler, do_accepted, do_if_accepted, want_balls, step_game, end_multiballs, drain_ball, first_active_save, set_game}
 use Rattle.written_machine.specs.EventStep.{do_before, do_after, handlers_in}
 use Rattle.written_machine.specs.Run.{switch, device, Stimulus, SwitchChange, Alarm, Wait, moment_of, arrived, begin}
 use Rattle.written_machine.specs.StimulusCost.{cost_of_stimulus}
 use Rattle.written_machine.specs.Devices.{ActsAreOwn, IsOwnAct, IsOwnListener}
 use Rattle.written_machine.specs.CoilActions.{KeepsLimits, ActionsKeepLimits}
 use Rattle.written_machine.specs.FreePosts.{IsFree, IsFreeAction, IsFreeSwitch, PostsAreFree}
-use Rattle.written_machine.proofs.Feeding.{first_away-is, first_trough-is}
+use Rattle.written_machine.proofs.Feeding.{told_device-is}
 use Rattle.written_machine.proofs.Listed.{binding-among, row-among, contains-at, enable-listed}
 use Rattle.written_machine.proofs.Does.{each_now, all_do-does, all_do-does_now, does-weaker}
-use Rattle.written_machine.specs.Moves.{Move, Wrote, Sent, Switched, Began, Ended, Marked, Released, Turned, Asked, Booked, Varied, Stepped, step_now, do_move, MayHold, Licence, MayDo, IsFreeThere, Does, quiet, moved, both, less, TakesPart, IsMachine, ordinary, MayHandle, Begins, MayBegin, working, MayWork}
+use Rattle.written_machine.specs.Moves.{Move, Wrote, Sent, Switched, Began, Ended, Marked, Released, Turned, Asked, Booked, Varied, Stepped, AddedBalls, step_now, do_move, MayHold, Licence, MayDo, IsFreeThere, Does, quiet, moved, both, less, TakesPart, IsMachine, ordinary, MayHandle, Begins, MayBegin, working, MayWork}
+use Rattle.player_game.specs.Choices.{is_drain}
+use Rattle.player_game.proofs.DrainEvent.{drain-is}
 
 -- ---- what is in a plan
 
@@ -162,8 +166,12 @@ module _ (plan : PlanView) where
 
   -- ---- what things cost in a state
 
-  -- where `confirm` costs what `confirm_now` says
-  module _ (confirm : RowId → Machine → Machine) (confirm_now : RowId → Machine → Cost) where
+  -- where `tell` costs what `tell_now` says
+  module _ (tell : Telling → Machine → Machine) (tell_now : Telling → Machine → Cost) where
+    abbrev pub wanted_now : ℕ → Machine → Cost
+    wanted_now zero s = Lines 0
+    wanted_now (suc n) s = tell_now (Wanted (suc n)) s
+
     abbrev pub action_now_by : Owner → Action → Machine → Cost
     action_now_by owner (Post e) s = cost_of_post e
     action_now_by owner (Pulse coil ms power) s = Lines 1
@@ -171,44 +179,43 @@ module _ (plan : PlanView) where
     action_now_by owner (Disable coil) s = Lines 1
     action_now_by owner (ChangeVariable v action n e) s = Both (Lines 1) (cost_of_post e)
     action_now_by owner (Enter r e drain) s =
-        Both (Lines 1) (Both (cost_of_post e) (Greater (cost_of_drain plan drain) (confirm_now r (post owner e (book owner (calls_of_ledger.Enter r) s)))))
+        Both (Lines 1) (Both (cost_of_post e) (Greater (cost_of_drain plan drain) (tell_now (Arrived (Device r)) (post owner e (book owner (calls_of_ledger.Enter r) s)))))
     action_now_by owner (Leave r) s = Lines 1
     action_now_by owner (Lose r) s = Lines 1
     action_now_by owner (Arrive r) s = Lines 1
+    action_now_by owner (Request n) s = tell_now (Wanted n) s
+    action_now_by owner (AddBalls n) s = Both (Lines 0) (wanted_now (missing n s.game) (set_game (more_balls n s.game) s))
 
     abbrev pub list_now_by : Owner → ListId → Machine → Cost
-    list_now_by owner l s = each_now (do_action_by plan confirm owner) (action_now_by owner) (actions_at plan l) s
+    list_now_by owner l s = each_now (do_action_by plan tell owner) (action_now_by owner) (actions_at plan l) s
 
     abbrev pub answer_now_by : RowId → List ℕ → Machine → Cost
     answer_now_by r lists s =
-        each_now (λ k. do_list_by plan confirm (row_at plan r).owner (list_of_row plan r k)) (λ k. list_now_by (row_at plan r).owner (list_of_row plan r k)) lists s
+        each_now (λ k. do_list_by plan tell (row_at plan r).owner (list_of_row plan r k)) (λ k. list_now_by (row_at plan r).owner (list_of_row plan r k)) lists s
 
     -- a device that is called costs what it answers
     abbrev pub call_now_by : Call → RowId → Machine → Cost
     call_now_by call r s = Both (Lines 0) (answer_now_by r (called plan call r s).1 (set_device r (called plan call r s).0 s))
 
-  abbrev pub none_now : RowId → Machine → Cost
-  none_now r s = Lines 0
+  abbrev pub nobody_now : Telling → Machine → Cost
+  nobody_now telling s = Lines 0
 
-  -- a device that is told of an arrival
-  abbrev pub confirm_now : Option RowId → Machine → Cost
-  confirm_now None s = Lines 0
-  confirm_now (Some r) s = call_now_by no_confirm none_now (calls.Act Confirm) r s
+  -- a device that is told something
+  abbrev pub told_now : Telling → Option RowId → Machine → Cost
+  told_now telling None s = Lines 0
+  told_now telling (Some r) s = call_now_by tell_nobody nobody_now (calls.Act (act_told telling)) r s
 
-  abbrev pub arrival_now : BallTarget → Machine → Cost
-  arrival_now target s = confirm_now (first_away plan target s) s
-
-  abbrev pub entry_now : RowId → Machine → Cost
-  entry_now r s = arrival_now (Device r) s
+  abbrev pub telling_now : Telling → Machine → Cost
+  telling_now telling s = told_now telling (told_device plan telling s) s
 
   abbrev pub list_now : Owner → ListId → Machine → Cost
-  list_now = list_now_by (confirm_entry plan) entry_now
+  list_now = list_now_by (tell_first plan) telling_now
 
   abbrev pub answer_now : RowId → List ℕ → Machine → Cost
-  answer_now = answer_now_by (confirm_entry plan) entry_now
+  answer_now = answer_now_by (tell_first plan) telling_now
 
   abbrev pub call_now : Call → RowId → Machine → Cost
-  call_now = call_now_by (confirm_entry plan) entry_now
+  call_now = call_now_by (tell_first plan) telling_now
 
   abbrev pub target_now : Owner → Target → Machine → Cost
   target_now owner (Run l) s = list_now owner l s
@@ -234,7 +241,7 @@ module _ (plan : PlanView) where
 
   -- a ball that may have arrived on the playfield
   abbrev pub playfield_now : Change → Machine → Cost
-  playfield_now a s = if a.active && (switch_at plan a.switch).confirms_playfield then arrival_now Playfield s else Lines 0
+  playfield_now a s = if a.active && (switch_at plan a.switch).confirms_playfield then telling_now (Arrived Playfield) s else Lines 0
 
   abbrev pub accepted_now : Change → Machine → Cost
   accepted_now a s =
@@ -275,20 +282,28 @@ module _ (plan : PlanView) where
   finals_now true s = each_of (λ player. Lines 1) (range_with_len 1 (length s.players.players))
   finals_now false s = Lines 0
 
-  -- the request to a trough, where a ball is asked for
-  abbrev pub trough_now : Option RowId → Machine → Cost
-  trough_now None s = Lines 0
-  trough_now (Some r) s = call_now (calls.Act (Request 1)) r s
-
+  -- one ball more is wanted, where a ball is asked for
   abbrev pub request_now : Bool → Machine → Cost
-  request_now asks s = if asks then trough_now (first_trough plan) s else Lines 0
+  request_now asks s = if asks then telling_now (Wanted 1) s else Lines 0
 
   -- what an event of the game leads to
-  abbrev pub game_now : GameEvent → Machine → Cost
-  game_now which s =
+  abbrev pub step_game_now : GameEvent → Machine → Cost
+  step_game_now which s =
       let step = step_now plan which s in
       let stepped = do_move plan (Stepped which) s in
       Both (Lines 0) (Both (finals_now step.finals stepped) (Both (request_now step.requests (write_finals plan step.finals stepped)) (cost_of_choice plan step.posts)))
+
+  -- the multiballs, where they end
+  abbrev pub ends_now : Machine → Cost
+  ends_now s = if in_play s.game == 1 then each_now (call_device plan (calls.Act End)) (call_now (calls.Act End)) (multiball_rows plan) s else Lines 0
+
+  -- a ball that has drained
+  abbrev pub drained_now : Option RowId → Machine → Cost
+  drained_now None s = Both (step_game_now BallDrain s) (ends_now (step_game plan BallDrain s))
+  drained_now (Some r) s = call_now (calls.Act Save) r s
+
+  abbrev pub game_now : GameEvent → Machine → Cost
+  game_now which s = if is_drain which then drained_now (first_active_save plan s) s else step_game_now which s
 
   abbrev pub after_now : Work → Machine → Cost
   after_now Nothing s = cost_if_led (led_by plan Nothing)
@@ -336,15 +351,20 @@ module _ (plan : PlanView) where
             (may, (λ entries. game_event-below plan entries (some entries) BallDrain), λ valid free. inr (valid.game_works BallDrain (game valid.entries refl)))
         by_phase false = less quiet (λ w. omega arith)
 
-    module _ (confirm : RowId → Machine → Machine) (now : RowId → Machine → Cost) (confirms : (r : RowId) (s : Machine) → Does plan May (now r s) s (confirm r s)) where
+    module _ (tell : Telling → Machine → Machine) (now : Telling → Machine → Cost) (tells : (telling : Telling) (s : Machine) → Does plan May (now telling s) s (tell telling s)) where
       -- a ball that has entered a device
       does-entry : (owner : Owner) → (ActsAreOwn plan → by owner) → (r : RowId) (drain : Bool) → (HasEntries plan → 0 < length plan.events) → (HasEntries plan → drain ≡ true → HasGame plan) → (origin : Origin) (s : Machine)
-          → Does plan May (Greater (cost_of_drain plan drain) (now r s)) s (after_entry plan confirm owner r drain origin s)
-      does-entry owner may r drain some game Awaited s = less (confirms r s) (λ w. omega arith)
+          → Does plan May (Greater (cost_of_drain plan drain) (now (Arrived (Device r)) s)) s (after_entry plan tell owner r drain origin s)
+      does-entry owner may r drain some game Awaited s = less (tells (Arrived (Device r)) s) (λ w. omega arith)
       does-entry owner may r drain some game Found s = less (does-drain owner may drain some game s) (λ w. omega arith)
       does-entry owner may r drain some game New s = less (does-drain owner may drain some game s) (λ w. omega arith)
 
-      does-action_by : (owner : Owner) → (ActsAreOwn plan → by owner) → (a : Action) (s : Machine) → IsFit owner a → Does plan May (action_now_by confirm now owner a s) s (do_action_by plan confirm owner a s)
+      -- balls that are wanted, if any
+      does-want : (n : ℕ) (s : Machine) → Does plan May (wanted_now tell now n s) s (want_balls tell n s)
+      does-want zero s = quiet
+      does-want (suc n) s = tells (Wanted (suc n)) s
+
+      does-action_by : (owner : Owner) → (ActsAreOwn plan → by owner) → (a : Action) (s : Machine) → IsFit owner a → Does plan May (action_now_by tell now owner a s) s (do_action_by plan tell owner a s)
       does-action_by owner may (Post e) s h = moved (Sent owner e) s (may, h.within, λ valid free. inl (h.free free))
       does-action_by owner may (Pulse coil ms power) s h = moved (Asked owner (commands.Pulse coil ms power)) s (may, h.limits, tt)
       does-action_by owner may (Enable coil power) s h = moved (Asked owner (commands.Enable coil power)) s (may, h.limits, may-hold owner coil power h.own)
@@ -361,10 +381,12 @@ module _ (plan : PlanView) where
       does-action_by owner may (Leave r) s h = moved (Booked owner (calls_of_ledger.Leave r (target_of plan r))) s may
       does-action_by owner may (Lose r) s h = moved (Booked owner (calls_of_ledger.Lose r)) s may
       does-action_by owner may (Arrive r) s h = moved (Booked owner (calls_of_ledger.Arrive (target_of plan r))) s may
+      does-action_by owner may (Request n) s h = tells (Wanted n) s
+      does-action_by owner may (AddBalls n) s h = both (moved (AddedBalls n) s tt) (does-want (missing n s.game) (set_game (more_balls n s.game) s))
 
-      does-list_by : (owner : Owner) → (ActsAreOwn plan → by owner) → (l : ListId) → All (IsItsOwn owner) (actions_at plan l) → (s : Machine) → Does plan May (list_now_by confirm now owner l s) s (do_list_by plan confirm owner l s)
+      does-list_by : (owner : Owner) → (ActsAreOwn plan → by owner) → (l : ListId) → All (IsItsOwn owner) (actions_at plan l) → (s : Machine) → Does plan May (list_now_by tell now owner l s) s (do_list_by plan tell owner l s)
       does-list_by owner may l own s =
-          all_do-does_now plan May (do_action_by plan confirm owner) (action_now_by confirm now owner) (IsFit owner) (does-action_by owner may) (actions_at plan l)
+          all_do-does_now plan May (do_action_by plan tell owner) (action_now_by tell now owner) (IsFit owner) (does-action_by owner may) (actions_at plan l)
           (λ k d there. record {
             within = λ entries. of_list (IsActionWithin plan) entries.lists l k d there;
             free = λ free. of_list (IsFreeAction plan) free.lists l k d there;
@@ -373,38 +395,37 @@ module _ (plan : PlanView) where
           }) s
 
       does-answer_by : (r : RowId) → (ActsAreOwn plan → by (row_at plan r).owner) → (lists : List ℕ) → All (λ k. k < list_count (row_at plan r).settings) lists → (s : Machine)
-          → Does plan May (answer_now_by confirm now r lists s) s (do_answer_by plan confirm r lists s)
+          → Does plan May (answer_now_by tell now r lists s) s (do_answer_by plan tell r lists s)
       does-answer_by r may lists below s =
-          all_do-does_now plan May (λ k. do_list_by plan confirm (row_at plan r).owner (list_of_row plan r k)) (λ k. list_now_by confirm now (row_at plan r).owner (list_of_row plan r k)) (λ k. k < list_count (row_at plan r).settings)
+          all_do-does_now plan May (λ k. do_list_by plan tell (row_at plan r).owner (list_of_row plan r k)) (λ k. list_now_by tell now (row_at plan r).owner (list_of_row plan r k)) (λ k. k < list_count (row_at plan r).settings)
           (λ k t less_than. does-list_by (row_at plan r).owner may (list_of_row plan r k) (row-own r k less_than) t) lists below s
 
-      does-call_by : (call : Call) (r : RowId) → (ActsAreOwn plan → by (row_at plan r).owner) → (s : Machine) → Does plan May (call_now_by confirm now call r s) s (call_device_by plan confirm call r s)
+      does-call_by : (call : Call) (r : RowId) → (ActsAreOwn plan → by (row_at plan r).owner) → (s : Machine) → Does plan May (call_now_by tell now call r s) s (call_device_by plan tell call r s)
       does-call_by call r may s =
           both (moved (Turned call r) s may)
           (does-answer_by r may (called plan call r s).1 (lists_are_of_the_row (row_at plan r).settings call s.moment (world_of s) (device_at s r)) (set_device r (called plan call r s).0 s))
 
-    -- a device that is told of an arrival confirms none
-    pub does-confirm_call : (call : Call) (r : RowId) → (ActsAreOwn plan → by (row_at plan r).owner) → (s : Machine) → Does plan May (call_now_by no_confirm none_now call r s) s (call_device_by plan no_confirm call r s)
-    does-confirm_call = does-call_by no_confirm none_now (λ r s. quiet)
+    -- a device that is told something tells nobody
+    does-told_call : (call : Call) (r : RowId) → (ActsAreOwn plan → by (row_at plan r).owner) → (s : Machine) → Does plan May (call_now_by tell_nobody nobody_now call r s) s (call_device_by plan tell_nobody call r s)
+    does-told_call = does-call_by tell_nobody nobody_now (λ telling s. quiet)
 
-    -- a ball has arrived at the target
-    pub does-arrival : (target : BallTarget) (s : Machine) → Does plan May (arrival_now target s) s (confirm_first_away plan target s)
-    does-arrival target s = by_first (first_away plan target s) refl
+    pub does-telling : (telling : Telling) (s : Machine) → Does plan May (telling_now telling s) s (tell_first plan telling s)
+    does-telling telling s = by_first (told_device plan telling s) refl
       where
-        by_first : (o : Option RowId) → first_away plan target s ≡ o → Does plan May (confirm_now o s) s (confirm_of plan o s)
+        by_first : (o : Option RowId) → told_device plan telling s ≡ o → Does plan May (told_now telling o s) s (tell_device plan telling o s)
         by_first None is = quiet
-        by_first (Some r) is = does-confirm_call (calls.Act Confirm) r (λ own. subst by (sym ((first_away-is plan target s r is).owner own)) machine) s
+        by_first (Some r) is = does-told_call (calls.Act (act_told telling)) r (λ own. subst by (sym ((told_device-is plan telling s r is).owner own)) machine) s
 
     does-list : (owner : Owner) → (ActsAreOwn plan → by owner) → (l : ListId) → All (IsItsOwn owner) (actions_at plan l) → (s : Machine) → Does plan May (list_now owner l s) s (do_list plan owner l s)
-    does-list = does-list_by (confirm_entry plan) entry_now (λ r s. does-arrival (Device r) s)
+    does-list = does-list_by (tell_first plan) telling_now does-telling
 
     -- what a device answers
     pub does-answer : (r : RowId) → (ActsAreOwn plan → by (row_at plan r).owner) → (lists : List ℕ) → All (λ k. k < list_count (row_at plan r).settings) lists → (s : Machine) → Does plan May (answer_now r lists s) s (do_answer plan r lists s)
-    does-answer = does-answer_by (confirm_entry plan) entry_now (λ r s. does-arrival (Device r) s)
+    does-answer = does-answer_by (tell_first plan) telling_now does-telling
 
     -- a device of an owner by whom it may be
     pub does-call : (call : Call) (r : RowId) → (ActsAreOwn plan → by (row_at plan r).owner) → (s : Machine) → Does plan May (call_now call r s) s (call_device plan call r s)
-    does-call = does-call_by (confirm_entry plan) entry_now (λ r s. does-arrival (Device r) s)
+    does-call = does-call_by (tell_first plan) telling_now does-telling
 
     does-target : (owner : Owner) → (ActsAreOwn plan → by owner) → (t : Target) → (HasEntries plan → IsThere t) → (ActsAreOwn plan → IsOwnAct plan owner t)
         → ((l : ListId) → t ≡ Run l → All (IsItsOwn owner) (actions_at plan l)) → (s : Machine) → Does plan May (target_now owner t s) s (do_target plan owner t s)
@@ -445,8 +466,8 @@ module _ (plan : PlanView) where
     does-playfield : (a : Change) (s : Machine) → Does plan May (playfield_now a s) s (confirm_on_playfield plan a s)
     does-playfield a s = by_switch (a.active && (switch_at plan a.switch).confirms_playfield)
       where
-        by_switch : (b : Bool) → Does plan May (if b then arrival_now Playfield s else Lines 0) s (if b then confirm_first_away plan Playfield s else s)
-        by_switch true = does-arrival Playfield s
+        by_switch : (b : Bool) → Does plan May (if b then telling_now (Arrived Playfield) s else Lines 0) s (if b then tell_first plan (Arrived Playfield) s else s)
+        by_switch true = does-telling (Arrived Playfield) s
         by_switch false = quiet
 
     -- an acceptance
@@ -518,6 +539,7 @@ module _ (plan : PlanView) where
       each (Booked owner call) may = may
       each (Varied v value) may = may
       each (Stepped which) may = may
+      each (AddedBalls n) may = may
 
   works-calls : (call : Call) (m : ModeId) (s : Machine) → Does plan (MayWork plan) (calls_now call m s) s (call_devices plan call m s)
   works-calls call m s = works (does-calls (λ owner. Unit {0}) tt call m tt s)
@@ -538,21 +560,13 @@ module _ (plan : PlanView) where
       (range_with_len 1 (length s.players.players)) (λ k d there. tt) s
   does-finals false s = quiet
 
-  -- a trough is asked for a ball
-  pub does-trough : (by : Owner → Type 0) → by owners.Machine → (s : Machine) → Does plan (MayDo plan (ordinary plan by ⊥)) (trough_now (first_trough plan) s) s (ask_trough plan (first_trough plan) s)
-  does-trough by machine s = by_first (first_trough plan) refl
-    where
-      by_first : (o : Option RowId) → first_trough plan ≡ o → Does plan (MayDo plan (ordinary plan by ⊥)) (trough_now o s) s (ask_trough plan o s)
-      by_first None is = quiet
-      by_first (Some r) is = does-call by ⊥ machine (calls.Act (Request 1)) r (λ own. subst by (sym ((first_trough-is plan r is).owner own)) machine) s
-
   pub does-request : (by : Owner → Type 0) → by owners.Machine → (asks : Bool) (s : Machine) → Does plan (MayDo plan (ordinary plan by ⊥)) (request_now asks s) s (ask_ball plan asks s)
-  does-request by machine true s = does-trough by machine s
+  does-request by machine true s = does-telling by ⊥ machine (Wanted 1) s
   does-request by machine false s = quiet
 
   -- the game goes on by an event that has this work
-  does-game : (which : GameEvent) (e : EventId) → work_of plan e ≡ Game which → (s : Machine) → Does plan (MayWork plan) (game_now which s) s (do_game plan which s)
-  does-game which e is s =
+  pub does-step : (which : GameEvent) (e : EventId) → work_of plan e ≡ Game which → (s : Machine) → Does plan (MayWork plan) (step_game_now which s) s (step_game plan which s)
+  does-step which e is s =
       let step = step_now plan which s in
       let stepped = do_move plan (Stepped which) s in
       let written = write_finals plan step.finals stepped in
@@ -560,6 +574,32 @@ module _ (plan : PlanView) where
       (both (works (does-request (λ owner. Unit {0}) tt step.requests written))
       (all_do-does plan (MayWork plan) (post_game plan) (λ other. cost_of_post (game_event plan other)) (λ other. Unit {0})
       (λ other t h. moved (Sent owners.Machine (game_event plan other)) t (λ own. tt, λ entries. game_event-below plan entries (game_has-event plan entries e which is) other, tt)) step.posts (λ k d there. tt) (ask_ball plan step.requests written))))
+
+  -- devices of any owners are told by the machine's work
+  works-call : (call : Call) (r : RowId) (s : Machine) → Does plan (MayWork plan) (call_now call r s) s (call_device plan call r s)
+  works-call call r s = works (does-call (λ owner. Unit {0}) ⊥ tt call r (λ own. tt) s)
+
+  -- the multiballs end, where only one ball is left
+  does-ends : (s : Machine) → Does plan (MayWork plan) (ends_now s) s (end_multiballs plan s)
+  does-ends s = by (in_play s.game == 1)
+    where
+      by : (b : Bool) → Does plan (MayWork plan) (if b then each_now (call_device plan (calls.Act End)) (call_now (calls.Act End)) (multiball_rows plan) s else Lines 0) s
+          (if b then all_do (call_device plan (calls.Act End)) (multiball_rows plan) s else s)
+      by true = all_do-does_now plan (MayWork plan) (call_device plan (calls.Act End)) (call_now (calls.Act End)) (λ r. Unit {0}) (λ r t h. works-call (calls.Act End) r t) (multiball_rows plan) (λ k d there. tt) s
+      by false = quiet
+
+  -- a ball has drained, which a ball save may save
+  does-drained : (e : EventId) → work_of plan e ≡ Game BallDrain → (o : Option RowId) (s : Machine) → Does plan (MayWork plan) (drained_now o s) s (drain_ball plan o s)
+  does-drained e is None s = both (does-step BallDrain e is s) (does-ends (step_game plan BallDrain s))
+  does-drained e is (Some r) s = works-call (calls.Act Save) r s
+
+  does-game : (which : GameEvent) (e : EventId) → work_of plan e ≡ Game which → (s : Machine) → Does plan (MayWork plan) (game_now which s) s (do_game plan which s)
+  does-game which e is s = by (is_drain which) refl
+    where
+      by : (b : Bool) → is_drain which ≡ b → Does plan (MayWork plan) (if b then drained_now (first_active_save plan s) s else step_game_now which s) s
+          (if b then drain_ball plan (first_active_save plan s) s else step_game plan which s)
+      by true drains = does-drained e (is ∙ ap Game (drain-is which drains)) (first_active_save plan s) s
+      by false other = does-step which e is s
 
   -- a mode has stopped, and the ball may end
   does-release : (m : ModeId) (s : Machine) → m.0 < length plan.modes → Does plan (MayWork plan) (cost_if_led (led_by_stopped plan m)) s (release_ball_end plan m s)

@@ -1,18 +1,18 @@
 -- What things cost in a state is within what they cost in any, where each device has a state of its shape.
-use Rattle.std.proofs.Common.{◌≡◌, ℕ, ℤ, ◌+◌, ◌<◌, ◌≤◌, Bool, true, false, if◌then◌else◌, cond, filter, inl, inr, Option, None, Some, List, [], ◌∷◌, length, refl, ap, sym, subst, arith}
+use Rattle.std.proofs.Common.{◌≡◌, ℕ, ℤ, ◌+◌, ◌<◌, ◌≤◌, Bool, true, false, if◌then◌else◌, cond, filter, inl, inr, Option, None, Some, List, [], ◌∷◌, length, refl, ap, sym, subst, arith, zero, suc, ◌==◌, ◌∙◌}
 use Rattle.std.specs.Prelude.{◌&&◌, IsSome, Contains}
 use Rattle.std.specs.List.{All, list_any, range_with_len}
 use Rattle.std.proofs.lemmas.Bool.{cases_lt}
 use Rattle.std.proofs.lemmas.List.{get_or_past}
 use Rattle.std.proofs.lemmas.List.FromFn.{length-range_with_len}
 use Rattle.std.proofs.lemmas.List.Elements.{All-get_or, All-head, All-nil, All-tail}
-use Rattle.plan_tables.specs.PlanView.{PlanView, act_of_listener, actions_at, actions_of, coil_numbers, feeders_of, first_trough, game_event, is_enable_of, list_of_row, listeners_of, no_switch, binding_at, row_at, row_numbers, rows_of, switch_at, target_of}
+use Rattle.plan_tables.specs.PlanView.{PlanView, act_of_listener, actions_at, actions_of, coil_numbers, feeders_of, first_trough, game_event, is_enable_of, list_of_row, listeners_of, no_switch, binding_at, row_at, row_numbers, rows_of, switch_at, target_of, multiball_rows, save_rows, is_save, is_multiball, act_told, work_of}
 use Rattle.plan_tables.specs.declared.entries.Action.{Action}
-use Rattle.plan_tables.specs.declared.entries.Action.TheVariants.{Post, Pulse, Enable, Disable, Change as ChangeVariable, Enter, Leave, Lose, Arrive}
+use Rattle.plan_tables.specs.declared.entries.Action.TheVariants.{Post, Pulse, Enable, Disable, Change as ChangeVariable, Enter, Leave, Lose, Arrive, Request, AddBalls}
 use Rattle.plan_tables.specs.declared.entries.ListId.{ListId}
 use Rattle.plan_tables.specs.declared.entries.VariableId.{VariableId}
 use Rattle.plan_tables.specs.declared.entries.GameEvent.TheVariants.{BallDrain}
-use Rattle.plan_tables.specs.declared.devices.Act.TheVariants.{Confirm, Request}
+use Rattle.plan_tables.specs.declared.devices.Act.TheVariants.{Save, End}
 use Rattle.plan_tables.specs.declared.devices.BallTarget.{BallTarget}
 use Rattle.plan_tables.specs.declared.devices.BallTarget.TheVariants.{Playfield, Device}
 use Rattle.ball_devices.specs.declared.booking.Origin.{Origin}
@@ -41,8 +41,8 @@ use Rattle.plan_tables.specs.declared.entries.Work.TheVariants.{Nothing, Mode, G
 use Rattle.plan_tables.specs.declared.entries.GameEvent.{GameEvent}
 use Rattle.plan_tables.specs.declared.entries.GameRules.{GameRules}
 use Rattle.player_game.specs.Players.{is_met, changed_to, after_change as players_after_change, most_players}
-use Rattle.player_game.specs.GameStep.{GameStep, game_step, is_ball_on}
-use Rattle.player_game.specs.Choices.{choices, tells_scores, AreFew}
+use Rattle.player_game.specs.GameStep.{GameStep, game_step, is_ball_on, missing, more_balls, in_play}
+use Rattle.player_game.specs.Choices.{choices, tells_scores, AreFew, is_drain}
 use Rattle.player_game.proofs.Chosen.{steps_are_choices}
 use Rattle.player_game.proofs.StayFew.{players_stay_few}
 use Rattle.plan_tables.specs.declared.devices.RowId.{RowId}
@@ -55,19 +55,24 @@ use Rattle.device_objects.proofs.Answered.{answers_are_outcomes}
 use Rattle.device_objects.proofs.Moments.{stopped-silent}
 use Rattle.mode_stack.specs.ModeStep.{entered}
 use Rattle.mode_stack.specs.Modes.{mode_state}
-use Rattle.cascade_rank.specs.Cost.{Cost, Lines, price, each_of, dearest_of, cost_of_acceptance, cost_of_action_by, cost_of_list_by, cost_of_answer_by, cost_of_call_by, no_confirm_cost, entry_confirm_cost, cost_of_arrival, cost_of_list, cost_of_call, cost_of_choice, cost_of_trough, cost_of_request, cost_of_playfield_switch, cost_of_game, cost_of_listener, cost_of_releases, cost_of_target, cost_of_starts, led_by, cost_if_led}
+use Rattle.cascade_rank.specs.Cost.{Cost, Lines, price, each_of, dearest_of, cost_of_acceptance, cost_of_action_by, cost_of_list_by, cost_of_answer_by, cost_of_call_by, cost_of_nobody, cost_of_told, cost_of_telling, cost_of_arrival, cost_of_scores, cost_of_list, cost_of_call, cost_of_choice, cost_of_trough, cost_of_request, cost_of_playfield_switch, cost_of_game, cost_of_listener, cost_of_releases, cost_of_target, cost_of_starts, led_by, cost_if_led}
 use Rattle.cascade_rank.specs.Weights.{bound_of}
 use Rattle.cascade_rank.proofs.Prices.{price-dearest}
 use Rattle.cascade_rank.proofs.Rows.{length-rows, row_of}
-use Rattle.written_machine.specs.Machine.{Machine, write, post, set_switches, set_mode, set_device, set_players, all_do, ask_coil, release_coil, tell_change, book, drain_if, after_entry, do_action_by, do_list_by, do_answer_by, call_device_by, first_away, no_confirm, confirm_of, confirm_first_away, confirm_entry, world_of, device_at, called, call_device, call_devices, tell_listener, tell_listeners, home_of, write_finals, do_handler}
+use Rattle.plan_tables.specs.declared.devices.Telling.{Telling}
+use Rattle.plan_tables.specs.declared.devices.Telling.TheVariants.{Arrived, Wanted}
+use Rattle.written_machine.specs.Machine.{Machine, write, post, set_switches, set_mode, set_device, set_players, all_do, ask_coil, release_coil, tell_change, book, drain_if, after_entry, do_action_by, do_list_by, do_answer_by, call_device_by, first_away, tell_nobody, tell_device, tell_first, want_balls, step_game, first_active_save, set_game, world_of, device_at, called, call_device, call_devices, tell_listener, tell_listeners, home_of, write_finals, do_handler, end_multiballs, drain_ball}
 use Rattle.written_machine.specs.Devices.{HasDevices}
 use Rattle.written_machine.specs.Run.{switch, device, source_due, Stimulus, SwitchChange, Alarm, Wait, arrived}
 use Rattle.written_machine.specs.StimulusCost.{cost_if_accepted, cost_of_stimulus}
 use Rattle.written_machine.specs.Moves.{Turned, Booked, Stepped, step_now, do_move}
 use Rattle.written_machine.proofs.Does.{each_now, has_devices-does, has_devices-move, HasCoils, asked-has_coils}
-use Rattle.written_machine.proofs.Feeding.{first_away-is, first_trough-is}
+use Rattle.written_machine.proofs.Feeding.{first_away-is, first_trough-is, multiballs-within, first_active_save-is}
+use Rattle.written_machine.proofs.Drains.{last-posts}
+use Rattle.player_game.proofs.DrainEvent.{drain-is}
+use Rattle.device_objects.proofs.Requests.{requests-alike}
 use Rattle.written_machine.proofs.Resting.{stops-turn}
-use Rattle.written_machine.proofs.Parts.{IsThere, target-there, cost_of_handler, action_now_by, list_now_by, answer_now_by, call_now_by, none_now, confirm_now, arrival_now, entry_now, list_now, answer_now, call_now, target_now, handler_now, listener_now, playfield_now, accepted_now, if_accepted_now, release_now, stimulus_now, before_now, finals_now, trough_now, request_now, after_now, does-handler, does-finals}
+use Rattle.written_machine.proofs.Parts.{IsThere, target-there, cost_of_handler, action_now_by, list_now_by, answer_now_by, call_now_by, nobody_now, told_now, telling_now, wanted_now, list_now, answer_now, call_now, target_now, handler_now, listener_now, playfield_now, accepted_now, if_accepted_now, release_now, stimulus_now, before_now, finals_now, request_now, step_game_now, drained_now, game_now, after_now, does-handler, does-finals, does-step}
 
 module _ (plan : PlanView) (entries : HasEntries plan) (w : EventId → ℕ) where
   dearest-of : {X : Type 0} (f : X → Cost) (xs : List X) (x : X) → Contains xs x → price w (f x) ≤ price w (dearest_of f xs)
@@ -96,16 +101,21 @@ module _ (plan : PlanView) (entries : HasEntries plan) (w : EventId → ℕ) whe
       by true = has
       by false = has
 
-  -- where each confirm is within its cost
-  module _ (confirm : RowId → Machine → Machine) (now : RowId → Machine → Cost) (cost : RowId → Cost)
-      (confirms : (r : RowId) (s : Machine) → HasDevices plan s.devices → (price w (now r s) ≤ price w (cost r)) × HasDevices plan (confirm r s).devices) where
-    entry-devices : (owner : Owner) (r : RowId) (drain : Bool) (origin : Origin) (s : Machine) → HasDevices plan s.devices → HasDevices plan (after_entry plan confirm owner r drain origin s).devices
-    entry-devices owner r drain Awaited s has = (confirms r s has).1
+  -- where each telling is within its cost, and more balls cost the same to ask for
+  module _ (tell : Telling → Machine → Machine) (now : Telling → Machine → Cost) (cost : Telling → Cost)
+      (tells : (telling : Telling) (s : Machine) → HasDevices plan s.devices → (price w (now telling s) ≤ price w (cost telling)) × HasDevices plan (tell telling s).devices)
+      (alike : (m n : ℕ) → price w (cost (Wanted m)) ≡ price w (cost (Wanted n))) where
+    entry-devices : (owner : Owner) (r : RowId) (drain : Bool) (origin : Origin) (s : Machine) → HasDevices plan s.devices → HasDevices plan (after_entry plan tell owner r drain origin s).devices
+    entry-devices owner r drain Awaited s has = (tells (Arrived (Device r)) s has).1
     entry-devices owner r drain Found s has = drain-devices owner drain s has
     entry-devices owner r drain New s has = drain-devices owner drain s has
 
+    want-priced : (n k : ℕ) (s : Machine) → HasDevices plan s.devices → (price w (wanted_now plan tell now k s) ≤ price w (cost (Wanted n))) × HasDevices plan (want_balls tell k s).devices
+    want-priced n zero s has = (omega arith, has)
+    want-priced n (suc k) s has = let told = tells (Wanted (suc k)) s has in (omega (arith, told.0, alike (suc k) n), told.1)
+
     action-priced : (owner : Owner) (a : Action) (s : Machine) → HasDevices plan s.devices
-        → (price w (action_now_by plan confirm now owner a s) ≤ price w (cost_of_action_by plan cost a)) × HasDevices plan (do_action_by plan confirm owner a s).devices
+        → (price w (action_now_by plan tell now owner a s) ≤ price w (cost_of_action_by plan cost a)) × HasDevices plan (do_action_by plan tell owner a s).devices
     action-priced owner (Post e) s has = (omega arith, has)
     action-priced owner (Pulse coil ms power) s has = (omega arith, has)
     action-priced owner (Enable coil power) s has = (omega arith, has)
@@ -116,26 +126,30 @@ module _ (plan : PlanView) (entries : HasEntries plan) (w : EventId → ℕ) whe
     action-priced owner (Enter r e drain) s has =
         let posted = post owner e (book owner (calls_of_ledger.Enter r) s) in
         let still = has_devices-move plan (Booked owner (calls_of_ledger.Enter r)) s has in
-        let confirmed = confirms r posted still in
-        (omega (arith, confirmed.0), entry-devices owner r drain (origin_of r s.ledger) posted still)
+        let told = tells (Arrived (Device r)) posted still in
+        (omega (arith, told.0), entry-devices owner r drain (origin_of r s.ledger) posted still)
     action-priced owner (Leave r) s has = (omega arith, has_devices-move plan (Booked owner (calls_of_ledger.Leave r (target_of plan r))) s has)
     action-priced owner (Lose r) s has = (omega arith, has_devices-move plan (Booked owner (calls_of_ledger.Lose r)) s has)
     action-priced owner (Arrive r) s has = (omega arith, has_devices-move plan (Booked owner (calls_of_ledger.Arrive (target_of plan r))) s has)
+    action-priced owner (Request n) s has = tells (Wanted n) s has
+    action-priced owner (AddBalls n) s has =
+        let wanted = want-priced n (missing n s.game) (set_game (more_balls n s.game) s) has in
+        (omega (arith, wanted.0), wanted.1)
 
     list-priced_by : (owner : Owner) (l : ListId) (s : Machine) → HasDevices plan s.devices
-        → (price w (list_now_by plan confirm now owner l s) ≤ price w (cost_of_list_by plan cost l)) × HasDevices plan (do_list_by plan confirm owner l s).devices
+        → (price w (list_now_by plan tell now owner l s) ≤ price w (cost_of_list_by plan cost l)) × HasDevices plan (do_list_by plan tell owner l s).devices
     list-priced_by owner l s has =
-        each-priced (do_action_by plan confirm owner) (action_now_by plan confirm now owner) (cost_of_action_by plan cost) (λ a. Unit {0}) (λ a t h k. action-priced owner a t k) (actions_at plan l) (λ i d there. tt) s has
+        each-priced (do_action_by plan tell owner) (action_now_by plan tell now owner) (cost_of_action_by plan cost) (λ a. Unit {0}) (λ a t h k. action-priced owner a t k) (actions_at plan l) (λ i d there. tt) s has
 
     answer-priced_by : (r : RowId) (lists : List ℕ) (s : Machine) → HasDevices plan s.devices
-        → (price w (answer_now_by plan confirm now r lists s) ≤ price w (cost_of_answer_by plan cost r lists)) × HasDevices plan (do_answer_by plan confirm r lists s).devices
+        → (price w (answer_now_by plan tell now r lists s) ≤ price w (cost_of_answer_by plan cost r lists)) × HasDevices plan (do_answer_by plan tell r lists s).devices
     answer-priced_by r lists s has =
-        each-priced (λ k. do_list_by plan confirm (row_at plan r).owner (list_of_row plan r k)) (λ k. list_now_by plan confirm now (row_at plan r).owner (list_of_row plan r k)) (λ k. cost_of_list_by plan cost (list_of_row plan r k)) (λ k. Unit {0})
+        each-priced (λ k. do_list_by plan tell (row_at plan r).owner (list_of_row plan r k)) (λ k. list_now_by plan tell now (row_at plan r).owner (list_of_row plan r k)) (λ k. cost_of_list_by plan cost (list_of_row plan r k)) (λ k. Unit {0})
         (λ k t h d. list-priced_by (row_at plan r).owner (list_of_row plan r k) t d) lists (λ i d there. tt) s has
 
     -- a device that is called
     call-priced_by : (call : Call) (r : RowId) (s : Machine) → r.0 < length plan.rows → HasDevices plan s.devices → MayCome call (device_at s r)
-        → (price w (call_now_by plan confirm now call r s) ≤ price w (cost_of_call_by plan cost r call)) × HasDevices plan (call_device_by plan confirm call r s).devices
+        → (price w (call_now_by plan tell now call r s) ≤ price w (cost_of_call_by plan cost r call)) × HasDevices plan (call_device_by plan tell call r s).devices
     call-priced_by call r s there has may =
         let settings = (row_at plan r).settings in
         let lists = (called plan call r s).1 in
@@ -149,28 +163,47 @@ module _ (plan : PlanView) (entries : HasEntries plan) (w : EventId → ℕ) whe
           done.1,
         )
 
-  -- ---- balls that have arrived
+  -- ---- what ball devices are told
 
-  -- the device that is told of it is one of those that may be
-  arrival-priced : (target : BallTarget) (s : Machine) → HasDevices plan s.devices
-      → (price w (arrival_now plan target s) ≤ price w (cost_of_arrival plan target)) × HasDevices plan (confirm_first_away plan target s).devices
-  arrival-priced target s has = by (first_away plan target s) refl
+  -- a device that is told something tells nobody
+  told-priced : (telling : Telling) (r : RowId) (s : Machine) → r.0 < length plan.rows → HasDevices plan s.devices
+      → (price w (told_now plan telling (Some r) s) ≤ price w (cost_of_told plan telling r)) × HasDevices plan (tell_device plan telling (Some r) s).devices
+  told-priced telling r s there has =
+      call-priced_by tell_nobody (nobody_now plan) cost_of_nobody (λ other t k. (omega arith, k)) (λ m n. refl) (calls.Act (act_told telling)) r s there has tt
+
+  -- the device that is told is one of those that may be
+  telling-priced : (telling : Telling) (s : Machine) → HasDevices plan s.devices
+      → (price w (telling_now plan telling s) ≤ price w (cost_of_telling plan telling)) × HasDevices plan (tell_first plan telling s).devices
+  telling-priced (Arrived target) s has = by (first_away plan target s) refl
     where
-      by : (o : Option RowId) → first_away plan target s ≡ o → (price w (confirm_now plan o s) ≤ price w (cost_of_arrival plan target)) × HasDevices plan (confirm_of plan o s).devices
+      by : (o : Option RowId) → first_away plan target s ≡ o → (price w (told_now plan (Arrived target) o s) ≤ price w (cost_of_arrival plan target)) × HasDevices plan (tell_device plan (Arrived target) o s).devices
       by None is = (omega arith, has)
       by (Some r) is =
           let first = first_away-is plan target s r is in
-          let priced = call-priced_by no_confirm (none_now plan) no_confirm_cost (λ q t k. (omega arith, k)) (calls.Act Confirm) r s first.there has tt in
-          (omega (arith, priced.0, dearest-of (λ q. cost_of_call_by plan no_confirm_cost q (calls.Act Confirm)) (feeders_of plan target) r first.listed), priced.1)
+          let priced = told-priced (Arrived target) r s first.there has in
+          (omega (arith, priced.0, dearest-of (cost_of_told plan (Arrived target)) (feeders_of plan target) r first.listed), priced.1)
+  telling-priced (Wanted n) s has = by (first_trough plan) refl
+    where
+      by : (o : Option RowId) → first_trough plan ≡ o → (price w (told_now plan (Wanted n) o s) ≤ price w (cost_of_trough plan n o)) × HasDevices plan (tell_device plan (Wanted n) o s).devices
+      by None is = (omega arith, has)
+      by (Some r) is = told-priced (Wanted n) r s (first_trough-is plan r is).there has
+
+  -- to ask for more balls costs the same
+  wanted-alike : (m n : ℕ) → price w (cost_of_telling plan (Wanted m)) ≡ price w (cost_of_telling plan (Wanted n))
+  wanted-alike m n = by (first_trough plan)
+    where
+      by : (o : Option RowId) → price w (cost_of_trough plan m o) ≡ price w (cost_of_trough plan n o)
+      by None = refl
+      by (Some r) = ap (λ (answers : List (List ℕ)). price w (dearest_of (cost_of_answer_by plan cost_of_nobody r) answers)) (requests-alike (row_at plan r).settings m n)
 
   -- ---- devices
 
   list-priced : (owner : Owner) (l : ListId) (s : Machine) → HasDevices plan s.devices → price w (list_now plan owner l s) ≤ price w (cost_of_list plan l)
-  list-priced owner l s has = (list-priced_by (confirm_entry plan) (entry_now plan) (entry_confirm_cost plan) (λ r t k. arrival-priced (Device r) t k) owner l s has).0
+  list-priced owner l s has = (list-priced_by (tell_first plan) (telling_now plan) (cost_of_telling plan) telling-priced wanted-alike owner l s has).0
 
   call-priced : (call : Call) (r : RowId) (s : Machine) → r.0 < length plan.rows → HasDevices plan s.devices → MayCome call (device_at s r)
       → (price w (call_now plan call r s) ≤ price w (cost_of_call plan r call)) × HasDevices plan (call_device plan call r s).devices
-  call-priced = call-priced_by (confirm_entry plan) (entry_now plan) (entry_confirm_cost plan) (λ r t k. arrival-priced (Device r) t k)
+  call-priced = call-priced_by (tell_first plan) (telling_now plan) (cost_of_telling plan) telling-priced wanted-alike
 
   -- a device whose mode stops costs nothing
   stop-free : (r : RowId) (s : Machine) → price w (call_now plan calls.ModeStop r s) ≡ 0
@@ -265,22 +298,14 @@ module _ (plan : PlanView) (entries : HasEntries plan) (w : EventId → ℕ) whe
       omega (arith, lines-each (range_with_len 1 (length s.players.players)), length-range_with_len 1 (length s.players.players), most)
   finals-priced false s few = omega arith
 
-  -- the first trough is one of the plan's devices
-  trough-priced : (s : Machine) → HasDevices plan s.devices → price w (trough_now plan (first_trough plan) s) ≤ price w (cost_of_trough plan (first_trough plan))
-  trough-priced s has = by (first_trough plan) refl
-    where
-      by : (o : Option RowId) → first_trough plan ≡ o → price w (trough_now plan o s) ≤ price w (cost_of_trough plan o)
-      by None is = omega arith
-      by (Some r) is = (call-priced (calls.Act (Request 1)) r s (first_trough-is plan r is).there has tt).0
-
-  request-priced : (asks : Bool) (s : Machine) → HasDevices plan s.devices → price w (request_now plan asks s) ≤ price w (if asks then cost_of_trough plan (first_trough plan) else Lines 0)
-  request-priced true s has = trough-priced s has
+  request-priced : (asks : Bool) (s : Machine) → HasDevices plan s.devices → price w (request_now plan asks s) ≤ price w (if asks then cost_of_telling plan (Wanted 1) else Lines 0)
+  request-priced true s has = (telling-priced (Wanted 1) s has).0
   request-priced false s has = omega arith
 
   -- scores are told and a ball is asked for at most where the event says so, and the posts are one of its choices, or none
   record IsChosen (which : GameEvent) (step : GameStep) : Type 0 where
     told : (k : ℕ) → (if step.finals then k else 0) ≤ (if tells_scores which then k else 0)
-    requests : price w (if step.requests then cost_of_trough plan (first_trough plan) else Lines 0) ≤ price w (cost_of_request plan which)
+    requests : price w (if step.requests then cost_of_telling plan (Wanted 1) else Lines 0) ≤ price w (cost_of_request plan which)
     posts : price w (cost_of_choice plan step.posts) ≤ price w (dearest_of (cost_of_choice plan) (choices which))
 
   chosen : (game : Option GameRules) (which : GameEvent) (s : Machine) → IsChosen which (game_step game plan which (home_of plan s) s.game s.players)
@@ -288,38 +313,83 @@ module _ (plan : PlanView) (entries : HasEntries plan) (w : EventId → ℕ) whe
   chosen None which s = record { told = λ k. omega arith; requests = omega arith; posts = omega arith }
   chosen (Some rules) which s =
       let tells = steps_are_choices.finals rules plan which (home_of plan s) s.game s.players in
-      let asks = ap (λ (b : Bool). price w (if b then cost_of_trough plan (first_trough plan) else Lines 0)) (steps_are_choices.requests rules plan which (home_of plan s) s.game s.players) in
+      let asks = ap (λ (b : Bool). price w (if b then cost_of_telling plan (Wanted 1) else Lines 0)) (steps_are_choices.requests rules plan which (home_of plan s) s.game s.players) in
       record {
         told = λ k. subst (λ (b : Bool). (if b then k else 0) ≤ (if tells_scores which then k else 0)) (sym tells) (omega arith);
         requests = omega (arith, asks);
         posts = dearest-of (cost_of_choice plan) (choices which) (game_step (Some rules) plan which (home_of plan s) s.game s.players).posts (steps_are_choices.posts rules plan which (home_of plan s) s.game s.players);
       }
 
-  game-priced : (which : GameEvent) (s : Machine) → HasDevices plan s.devices → AreFew plan s.players → price w (after_now plan (Game which) s) ≤ price w (cost_of_game plan (Game which))
-  game-priced which s has few =
+  -- the game's own step, with the posts that it makes
+  step-priced : (which : GameEvent) (s : Machine) → HasDevices plan s.devices → AreFew plan s.players
+      → price w (step_game_now plan which s) ≤ price w (cost_of_scores plan which) + (price w (cost_of_request plan which) + price w (cost_of_choice plan (step_now plan which s).posts))
+  step-priced which s has few =
       let step = step_now plan which s in
       let stepped = do_move plan (Stepped which) s in
       let is = chosen plan.game which s in
       let told = is.told (most_players plan.game) in
-      let posts = is.posts in
       let finals = finals-priced step.finals stepped (players_stay_few plan which (home_of plan s) s.game s.players few) in
       let asked = request-priced step.requests (write_finals plan step.finals stepped) (has_devices-does plan (does-finals plan step.finals stepped) has) in
       let requests = is.requests in
-      omega (arith, told, posts, finals, asked, requests)
+      omega (arith, told, finals, asked, requests)
 
-  pub after-priced : (work : Work) (s : Machine) → HasDevices plan s.devices → HasCoils plan s.coils → AreFew plan s.players
+  -- each multiball ends
+  each_end-priced : (s : Machine) → HasDevices plan s.devices
+      → price w (each_now (call_device plan (calls.Act End)) (call_now plan (calls.Act End)) (multiball_rows plan) s) ≤ price w (each_of (λ r. cost_of_call plan r (calls.Act End)) (multiball_rows plan))
+  each_end-priced s has =
+      (each-priced (call_device plan (calls.Act End)) (call_now plan (calls.Act End)) (λ r. cost_of_call plan r (calls.Act End)) (λ r. r.0 < length plan.rows)
+      (λ r t there k. call-priced (calls.Act End) r t there k tt) (multiball_rows plan) (multiballs-within plan) s has).0
+
+  -- A ball has drained that is not saved. Where multiballs end, the game posts nothing.
+  counted-priced : (e : EventId) → work_of plan e ≡ Game BallDrain → (s : Machine) → HasDevices plan s.devices → AreFew plan s.players → price w (drained_now plan None s) ≤ price w (cost_of_game plan (Game BallDrain))
+  counted-priced e is s has few = by (in_play after.game == 1) refl
+    where
+      after : Machine
+      after = step_game plan BallDrain s
+
+      posts : price w (cost_of_choice plan (step_now plan BallDrain s).posts) ≤ price w (dearest_of (cost_of_choice plan) (choices BallDrain))
+      posts = (chosen plan.game BallDrain s).posts
+
+      by : (b : Bool) → (in_play after.game == 1) ≡ b
+          → price w (step_game_now plan BallDrain s) + price w (if b then each_now (call_device plan (calls.Act End)) (call_now plan (calls.Act End)) (multiball_rows plan) after else Lines 0) ≤ price w (cost_of_game plan (Game BallDrain))
+      by true one =
+          let silent = ap (λ (es : List GameEvent). price w (cost_of_choice plan es)) (last-posts plan s one) in
+          let ends = each_end-priced after (has_devices-does plan (does-step plan BallDrain e is s) has) in
+          omega (arith, step-priced BallDrain s has few, silent, ends)
+      by false more = omega (arith, step-priced BallDrain s has few, posts)
+
+  -- the first ball save that is active is one of those that may save it
+  drained-priced : (e : EventId) → work_of plan e ≡ Game BallDrain → (s : Machine) → HasDevices plan s.devices → AreFew plan s.players
+      → (o : Option RowId) → first_active_save plan s ≡ o → price w (drained_now plan o s) ≤ price w (cost_of_game plan (Game BallDrain))
+  drained-priced e work s has few None is = counted-priced e work s has few
+  drained-priced e work s has few (Some r) is =
+      let first = first_active_save-is plan s r is in
+      let saved = call-priced (calls.Act Save) r s first.there has tt in
+      omega (arith, saved.0, dearest-of (λ q. cost_of_call plan q (calls.Act Save)) (save_rows plan) r first.listed)
+
+  game-priced : (which : GameEvent) (e : EventId) → work_of plan e ≡ Game which → (s : Machine) → HasDevices plan s.devices → AreFew plan s.players → price w (game_now plan which s) ≤ price w (cost_of_game plan (Game which))
+  game-priced which e work s has few = by (is_drain which) refl
+    where
+      by : (b : Bool) → is_drain which ≡ b → price w (if b then drained_now plan (first_active_save plan s) s else step_game_now plan which s) ≤ price w (cost_of_game plan (Game which))
+      by true drains =
+          let is = drain-is which drains in
+          subst (λ (x : GameEvent). price w (drained_now plan (first_active_save plan s) s) ≤ price w (cost_of_game plan (Game x))) (sym is)
+          (drained-priced e (work ∙ ap Game is) s has few (first_active_save plan s) refl)
+      by false other = let posts = (chosen plan.game which s).posts in omega (arith, step-priced which s has few, posts)
+
+  pub after-priced : (e : EventId) (work : Work) → work_of plan e ≡ work → (s : Machine) → HasDevices plan s.devices → HasCoils plan s.coils → AreFew plan s.players
       → price w (after_now plan work s) ≤ price w (cost_of_releases plan work) + (price w (cost_if_led (led_by plan work)) + price w (cost_of_game plan work))
-  after-priced Nothing s devices has few = omega arith
-  after-priced (Mode m WillStart) s devices has few = omega arith
-  after-priced (Mode m Starting) s devices has few = omega arith
-  after-priced (Mode m Started) s devices has few = omega arith
-  after-priced (Mode m Stopping) s devices has few =
+  after-priced e Nothing is s devices has few = omega arith
+  after-priced e (Mode m WillStart) is s devices has few = omega arith
+  after-priced e (Mode m Starting) is s devices has few = omega arith
+  after-priced e (Mode m Started) is s devices has few = omega arith
+  after-priced e (Mode m Stopping) is s devices has few =
       let turned = stops-turn plan (rows_of plan (owners.Mode m)) s in
       let same : (call_devices plan calls.ModeStop m s).coils ≡ s.coils = ap (λ (t : Machine). t.coils) turned.1 in
       let released = releases-priced m (coil_numbers plan) (call_devices plan calls.ModeStop m s) (subst (HasCoils plan) (sym same) has) in
       omega (arith, stops-free (rows_of plan (owners.Mode m)) s, released)
-  after-priced (Mode m Stopped) s devices has few = omega arith
-  after-priced (Game which) s devices has few = let priced = game-priced which s devices few in omega (arith, priced)
+  after-priced e (Mode m Stopped) is s devices has few = omega arith
+  after-priced e (Game which) is s devices has few = let priced = game-priced which e is s devices few in omega (arith, priced)
 
   -- ---- stimuli
 
@@ -341,8 +411,8 @@ module _ (plan : PlanView) (entries : HasEntries plan) (w : EventId → ℕ) whe
       playfield : (t : Machine) → HasDevices plan t.devices → price w (playfield_now plan a t) ≤ price w (cost_of_playfield_switch plan a.switch a.active)
       playfield t k = by (a.active && (switch_at plan a.switch).confirms_playfield)
         where
-          by : (b : Bool) → price w (if b then arrival_now plan Playfield t else Lines 0) ≤ price w (if b then cost_of_arrival plan Playfield else Lines 0)
-          by true = (arrival-priced Playfield t k).0
+          by : (b : Bool) → price w (if b then telling_now plan (Arrived Playfield) t else Lines 0) ≤ price w (if b then cost_of_telling plan (Arrived Playfield) else Lines 0)
+          by true = (telling-priced (Arrived Playfield) t k).0
           by false = omega arith
 
       listeners-within : (n : SwitchId) → All (λ l. l.row.0 < length plan.rows) (listeners_of plan n)

@@ -1,9 +1,10 @@
--- No device of a mode is due unless the mode runs: what moves of handlers, the machine's works and stimuli keep.
-use Rattle.std.proofs.Common.{◌≡◌, ℕ, zero, suc, ◌<◌, ◌⊎◌, inl, inr, Bool, true, None, Some, List, [], ◌∷◌, length, slice_set, refl, ap, sym, subst, ◌∙◌, arith}
+-- No device of a mode is due, active as a ball save, or running as a multiball, unless the mode runs: what moves of
+-- handlers, the machine's works and stimuli keep.
+use Rattle.std.proofs.Common.{◌≡◌, ℕ, zero, suc, ◌<◌, ◌⊎◌, inl, inr, Bool, true, None, Some, List, [], ◌∷◌, length, slice_set, refl, ap, sym, subst, ◌∙◌, arith, false}
 use Rattle.std.specs.Prelude.{Contains}
-use Rattle.std.proofs.lemmas.Bool.{cases_eq, false≢true}
+use Rattle.std.proofs.lemmas.Bool.{cases_eq, false≢true, cases_lt}
 use Rattle.std.proofs.lemmas.Option.{none-some}
-use Rattle.std.proofs.lemmas.List.{get_or-set_same, get_or-set_other}
+use Rattle.std.proofs.lemmas.List.{get_or-set_same, get_or-set_other, get_or_past}
 use Rattle.plan_tables.specs.PlanView.{PlanView, no_row, row_at}
 use Rattle.plan_tables.specs.Valid.{IsValid}
 use Rattle.plan_tables.specs.declared.entries.ModeId.{ModeId}
@@ -23,8 +24,9 @@ use Rattle.mode_stack.proofs.WhoRuns.{starting_keeps_who_runs}
 use Rattle.event_queue.specs.Handlers.{takes_part}
 use Rattle.written_machine.specs.Devices.{HasDevices, ActsAreOwn}
 use Rattle.written_machine.specs.Machine.{Machine, set_device, has_game, all_do, world_of, device_state, device_at, called, do_answer, call_device}
-use Rattle.written_machine.specs.Moves.{Move, Wrote, Sent, Switched, Began, Ended, Marked, Released, Turned, Asked, Booked, Varied, Stepped, do_move, MayDo, ordinary}
+use Rattle.written_machine.specs.Moves.{Move, Wrote, Sent, Switched, Began, Ended, Marked, Released, Turned, Asked, Booked, Varied, Stepped, AddedBalls, do_move, MayDo, ordinary}
 use Rattle.written_machine.proofs.Does.{start-by, stop-by, booked_now, book-by, due-row, has_devices-move}
+use Rattle.written_machine.proofs.Inactive.{is_on, stopped-off}
 use Rattle.written_machine.proofs.Held.{IsHolding, IsNotHolding, asked-count, asked-held}
 
 -- ---- devices whose mode stops
@@ -44,23 +46,28 @@ module _ (plan : PlanView) where
       let rest = stops-turn rs turned in
       (rest.0, ap (all_do (call_device plan calls.ModeStop) rs) (stop-turns r s) ∙ rest.1)
 
-  abbrev IsQuiet : Machine → RowId → Type 0
-  IsQuiet s r = due_of (device_at s r) ≡ None
+  abbrev pub IsQuietState : DeviceState → Type 0
+  IsQuietState state = (due_of state ≡ None) × (is_on state ≡ false)
 
-  -- a device that stops is not due, and stays so while others stop
+  abbrev pub IsQuiet : Machine → RowId → Type 0
+  IsQuiet s r = IsQuietState (device_at s r)
+
+  -- a device that stops is quiet, and stays so while others stop
   turned-quiet : (r q : RowId) (s : Machine) → q.0 < length plan.rows → HasDevices plan s.devices → (q.0 ≡ r.0) ⊎ IsQuiet s q → IsQuiet (set_device r (called plan calls.ModeStop r s).0 s) q
   turned-quiet r q s there has quiet =
       elim (cases_eq q.0 r.0) [
         | inl same ↦
             let within : r.0 < length plan.rows = omega (arith, there, same) in
             let count : r.0 < length s.devices = let is = has.count in omega (arith, within, is) in
-            subst (λ (n : ℕ). due_of (device_state (slice_set s.devices r.0 (called plan calls.ModeStop r s).0) (record { 0 = n })) ≡ None) (sym same)
-            (ap due_of (get_or-set_same s.devices r.0 (called plan calls.ModeStop r s).0 (first_state no_row.settings) count)
-            ∙ stopped-quiet (row_at plan r).settings s.moment (world_of s) (device_at s r) (has.shapes r within))
+            subst (λ (n : ℕ). IsQuietState (device_state (slice_set s.devices r.0 (called plan calls.ModeStop r s).0) (record { 0 = n }))) (sym same)
+            (subst IsQuietState (sym (get_or-set_same s.devices r.0 (called plan calls.ModeStop r s).0 (first_state no_row.settings) count)) (
+              stopped-quiet (row_at plan r).settings s.moment (world_of s) (device_at s r) (has.shapes r within),
+              stopped-off (row_at plan r).settings s.moment (world_of s) (device_at s r) (has.shapes r within),
+            ))
         | inr other ↦
             elim quiet [
               | inl same ↦ absurd (other same)
-              | inr before ↦ ap due_of (get_or-set_other s.devices r.0 q.0 (called plan calls.ModeStop r s).0 (first_state no_row.settings) other) ∙ before
+              | inr before ↦ subst IsQuietState (sym (get_or-set_other s.devices r.0 q.0 (called plan calls.ModeStop r s).0 (first_state no_row.settings) other)) before
             ]
       ]
 
@@ -77,12 +84,22 @@ module _ (plan : PlanView) where
       by (inl (suc i, within, is)) = inl (i, omega arith, is)
       by (inr quiet) = inr (turned-quiet r q s there has (inr quiet))
 
+  -- a device that is on is one of the plan
+  pub on-row : (s : Machine) (r : RowId) → HasDevices plan s.devices → is_on (device_at s r) ≡ true → r.0 < length plan.rows
+  on-row s r has is =
+      elim (cases_lt r.0 (length s.devices)) [
+        | inl there ↦ let count = has.count in omega (arith, there, count)
+        | inr past ↦ absurd (false≢true (sym (ap is_on (get_or_past s.devices r.0 (first_state no_row.settings) past)) ∙ is))
+      ]
+
 -- ---- what rests
 
--- The devices and coils have states, and one of the mode that is due, or that it holds, is of a mode that runs.
+-- The devices and coils have states. Where a device of the mode is due, or is an active ball save or a running multiball,
+-- or the mode holds a coil, the mode runs.
 pub record Rests (plan : PlanView) (m : ModeId) (s : Machine) : Type 0 where
   pub devices : HasDevices plan s.devices
   pub rests : (r : RowId) (due : ℕ) → (row_at plan r).owner ≡ owners.Mode m → due_of (device_at s r) ≡ Some due → takes_part (running_of s.modes) (owners.Mode m) ≡ true
+  pub acts : (r : RowId) → (row_at plan r).owner ≡ owners.Mode m → is_on (device_at s r) ≡ true → takes_part (running_of s.modes) (owners.Mode m) ≡ true
   pub count : length s.coils ≡ length plan.coils
   pub holds : (coil : CoilId) → IsHolding (owners.Mode m) s.coils coil → takes_part (running_of s.modes) (owners.Mode m) ≡ true
 
@@ -98,6 +115,9 @@ module _ (plan : PlanView) (valid : IsValid plan) (own : ActsAreOwn plan) (m : M
     rests = λ r due is armed.
         subst (λ (ms : List ModeState). takes_part (running_of ms) (owners.Mode m) ≡ true) (sym modes)
         (h.rests r due is (subst (λ (ds : List DeviceState). due_of (device_state ds r) ≡ Some due) devices armed));
+    acts = λ r is on.
+        subst (λ (ms : List ModeState). takes_part (running_of ms) (owners.Mode m) ≡ true) (sym modes)
+        (h.acts r is (subst (λ (ds : List DeviceState). is_on (device_state ds r) ≡ true) devices on));
   }
 
   -- where the same modes run
@@ -111,33 +131,44 @@ module _ (plan : PlanView) (valid : IsValid plan) (own : ActsAreOwn plan) (m : M
     rests = λ r due is armed.
         subst (λ (bs : List Bool). takes_part bs (owners.Mode m) ≡ true) (sym running)
         (h.rests r due is (subst (λ (ds : List DeviceState). due_of (device_state ds r) ≡ Some due) devices armed));
+    acts = λ r is on.
+        subst (λ (bs : List Bool). takes_part bs (owners.Mode m) ≡ true) (sym running)
+        (h.acts r is (subst (λ (ds : List DeviceState). is_on (device_state ds r) ≡ true) devices on));
   }
 
   -- where the mode runs
   pub runs-rests : (s : Machine) → HasDevices plan s.devices → length s.coils ≡ length plan.coils → takes_part (running_of s.modes) (owners.Mode m) ≡ true → Rests plan m s
-  runs-rests s has count runs = record { devices = has; rests = λ r due is armed. runs; count = count; holds = λ coil is. runs }
+  runs-rests s has count runs = record { devices = has; rests = λ r due is armed. runs; acts = λ r is on. runs; count = count; holds = λ coil is. runs }
 
-  -- where no device of the mode is due, and it holds no coil
-  pub quiet-rests : (s : Machine) → HasDevices plan s.devices → ((r : RowId) → r.0 < length plan.rows → (row_at plan r).owner ≡ owners.Mode m → due_of (device_at s r) ≡ None)
+  -- where all devices of the mode are quiet, and it holds no coil
+  pub quiet-rests : (s : Machine) → HasDevices plan s.devices → ((r : RowId) → r.0 < length plan.rows → (row_at plan r).owner ≡ owners.Mode m → IsQuiet plan s r)
       → length s.coils ≡ length plan.coils → ((coil : CoilId) → IsNotHolding (owners.Mode m) s.coils coil) → Rests plan m s
   quiet-rests s has quiet count free = record {
     count = count;
     holds = λ coil is. absurd (false≢true (sym (free coil) ∙ is));
     devices = has;
-    rests = λ r due is armed. absurd (none-some due (sym (quiet r (due-row plan s r due has armed) is) ∙ armed));
+    rests = λ r due is armed. absurd (none-some due (sym (quiet r (due-row plan s r due has armed) is).0 ∙ armed));
+    acts = λ r is on. absurd (false≢true (sym (quiet r (on-row plan s r has on) is).1 ∙ on));
   }
 
   -- ---- moves
 
   module _ (by : Owner → Type 0) (switches : Type 0) where
     turned-rests : (call : Call) (r : RowId) (s : Machine) → (by (owners.Mode m) → takes_part (running_of s.modes) (owners.Mode m) ≡ true) → by (row_at plan r).owner → Rests plan m s → Rests plan m (set_device r (called plan call r s).0 s)
-    turned-rests call r s runs may h = record { devices = has_devices-move plan (Turned call r) s h.devices; rests = rests; count = h.count; holds = h.holds }
+    turned-rests call r s runs may h = record { devices = has_devices-move plan (Turned call r) s h.devices; rests = rests; acts = acts; count = h.count; holds = h.holds }
       where
         rests : (q : RowId) (due : ℕ) → (row_at plan q).owner ≡ owners.Mode m → due_of (device_at (set_device r (called plan call r s).0 s) q) ≡ Some due → takes_part (running_of s.modes) (owners.Mode m) ≡ true
         rests q due is armed =
             elim (cases_eq q.0 r.0) [
               | inl same ↦ runs (subst by (ap (λ (n : ℕ). (row_at plan (record { 0 = n })).owner) (sym same) ∙ is) may)
               | inr other ↦ h.rests q due is (sym (ap due_of (get_or-set_other s.devices r.0 q.0 (called plan call r s).0 (first_state no_row.settings) other)) ∙ armed)
+            ]
+
+        acts : (q : RowId) → (row_at plan q).owner ≡ owners.Mode m → is_on (device_at (set_device r (called plan call r s).0 s) q) ≡ true → takes_part (running_of s.modes) (owners.Mode m) ≡ true
+        acts q is on =
+            elim (cases_eq q.0 r.0) [
+              | inl same ↦ runs (subst by (ap (λ (n : ℕ). (row_at plan (record { 0 = n })).owner) (sym same) ∙ is) may)
+              | inr other ↦ h.acts q is (sym (ap is_on (get_or-set_other s.devices r.0 q.0 (called plan call r s).0 (first_state no_row.settings) other)) ∙ on)
             ]
 
     pub move-rests : (x : Move) (s : Machine) → MayDo plan (ordinary plan by switches) x → (by (owners.Mode m) → takes_part (running_of s.modes) (owners.Mode m) ≡ true) → Rests plan m s → Rests plan m (do_move plan x s)
@@ -156,9 +187,11 @@ module _ (plan : PlanView) (valid : IsValid plan) (own : ActsAreOwn plan) (m : M
     move-rests (Booked owner call) s may runs h = book-by owner call s (Rests plan m) (λ is. same-rests s (booked_now owner call s) refl refl refl h) h
     move-rests (Varied v value) s may runs h = same-rests s (do_move plan (Varied v value) s) refl refl refl h
     move-rests (Stepped which) s may runs h = same-rests s (do_move plan (Stepped which) s) refl refl refl h
+    move-rests (AddedBalls n) s may runs h = same-rests s (do_move plan (AddedBalls n) s) refl refl refl h
     move-rests (Asked owner command) s may runs h = record {
       devices = h.devices;
       rests = h.rests;
+      acts = h.acts;
       count = asked-count owner command s.moment s.coils ∙ h.count;
       holds = λ coil is.
           elim (asked-held owner command s.moment s.coils (owners.Mode m) coil is) [

@@ -1,10 +1,10 @@
 -- A mode that is stopped is silent, in every run: what the moves of handlers, the machine's works and the beginning of a
 -- stimulus keep.
-use Rattle.std.proofs.Common.{◌≡◌, ℕ, ◌<◌, ◌⊎◌, if◌then◌else◌, inl, inr, Some, Bool, true, false, ◌==◌, cond, List, [], ◌∷◌, ◌++◌, length, refl, ap, sym, subst, ◌∙◌, rules}
+use Rattle.std.proofs.Common.{◌≡◌, ℕ, ◌<◌, ◌⊎◌, if◌then◌else◌, inl, inr, Some, Bool, true, false, ◌==◌, cond, List, [], ◌∷◌, ◌++◌, length, refl, ap, sym, subst, ◌∙◌, rules, Option, All, None, map, arith}
 use Rattle.std.specs.List.{range_with_len}
-use Rattle.std.proofs.lemmas.Bool.{cases_eq, eq-eqb, ne_eqb}
-use Rattle.std.proofs.lemmas.List.{append-nil, get_or-replicate, length-replicate, length-set}
-use Rattle.plan_tables.specs.PlanView.{PlanView, coil_numbers, game_event, may_hold_ball_end, is_owner, mode_event, row_at, rows_of, work_of}
+use Rattle.std.proofs.lemmas.Bool.{cases_eq, eq-eqb, ne_eqb, cases_lt}
+use Rattle.std.proofs.lemmas.List.{append-nil, get_or-replicate, length-replicate, length-set, get_or_past, get_or-map, length-map}
+use Rattle.plan_tables.specs.PlanView.{PlanView, coil_numbers, game_event, may_hold_ball_end, is_owner, mode_event, row_at, rows_of, work_of, is_multiball, multiball_rows, save_rows, is_save, row_numbers, no_row}
 use Rattle.plan_tables.specs.Valid.{HasGame, IsOwnerWithin, IsValid, IsWorkAt}
 use Rattle.plan_tables.specs.declared.entries.EventId.{EventId}
 use Rattle.plan_tables.specs.declared.entries.ModeId.{ModeId}
@@ -16,7 +16,7 @@ use Rattle.plan_tables.specs.declared.entries.Work.{Work}
 use Rattle.plan_tables.specs.declared.entries.Work.TheVariants.{Nothing, Mode, Game}
 use Rattle.plan_tables.specs.declared.entries.GameEvent.{GameEvent}
 use Rattle.plan_tables.specs.declared.entries.GameEvent.TheVariants.{BallDrain, BallEnded}
-use Rattle.player_game.specs.GameStep.{ends_ball}
+use Rattle.player_game.specs.GameStep.{ends_ball, in_play}
 use Rattle.player_game.specs.Players.{score_of}
 use Rattle.plan_tables.specs.declared.devices.RowId.{RowId}
 use Rattle.plan_tables.proofs.Owners.{rows_of-there}
@@ -35,7 +35,7 @@ use Rattle.plan_tables.specs.declared.entries.CoilId.{CoilId}
 use Rattle.coil_guard.specs.declared.command.Command.TheVariants as commands
 use Rattle.coil_guard.specs.CoilStep.{is_held_by}
 use Rattle.coil_guard.specs.Coils.{coil_at}
-use Rattle.device_objects.specs.DeviceStep.{due_of}
+use Rattle.device_objects.specs.DeviceStep.{due_of, first_state}
 use Rattle.cascade_rank.specs.Cost.{Cost}
 use Rattle.event_queue.specs.declared.queue.Posted.{Posted}
 use Rattle.event_queue.specs.Handlers.{takes_part}
@@ -45,20 +45,26 @@ use Rattle.written_machine.specs.declared.line.Line.{Line}
 use Rattle.written_machine.specs.declared.line.Happening.TheVariants as lines
 use Rattle.written_machine.specs.Devices.{ActsAreOwn}
 use Rattle.written_machine.specs.FreePosts.{IsFreeWork, PostsAreFree}
-use Rattle.written_machine.specs.Machine.{Machine, initial, post, set_mode, has_game, post_if, release_ball_end, drop_hold, post_game, write_final, write_finals, ask_ball, ask_coil, release_coil, release_coils, stop_mode, all_do, do_game, device_state, call_devices, do_handler}
+use Rattle.written_machine.specs.Machine.{Machine, initial, post, set_mode, has_game, post_if, release_ball_end, drop_hold, post_game, write_final, write_finals, ask_ball, ask_coil, release_coil, release_coils, stop_mode, all_do, do_game, device_state, call_devices, do_handler, device_at, drain_ball, end_multiballs, step_game, first_active_save, call_device}
 use Rattle.written_machine.specs.EventStep.{taken, before_handlers, handlers_in, do_before, do_after}
 use Rattle.written_machine.specs.Run.{switch, device, source_due, Stimulus, SwitchChange, Alarm, Wait, moment_of, IsAllowed, arrived, begin, IsRun}
 use Rattle.written_machine.specs.Silent.{HasStarted, IsSilent}
-use Rattle.written_machine.specs.Moves.{Move, Wrote, Sent, Switched, Began, Ended, Marked, Released, Turned, Asked, Booked, Varied, Stepped, step_now, do_move, MayDo, Does, TakesPart, IsMachine, Begins, ordinary, MayHandle}
+use Rattle.written_machine.specs.Moves.{Move, Wrote, Sent, Switched, Began, Ended, Marked, Released, Turned, Asked, Booked, Varied, Stepped, AddedBalls, step_now, do_move, MayDo, Does, TakesPart, IsMachine, Begins, ordinary, MayHandle}
 use Rattle.written_machine.proofs.Does.{start-by, stop-by, book-by, does-keeps, off-has_coils}
-use Rattle.written_machine.proofs.Parts.{does-calls, does-releases, does-request, does-order, does-begin}
+use Rattle.written_machine.proofs.Parts.{does-calls, does-releases, does-request, does-order, does-begin, does-call}
 use Rattle.written_machine.proofs.Keeps.{step-keeps, run-keeps}
 use Rattle.written_machine.proofs.Cycles.{mine, waiting_of, IsTurn, idle, turn-will_start, turn-starting, turn-started, turn-stopping, turn-stopped, stopping-runs, stopped-quiet}
 use Rattle.written_machine.proofs.Hearing.{Said, written, all_written, awaited, all_awaited, heard_at, heard_after, heard, IsFine, heard-push, fine-push, heard-started, fine-silent}
 use Rattle.written_machine.proofs.Speaking.{Holds, HoldsIn, heard_in, phase_in, IsRunning, takes-runs, runs-takes, own_state, other_state, wrote-holds, asked-holds, booked-holds, posted-holds, gamed-holds, own_post, own_set, own_change, other_post, other_set, start-holds, stop-holds, lines-push}
+use Rattle.written_machine.proofs.Inactive.{is_on, active-on, first-off, end-still}
 use Rattle.written_machine.proofs.Alarms.{initial-devices, initial-quiet}
 use Rattle.written_machine.proofs.Held.{IsHolding, off-not, released-none}
-use Rattle.written_machine.proofs.Resting.{stops-turn, stops-quiet, Rests, running-rests, runs-rests, quiet-rests, move-rests}
+use Rattle.written_machine.proofs.Resting.{stops-turn, stops-quiet, Rests, running-rests, runs-rests, quiet-rests, move-rests, IsQuietState}
+use Rattle.player_game.specs.Choices.{is_drain}
+use Rattle.written_machine.proofs.Feeding.{first_active_save-is}
+use Rattle.plan_tables.specs.declared.devices.Act.TheVariants as acts
+use Rattle.plan_tables.specs.declared.devices.DeviceRow.{DeviceRow}
+use Rattle.std.proofs.lemmas.List.Elements.{All-tail, All-head, filter_passes}
 
 -- ---- who runs does not change while handlers run
 
@@ -97,6 +103,7 @@ module _ (plan : PlanView) (by : Owner → Type 0) (switches : Type 0) where
   still-move (Booked owner call) s may = book-by owner call s (λ t. running_of t.modes ≡ running_of s.modes) (λ is. refl) refl
   still-move (Varied v value) s may = refl
   still-move (Stepped which) s may = refl
+  still-move (AddedBalls n) s may = refl
 
   pub still-does : {c : Cost} {s t : Machine} → Does plan (MayDo plan (ordinary plan by switches)) c s t → running_of t.modes ≡ running_of s.modes
   still-does {c} {s} {t} d =
@@ -163,6 +170,7 @@ module _ (plan : PlanView) (valid : IsValid plan) (free : PostsAreFree plan) (ow
     move-holds front (Turned call r) s may h = record { count = h.kept.count; fine = h.kept.fine; holds = h.kept.holds }
     move-holds front (Varied v value) s may h = record { count = h.kept.count; fine = h.kept.fine; holds = h.kept.holds }
     move-holds front (Stepped which) s may h = record { count = h.kept.count; fine = h.kept.fine; holds = h.kept.holds }
+    move-holds front (AddedBalls n) s may h = record { count = h.kept.count; fine = h.kept.fine; holds = h.kept.holds }
     move-holds front (Booked owner call) s may h = booked-holds plan valid m within before front owner call s (λ is. own_runs front s h (subst by is (may own))) h.kept
     move-holds front (Asked owner command) s may h = asked-holds plan valid m within before front owner command s (λ is. own_runs front s h (subst by is (may.0 own))) h.kept
 
@@ -183,6 +191,7 @@ module _ (plan : PlanView) (valid : IsValid plan) (free : PostsAreFree plan) (ow
   other_set-rests k x s count other h = record {
     devices = h.devices;
     rests = λ r due is armed. still (h.rests r due is armed);
+    acts = λ r is on. still (h.acts r is on);
     count = h.count;
     holds = λ coil is. still (h.holds coil is);
   }
@@ -256,9 +265,9 @@ module _ (plan : PlanView) (valid : IsValid plan) (free : PostsAreFree plan) (ow
             (turn-stopping (phase_in m gone) (waiting_of plan m gone.waiting) kept.0.holds.turns) (λ r. absurd (search rules)),
         quiet-rests plan valid own m (do_after plan true (Mode m Stopping) s) kept.1.devices
             (λ r there is.
-            ap (λ (ds : List DeviceState). due_of (device_state ds r)) devices
-            ∙ stops-quiet plan (rows_of plan (owners.Mode m)) r s there h.1.devices
-            (inl (rows_of-there plan (owners.Mode m) r there (subst (λ (o : Owner). is_owner (owners.Mode m) o ≡ true) (sym is) (eq-eqb m.0 m.0 refl)))))
+            subst (λ (ds : List DeviceState). IsQuietState plan (device_state ds r)) (sym devices)
+            (stops-quiet plan (rows_of plan (owners.Mode m)) r s there h.1.devices
+            (inl (rows_of-there plan (owners.Mode m) r there (subst (λ (o : Owner). is_owner (owners.Mode m) o ≡ true) (sym is) (eq-eqb m.0 m.0 refl))))))
             kept.1.count (λ coil. released-none (owners.Mode m) plan (call_devices plan calls.ModeStop m s) (ap (λ (t : Machine). length t.coils) (stops-turn plan (rows_of plan (owners.Mode m)) s).1 ∙ h.1.count) coil),
       )
 
@@ -344,14 +353,56 @@ module _ (plan : PlanView) (valid : IsValid plan) (free : PostsAreFree plan) (ow
   request-stays before asks s h =
       moves-hold before IsMachine ⊥ (running_of s.modes) (λ is. absurd (search (rules, is))) [] _ s (ask_ball plan asks s) (does-request plan IsMachine refl asks s) refl h
 
-  game-stays : (before : List Line) (which : GameEvent) (s : Machine) → HasGame plan → Stays before [] s → Stays before [] (do_game plan which s)
-  game-stays before which s has h =
+  step-stays : (before : List Line) (which : GameEvent) (s : Machine) → HasGame plan → Stays before [] s → Stays before [] (step_game plan which s)
+  step-stays before which s has h =
       let step = step_now plan which s in
       let stepped = do_move plan (Stepped which) s in
       let written = write_finals plan step.finals stepped in
       posts-stay before has step.posts (ask_ball plan step.requests written)
       (request-stays before step.requests written
       (finals-stay before step.finals stepped (record { count = h.0.count; fine = h.0.fine; holds = h.0.holds }, running-rests plan valid own m s stepped refl refl refl h.1)))
+
+  -- a ball save that is active is told to save, or a multiball that is running to end: where it is the mode's, that runs
+  call-stays : (before : List Line) (call : Call) (r : RowId) (s : Machine) → is_on (device_at s r) ≡ true → Stays before [] s → Stays before [] (call_device plan call r s)
+  call-stays before call r s on h =
+      moves-hold before (λ owner. (owner ≡ (row_at plan r).owner) ⊎ IsMachine owner) ⊥ (running_of s.modes) runs [] _ s (call_device plan call r s)
+      (does-call plan (λ owner. (owner ≡ (row_at plan r).owner) ⊎ IsMachine owner) ⊥ (inr refl) call r (λ owns. inl refl) s) refl h
+    where
+      runs : (owners.Mode m ≡ (row_at plan r).owner) ⊎ IsMachine (owners.Mode m) → IsTaking s
+      runs (inl is) = h.1.acts r (sym is) on
+      runs (inr is) = absurd (search (rules, is))
+
+  -- a multiball that is not running does nothing
+  end-stays : (before : List Line) (r : RowId) → is_multiball (row_at plan r).settings ≡ true → (s : Machine) → Stays before [] s → Stays before [] (call_device plan (calls.Act acts.End) r s)
+  end-stays before r is s h = by (is_on (device_at s r)) refl
+    where
+      by : (on : Bool) → is_on (device_at s r) ≡ on → Stays before [] (call_device plan (calls.Act acts.End) r s)
+      by true on = call-stays before (calls.Act acts.End) r s on h
+      by false off = subst (Stays before []) (sym (end-still plan r s is off)) h
+
+  ends-stay : (before : List Line) (s : Machine) → Stays before [] s → Stays before [] (end_multiballs plan s)
+  ends-stay before s h = by (in_play s.game == 1)
+    where
+      all_stay : (rs : List RowId) → All (λ r. is_multiball (row_at plan r).settings ≡ true) rs → (t : Machine) → Stays before [] t → Stays before [] (all_do (call_device plan (calls.Act acts.End)) rs t)
+      all_stay [] all t k = k
+      all_stay (r ∷ rs) all t k =
+          all_stay rs (All-tail (λ q. is_multiball (row_at plan q).settings ≡ true) r rs all) (call_device plan (calls.Act acts.End) r t)
+          (end-stays before r (All-head (λ q. is_multiball (row_at plan q).settings ≡ true) r rs all) t k)
+
+      by : (b : Bool) → Stays before [] (if b then all_do (call_device plan (calls.Act acts.End)) (multiball_rows plan) s else s)
+      by true = all_stay (multiball_rows plan) (filter_passes (λ r. is_multiball (row_at plan r).settings) (row_numbers plan)) s h
+      by false = h
+
+  drained-stays : (before : List Line) (s : Machine) → HasGame plan → (o : Option RowId) → first_active_save plan s ≡ o → Stays before [] s → Stays before [] (drain_ball plan o s)
+  drained-stays before s has None is h = ends-stay before (step_game plan BallDrain s) (step-stays before BallDrain s has h)
+  drained-stays before s has (Some r) is h = call-stays before (calls.Act acts.Save) r s (active-on (device_at s r) (first_active_save-is plan s r is).active) h
+
+  game-stays : (before : List Line) (which : GameEvent) (s : Machine) → HasGame plan → Stays before [] s → Stays before [] (do_game plan which s)
+  game-stays before which s has h = by (is_drain which)
+    where
+      by : (b : Bool) → Stays before [] (if b then drain_ball plan (first_active_save plan s) s else step_game plan which s)
+      by true = drained-stays before s has (first_active_save plan s) refl h
+      by false = step-stays before which s has h
 
   abbrev numbered : ℕ → ModeId
   numbered n = record { 0 = n }
@@ -476,6 +527,15 @@ module _ (plan : PlanView) (valid : IsValid plan) (free : PostsAreFree plan) (ow
       moves-hold (before ++ s.lines) (Begins plan stimulus) (Unit {0}) (running_of s.modes) (begins-runs stimulus s allowed h.1) [] _ (arrived (moment_of stimulus) s) (begin plan stimulus s) (does-begin plan stimulus s) refl
       (arrived-holds before (moment_of stimulus) s h.0, running-rests plan valid own m s (arrived (moment_of stimulus) s) refl refl refl h.1)
 
+  -- at first no ball save is active, and no multiball is running
+  initial-off : (r : RowId) → is_on (device_at (initial plan) r) ≡ false
+  initial-off r = elim (cases_lt r.0 (length plan.rows)) [
+    | inl there ↦ ap is_on (get_or-map (λ (row : DeviceRow). first_state row.settings) plan.rows r.0 no_row (first_state no_row.settings) there) ∙ first-off (row_at plan r).settings
+    | inr past ↦
+        let count = length-map plan.rows (λ (row : DeviceRow). first_state row.settings) in
+        ap is_on (get_or_past (map (λ (row : DeviceRow). first_state row.settings) plan.rows) r.0 (first_state no_row.settings) (omega (arith, past, count)))
+  ]
+
   stays-initial : Stays [] [] (initial plan)
   stays-initial = (
     record {
@@ -484,7 +544,7 @@ module _ (plan : PlanView) (valid : IsValid plan) (free : PostsAreFree plan) (ow
       holds = subst (λ (x : ModeState). Holds plan m false [] [] x.phase) (sym (get_or-replicate (length plan.modes) m.0 (in_phase phases.Idle) (in_phase phases.Idle) within))
           (record { waits = tt; turns = idle; speaks = λ r. absurd (search rules) });
     },
-    quiet-rests plan valid own m (initial plan) (initial-devices plan) (λ r there is. initial-quiet plan r) (off-has_coils plan).count (λ coil. off-not plan (owners.Mode m) coil),
+    quiet-rests plan valid own m (initial plan) (initial-devices plan) (λ r there is. (initial-quiet plan r, initial-off r)) (off-has_coils plan).count (λ coil. off-not plan (owners.Mode m) coil),
   )
 
   -- at the end of every run

@@ -2,7 +2,7 @@
 use Rattle.std.specs.List.{All}
 use Rattle.plan_tables.specs.PlanView.{PlanView}
 use Rattle.plan_tables.specs.declared.entries.Action.{Action}
-use Rattle.plan_tables.specs.declared.entries.Action.TheVariants.{Post, Pulse, Enable, Disable, Change as ChangeVariable, Enter, Leave, Lose, Arrive}
+use Rattle.plan_tables.specs.declared.entries.Action.TheVariants.{Post, Pulse, Enable, Disable, Change as ChangeVariable, Enter, Leave, Lose, Arrive, Request, AddBalls}
 use Rattle.coil_guard.specs.declared.command.Command.TheVariants as commands
 use Rattle.coil_guard.specs.Limits.{IsWithin}
 use Rattle.coil_guard.specs.Asked.{limits_of}
@@ -18,6 +18,8 @@ KeepsLimits plan (Enter r e drain) = Unit {0}
 KeepsLimits plan (Leave r) = Unit {0}
 KeepsLimits plan (Lose r) = Unit {0}
 KeepsLimits plan (Arrive r) = Unit {0}
+KeepsLimits plan (Request n) = Unit {0}
+KeepsLimits plan (AddBalls n) = Unit {0}
 
 -- So it is for each action in the plan's effect lists.
 abbrev pub ActionsKeepLimits : PlanView → Type 0

@@ -34,8 +34,8 @@ IsOwnAct plan owner (Act r act) = (row_at plan r).owner ≡ owner
 abbrev pub IsOwnListener : PlanView → Listener → Type 0
 IsOwnListener plan l = (row_at plan l.row).owner ≡ Machine
 
--- Bindings act on devices of their own owner alone, and what the machine tells of its switches and of balls it tells to
--- its own.
+-- Bindings act on devices of their own owner alone, and only devices of the machine itself listen to switches, or hold
+-- balls.
 pub record ActsAreOwn (plan : PlanView) : Type 0 where
   pub bindings : All (λ b. IsOwnAct plan b.owner b.target) plan.bindings
   pub listeners : All (λ s. All (IsOwnListener plan) s.listeners) plan.switches

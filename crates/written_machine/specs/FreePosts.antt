@@ -4,7 +4,7 @@ use Rattle.std.specs.List.{All}
 use Rattle.plan_tables.specs.PlanView.{PlanSwitch, PlanView, work_of}
 use Rattle.plan_tables.specs.declared.entries.EventId.{EventId}
 use Rattle.plan_tables.specs.declared.entries.Action.{Action}
-use Rattle.plan_tables.specs.declared.entries.Action.TheVariants.{Post, Pulse, Enable, Disable, Change as ChangeVariable, Enter, Leave, Lose, Arrive}
+use Rattle.plan_tables.specs.declared.entries.Action.TheVariants.{Post, Pulse, Enable, Disable, Change as ChangeVariable, Enter, Leave, Lose, Arrive, Request, AddBalls}
 use Rattle.plan_tables.specs.declared.entries.Work.{Work}
 use Rattle.plan_tables.specs.declared.entries.Work.TheVariants.{Nothing, Mode, Game}
 use Rattle.plan_tables.specs.declared.entries.GameEvent.TheVariants.{SwStart}
@@ -29,6 +29,8 @@ IsFreeAction plan (Enter r e drain) = IsFree plan e
 IsFreeAction plan (Leave r) = Unit {0}
 IsFreeAction plan (Lose r) = Unit {0}
 IsFreeAction plan (Arrive r) = Unit {0}
+IsFreeAction plan (Request n) = Unit {0}
+IsFreeAction plan (AddBalls n) = Unit {0}
 
 abbrev pub IsFreeSwitch : PlanView → PlanSwitch → Type 0
 IsFreeSwitch plan s = All (IsFree plan) s.active × All (IsFree plan) s.inactive

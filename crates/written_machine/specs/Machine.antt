@@ -1,7 +1,7 @@
 -- The machine's state, and what each thing does to it.
-use Rattle.std.specs.Prelude.{ℕ, ℤ, Bool, true, false, not, ◌&&◌, if◌then◌else◌, find, Option, Some, None, List, [], ◌∷◌, ◌++◌, length, map, slice_index_or, slice_set}
+use Rattle.std.specs.Prelude.{ℕ, zero, suc, ◌==◌, ℤ, Bool, true, false, not, ◌&&◌, if◌then◌else◌, find, Option, Some, None, List, [], ◌∷◌, ◌++◌, length, map, slice_index_or, slice_set}
 use Rattle.std.specs.List.{range_with_len}
-use Rattle.plan_tables.specs.PlanView.{PlanView, act_of_listener, actions_at, binding_at, coil_numbers, feeders_of, first_trough, game_event, may_hold_ball_end, home_rows, list_of_row, listeners_of, mode_event, no_row, posts_of, row_at, rows_of, switch_at, target_of}
+use Rattle.plan_tables.specs.PlanView.{PlanView, act_of_listener, act_told, actions_at, binding_at, coil_numbers, feeders_of, first_trough, game_event, may_hold_ball_end, home_rows, list_of_row, listeners_of, mode_event, multiball_rows, no_row, posts_of, row_at, rows_of, save_rows, switch_at, target_of}
 use Rattle.plan_tables.specs.declared.entries.EventId.{EventId}
 use Rattle.plan_tables.specs.declared.entries.SwitchId.{SwitchId}
 use Rattle.plan_tables.specs.declared.entries.ListId.{ListId}
@@ -9,13 +9,14 @@ use Rattle.plan_tables.specs.declared.entries.BindingId.{BindingId}
 use Rattle.plan_tables.specs.declared.entries.Owner.{Owner}
 use Rattle.plan_tables.specs.declared.entries.Owner.TheVariants as owners
 use Rattle.plan_tables.specs.declared.entries.Action.{Action}
-use Rattle.plan_tables.specs.declared.entries.Action.TheVariants.{Post, Pulse, Enable, Disable, Change as ChangeVariable, Enter, Leave, Lose, Arrive}
+use Rattle.plan_tables.specs.declared.entries.Action.TheVariants.{Post, Pulse, Enable, Disable, Change as ChangeVariable, Enter, Leave, Lose, Arrive, Request, AddBalls}
 use Rattle.plan_tables.specs.declared.entries.VariableId.{VariableId}
 use Rattle.plan_tables.specs.declared.entries.VariableAction.{VariableAction}
 use Rattle.plan_tables.specs.declared.entries.GameEvent.{GameEvent}
 use Rattle.plan_tables.specs.declared.entries.GameEvent.TheVariants.{BallDrain, BallEnded}
 use Rattle.player_game.specs.Players.{PlayersState, no_players, is_met, changed_to, after_change as players_after_change, score_of}
-use Rattle.player_game.specs.GameStep.{GameState, GameStep, no_game, game_step, is_none, is_ball_on, held_if, released, ends_ball}
+use Rattle.player_game.specs.Choices.{is_drain}
+use Rattle.player_game.specs.GameStep.{GameState, GameStep, no_game, game_step, is_none, is_ball_on, in_play, missing, more_balls, held_if, released, ends_ball}
 use Rattle.plan_tables.specs.declared.entries.CoilId.{CoilId}
 use Rattle.plan_tables.specs.declared.entries.Listener.{Listener}
 use Rattle.plan_tables.specs.declared.entries.Target.{Target}
@@ -26,7 +27,9 @@ use Rattle.plan_tables.specs.declared.entries.Binding.{Binding}
 use Rattle.plan_tables.specs.declared.devices.RowId.{RowId}
 use Rattle.plan_tables.specs.declared.devices.BallTarget.{BallTarget}
 use Rattle.plan_tables.specs.declared.devices.BallTarget.TheVariants.{Playfield, Device}
-use Rattle.plan_tables.specs.declared.devices.Act.TheVariants.{Confirm, Request}
+use Rattle.plan_tables.specs.declared.devices.Act.TheVariants.{Save, End}
+use Rattle.plan_tables.specs.declared.devices.Telling.{Telling}
+use Rattle.plan_tables.specs.declared.devices.Telling.TheVariants.{Arrived, Wanted}
 use Rattle.device_objects.specs.declared.device.Call.{Call}
 use Rattle.device_objects.specs.declared.device.Call.TheVariants as calls
 use Rattle.device_objects.specs.declared.state.DeviceState.{DeviceState}
@@ -228,46 +231,58 @@ book owner call s =
 abbrev pub drain_if : PlanView → Owner → Bool → Machine → Machine
 drain_if plan owner drain s = if drain && is_ball_on s.game.phase then post owner (game_event plan BallDrain) s else s
 
--- An effect list acts on another device in one case alone: a ball enters a device, and the first device that is Away
--- to it is told. In accepted plans no ball enters a device by what that one answers. So lists nest one deep, and
--- nothing here calls itself. `do_action`, `do_list`, `do_answer` and `call_device` come twice. With `_by` at the end
--- they have an argument `confirm`, which tells the other device. Without it, `confirm` is `confirm_entry`. This calls
--- the other device by `call_device_by`, where `confirm` is `no_confirm`, which tells nobody.
+-- An effect list tells another device in two cases: a ball has entered a device, which the first device that is Away to
+-- it is told; and more balls are wanted, which the first trough is told. In accepted plans what that device answers tells
+-- no further one. So lists nest one deep, and nothing here calls itself. `do_action`, `do_list`, `do_answer` and
+-- `call_device` come twice. With `_by` at the end they have an argument `tell`, which tells the other device. Without
+-- it, `tell` is `tell_first`. This calls the other device by `call_device_by`, where `tell` is `tell_nobody`.
 
--- After a ball has entered a device: where it was on its way there, that is confirmed; else it may have drained.
-abbrev pub after_entry : PlanView → (RowId → Machine → Machine) → Owner → RowId → Bool → Origin → Machine → Machine
-after_entry plan confirm owner r drain Awaited s = confirm r s
-after_entry plan confirm owner r drain Found s = drain_if plan owner drain s
-after_entry plan confirm owner r drain New s = drain_if plan owner drain s
+-- After a ball has entered a device: where it was on its way there, the device that ejected it is told; else it may have
+-- drained.
+abbrev pub after_entry : PlanView → (Telling → Machine → Machine) → Owner → RowId → Bool → Origin → Machine → Machine
+after_entry plan tell owner r drain Awaited s = tell (Arrived (Device r)) s
+after_entry plan tell owner r drain Found s = drain_if plan owner drain s
+after_entry plan tell owner r drain New s = drain_if plan owner drain s
 
 -- a ball enters a device: that is booked, its event is posted, and then what follows from where it came from
-abbrev pub enter_ball : PlanView → (RowId → Machine → Machine) → Owner → RowId → EventId → Bool → Machine → Machine
-enter_ball plan confirm owner r e drain s =
-    after_entry plan confirm owner r drain (origin_of r s.ledger) (post owner e (book owner (calls_of_ledger.Enter r) s))
+abbrev pub enter_ball : PlanView → (Telling → Machine → Machine) → Owner → RowId → EventId → Bool → Machine → Machine
+enter_ball plan tell owner r e drain s =
+    after_entry plan tell owner r drain (origin_of r s.ledger) (post owner e (book owner (calls_of_ledger.Enter r) s))
+
+-- so many more balls are wanted, if any
+abbrev pub want_balls : (Telling → Machine → Machine) → ℕ → Machine → Machine
+want_balls tell zero s = s
+want_balls tell (suc n) s = tell (Wanted (suc n)) s
+
+-- At least so many balls are in play from now on, while a ball is on. Those that were missing are wanted.
+abbrev pub add_balls : (Telling → Machine → Machine) → ℕ → Machine → Machine
+add_balls tell n s = want_balls tell (missing n s.game) (set_game (more_balls n s.game) s)
 
 -- ---- effect lists
 
--- An action, where `confirm` tells the device that has ejected a ball that it has entered the device of a row.
-abbrev pub do_action_by : PlanView → (RowId → Machine → Machine) → Owner → Action → Machine → Machine
-do_action_by plan confirm owner (Post e) s = post owner e s
-do_action_by plan confirm owner (Pulse coil ms power) s = ask_coil owner (commands.Pulse coil ms power) s
-do_action_by plan confirm owner (Enable coil power) s = ask_coil owner (commands.Enable coil power) s
-do_action_by plan confirm owner (Disable coil) s = ask_coil owner (commands.Disable coil) s
-do_action_by plan confirm owner (ChangeVariable v action n e) s = change_variable plan owner v action n e s
-do_action_by plan confirm owner (Enter r e drain) s = enter_ball plan confirm owner r e drain s
-do_action_by plan confirm owner (Leave r) s = book owner (calls_of_ledger.Leave r (target_of plan r)) s
-do_action_by plan confirm owner (Lose r) s = book owner (calls_of_ledger.Lose r) s
-do_action_by plan confirm owner (Arrive r) s = book owner (calls_of_ledger.Arrive (target_of plan r)) s
+-- An action, where `tell` tells another device.
+abbrev pub do_action_by : PlanView → (Telling → Machine → Machine) → Owner → Action → Machine → Machine
+do_action_by plan tell owner (Post e) s = post owner e s
+do_action_by plan tell owner (Pulse coil ms power) s = ask_coil owner (commands.Pulse coil ms power) s
+do_action_by plan tell owner (Enable coil power) s = ask_coil owner (commands.Enable coil power) s
+do_action_by plan tell owner (Disable coil) s = ask_coil owner (commands.Disable coil) s
+do_action_by plan tell owner (ChangeVariable v action n e) s = change_variable plan owner v action n e s
+do_action_by plan tell owner (Enter r e drain) s = enter_ball plan tell owner r e drain s
+do_action_by plan tell owner (Leave r) s = book owner (calls_of_ledger.Leave r (target_of plan r)) s
+do_action_by plan tell owner (Lose r) s = book owner (calls_of_ledger.Lose r) s
+do_action_by plan tell owner (Arrive r) s = book owner (calls_of_ledger.Arrive (target_of plan r)) s
+do_action_by plan tell owner (Request n) s = tell (Wanted n) s
+do_action_by plan tell owner (AddBalls n) s = add_balls tell n s
 
 -- the actions of a list
-abbrev pub do_list_by : PlanView → (RowId → Machine → Machine) → Owner → ListId → Machine → Machine
-do_list_by plan confirm owner l s = all_do (do_action_by plan confirm owner) (actions_at plan l) s
+abbrev pub do_list_by : PlanView → (Telling → Machine → Machine) → Owner → ListId → Machine → Machine
+do_list_by plan tell owner l s = all_do (do_action_by plan tell owner) (actions_at plan l) s
 
 -- ---- devices
 
 -- what devices know of the game
 abbrev pub world_of : Machine → World
-world_of s = record { games = s.game.begun; player = s.players.current }
+world_of s = record { games = s.game.begun; player = s.players.current; in_play = in_play s.game }
 
 -- the state of a device by the number of its row
 abbrev pub device_state : List DeviceState → RowId → DeviceState
@@ -281,14 +296,14 @@ abbrev pub called : PlanView → Call → RowId → Machine → DeviceState × L
 called plan call r s = device_step (row_at plan r).settings call s.moment (world_of s) (device_at s r)
 
 -- effect lists of a row run, one after another, for the row's owner
-abbrev pub do_answer_by : PlanView → (RowId → Machine → Machine) → RowId → List ℕ → Machine → Machine
-do_answer_by plan confirm r lists s = all_do (λ k. do_list_by plan confirm (row_at plan r).owner (list_of_row plan r k)) lists s
+abbrev pub do_answer_by : PlanView → (Telling → Machine → Machine) → RowId → List ℕ → Machine → Machine
+do_answer_by plan tell r lists s = all_do (λ k. do_list_by plan tell (row_at plan r).owner (list_of_row plan r k)) lists s
 
 -- A device is called: it goes on to its next state, and what it answers is done.
-abbrev pub call_device_by : PlanView → (RowId → Machine → Machine) → Call → RowId → Machine → Machine
-call_device_by plan confirm call r s = do_answer_by plan confirm r (called plan call r s).1 (set_device r (called plan call r s).0 s)
+abbrev pub call_device_by : PlanView → (Telling → Machine → Machine) → Call → RowId → Machine → Machine
+call_device_by plan tell call r s = do_answer_by plan tell r (called plan call r s).1 (set_device r (called plan call r s).0 s)
 
--- ---- balls that have arrived
+-- ---- what ball devices are told
 
 -- whether a device is Away: the ball that it has ejected is on its way
 abbrev pub is_device_away : DeviceState → Bool
@@ -299,34 +314,36 @@ is_device_away _ = false
 abbrev pub first_away : PlanView → BallTarget → Machine → Option RowId
 first_away plan target s = find (λ r. is_device_away (device_at s r)) (feeders_of plan target)
 
--- nobody is told: the lists of a device that is told of an arrival confirm nothing
-abbrev pub no_confirm : RowId → Machine → Machine
-no_confirm r s = s
+-- nobody is told: the lists of a device that is told something tell nobody
+abbrev pub tell_nobody : Telling → Machine → Machine
+tell_nobody telling s = s
 
--- a device is told that its ball has arrived
-abbrev pub confirm_of : PlanView → Option RowId → Machine → Machine
-confirm_of plan None s = s
-confirm_of plan (Some r) s = call_device_by plan no_confirm (calls.Act Confirm) r s
+-- Which device is told. Of a ball that has arrived it is the first that is Away to the target. Of balls that are wanted it
+-- is the first trough.
+abbrev pub told_device : PlanView → Telling → Machine → Option RowId
+told_device plan (Arrived target) s = first_away plan target s
+told_device plan (Wanted n) s = first_trough plan
 
--- The first device Away to the target is told that its ball has arrived. If there is none, nothing happens.
-abbrev pub confirm_first_away : PlanView → BallTarget → Machine → Machine
-confirm_first_away plan target s = confirm_of plan (first_away plan target s) s
+-- a device is told, if there is one
+abbrev pub tell_device : PlanView → Telling → Option RowId → Machine → Machine
+tell_device plan telling None s = s
+tell_device plan telling (Some r) s = call_device_by plan tell_nobody (calls.Act (act_told telling)) r s
 
--- A ball has entered this device: the first device Away to it is told.
-abbrev pub confirm_entry : PlanView → RowId → Machine → Machine
-confirm_entry plan r s = confirm_first_away plan (Device r) s
+-- The device that is to know it is told. If there is none, nothing happens.
+abbrev pub tell_first : PlanView → Telling → Machine → Machine
+tell_first plan telling s = tell_device plan telling (told_device plan telling s) s
 
 abbrev pub do_action : PlanView → Owner → Action → Machine → Machine
-do_action plan owner a s = do_action_by plan (confirm_entry plan) owner a s
+do_action plan owner a s = do_action_by plan (tell_first plan) owner a s
 
 abbrev pub do_list : PlanView → Owner → ListId → Machine → Machine
-do_list plan owner l s = do_list_by plan (confirm_entry plan) owner l s
+do_list plan owner l s = do_list_by plan (tell_first plan) owner l s
 
 abbrev pub do_answer : PlanView → RowId → List ℕ → Machine → Machine
-do_answer plan r lists s = do_answer_by plan (confirm_entry plan) r lists s
+do_answer plan r lists s = do_answer_by plan (tell_first plan) r lists s
 
 abbrev pub call_device : PlanView → Call → RowId → Machine → Machine
-call_device plan call r s = call_device_by plan (confirm_entry plan) call r s
+call_device plan call r s = call_device_by plan (tell_first plan) call r s
 
 -- all devices of a mode are called, in the order of their rows
 abbrev pub call_devices : PlanView → Call → ModeId → Machine → Machine
@@ -367,14 +384,9 @@ abbrev pub write_finals : PlanView → Bool → Machine → Machine
 write_finals plan true s = all_do (write_final plan) (range_with_len 1 (length s.players.players)) s
 write_finals plan false s = s
 
--- a trough is asked for one ball more, if there is one
-abbrev pub ask_trough : PlanView → Option RowId → Machine → Machine
-ask_trough plan None s = s
-ask_trough plan (Some r) s = call_device plan (calls.Act (Request 1)) r s
-
--- Where `asks` holds, the first trough is asked for one ball more.
+-- where `asks` holds, one ball more is wanted
 abbrev pub ask_ball : PlanView → Bool → Machine → Machine
-ask_ball plan asks s = if asks then ask_trough plan (first_trough plan) s else s
+ask_ball plan asks s = if asks then tell_first plan (Wanted 1) s else s
 
 -- what an event of the game leads to is done
 abbrev pub do_step : PlanView → GameStep → Machine → Machine
@@ -382,8 +394,31 @@ do_step plan step s =
     all_do (post_game plan) step.posts
     (ask_ball plan step.requests (write_finals plan step.finals (set_players step.players (set_game step.game s))))
 
+-- the game goes on as its event says
+abbrev pub step_game : PlanView → GameEvent → Machine → Machine
+step_game plan which s = do_step plan (game_step plan.game plan which (home_of plan s) s.game s.players) s
+
+-- whether a device is a ball save that is active
+abbrev pub is_active_save : DeviceState → Bool
+is_active_save (states.BallSave s) = s.active
+is_active_save _ = false
+
+-- while a ball is on, the first ball save that is active
+abbrev pub first_active_save : PlanView → Machine → Option RowId
+first_active_save plan s = if is_ball_on s.game.phase then find (λ r. is_active_save (device_at s r)) (save_rows plan) else None
+
+-- where only one ball is left in play, the multiballs end
+abbrev pub end_multiballs : PlanView → Machine → Machine
+end_multiballs plan s = if in_play s.game == 1 then all_do (call_device plan (calls.Act End)) (multiball_rows plan) s else s
+
+-- A ball has drained. A ball save saves it, if there is one. Otherwise one ball less is in play, and multiballs may end.
+abbrev pub drain_ball : PlanView → Option RowId → Machine → Machine
+drain_ball plan None s = end_multiballs plan (step_game plan BallDrain s)
+drain_ball plan (Some r) s = call_device plan (calls.Act Save) r s
+
+-- What the machine itself does at an event of the game. A ball that drains may be saved.
 abbrev pub do_game : PlanView → GameEvent → Machine → Machine
-do_game plan which s = do_step plan (game_step plan.game plan which (home_of plan s) s.game s.players) s
+do_game plan which s = if is_drain which then drain_ball plan (first_active_save plan s) s else step_game plan which s
 
 -- ---- switches
 
@@ -397,7 +432,7 @@ tell_listeners plan a s = all_do (tell_listener plan a.active) (listeners_of pla
 
 -- A ball that presses a switch tagged `playfield_active` is on the playfield: the first device Away to it is told.
 abbrev pub confirm_on_playfield : PlanView → Change → Machine → Machine
-confirm_on_playfield plan a s = if a.active && (switch_at plan a.switch).confirms_playfield then confirm_first_away plan Playfield s else s
+confirm_on_playfield plan a s = if a.active && (switch_at plan a.switch).confirms_playfield then tell_first plan (Arrived Playfield) s else s
 
 -- A switch was accepted as active or inactive: its line is written, the devices that listen to it are told, and then its
 -- events are posted. Before these a ball may have arrived on the playfield.

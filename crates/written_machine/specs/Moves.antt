@@ -18,7 +18,7 @@ use Rattle.device_objects.specs.declared.device.Call.{Call}
 use Rattle.ball_devices.specs.Bookings.{LedgerCall}
 use Rattle.mode_stack.specs.declared.phase.ModeState.{ModeState}
 use Rattle.player_game.specs.Players.{after_change}
-use Rattle.player_game.specs.GameStep.{GameStep, game_step}
+use Rattle.player_game.specs.GameStep.{GameStep, game_step, more_balls}
 use Rattle.switch_core.specs.SwitchStep.{SwitchState}
 use Rattle.switch_core.specs.Switches.{set_state}
 use Rattle.written_machine.specs.declared.line.Happening.{Happening}
@@ -62,6 +62,8 @@ pub data Move : Type 0 where
   Varied : (v : VariableId) (value : Option ℤ) → Move
   -- the game goes on by one of its events
   Stepped : (which : GameEvent) → Move
+  -- at least so many balls are in play from now on, while a ball is on
+  AddedBalls : (balls : ℕ) → Move
 
 -- what an event of the game leads to
 abbrev pub step_now : PlanView → GameEvent → Machine → GameStep
@@ -80,6 +82,7 @@ do_move plan (Asked owner command) s = ask_coil owner command s
 do_move plan (Booked owner call) s = book owner call s
 do_move plan (Varied v value) s = set_players (after_change plan v value s.players) s
 do_move plan (Stepped which) s = set_players (step_now plan which s).players (set_game (step_now plan which s).game s)
+do_move plan (AddedBalls n) s = set_game (more_balls n s.game) s
 
 abbrev pub cost_of_move : PlanView → Move → Cost
 cost_of_move plan (Wrote owner what) = Lines 1
@@ -94,6 +97,7 @@ cost_of_move plan (Asked owner command) = Lines 1
 cost_of_move plan (Booked owner call) = Lines 1
 cost_of_move plan (Varied v value) = Lines 0
 cost_of_move plan (Stepped which) = Lines 0
+cost_of_move plan (AddedBalls n) = Lines 0
 
 -- the line is not that of an event: those come only as events are taken
 abbrev pub IsNoEvent : Happening → Type 0
@@ -154,6 +158,7 @@ MayDo plan l (Asked owner command) = (ActsAreOwn plan → l.by owner) × (Action
 MayDo plan l (Booked owner call) = ActsAreOwn plan → l.by owner
 MayDo plan l (Varied v value) = Unit {0}
 MayDo plan l (Stepped which) = Unit {0}
+MayDo plan l (AddedBalls n) = Unit {0}
 
 -- Where nothing in a valid plan posts an event at which the machine itself does something, but the start button's, this
 -- is none either, or it is that of a ball that drains.

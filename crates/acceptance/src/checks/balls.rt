@@ -1,4 +1,4 @@
-//! Ball devices, and games with balls: bundles that are checked.
+//! Ball devices, ball saves, multiballs, and games with balls: bundles that are checked.
 
 use crate::checks::row::assert_rows;
 
@@ -234,6 +234,167 @@ player_turn_will_start player_turn_starting player_turn_started ball_will_start 
 no
 ";
 
+// Ball saves and multiballs.
+const SAVES: &str = "
+=== costs of ball saves and multiballs
+What enables a ball save posts its event; a multiball that starts may ask the trough for balls, which may be ejected at
+once. A ball that drains is saved, or ends the ball, or ends the multiballs.
+--- check
+@ config/config.yaml
+#config_version=6
+switches:
+  s: {number: 1}
+coils:
+  c: {number: 1}
+ball_devices:
+  t: {ball_switches: s, eject_coil: c, tags: trough}
+ball_saves:
+  b: {active_time: 1s, enable_events: s_active}
+  d: {enable_events: s_inactive, disable_events: s_active}
+multiballs:
+  m: {ball_count: 2, start_events: s_active}
+game:
+=> Yes
+yes
+pinball-certificate 1
+bound 8
+event s_active 7
+event s_inactive 2
+event balldevice_t_ball_enter 1
+event balldevice_t_ball_eject_attempt 1
+event balldevice_t_ejecting_ball 1
+event balldevice_t_ball_eject_success 1
+event balldevice_t_ball_eject_failed 1
+event ball_save_b_enabled 1
+event ball_save_b_disabled 1
+event ball_save_b_saving_ball 1
+event ball_save_d_enabled 1
+event ball_save_d_disabled 1
+event ball_save_d_saving_ball 1
+event multiball_m_started 1
+event multiball_m_ended 1
+event sw_start 14
+event game_will_start 13
+event game_starting 12
+event player_added 1
+event game_started 10
+event player_turn_will_start 9
+event player_turn_starting 8
+event player_turn_started 7
+event ball_will_start 6
+event ball_starting 5
+event ball_started 1
+event ball_drain 16
+event ball_will_end 15
+event ball_ending 14
+event ball_ended 13
+event player_turn_will_end 12
+event player_turn_ending 11
+event player_turn_ended 10
+event game_will_end 7
+event game_ending 6
+event game_ended 5
+
+=== costs of a ball that is saved
+What the event of a saved ball leads to costs more than the end of the ball does. After that event the ball save may be
+disabled, and the trough may eject a ball.
+--- check
+@ config/config.yaml
+#config_version=6
+event_player:
+  ball_save_b_saving_ball: sw_start
+ball_saves:
+  b: {enable_events: a}
+ball_devices:
+  t: {ball_switches: s, eject_coil: c, tags: [trough, drain]}
+switches:
+  s: {number: 1}
+coils:
+  c: {number: 1}
+game:
+=> Yes
+yes
+pinball-certificate 1
+bound 25
+event ball_save_b_saving_ball 15
+event sw_start 14
+event a 2
+event ball_save_b_enabled 1
+event ball_save_b_disabled 1
+event balldevice_t_ball_enter 1
+event ball_drain 20
+event balldevice_t_ball_eject_attempt 1
+event balldevice_t_ejecting_ball 1
+event balldevice_t_ball_eject_success 1
+event balldevice_t_ball_eject_failed 1
+event s_active 1
+event s_inactive 1
+event game_will_start 13
+event game_starting 12
+event player_added 1
+event game_started 10
+event player_turn_will_start 9
+event player_turn_starting 8
+event player_turn_started 7
+event ball_will_start 6
+event ball_starting 5
+event ball_started 1
+event ball_will_end 15
+event ball_ending 14
+event ball_ended 13
+event player_turn_will_end 12
+event player_turn_ending 11
+event player_turn_ended 10
+event game_will_end 7
+event game_ending 6
+event game_ended 5
+
+=== cycle through a ball save
+--- check
+@ config/config.yaml
+#config_version=6
+event_player:
+  ball_save_b_enabled: a
+ball_saves:
+  b: {enable_events: a}
+=> Refused
+fault 8 Cycle ball_save_b_enabled a
+no
+
+=== cycle through a multiball
+--- check
+@ config/config.yaml
+#config_version=6
+event_player:
+  multiball_m_started: a
+multiballs:
+  m: {ball_count: 2, start_events: a}
+=> Refused
+fault 8 Cycle multiball_m_started a
+no
+
+=== cycle through balls of a multiball
+The multiball asks the trough for a ball, whose attempt starts the multiball.
+--- check
+@ config/config.yaml
+#config_version=6
+event_player:
+  balldevice_t_ball_eject_attempt: a
+ball_saves:
+  b: {enable_events: b, disable_events: b}
+multiballs:
+  m: {ball_count: 2, start_events: a}
+ball_devices:
+  t: {ball_switches: s, eject_coil: c, tags: trough}
+switches:
+  s: {number: 1}
+coils:
+  c: {number: 1}
+=> Refused
+fault 8 Cycle balldevice_t_ball_eject_attempt a
+no
+";
+
 // Ball devices that are refused.
 const REFUSALS: &str = "
 === names in ball devices that nothing defines
@@ -425,4 +586,9 @@ no
 fn balls_are_checked(rt: HostRuntime) {
     assert_rows(&rt, CHECKS);
     assert_rows(&rt, REFUSALS);
+}
+
+#[test]
+fn saves_are_checked(rt: HostRuntime) {
+    assert_rows(&rt, SAVES);
 }

@@ -71,18 +71,6 @@ coil:
 error 4 UnknownSection config/config.yaml 4 coil
 no
 
-=== ball saves unknown for now
---- check
-@ config/config.yaml
-#config_version=6
-ball_saves:
-  bs:
-    active_time: 10s
-    enable_events: ball_started
-=> Refused
-error 4 UnknownSection config/config.yaml 2 ball_saves
-no
-
 === open quote
 --- check
 @ config/config.yaml

@@ -1,7 +1,7 @@
 //! Machines with a device for each row of the plan, on boards that take each command and on boards that fault.
 
 use arrayvec::ArrayVec;
-use ball_devices::BallDevice;
+use ball_devices::{BallDevice, BallSave, Multiball};
 use coil_guard::{Board, FuseBoard, MemoryBoard, Taken};
 use coil_rules::{Autofire, Flipper};
 use config_checker::Checked;
@@ -89,7 +89,18 @@ fn other_device(alloc: Global, row: &DeviceRow) -> Option<Box<dyn Device>> {
     if let Some(autofire) = boxed(alloc, Autofire::new(row)) {
         return Some(autofire);
     }
-    Some(boxed(alloc, BallDevice::new(row))?)
+    ball_device(alloc, row)
+}
+
+/// The ball device, ball save or multiball of a row.
+fn ball_device(alloc: Global, row: &DeviceRow) -> Option<Box<dyn Device>> {
+    if let Some(device) = boxed(alloc, BallDevice::new(row)) {
+        return Some(device);
+    }
+    if let Some(save) = boxed(alloc, BallSave::new(row)) {
+        return Some(save);
+    }
+    Some(boxed(alloc, Multiball::new(row))?)
 }
 
 /// A board in memory.

@@ -1,5 +1,6 @@
 //! Devices of all kinds, their calls by letters, and what they answer as one number.
 
+use ball_devices::{BallSave, Multiball};
 use coil_rules::{Autofire, Flipper};
 use device_objects::{Call, Device, Outcome, World};
 use logic_blocks::{Accrual, Counter, Sequence, Timer};
@@ -37,6 +38,8 @@ pub(crate) fn call_of(letter: u8, number: i64) -> Call {
         b'u' => Act::RotateLeft,
         b'i' => Act::SwitchOn(place),
         b'o' => Act::SwitchOff(place),
+        b'k' => Act::Save,
+        b'f' => Act::End,
         _ => Act::Request(place),
     };
     Call::Act(act)
@@ -102,5 +105,16 @@ pub(crate) fn do_with<J: Job>(settings: Settings, job: &mut J) {
         job.run(&mut flipper);
     } else if let Some(mut autofire) = Autofire::new(&row) {
         job.run(&mut autofire);
+    } else {
+        do_with_balls(&row, job);
+    }
+}
+
+/// Does the job with a new ball save or multiball, if the row is one.
+fn do_with_balls<J: Job>(row: &DeviceRow, job: &mut J) {
+    if let Some(mut save) = BallSave::new(row) {
+        job.run(&mut save);
+    } else if let Some(mut multiball) = Multiball::new(row) {
+        job.run(&mut multiball);
     }
 }

@@ -18,6 +18,7 @@ fn are_alike<A: Device, B: Device>(
     let mut world = World {
         games: 0,
         player: 0,
+        in_play: 0,
     };
     let mut alike = is_same_state(&one.state(), &other.state());
     for _ in 0..30u32 {

@@ -1,9 +1,10 @@
-//! What devices are to do, by plain rules: what is remembered for each player, and the coils. A player who
+//! What devices are to do, by plain rules: what is remembered for each player, the coils, ball saves and multiballs. A player who
 //! has a slot of their own has a first one again as soon as a game begins.
 
 use crate::devices::banks::call_bank;
 use crate::devices::blocks::call_block;
 use crate::devices::calls::NOT_DUE;
+use crate::devices::saves::{call_multiball, call_save};
 use crate::devices::seen::bits;
 use crate::devices::timers::call_timer;
 use device_objects::World;
@@ -12,12 +13,12 @@ use plan_tables::{Direction, Settings};
 /// What is remembered for a player.
 #[derive(Clone, Copy)]
 pub(crate) struct Slot {
-    /// Bit 0: whether the device is enabled. Of a bank bit i: whether shot i is.
+    /// Bit 0: whether the device is enabled, or whether a multiball is running. Of a bank bit i: whether shot i is.
     pub(crate) enabled: i64,
-    /// The value of a counter or a timer, the bits of an accrual, the steps of a sequence, or whether a
-    /// flipper is on. Of a bank 4 bits for the state of each shot.
+    /// The value of a counter or a timer, the bits of an accrual, the steps of a sequence, whether a flipper is
+    /// on, or how many balls a ball save still saves. Of a bank 4 bits for the state of each shot.
     pub(crate) value: i64,
-    /// The last hit of a counter, or the next tick of a timer.
+    /// The last hit of a counter, the next tick of a timer, or the end of a ball save.
     pub(crate) moment: Option<u64>,
 }
 
@@ -93,10 +94,12 @@ pub(crate) fn call(plain: &mut Plain, letter: u8, number: i64, now: u64, world: 
     };
     match settings {
         Settings::Timer(timer) => call_timer(&timer, slot, letter, number, now),
+        Settings::BallSave(save) => call_save(&save, slot, letter, now),
         _ if letter == b'F' => NOT_DUE,
         Settings::Bank(bank) => call_bank(&bank, slot, letter, number),
         Settings::Flipper => call_coil(true, slot, letter, number),
         Settings::Autofire => call_coil(false, slot, letter, number),
+        Settings::Multiball(_) => call_multiball(slot, letter, world.in_play),
         _ => call_block(settings, slot, letter, number, now),
     }
 }

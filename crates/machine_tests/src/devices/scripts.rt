@@ -6,6 +6,7 @@
 //!
 //! - `New=N` makes the device of this number (`settings_of`), in game 1 of player 1, at moment 0;
 //! - `Player=N` and `Game=N` say which player is the current one, and how many games have begun;
+//! - `In=N` says how many balls are in play, at first none;
 //! - `At=N` says at which moment the next call comes, and `Open=N` the same, from the end of the window of a hit at
 //!   1,000 on;
 //! - `Value=N` says which value the first player has now.
@@ -13,7 +14,7 @@
 use crate::asserts::assert_right;
 use crate::devices::calls::{Job, call_of, do_with, told};
 use crate::devices::seen::value_of;
-use crate::devices::settings::{counter_of, steps_of, timer_of};
+use crate::devices::settings::{counter_of, multiball_of, save_of, steps_of, timer_of};
 use device_objects::{Device, World};
 use plan_tables::{BankSettings, Settings};
 use std::process::Abort;
@@ -24,6 +25,7 @@ const FIRST: Scene = Scene {
     world: World {
         games: 1,
         player: 1,
+        in_play: 0,
     },
     now: 0,
     open: 0,
@@ -73,6 +75,9 @@ fn settings_of(number: i64, window: u32) -> Settings {
             last_state: 16,
             ..GROUP
         }),
+        47 => save_of(100, 2),
+        48 => save_of(0, 1),
+        49 => multiball_of(3),
         _ => counter_of(0, 0, 1, Some(2), window),
     }
 }
@@ -147,6 +152,7 @@ fn does<D: Device>(word: &Word, device: &mut D, scene: &mut Scene) -> bool {
     match word.letter {
         b'P' => scene.world.player = usize::try_from(wanted).unwrap_or(0),
         b'G' => scene.world.games = u64::try_from(wanted).unwrap_or(0),
+        b'I' => scene.world.in_play = u32::try_from(wanted).unwrap_or(0),
         b'O' => scene.now = u32::try_from(scene.open.wrapping_add(wanted)).unwrap_or(0),
         b'A' => scene.now = u32::try_from(wanted).unwrap_or(0),
         b'V' => return value_of(&device.state()) == wanted,
@@ -246,6 +252,21 @@ End=0 enable=0 Fire=999 disable=2 disable=0
 /// An autofire coil fires at each activation while it is enabled.
 const AUTOFIRE: &str = "
 New=42 in=0 enable=0 in=1 in=1 out=0 in=1 in1=0 End=0 Begin=0 in=1 disable=0 in=0 enable=0 out=0 in=1 Fire=999
+";
+
+/// One ball save saves two balls, and is over after 100 ms. The other saves one, and has no end. Neither is active once
+/// its mode has started or stopped.
+const SAVES: &str = "
+New=47 keep=0 disable=0 Fire=999 enable=1 enable=0 keep=3 keep=3,2 keep=0 Fire=999 enable=1 disable=2 disable=0
+enable=1 keep=3 enable=0 Fire=2 keep=0 Fire=999 enable=1 keep=3 keep=3,2 enable=1 Begin=0 keep=0 enable=1 End=0
+Fire=999 disable=0 keep=0
+New=48 enable=1 Fire=999 keep=3,2 keep=0 enable=1 End=0 keep=0 finish=0 go=0
+";
+
+/// A multiball starts while a ball is in play, and once. It is not running once its mode has started or stopped.
+const MULTIBALL: &str = "
+New=49 go=0 finish=0 In=1 go=1 go=0 finish=2 finish=0 In=2 go=1 In=0 finish=2 go=0 In=1 go=1 Begin=0 finish=0 go=1
+End=0 finish=0 keep=0 enable=0 Fire=999
 ";
 
 /// What counters, accruals and sequences of two steps answer by the bits of their settings: to their hits, their
@@ -348,6 +369,8 @@ fn scripts_answer(rt: HostRuntime) {
     assert_script(&rt, DOWN_AGAIN, 0);
     assert_script(&rt, FLIPPER, 0);
     assert_script(&rt, AUTOFIRE, 0);
+    assert_script(&rt, SAVES, 0);
+    assert_script(&rt, MULTIBALL, 0);
     assert_script(&rt, BLOCKS, 0);
     assert_script(&rt, ENDS, 0);
     assert_script(&rt, PLAYERS, 0);

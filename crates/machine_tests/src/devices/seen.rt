@@ -78,6 +78,10 @@ fn seen(state: &DeviceState, player: usize) -> (u64, Slot)
         DeviceState::Timer(it) => (0, slot_of(0, it.value, it.due)),
         DeviceState::Flipper(it) => (0, slot_of(i64::from(it.enabled), i64::from(it.on), None)),
         DeviceState::Autofire(it) => (0, slot_of(i64::from(it.enabled), 0, None)),
+        DeviceState::BallSave(it) => {
+            (0, slot_of(i64::from(it.active), i64::from(it.left), it.due))
+        }
+        DeviceState::Multiball(it) => (0, slot_of(i64::from(it.running), 0, None)),
         _ => (u64::MAX, slot_of(0, 0, None)),
     }
 }
@@ -112,6 +116,10 @@ pub(crate) fn agrees(plain: &Plain, world: World, state: &DeviceState) -> bool {
 fn has_one_slot(settings: Settings) -> bool {
     matches!(
         settings,
-        Settings::Timer(_) | Settings::Flipper | Settings::Autofire
+        Settings::Timer(_)
+            | Settings::Flipper
+            | Settings::Autofire
+            | Settings::BallSave(_)
+            | Settings::Multiball(_)
     )
 }

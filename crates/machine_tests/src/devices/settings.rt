@@ -1,7 +1,8 @@
 //! Settings of devices, by bits and numbers, and drawn at random.
 
 use plan_tables::{
-    BankSettings, BlockSettings, CounterSettings, Direction, Settings, StepSettings, TimerSettings,
+    BankSettings, BlockSettings, CounterSettings, Direction, MultiballSettings, SaveSettings,
+    Settings, StepSettings, TimerSettings,
 };
 
 /// A number below the limit. Numbers look random, and are the same in each run.
@@ -139,6 +140,27 @@ fn draw_timer(state: &mut u64) -> Settings {
     timer_of(bits, start, end, draw(state, 9).wrapping_add(1))
 }
 
+/// A ball save of this time and so many balls.
+pub(crate) fn save_of(active_time: u32, balls: u8) -> Settings {
+    Settings::BallSave(SaveSettings { active_time, balls })
+}
+
+pub(crate) fn multiball_of(balls: u8) -> Settings {
+    Settings::Multiball(MultiballSettings { balls })
+}
+
+/// A ball save that is over after some calls, or has no end.
+fn draw_save(state: &mut u64) -> Settings {
+    let active_time = draw(state, 2).wrapping_mul(draw(state, 20));
+    let balls = match draw(state, 4) {
+        0 => 2,
+        1 => 3,
+        2 => 99,
+        _ => 1,
+    };
+    save_of(active_time, balls)
+}
+
 /// A device of this kind; of a bank the number says which one.
 pub(crate) fn draw_device(state: &mut u64, kind: u32, number: u32) -> Settings {
     match kind {
@@ -148,6 +170,8 @@ pub(crate) fn draw_device(state: &mut u64, kind: u32, number: u32) -> Settings {
         3 => draw_timer(state),
         4 => Settings::Flipper,
         5 => Settings::Autofire,
-        _ => draw_bank(state, number),
+        6 => draw_bank(state, number),
+        7 => draw_save(state),
+        _ => multiball_of(2),
     }
 }

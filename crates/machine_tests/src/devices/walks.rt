@@ -7,12 +7,14 @@ use crate::devices::seen::agrees;
 use crate::devices::settings::{draw, draw_device};
 use device_objects::{Device, World};
 
-/// What is called how often: blocks and timers, coils, and banks.
+/// What is called how often: blocks and timers, coils, banks, and ball saves and multiballs.
 pub(crate) const OF_BLOCKS: &[u8] = b"BEFFFFFFeeddraahiwugggqpmmlljccccccccccssssssssssssss";
 
 const OF_COILS: &[u8] = b"BEFeeedaiiiiooih";
 
 pub(crate) const OF_BANKS: &[u8] = b"BEnbyxrtusehhhhhhhhhh";
+
+const OF_SAVES: &[u8] = b"BEFFFFddeeeeekkkkkkkkgggggffffihw";
 
 /// The world changes now and then. Without a game there is no player.
 pub(crate) fn change_world(state: &mut u64, world: &mut World) {
@@ -24,6 +26,9 @@ pub(crate) fn change_world(state: &mut u64, world: &mut World) {
     }
     if world.games == 0 {
         world.player = 0;
+    }
+    if draw(state, 3) == 0 {
+        world.in_play = draw(state, 3);
     }
 }
 
@@ -69,20 +74,22 @@ struct Kind {
     /// How many calls each device has.
     calls: i64,
     list: &'static [u8],
-    /// The greatest answer of a call that completes nothing, or moves no coil.
+    /// The greatest answer of a call that completes nothing, moves no coil, saves no last ball, or ends no multiball.
     usual: i64,
-    /// More calls than this complete a device, or move its coil.
+    /// More calls than this do one of these.
     least: u32,
 }
 
-/// Counters, accruals, sequences, timers, flippers, autofire coils, and banks.
+/// Counters, accruals, sequences, timers, flippers, autofire coils, banks, ball saves, and multiballs.
 fn kind_of(kind: u32) -> Kind {
     let (devices, calls, list, usual, least) = match kind {
         0 => (500, 40, OF_BLOCKS, 1_000_000, 700),
         1 | 2 => (500, 40, OF_BLOCKS, 1_000_000, 100),
         3 => (500, 40, OF_BLOCKS, 1_000, 350),
         4 | 5 => (500, 40, OF_COILS, 0, 800),
-        _ => (2_048, 80, OF_BANKS, 1_000_000, 800),
+        6 => (2_048, 80, OF_BANKS, 1_000_000, 800),
+        7 => (500, 40, OF_SAVES, 3, 500),
+        _ => (500, 40, OF_SAVES, 1, 500),
     };
     Kind {
         devices,
@@ -101,7 +108,7 @@ struct Walk<'s> {
     state: &'s mut u64,
     /// Whether it is the walk of one player who most often hits.
     orderly: bool,
-    /// How many calls completed the device, or moved its coil; none where something was not as in the model.
+    /// How many calls answered more than usual; none where something was not as in the model.
     completed: Option<u32>,
 }
 
@@ -129,6 +136,7 @@ impl Job for Walk<'_> {
         let mut world = World {
             games: u64::from(self.orderly),
             player: if self.orderly { one + 1 } else { 0 },
+            in_play: 0,
         };
         let mut now = 0u32;
         self.completed = Some(0);
@@ -169,7 +177,7 @@ fn walked(kind: u32) -> (u32, Option<u32>) {
 /// in each. The number that is told has the kind, and in its last four digits the device.
 #[test]
 fn random_devices(rt: HostRuntime) {
-    for kind in 0..7u32 {
+    for kind in 0..9u32 {
         let (completed, wrong) = walked(kind);
         let right = wrong.is_none() && completed > kind_of(kind).least;
         let number = kind

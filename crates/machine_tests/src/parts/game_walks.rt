@@ -30,6 +30,7 @@ fn is_same(game: &Game, seats: &Seats<'_>, plain: &Plain, ball: u16) -> bool {
         && game.begun() == plain.begun
         && world.games == plain.begun
         && world.player == book.current as usize
+        && world.in_play == plain.balls.unwrap_or(0)
         && seats.players.count() == book.count as usize
         && seats.get(ball) == book.ball_now()
 }
@@ -76,6 +77,15 @@ fn step(
     is_kept && told(&work) == plain.work(event, home)
 }
 
+/// Balls are added now and then. Whether as many were missing as in the model.
+fn adds_balls(state: &mut u64, game: &mut Game, plain: &mut Plain) -> bool {
+    if draw(state, 10) != 0 {
+        return true;
+    }
+    let balls = u8::try_from(draw(state, 5)).unwrap_or(0);
+    game.add_balls(balls) == plain.add_balls(balls)
+}
+
 /// 2,000 events of a game, while all is as in the model.
 fn walk(
     alloc: Global,
@@ -90,7 +100,8 @@ fn walk(
     let mut same = true;
     for _ in 0..2_000u32 {
         let is_right = step(state, &mut queue, &mut game, seats, plain, tally);
-        same = same && is_right && is_same(&game, seats, plain, ball);
+        let is_added = adds_balls(state, &mut game, plain);
+        same = same && is_right && is_added && is_same(&game, seats, plain, ball);
     }
     tally.begun = tally.begun.saturating_add(plain.begun);
     same

@@ -84,6 +84,16 @@ impl Plain {
         Some(GameEvent::BallWillEnd)
     }
 
+    /// While a ball is on, at least so many balls are in play from now on. Gives how many were missing.
+    pub(crate) fn add_balls(&mut self, balls: u8) -> u8 {
+        let Some(now) = self.balls else {
+            return 0;
+        };
+        let all = u32::from(balls).max(now);
+        self.balls = Some(all);
+        u8::try_from(all.saturating_sub(now)).unwrap_or(u8::MAX)
+    }
+
     /// The next player's turn, unless the game is over.
     fn next_turn(&mut self) {
         let next = self.book.current.saturating_add(1);

@@ -6,4 +6,4 @@ use Rattle.cascade_rank.proofs.posts.push_call.Given as goal
 
 -- the weights of the answers so far are added
 abbrev pub invariant-loop-answer : goal.invariant-loop-answer
-invariant-loop-answer g l = l.posts.items ≡ l.fn.posts.items ++ weights_in (each_of (λ (a : ArrayVec ℕ). cost_of_answer_by l.plan (g.C.Confirms.cost l.plan) l.row a.items) (take l.answer-index l.answer-items))
+invariant-loop-answer g l = l.posts.items ≡ l.fn.posts.items ++ weights_in (each_of (λ (a : ArrayVec ℕ). cost_of_answer_by l.plan (g.C.Tells.cost l.plan) l.row a.items) (take l.answer-index l.answer-items))

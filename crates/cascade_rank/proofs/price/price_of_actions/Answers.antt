@@ -9,28 +9,28 @@ use Rattle.cascade_rank.proofs.price.price_of_actions.Goals as goal
 pub loop-action-init : goal.loop-action-init
 loop-action-init g c = record {
   price = omega arith;
-  small = sum-none (2 ^ 33 + g.C.Confirms.most);
+  small = sum-none (2 ^ 33 + g.C.Tells.most);
 }
 
 pub overflow_add-total : goal.overflow_add-total
 overflow_add-total g c =
-    let few = g.met.C.Confirms.few in
-    let so_far = sum-few c.loop-action.action-index 1024 (2 ^ 33 + g.C.Confirms.most) c.loop-action.total (omega (arith, c.loop-action-test.true, c.requires.few)) c.loop-action.invariant.small in
+    let few = g.met.C.Tells.few in
+    let so_far = sum-few c.loop-action.action-index 1024 (2 ^ 33 + g.C.Tells.most) c.loop-action.total (omega (arith, c.loop-action-test.true, c.requires.few)) c.loop-action.invariant.small in
     omega (arith, few, so_far, c.price_of_action-total.ensures.small)
 
 pub loop-action-preserved : goal.loop-action-preserved
 loop-action-preserved g c =
-    let more = price-each_more (weight_of c.args.weights.now) (cost_of_action_by c.args.plan.now (g.C.Confirms.cost c.args.plan.now)) c.args.actions.now c.loop-action.action-index (Post (record { 0 = 0 })) c.loop-action-test.true in
+    let more = price-each_more (weight_of c.args.weights.now) (cost_of_action_by c.args.plan.now (g.C.Tells.cost c.args.plan.now)) c.args.actions.now c.loop-action.action-index (Post (record { 0 = 0 })) c.loop-action-test.true in
     record {
       price = omega (arith, more, c.loop-action.invariant.price, c.price_of_action-total.ensures.price);
-      small = sum-more c.loop-action.action-index (2 ^ 33 + g.C.Confirms.most) c.loop-action.total c.price_of_action-total.result c.loop-action.invariant.small c.price_of_action-total.ensures.small;
+      small = sum-more c.loop-action.action-index (2 ^ 33 + g.C.Tells.most) c.loop-action.total c.price_of_action-total.result c.loop-action.invariant.small c.price_of_action-total.ensures.small;
     }
 
 pub returns-clause-price : goal.returns-clause-price
 returns-clause-price g c =
     c.loop-action.invariant.price
-    ∙ ap (λ actions. price (weight_of c.args.weights.now) (each_of (cost_of_action_by c.args.plan.now (g.C.Confirms.cost c.args.plan.now)) actions)) (take_all c.loop-action.action-index c.args.actions.now c.loop-action-test.false)
+    ∙ ap (λ actions. price (weight_of c.args.weights.now) (each_of (cost_of_action_by c.args.plan.now (g.C.Tells.cost c.args.plan.now)) actions)) (take_all c.loop-action.action-index c.args.actions.now c.loop-action-test.false)
 
 pub returns-clause-small : goal.returns-clause-small
 returns-clause-small g c =
-    sum-few c.loop-action.action-index 1024 (2 ^ 33 + g.C.Confirms.most) c.loop-action.total (omega (arith, c.requires.few)) c.loop-action.invariant.small
+    sum-few c.loop-action.action-index 1024 (2 ^ 33 + g.C.Tells.most) c.loop-action.total (omega (arith, c.requires.few)) c.loop-action.invariant.small

@@ -7,6 +7,6 @@ use Rattle.cascade_rank.proofs.price.price_of_answer.Given as goal
 -- the price of the lists so far
 abbrev pub invariant-loop-list : goal.invariant-loop-list
 invariant-loop-list g l = record {
-  price : l.total ≡ price (weight_of l.weights) (each_of (λ k. cost_of_list_by l.plan (g.C.Confirms.cost l.plan) (list_of_row l.plan l.row k)) (take l.list-index l.lists));
-  small : l.total ≤ l.list-index * (1024 * (2 ^ 33 + g.C.Confirms.most));
+  price : l.total ≡ price (weight_of l.weights) (each_of (λ k. cost_of_list_by l.plan (g.C.Tells.cost l.plan) (list_of_row l.plan l.row k)) (take l.list-index l.lists));
+  small : l.total ≤ l.list-index * (1024 * (2 ^ 33 + g.C.Tells.most));
 }

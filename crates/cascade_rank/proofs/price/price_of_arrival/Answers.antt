@@ -1,28 +1,27 @@
 use Rattle.std.proofs.Common.{◌≡◌, List, max, ap, ◌∙◌, arith, take_all}
-use Rattle.plan_tables.specs.declared.devices.Act.TheVariants.{Confirm}
 use Rattle.plan_tables.specs.declared.devices.RowId.{RowId}
-use Rattle.device_objects.specs.declared.device.Call.TheVariants as calls
+use Rattle.plan_tables.specs.declared.devices.Telling.TheVariants.{Arrived}
 use Rattle.cascade_rank.specs.Events.{weight_of}
-use Rattle.cascade_rank.specs.Cost.{price, dearest_of, cost_of_call_by, no_confirm_cost}
+use Rattle.cascade_rank.specs.Cost.{price, dearest_of, cost_of_told}
 use Rattle.cascade_rank.proofs.Prices.{price-dearest_more}
 use Rattle.cascade_rank.proofs.price.price_of_arrival.Goals as goal
 
-pub price_of_call-told-requires-clause-row : goal.price_of_call-told-requires-clause-row
-price_of_call-told-requires-clause-row c = c.feeders-row-items.ensures.within c.loop-row.row-index (record { 0 = 0 }) c.loop-row-test.true
+pub price_of_told-told-requires-clause-row : goal.price_of_told-told-requires-clause-row
+price_of_told-told-requires-clause-row c = c.feeders-row-items.ensures.within c.loop-row.row-index (record { 0 = 0 }) c.loop-row-test.true
 
 pub loop-row-preserved : goal.loop-row-preserved
 loop-row-preserved c =
-    let cost = λ (r : RowId). cost_of_call_by c.args.plan.now no_confirm_cost r (calls.Act Confirm) in
+    let cost = cost_of_told c.args.plan.now (Arrived c.args.target) in
     let more = price-dearest_more (weight_of c.args.weights.now) cost c.feeders-row-items.result.now c.loop-row.row-index (record { 0 = 0 }) c.loop-row-test.true in
-    let larger : c.max-dearest.result ≡ max c.loop-row.dearest c.price_of_call-told.result = c.max-dearest.ensures in
+    let larger : c.max-dearest.result ≡ max c.loop-row.dearest c.price_of_told-told.result = c.max-dearest.ensures in
     record {
-      price = omega (arith, more, larger, c.loop-row.invariant.price, c.price_of_call-told.ensures.price);
-      small = omega (arith, larger, c.loop-row.invariant.small, c.price_of_call-told.ensures.small);
+      price = omega (arith, more, larger, c.loop-row.invariant.price, c.price_of_told-told.ensures.price);
+      small = omega (arith, larger, c.loop-row.invariant.small, c.price_of_told-told.ensures.small);
     }
 
 pub returns-clause-price : goal.returns-clause-price
 returns-clause-price c =
     let rows = c.feeders-row-items in
     c.loop-row.invariant.price
-    ∙ ap (λ (rs : List RowId). price (weight_of c.args.weights.now) (dearest_of (λ r. cost_of_call_by c.args.plan.now no_confirm_cost r (calls.Act Confirm)) rs))
+    ∙ ap (λ (rs : List RowId). price (weight_of c.args.weights.now) (dearest_of (cost_of_told c.args.plan.now (Arrived c.args.target)) rs))
     (take_all c.loop-row.row-index rows.result.now c.loop-row-test.false ∙ rows.ensures.feeders)

@@ -21,8 +21,8 @@ price_of_answer-requires-clause-lists g c =
 pub loop-answer-preserved : goal.loop-answer-preserved
 loop-answer-preserved g c =
     let same = c.as_slice.ensures.value ∙ ap (λ (a : ArrayVec ℕ). a.items) c.answer-item.is in
-    let here = ap (λ (ls : List ℕ). price (weight_of c.args.weights.now) (cost_of_answer_by c.args.plan.now (g.C.Confirms.cost c.args.plan.now) c.args.row ls)) same in
-    let more = price-dearest_more (weight_of c.args.weights.now) (λ (a : ArrayVec ℕ). cost_of_answer_by c.args.plan.now (g.C.Confirms.cost c.args.plan.now) c.args.row a.items) c.as_slice-answer-items.result.now c.loop-answer.answer-index c.answer-item.result c.loop-answer-test.true in
+    let here = ap (λ (ls : List ℕ). price (weight_of c.args.weights.now) (cost_of_answer_by c.args.plan.now (g.C.Tells.cost c.args.plan.now) c.args.row ls)) same in
+    let more = price-dearest_more (weight_of c.args.weights.now) (λ (a : ArrayVec ℕ). cost_of_answer_by c.args.plan.now (g.C.Tells.cost c.args.plan.now) c.args.row a.items) c.as_slice-answer-items.result.now c.loop-answer.answer-index c.answer-item.result c.loop-answer-test.true in
     let larger : c.max-dearest.result ≡ max c.loop-answer.dearest c.price_of_answer.result = c.max-dearest.ensures in
     record {
       price = omega (arith, more, here, larger, c.loop-answer.invariant.price, c.price_of_answer.ensures.price);
@@ -33,5 +33,5 @@ pub returns-clause-price : goal.returns-clause-price
 returns-clause-price g c =
     let are : map (λ (a : ArrayVec ℕ). a.items) c.as_slice-answer-items.result.now ≡ outcomes (row_at c.args.plan.now c.args.row).settings c.args.call =
     (outcomes-read c.args.plan.now c.args.row c.args.call c.row.result _ c.row.ensures.row (ap (map (λ (a : ArrayVec ℕ). a.items)) c.as_slice-answer-items.ensures.value ∙ c.outcomes-answers.ensures)) in
-    price-answers_all (λ (a : ArrayVec ℕ). a.items) c.args.plan.now c.args.row c.args.call c.as_slice-answer-items.result.now are (g.C.Confirms.cost c.args.plan.now) (weight_of c.args.weights.now)
+    price-answers_all (λ (a : ArrayVec ℕ). a.items) c.args.plan.now c.args.row c.args.call c.as_slice-answer-items.result.now are (g.C.Tells.cost c.args.plan.now) (weight_of c.args.weights.now)
     c.loop-answer.answer-index c.loop-answer.dearest c.loop-answer-test.false c.loop-answer.invariant.price

@@ -1,4 +1,4 @@
-use Rattle.std.proofs.Common.{ap, arith}
+use Rattle.std.proofs.Common.{◌≡◌, max, ap, arith}
 use Rattle.plan_tables.specs.declared.entries.Work.{Work}
 use Rattle.cascade_rank.specs.Events.{weight_of}
 use Rattle.cascade_rank.specs.Cost.{price, cost_of_game}
@@ -8,4 +8,5 @@ pub returns-in-Game-clause-price : goal.returns-in-Game-clause-price
 returns-in-Game-clause-price c =
     let here = ap (λ (w : Work). price (weight_of c.args.weights.now) (cost_of_game c.args.plan.now w)) c.in-Game.ensures.work in
     let scores = c.price_of_scores-scores.ensures.price (weight_of c.args.weights.now) in
-    omega (arith, here, scores, c.price_of_request-request.ensures.price, c.dearest_choice.ensures.price)
+    let dearer : c.max.result ≡ max c.price_of_drained_ball-drained.result c.dearest_choice.result = c.max.ensures in
+    omega (arith, here, scores, c.price_of_request-request.ensures.price, dearer, c.price_of_drained_ball-drained.ensures.price, c.dearest_choice.ensures.price)

@@ -24,3 +24,9 @@ returns-in-Autofire c = search rules
 
 pub returns-in-BallDevice : goal.returns-in-BallDevice
 returns-in-BallDevice c = search rules
+
+pub returns-in-BallSave : goal.returns-in-BallSave
+returns-in-BallSave c = search rules
+
+pub returns-in-Multiball : goal.returns-in-Multiball
+returns-in-Multiball c = search rules

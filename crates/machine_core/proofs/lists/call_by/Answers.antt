@@ -32,8 +32,8 @@ lists_by-requires-clause-room g c =
     let r = c.args.row in
     let turned = set_device r (called core.plan c.args.call r core.machine).0 core.machine in
     let is = c.deref.ensures.0 ∙ c.call-lists.ensures.lists in
-    subst (λ (v : CoreView). HasRoom v.room (do_answer_by v.plan (g.C.Confirming.confirm v.plan) r c.deref.result.now v.machine)) (sym c.call-lists.ensures.called)
-    (subst (λ (ls : List ℕ). HasRoom core.room (do_answer_by core.plan (g.C.Confirming.confirm core.plan) r ls turned)) (sym is) c.requires.room)
+    subst (λ (v : CoreView). HasRoom v.room (do_answer_by v.plan (g.T.Tells.tell v.plan) r c.deref.result.now v.machine)) (sym c.call-lists.ensures.called)
+    (subst (λ (ls : List ℕ). HasRoom core.room (do_answer_by core.plan (g.T.Tells.tell core.plan) r ls turned)) (sym is) c.requires.room)
 
 pub returns : goal.returns
 returns g c =
@@ -42,5 +42,5 @@ returns g c =
     let turned = set_device r (called core.plan c.args.call r core.machine).0 core.machine in
     let is = c.deref.ensures.0 ∙ c.call-lists.ensures.lists in
     c.lists_by.ensures
-    ∙ ap (λ (v : CoreView). after (do_answer_by v.plan (g.C.Confirming.confirm v.plan) r c.deref.result.now) v) c.call-lists.ensures.called
-    ∙ ap (λ (ls : List ℕ). record core { machine = do_answer_by core.plan (g.C.Confirming.confirm core.plan) r ls turned }) is
+    ∙ ap (λ (v : CoreView). after (do_answer_by v.plan (g.T.Tells.tell v.plan) r c.deref.result.now) v) c.call-lists.ensures.called
+    ∙ ap (λ (ls : List ℕ). record core { machine = do_answer_by core.plan (g.T.Tells.tell core.plan) r ls turned }) is

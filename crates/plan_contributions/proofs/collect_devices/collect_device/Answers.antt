@@ -5,7 +5,7 @@ use Rattle.plan_tables.specs.declared.devices.Settings.TheVariants as kinds
 use Rattle.plan_contributions.specs.DeviceEntries.{step_settings, step_device, timer_device}
 use Rattle.plan_contributions.specs.Contributions.{device_contributions, where_device}
 use Rattle.plan_contributions.specs.View.{contributions_view}
-use Rattle.plan_contributions.proofs.DeviceParts.{accrual_there, sequence_there, timer_there}
+use Rattle.plan_contributions.proofs.DeviceParts.{accrual_there, sequence_there, timer_there, save_there}
 use Rattle.plan_contributions.proofs.collect_devices.collect_device.Goals as goal
 
 pub returns-then-eq-2 : goal.returns-then-eq-2
@@ -35,3 +35,9 @@ returns-then-eq-4 c =
     subst (λ cs. OnOk c.collect_timer.result (contributions_view c.collect_timer.new.contributions.items ≡ contributions_view c.args.contributions.now.items ++ cs))
     (ap (λ t. device_contributions place (timer_device t)) c.as_timer.ensures ∙ ap (λ d. where_device place d) there)
     c.collect_timer.ensures
+
+pub returns : goal.returns
+returns c =
+    let place = c.args.place in
+    let there = save_there c.args.section.now (entry_view c.args.entry.now) (sym c.eq.ensures ∙ c.if-eq.false) (sym c.eq-2.ensures ∙ c.if-eq-2.false) (sym c.eq-3.ensures ∙ c.if-eq-3.false) (sym c.eq-4.ensures ∙ c.if-eq-4.false) in
+    subst (λ cs. OnOk c.collect_save_device.result (contributions_view c.collect_save_device.new.contributions.items ≡ contributions_view c.args.contributions.now.items ++ cs)) (ap (λ d. where_device place d) there) c.collect_save_device.ensures

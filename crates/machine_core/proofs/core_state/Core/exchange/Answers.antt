@@ -1,6 +1,7 @@
 use Rattle.std.proofs.Common.{◌≡◌, map, ap, sym, ◌∙◌}
 use Rattle.plan_tables.specs.PlanView.{row_at}
 use Rattle.device_objects.specs.declared.state.World.{World}
+use Rattle.player_game.specs.GameStep.{in_play}
 use Rattle.device_objects.specs.DeviceStep.{due_of}
 use Rattle.written_machine.specs.Machine.{device_at, device_state, world_of}
 use Rattle.machine_core.specs.Core.{CoreView}
@@ -75,8 +76,8 @@ returns-clause-stopped g c =
     let put = c.put_in_place-taken in
     let same_row : row device ≡ row_at plan c.args.row = c.requires.row ∙ ap (λ (v : CoreView). row_at v.plan c.args.row) (sym c.self.view_is) in
     let same_state : state device ≡ device_state (map state items) c.args.row = c.requires.state ∙ ap (λ (v : CoreView). device_at v.machine c.args.row) (sym c.self.view_is) in
-    let world : World = record { games = c.self.inside.game.state.begun; player = c.self.inside.players.state.current } in
-    let world_is : c.world-world.result ≡ world = λ i. record { games = c.world-world.ensures.games i; player = c.world-world.ensures.player i } in
+    let world : World = record { games = c.self.inside.game.state.begun; player = c.self.inside.players.state.current; in_play = in_play c.self.inside.game.state } in
+    let world_is : c.world-world.result ≡ world = λ i. record { games = c.world-world.ensures.games i; player = c.world-world.ensures.player i; in_play = c.world-world.ensures.in_play i } in
     c.stop_one.ensures.state
     ∙ (λ i. stopped_state c.self.inside.moment (world_is i) (row put.result) (state put.result))
     ∙ old-stopped row state plan items c.args.row put.result device c.self.invariant.rows_are put.ensures.taken same_row same_state c.self.inside.moment world

@@ -1,5 +1,6 @@
 use Rattle.std.proofs.Common.{◌≡◌, List, length, map, refl, ap, sym, ◌∙◌, subst}
 use Rattle.device_objects.specs.declared.state.World.{World}
+use Rattle.player_game.specs.GameStep.{in_play}
 use Rattle.machine_core.specs.Core.{CoreView}
 use Rattle.machine_core.specs.Stopping.{AreStopped}
 use Rattle.machine_core.proofs.Stopping.{lent-whole, machine-stopped}
@@ -11,8 +12,8 @@ returns g c =
     let state = g.D.Device.state_of in
     let items = c.self.inside.devices.items in
     let new = c.stop_all.new.devices in
-    let world : World = record { games = c.self.inside.game.state.begun; player = c.self.inside.players.state.current } in
-    let world_is : c.world-world.result ≡ world = λ i. record { games = c.world-world.ensures.games i; player = c.world-world.ensures.player i } in
+    let world : World = record { games = c.self.inside.game.state.begun; player = c.self.inside.players.state.current; in_play = in_play c.self.inside.game.state } in
+    let world_is : c.world-world.result ≡ world = λ i. record { games = c.world-world.ensures.games i; player = c.world-world.ensures.player i; in_play = c.world-world.ensures.in_play i } in
     let same : length new ≡ length items = c.stop_all.auto.devices ∙ ap (λ ds. length ds) c.deref_mut.ensures.value in
     let view : CoreView = record {
       plan = c.self.inside.plan.now;

@@ -1,0 +1,13 @@
+use Rattle.std.proofs.Common.{◌≡◌, ◌++◌}
+use Rattle.plan_tables.specs.PlanView.{is_save, row_at}
+use Rattle.plan_tables.specs.declared.devices.Act.TheVariants.{Save}
+use Rattle.device_objects.specs.declared.device.Call.TheVariants as calls
+use Rattle.cascade_rank.specs.Cost.{each_of, cost_of_call}
+use Rattle.cascade_rank.specs.Mentions.{weights_in}
+use Rattle.cascade_rank.proofs.Passing.{passed}
+use Rattle.cascade_rank.proofs.posts.push_saves.Given as goal
+
+-- the weights of what the ball saves so far answer are added
+abbrev pub invariant-loop-number : goal.invariant-loop-number
+invariant-loop-number l =
+    l.posts.items ≡ l.fn.posts.items ++ weights_in (each_of (λ r. cost_of_call l.plan r (calls.Act Save)) (passed l.plan (λ r. is_save (row_at l.plan r).settings) l.number))

@@ -1,0 +1,332 @@
+-- Ball saves: their states, what they answer, and when they are due.
+use Rattle.std.proofs.Common.{◌≡◌, ℕ, zero, suc, ◌+◌, ◌-◌, ◌==◌, ◌<◌, ◌≤◌, ◌⊎◌, inr, nat_lt, Bool, true, false, if◌then◌else◌, Option, None, Some, is_some, IfSome, List, [], ◌∷◌, ◌++◌, refl, sym, ◌∙◌, arith}
+use Rattle.std.specs.List.{All}
+use Rattle.std.proofs.lemmas.Bool.{eqb-false, lt-ltb, ltb-true, false≢true}
+use Rattle.std.proofs.lemmas.List.Elements.{All-append, All-cons}
+use Rattle.std.proofs.lemmas.Option.{none-some, same_Some}
+use Rattle.plan_tables.specs.declared.devices.Act.{Act}
+use Rattle.plan_tables.specs.declared.devices.Act.TheVariants as acts
+use Rattle.plan_tables.specs.declared.devices.SaveSettings.{SaveSettings}
+use Rattle.plan_tables.specs.declared.devices.Settings.TheVariants as kinds
+use Rattle.device_objects.specs.declared.device.Call.{Call}
+use Rattle.device_objects.specs.declared.device.Call.TheVariants as calls
+use Rattle.device_objects.specs.declared.state.SaveState.{SaveState}
+use Rattle.device_objects.specs.declared.state.DeviceState.TheVariants as states
+use Rattle.device_objects.specs.BallSave.{enabled, disabled, saving, first_state, end_of, disable, saved, act_step, save_step}
+use Rattle.device_objects.specs.Laws.{HasSaveShape, IsAnswer, IsDone, IsFirstPart, MayCome}
+use Rattle.device_objects.specs.Outcomes.{only_if, of_save, of_save_act}
+use Rattle.device_objects.proofs.Among.{In, here, there, at_last, at_left, if_holds, by, either, none, one, all_if, if_true}
+
+-- the state of a ball save that is active no more
+abbrev shut : SaveState → SaveState
+shut s = record s { active = false; due = None }
+
+-- the state after it was enabled
+abbrev opened : SaveSettings → ℕ → SaveState
+opened b now = record { active = true; left = b.balls; due = end_of b now }
+
+-- the state with one ball fewer left
+abbrev with_fewer : SaveState → SaveState
+with_fewer s = record s { left = s.left - 1 }
+
+-- ---- states keep their shape
+
+-- one that is due some time has an end
+has_end : (time now : ℕ) → is_some (if◌then◌else◌ {A = Option ℕ} (time == 0) None (Some (now + time))) ≡ true → 0 < time
+has_end zero now some = absurd (false≢true some)
+has_end (suc n) now some = omega arith
+
+module _ (b : SaveSettings) where
+  -- an answer that is one of two
+  one_of : (test : Bool) (x y : SaveState × List ℕ) → HasSaveShape b x.0 → HasSaveShape b y.0
+      → HasSaveShape b (if test then x else y).0
+  one_of true x y first second = first
+  one_of false x y first second = second
+
+  pub first_save-shape : HasSaveShape b first_state
+  first_save-shape = record { left = omega arith; due = λ some. absurd (false≢true some) }
+
+  shut-shape : (s : SaveState) → HasSaveShape b s → HasSaveShape b (shut s)
+  shut-shape s shape = record { left = shape.left; due = λ some. absurd (false≢true some) }
+
+  opened-shape : (now : ℕ) → HasSaveShape b (opened b now)
+  opened-shape now = record { left = omega arith; due = λ some. (refl, has_end b.active_time now some) }
+
+  with_fewer-shape : (s : SaveState) → HasSaveShape b s → HasSaveShape b (with_fewer s)
+  with_fewer-shape s shape = record { left = omega (arith, shape.left); due = shape.due }
+
+  disable-shape : (s : SaveState) → HasSaveShape b s → HasSaveShape b (disable s).0
+  disable-shape s shape = one_of s.active (shut s, disabled ∷ []) (s, []) (shut-shape s shape) shape
+
+  saved-shape : (s : SaveState) → HasSaveShape b s → HasSaveShape b (saved s).0
+  saved-shape s shape =
+      one_of (s.left == 0) (shut s, saving ∷ disabled ∷ []) (s, saving ∷ []) (shut-shape s shape) shape
+
+  act-shape : (act : Act) (now : ℕ) (s : SaveState) → HasSaveShape b s → HasSaveShape b (act_step b act now s).0
+  act-shape acts.Enable now s shape = one_of s.active (s, []) (opened b now, enabled ∷ []) shape (opened-shape now)
+  act-shape acts.Disable now s shape = disable-shape s shape
+  act-shape acts.Save now s shape =
+      one_of s.active (saved (with_fewer s)) (s, []) (saved-shape (with_fewer s) (with_fewer-shape s shape)) shape
+  act-shape _ now s shape = shape
+
+  pub save_step-shape : (call : Call) (now : ℕ) (s : SaveState) → HasSaveShape b s → HasSaveShape b (save_step b call now s).0
+  save_step-shape calls.ModeStart now s shape = first_save-shape
+  save_step-shape calls.ModeStop now s shape = first_save-shape
+  save_step-shape calls.Fire now s shape = disable-shape s shape
+  save_step-shape (calls.Act act) now s shape = act-shape act now s shape
+
+-- ---- answers are outcomes
+
+-- one that has balls left after it has saved one saves several
+saves_several : (left balls : ℕ) → left ≤ balls → (left - 1 == 0) ≡ false → nat_lt 1 balls ≡ true
+saves_several left balls low more = lt-ltb 1 balls (omega (arith, low, eqb-false (left - 1) 0 more))
+
+module _ (b : SaveSettings) where
+  saved-in : (s : SaveState) → HasSaveShape b s → In (saved (with_fewer s)).1 (of_save_act b acts.Save)
+  saved-in s shape =
+      either (s.left - 1 == 0) (shut (with_fewer s), saving ∷ disabled ∷ []) (with_fewer s, saving ∷ [])
+      (λ last. there (at_last (only_if (nat_lt 1 b.balls) ((saving ∷ []) ∷ []))))
+      (λ more. there (at_left ((saving ∷ disabled ∷ []) ∷ [])
+      (if_holds (nat_lt 1 b.balls) (saves_several s.left b.balls shape.left more) here)))
+
+  act-in : (act : Act) (now : ℕ) (s : SaveState) → HasSaveShape b s → In (act_step b act now s).1 (of_save_act b act)
+  act-in acts.Enable now s shape =
+      either s.active (s, []) (opened b now, enabled ∷ []) (λ is. here) (λ not. there here)
+  act-in acts.Disable now s shape = either s.active (shut s, disabled ∷ []) (s, []) (λ is. there here) (λ not. here)
+  act-in acts.Save now s shape =
+      either s.active (saved (with_fewer s)) (s, []) (λ is. saved-in s shape) (λ not. here)
+  act-in _ now s shape = here
+
+  pub save-in : (call : Call) (now : ℕ) (s : SaveState) → HasSaveShape b s → MayCome call (states.BallSave s)
+      → In (save_step b call now s).1 (of_save b call)
+  save-in calls.ModeStart now s shape may = here
+  save-in calls.ModeStop now s shape may = here
+  save-in calls.Fire now s shape may =
+      let parts : (s.active ≡ true) × (0 < b.active_time) = shape.due may in
+      if_holds (nat_lt 0 b.active_time) (lt-ltb 0 b.active_time parts.1)
+      (by (if_true s.active (shut s, disabled ∷ []) (s, []) parts.0) here)
+  save-in (calls.Act act) now s shape may = act-in act now s shape
+
+-- ---- each outcome comes about
+
+module _ (b : SaveSettings) where
+  answered : (call : Call) (lists : List ℕ) (s : SaveState) → HasSaveShape b s → MayCome call (states.BallSave s)
+      → (save_step b call 0 s).1 ≡ lists → IsAnswer (kinds.BallSave b) call lists
+  answered call lists s shape may answers = record {
+    now = 0;
+    world = record { games = 0; player = 0; in_play = 0 };
+    state = states.BallSave s;
+    shape = shape;
+    may_come = may;
+    answer = answers;
+  }
+
+  -- one that is active, with so many balls left and without an end
+  abbrev active_with : ℕ → SaveState
+  active_with left = record { active = true; left = left; due = None }
+
+  active-shape : (left : ℕ) → left ≤ b.balls → HasSaveShape b (active_with left)
+  active-shape left low = record { left = low; due = λ some. absurd (false≢true some) }
+
+  quiet : (call : Call) → MayCome call (states.BallSave first_state) → (save_step b call 0 first_state).1 ≡ []
+      → IsAnswer (kinds.BallSave b) call []
+  quiet call may answers = answered call [] first_state (first_save-shape b) may answers
+
+  from_active : (act : Act) (lists : List ℕ) (left : ℕ) → left ≤ b.balls → (act_step b act 0 (active_with left)).1 ≡ lists
+      → IsAnswer (kinds.BallSave b) (calls.Act act) lists
+  from_active act lists left low answers =
+      answered (calls.Act act) lists (active_with left) (active-shape left low) tt answers
+
+  two : (act : Act) (lists : List ℕ) → IsAnswer (kinds.BallSave b) (calls.Act act) []
+      → IsAnswer (kinds.BallSave b) (calls.Act act) lists
+      → All (IsAnswer (kinds.BallSave b) (calls.Act act)) ([] ∷ lists ∷ [])
+  two act lists first second =
+      All-cons (IsAnswer (kinds.BallSave b) (calls.Act act)) [] (lists ∷ []) first
+      (one (IsAnswer (kinds.BallSave b) (calls.Act act)) lists second)
+
+  saves : All (IsAnswer (kinds.BallSave b) (calls.Act acts.Save)) (of_save_act b acts.Save)
+  saves =
+      let Answer : List ℕ → Type 0 = IsAnswer (kinds.BallSave b) (calls.Act acts.Save) in
+      let goes_on : List (List ℕ) = only_if (nat_lt 1 b.balls) ((saving ∷ []) ∷ []) in
+      let last : List (List ℕ) = (saving ∷ disabled ∷ []) ∷ [] in
+      All-cons Answer [] (goes_on ++ last) (quiet (calls.Act acts.Save) tt refl)
+      (All-append Answer goes_on last
+      (all_if Answer (nat_lt 1 b.balls) ((saving ∷ []) ∷ [])
+      (λ several.
+      let two_balls : 1 < b.balls = ltb-true 1 b.balls several in
+      one Answer (saving ∷ []) (from_active acts.Save (saving ∷ []) 2 (omega (arith, two_balls)) refl)))
+      (one Answer (saving ∷ disabled ∷ []) (from_active acts.Save (saving ∷ disabled ∷ []) 0 (omega arith) refl)))
+
+  acts-come : (act : Act) → All (IsAnswer (kinds.BallSave b) (calls.Act act)) (of_save_act b act)
+  acts-come acts.Enable =
+      two acts.Enable (enabled ∷ []) (from_active acts.Enable [] 0 (omega arith) refl)
+      (answered (calls.Act acts.Enable) (enabled ∷ []) first_state (first_save-shape b) tt refl)
+  acts-come acts.Disable =
+      two acts.Disable (disabled ∷ []) (quiet (calls.Act acts.Disable) tt refl)
+      (from_active acts.Disable (disabled ∷ []) 0 (omega arith) refl)
+  acts-come acts.Save = saves
+  acts-come act = one (IsAnswer (kinds.BallSave b) (calls.Act act)) [] (quiet (calls.Act act) tt refl)
+
+  -- its time is over
+  ends : All (IsAnswer (kinds.BallSave b) calls.Fire) (of_save b calls.Fire)
+  ends =
+      let Answer : List ℕ → Type 0 = IsAnswer (kinds.BallSave b) calls.Fire in
+      let over : SaveState = record { active = true; left = 0; due = Some 0 } in
+      all_if Answer (nat_lt 0 b.active_time) ((disabled ∷ []) ∷ [])
+      (λ some. one Answer (disabled ∷ [])
+      (answered calls.Fire (disabled ∷ []) over
+      (record { left = omega arith; due = λ is. (refl, ltb-true 0 b.active_time some) }) refl refl))
+
+  pub save-comes : (call : Call) → All (IsAnswer (kinds.BallSave b) call) (of_save b call)
+  save-comes calls.ModeStart = one (IsAnswer (kinds.BallSave b) calls.ModeStart) [] (quiet calls.ModeStart tt refl)
+  save-comes calls.ModeStop = one (IsAnswer (kinds.BallSave b) calls.ModeStop) [] (quiet calls.ModeStop tt refl)
+  save-comes calls.Fire = ends
+  save-comes (calls.Act act) = acts-come act
+
+-- ---- lists
+
+abbrev AreLists : List ℕ → Type 0
+AreLists lists = All (λ k. k < 3) lists
+
+no_list : AreLists []
+no_list = none (λ k. k < 3)
+
+one_list : (k : ℕ) → k < 3 → AreLists (k ∷ [])
+one_list k low = one (λ j. j < 3) k low
+
+two_lists : AreLists (saving ∷ disabled ∷ [])
+two_lists = All-cons (λ j. j < 3) saving (disabled ∷ []) (omega arith) (one_list disabled (omega arith))
+
+module _ (b : SaveSettings) where
+  act_outcomes-lists : (act : Act) → All AreLists (of_save_act b act)
+  act_outcomes-lists acts.Enable =
+      All-cons AreLists [] ((enabled ∷ []) ∷ []) no_list
+      (one AreLists (enabled ∷ []) (one_list enabled (omega arith)))
+  act_outcomes-lists acts.Disable =
+      All-cons AreLists [] ((disabled ∷ []) ∷ []) no_list
+      (one AreLists (disabled ∷ []) (one_list disabled (omega arith)))
+  act_outcomes-lists acts.Save =
+      let goes_on : List (List ℕ) = only_if (nat_lt 1 b.balls) ((saving ∷ []) ∷ []) in
+      let last : List (List ℕ) = (saving ∷ disabled ∷ []) ∷ [] in
+      All-cons AreLists [] (goes_on ++ last) no_list
+      (All-append AreLists goes_on last
+      (all_if AreLists (nat_lt 1 b.balls) ((saving ∷ []) ∷ [])
+      (λ several. one AreLists (saving ∷ []) (one_list saving (omega arith))))
+      (one AreLists (saving ∷ disabled ∷ []) two_lists))
+  act_outcomes-lists _ = one AreLists [] no_list
+
+  pub save_outcomes-lists : (call : Call) → All AreLists (of_save b call)
+  save_outcomes-lists calls.ModeStart = one AreLists [] no_list
+  save_outcomes-lists calls.ModeStop = one AreLists [] no_list
+  save_outcomes-lists calls.Fire =
+      all_if AreLists (nat_lt 0 b.active_time) ((disabled ∷ []) ∷ [])
+      (λ some. one AreLists (disabled ∷ []) (one_list disabled (omega arith)))
+  save_outcomes-lists (calls.Act act) = act_outcomes-lists act
+
+  one_answer : (test : Bool) (x y : SaveState × List ℕ) → AreLists x.1 → AreLists y.1
+      → AreLists (if test then x else y).1
+  one_answer true x y first second = first
+  one_answer false x y first second = second
+
+  disable-lists : (s : SaveState) → AreLists (disable s).1
+  disable-lists s = one_answer s.active (shut s, disabled ∷ []) (s, []) (one_list disabled (omega arith)) no_list
+
+  saved-lists : (s : SaveState) → AreLists (saved s).1
+  saved-lists s =
+      one_answer (s.left == 0) (shut s, saving ∷ disabled ∷ []) (s, saving ∷ []) two_lists
+      (one_list saving (omega arith))
+
+  act-lists : (act : Act) (now : ℕ) (s : SaveState) → AreLists (act_step b act now s).1
+  act-lists acts.Enable now s =
+      one_answer s.active (s, []) (opened b now, enabled ∷ []) no_list (one_list enabled (omega arith))
+  act-lists acts.Disable now s = disable-lists s
+  act-lists acts.Save now s =
+      one_answer s.active (saved (with_fewer s)) (s, []) (saved-lists (with_fewer s)) no_list
+  act-lists _ now s = no_list
+
+  pub save_step-lists : (call : Call) (now : ℕ) (s : SaveState) → AreLists (save_step b call now s).1
+  save_step-lists calls.ModeStart now s = no_list
+  save_step-lists calls.ModeStop now s = no_list
+  save_step-lists calls.Fire now s = disable-lists s
+  save_step-lists (calls.Act act) now s = act-lists act now s
+
+-- ---- moments
+
+-- the end of one that is enabled now is later
+end-later : (endless : Bool) (time now due : ℕ) → (endless ≡ false → 0 < time)
+    → if◌then◌else◌ {A = Option ℕ} endless None (Some (now + time)) ≡ Some due → now < due
+end-later true time now due some is = absurd (none-some due is)
+end-later false time now due some is =
+    let lasts : 0 < time = some refl in
+    let same : now + time ≡ due = same_Some (now + time) due is in
+    omega (arith, lasts, same)
+
+-- due at a moment at which it was due before, or later than now
+module _ (b : SaveSettings) (now : ℕ) (Before : ℕ → Type 0) where
+  abbrev IsLater : SaveState → Type 0
+  IsLater s = (due : ℕ) → s.due ≡ Some due → Before due ⊎ (now < due)
+
+  not_due : (s : SaveState) → s.due ≡ None → IsLater s
+  not_due s never due is = absurd (none-some due (sym never ∙ is))
+
+  one_later : (test : Bool) (x y : SaveState × List ℕ) → IsLater x.0 → IsLater y.0 → IsLater (if test then x else y).0
+  one_later true x y first second = first
+  one_later false x y first second = second
+
+  opened-later : IsLater (opened b now)
+  opened-later due is =
+      inr (end-later (b.active_time == 0) b.active_time now due
+      (λ lasts. omega (arith, eqb-false b.active_time 0 lasts)) is)
+
+  disable-later : (s : SaveState) → IsLater s → IsLater (disable s).0
+  disable-later s h = one_later s.active (shut s, disabled ∷ []) (s, []) (not_due (shut s) refl) h
+
+  saved-later : (s : SaveState) → IsLater s → IsLater (saved s).0
+  saved-later s h =
+      one_later (s.left == 0) (shut s, saving ∷ disabled ∷ []) (s, saving ∷ []) (not_due (shut s) refl) h
+
+  act-later : (act : Act) (s : SaveState) → IsLater s → IsLater (act_step b act now s).0
+  act-later acts.Enable s h = one_later s.active (s, []) (opened b now, enabled ∷ []) h opened-later
+  act-later acts.Disable s h = disable-later s h
+  act-later acts.Save s h = one_later s.active (saved (with_fewer s)) (s, []) (saved-later (with_fewer s) h) h
+  act-later _ s h = h
+
+  pub save-later : (call : Call) (s : SaveState) → IsLater s → IsLater (save_step b call now s).0
+  save-later calls.ModeStart s h = not_due first_state refl
+  save-later calls.ModeStop s h = not_due first_state refl
+  save-later calls.Fire s h = disable-later s h
+  save-later (calls.Act act) s h = act-later act s h
+
+if_some : (o : Option ℕ) (P : ℕ → Type 0) → ((m : ℕ) → o ≡ Some m → P m) → IfSome o P
+if_some None P each = tt
+if_some (Some m) P each = each m refl
+
+is_due : (o : Option ℕ) (m : ℕ) → o ≡ Some m → is_some o ≡ true
+is_due None m is = absurd (none-some m is)
+is_due (Some n) m is = refl
+
+shut-when : (active : Bool) (s : SaveState) → active ≡ true
+    → (if◌then◌else◌ {A = SaveState × List ℕ} active (shut s, disabled ∷ []) (s, [])).0.due ≡ None
+shut-when true s is = refl
+shut-when false s is = absurd (false≢true is)
+
+-- one that was disabled at its end is due no more
+pub save-fired : (b : SaveSettings) (now : ℕ) (s : SaveState) → HasSaveShape b s
+    → IfSome s.due (λ due. IsDone now due (states.BallSave s) (states.BallSave (save_step b calls.Fire now s).0))
+save-fired b now s shape =
+    let next : SaveState = (disable s).0 in
+    if_some s.due (λ due. IsDone now due (states.BallSave s) (states.BallSave next))
+    (λ due is.
+    let never : next.due ≡ None = shut-when s.active s (shape.due (is_due s.due due is)).0 in
+    record { part = 0; due = is; done = if_some next.due (λ m. now < m) (λ m at. absurd (none-some m (sym never ∙ at))) })
+
+-- it has one part
+pub save-first : (s : SaveState) (due : ℕ) → s.due ≡ Some due → IsFirstPart (states.BallSave s) due 0
+save-first s due is = record {
+  due = is;
+  earliest = elim [
+    | zero ↦ (λ at found. let same : due ≡ at = same_Some due at (sym is ∙ found) in omega (arith, same))
+    | suc k ↦ (λ at found. absurd (none-some at found))
+  ];
+  lowest = λ other found. omega arith;
+}

@@ -1,0 +1,80 @@
+-- What holds of ball saves and multiballs, by the names of their settings: their names are names, and their settings are in their ranges.
+use Rattle.std.proofs.Common.{◌≡◌, map, slice_get, refl, arith}
+use Rattle.std.specs.List.{All}
+use Rattle.std.proofs.lemmas.List.Elements.{All-map, All-weaker}
+use Rattle.section_tables.specs.Rows.{Entry}
+use Rattle.section_tables.specs.Named.{IsNamedEntry}
+use Rattle.mpf_sections.specs.Rows.{SectionRows}
+use Rattle.mpf_sections.specs.Typed.{entries_of}
+use Rattle.mpf_sections.specs.TypedSaves.{ball_saves_name, multiballs_name, ball_save_of, multiball_of, ball_saves_in, multiballs_in}
+use Rattle.mpf_sections.specs.Named.{IsNamedBallSave, IsNamedMultiball, IsNamed}
+use Rattle.mpf_sections.specs.Short.{IsShortBallSave, IsShortMultiball}
+use Rattle.mpf_sections.proofs.Each.{all_mapped}
+use Rattle.mpf_sections.proofs.RowNames.{value_at_named, events_named, entries_of_named}
+use Rattle.mpf_sections.proofs.GameRows.{natural_in_range}
+
+-- ---- names
+
+-- The names in an entry of `ball_saves` are names.
+pub ball_save_named : (e : Entry) → IsNamedEntry e → IsNamedBallSave (ball_save_of e)
+unfolding ball_save_of
+ball_save_named e h = record {
+  name = h.name;
+  enable_events = events_named (slice_get e.values 2) (value_at_named e.values 2 h.values);
+  disable_events = events_named (slice_get e.values 3) (value_at_named e.values 3 h.values);
+}
+
+-- Those in an entry of `multiballs` are, too.
+pub multiball_named : (e : Entry) → IsNamedEntry e → IsNamedMultiball (multiball_of e)
+unfolding multiball_of
+multiball_named e h = record { name = h.name; start_events = events_named (slice_get e.values 1) (value_at_named e.values 1 h.values) }
+
+-- so they are in a section
+pub ball_saves_named : (s : SectionRows) → IsNamed s → All IsNamedBallSave (ball_saves_in s)
+unfolding ball_saves_in
+ball_saves_named s h =
+    let es = entries_of ball_saves_name s in
+    All-map IsNamedBallSave ball_save_of es
+    (All-weaker IsNamedEntry (λ e. IsNamedBallSave (ball_save_of e)) ball_save_named es (entries_of_named ball_saves_name s h))
+
+pub multiballs_named : (s : SectionRows) → IsNamed s → All IsNamedMultiball (multiballs_in s)
+unfolding multiballs_in
+multiballs_named s h =
+    let es = entries_of multiballs_name s in
+    All-map IsNamedMultiball multiball_of es
+    (All-weaker IsNamedEntry (λ e. IsNamedMultiball (multiball_of e)) multiball_named es (entries_of_named multiballs_name s h))
+
+-- ---- ranges
+
+-- A ball save saves 1 to 99 balls.
+pub ball_save_short : (e : Entry) → IsShortBallSave (ball_save_of e)
+unfolding ball_save_of
+ball_save_short e =
+    let balls = natural_in_range 1 99 1 (omega arith) (omega arith) (slice_get e.values 1) in
+    record { some_balls = balls.0; few_balls = balls.1 }
+
+-- A multiball has 2 to 99 balls.
+pub multiball_short : (e : Entry) → IsShortMultiball (multiball_of e)
+unfolding multiball_of
+multiball_short e =
+    let balls = natural_in_range 2 99 2 (omega arith) (omega arith) (slice_get e.values 0) in
+    record { some_balls = balls.0; few_balls = balls.1 }
+
+-- so it is with those of a section
+pub ball_saves_short : (s : SectionRows) → All IsShortBallSave (ball_saves_in s)
+unfolding ball_saves_in
+ball_saves_short s = all_mapped IsShortBallSave ball_save_of ball_save_short (entries_of ball_saves_name s)
+
+pub multiballs_short : (s : SectionRows) → All IsShortMultiball (multiballs_in s)
+unfolding multiballs_in
+multiballs_short s = all_mapped IsShortMultiball multiball_of multiball_short (entries_of multiballs_name s)
+
+-- The ball saves of a section are its entries, where it is `ball_saves`.
+pub ball_saves_are : (s : SectionRows) → map ball_save_of (entries_of ball_saves_name s) ≡ ball_saves_in s
+unfolding ball_saves_in
+ball_saves_are s = refl
+
+-- So it is with the multiballs of one.
+pub multiballs_are : (s : SectionRows) → map multiball_of (entries_of multiballs_name s) ≡ multiballs_in s
+unfolding multiballs_in
+multiballs_are s = refl

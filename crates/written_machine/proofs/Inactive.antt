@@ -1,0 +1,90 @@
+-- Ball saves that are active, and multiballs that are running: what the machine's work does with those that are not.
+use Rattle.std.proofs.Common.{◌≡◌, ℕ, Bool, true, false, List, [], refl, ◌∙◌, sym, ap, if◌then◌else◌, ◌∷◌}
+use Rattle.std.proofs.lemmas.Bool.{false≢true}
+use Rattle.std.proofs.lemmas.List.{set-get_or}
+use Rattle.plan_tables.specs.PlanView.{PlanView, is_multiball, no_row, row_at}
+use Rattle.plan_tables.specs.declared.devices.RowId.{RowId}
+use Rattle.plan_tables.specs.declared.devices.Act.TheVariants as acts
+use Rattle.plan_tables.specs.declared.devices.Settings.{Settings}
+use Rattle.plan_tables.specs.declared.devices.Settings.TheVariants as kinds
+use Rattle.device_objects.specs.declared.device.Call.TheVariants as calls
+use Rattle.device_objects.specs.declared.state.DeviceState.{DeviceState}
+use Rattle.device_objects.specs.declared.state.DeviceState.TheVariants as states
+use Rattle.device_objects.specs.declared.state.MultiballState.{MultiballState}
+use Rattle.device_objects.specs.declared.state.World.{World}
+use Rattle.device_objects.specs.DeviceStep.{device_step, first_state, multiball_answer}
+use Rattle.device_objects.specs.Laws.{HasShape}
+use Rattle.device_objects.proofs.Inactive.{IsInactive, first-inactive, stopped-inactive}
+use Rattle.written_machine.specs.Machine.{Machine, set_device, world_of, device_at, called, do_answer, call_device, is_active_save}
+
+-- whether it is an active ball save, or a running multiball
+abbrev pub is_on : DeviceState → Bool
+is_on (states.BallSave s) = s.active
+is_on (states.Multiball s) = s.running
+is_on _ = false
+
+pub active-on : (state : DeviceState) → is_active_save state ≡ true → is_on state ≡ true
+active-on (states.BallSave s) is = is
+active-on (states.Counter x) is = absurd (false≢true is)
+active-on (states.Accrual x) is = absurd (false≢true is)
+active-on (states.Sequence x) is = absurd (false≢true is)
+active-on (states.Timer x) is = absurd (false≢true is)
+active-on (states.Bank x) is = absurd (false≢true is)
+active-on (states.Flipper x) is = absurd (false≢true is)
+active-on (states.Autofire x) is = absurd (false≢true is)
+active-on (states.BallDevice x) is = absurd (false≢true is)
+active-on (states.Multiball x) is = absurd (false≢true is)
+
+inactive-off : (state : DeviceState) → IsInactive state → is_on state ≡ false
+inactive-off (states.BallSave s) h = h.0
+inactive-off (states.Multiball s) h = h.1
+inactive-off (states.Counter x) h = refl
+inactive-off (states.Accrual x) h = refl
+inactive-off (states.Sequence x) h = refl
+inactive-off (states.Timer x) h = refl
+inactive-off (states.Bank x) h = refl
+inactive-off (states.Flipper x) h = refl
+inactive-off (states.Autofire x) h = refl
+inactive-off (states.BallDevice x) h = refl
+
+-- none is at first, nor where its mode has stopped
+pub first-off : (settings : Settings) → is_on (first_state settings) ≡ false
+first-off settings = inactive-off (first_state settings) (first-inactive settings)
+
+pub stopped-off : (settings : Settings) (now : ℕ) (world : World) (state : DeviceState) → HasShape settings state → is_on (device_step settings calls.ModeStop now world state).0 ≡ false
+stopped-off settings now world state shape = inactive-off (device_step settings calls.ModeStop now world state).0 (stopped-inactive settings now world state shape)
+
+-- ---- a multiball that is not running does not end
+
+idle-end : (running : Bool) → running ≡ false → (s : MultiballState) → multiball_answer (if running then (record { running = false }, 1 ∷ []) else (s, [])) ≡ (states.Multiball s, [])
+idle-end true is s = absurd (false≢true (sym is))
+idle-end false is s = refl
+
+end-idle : (settings : Settings) (now : ℕ) (world : World) (state : DeviceState) → is_multiball settings ≡ true → is_on state ≡ false
+    → device_step settings (calls.Act acts.End) now world state ≡ (state, [])
+end-idle (kinds.Multiball m) now world (states.Multiball s) is off = idle-end s.running off s
+end-idle (kinds.Multiball m) now world (states.BallSave x) is off = refl
+end-idle (kinds.Multiball m) now world (states.Counter x) is off = refl
+end-idle (kinds.Multiball m) now world (states.Accrual x) is off = refl
+end-idle (kinds.Multiball m) now world (states.Sequence x) is off = refl
+end-idle (kinds.Multiball m) now world (states.Timer x) is off = refl
+end-idle (kinds.Multiball m) now world (states.Bank x) is off = refl
+end-idle (kinds.Multiball m) now world (states.Flipper x) is off = refl
+end-idle (kinds.Multiball m) now world (states.Autofire x) is off = refl
+end-idle (kinds.Multiball m) now world (states.BallDevice x) is off = refl
+end-idle (kinds.Counter x) now world state is off = absurd (false≢true is)
+end-idle (kinds.Accrual x) now world state is off = absurd (false≢true is)
+end-idle (kinds.Sequence x) now world state is off = absurd (false≢true is)
+end-idle (kinds.Timer x) now world state is off = absurd (false≢true is)
+end-idle (kinds.Bank x) now world state is off = absurd (false≢true is)
+end-idle kinds.Flipper now world state is off = absurd (false≢true is)
+end-idle kinds.Autofire now world state is off = absurd (false≢true is)
+end-idle (kinds.BallDevice x) now world state is off = absurd (false≢true is)
+end-idle (kinds.BallSave x) now world state is off = absurd (false≢true is)
+
+-- so nothing happens where it is told to
+pub end-still : (plan : PlanView) (r : RowId) (s : Machine) → is_multiball (row_at plan r).settings ≡ true → is_on (device_at s r) ≡ false
+    → call_device plan (calls.Act acts.End) r s ≡ s
+end-still plan r s is off =
+    ap (λ (a : DeviceState × List ℕ). do_answer plan r a.1 (set_device r a.0 s)) (end-idle (row_at plan r).settings s.moment (world_of s) (device_at s r) is off)
+    ∙ ap (λ (ds : List DeviceState). record s { devices = ds }) (set-get_or s.devices r.0 (first_state no_row.settings))
