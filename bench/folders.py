@@ -1,6 +1,7 @@
 """Configurations that double: whatever takes time as the product of two of their sizes takes four times as long."""
 import pathlib
 import random
+import re
 from collections.abc import Iterator
 
 import stacked
@@ -27,10 +28,18 @@ def folder(path: pathlib.Path, count: int) -> None:
         write(path / "modes" / name / "config" / f"{name}.yaml", front + "".join(lights))
 
 
-def read(path: pathlib.Path) -> bytes:
-    """The bundle of a folder: the text of the machine, and those of its modes."""
-    modes = {mode.parent.parent.name: mode.read_text() for mode in sorted(path.glob("modes/*/config/*.yaml"))}
-    return stacked.bundle((path / "config" / "config.yaml").read_text(), modes)
+def read(path: pathlib.Path, without: tuple[str, ...] = ()) -> bytes:
+    """The bundle of a folder: the text of the machine, and those of its modes, without some sections."""
+    modes = {mode.parent.parent.name: left(mode, without) for mode in sorted(path.glob("modes/*/config/*.yaml"))}
+    return stacked.bundle(left(path / "config" / "config.yaml", without), modes)
+
+
+def left(path: pathlib.Path, without: tuple[str, ...]) -> str:
+    """What is left of a text without some sections."""
+    text = path.read_text()
+    for section in without:
+        text = re.sub(rf"^{section}:\n(?: .*\n|\n)*", "", text, flags=re.MULTILINE)
+    return text
 
 
 def write(path: pathlib.Path, text: str) -> None:

@@ -6,6 +6,9 @@ from collections.abc import Iterator
 # What the ball and the players hit of examples/complete.
 COMPLETE = ["s_left_button", "s_right_button", "s_left_sling", "s_right_sling", "s_lane_left", "s_lane_right", "s_ramp"]
 COMPLETE += ["s_drop_1", "s_drop_2", "s_drop_3"]
+# The sections of examples/complete that are left out: in these games one ball is in play, and a ball that drains has
+# drained. The plain program has neither section.
+WITHOUT = ("ball_saves", "multiballs")
 # How often the ball and the players hit something before the ball drains: about once in 30 ms.
 HITS = 2000
 START = 500  # ms in which the start button is pressed twice

@@ -107,7 +107,7 @@ def all_that_doubles(program: str, room: pathlib.Path, bars: Bars) -> None:
 
 def long_plays(program: str, room: pathlib.Path, complete: pathlib.Path, bars: Bars) -> None:
     plays = {
-        "examples/complete": (folders.read(complete), games.COMPLETE, 1),
+        "examples/complete": (folders.read(complete, games.WITHOUT), games.COMPLETE, 1),
         "a machine at the limits of the plan": (limits.machine(), limits.switches(), limits.BALLS),
     }
     for what, (bundle, switches, balls) in plays.items():

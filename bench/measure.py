@@ -215,7 +215,7 @@ def all_plays(complete: pathlib.Path) -> Iterator[Play]:
     yield Play(f"flippers, {coils.SLINGSHOTS} slingshots", coils.machine(), coils.log())
     yield Play(f"a game, {game.ACTIONS} actions each", game.machine(), game.log())
     log = games.log(games.COMPLETE, 1, 16 * MIB)
-    yield Play("examples/complete, with balls", folders.read(complete), log)
+    yield Play("examples/complete, with balls", folders.read(complete, games.WITHOUT), log)
     log = games.log(limits.switches(), limits.BALLS, 16 * MIB)
     yield Play("a machine at the limits of the plan", limits.machine(), log)
 

@@ -8,7 +8,6 @@ SECTIONS = {
     "auditor": "Take it out: nothing is audited here.",
     "ball_holds": "Write a ball device without `mechanical_eject` for a place that holds a ball.",
     "ball_routings": "Write the way of the balls as `eject_targets` of the `ball_devices`.",
-    "ball_saves": "Take it out: no ball is saved here. Each ball that drains counts.",
     "ball_locks": "Take it out: locks are not carried out.",
     "combo_switches": "Write a mode that runs while one switch is active, and that handles the event of the other one.",
     "config": "Take the list of files out, and write their sections into this text: a text includes no other.",
@@ -31,8 +30,7 @@ SECTIONS = {
     "matrix_lights": "Name the section `lights`, which is skipped here, or take it out.",
     "mode_settings": "Take it out: write the values where they are used.",
     "motors": "Take it out: motors are not driven here.",
-    "multiball_locks": "Take it out: a game here has one ball in play at a time.",
-    "multiballs": "Take it out: a game here has one ball in play at a time.",
+    "multiball_locks": "Take it out: locks are not carried out. A multiball gets its balls from the trough.",
     "player_vars": "Take it out: a variable is 0 at first. For another value write a `variable_player` with "
     "`action: set` at `ball_will_start{current_player.ball == 1}`.",
     "playfield_transfers": "Take it out: there is one playfield here.",
@@ -63,6 +61,7 @@ SECTIONS_RENAMED = {"scoring": "variable_player", "leds": "lights", "matrix_ligh
 
 # the headings of docs/from_mpf.md that have a text to write in place of a section, or of a setting of a section
 HELD, HOLD = "A button that is held", "A coil that is held for a time"
+SAVED = "A multiball that saves its balls"
 FIRST_VALUE = "A variable that does not begin at 0"
 RECIPES_OF_SECTIONS = {
     "combo_switches": HELD,
@@ -78,6 +77,8 @@ RECIPES = {
     ("coils", "max_hold_duration"): HOLD,
     ("coils", "default_timed_enable_ms"): HOLD,
     ("ball_devices", "player_controlled_eject_event"): "A launch button",
+    ("multiballs", "shoot_again"): SAVED,
+    ("multiballs", "grace_period"): SAVED,
     ("counters", "control_events"): "A counter in a condition",
     ("mode", "player_vars"): FIRST_VALUE,
     ("game", "player_vars"): FIRST_VALUE,
@@ -148,6 +149,33 @@ SETTINGS = {
                                               "has `mechanical_eject: yes` and no coil."),
         "request_ball_events": ("", GAME_ONLY + " The game asks the trough for each ball."),
         "auto_fire_on_unexpected_ball": ("", GAME_ONLY + " A device with a coil ejects what comes in."),
+    },
+    "ball_saves": {
+        "auto_launch": ("", "Take it out: a plunger with an `eject_coil` launches each ball, also one that is saved."),
+        "ball_locks": ("", "Take it out: the trough ejects the other ball."),
+        "delayed_eject_events": ("", "Take it out: the trough ejects the other ball at once."),
+        "early_ball_save_events": ("", "Take it out: a ball is saved when it has drained."),
+        "eject_delay": ("", "Take it out: the trough ejects the other ball at once."),
+        "grace_period": ("", "Take it out, and add its time to the `active_time`."),
+        "hurry_up_time": ("", "Take it out: no event comes before the `active_time` is over."),
+        "only_last_ball": ("", "Take it out: each ball that drains is saved, up to `balls_to_save`."),
+        "source_playfield": ("", "Take it out: there is one playfield."),
+        "timer_start_events": ("enable_events", "The `active_time` begins when the ball save is enabled."),
+    },
+    "multiballs": {
+        "add_a_ball_events": ("", "Take it out. For one ball more write a second multiball with a greater count."),
+        "ball_count_type": ("", "Take it out: `ball_count` is how many balls are in play when it has started."),
+        "ball_locks": ("", "Take it out: the trough ejects the balls."),
+        "disable_events": ("", "Take it out. Write the multiball in a mode that runs while it may start."),
+        "enable_events": ("", "Take it out. Write the multiball in a mode that runs while it may start."),
+        "grace_period": ("", "Take it out. Write a ball save with `enable_events: multiball_NAME_started`."),
+        "hurry_up_time": ("", "Take it out: a multiball has no time of its own."),
+        "replace_balls_in_play": ("", "Take it out: the balls that are in play stay there."),
+        "reset_events": ("", "Take it out: a multiball may start again when it has ended."),
+        "shoot_again": ("", "Take it out. Write a ball save with `enable_events: multiball_NAME_started`."),
+        "source_playfield": ("", "Take it out: there is one playfield."),
+        "start_or_add_a_ball_events": ("start_events", "A multiball that runs adds no ball."),
+        "stop_events": ("", "Take it out: a multiball ends when one ball is left in play."),
     },
     "shots": {
         "switches": ("switch", "A shot has one `switch`. For a second switch `s_b` write `hit_events: s_b_active`."),

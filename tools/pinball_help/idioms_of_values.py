@@ -225,6 +225,27 @@ IDIOMS = (
         ("first",), "coils:\n  c:\nball_devices:\n  d: {ball_switches: '', eject_coil: c, eject_timeouts: '5s, 9s'}",
     ),
     Idiom(
+        "ball_saves", "balls_to_save", r"^-",
+        "In MPF -1 means all balls. A ball save saves from 1 to 99 balls here.", "Write `99` for as many as there are.",
+        ("value", "99"), "ball_saves:\n  b: {balls_to_save: -1}",
+    ),
+    Idiom(
+        "ball_saves", "balls_to_save", ANY,
+        "A ball save saves from 1 to 99 balls.", "Write a number from 1 to 99.",
+        ("value", "1"), "ball_saves:\n  b: {balls_to_save: 0}",
+    ),
+    Idiom(
+        "ball_saves", "active_time", r"current_player|settings|[*/(]",
+        "MPF works out a formula here. A ball save takes a time that is written.", "Write the time, for example `10s`.",
+        ("value", "10s"), "ball_saves:\n  b: {active_time: settings.ball_save}",
+    ),
+    Idiom(
+        "multiballs", "ball_count", ANY,
+        "From 2 to 99 balls are in play when a multiball has started, the one that is in play already among them.",
+        "Write a number from 2 to 99.",
+        ("value", "2"), "multiballs:\n  m: {ball_count: 1}",
+    ),
+    Idiom(
         "game", "max_players", ANY,
         "A game has from 1 to 4 players.", "Write a number from 1 to 4.",
         ("value", "4"), "game:\n  max_players: 6",

@@ -4,7 +4,7 @@ from .graph import Cost, Graph, names_of, says_yes, setting, text_of
 from .outline import Entry
 from .scenery import Scenery
 from .texts import MACHINE
-from .values import event_of, is_yes, number
+from .values import event_of, is_yes, milliseconds, number
 
 # after an event of the game: what the machine posts; several lists are one or the other
 GAME = {
@@ -19,7 +19,7 @@ GAME = {
     "ball_will_start": [["ball_starting"]],
     "ball_starting": [["ball_started"]],
     "ball_started": [],
-    "ball_drain": [["ball_will_end"]],
+    "ball_drain": [],  # see `drains`
     "ball_will_end": [["ball_ending"]],
     "ball_ending": [["ball_ended"]],
     "ball_ended": [["player_turn_will_end"]],
@@ -225,7 +225,37 @@ class Maker:
             f" ball device {entry.key}", Cost(2, enters + ejects + ends), f"ball device {entry.key}", text, entry
         )
 
+    def of_ball_saves(self, text: str, entry: Entry) -> None:
+        name, called = f"ball_save_{entry.key}", f"ball save {entry.key}"
+        for key, posted in ("enable_events", "enabled"), ("disable_events", "disabled"):
+            self.graph.bind_list(setting(entry, key), Cost(0, [f"{name}_{posted}"]), f"{key} of {called}", text)
+        if milliseconds(text_of(entry, "active_time")):
+            self.graph.stimulus(f" {called}", Cost(0, [f"{name}_disabled"]), called, text, entry)
+
+    def of_multiballs(self, text: str, entry: Entry) -> None:
+        asked = self.request()
+        cost = Cost(asked.lines, [f"multiball_{entry.key}_started", *asked.posts])
+        self.graph.bind_list(setting(entry, "start_events"), cost, f"multiball {entry.key} starts", text)
+
     # what the machine does by itself
+
+    def request(self) -> Cost:
+        """What the first trough does when it is asked for balls."""
+        for _, entry in self.scene.entries_of("ball_devices"):
+            if "trough" in names_of(entry, "tags"):
+                name = f"balldevice_{entry.key}"
+                lines = 1 if names_of(entry, "ball_switches") else 0
+                return Cost(lines, [f"{name}_ball_eject_attempt", f"{name}_ejecting_ball"][: 2 * lines])
+        return Cost()
+
+    def drains(self) -> Cost:
+        """What the machine does after `ball_drain`: a ball is saved, one is left, or none is left."""
+        asked, cases = self.request(), [Cost(0, ["ball_will_end"])]
+        for _, entry in self.scene.entries_of("ball_saves"):
+            name = f"ball_save_{entry.key}"
+            cases.append(Cost(asked.lines, [f"{name}_saving_ball", *asked.posts, f"{name}_disabled"]))
+        ends = [f"multiball_{entry.key}_ended" for _, entry in self.scene.entries_of("multiballs")]
+        return Cost(0, [], [*cases, Cost(0, ends)])
 
     def has(self, section: str) -> bool:
         return any(it.key == section for it in self.scene.outlines[MACHINE].entries or [])
@@ -239,12 +269,8 @@ class Maker:
             self.graph.bind(event, Cost(0, posts, either), THE_MACHINE)
         section = next(it for it in self.scene.outlines[MACHINE].entries or [] if it.key == "game")
         self.graph.bind("game_ended", Cost(number(text_of(section, "max_players", "4")) or 4), THE_MACHINE)
-        for _, entry in self.scene.entries_of("ball_devices"):
-            if "trough" in names_of(entry, "tags"):
-                name = f"balldevice_{entry.key}"
-                cost = Cost(1, [f"{name}_ball_eject_attempt", f"{name}_ejecting_ball"])
-                self.graph.bind("ball_starting", cost, "the trough is asked for a ball")
-                break
+        self.graph.bind("ball_starting", self.request(), "the trough is asked for a ball")
+        self.graph.bind("ball_drain", self.drains(), THE_MACHINE)
 
     def mode_events(self, text: str) -> None:
         if text == MACHINE:

@@ -183,7 +183,8 @@ function choose(it) {
 }
 const HINTS = [
   "Choose an event to see what posts it, what it leads to, and where that is written. What an event leads to is to its "
-    + "right. A number is the event's weight. A blue one comes from outside: from a switch, a timer or a ball device.",
+    + "right. A number is the event's weight. A blue one comes from outside: from a switch, a timer, a ball device or a "
+    + "ball save.",
   "Drag to move. The wheel, two fingers, + and − zoom. 0 fits all. The arrow keys move. / searches, Enter goes to "
     + "the next one found, Escape lets go.",
 ];

@@ -1,6 +1,7 @@
 """One page with the graph of what posts what, and with a log the timeline of its play."""
 import html
 import json
+import re
 from pathlib import Path
 
 from .answers import Answer
@@ -97,10 +98,11 @@ def play_data(trace: str) -> dict:
     spans: dict[tuple[str, str], list[list]] = {}
     open_at: dict[tuple[str, str], int] = {}
     levels: dict[str, list[list[int]]] = {}
+    owners: dict[tuple[str, str], str] = {}
     coils = Coils()
     for it in steps:
         coils.take(it)
-        follow(it, spans, open_at, levels)
+        follow(it, spans, open_at, levels, owners)
     for key, start in open_at.items():
         spans.setdefault(key, []).append([start, end])
     for name, coil in coils.coils.items():
@@ -115,18 +117,29 @@ def play_data(trace: str) -> dict:
     }
 
 
-ORDER = ["modes", "switches", "coils"]
+ORDER = ["modes", "saves", "switches", "coils"]
+# a ball save that is active, and a multiball that runs: the events that begin and end that
+SAVES = re.compile(r"(?:(ball_save)_(.+)_(?:(enabled)|disabled)|(multiball)_(.+)_(?:(started)|ended))$")
 
 
-def follow(step: Step, spans: dict, open_at: dict, levels: dict) -> None:
-    """Adds a step to the rows of switches and modes, and to the lines of balls and scores."""
+def follow(step: Step, spans: dict, open_at: dict, levels: dict, owners: dict) -> None:
+    """Adds a step to the rows of switches, modes, ball saves and multiballs, and to the lines of balls and scores.
+
+    `owners` are those of the ball saves and multiballs: with its mode each of them ends, and posts nothing."""
     words = step.words
     if step.kind == "switch":
         turn(spans, open_at, ("switches", words[0]), step.moment, words[1] == "active")
     elif step.kind == "event" and words[0].startswith("mode_"):
         for ending, begins in ("_started", True), ("_stopped", False):
             if words[0].endswith(ending) and step.owner == "machine":
-                turn(spans, open_at, ("modes", words[0][5 : -len(ending)]), step.moment, begins)
+                mode = words[0][5 : -len(ending)]
+                turn(spans, open_at, ("modes", mode), step.moment, begins)
+                for key in [it for it, owner in owners.items() if owner == mode]:
+                    turn(spans, open_at, key, step.moment, False)
+    elif step.kind == "event" and (found := SAVES.match(words[0])):
+        key = ("saves", f"{'ball save' if found[1] else 'multiball'} {found[2] or found[5]}")
+        owners[key] = step.owner
+        turn(spans, open_at, key, step.moment, bool(found[3] or found[6]))
     elif step.kind == "balls":
         for name, count in zip(BALLS, words[1:]):
             levels.setdefault(f"balls {name}", [[0, 0]]).append([step.moment, int(count)])

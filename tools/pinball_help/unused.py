@@ -16,6 +16,8 @@ from .values import event_of
 LISTS_OF_POSTS = ("events_when_activated", "events_when_deactivated", "events_when_hit", "events_when_complete")
 ALIKE = 0.88  # of events, whose names have much in common anyway
 OWN_TAGS = ("start", "playfield_active")
+# what comes while a ball is in play, of the events of the game
+WITH_A_BALL = ("sw_start", "player_added", "ball_started", "ball_drain")
 FIVE = re.compile(r"mode_(.+)_(?:will_start|starting|started|stopping|stopped)$")
 
 
@@ -40,7 +42,7 @@ class Looker:
 
     def run(self) -> list[Unused]:
         events = [*self.never_posted(), *self.never_handled()]
-        devices = [*self.switches(), *self.coils(), *self.shots()]
+        devices = [*self.switches(), *self.coils(), *self.shots(), *self.ball_saves(), *self.multiballs()]
         return list(dict.fromkeys([*events, *devices, *self.modes(), *self.variables()]))
 
     def never_posted(self) -> Iterator[Unused]:
@@ -122,6 +124,30 @@ class Looker:
             starts = (f"{entry.key}_", f"{group.key}_") if group else (f"{entry.key}_",)
             if not any(it.startswith(starts) for it in self.handled):
                 yield self.at("shot whose hits nothing handles", entry.key, text, entry)
+
+    def ball_saves(self) -> Iterator[Unused]:
+        for text, entry in self.scene.entries_of("ball_saves"):
+            if (hint := self.never_comes(text, entry, "enable_events")) is not None:
+                yield self.at("ball save that nothing enables", entry.key, text, entry, hint=hint)
+
+    def multiballs(self) -> Iterator[Unused]:
+        for text, entry in self.scene.entries_of("multiballs"):
+            hint = self.never_comes(text, entry, "start_events")
+            if hint is None and {*names_of(entry, "start_events")} <= {*GAME} - {*WITH_A_BALL}:
+                hint = "no ball is in play at these events: take `ball_started`"
+            if hint is not None:
+                yield self.at("multiball that nothing starts", entry.key, text, entry, hint=hint)
+
+    def never_comes(self, text: str, entry: Entry, key: str) -> str | None:
+        """Why none of the events in a setting comes while the entry can handle it, if that is so."""
+        events = {*names_of(entry, key)}
+        if not events & self.posted:
+            return f"nothing posts its `{key}`" if setting(entry, key) else ""
+        mode = next((it for it in self.scene.outlines[text].entries or [] if it.key == "mode"), None)
+        if events == {"ball_started"} and mode and "ball_started" in names_of(mode, "start_events"):
+            if says_yes(mode, "stop_on_ball_end", True):
+                return f"the mode does not run yet at `ball_started`: take `mode_{self.scene.owner(text)}_started`"
+        return None
 
     def group_of(self, text: str, shot: str) -> Entry | None:
         groups = [entry for name, entry in self.scene.entries_of("shot_groups") if name == text]

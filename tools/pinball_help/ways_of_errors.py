@@ -19,7 +19,10 @@ EXAMPLE = "The value below is an example."
 PLACEHOLDER = r"\(([^)]*)\)"
 
 # what a copy gets for a setting that is required, so that what comes after it is checked too
-STAND_INS = {"action": "pulse", "int": "0", "states": "[{name: a_state}]", "ball_switches": "[]", "events": "[]"}
+STAND_INS = {
+    "action": "pulse", "int": "0", "states": "[{name: a_state}]", "ball_switches": "[]", "events": "[]",
+    "ball_count": "2",
+}
 
 
 def taken_out(scene: Scenery, text: str, entry: Entry, write: str, why: str = "", near: str = "") -> Cure:

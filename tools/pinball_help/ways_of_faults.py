@@ -12,7 +12,7 @@ from .scenery import Place, Scenery, action_of, section_of
 from .ways import Cure, Way
 
 FREE = "The game or the mode posts it by itself. You may handle it, but not post it."
-ENDS = " Nothing in a text can end a ball or a game: a ball ends when it drains."
+ENDS = " Nothing in a text can end a ball or a game: a player's ball ends when the last ball in play drains."
 PULSE_OR_HOLD = (
     "Pulse it, as below, if {} ms are enough: a pulse holds nothing. If it has to hold, keep `enable`, and write "
     "`default_hold_power` at the coil, with the power that it bears for hours. `allow_enable: yes` alone allows full "

@@ -8,7 +8,10 @@ from .scenery import Scenery
 from .ways import Cure, Way
 
 DEAREST = 5
-ROWS = ("counters", "accruals", "sequences", "timers", "flippers", "autofire_coils", "ball_devices", "shot_groups")
+ROWS = (
+    "counters", "accruals", "sequences", "timers", "flippers", "autofire_coils", "ball_devices", "ball_saves",
+    "multiballs", "shot_groups",
+)
 BACK = "Take out one of these steps. This one leads back to the start:"
 EASIEST = "The easiest step to take out is"
 EASE = ("event_player", "hit_events", "is hit", "events of", "variable_player")

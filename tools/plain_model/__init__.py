@@ -10,6 +10,7 @@ where it is wanted. A module is one subject:
     bundle      texts, entries, notes, and the errors of a configuration
     plan        numbers by first use, rows, bindings
     devices     a class for each kind of device: its lists, what it may answer, and what it does
+    saves       the same for ball saves and multiballs
     coils       what a coil may do, and what it does
     faults      faults 1 to 6
     costs       weights, bounds, cycles
@@ -18,7 +19,7 @@ where it is wanted. A module is one subject:
     answers     what the three commands print
 
 These draw what is compared: `draw` (machines), `plant` (faults in them), `odd` (values and texts that are seldom
-right), `layout` (the texts of a machine), `logs`, and `damage` (of bundles, certificates and logs). `cascades` draws
-small machines, and has a model of its own for them. `compare` asks the program and the model, and `coverage` says how
-often each thing has to come up.
+right), `layout` (the texts of a machine), `logs`, `wanted` (a trough that has to eject many balls), and `damage` (of
+bundles, certificates and logs). `cascades` draws small machines, and has a model of its own for them. `compare` asks
+the program and the model, and `coverage` says how often each thing has to come up.
 """

@@ -8,17 +8,19 @@ from collections import Counter
 from dataclasses import dataclass, field
 from pathlib import Path
 
-from . import cascades, certificate, damage, draw, logs, odd, plant
+from . import cascades, certificate, damage, draw, logs, odd, plant, wanted
 from .answers import Answer, Judged, judge
 from .bundle import MACHINE_TEXT, VERSION, ConfigFault, joined, split_bundle
+from .costs import Costs, Weights
 from .layout import means
 from .machine import TooLong
-from .sections import PLAYERS, SETTINGS
+from .sections import PLAYERS, SETTINGS, has_saves
 from .yaml_text import read
 
 SECONDS, MOST_SECONDS = 2.0, 60.0  # of the processor for an answer, and by the clock
 MOST_LINES = 200  # of an answer, in a report
 SECTIONS = {*SETTINGS, *PLAYERS}
+OF_SAVES = {"active_time", "balls_to_save", "ball_count"}  # settings
 FORMS = re.compile(
     rb"""(?:(?:
     [0-9]+\ [^ ]+\ (?:
@@ -96,6 +98,14 @@ def kind_of_line(line: str) -> str:
     return f"line: {words[2]} {words[4]}" if words[2] in ("coil", "skip", "switch") else f"line: {words[2]}"
 
 
+def kind_of_cycle(event: str) -> str:
+    """Of an event in a cycle: whether a ball save or a multiball posts it, or a trough that may have been asked."""
+    for kind in ("ball_save_", "multiball_", "balldevice_"):
+        if event.startswith(kind):
+            return f"cycle of a {kind.strip('_')}"
+    return ""
+
+
 def seconds_of_children() -> float:
     """What the processes that have ended took of the processor."""
     used = resource.getrusage(resource.RUSAGE_CHILDREN)
@@ -171,6 +181,8 @@ class Comparison:
             assert all(means(read(text), drawn.texts[name]) for name, text in split_bundle(bundle)), seed
         judged = judge(bundle)
         self.checked(judged)
+        if judged.is_accepted:
+            self.cost(judged.costs, judged.least)
         certified = b""
         if judged.plan:
             certified = right_certificate(drawing, judged)
@@ -185,6 +197,8 @@ class Comparison:
             self.foldered(drawing, bundle)
         if drawing.random() < 0.3:
             self.checked(judge(f"@ {MACHINE_TEXT}\n{VERSION}\n{drawing.choice(odd.TEXTS)}".encode()))
+        if has_saves() and drawing.random() < 0.5:
+            self.checked(judge(f"@ {MACHINE_TEXT}\n{VERSION}\n{drawing.choice(odd.SAVE_TEXTS)}".encode()))
         self.count("machines")
 
     def checked(self, judged: Judged) -> None:
@@ -202,6 +216,15 @@ class Comparison:
                 self.count(f"limit of {words[3]}")
             if words[0] == "error" and words[1] == "3":
                 self.count(f"Yaml {words[-1]}")
+            if words[:2] in (["error", "6"], ["error", "7"]) and words[-1] in OF_SAVES:
+                self.count(f"error of {words[-1]}")
+            if words[:2] == ["fault", "8"]:
+                self.count(*{kind_of_cycle(word) for word in words[3:]} - {""})
+
+    def cost(self, costs: Costs, weights: Weights) -> None:
+        """Counts what a drained ball costs most by, and where the bound is that of a save's alarm."""
+        dearest = costs.dearest_drain(weights)
+        self.count(*([f"dearest of a drain: {dearest}"] if dearest else []), *costs.bounds_of_saves(weights))
 
     def verified(self, judged: Judged, *texts: bytes) -> None:
         for text in texts:
@@ -254,6 +277,14 @@ class Comparison:
         self.compare("check", judged.bundle, b"", judged.check(), folder)
         self.count("folder")
         shutil.rmtree(folder)
+
+    def wanted(self, seed: str) -> None:
+        """A trough that is asked for many balls."""
+        self.seed = seed
+        bundle, log = wanted.drawn(random.Random(seed))
+        judged, seen = judge(bundle), Counter()
+        self.compare("play", bundle, log, judged.play(log, seen))
+        self.count("many balls wanted", *seen)
 
     def cascade(self, seed: str) -> None:
         """A machine of long cascades, by the model that knows these alone."""

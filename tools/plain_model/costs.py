@@ -1,9 +1,11 @@
 """Weights, bounds and cycles: what the cascade of each event costs at most."""
 from collections.abc import Iterable
 from dataclasses import dataclass, field
+from typing import Any
 
 from .devices import Act, BallDevice, Device
 from .plan import MODE_EVENTS, Binding, Plan
+from .saves import BallSave, Multiball
 
 LIMIT = 10_000
 Weights = dict[str, int]
@@ -42,6 +44,9 @@ class Costs:
     def __init__(self, plan: Plan):
         self.plan = plan
         self.balls = [row for row in plan.rows if isinstance(row, BallDevice)]
+        trough = next((row for row in self.balls if row.is_trough), None)
+        self.request = self.act(trough, ("request",)) if trough else Cost()
+        self.drains = self.drain_costs()
         works = self.works()
         bound: dict[str, list[Binding]] = {}
         for binding in plan.bindings:
@@ -72,10 +77,20 @@ class Costs:
         """Of the actions of a list."""
         actions = device.lists[number]
         if ("enter", "") not in actions:
-            events = [target for action, target in actions if action == "post"]
-            return Cost(len(actions) - len(events), events)
+            return total(self.action(*action) for action in actions)
         enter, *drain = [target for action, target in actions if action == "post"]
         return Cost(1, [enter]) + one_of(Cost(0, drain), self.confirm(device.name))
+
+    def action(self, action: str, target: Any) -> Cost:
+        if action == "post":
+            return Cost(0, [target])
+        return self.request if action in ("request", "add") else Cost(1)
+
+    def drain_costs(self) -> dict[str, Cost]:
+        """What a drained ball may come to: a save, the ends of all multiballs, or the end of the turn."""
+        saves = [self.act(row, ("save",)) for row in self.plan.rows if isinstance(row, BallSave)]
+        ends = [self.act(row, ("end",)) for row in self.plan.rows if isinstance(row, Multiball)]
+        return {"a save": one_of(*saves), "ends": total(ends), "the last ball": Cost(0, ["ball_will_end"])}
 
     def confirm(self, target: str) -> Cost:
         return one_of(*(self.act(row, ("confirm",)) for row in self.balls if row.target == target))
@@ -108,8 +123,6 @@ class Costs:
         return {coil for coil, action, *_ in drives if action == "enable"}
 
     def game_works(self) -> dict[str, Cost]:
-        trough = next((row for row in self.balls if row.is_trough), None)
-        request = self.act(trough, ("request",)) if trough else Cost()
         one_after = {
             "game_will_start": "game_starting",
             "game_started": "player_turn_will_start",
@@ -117,7 +130,6 @@ class Costs:
             "player_turn_starting": "player_turn_started",
             "player_turn_started": "ball_will_start",
             "ball_will_start": "ball_starting",
-            "ball_drain": "ball_will_end",
             "ball_will_end": "ball_ending",
             "ball_ending": "ball_ended",
             "ball_ended": "player_turn_will_end",
@@ -129,10 +141,25 @@ class Costs:
         return {event: Cost(0, [after]) for event, after in one_after.items()} | {
             "sw_start": one_of(Cost(0, ["game_will_start"]), Cost(0, ["player_added"])),
             "game_starting": Cost(0, ["player_added", "game_started"]),
-            "ball_starting": request + Cost(0, ["ball_started"]),
+            "ball_starting": self.request + Cost(0, ["ball_started"]),
+            "ball_drain": one_of(*self.drains.values()),
             "player_turn_ended": one_of(Cost(0, ["game_will_end"]), Cost(0, ["player_turn_will_start"])),
             "game_ended": Cost(self.plan.config.machine.only("game")["max_players"]),
         }
+
+    def dearest_drain(self, weights: Weights) -> str | None:
+        """What a drained ball costs most by; None in a machine where it can only be the last ball."""
+        if not self.plan.has_game or not any(isinstance(row, BallSave | Multiball) for row in self.plan.rows):
+            return None
+        return max(self.drains, key=lambda what: self.drains[what].value(weights))
+
+    def bounds_of_saves(self, weights: Weights) -> set[str]:
+        """Whether the bound is that of a save's alarm, or would be if a save without an end had one."""
+        bound, found = self.bound(weights), set()
+        for row in self.plan.rows:
+            if isinstance(row, BallSave) and weights[f"ball_save_{row.name}_disabled"] >= bound:
+                found.add("bound of a save's alarm" if row.entry["active_time"] else "bound, had a save an end")
+        return found
 
     def bound(self, weights: Weights) -> int:
         return max((cost.value(weights) for cost in self.stimuli), default=0)

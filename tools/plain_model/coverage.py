@@ -1,6 +1,7 @@
 """How often each thing has to come up in a comparison."""
 from . import cascades
 from .compare import Found
+from .sections import has_saves
 
 CASCADES = 4  # machines of cascades for each other machine
 # About how often things come up with 100 machines. They are too rare where they come up less than a fifth of that.
@@ -31,6 +32,25 @@ SHARES: dict[float, str] = {
     0.5: """Yaml TooLong | limit of switches | limit of coils | limit of variables""",
     0.05: """limit of events | limit of bindings | limit of rows""",
 }
+# The same, of ball saves and multiballs.
+SAVE_SHARES: dict[float, str] = {
+    20: """section ball_saves | section multiballs | ball save, list 0 | ball save, enable while not active
+        | multiball, start while not active | multiball, start while not active, without a ball | some balls wanted
+        | four players | the first of two troughs""",
+    10: """ball save, list 1 | ball save, list 2 | ball save of a mode, list 0 | ball save, enable while active
+        | multiball, list 0 | multiball, start while active | one ball more | some balls more
+        | dearest of a drain: the last ball""",
+    5: """ball save, alarm | ball save of a mode, list 1 | ball save of a mode, list 2 | ball save of a mode, alarm
+        | ball save, disable while active | ball save, disable while not active | multiball, list 1
+        | multiball of a mode, list 0 | no ball more | a mode ends a ball save | a mode ends a multiball
+        | a ball drains in a multiball | a save in a multiball | a save with more to come | the last of some saves
+        | a save where two are active | the third ball of a player | error of active_time | error of balls_to_save
+        | error of ball_count""",
+    2: """multiball of a mode, list 1 | two multiballs end | many balls wanted | more balls wanted than are remembered
+        | dearest of a drain: a save | dearest of a drain: ends | bound of a save's alarm""",
+    1: """bound, had a save an end | cycle of a ball_save | cycle of a multiball""",
+    0.5: """a save without a trough | cycle of a balldevice""",
+}
 
 
 def table(found: Found) -> str:
@@ -44,6 +64,7 @@ def table(found: Found) -> str:
 def rare(found: Found, count: int) -> list[str]:
     """What came up too rarely with so many machines."""
     least = {"machines": count} | {f"cascades: {kind}": CASCADES * count // 20 for kind in cascades.KINDS}
-    for share, whats in SHARES.items():
-        least |= {" ".join(what.split()): int(share * count / 500) for what in whats.split("|")}
+    for shares in [SHARES, SAVE_SHARES] if has_saves() else [SHARES]:
+        for share, whats in shares.items():
+            least |= {" ".join(what.split()): int(share * count / 500) for what in whats.split("|")}
     return [f"{found.counts[what]} {what}, of {few}" for what, few in least.items() if found.counts[what] < few]

@@ -1,8 +1,10 @@
 """The kinds of devices. Each has effect lists, what it may answer to an act, and what it does.
 
-An effect list is a list of actions: ("post", event), ("pulse", coil), ("enable", coil), ("disable", coil), and of ball
-devices "enter", "left", "lost" and "arrived". An act is a tuple of its name and its numbers. A device answers an act by
-the numbers of its lists, and `outcomes` are all answers that some state of it gives to an act.
+An effect list is a list of actions: ("post", event), ("pulse", coil), ("enable", coil), ("disable", coil), of ball
+devices "enter", "left", "lost" and "arrived", and for the balls in play ("request", how many more the trough ejects)
+and ("add", how many are in play at least). An act is a tuple of its name and its numbers. A device answers an act by
+the numbers of its lists, and `outcomes` are all answers that some state of it gives to an act. Ball saves and
+multiballs are in `saves`.
 """
 from copy import copy
 from dataclasses import dataclass
@@ -14,7 +16,7 @@ from .sections import Entry
 MOST = 999_999_999_999_999
 MOST_WANTED, MOST_ATTEMPTS = 255, 1_000
 Act = tuple[Any, ...]
-Action = tuple[str, str]
+Action = tuple[str, Any]
 
 
 def clamped(number: int) -> int:
@@ -23,10 +25,11 @@ def clamped(number: int) -> int:
 
 @dataclass
 class World:
-    """The games that have begun, and the current player, 0 if there is none."""
+    """The games that have begun, the current player, 0 if there is none, and the balls in play."""
 
     games: int
     player: int
+    in_play: int
 
 
 class Device:
@@ -510,8 +513,8 @@ class BallDevice(Device):
             return []
         if act[0] == "confirm" and self.eject.phase == "Away":
             return self.arrives([5, 4] if self.to_playfield else [4], now)
-        if act[0] == "request" and self.is_trough and self.wanted < MOST_WANTED:
-            self.wanted += 1
+        if act[0] == "request" and self.is_trough:
+            self.wanted = min(MOST_WANTED, self.wanted + act[1])
             return self.begin(now)
         return []
 

@@ -4,6 +4,7 @@ Events are kept in a list, in which each entry handles events further up and pos
 have no cycle, and things happen in them. A share of the machines posts anything anywhere.
 """
 import random
+import re
 from collections.abc import Callable
 from dataclasses import dataclass, field
 from typing import Any
@@ -11,7 +12,7 @@ from typing import Any
 from .bundle import MACHINE_TEXT, mode_text
 from .layout import Layout, Names
 from .plan import GAME_EVENTS, MODE_EVENTS
-from .sections import IGNORED, SKIPPED
+from .sections import IGNORED, SKIPPED, has_saves
 
 Data = dict[str, Any]
 SIGNS = ["==", "!=", "<", "<=", ">", ">="]
@@ -26,7 +27,8 @@ def pick(draw: random.Random, share: float) -> bool:
 @dataclass
 class Drawn:
     """A drawn machine. `start` and `balls` are switches that a log should use, the latter by device. `drains` are the
-    devices in which a ball ends."""
+    devices in which a ball ends. `targets` are those to which devices eject, and `playfield` are switches on the
+    playfield. A `busy` machine has what balls in play need, and its log plays with them."""
 
     texts: dict[str, Data] = field(default_factory=dict)
     order: list[str] = field(default_factory=list)  # of the texts in the bundle
@@ -34,6 +36,9 @@ class Drawn:
     start: str | None = None
     balls: dict[str, list[str]] = field(default_factory=dict)
     drains: list[str] = field(default_factory=list)
+    targets: dict[str, str] = field(default_factory=dict)
+    playfield: list[str] = field(default_factory=list)
+    busy: bool = False
     planted: list[str] = field(default_factory=list)
     versions: dict[str, str] = field(default_factory=dict)  # of texts that have an odd first line
     sizes: dict[str, int] = field(default_factory=dict)  # in bytes, of texts that a comment fills
@@ -68,6 +73,8 @@ class Drawing:
         self.at = "machine"  # whose entry it is
         self.anywhere = draw.choice([0.0] * 12 + [0.02, 0.1])
         self.has_game = pick(draw, 0.65)
+        self.has_saves = has_saves()
+        self.drawn.busy = self.has_saves and self.has_game and pick(draw, 0.4)
         self.size = draw.choice([4, 8, 12, 18])
         self.coils: dict[str, Data] = {}
         self.profiles: dict[str, int] = {}
@@ -182,7 +189,8 @@ class Drawing:
 
     def switches(self) -> None:
         names = [self.name(self.draw.choice(["s_", "lane", "S"]), "switches") for _ in range(self.draw.randint(1, 6))]
-        self.balls = [self.name("b", "switches") for _ in range(self.draw.choice([0, 0, 2, 3, 4, 6]))]
+        counts = [4, 5, 6, 8] if self.drawn.busy else [0, 0, 2, 3, 4, 6]
+        self.balls = [self.name("b", "switches") for _ in range(self.draw.choice(counts))]
         self.add_events(*(f"{name}_active" for name in names))
         self.near = len(self.events)
         if self.chance(0.8):
@@ -194,6 +202,7 @@ class Drawing:
                 self.drawn.start, tags = name, ["start"]
             elif self.chance(0.25):
                 tags = ["playfield_active"]
+                self.drawn.playfield.append(name)
             self.switch(name, tags)
         for name in self.balls:
             self.switch(name, [])
@@ -233,7 +242,12 @@ class Drawing:
     def dear_event(self) -> None:
         """One event that posts much. So the bound says what may post it."""
         of_balls = [event for event in self.events if event.startswith("balldevice_")]
+        # What a drained ball may lead to; without a game, the alarm of a ball save.
+        wanted = "(ball_save|multiball)_.*_(saving_ball|ended)" if self.has_game else "ball_save_.*_disabled"
+        of_saves = [event for event in self.events if re.fullmatch(wanted, event)]
         event = self.draw.choice(of_balls if of_balls and self.chance(0.4) else self.events)
+        if of_saves and self.chance(0.7 if self.has_game else 0.95):
+            event = self.draw.choice(of_saves)
         self.section(self.owner(), "event_player")[event] = Names(["much"] * self.draw.choice([20, 50, 100]))
 
     def start_again(self) -> None:
@@ -392,14 +406,21 @@ class Drawing:
         section[name] = self.settle(entry)
         self.add_events(f"{name}_hit", f"{name}_complete", f"{name}_lit_complete")
 
+    def room(self, is_first: bool) -> tuple[int, float]:
+        """For how many balls a device has room, and the share of its tags. A busy machine has a plunger first."""
+        if self.drawn.busy:
+            return (1, 0.1) if is_first else (3, 0.85)
+        return self.draw.choice([1, 1, 2, 3]), 0.6
+
     def ball_devices(self) -> None:
         """One to three devices, each with ball switches of its own, and each ejecting to one before it."""
         free, names = [*self.balls], ["playfield"]
         section = self.section("machine", "ball_devices") if free else {}
         while free and len(names) < 4:
-            taken = [free.pop(0) for _ in range(min(len(free), self.draw.choice([1, 1, 2, 3])))]
+            room, share = self.room(len(names) == 1)
+            taken = [free.pop(0) for _ in range(min(len(free), room))]
             name = self.name(self.draw.choice(["plunger", "trough", "lock"]), "ball_devices")
-            tags = [tag for tag in ("trough", "home", "drain") if self.chance(0.6)]
+            tags = [tag for tag in ("trough", "home", "drain") if self.chance(share)]
             entry: Data = {"ball_switches": Names(taken)}
             if self.chance(0.8) or "trough" in tags:
                 entry["eject_coil"] = self.some_coil()
@@ -416,11 +437,58 @@ class Drawing:
             self.optional(entry, 0.5, max_eject_attempts=self.one("0", "1", "1", "2", "3"))
             section[name] = self.settle(entry)
             names.append(name)
-            self.drawn.balls[name] = taken
+            self.drawn.balls[name], self.drawn.targets[name] = taken, target
             if "drain" in tags:
                 self.drawn.drains.append(name)
             whats = "ball_enter ball_eject_attempt ejecting_ball ball_eject_success ball_eject_failed".split()
             self.add_events(*(f"balldevice_{name}_{what}" for what in whats))
+
+    def trigger(self, owner: str) -> str:
+        """An event for a device of this owner, often one that comes early in each ball or mode."""
+        event = "ball_started" if owner == "machine" else f"mode_{owner}_started"
+        if event in self.events and self.chance(0.5):
+            self.follow(event)
+            return event
+        return self.handled()
+
+    def start(self, owner: str) -> str:
+        """An event for a multiball. Mostly one that a switch posts, as a trough never leads to that."""
+        if self.chance(0.2 if owner == "machine" else 0.4):
+            return self.trigger(owner)
+        event = self.draw.choice(self.events[: self.near] or ["never"])
+        self.follow(event)
+        return event + (self.condition() if self.chance(0.08) else "")
+
+    def balls_in_play(self) -> None:
+        """Some ball saves and multiballs, of the machine and of modes."""
+        for _ in range(self.draw.choice([0, 1, 2])):
+            self.mark, self.at = -1, "machine"
+            self.mode()
+        for _ in range(self.draw.choice([2, 3, 4])):
+            self.save_or_multiball()
+
+    def save_or_multiball(self) -> None:
+        self.mark = -1
+        self.draw.choice([self.ball_save, self.multiball])()
+
+    def ball_save(self) -> None:
+        owner, name = self.owner(), self.name("bs", "ball_saves")
+        entry: Data = {}
+        self.optional(entry, 0.6, active_time=self.one("0", "200", "1s", "2s", "5s", "20000ms", "5m"))
+        self.optional(entry, 0.6, balls_to_save=self.one("1", "2", "2", "2", "3", "99"))
+        if self.chance(0.95):
+            entry["enable_events"] = Names(self.trigger(owner) for _ in range(self.draw.choice([0, 1, 1, 1, 2, 2])))
+        self.optional(entry, 0.3, disable_events=lambda: self.some(0, 2))
+        self.section(owner, "ball_saves")[name] = self.settle(entry)
+        self.add_events(*(f"ball_save_{name}_{what}" for what in ("enabled", "disabled", "saving_ball")))
+
+    def multiball(self) -> None:
+        owner, name = self.owner(), self.name("mb", "multiballs")
+        entry: Data = {"ball_count": self.draw.choice(["2", "2", "2", "3", "3", "4", "99"])}
+        if self.chance(0.95):
+            entry["start_events"] = Names(self.start(owner) for _ in range(self.draw.choice([0, 1, 1, 2, 2, 3])))
+        self.section(owner, "multiballs")[name] = self.settle(entry)
+        self.add_events(*(f"multiball_{name}_{what}" for what in ("started", "ended")))
 
     def mode(self) -> None:
         name = self.name("m", "modes")
@@ -468,6 +536,16 @@ class Drawing:
 
     # The whole
 
+    def entries(self, whats: list[Callable[[], None]]) -> None:
+        """Some entries of these kinds, and some ball saves and multiballs."""
+        if self.drawn.busy:
+            self.balls_in_play()
+        for _ in range(self.draw.randint(self.size // 2, self.size)):
+            self.mark, self.at = -1, "machine"
+            self.draw.choice(whats)()
+            if self.has_saves and self.chance(0.1 if self.has_game else 0.25):
+                self.save_or_multiball()
+
     def draw_all(self) -> Drawn:
         self.switches()
         if self.has_game:
@@ -489,10 +567,8 @@ class Drawing:
             whats += [self.hold_in_mode]
         if self.chance(0.5):  # more of a few kinds
             whats = [self.mode, self.event_player, *self.draw.sample(whats, 3)]
-        for _ in range(self.draw.randint(self.size // 2, self.size)):
-            self.mark, self.at = -1, "machine"
-            self.draw.choice(whats)()
-        if self.chance(0.2):
+        self.entries(whats)
+        if self.chance(0.6 if self.drawn.busy or self.has_saves and not self.has_game else 0.2):
             self.dear_event()
         if self.has_game and self.chance(0.1):
             self.start_again()

@@ -82,6 +82,21 @@ class Log:
         self.turn(free[0] if free else switches[0], True)
         self.later(500, 600, 1_000)
 
+    def serve(self) -> None:
+        """A ball leaves a device, and comes into others on its way to the playfield."""
+        device = self.draw.choice([*self.drawn.balls])
+        while device in self.drawn.balls:
+            active = [switch for switch in self.drawn.balls[device] if self.is_active(switch)]
+            self.turn(self.draw.choice(active or self.drawn.balls[device]), False)
+            self.later(500, 600, 1_000)
+            device = self.drawn.targets[device]
+            free = [switch for switch in self.drawn.balls.get(device, []) if not self.is_active(switch)]
+            if free:
+                self.turn(free[0], True)
+                self.later(500, 600, 1_000)
+        if self.drawn.playfield:
+            self.press(self.draw.choice(self.drawn.playfield))
+
     def wait(self) -> None:
         self.later(*LONG, 11_000)
         self.write(self.now)
@@ -110,9 +125,13 @@ def log(draw: random.Random, drawn: Drawn) -> bytes:
         found.fill()
     found.begin()
     whats = [found.toggle] * 6 + [found.shoot] * 5 + [found.ball] * 3 + [found.wait, found.begin]
-    whats += draw.choice([[], [found.drain] * 3, [found.drain] * 8])
+    whats += [found.drain] * 8 if drawn.busy else draw.choice([[], [found.drain] * 3, [found.drain] * 8])
+    if drawn.busy:
+        whats += [found.serve] * 3 + [found.shoot] * 4
+        for _ in range(draw.choice([0, 1, 3])):
+            found.begin()
     whats += draw.choice([[], [found.refused, found.scenery]])
-    for _ in range(draw.choice([0, 5, 15, 30, 60])):
+    for _ in range(draw.choice([15, 30, 60, 90] if drawn.busy else [0, 5, 15, 30, 60])):
         draw.choice(whats)()
         found.later()
     found.write(found.now)

@@ -3,8 +3,9 @@ import re
 from collections import Counter
 from copy import copy
 
-from .devices import BallDevice, Device, ShotBank, World, clamped
+from .devices import MOST_WANTED, Act, BallDevice, Device, ShotBank, World, clamped
 from .plan import Binding, Plan, Switch
+from .saves import BallSave, Multiball
 from .values import Condition
 
 LAST_MOMENT = (1 << 40) - 1
@@ -60,6 +61,10 @@ class Machine:
         for binding in sorted(plan.bindings, key=lambda binding: -binding.priority):
             self.handlers.setdefault(binding.event, []).append(binding)
 
+    def see(self, whats: dict[str, bool]) -> None:
+        """Counts those of these things that are so."""
+        self.seen.update(what for what, is_so in whats.items() if is_so)
+
     # Lines, posts, coils
 
     def print(self, owner: str, what: str) -> None:
@@ -83,12 +88,12 @@ class Machine:
 
     @property
     def world(self) -> World:
-        return World(self.games, self.current)
+        return World(self.games, self.current, self.in_play)
 
     def run_lists(self, device: Device, lists: list[int]) -> None:
         for number in lists:
             is_bank = isinstance(device, ShotBank)
-            self.seen[f"{device.kind} hit" if is_bank else f"{device.kind}, list {number}"] += 1
+            self.seen[f"{device.kind} hit" if is_bank else f"{kind_of(device)}, list {number}"] += 1
             self.run_list(device, number)
 
     def run_list(self, device: Device, number: int) -> None:
@@ -101,6 +106,10 @@ class Machine:
                 self.post(device.owner, target)
             elif action in ("left", "lost", "arrived"):
                 self.moved(device, action)
+            elif action == "request":
+                self.request(target)
+            elif action == "add":
+                self.add_balls(target)
             else:
                 coil = self.coils[target]
                 power = coil.pulse_power if action == "pulse" else coil.hold_power
@@ -218,8 +227,14 @@ class Machine:
         elif kind == "stop":
             self.stop(what[0])
         else:
-            row = self.row_of[id(what[0])]
-            self.run_lists(row, row.act(what[1], self.now, self.world))
+            self.act(self.row_of[id(what[0])], what[1])
+
+    def act(self, row: Device, act: Act) -> None:
+        """What a handled event does with a device."""
+        if isinstance(row, BallSave | Multiball):
+            where = "" if self.in_play or isinstance(row, BallSave) else ", without a ball"
+            self.seen[f"{row.kind}, {act[0]} while {'active' if row.active else 'not active'}{where}"] += 1
+        self.run_lists(row, row.act(act, self.now, self.world))
 
     def change_variable(self, owner: str, variable: str, action: str, number: int) -> None:
         if not self.current:
@@ -261,6 +276,7 @@ class Machine:
         elif what == "stopping":
             for row in self.rows:
                 if row.owner == mode:
+                    self.see({f"a mode ends a {row.kind}": isinstance(row, BallSave | Multiball) and row.active})
                     row.stop()
             for coil in self.coils.values():
                 if coil.holder == mode:
@@ -290,24 +306,21 @@ class Machine:
             self.press_start(game["max_players"])
         elif event == "player_added" and len(self.players) < game["max_players"]:
             self.players.append(Player(len(self.players) + 1))
+            self.see({"four players": len(self.players) == 4})
         elif event == "game_started":
             self.current = min(1, len(self.players))
             self.post("machine", "player_turn_will_start")
         elif event == "player_turn_started":
             if player:
                 player.variables["ball"] = player.get("ball") + 1
+                self.see({"the third ball of a player": player.get("ball") == 3})
             self.post("machine", "ball_will_start")
         elif event == "ball_starting":
             self.game_phase, self.in_play = "Ball", 1
-            trough = next((row for row in self.balls if row.is_trough), None)
-            if trough:
-                self.run_lists(trough, trough.act(("request",), self.now, self.world))
+            self.request(1)
             self.post("machine", "ball_started")
         elif event == "ball_drain" and self.game_phase == "Ball":
-            self.in_play -= 1
-            if self.in_play == 0:
-                self.game_phase = "Between"
-                self.post("machine", "ball_will_end")
+            self.drain()
         elif event == "ball_ending":
             if self.holders:
                 self.seen[f"ball held by {len(self.holders)}"] += 1
@@ -318,6 +331,57 @@ class Machine:
             for number, one in enumerate(self.players, 1):
                 self.print("machine", f"final {number} {one.get('score')}")
             self.game_phase, self.current = "None", 0
+
+    def drain(self) -> None:
+        """The first active ball save saves the ball, or there is one less in play."""
+        active = [row for row in self.rows if isinstance(row, BallSave) and row.active]
+        if active:
+            self.save(active)
+            return
+        self.in_play -= 1
+        self.see({"a ball drains in a multiball": self.in_play > 1})
+        if self.in_play == 0:
+            self.game_phase = "Between"
+            self.post("machine", "ball_will_end")
+        elif self.in_play == 1:
+            running = [row for row in self.rows if isinstance(row, Multiball) and row.active]
+            self.see({"two multiballs end": len(running) > 1})
+            for row in running:
+                self.run_lists(row, row.act(("end",), self.now, self.world))
+
+    def save(self, active: list[BallSave]) -> None:
+        """The first of these ball saves saves a ball."""
+        save = active[0]
+        self.run_lists(save, save.act(("save",), self.now, self.world))
+        self.see(
+            {
+                "a save with more to come": save.active,
+                "the last of some saves": not save.active and save.entry["balls_to_save"] > 1,
+                "a save where two are active": len(active) > 1,
+                "a save in a multiball": self.in_play > 1,
+                "a save without a trough": not self.troughs,
+            }
+        )
+
+    def add_balls(self, least: int) -> None:
+        """So many balls are in play at least, and the trough is asked for those that are not there yet."""
+        more = least - self.in_play
+        self.see({"no ball more": more <= 0, "one ball more": more == 1, "some balls more": more > 1})
+        if self.game_phase == "Ball" and more > 0:
+            self.in_play += more
+            self.request(more)
+
+    @property
+    def troughs(self) -> list[BallDevice]:
+        return [row for row in self.balls if row.is_trough]
+
+    def request(self, balls: int) -> None:
+        """The first trough, if there is one, is asked for so many balls more."""
+        for trough in self.troughs[:1]:
+            wanted = trough.wanted + balls
+            self.see({"some balls wanted": wanted > 1, "more balls wanted than are remembered": wanted > MOST_WANTED})
+            self.see({"the first of two troughs": len(self.troughs) > 1})
+            self.run_lists(trough, trough.act(("request", balls), self.now, self.world))
 
     def press_start(self, max_players: int) -> None:
         if self.game_phase == "None":
@@ -353,7 +417,7 @@ class Machine:
             if isinstance(what, Accepted):
                 self.accept(what)
             else:
-                self.seen[f"{what.kind}, alarm"] += 1
+                self.seen[f"{kind_of(what)}, alarm"] += 1
                 self.run_lists(what, what.fire(self.now, self.world))
             self.cascade()
 
@@ -407,6 +471,12 @@ AFTER = {
     "game_will_end": ["game_ending"],
     "game_ending": ["game_ended"],
 }
+
+
+def kind_of(row: Device) -> str:
+    """The kind of a device, and of a ball save or a multiball whether a mode has it."""
+    of_mode = isinstance(row, BallSave | Multiball) and row.owner != "machine"
+    return f"{row.kind} of a mode" if of_mode else row.kind
 
 
 def mode_event(event: str, modes: dict[str, str]) -> tuple[str, str]:

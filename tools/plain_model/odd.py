@@ -50,6 +50,17 @@ TEXTS: list[str] = [
 ]
 
 
+# Ball saves and multiballs, the same: values at a bound or beyond it, settings of the other section, odd names.
+SAVE_TEXTS: list[str] = [
+    *(f"ball_saves: {{bs: {{active_time: {time}}}}}" for time in ["0", "0ms", "4294967295", "4294967296", "1.5", "-1"]),
+    *(f"ball_saves: {{bs: {{balls_to_save: {balls}}}}}" for balls in ["-1", "0", "1", "99", "100", "''"]),
+    *(f"multiballs: {{mb: {{ball_count: {balls}}}}}" for balls in ["0", "1", "2", "99", "100", "''"]),
+    "ball_saves:\n  bs:", "multiballs:\n  mb:", "ball_saves:", "multiballs:", "ball_saves: bs", "multiballs: [mb]",
+    "ball_saves: {playfield: {}}", "multiballs: {playfield: {ball_count: 2}}", "ball_saves: {bs: {start_events: a}}",
+    "multiballs: {mb: {ball_count: 2, enable_events: a}}", "multiballs: {mb: {ball_count: 2, start_events: [a, b]}}",
+]
+
+
 def nested(depth: int) -> list[str]:
     """Texts of so many blocks or brackets, one in the other."""
     inner = " " * depth + "b"

@@ -5,6 +5,7 @@ from typing import Any
 from .bundle import Config, Part
 from .coils import Coil
 from .devices import Accrual, Act, Autofire, BallDevice, Counter, Device, Flipper, Sequence, ShotBank, Timer
+from .saves import BallSave, Multiball
 from .sections import PLAYERS, Entry
 from .values import Condition, Handled
 
@@ -180,6 +181,7 @@ class Plan:
     def device(self, entry: Entry, owner: str) -> tuple[Device | None, int | None]:
         """The device of an entry, and the place of the entry in it, if that is a shot of a group."""
         simple = {"counters": Counter, "accruals": Accrual, "sequences": Sequence, "timers": Timer}
+        simple |= {"ball_saves": BallSave, "multiballs": Multiball}
         if entry.section in simple:
             return simple[entry.section](owner, entry), None
         if entry.section == "flippers":
@@ -203,6 +205,7 @@ class Plan:
         shot = place or 0
         acts: dict[str, Act] = {
             "count_events": ("count",),
+            "start_events": ("start",),
             "hit_events": ("hit", shot),
             "rotate_events": ("right",),
             "rotate_right_events": ("right",),

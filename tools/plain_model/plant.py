@@ -9,13 +9,13 @@ from .draw import Data, Drawn
 from .faults import Faults
 from .layout import Names, Raw
 from .plan import GAME_EVENTS, LIMITS, Plan
-from .sections import MACHINE_ONLY, PLAYERS, SETTINGS
+from .sections import MACHINE_ONLY, PLAYERS, SETTINGS, has_saves
 from .values import LIST_LIMIT
 from .yaml_text import TEXT_LIMIT
 
 NAMING = {"main_coil", "hold_coil", "coil", "eject_coil", "activation_switch", "switch", "profile", "eject_targets"}
 REQUIRED = {"main_coil", "activation_switch", "coil", "switch", "ball_switches", "count_events", "events", "shots"}
-REQUIRED |= {"states", "name", "int", "action", "event"}
+REQUIRED |= {"states", "name", "int", "action", "event", "ball_count"}
 SWITCH_POSTS = ["events_when_activated", "events_when_deactivated"]
 BLOCK_POSTS = ["events_when_hit", "events_when_complete"]
 JUNK: list[Any] = ["", "no", "x y", "-1", "0", "@", "5001", "Ä", "{", "a\nb", "\x7f"]
@@ -23,6 +23,8 @@ JUNK += [Names(), ["a", ["b"]], ["a", ""], {}, {"a": "b"}, [{"name": "a"}], [{}]
 JUNK += [["a"] * 17, ["a"] * 1_024, ["a"] * 1_025, ["a"] * 1_025, ["a"] * 1_025]
 BAD_NAMES = ["playfield", "default", "a b", "", "a/b", "x" * 65, "a\\b", "a{b}", 'a"b', "ä", "a\x01", "a'b", "-"]
 BAD_SECTIONS = ["coil", "timers", "mode", "modes", "ball_saves", "multiballs", "", "game", "ball_devices", "a\nb"]
+SAVE_ACTS = [("ball_saves", "enable_events", "enabled"), ("ball_saves", "disable_events", "disabled")]
+SAVE_ACTS += [("multiballs", "start_events", "started")] * 2
 VERSIONS = ["#config_version=5", "# config_version=6", " #config_version=6", "#config_version=6 #", ""]
 BAD_SETTINGS = ["nope", "", "Number", "tag", "switch", "a\tb", "value", "show", "use_wait_queue"]
 
@@ -172,6 +174,30 @@ class Planter:
             if self.chance(0.6):
                 one.pop("eject_coil", None)
                 one["mechanical_eject"] = "yes"
+
+    # Ball saves and multiballs
+
+    def save(self, section: str) -> tuple[str, Data]:
+        """A ball save or a multiball, perhaps a new one: its name, and its entry."""
+        found = self.entries(section) or [(self.anywhere(section), "planted")]
+        entries, name = self.draw.choice(found)
+        return name, entries.setdefault(name, {"ball_count": "2"} if section == "multiballs" else {})
+
+    def save_cycle(self) -> None:
+        """What enables, disables or starts a ball save or a multiball leads to itself, perhaps by way of the trough."""
+        section, setting, posted = self.draw.choice(SAVE_ACTS)
+        name, entry = self.save(section)
+        event, troughs = self.event(), self.troughs()
+        entry[setting] = Names([*entry.get(setting, []), event])
+        last = f"{section.removesuffix('s')}_{name}_{posted}"
+        if section == "multiballs" and troughs and self.chance(0.5):
+            last = f"balldevice_{troughs[0]}_ball_eject_attempt"
+        player = self.anywhere("event_player")
+        player[last] = Names([*player.get(last, []), event])
+
+    def troughs(self) -> list[str]:
+        devices = self.machine("ball_devices")
+        return [device for device in devices if "trough" in devices[device].get("tags", [])]
 
     # Faults 7 to 9
 
@@ -356,12 +382,15 @@ KINDS = """wrong_name unknown_member reserved_post reserved_variable group pulse
 SHARES = {"limit": 2.0, "wait_queue": 0.3, "version": 0.3, "depth": 0.7, "size": 0.3, "texts": 0.4, "inner_setting": 0.5}
 SHARES |= {"section": 0.5, "long_list": 0.7, "junk": 1.5, "twice": 2.0, "missing": 1.5}
 SHARES |= {"cycle": 1.5, "bound": 3.0, "hold": 1.5, "timer": 1.5, "pulse": 1.5, "route": 1.5}
+SHARES |= {"save_cycle": 1.2}
+SAVE_KINDS = ["save_cycle"]
 
 
 def plant(draw: random.Random, drawn: Drawn) -> None:
     """Plants one fault or some."""
     planter = Planter(draw, drawn)
-    shares = [SHARES.get(kind, 1.0) for kind in KINDS]
-    drawn.planted = draw.choices(KINDS, shares, k=draw.choice([1, 1, 1, 1, 2, 3]))
-    for kind in sorted(drawn.planted, key=KINDS.index):
+    kinds = SAVE_KINDS + KINDS if has_saves() else KINDS
+    shares = [SHARES.get(kind, 1.0) for kind in kinds]
+    drawn.planted = draw.choices(kinds, shares, k=draw.choice([1, 1, 1, 1, 2, 3]))
+    for kind in sorted(drawn.planted, key=kinds.index):
         getattr(planter, kind)()

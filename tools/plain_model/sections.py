@@ -21,7 +21,9 @@ MODE_ONLY = "mode timers".split()
 PLAYERS = "event_player variable_player coil_player".split()
 ONE_ENTRY = "machine game mode".split()
 # Sections whose entries are devices, and none of them may have the name of the playfield.
-DEVICES = """flippers autofire_coils ball_devices counters accruals sequences shots shot_groups timers""".split()
+DEVICES = """flippers autofire_coils ball_devices counters accruals sequences shots shot_groups timers ball_saves
+    multiballs""".split()
+SAVES = "ball_saves multiballs".split()
 
 
 class Fault(Exception):
@@ -244,6 +246,13 @@ SETTINGS: dict[str, dict[str, Setting]] = {
         "reset_events": HANDLED,
     },
     "shot_profiles": {"states": required(states), "advance_on_hit": YES, "loop": NO},
+    "ball_saves": {
+        "active_time": Setting(values.time(), 0),
+        "balls_to_save": Setting(values.integer(1, 99), 1),
+        "enable_events": HANDLED,
+        "disable_events": HANDLED,
+    },
+    "multiballs": {"ball_count": required(values.integer(2, 99)), "start_events": HANDLED},
     "mode": {
         "start_events": HANDLED,
         "stop_events": HANDLED,
@@ -262,6 +271,16 @@ SETTINGS: dict[str, dict[str, Setting]] = {
         "control_events": Setting(control_events, ()),
     },
 }
+
+
+def leave_out_saves() -> None:
+    """Makes ball saves and multiballs unknown, as they are to a program that has none."""
+    for section in SAVES:
+        SETTINGS.pop(section, None)
+
+
+def has_saves() -> bool:
+    return all(section in SETTINGS for section in SAVES)
 
 
 def defaults(section: str) -> Entry:
