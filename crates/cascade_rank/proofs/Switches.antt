@@ -5,7 +5,7 @@ use Rattle.plan_tables.specs.PlanView.{PlanView}
 use Rattle.plan_tables.specs.declared.entries.EventId.{EventId}
 use Rattle.plan_tables.specs.declared.entries.SwitchId.{SwitchId}
 use Rattle.cascade_rank.specs.Cost.{price, cost_of_acceptance, cost_of_switch, switches_of}
-use Rattle.cascade_rank.specs.Weights.{bound_of}
+use Rattle.cascade_rank.specs.Weights.{bound_of, switch_cost}
 use Rattle.cascade_rank.proofs.Prices.{price-dearest}
 
 module _ (plan : PlanView) where
@@ -15,12 +15,16 @@ module _ (plan : PlanView) where
   pub switch_of : (n : ℕ) (d : SwitchId) → n < length plan.switches → get_or (switches_of plan) n d ≡ record { 0 = n }
   switch_of n d h = get_or-map-range_with_len (λ n. record { 0 = n }) 0 (length plan.switches) n n d h (omega arith)
 
-  -- no acceptance of a switch of the plan is dearer than the dearest stimulus
-  pub acceptance-within_bound : (w : EventId → ℕ) (s : SwitchId) (active : Bool) → s.0 < length plan.switches → price w (cost_of_acceptance plan s active) ≤ bound_of plan w
-  acceptance-within_bound w s active h =
+  -- no switch of the plan is dearer than the dearest stimulus
+  pub switch-within_bound : (w : EventId → ℕ) (s : SwitchId) → s.0 < length plan.switches → switch_cost plan w s ≤ bound_of plan w
+  switch-within_bound w s h =
       let listed : s.0 < length (switches_of plan) = omega (arith, h, length-switches) in
       let here = ap (λ (t : SwitchId). price w (cost_of_switch plan t)) (switch_of s.0 s h) in
-      by active (omega (arith, price-dearest w (cost_of_switch plan) (switches_of plan) s.0 s listed, here))
+      omega (arith, price-dearest w (cost_of_switch plan) (switches_of plan) s.0 s listed, here)
+
+  -- and so is no acceptance of it
+  pub acceptance-within_bound : (w : EventId → ℕ) (s : SwitchId) (active : Bool) → s.0 < length plan.switches → price w (cost_of_acceptance plan s active) ≤ bound_of plan w
+  acceptance-within_bound w s active h = by active (switch-within_bound w s h)
     where
       by : (a : Bool) → price w (cost_of_switch plan s) ≤ bound_of plan w → price w (cost_of_acceptance plan s a) ≤ bound_of plan w
       by true dear = omega (arith, dear)

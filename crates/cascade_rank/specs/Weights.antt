@@ -1,14 +1,15 @@
 -- Weights that bound what each event leads to.
-use Rattle.std.specs.Prelude.{◌≡◌, ℕ, ◌<◌, ◌≤◌, List, length}
+use Rattle.std.specs.Prelude.{◌≡◌, ℕ, ◌<◌, ◌≤◌, List, length, map}
 use Rattle.std.specs.List.{All}
 use Rattle.plan_tables.specs.PlanView.{PlanView}
 use Rattle.plan_tables.specs.declared.entries.EventId.{EventId}
+use Rattle.plan_tables.specs.declared.entries.SwitchId.{SwitchId}
 use Rattle.cascade_rank.specs.Events.{weight_of}
-use Rattle.cascade_rank.specs.Cost.{price, cost_of_event, cost_of_stimuli}
+use Rattle.cascade_rank.specs.Cost.{price, cost_of_event, cost_of_stimuli, cost_of_switch, switches_of}
 
 -- the greatest weight and the greatest bound that are accepted
 abbrev pub greatest : ℕ
-greatest = 10000
+greatest = 100000
 
 -- what the event e costs at these weights
 abbrev pub need : PlanView → (EventId → ℕ) → EventId → ℕ
@@ -27,6 +28,15 @@ pub record IsLeastFitting (plan : PlanView) (weights : List ℕ) : Type 0 where
 -- the greatest price of a stimulus
 abbrev pub bound_of : PlanView → (EventId → ℕ) → ℕ
 bound_of plan w = price w (cost_of_stimuli plan)
+
+-- what a change of the switch costs at these weights: the greater of the costs of its activation and its
+-- deactivation
+abbrev pub switch_cost : PlanView → (EventId → ℕ) → SwitchId → ℕ
+switch_cost plan w s = price w (cost_of_switch plan s)
+
+-- these costs, by the numbers of the switches
+abbrev pub switch_costs : PlanView → (EventId → ℕ) → List ℕ
+switch_costs plan w = map (switch_cost plan w) (switches_of plan)
 
 -- no weight and no stimulus is above the limit
 pub record IsWithinLimit (plan : PlanView) (weights : List ℕ) : Type 0 where

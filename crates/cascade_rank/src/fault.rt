@@ -19,7 +19,7 @@ pub enum RankFault {
     /// event that was passed before. The cycle is the part of this walk from that event on.
     #[error("Cycle")]
     Cycle(Vec<EventId>),
-    /// A weight, or the most lines that one stimulus can cause, is above 10,000.
+    /// A weight, or the most lines that one stimulus can cause, is above 100,000.
     #[error("BoundTooLarge")]
     BoundTooLarge,
     /// The lowest-numbered event that weighs less than it needs, and the weight that it needs.

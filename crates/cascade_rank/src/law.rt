@@ -7,7 +7,7 @@ ghost use Rattle.cascade_rank.specs.CycleOrWeights.{CycleHasNoFit, OpenHasCycle,
 ///
 /// If some events do, no weights fit, and each of these events can reach a cycle. If an event can
 /// reach a cycle, some events do. If no event can, there are least weights that fit: those that
-/// `find` gives, unless one of them or their bound is above 10,000, or memory runs out.
+/// `find` gives, unless one of them or their bound is above 100,000, or memory runs out.
 ///
 /// It does nothing: its contract is the law, over plans as contracts see them.
 pub fn cycles_or_weights()

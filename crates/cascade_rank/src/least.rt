@@ -25,7 +25,7 @@ const TOO_MUCH: u32 = GREATEST + 1;
 ///
 /// - `Cycle`: events lead to each other without end, so no weights fit.
 /// - `BoundTooLarge`: there is no cycle, and one of the least weights, or the most lines that one
-///   stimulus can cause, is above 10,000.
+///   stimulus can cause, is above 100,000.
 /// - `NoMemory`: memory ran out.
 ///
 /// There are no others.

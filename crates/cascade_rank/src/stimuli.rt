@@ -9,10 +9,12 @@ ghost use Rattle.plan_tables.specs.Valid.{IsEventWithin, IsListenerWithin};
 ghost use Rattle.plan_tables.specs.PlanView.{row_numbers};
 ghost use Rattle.device_objects.specs.declared.device.Call.TheVariants as calls;
 ghost use Rattle.cascade_rank.specs.Events.{weight_of};
+ghost use Rattle.cascade_rank.specs.Weights.{IsWithinLimit, switch_cost as cost_at};
 ghost use Rattle.cascade_rank.specs.Cost.{price, each_of, dearest_of, cost_of_post, cost_of_call, cost_of_listener, cost_of_playfield_switch, cost_of_acceptance, cost_of_switch, switches_of, cost_of_stimuli};
 
 use crate::price::{price_of_call, price_of_post, price_of_telling};
 use crate::tellings::Told;
+use crate::weights::Weights;
 use device_objects::Call;
 use plan_tables::{BallTarget, EventId, Listener, Plan, RowId, SwitchId, Telling};
 
@@ -47,6 +49,21 @@ fn dearest_alarm(plan: &Plan, weights: &[u32]) -> u128
         bound = bound.max(price_of_call::<Told>(plan, weights, row, Call::Fire));
     }
     bound
+}
+
+/// What a change of this switch costs at these weights, 1 to 100,000: the greater of the costs of its
+/// activation and its deactivation. If the weights fit, the change causes at most so many lines. It
+/// takes no memory.
+///
+/// The plan has to have the switch, and a weight for each of its events. No weight and no bound may
+/// be above 100,000, as `find` and `verify` make sure.
+pub fn switch_cost(plan: &Plan, weights: &Weights, switch: SwitchId) -> u32
+    requires switch { switch.0 < length plan.now.switches }
+    requires weights { length weights.now ≡ length plan.now.events }
+    requires limit { IsWithinLimit plan.now weights.now }
+    ensures { result ≡ cost_at plan.now (weight_of weights.now) switch }
+{
+    price_of_switch(plan, weights.as_slice(), switch) as u32
 }
 
 /// What the dearer acceptance of a switch costs.

@@ -15,14 +15,14 @@ use crate::weights::Weights;
 use plan_tables::{EventId, Plan};
 
 /// The greatest weight and the greatest bound that are accepted.
-pub(crate) const GREATEST: u32 = 10_000;
+pub(crate) const GREATEST: u32 = 100_000;
 
-/// The most lines that one stimulus can cause: 0 to 10,000.
+/// The most lines that one stimulus can cause: 0 to 100,000.
 #[derive(Clone, Copy, Debug)]
 pub struct Bound(pub u32);
 
 /// The bound of these weights, if there is one for each event, each event weighs at least what it
-/// needs, and neither a weight nor the bound is above 10,000. It takes no memory.
+/// needs, and neither a weight nor the bound is above 100,000. It takes no memory.
 ///
 /// # Errors
 ///
@@ -30,7 +30,7 @@ pub struct Bound(pub u32);
 ///
 /// - `WrongEvents`: there are not as many weights as events.
 /// - `Short`: an event weighs too little; the lowest-numbered one is reported.
-/// - `BoundTooLarge`: a weight or the bound is above 10,000.
+/// - `BoundTooLarge`: a weight or the bound is above 100,000.
 pub fn verify(plan: &Plan, weights: &Weights) -> Result<Bound, RankFault>
     ensures exact { GivesBound result (verified_at plan.now weights.now) }
     ensures verified { IfOk result (λ bound. IsVerified plan.now weights.now bound.0) }

@@ -1,13 +1,14 @@
 -- What the first line of a text says, and what it leaves.
-use Rattle.std.proofs.Common.{◌≡◌, ℕ, ◌+◌, ◌-◌, ◌<◌, ◌==◌, nat_lt, Bool, true, false, cond, Option, Some, None, Result, Ok, Err, List, [], ◌∷◌, ◌++◌, length, take, drop, position, codes, refl, sym, ap, subst, ◌∙◌, append_assoc, length-append, ◌&&◌, arith}
-use Rattle.std.specs.List.{position_or_len, join_with_byte, list_all, zip}
+use Rattle.std.proofs.Common.{◌≡◌, ℕ, ◌+◌, ◌-◌, ◌<◌, ◌≤◌, ◌==◌, nat_lt, Bool, true, false, cond, Option, Some, None, Err, List, [], ◌∷◌, ◌++◌, length, take, drop, position, codes, refl, sym, ap, subst, ◌∙◌, append_assoc, length-append, ◌&&◌, arith}
+use Rattle.std.specs.List.{position_or_len, join_with_byte, list_all}
 use Rattle.std.specs.Str.{bytes_eq}
-use Rattle.std.proofs.lemmas.Bool.{cond-true, cond-false, ltb-true, ltb-false, ne_eqb}
+use Rattle.std.proofs.lemmas.Bool.{cond-true, ltb-true, ltb-false, ne_eqb}
 use Rattle.std.proofs.lemmas.List.{take_all, length-drop, append-nil}
 use Rattle.std.proofs.lemmas.List.Splits.{slice_split_first, slice_split_none, length-slice_split, join_with_byte-slice_split}
 use Rattle.std.proofs.lemmas.List.Sums.{fails_before_first}
 use Rattle.std.proofs.lemmas.Option.{cond_some}
-use Rattle.config_checker.specs.CertificateOf.{is_in_word, number_in, parts, is_heading, bound_by, bound_in, named, event_by, event_in, with_event, events_at, with_bound, bound_at, heading_at, certificate_at}
+use Rattle.config_checker.specs.CertificateText.{Numbered}
+use Rattle.config_checker.specs.CertificateOf.{is_in_word, number_in, parts, has_switches, bound_by, bound_in, named, numbered_by, numbered_in, with_line, front, is_end, with_bound, bound_at, with_heading, heading_at, certificate_at}
 use Rattle.config_checker.proofs.Numerals.{no_number, not_in_digits}
 
 -- ---- where a text is cut
@@ -35,39 +36,41 @@ module _ (end : ℕ) (text : List ℕ) where
 
 -- ---- lines
 
-heading-more : (line : List ℕ) (ps : List (List ℕ)) → 0 < length ps → heading_at (line ∷ ps) ≡ cond (is_heading line) (bound_at ps) (Err 1)
+heading-more : (line : List ℕ) (ps : List (List ℕ)) → 0 < length ps → heading_at (line ∷ ps) ≡ with_heading (has_switches line) ps
 heading-more line [] h = absurd (omega arith)
 heading-more line (next ∷ more) h = refl
 
-bound-more : (line : List ℕ) (ps : List (List ℕ)) → 0 < length ps → bound_at (line ∷ ps) ≡ with_bound (bound_in line) (events_at 3 ps)
-bound-more line [] h = absurd (omega arith)
-bound-more line (next ∷ more) h = refl
+bound-more : (version : Bool) (line : List ℕ) (ps : List (List ℕ)) → 0 < length ps → bound_at version (line ∷ ps) ≡ with_bound version (bound_in line) ps
+bound-more version line [] h = absurd (omega arith)
+bound-more version line (next ∷ more) h = refl
 
-events-more : (n : ℕ) (line : List ℕ) (ps : List (List ℕ)) → 0 < length ps → events_at n (line ∷ ps) ≡ with_event (event_in line) n (events_at (n + 1) ps)
-events-more n line [] h = absurd (omega arith)
-events-more n line (next ∷ more) h = refl
+front-more : (word line : List ℕ) (ps : List (List ℕ)) → 0 < length ps → front word (line ∷ ps) ≡ with_line (numbered_in word line) (line ∷ ps) (front word ps)
+front-more word line [] h = absurd (omega arith)
+front-more word line (next ∷ more) h = refl
 
 module _ (text : List ℕ) (whole : parts 10 text ≡ text ∷ []) where
   pub no_heading : certificate_at text ≡ Err 1
   unfolding certificate_at
   no_heading = ap heading_at whole
 
-  pub no_bound : bound_at (parts 10 text) ≡ Err 2
-  no_bound = ap bound_at whole
+  pub no_bound : (version : Bool) → bound_at version (parts 10 text) ≡ Err 2
+  no_bound version = ap (bound_at version) whole
 
-  pub no_event : 0 < length text → (n : ℕ) → events_at n (parts 10 text) ≡ Err n
-  no_event some n = ap (events_at n) whole ∙ cond-false (length text == 0) (Ok []) (Err n) (ne_eqb (length text) 0 (λ e. omega arith))
+  pub no_front : (word : List ℕ) → front word (parts 10 text) ≡ ([], parts 10 text)
+  no_front word = ap (front word) whole ∙ ap (λ (ps : List (List ℕ)). ([], ps)) (sym whole)
 
 module _ (text line rest : List ℕ) (first : parts 10 text ≡ line ∷ parts 10 rest) where
-  pub heading_first : certificate_at text ≡ cond (is_heading line) (bound_at (parts 10 rest)) (Err 1)
+  pub heading_first : certificate_at text ≡ with_heading (has_switches line) (parts 10 rest)
   unfolding certificate_at
   heading_first = ap heading_at first ∙ heading-more line (parts 10 rest) (some_parts 10 rest)
 
-  pub bound_first : bound_at (parts 10 text) ≡ with_bound (bound_in line) (events_at 3 (parts 10 rest))
-  bound_first = ap bound_at first ∙ bound-more line (parts 10 rest) (some_parts 10 rest)
+  pub bound_first : (version : Bool) → bound_at version (parts 10 text) ≡ with_bound version (bound_in line) (parts 10 rest)
+  bound_first version = ap (bound_at version) first ∙ bound-more version line (parts 10 rest) (some_parts 10 rest)
 
-  pub event_first : (n : ℕ) → events_at n (parts 10 text) ≡ with_event (event_in line) n (events_at (n + 1) (parts 10 rest))
-  event_first n = ap (events_at n) first ∙ events-more n line (parts 10 rest) (some_parts 10 rest)
+  pub front_first : (word : List ℕ) → front word (parts 10 text) ≡ with_line (numbered_in word line) (parts 10 text) (front word (parts 10 rest))
+  front_first word =
+      ap (front word) first ∙ front-more word line (parts 10 rest) (some_parts 10 rest)
+      ∙ ap (λ (ps : List (List ℕ)). with_line (numbered_in word line) ps (front word (parts 10 rest))) (sym first)
 
 -- ---- words
 
@@ -97,78 +100,62 @@ module _ (word number : List ℕ) where
   pub bound_of_two : (line : List ℕ) → parts 32 line ≡ word ∷ parts 32 number → bound_in line ≡ bound_of_words (number_in number)
   bound_of_two line e = ap bound_by e ∙ bound_by_two (parts 32 number) refl
 
-module _ (word name weight : List ℕ) where
-  abbrev event_of_words : Option ℕ → Option (List ℕ × ℕ)
-  event_of_words w = cond (bytes_eq word (codes "event")) (named name w) None
+module _ (word first name number : List ℕ) where
+  abbrev numbered_of_words : Option ℕ → Option (List ℕ × ℕ)
+  numbered_of_words n = cond (bytes_eq first word) (named name n) None
 
-  no_weight : event_of_words None ≡ None
-  no_weight = ap (λ (o : Option (List ℕ × ℕ)). cond (bytes_eq word (codes "event")) o None) (none_anyway (nat_lt 0 (length name) && list_all is_in_word name)) ∙ none_anyway (bytes_eq word (codes "event"))
+  no_number_of_words : numbered_of_words None ≡ None
+  no_number_of_words = ap (λ (o : Option (List ℕ × ℕ)). cond (bytes_eq first word) o None) (none_anyway (nat_lt 0 (length name) && list_all is_in_word name)) ∙ none_anyway (bytes_eq first word)
 
-  event_by_three : (ps : List (List ℕ)) → parts 32 weight ≡ ps → event_by (word ∷ name ∷ ps) ≡ event_of_words (number_in weight)
-  event_by_three [] e = absurd (omega (arith, some_parts 32 weight, ap length e))
-  event_by_three (last ∷ []) e = ap (λ (w : List ℕ). event_of_words (number_in w)) (only weight last e)
-  event_by_three (a ∷ b ∷ more) e = sym (ap event_of_words (no_number_with_blank weight a b more e) ∙ no_weight)
+  numbered_by_three : (ps : List (List ℕ)) → parts 32 number ≡ ps → numbered_by word (first ∷ name ∷ ps) ≡ numbered_of_words (number_in number)
+  numbered_by_three [] e = absurd (omega (arith, some_parts 32 number, ap length e))
+  numbered_by_three (last ∷ []) e = ap (λ (w : List ℕ). numbered_of_words (number_in w)) (only number last e)
+  numbered_by_three (a ∷ b ∷ more) e = sym (ap numbered_of_words (no_number_with_blank number a b more e) ∙ no_number_of_words)
 
-  pub event_of_three : (line rest : List ℕ) → parts 32 line ≡ word ∷ parts 32 rest → parts 32 rest ≡ name ∷ parts 32 weight → event_in line ≡ event_of_words (number_in weight)
-  event_of_three line rest e f = ap event_by e ∙ ap (λ (ps : List (List ℕ)). event_by (word ∷ ps)) f ∙ event_by_three (parts 32 weight) refl
+  pub numbered_of_three : (line rest : List ℕ) → parts 32 line ≡ first ∷ parts 32 rest → parts 32 rest ≡ name ∷ parts 32 number → numbered_in word line ≡ numbered_of_words (number_in number)
+  numbered_of_three line rest e f = ap (numbered_by word) e ∙ ap (λ (ps : List (List ℕ)). numbered_by word (first ∷ ps)) f ∙ numbered_by_three (parts 32 number) refl
 
-  module _ (line rest : List ℕ) (first : parts 32 line ≡ word ∷ parts 32 rest) (second : parts 32 rest ≡ name ∷ parts 32 weight) where
-    pub event_read : bytes_eq word (codes "event") ≡ true → (nat_lt 0 (length name) && list_all is_in_word name) ≡ true → (w : ℕ) → number_in weight ≡ Some w → event_in line ≡ Some (name, w)
-    event_read is named w says = event_of_three line rest first second ∙ ap event_of_words says ∙ cond-true (bytes_eq word (codes "event")) _ None is ∙ cond-true (nat_lt 0 (length name) && list_all is_in_word name) (Some (name, w)) None named
+  module _ (line rest : List ℕ) (before : parts 32 line ≡ first ∷ parts 32 rest) (second : parts 32 rest ≡ name ∷ parts 32 number) where
+    pub numbered_read : bytes_eq first word ≡ true → (nat_lt 0 (length name) && list_all is_in_word name) ≡ true → (n : ℕ) → number_in number ≡ Some n → numbered_in word line ≡ Some (name, n)
+    numbered_read is named n says = numbered_of_three line rest before second ∙ ap numbered_of_words says ∙ cond-true (bytes_eq first word) _ None is ∙ cond-true (nat_lt 0 (length name) && list_all is_in_word name) (Some (name, n)) None named
 
-    pub event_unread : number_in weight ≡ None → event_in line ≡ None
-    event_unread says = event_of_three line rest first second ∙ ap event_of_words says ∙ no_weight
+    pub numbered_unread : number_in number ≡ None → numbered_in word line ≡ None
+    numbered_unread says = numbered_of_three line rest before second ∙ ap numbered_of_words says ∙ no_number_of_words
 
--- ---- all lines
+-- ---- lines at the front
 
--- events that were read, and those that come
-abbrev pub behind : List (List ℕ × ℕ) → Result (List (List ℕ × ℕ)) ℕ → Result (List (List ℕ × ℕ)) ℕ
-behind events (Ok more) = Ok (events ++ more)
-behind events (Err bad) = Err bad
+-- the lines at the front of a text are these, and then those of the rest
+pub record IsReadTo (word text : List ℕ) (found : Numbered) (rest : List ℕ) : Type 0 where
+  pub read : front word (parts 10 text) ≡ (found ++ (front word (parts 10 rest)).0, (front word (parts 10 rest)).1)
+  pub shorter : length found + length rest ≤ length text
 
--- what is read so far, and what is left, is the certificate of the text
-pub record IsReadTo (text : List ℕ) (bound : ℕ) (names : List (List ℕ)) (weights : List ℕ) (number : ℕ) (rest : List ℕ) : Type 0 where
-  pub paired : length weights ≡ length names
-  pub whole : certificate_at text ≡ with_bound (Some bound) (behind (zip names weights) (events_at number (parts 10 rest)))
+pub read_none : (word text : List ℕ) → IsReadTo word text [] text
+read_none word text = record { read = refl; shorter = omega arith }
 
-behind_one : (events : List (List ℕ × ℕ)) (e : List ℕ × ℕ) (n : ℕ) (r : Result (List (List ℕ × ℕ)) ℕ) → behind events (with_event (Some e) n r) ≡ behind (events ++ e ∷ []) r
-behind_one events e n (Ok more) = ap Ok (sym (append_assoc events (e ∷ []) more))
-behind_one events e n (Err bad) = refl
+pub read_more : (word text rest after : List ℕ) (found : Numbered) (s : List ℕ × ℕ) → IsReadTo word text found rest
+    → front word (parts 10 rest) ≡ with_line (Some s) [] (front word (parts 10 after)) → length after < length rest → IsReadTo word text (found ++ s ∷ []) after
+read_more word text rest after found s h next less =
+    let so_far = h.shorter in
+    record {
+      read =
+          h.read ∙ ap (λ (x : Numbered × List (List ℕ)). (found ++ x.0, x.1)) next
+          ∙ ap (λ (all : Numbered). (all, (front word (parts 10 after)).1)) (sym (append_assoc found (s ∷ []) (front word (parts 10 after)).0));
+      shorter = omega (arith, so_far, less, length-append found (s ∷ []));
+    }
 
-zip-push : (names : List (List ℕ)) (weights : List ℕ) (name : List ℕ) (weight : ℕ) → length weights ≡ length names → zip (names ++ name ∷ []) (weights ++ weight ∷ []) ≡ zip names weights ++ (name, weight) ∷ []
-zip-push [] [] name weight e = refl
-zip-push [] (w ∷ ws) name weight e = absurd (omega arith)
-zip-push (x ∷ xs) [] name weight e = absurd (omega arith)
-zip-push (x ∷ xs) (w ∷ ws) name weight e = ap (λ (es : List (List ℕ × ℕ)). (x, w) ∷ es) (zip-push xs ws name weight (omega arith))
+-- no more are at the front
+pub read_all : (word text rest : List ℕ) (found : Numbered) → IsReadTo word text found rest → front word (parts 10 rest) ≡ ([], parts 10 rest) → front word (parts 10 text) ≡ (found, parts 10 rest)
+read_all word text rest found h none =
+    h.read ∙ ap (λ (x : Numbered × List (List ℕ)). (found ++ x.0, x.1)) none ∙ ap (λ (all : Numbered). (all, parts 10 rest)) (append-nil found)
 
-pub read_none : (text rest after_heading : List ℕ) (bound : ℕ) → certificate_at text ≡ bound_at (parts 10 after_heading) → bound_at (parts 10 after_heading) ≡ with_bound (Some bound) (events_at 3 (parts 10 rest))
-    → IsReadTo text bound [] [] 3 rest
-read_none text rest after_heading bound h b = record { paired = refl; whole = h ∙ b ∙ ap (with_bound (Some bound)) (sym (behind_none (events_at 3 (parts 10 rest)))) }
+-- ---- the end
+
+-- nothing is left after the last line end
+pub ends_where_empty : (text : List ℕ) → is_end (parts 10 text) ≡ (length text == 0)
+ends_where_empty [] = refl
+ends_where_empty (b ∷ bs) = by (parts 10 (b ∷ bs)) (join_with_byte-slice_split 10 (b ∷ bs)) ∙ sym (ne_eqb (length (b ∷ bs)) 0 (λ e. omega arith))
   where
-    behind_none : (r : Result (List (List ℕ × ℕ)) ℕ) → behind [] r ≡ r
-    behind_none (Ok more) = refl
-    behind_none (Err bad) = refl
-
-module _ (text : List ℕ) (bound : ℕ) (names : List (List ℕ)) (weights : List ℕ) (number : ℕ) (rest : List ℕ) (h : IsReadTo text bound names weights number rest) where
-  pub read_more : (name : List ℕ) (weight : ℕ) (after : List ℕ) → events_at number (parts 10 rest) ≡ with_event (Some (name, weight)) number (events_at (number + 1) (parts 10 after))
-      → IsReadTo text bound (names ++ name ∷ []) (weights ++ weight ∷ []) (number + 1) after
-  read_more name weight after e =
-      record {
-        paired = omega (arith, h.paired, length-append names (name ∷ []), length-append weights (weight ∷ []));
-        whole =
-            h.whole ∙ ap (λ (r : Result (List (List ℕ × ℕ)) ℕ). with_bound (Some bound) (behind (zip names weights) r)) e
-            ∙ ap (with_bound (Some bound)) (behind_one (zip names weights) (name, weight) number (events_at (number + 1) (parts 10 after)))
-            ∙ ap (λ (es : List (List ℕ × ℕ)). with_bound (Some bound) (behind es (events_at (number + 1) (parts 10 after)))) (sym (zip-push names weights name weight h.paired));
-      }
-
-  pub read_stops : events_at number (parts 10 rest) ≡ Err number → certificate_at text ≡ Err number
-  read_stops e = h.whole ∙ ap (λ (r : Result (List (List ℕ × ℕ)) ℕ). with_bound (Some bound) (behind (zip names weights) r)) e
-
-  pub read_all : length rest ≡ 0 → certificate_at text ≡ Ok (record { bound = bound; events = zip names weights })
-  read_all none =
-      h.whole ∙ ap (λ (r : Result (List (List ℕ × ℕ)) ℕ). with_bound (Some bound) (behind (zip names weights) r)) (no_more rest none)
-      ∙ ap (λ (es : List (List ℕ × ℕ)). Ok (record { bound = bound; events = es })) (append-nil (zip names weights))
-    where
-      no_more : (rest : List ℕ) → length rest ≡ 0 → events_at number (parts 10 rest) ≡ Ok []
-      no_more [] none = refl
-      no_more (b ∷ bs) none = absurd (omega arith)
+    by : (ps : List (List ℕ)) → join_with_byte 10 ps ≡ b ∷ bs → is_end ps ≡ false
+    by [] e = refl
+    by (last ∷ []) e = ne_eqb (length last) 0 (λ none. omega (arith, none, ap length e))
+    by (x ∷ y ∷ more) e = refl

@@ -29,10 +29,10 @@ byte-in_word b (space, tab, end) =
     let blank = or_from (eqb b 32) (eqb b 9) (ne_eqb b 32 space) (ne_eqb b 9 tab) in
     not_from_false (is_blank b || eqb b 10) (or_from (is_blank b) (eqb b 10) blank (ne_eqb b 10 end))
 
-abbrev AllInWord : List ℕ → Type 0
+abbrev pub AllInWord : List ℕ → Type 0
 AllInWord text = All (λ b. is_in_word b ≡ true) text
 
-name-in_word : (name : List ℕ) → IsName name → AllInWord name
+pub name-in_word : (name : List ℕ) → IsName name → AllInWord name
 name-in_word name h = All-weaker (λ b. (b ≢ 32) × (b ≢ 9) × (b ≢ 10)) (λ b. is_in_word b ≡ true) byte-in_word name (name_bytes name h)
 
 -- what the name of an event is: a word of at most 198 bytes, as many as the names of a shot, of its profile and of a

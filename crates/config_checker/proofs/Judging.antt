@@ -1,31 +1,24 @@
 -- What rows are judged to be, case by case.
-use Rattle.std.proofs.Common.{◌≡◌, ◌≢◌, ℕ, true, false, List, [], ◌∷◌, length, map, Option, Some, None, option_map, Result, Ok, Err, refl, sym, ap, ◌∙◌, subst, true≢false}
-use Rattle.std.specs.List.{zip}
-use Rattle.std.proofs.lemmas.Bool.{cond-true, cond-false, eq-eqb, ne_eqb}
-use Rattle.std.proofs.lemmas.Slice.Zip.{firsts-zip, seconds-zip}
+use Rattle.std.proofs.Common.{◌≡◌, ℕ, List, [], ◌∷◌, map, Option, Some, None, option_map, Result, Ok, Err, refl, sym, ap, ◌∙◌, subst}
 use Rattle.mpf_config.specs.Rows.{Rows}
-use Rattle.plan_tables.specs.PlanView.{PlanView, name_of_event}
+use Rattle.plan_tables.specs.PlanView.{PlanView}
 use Rattle.mpf_plan.specs.PlanOf.{plan_at, plan_of}
 use Rattle.mpf_plan.proofs.Judged.{plan_at-Ok, plan_at-exceeded}
 use Rattle.config_checker.proofs.Given.{lacks_nothing}
 use Rattle.config_checker.proofs.PlanFree.{rows_sound}
 use Rattle.cascade_rank.specs.Events.{weight_of}
 use Rattle.cascade_rank.specs.Weights.{bound_of}
-use Rattle.cascade_rank.specs.Finding.{RankView, found_at, verified_at}
+use Rattle.cascade_rank.specs.Finding.{RankView, found_at}
 use Rattle.cascade_rank.specs.Finding as ranks
 use Rattle.cascade_rank.specs.View.{IfReported}
 use Rattle.cascade_rank.specs.Found.{IsUnfound}
-use Rattle.cascade_rank.specs.Verified.{IsVerified, IsUnverified}
 use Rattle.config_checker.specs.declared.report.Report.{Report}
 use Rattle.config_checker.specs.declared.report.Report.TheVariants.{NoMemory, Faults}
 use Rattle.written_machine.specs.CheckedView.{CheckedView}
-use Rattle.config_checker.specs.CertificateText.{Certificate, text_of, certificate_text}
-use Rattle.config_checker.specs.CertificateOf.{IsTextOf, certificate_at}
-use Rattle.config_checker.specs.Checking.{FaultView, row, limit, cycle, bound, certificate, bad_line, other_events, other_bound, named_fault, weighed, weighed_plan, same_names, certificate_names, certificate_weights, bounded, certified, certified_plan, reported_alone, faults_of_rows, faults_first, checked, checked_at, checked_with_at}
+use Rattle.config_checker.specs.Checking.{FaultView, row, limit, cycle, bound, certificate, named_fault, weighed, weighed_plan, certified_plan, reported_alone, faults_of_rows, faults_first, checked, checked_at, checked_with_at}
 use Rattle.config_checker.specs.View.{GivesChecked, ReportsFault, fault_view}
-use Rattle.config_checker.specs.Refused.{IsLimitFault, IsFaultOf, IsNoCertificate, IsCertificateOf, HasOtherEvents, HasOtherBound, HasTooMuch, HasShortEvent, IsFaultWith, IsReport, Reports, ReportsOne, AreOwn, ReportsOwn}
-use Rattle.config_checker.proofs.Certificates.{read-is_text, text-is_read}
-use Rattle.config_checker.proofs.Names.{same_names-is, same_names-self, zip-parts, parts-length}
+use Rattle.config_checker.specs.Refused.{IsLimitFault, IsFaultOf, IsFaultWith, IsReport, Reports, ReportsOne, AreOwn, ReportsOwn}
+use Rattle.config_checker.proofs.CertificateMeaning.{IsFaultOfText, fault_is_there}
 
 -- ---- what a report lists
 
@@ -124,15 +117,12 @@ module _ (rows : Rows) where
   limit-fault_with text bound h = absurd h
   limit-fault_with text (certificate fault) h = absurd h
 
--- the text is this certificate, which has these names and these weights
-pub record IsReadAs (text : List ℕ) (c : Certificate) (names : List (List ℕ)) (ws : List ℕ) : Type 0 where
-  pub read : certificate_at text ≡ Ok c
-  pub names_are : certificate_names c ≡ names
-  pub weights_are : certificate_weights c ≡ ws
-
-pub read-as : (text : List ℕ) (stated : ℕ) (names : List (List ℕ)) (weights ws : List ℕ) → length weights ≡ length names → certificate_at text ≡ Ok (record { bound = stated; events = zip names weights }) → ws ≡ weights
-    → IsReadAs text (record { bound = stated; events = zip names weights }) names ws
-read-as text stated names weights ws count read same = record { read = read; names_are = firsts-zip names weights count; weights_are = seconds-zip names weights count ∙ sym same }
+  text-fault_with : (text : List ℕ) (fault : FaultView) → IsFaultOfText (plan_of rows) text fault → IsFaultWith rows text fault
+  text-fault_with text (row f) h = absurd h
+  text-fault_with text (limit t) h = absurd h
+  text-fault_with text (cycle names) h = absurd h
+  text-fault_with text bound h = h
+  text-fault_with text (certificate fault) h = h
 
 module _ (rows : Rows) (none : faults_of_rows rows ≡ []) (plan : PlanView) (made : plan_at rows ≡ Ok plan) where
   of_rows : plan ≡ plan_of rows
@@ -167,83 +157,22 @@ module _ (rows : Rows) (none : faults_of_rows rows ≡ []) (plan : PlanView) (ma
 
   -- ---- a certificate
 
-  module _ (text : List ℕ) where
-    given-checked : (answer : Result CheckedView FaultView) → certified_plan text plan ≡ answer → checked_with_at rows text ≡ reported_alone answer
-    unfolding checked_with_at
-    given-checked answer is = first-none rows (checked (certified_plan text) (plan_at rows)) none ∙ ap (checked (certified_plan text)) made ∙ ap reported_alone is
+  pub certified-checked : (text : List ℕ) → checked_with_at rows text ≡ reported_alone (certified_plan text plan)
+  unfolding checked_with_at
+  certified-checked text = first-none rows (checked (certified_plan text) (plan_at rows)) none ∙ ap (checked (certified_plan text)) made
 
-    pub misread-checked : (n : ℕ) → certificate_at text ≡ Err n → checked_with_at rows text ≡ Err (certificate (bad_line n) ∷ [])
-    unfolding certified_plan
-    misread-checked n misread = given-checked (Err (certificate (bad_line n))) (ap (certified plan) misread)
+  -- what is answered of the certificate is answered
+  pub given-checked : (text : List ℕ) (report : Report) → GivesChecked (Err report) (reported_alone (certified_plan text plan)) → GivesChecked (Err report) (checked_with_at rows text)
+  given-checked text report h = subst (GivesChecked (Err report)) (sym (certified-checked text)) h
 
-    pub misread-fault : (n : ℕ) → certificate_at text ≡ Err n → IsNoCertificate text
-    misread-fault n misread c is = apart (sym misread ∙ text-is_read c text is)
-      where
-        apart : ◌≡◌ {A = Result Certificate ℕ} (Err n) (Ok c) → ⊥
-        apart e = cc
-
-    module _ (c : Certificate) (names : List (List ℕ)) (ws : List ℕ) (reading : IsReadAs text c names ws) where
-      text_is : IsTextOf c text
-      text_is = read-is_text text c reading.read
-
-      pub other_events-checked : same_names plan.events names ≡ false → checked_with_at rows text ≡ Err (certificate other_events ∷ [])
-      unfolding certified_plan
-      other_events-checked other =
-          given-checked (Err (certificate other_events)) (ap (certified plan) reading.read ∙ cond-false _ _ _ (ap (same_names plan.events) reading.names_are ∙ other))
-
-      pub other_events-fault : same_names plan.events names ≡ false → HasOtherEvents (plan_of rows) text
-      other_events-fault other =
-          subst (λ (p : PlanView). HasOtherEvents p text) of_rows
-          (record {
-            certificate = c;
-            text_is = text_is;
-            other = λ same. true≢false (sym (same_names-self plan.events) ∙ (ap (same_names plan.events) (sym same ∙ reading.names_are) ∙ other));
-          })
-
-      module _ (named : same_names plan.events names ≡ true) where
-        of_plan : IsCertificateOf plan text c
-        of_plan = record { text_is = text_is; events = reading.names_are ∙ sym (same_names-is plan.events names named) }
-
-        certified-bounded : (verified : Result ℕ RankView) → verified_at plan ws ≡ verified → certified_plan text plan ≡ bounded plan c verified
-        unfolding certified_plan
-        certified-bounded verified is =
-            ap (certified plan) reading.read ∙ cond-true _ _ _ (ap (same_names plan.events) reading.names_are ∙ named) ∙ ap (bounded plan c) (ap (verified_at plan) reading.weights_are ∙ is)
-
-        pub unverified-checked : (reported : RankView) (view : Option RankView) (fault : FaultView) → view ≡ Some reported → option_map (named_fault plan) view ≡ Some fault → verified_at plan ws ≡ Err reported → checked_with_at rows text ≡ Err (fault ∷ [])
-        unverified-checked reported view fault seen is verified =
-            let same : named_fault plan reported ≡ fault = some_same (named_fault plan reported) fault (ap (option_map (named_fault plan)) (sym seen) ∙ is) in
-            given-checked (Err fault) (certified-bounded (Err reported) verified ∙ ap Err same)
-
-        pub unverified-fault : (view : Option RankView) (fault : FaultView) → option_map (named_fault plan) view ≡ Some fault → IfReported view (IsUnverified plan ws) → IsFaultWith rows text fault
-        unverified-fault None fault is h = none-some fault is
-        unverified-fault (Some reported) fault is h =
-            subst (IsFaultWith rows text) (some_same (named_fault plan reported) fault is) (by reported (subst (λ (v : List ℕ). IsUnverified plan v reported) (sym reading.weights_are) h))
-          where
-            by : (reported : RankView) → IsUnverified plan (certificate_weights c) reported → IsFaultWith rows text (named_fault plan reported)
-            by (ranks.cycle events) h = absurd h
-            by ranks.bound_too_large h = subst (λ (p : PlanView). HasTooMuch p text) of_rows (record { certificate = c; of_plan = of_plan; above = h })
-            by (ranks.short event needed) h =
-                subst (λ (p : PlanView). HasShortEvent p text (name_of_event plan event) needed) of_rows (record { certificate = c; of_plan = of_plan; event = event; first = h.1; name_is = refl })
-            by ranks.wrong_events h = absurd (h (parts-length c.events ∙ ap length of_plan.events))
-
-        pub verified-checked : (b : ℕ) → verified_at plan ws ≡ Ok b → b ≡ c.bound → checked_with_at rows text ≡ Ok (record { plan = plan; weights = ws; bound = b })
-        verified-checked b verified is =
-            given-checked (Ok (record { plan = plan; weights = ws; bound = b }))
-            (certified-bounded (Ok b) verified ∙ cond-true _ _ _ (eq-eqb b c.bound is) ∙ ap (λ (v : List ℕ). Ok (record { plan = plan; weights = v; bound = b })) reading.weights_are)
-
-        pub other_bound-checked : (b : ℕ) → verified_at plan ws ≡ Ok b → b ≢ c.bound → checked_with_at rows text ≡ Err (certificate (other_bound b) ∷ [])
-        other_bound-checked b verified other = given-checked (Err (certificate (other_bound b))) (certified-bounded (Ok b) verified ∙ cond-false _ _ _ (ne_eqb b c.bound other))
-
-        pub other_bound-fault : (b : ℕ) → IsVerified plan ws b → b ≢ c.bound → HasOtherBound (plan_of rows) text b
-        other_bound-fault b verified other =
-            subst (λ (p : PlanView). HasOtherBound p text b) of_rows
-            (record { certificate = c; of_plan = of_plan; verified = subst (λ (v : List ℕ). IsVerified plan v b) (sym reading.weights_are) verified; other = λ same. other (sym same) })
-
-        -- what is accepted has this text
-        pub verified-text : (b : ℕ) → b ≡ c.bound → certificate_text (record { plan = plan; weights = ws; bound = b }) ≡ text
-        verified-text b is =
-            let same : zip plan.events ws ≡ c.events =
-            ap (λ (ns : List (List ℕ)). zip ns ws) (sym of_plan.events) ∙ ap (zip (certificate_names c)) (sym reading.weights_are) ∙ zip-parts c.events in
-            ap (λ (n : ℕ). text_of (record { bound = n; events = zip plan.events ws })) is
-            ∙ ap (λ (events : List (List ℕ × ℕ)). text_of (record { bound = c.bound; events = events })) same
-            ∙ sym text_is.1
+  -- and it is there
+  pub given-fault : (text : List ℕ) (report : Report) → GivesChecked (Err report) (reported_alone (certified_plan text plan)) → Reports (IsFaultWith rows text) rows report
+  given-fault text NoMemory h = tt
+  given-fault text (Faults faults) h = by (certified_plan text plan) refl h
+    where
+      by : (judged : Result CheckedView FaultView) → certified_plan text plan ≡ judged → reported_alone judged ≡ Err (map fault_view faults.items) → IsReport (IsFaultWith rows text) (faults_of_rows rows) (map fault_view faults.items)
+      by (Ok c) is e = absurd cc
+      by (Err fault) is e =
+          let listed : fault ∷ [] ≡ map fault_view faults.items = cc in
+          let there = text-fault_with rows text fault (subst (λ (p : PlanView). IsFaultOfText p text fault) of_rows (fault_is_there plan text fault is)) in
+          subst (λ (own : List FaultView). IsReport (IsFaultWith rows text) own (map fault_view faults.items)) (sym none) (fault, sym listed, there)

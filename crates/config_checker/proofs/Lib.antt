@@ -3,8 +3,10 @@ pub mod Numerals
 pub mod Certificates
 pub mod CertificateLines
 pub mod Names
+pub mod CertificateMeaning
 pub mod Judging
 pub mod EventWords
+pub mod SwitchWords
 pub mod ReadBack
 pub mod CertificateLength
 pub mod FreeNames

@@ -1,11 +1,13 @@
 -- Names that are compared, and lists of names with weights.
-use Rattle.std.proofs.Common.{◌≡◌, ◌≢◌, ℕ, ◌<◌, true, false, not, List, [], ◌∷◌, length, map, get_or, Bor, refl, sym, ap, ◌∙◌, subst, true≢false, arith}
+use Rattle.std.proofs.Common.{◌≡◌, ◌≢◌, ℕ, ◌<◌, true, false, not, List, [], ◌∷◌, length, map, get_or, refl, sym, ap, ◌∙◌, subst, true≢false, arith}
 use Rattle.std.specs.List.{All, zip}
 use Rattle.std.specs.Str.{bytes_eq}
 use Rattle.std.proofs.lemmas.Bool.{and_parts, and_from, false_from_ne_true, not-true, not-false}
 use Rattle.std.proofs.lemmas.List.{length-map, get_or-map, ext_get_or}
 use Rattle.std.proofs.lemmas.Slice.Eq.{bytes_eq-Decides}
-use Rattle.config_checker.specs.Checking.{same_names}
+use Rattle.config_checker.specs.declared.certificate_reader.Line.{Line}
+use Rattle.config_checker.specs.CertificateRead.{line_view, lines_view}
+use Rattle.config_checker.specs.Checking.{same_names, names_of, numbers_of}
 
 pub same_names-is : (xs ys : List (List ℕ)) → same_names xs ys ≡ true → xs ≡ ys
 same_names-is [] [] h = refl
@@ -30,19 +32,30 @@ same_names-other xs ys k other = false_from_ne_true (same_names xs ys) (λ same.
 pub same_names-all : (xs ys : List (List ℕ)) → length xs ≡ length ys → ((k : ℕ) → k < length xs → get_or xs k [] ≡ get_or ys k []) → same_names xs ys ≡ true
 same_names-all xs ys count each = ap (same_names xs) (sym (ext_get_or [] xs ys count each)) ∙ same_names-self xs
 
--- a name that is read by its place
-seen_at : (names : List (Bor (List ℕ))) (k : ℕ) (d : Bor (List ℕ)) → k < length names → (get_or names k d).now ≡ get_or (map (λ (n : Bor (List ℕ)). n.now) names) k []
-seen_at names k d within = sym (get_or-map (λ (n : Bor (List ℕ)). n.now) names k d [] within)
+-- the lines of a certificate, by place
+module _ (lines : List Line) where
+  pub length-names_of : length (names_of (lines_view lines)) ≡ length lines
+  length-names_of = length-map (lines_view lines) (λ (s : List ℕ × ℕ). s.0) ∙ length-map lines line_view
 
--- whether a name that is read is that of the event
-module _ (events : List (List ℕ)) (names : List (Bor (List ℕ))) (k : ℕ) (d : Bor (List ℕ)) (within : k < length names) (name : List ℕ) (is : name ≡ get_or events k []) where
-  pub place-other : not (bytes_eq name (get_or names k d).now) ≡ true → get_or events k [] ≢ get_or (map (λ (n : Bor (List ℕ)). n.now) names) k []
-  place-other h same =
-      let equal : name ≡ (get_or names k d).now = is ∙ same ∙ sym (seen_at names k d within) in
-      true≢false (sym ((bytes_eq-Decides name (get_or names k d).now).1 equal) ∙ not-true (bytes_eq name (get_or names k d).now) h)
+  pub length-numbers_of : length (numbers_of (lines_view lines)) ≡ length lines
+  length-numbers_of = length-map (lines_view lines) (λ (s : List ℕ × ℕ). s.1) ∙ length-map lines line_view
 
-  pub place-same : not (bytes_eq name (get_or names k d).now) ≡ false → get_or events k [] ≡ get_or (map (λ (n : Bor (List ℕ)). n.now) names) k []
-  place-same h = sym is ∙ (bytes_eq-Decides name (get_or names k d).now).0 (not-false (bytes_eq name (get_or names k d).now) h) ∙ seen_at names k d within
+  module _ (k : ℕ) (d : Line) (within : k < length lines) where
+    pub name_at : get_or (names_of (lines_view lines)) k [] ≡ (get_or lines k d).name.now
+    name_at = get_or-map (λ (s : List ℕ × ℕ). s.0) (lines_view lines) k (line_view d) [] (omega (arith, within, length-map lines line_view)) ∙ ap (λ (s : List ℕ × ℕ). s.0) (get_or-map line_view lines k d (line_view d) within)
+
+    pub number_at : get_or (numbers_of (lines_view lines)) k 0 ≡ (get_or lines k d).number
+    number_at = get_or-map (λ (s : List ℕ × ℕ). s.1) (lines_view lines) k (line_view d) 0 (omega (arith, within, length-map lines line_view)) ∙ ap (λ (s : List ℕ × ℕ). s.1) (get_or-map line_view lines k d (line_view d) within)
+
+    -- whether the name is that of the entry
+    module _ (names : List (List ℕ)) (name : List ℕ) (is : name ≡ get_or names k []) where
+      pub place-other : not (bytes_eq name (get_or lines k d).name.now) ≡ true → get_or names k [] ≢ get_or (names_of (lines_view lines)) k []
+      place-other h same =
+          let equal : name ≡ (get_or lines k d).name.now = is ∙ same ∙ name_at in
+          true≢false (sym ((bytes_eq-Decides name (get_or lines k d).name.now).1 equal) ∙ not-true (bytes_eq name (get_or lines k d).name.now) h)
+
+      pub place-same : not (bytes_eq name (get_or lines k d).name.now) ≡ false → get_or names k [] ≡ get_or (names_of (lines_view lines)) k []
+      place-same h = sym is ∙ (bytes_eq-Decides name (get_or lines k d).name.now).0 (not-false (bytes_eq name (get_or lines k d).name.now) h) ∙ sym name_at
 
 -- what is seen in a list
 pub all_seen : {X Y : Type 0} (view : X → Y) (P : Y → Type 0) (xs : List X) → All P (map view xs) → All (λ x. P (view x)) xs

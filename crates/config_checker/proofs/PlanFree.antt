@@ -28,9 +28,7 @@ use Rattle.plan_tables.specs.declared.entries.Target.{Target}
 use Rattle.plan_tables.specs.declared.entries.Target.TheVariants.{Run, Start, Stop, Act}
 use Rattle.plan_tables.specs.declared.devices.RowId.{RowId}
 use Rattle.plan_tables.specs.declared.devices.Act.{Act as ActOfDevice}
-use Rattle.plan_tables.specs.declared.devices.Settings.{Settings}
-use Rattle.plan_tables.specs.declared.devices.Settings.TheVariants as kinds
-use Rattle.plan_tables.specs.PlanView.{PlanCoil, no_coil, no_row, PlanView, name_of_event, actions_at, coil_at, row_at}
+use Rattle.plan_tables.specs.PlanView.{PlanCoil, no_coil, PlanView, name_of_event, coil_at, row_at}
 use Rattle.plan_tables.specs.Valid.{IsActionWithin}
 use Rattle.cascade_rank.specs.Verified.{IsVerified}
 use Rattle.coil_guard.specs.Asked.{limits_of}

@@ -1,9 +1,10 @@
 -- What was accepted is accepted again with the text of its certificate.
 use mathlib.Core.Bool.{Bool-set}
-use Rattle.std.proofs.Common.{◌≡◌, ℕ, ◌<◌, ◌≤◌, ◌^◌, Bool, true, false, ◌==◌, if◌then◌else◌, List, [], ◌∷◌, length, Option, Some, None, Result, Ok, Err, refl, sym, ap, subst, arith}
+use Rattle.std.proofs.Common.{◌≡◌, ℕ, ◌<◌, ◌≤◌, ◌^◌, Bool, true, false, if◌then◌else◌, List, [], ◌∷◌, length, get_or, Option, Some, None, Result, Ok, Err, inl, inr, refl, sym, ap, ◌∙◌, subst, arith}
 use Rattle.std.specs.List.{All, zip}
 use Rattle.std.proofs.Math.Logic.{∥∥₁_elim}
-use Rattle.std.proofs.lemmas.Bool.{not-false, eqb-true}
+use Rattle.std.proofs.lemmas.Bool.{not-false}
+use Rattle.std.proofs.lemmas.List.{get_or-map}
 use Rattle.std.proofs.lemmas.List.Elements.{All-weaker}
 use Rattle.std.proofs.lemmas.Slice.Zip.{firsts-zip, seconds-zip}
 use Rattle.mpf_sections.specs.Named.{IsNamed}
@@ -17,31 +18,37 @@ use Rattle.mpf_config.specs.Reading.{rows_at}
 use Rattle.mpf_config.proofs.RowNames.{rows_are_named, modes_are_named}
 use Rattle.plan_tables.specs.PlanView.{PlanView}
 use Rattle.plan_tables.specs.declared.entries.EventId.{EventId}
+use Rattle.plan_tables.specs.declared.table.Table.TheVariants.{Switches}
+use Rattle.plan_tables.specs.Limits.{entry_names}
 use Rattle.mpf_plan.specs.PlanOf.{plan_at, plan_of, PlanRefusal, no_such_name, above_limit}
 use Rattle.mpf_plan.proofs.Judged.{plan_at-Ok}
 use Rattle.plan_tables.specs.Valid.{HasEntries}
 use Rattle.mpf_plan.proofs.ValidPlan.{HasEntries-plan_at}
 use Rattle.cascade_rank.specs.Events.{weight_of}
-use Rattle.cascade_rank.specs.Weights.{IsLeastFitting, bound_of, greatest}
+use Rattle.cascade_rank.specs.Cost.{switches_of}
+use Rattle.cascade_rank.specs.Weights.{IsLeastFitting, bound_of, switch_cost, switch_costs, greatest}
 use Rattle.cascade_rank.specs.LeadsTo.{grounded, is_open}
 use Rattle.cascade_rank.specs.Ranks.{ranks}
 use Rattle.cascade_rank.specs.Cycle.{first_open}
-use Rattle.cascade_rank.specs.Finding.{RankView, bound_too_large, is_within_limit, found_past, found_at, verified_at}
+use Rattle.cascade_rank.specs.Finding.{RankView, bound_too_large, is_within_limit, found_past, found_at}
 use Rattle.cascade_rank.specs.Verified.{IsVerified}
 use Rattle.cascade_rank.proofs.FirstEvent.{first_event-None}
-use Rattle.cascade_rank.proofs.Verifying.{IsWithinLimit-from_test, verified_at-bound}
+use Rattle.cascade_rank.proofs.Switches.{length-switches, switch_of, switch-within_bound}
+use Rattle.cascade_rank.proofs.Verifying.{IsWithinLimit-from_test}
 use Rattle.cascade_rank.proofs.Finds.{ranks_least}
 use Rattle.written_machine.specs.CheckedView.{CheckedView}
 use Rattle.written_machine.specs.Accepted.{IsAccepted}
 use Rattle.config_checker.proofs.PlanFree.{plan_accepted}
-use Rattle.config_checker.specs.CertificateText.{Certificate, certificate_of, certificate_text}
-use Rattle.config_checker.specs.CertificateOf.{IsWord, IsWritable, certificate_at}
-use Rattle.config_checker.specs.Checking.{FaultView, same_names, certificate_names, certificate_weights, weighed, weighed_plan, bounded, certified, certified_plan, reported_alone, faults_of_rows, faults_first, checked, checked_at, checked_with_at}
-use Rattle.config_checker.specs.ReadAgain.{IsReadAgain}
+use Rattle.config_checker.specs.CertificateText.{certificate_of, certificate_text, IsCertificateText}
+use Rattle.config_checker.specs.CertificateOf.{IsWord, AreWritable, IsWritable}
+use Rattle.config_checker.specs.Checking.{FaultView, weighed, weighed_plan, certified_plan, reported_alone, faults_of_rows, faults_first, checked, checked_at, checked_with_at}
+use Rattle.config_checker.specs.ReadAgain.{IsReadAgain, IsAcceptedOf}
 use Rattle.config_checker.proofs.Certificates.{text-is_read}
-use Rattle.config_checker.proofs.Names.{same_names-self, all_seen}
+use Rattle.config_checker.proofs.CertificateMeaning.{length-costs, costs_counted, accepted_is_certified, certified_again}
+use Rattle.config_checker.proofs.Names.{all_seen}
 use Rattle.config_checker.proofs.EventWords.{events_are_words}
-use Rattle.config_checker.proofs.Judging.{IsReadAs, read-as, verified-checked, verified-text}
+use Rattle.config_checker.proofs.SwitchWords.{switches_are_words}
+use Rattle.config_checker.proofs.Judging.{certified-checked}
 
 ok_same : {X E : Type 0} (x y : X) → ◌≡◌ {A = Result X E} (Ok x) (Ok y) → x ≡ y
 ok_same x y e = cc
@@ -71,24 +78,43 @@ module _ (plan : PlanView) (valid : HasEntries plan) (ws : List ℕ) where
       record { count = both.0.count; fits = both.0.fits; limit = IsWithinLimit-from_test plan ws both.1; bound_is = refl }
 
 -- a verified certificate whose names are words can be written
-verified-writable : (c : CheckedView) → IsVerified c.plan c.weights c.bound → All IsWord c.plan.events → IsWritable (certificate_of c)
-verified-writable c verified words =
-    let below = verified.limit.bound_within in
-    record {
-      bound = omega (arith, below, verified.bound_is);
-      names = all_seen (λ (e : List ℕ × ℕ). e.0) IsWord (zip c.plan.events c.weights) (subst (All IsWord) (sym (firsts-zip c.plan.events c.weights verified.count)) words);
-      weights =
-          all_seen (λ (e : List ℕ × ℕ). e.1) (λ w. w < 2 ^ 32) (zip c.plan.events c.weights)
-          (subst (All (λ w. w < 2 ^ 32)) (sym (seconds-zip c.plan.events c.weights verified.count)) (All-weaker (λ w. w ≤ greatest) (λ w. w < 2 ^ 32) (λ w low. omega (arith, low)) c.weights verified.limit.weights_within));
-    }
+module _ (c : CheckedView) (verified : IsVerified c.plan c.weights c.bound) where
+  writable : (names : List (List ℕ)) (numbers : List ℕ) → length numbers ≡ length names → All IsWord names → All (λ n. n ≤ greatest) numbers → AreWritable (zip names numbers)
+  writable names numbers count words low = record {
+    names = all_seen (λ (s : List ℕ × ℕ). s.0) IsWord (zip names numbers) (subst (All IsWord) (sym (firsts-zip names numbers count)) words);
+    numbers =
+        all_seen (λ (s : List ℕ × ℕ). s.1) (λ n. n < 2 ^ 32) (zip names numbers)
+        (subst (All (λ n. n < 2 ^ 32)) (sym (seconds-zip names numbers count)) (All-weaker (λ n. n ≤ greatest) (λ n. n < 2 ^ 32) (λ n small. omega (arith, small)) numbers low));
+  }
+
+  pub costs_within : All (λ n. n ≤ greatest) (switch_costs c.plan (weight_of c.weights))
+  costs_within i d within =
+      let few : i < length c.plan.switches = omega (arith, within, length-costs c.plan c.weights) in
+      let here : get_or (switch_costs c.plan (weight_of c.weights)) i d ≡ switch_cost c.plan (weight_of c.weights) (record { 0 = i }) =
+      get_or-map (switch_cost c.plan (weight_of c.weights)) (switches_of c.plan) i (record { 0 = i }) d (omega (arith, few, length-switches c.plan))
+      ∙ ap (switch_cost c.plan (weight_of c.weights)) (switch_of c.plan i (record { 0 = i }) few) in
+      let low = switch-within_bound c.plan (weight_of c.weights) (record { 0 = i }) few in
+      omega (arith, here, low, verified.limit.bound_within)
+
+  verified-writable : All IsWord c.plan.events → All IsWord (entry_names c.plan Switches) → IsWritable (certificate_of c)
+  verified-writable events switches =
+      let below = verified.limit.bound_within in
+      record {
+        bound = omega (arith, below, verified.bound_is);
+        switches = writable (entry_names c.plan Switches) (switch_costs c.plan (weight_of c.weights)) (costs_counted c verified) switches costs_within;
+        events = writable c.plan.events c.weights verified.count events verified.limit.weights_within;
+      }
+
+-- the names of its events and of its switches are words
+abbrev IsWorded : PlanView → Type 0
+IsWorded plan = All IsWord plan.events × All IsWord (entry_names plan Switches)
 
 module _ (rows : Rows) where
   -- what is verified is accepted with the text of its certificate
-  verified-again : (c : CheckedView) → faults_of_rows rows ≡ [] → plan_at rows ≡ Ok c.plan → IsVerified c.plan c.weights c.bound → All IsWord c.plan.events → IsReadAgain rows c
+  verified-again : (c : CheckedView) → faults_of_rows rows ≡ [] → plan_at rows ≡ Ok c.plan → IsVerified c.plan c.weights c.bound → IsWorded c.plan → IsReadAgain rows c
   verified-again c none made verified words =
-      let text = certificate_text c in
-      let reading = read-as text c.bound c.plan.events c.weights c.weights verified.count (text-is_read (certificate_of c) text (verified-writable c verified words, refl)) refl in
-      verified-checked rows none c.plan made text (certificate_of c) c.plan.events c.weights reading (same_names-self c.plan.events) c.bound (verified_at-bound c.plan c.weights c.bound verified) refl
+      let read = text-is_read (certificate_of c) (certificate_text c) (verified-writable c verified words.0 words.1, refl) in
+      certified-checked rows none c.plan made (certificate_text c) ∙ ap reported_alone (certified_again c verified read)
 
   -- rows that are accepted have no faults of their own
   first-ok : (own : List FaultView) (answer : Result CheckedView (List FaultView)) (c : CheckedView) → faults_first own answer ≡ Ok c → (own ≡ []) × (answer ≡ Ok c)
@@ -126,10 +152,16 @@ module _ (rows : Rows) where
       let from = checked-plan weighed_plan (plan_at rows) c (first-ok (faults_of_rows rows) (checked weighed_plan (plan_at rows)) c is).1 in
       weighed-verified from.0 (found_at from.0) c from.1 refl from.2
 
-  found-again : (c : CheckedView) → checked_at rows ≡ Ok c → All IsWord c.plan.events → IsReadAgain rows c
-  found-again c is words =
-      let from = found_is_verified c is in
-      verified-again c (found-none c is) from.0 from.1 words
+  -- so it is with a certificate, and the text is that of the certificate
+  given_is_verified : (text : List ℕ) (c : CheckedView) → checked_with_at rows text ≡ Ok c → (plan_at rows ≡ Ok c.plan) × IsVerified c.plan c.weights c.bound × IsCertificateText c text
+  unfolding checked_with_at
+  given_is_verified text c is =
+      let from = checked-plan (certified_plan text) (plan_at rows) c (first-ok (faults_of_rows rows) (checked (certified_plan text) (plan_at rows)) c is).1 in
+      let certified = accepted_is_certified from.0 text c from.2 in
+      (from.1 ∙ ap Ok (sym certified.1), certified.0, certified.2)
+
+  pub given-text : (text : List ℕ) (c : CheckedView) → checked_with_at rows text ≡ Ok c → IsCertificateText c text
+  given-text text c is = (given_is_verified text c is).2
 
   pub found-plan : (c : CheckedView) → checked_at rows ≡ Ok c → c.plan ≡ plan_of rows
   found-plan c is = (plan_at-Ok rows c.plan (found_is_verified c is).0).0
@@ -140,48 +172,26 @@ module _ (rows : Rows) where
       let from = found_is_verified c is in
       plan_accepted rows short few (found-none c is) c from.0 from.1
 
-  -- where every name in the rows is one, those of their plan's events are words
-  named-words : (c : CheckedView) → checked_at rows ≡ Ok c → All IsNamed rows.machine → All IsNamedMode rows.modes → All IsWord c.plan.events
-  named-words c is machine modes = subst (λ (p : PlanView). All IsWord p.events) (sym (found-plan c is)) (events_are_words rows machine modes)
+  -- where those of their plan's events and switches are words, it is accepted again
+  module _ (words : (plan : PlanView) → plan_at rows ≡ Ok plan → IsWorded plan) where
+    again : (c : CheckedView) → IsAcceptedOf rows c → IsReadAgain rows c
+    again c (inl is) = let from = found_is_verified c is in verified-again c (found-none c is) from.0 from.1 (words c.plan from.0)
+    again c (inr (text, is)) = let from = given_is_verified text c is in verified-again c (given-none text c is) from.0 from.1 (words c.plan from.0)
+
+  -- they are, where every name in the rows is a name
+  named-words : All IsNamed rows.machine → All IsNamedMode rows.modes → (plan : PlanView) → plan_at rows ≡ Ok plan → IsWorded plan
+  named-words machine modes plan made = subst IsWorded (sym (plan_at-Ok rows plan made).0) (events_are_words rows machine modes, switches_are_words rows machine modes)
 
   -- it is so in the rows of a bundle
-  pub read-again : (bundle : List ℕ) (c : CheckedView) → rows_at bundle ≡ Ok rows → checked_at rows ≡ Ok c → IsReadAgain rows c
-  read-again bundle c read is = found-again c is (named-words c is (rows_are_named bundle rows read) (modes_are_named bundle rows read))
+  pub read-again : (bundle : List ℕ) (c : CheckedView) → rows_at bundle ≡ Ok rows → IsAcceptedOf rows c → IsReadAgain rows c
+  read-again bundle c read is = again (named-words (rows_are_named bundle rows read) (modes_are_named bundle rows read)) c is
 
-  -- ---- weights of a certificate
-
-  module _ (text : List ℕ) (c : CheckedView) (none : faults_of_rows rows ≡ []) (plan : PlanView) (made : plan_at rows ≡ Ok plan) where
-    bounded-text : (given : Certificate) → certificate_at text ≡ Ok given → same_names plan.events (certificate_names given) ≡ true → (verified : Result ℕ RankView) → bounded plan given verified ≡ Ok c → certificate_text c ≡ text
-    bounded-text given read named (Ok b) is =
-        let accepted : CheckedView = record { plan = plan; weights = certificate_weights given; bound = b } in
-        let right = chosen (b == given.bound) (Ok accepted) _ c is in
-        let reading : IsReadAs text given (certificate_names given) (certificate_weights given) = record { read = read; names_are = refl; weights_are = refl } in
-        subst (λ (v : CheckedView). certificate_text v ≡ text) (ok_same accepted c right.1)
-        (verified-text rows none plan made text given (certificate_names given) (certificate_weights given) reading named b (eqb-true b given.bound right.0))
-    bounded-text given read named (Err fault) is = absurd (err_not_ok _ c is)
-
-    certified-text : (given : Result Certificate ℕ) → certificate_at text ≡ given → certified plan given ≡ Ok c → certificate_text c ≡ text
-    certified-text (Ok given) read is =
-        let named = chosen (same_names plan.events (certificate_names given)) (bounded plan given (verified_at plan (certificate_weights given))) _ c is in
-        bounded-text given read named.0 (verified_at plan (certificate_weights given)) named.1
-    certified-text (Err number) read is = absurd (err_not_ok _ c is)
-
-  -- what was accepted with a text has that text
-  pub given-text : (text : List ℕ) (c : CheckedView) → checked_with_at rows text ≡ Ok c → certificate_text c ≡ text
-  unfolding checked_with_at certified_plan
-  given-text text c is =
-      let own = first-ok (faults_of_rows rows) (checked (certified_plan text) (plan_at rows)) c is in
-      let from = checked-plan (certified_plan text) (plan_at rows) c own.1 in
-      certified-text text c own.0 from.0 from.1 (certificate_at text) refl from.2
-
-  pub given-again : (text : List ℕ) (c : CheckedView) → checked_with_at rows text ≡ Ok c → IsReadAgain rows c
-  given-again text c is = subst (λ (t : List ℕ). checked_with_at rows t ≡ Ok c) (sym (given-text text c is)) is
-
-words_prop : (events : List (List ℕ)) → IsProp (All IsWord events)
-words_prop events = hlevel (Bool-set)
+words_prop : (plan : PlanView) → IsProp (IsWorded plan)
+words_prop plan = hlevel (Bool-set)
 
 -- and it is so in those of a `Config`
-pub config-again : (config : Config) (c : CheckedView) → checked_at (rows_view config) ≡ Ok c → IsReadAgain (rows_view config) c
-config-again config c is =
-    let words = ∥∥₁_elim config.all_named (words_prop c.plan.events) (λ named. named-words (rows_view config) c is named.0 named.1) in
-    found-again (rows_view config) c is words
+config-words : (config : Config) (plan : PlanView) → plan_at (rows_view config) ≡ Ok plan → IsWorded plan
+config-words config plan made = ∥∥₁_elim config.all_named (words_prop plan) (λ named. named-words (rows_view config) named.0 named.1 plan made)
+
+pub config-again : (config : Config) (c : CheckedView) → IsAcceptedOf (rows_view config) c → IsReadAgain (rows_view config) c
+config-again config c is = again (rows_view config) (config-words config) c is

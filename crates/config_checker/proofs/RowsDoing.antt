@@ -25,7 +25,7 @@ use Rattle.machine_definitions.specs.Shots.{Profile, profile_of_name}
 use Rattle.plan_contributions.specs.DeviceEntries.{Effect, posts, works, changes, enters, leaves, loses, arrives, requests, adds_balls, Device, counter_device, step_device, step_settings, timer_device, device_of, block_event, or_own, block_lists, timer_event, timer_endings, timer_lists}
 use Rattle.plan_contributions.specs.CoilEntries.{defaults_called, own_pulse, item_effect, flipper_device, autofire_device}
 use Rattle.plan_contributions.specs.BallEntries.{drains, ball_event, eject_pulse, ball_lists}
-use Rattle.plan_contributions.specs.SaveEntries.{save_event, save_device, multiball_event, multiball_device, save_device_of}
+use Rattle.plan_contributions.specs.SaveEntries.{save_device, multiball_device, save_device_of}
 use Rattle.plan_contributions.specs.ShotEntries.{shot_events, group_events, shot_lists, state_lists, group_lists}
 use Rattle.plan_rows.specs.Members.{members_of}
 use Rattle.plan_contributions.specs.Contributions.{texts, tag_event}

@@ -1,10 +1,10 @@
 -- The certificate that a text is.
-use Rattle.std.specs.Prelude.{◌≡◌, ◌≢◌, ℕ, ◌+◌, ◌<◌, ◌^◌, nat_lt, ◌==◌, Bool, true, ◌&&◌, ◌||◌, not, if◌then◌else◌, Option, Some, None, option_map, option_and_then, Result, Ok, Err, List, [], ◌∷◌, length, slice_index, codes}
+use Rattle.std.specs.Prelude.{◌≡◌, ◌≢◌, ℕ, ◌+◌, ◌<◌, ◌^◌, nat_lt, ◌==◌, Bool, true, false, ◌&&◌, ◌||◌, not, if◌then◌else◌, Option, Some, None, IfSome, option_map, option_and_then, Result, Ok, Err, List, [], ◌∷◌, length, slice_index, codes}
 use Rattle.std.specs.List.{All, list_all, slice_split}
 use Rattle.std.specs.Str.{bytes_eq}
 use Rattle.yaml_bytes.specs.Bytes.{is_blank}
 use Rattle.yaml_bytes.specs.Numbers.{number_at}
-use Rattle.config_checker.specs.CertificateText.{Certificate, text_of}
+use Rattle.config_checker.specs.CertificateText.{Numbered, Certificate, text_of}
 
 -- ---- what it is
 
@@ -17,11 +17,16 @@ pub record IsWord (word : List ℕ) : Type 0 where
   pub some : word ≢ []
   pub letters : All (λ b. is_in_word b ≡ true) word
 
--- a number below 2^32, and a word for each event with another
+-- each is a word with a number below 2^32
+pub record AreWritable (all : Numbered) : Type 0 where
+  pub names : All (λ s. IsWord s.0) all
+  pub numbers : All (λ s. s.1 < 2 ^ 32) all
+
+-- its bound is below 2^32, and its events, and its switches if it states any, can be written
 pub record IsWritable (c : Certificate) : Type 0 where
   pub bound : c.bound < 2 ^ 32
-  pub names : All (λ e. IsWord e.0) c.events
-  pub weights : All (λ e. e.1 < 2 ^ 32) c.events
+  pub switches : IfSome c.switches AreWritable
+  pub events : AreWritable c.events
 
 -- the text is that of the certificate
 abbrev pub IsTextOf : Certificate → List ℕ → Type 0
@@ -53,9 +58,12 @@ lines text = parts 10 text
 abbrev pub certificate_words : List ℕ → List (List ℕ)
 certificate_words line = parts 32 line
 
--- `pinball-certificate 1`
-abbrev pub is_heading : List ℕ → Bool
-is_heading line = bytes_eq line (codes "pinball-certificate 1")
+-- whether a certificate with this first line states switches; none if no certificate begins so
+abbrev pub has_switches : List ℕ → Option Bool
+has_switches line =
+    if bytes_eq line (codes "pinball-certificate 1")
+    then Some false
+    else (if bytes_eq line (codes "pinball-certificate 2") then Some true else None)
 
 -- `bound N`
 abbrev pub bound_by : List (List ℕ) → Option ℕ
@@ -65,43 +73,69 @@ bound_by other = None
 abbrev pub bound_in : List ℕ → Option ℕ
 bound_in line = bound_by (certificate_words line)
 
--- `event NAME WEIGHT`
+-- `WORD NAME NUMBER`
 abbrev pub named : List ℕ → Option ℕ → Option (List ℕ × ℕ)
-named name weight = if nat_lt 0 (length name) && list_all is_in_word name then option_map (λ w. (name, w)) weight else None
+named name number = if nat_lt 0 (length name) && list_all is_in_word name then option_map (λ n. (name, n)) number else None
 
-abbrev pub event_by : List (List ℕ) → Option (List ℕ × ℕ)
-event_by (word ∷ name ∷ weight ∷ []) = if bytes_eq word (codes "event") then named name (number_in weight) else None
-event_by other = None
+abbrev pub numbered_by : List ℕ → List (List ℕ) → Option (List ℕ × ℕ)
+numbered_by word (first ∷ name ∷ number ∷ []) = if bytes_eq first word then named name (number_in number) else None
+numbered_by word other = None
 
-abbrev pub event_in : List ℕ → Option (List ℕ × ℕ)
-event_in line = event_by (certificate_words line)
+abbrev pub numbered_in : List ℕ → List ℕ → Option (List ℕ × ℕ)
+numbered_in word line = numbered_by word (certificate_words line)
 
--- What is after the last line end is a bad line, unless it is empty. Each function below gives the number of the first
--- bad line, where there is one.
+-- The lines `WORD NAME NUMBER` with this word at the front, and all that comes after them. What is after the last line
+-- end is never one of them.
+abbrev pub with_line : Option (List ℕ × ℕ) → List (List ℕ) → Numbered × List (List ℕ) → Numbered × List (List ℕ)
+with_line None lines rest = ([], lines)
+with_line (Some s) lines rest = (s ∷ rest.0, rest.1)
 
-abbrev pub with_event : Option (List ℕ × ℕ) → ℕ → Result (List (List ℕ × ℕ)) ℕ → Result (List (List ℕ × ℕ)) ℕ
-with_event None n rest = Err n
-with_event (Some e) n (Ok events) = Ok (e ∷ events)
-with_event (Some e) n (Err bad) = Err bad
+abbrev pub front : List ℕ → List (List ℕ) → Numbered × List (List ℕ)
+front word [] = ([], [])
+front word (last ∷ []) = ([], last ∷ [])
+front word (line ∷ next ∷ more) = with_line (numbered_in word line) (line ∷ next ∷ more) (front word (next ∷ more))
 
--- events, from line n on
-abbrev pub events_at : ℕ → List (List ℕ) → Result (List (List ℕ × ℕ)) ℕ
-events_at n [] = Ok []
-events_at n (last ∷ []) = if length last == 0 then Ok [] else Err n
-events_at n (line ∷ next ∷ more) = with_event (event_in line) n (events_at (n + 1) (next ∷ more))
+-- what is after the last line end is a bad line, unless it is empty
+abbrev pub is_end : List (List ℕ) → Bool
+is_end (last ∷ []) = length last == 0
+is_end other = false
 
-abbrev pub with_bound : Option ℕ → Result (List (List ℕ × ℕ)) ℕ → Result Certificate ℕ
-with_bound None rest = Err 2
-with_bound (Some b) (Ok events) = Ok (record { bound = b; events = events })
-with_bound (Some b) (Err bad) = Err bad
+-- events begin at line 3, or after the switches
+abbrev pub first_event : Option Numbered → ℕ
+first_event None = 3
+first_event (Some switches) = 3 + length switches
 
--- the bound, from line 2 on
-abbrev pub bound_at : List (List ℕ) → Result Certificate ℕ
-bound_at (line ∷ next ∷ more) = with_bound (bound_in line) (events_at 3 (next ∷ more))
-bound_at other = Err 2
+-- Each function below gives the number of the first bad line, where there is one.
+
+-- the certificate, where nothing comes after the events
+abbrev pub ended : ℕ → Option Numbered → Numbered × List (List ℕ) → Result Certificate ℕ
+ended bound switches x =
+    if is_end x.1 then Ok (record { bound = bound; switches = switches; events = x.0 }) else Err (first_event switches + length x.0)
+
+-- the events come after the switches
+abbrev pub after_switches : ℕ → Numbered × List (List ℕ) → Result Certificate ℕ
+after_switches bound x = ended bound (Some x.0) (front (codes "event") x.1)
+
+-- all from line 3 on
+abbrev pub body_at : (switched : Bool) → ℕ → List (List ℕ) → Result Certificate ℕ
+body_at false bound lines = ended bound None (front (codes "event") lines)
+body_at true bound lines = after_switches bound (front (codes "switch") lines)
+
+abbrev pub with_bound : (switched : Bool) → Option ℕ → List (List ℕ) → Result Certificate ℕ
+with_bound switched None rest = Err 2
+with_bound switched (Some bound) rest = body_at switched bound rest
+
+-- all from line 2 on
+abbrev pub bound_at : (switched : Bool) → List (List ℕ) → Result Certificate ℕ
+bound_at switched (line ∷ next ∷ more) = with_bound switched (bound_in line) (next ∷ more)
+bound_at switched other = Err 2
+
+abbrev pub with_heading : Option Bool → List (List ℕ) → Result Certificate ℕ
+with_heading None rest = Err 1
+with_heading (Some switched) rest = bound_at switched rest
 
 abbrev pub heading_at : List (List ℕ) → Result Certificate ℕ
-heading_at (line ∷ next ∷ more) = if is_heading line then bound_at (next ∷ more) else Err 1
+heading_at (line ∷ next ∷ more) = with_heading (has_switches line) (next ∷ more)
 heading_at other = Err 1
 
 -- the certificate that a text is, or the number of the first bad line

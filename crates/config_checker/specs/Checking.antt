@@ -1,17 +1,19 @@
 -- What the checker answers.
-use Rattle.std.specs.Prelude.{ℕ, ◌==◌, ◌&&◌, Bool, true, false, if◌then◌else◌, List, [], ◌∷◌, map, Result, Ok, Err}
+use Rattle.std.specs.Prelude.{ℕ, ◌==◌, ◌&&◌, Bool, true, false, if◌then◌else◌, Option, None, Some, List, [], ◌∷◌, map, Result, Ok, Err}
 use Rattle.std.specs.Str.{bytes_eq}
 use Rattle.mpf_config.specs.Rows.{Rows}
 use Rattle.plan_tables.specs.PlanView.{PlanView, name_of_event}
+use Rattle.plan_tables.specs.declared.table.Table.TheVariants.{Switches}
+use Rattle.plan_tables.specs.Limits.{entry_names}
 use Rattle.mpf_plan.specs.PlanOf.{plan_at, PlanRefusal, no_such_name, above_limit}
 use Rattle.cascade_rank.specs.Events.{weight_of}
-use Rattle.cascade_rank.specs.Weights.{bound_of}
+use Rattle.cascade_rank.specs.Weights.{bound_of, switch_costs}
 use Rattle.cascade_rank.specs.Finding.{RankView, found_at, verified_at}
 use Rattle.cascade_rank.specs.Finding as ranks
 use Rattle.written_machine.specs.CheckedView.{CheckedView}
-pub use Rattle.config_checker.specs.FaultView.{CertificateFaultView, bad_line, other_events, short, other_bound, FaultView, row, limit, cycle, bound, certificate}
+pub use Rattle.config_checker.specs.FaultView.{CertificateFaultView, bad_line, other_events, other_switches, short, other_bound, other_cost, FaultView, row, limit, cycle, bound, certificate}
 use Rattle.row_faults.specs.RowFaults.{row_faults}
-use Rattle.config_checker.specs.CertificateText.{Certificate}
+use Rattle.config_checker.specs.CertificateText.{Numbered, Certificate}
 use Rattle.config_checker.specs.CertificateOf.{certificate_at}
 
 -- what is wrong, by the names of the events
@@ -38,19 +40,49 @@ same_names (x ∷ xs) (y ∷ ys) = bytes_eq x y && same_names xs ys
 same_names [] (y ∷ ys) = false
 same_names (x ∷ xs) [] = false
 
-abbrev pub certificate_names : Certificate → List (List ℕ)
-certificate_names c = map (λ e. e.0) c.events
+abbrev pub names_of : Numbered → List (List ℕ)
+names_of all = map (λ s. s.0) all
 
-abbrev pub certificate_weights : Certificate → List ℕ
-certificate_weights c = map (λ e. e.1) c.events
+abbrev pub numbers_of : Numbered → List ℕ
+numbers_of all = map (λ s. s.1) all
 
--- the weights are judged before the bound that is stated
+-- the fault, if switches are stated that are not those of the plan
+abbrev pub other_names : PlanView → Option Numbered → Option CertificateFaultView
+other_names plan None = None
+other_names plan (Some switches) = if same_names (entry_names plan Switches) (names_of switches) then None else Some other_switches
+
+-- other events are reported before other switches
+abbrev pub wrong_names : PlanView → Certificate → Option CertificateFaultView
+wrong_names plan c = if same_names plan.events (names_of c.events) then other_names plan c.switches else Some other_events
+
+-- the first whose number differs from the one at its place in the second list: its name, and the number in the second
+-- list
+abbrev pub first_other : Numbered → List ℕ → Option (List ℕ × ℕ)
+first_other (s ∷ more) (right ∷ rights) = if s.1 == right then first_other more rights else Some (s.0, right)
+first_other [] rights = None
+first_other (s ∷ more) [] = None
+
+-- the first switch whose stated cost is wrong: its name, and its cost at the certificate's weights
+abbrev pub wrong_cost : PlanView → List ℕ → Option Numbered → Option (List ℕ × ℕ)
+wrong_cost plan weights None = None
+wrong_cost plan weights (Some switches) = first_other switches (switch_costs plan (weight_of weights))
+
+abbrev pub costed : PlanView → Certificate → Option (List ℕ × ℕ) → Result CheckedView FaultView
+costed plan c None = Ok (record { plan = plan; weights = numbers_of c.events; bound = c.bound })
+costed plan c (Some s) = Err (certificate (other_cost s.0 s.1))
+
+-- the weights are judged before the bound that is stated, and that before the costs of the switches
 abbrev pub bounded : PlanView → Certificate → Result ℕ RankView → Result CheckedView FaultView
-bounded plan c (Ok b) = if b == c.bound then Ok (record { plan = plan; weights = certificate_weights c; bound = b }) else Err (certificate (other_bound b))
+bounded plan c (Ok b) = if b == c.bound then costed plan c (wrong_cost plan (numbers_of c.events) c.switches) else Err (certificate (other_bound b))
 bounded plan c (Err fault) = Err (named_fault plan fault)
 
+-- the names are judged before the weights
+abbrev pub named_as : PlanView → Certificate → Option CertificateFaultView → Result CheckedView FaultView
+named_as plan c (Some fault) = Err (certificate fault)
+named_as plan c None = bounded plan c (verified_at plan (numbers_of c.events))
+
 abbrev pub certified : PlanView → Result Certificate ℕ → Result CheckedView FaultView
-certified plan (Ok c) = if same_names plan.events (certificate_names c) then bounded plan c (verified_at plan (certificate_weights c)) else Err (certificate other_events)
+certified plan (Ok c) = named_as plan c (wrong_names plan c)
 certified plan (Err number) = Err (certificate (bad_line number))
 
 unfoldable pub certified_plan : List ℕ → PlanView → Result CheckedView FaultView

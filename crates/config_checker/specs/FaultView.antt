@@ -9,10 +9,14 @@ pub data CertificateFaultView : Type 0 where
   bad_line : (number : ℕ) → CertificateFaultView
   -- its events are not those of the plan
   other_events : CertificateFaultView
+  -- its switches are not those of the plan
+  other_switches : CertificateFaultView
   -- the event weighs less than it needs
   short : (name : List ℕ) (needed : ℕ) → CertificateFaultView
-  -- its bound is not that of its weights, which is this
+  -- it states another bound than its weights have; theirs is this one
   other_bound : (bound : ℕ) → CertificateFaultView
+  -- it states another cost of this switch than its weights give; the right cost is this one
+  other_cost : (name : List ℕ) (cost : ℕ) → CertificateFaultView
 
 -- a fault
 pub data FaultView : Type 0 where

@@ -1,9 +1,11 @@
 pub mod CertificateText
 pub mod CertificateOf
-pub mod CertificateRead
 pub mod FaultView
 pub mod Checking
 pub mod View
 pub mod Refused
 pub mod ReadAgain
 pub mod ReportText
+-- No promise rests on these: contracts of private functions cite them, and proofs.
+pub mod CertificateRead
+pub mod Certified

@@ -1,5 +1,5 @@
 -- A certificate that is written is read again.
-use Rattle.std.specs.Prelude.{◌≡◌, ℕ, List, Ok}
+use Rattle.std.specs.Prelude.{◌≡◌, ◌⊎◌, ℕ, List, Ok}
 use Rattle.mpf_config.specs.declared.config.Config.{Config}
 use Rattle.mpf_config.specs.Rows.{Rows}
 use Rattle.mpf_config.specs.View.{rows_view}
@@ -12,14 +12,18 @@ use Rattle.config_checker.specs.Checking.{checked_at, checked_with_at}
 abbrev pub IsReadAgain : Rows → CheckedView → Type 0
 IsReadAgain rows c = checked_with_at rows (certificate_text c) ≡ Ok c
 
--- where the weights were found, whoever made the configuration
+-- So it is for every configuration with the weights that `check` finds.
 abbrev pub FoundIsReadAgain : Type 0
 FoundIsReadAgain = (config : Config) (c : CheckedView) → checked_at (rows_view config) ≡ Ok c → IsReadAgain (rows_view config) c
 
--- where they were those of a certificate, whatever the rows are
+-- So it is for every configuration with the weights of a certificate of either version.
 abbrev pub GivenIsReadAgain : Type 0
-GivenIsReadAgain = (rows : Rows) (text : List ℕ) (c : CheckedView) → checked_with_at rows text ≡ Ok c → IsReadAgain rows c
+GivenIsReadAgain = (config : Config) (text : List ℕ) (c : CheckedView) → checked_with_at (rows_view config) text ≡ Ok c → IsReadAgain (rows_view config) c
 
--- and where they were found for the rows of a bundle
+-- it is accepted with the weights that were found, or with those of some certificate
+abbrev pub IsAcceptedOf : Rows → CheckedView → Type 0
+IsAcceptedOf rows c = (checked_at rows ≡ Ok c) ⊎ ((text : List ℕ) × (checked_with_at rows text ≡ Ok c))
+
+-- So it is for the rows of every bundle, however they were accepted.
 abbrev pub ReadIsReadAgain : Type 0
-ReadIsReadAgain = (bundle : List ℕ) (rows : Rows) (c : CheckedView) → rows_at bundle ≡ Ok rows → checked_at rows ≡ Ok c → IsReadAgain rows c
+ReadIsReadAgain = (bundle : List ℕ) (rows : Rows) (c : CheckedView) → rows_at bundle ≡ Ok rows → IsAcceptedOf rows c → IsReadAgain rows c

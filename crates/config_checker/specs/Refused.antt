@@ -1,17 +1,21 @@
 -- Why a configuration or a certificate is refused.
-use Rattle.std.specs.Prelude.{◌≡◌, ◌≢◌, ℕ, List, [], ◌∷◌, map}
+use Rattle.std.specs.Prelude.{◌≡◌, ◌≢◌, ℕ, ◌<◌, Option, None, Some, List, [], ◌∷◌, length, map, slice_index}
 use Rattle.mpf_config.specs.Rows.{Rows}
-use Rattle.plan_tables.specs.PlanView.{PlanView, name_of_event}
+use Rattle.plan_tables.specs.PlanView.{PlanView, name_of_event, switch_at}
+use Rattle.plan_tables.specs.declared.table.Table.TheVariants.{Switches}
+use Rattle.plan_tables.specs.Limits.{entry_names}
 use Rattle.plan_tables.specs.declared.entries.EventId.{EventId}
 use Rattle.mpf_plan.specs.PlanOf.{plan_of, IsExceeded}
+use Rattle.cascade_rank.specs.Events.{weight_of}
+use Rattle.cascade_rank.specs.Weights.{switch_cost}
 use Rattle.cascade_rank.specs.Finding as ranks
 use Rattle.cascade_rank.specs.Found.{IsUnfound}
 use Rattle.cascade_rank.specs.Verified.{IsVerified, IsFirstShort, IsUnverified}
 use Rattle.config_checker.specs.declared.report.Report.{Report}
 use Rattle.config_checker.specs.declared.report.Report.TheVariants as reports
-use Rattle.config_checker.specs.CertificateText.{Certificate}
+use Rattle.config_checker.specs.CertificateText.{Numbered, Certificate}
 use Rattle.config_checker.specs.CertificateOf.{IsTextOf}
-use Rattle.config_checker.specs.Checking.{CertificateFaultView, bad_line, other_events, short, other_bound, FaultView, row, limit, cycle, bound, certificate, certificate_names, certificate_weights, faults_of_rows}
+use Rattle.config_checker.specs.Checking.{CertificateFaultView, bad_line, other_events, other_switches, short, other_bound, other_cost, FaultView, row, limit, cycle, bound, certificate, names_of, numbers_of, faults_of_rows}
 use Rattle.config_checker.specs.View.{fault_view}
 
 -- the names are those of events that lead to each other: of the cycle that is reported
@@ -41,10 +45,16 @@ IsFaultOf rows (certificate fault) = ⊥
 
 -- ---- with a certificate
 
--- the text is a certificate, and its events are those of the plan
+-- the switches are those of the plan, where they are stated
+abbrev pub HasItsSwitches : PlanView → Option Numbered → Type 0
+HasItsSwitches plan None = Unit {0}
+HasItsSwitches plan (Some switches) = names_of switches ≡ entry_names plan Switches
+
+-- the text is a certificate, and its events and its switches are those of the plan
 pub record IsCertificateOf (plan : PlanView) (text : List ℕ) (c : Certificate) : Type 0 where
   pub text_is : IsTextOf c text
-  pub events : certificate_names c ≡ plan.events
+  pub events : names_of c.events ≡ plan.events
+  pub switches : HasItsSwitches plan c.switches
 
 -- the text is no certificate
 abbrev pub IsNoCertificate : List ℕ → Type 0
@@ -53,34 +63,61 @@ IsNoCertificate text = (c : Certificate) → ¬ (IsTextOf c text)
 pub record HasOtherEvents (plan : PlanView) (text : List ℕ) : Type 0 where
   pub certificate : Certificate
   pub text_is : IsTextOf certificate text
-  pub other : certificate_names certificate ≢ plan.events
+  pub other : names_of certificate.events ≢ plan.events
+
+-- the events are those of the plan, and the switches are not
+pub record HasOtherSwitches (plan : PlanView) (text : List ℕ) : Type 0 where
+  pub certificate : Certificate
+  pub text_is : IsTextOf certificate text
+  pub events : names_of certificate.events ≡ plan.events
+  pub other : ¬ (HasItsSwitches plan certificate.switches)
 
 -- of the events that weigh too little the first has this name, and needs so much
 pub record HasShortEvent (plan : PlanView) (text name : List ℕ) (needed : ℕ) : Type 0 where
   pub certificate : Certificate
   pub of_plan : IsCertificateOf plan text certificate
   pub event : EventId
-  pub first : IsFirstShort plan (certificate_weights certificate) event needed
+  pub first : IsFirstShort plan (numbers_of certificate.events) event needed
   pub name_is : name ≡ name_of_event plan event
 
 -- the weights serve, and have another bound
 pub record HasOtherBound (plan : PlanView) (text : List ℕ) (right : ℕ) : Type 0 where
   pub certificate : Certificate
   pub of_plan : IsCertificateOf plan text certificate
-  pub verified : IsVerified plan (certificate_weights certificate) right
+  pub verified : IsVerified plan (numbers_of certificate.events) right
   pub other : certificate.bound ≢ right
+
+-- the stated cost of the switch of this number is right
+abbrev pub IsRightAt : PlanView → (EventId → ℕ) → Numbered → ℕ → Type 0
+IsRightAt plan w switches n = slice_index (numbers_of switches) n ≡ switch_cost plan w (record { 0 = n })
+
+-- the first switch whose stated cost is wrong has this name, and this is its right cost
+pub record HasOtherCost (plan : PlanView) (text name : List ℕ) (right : ℕ) : Type 0 where
+  pub certificate : Certificate
+  pub of_plan : IsCertificateOf plan text certificate
+  pub verified : IsVerified plan (numbers_of certificate.events) certificate.bound
+  pub switches : Numbered
+  pub stated : certificate.switches ≡ Some switches
+  pub number : ℕ
+  pub within : number < length plan.switches
+  pub other : ¬ (IsRightAt plan (weight_of (numbers_of certificate.events)) switches number)
+  pub first : (n : ℕ) → n < number → IsRightAt plan (weight_of (numbers_of certificate.events)) switches n
+  pub name_is : name ≡ (switch_at plan (record { 0 = number })).name
+  pub right_is : right ≡ switch_cost plan (weight_of (numbers_of certificate.events)) (record { 0 = number })
 
 -- the weights fit, and one of them or their bound is above the limit
 pub record HasTooMuch (plan : PlanView) (text : List ℕ) : Type 0 where
   pub certificate : Certificate
   pub of_plan : IsCertificateOf plan text certificate
-  pub above : IsUnverified plan (certificate_weights certificate) ranks.bound_too_large
+  pub above : IsUnverified plan (numbers_of certificate.events) ranks.bound_too_large
 
 abbrev pub IsCertificateFault : PlanView → List ℕ → CertificateFaultView → Type 0
 IsCertificateFault plan text (bad_line number) = IsNoCertificate text
 IsCertificateFault plan text other_events = HasOtherEvents plan text
+IsCertificateFault plan text other_switches = HasOtherSwitches plan text
 IsCertificateFault plan text (short name needed) = HasShortEvent plan text name needed
 IsCertificateFault plan text (other_bound right) = HasOtherBound plan text right
+IsCertificateFault plan text (other_cost name right) = HasOtherCost plan text name right
 
 -- the fault says what is wrong with the rows or with the certificate
 abbrev pub IsFaultWith : Rows → List ℕ → FaultView → Type 0

@@ -5,14 +5,16 @@ use Rattle.std.specs.Fmt.{decimal}
 use Rattle.plan_tables.specs.Limits.{table_name}
 use Rattle.mpf_config.specs.FaultLine.{spaced}
 use Rattle.row_faults.specs.FaultText.{row_fault_line}
-use Rattle.config_checker.specs.FaultView.{CertificateFaultView, bad_line, other_events, short, other_bound, FaultView, row, limit, cycle, bound, certificate}
+use Rattle.config_checker.specs.FaultView.{CertificateFaultView, bad_line, other_events, other_switches, short, other_bound, other_cost, FaultView, row, limit, cycle, bound, certificate}
 
--- `Line N`, `Events`, `Short EVENT NEEDED` or `Bound N`
+-- `Line N`, `Events`, `Switches`, `Short EVENT NEEDED`, `Bound N` or `Switch SWITCH COST`
 abbrev pub certificate_fault_text : CertificateFaultView → List ℕ
 certificate_fault_text (bad_line number) = codes "Line " ++ decimal number
 certificate_fault_text other_events = codes "Events"
+certificate_fault_text other_switches = codes "Switches"
 certificate_fault_text (short name needed) = codes "Short " ++ name ++ codes " " ++ decimal needed
 certificate_fault_text (other_bound right) = codes "Bound " ++ decimal right
+certificate_fault_text (other_cost name right) = codes "Switch " ++ name ++ codes " " ++ decimal right
 
 -- the line of a fault of a row, `fault 7 Limit TABLE`, `fault 8 Cycle E1 E2 ..`, `fault 9 Bound` or `fault 10 Certificate ..`, and LF
 abbrev pub report_line : FaultView → List ℕ

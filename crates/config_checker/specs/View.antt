@@ -12,13 +12,15 @@ use Rattle.config_checker.specs.declared.report.Fault.TheVariants as faults
 use Rattle.config_checker.specs.declared.report.Report.{Report}
 use Rattle.config_checker.specs.declared.report.Report.TheVariants as reports
 use Rattle.written_machine.specs.CheckedView.{CheckedView}
-use Rattle.config_checker.specs.Checking.{CertificateFaultView, bad_line, other_events, short, other_bound, FaultView, row, limit, cycle, bound, certificate}
+use Rattle.config_checker.specs.Checking.{CertificateFaultView, bad_line, other_events, other_switches, short, other_bound, other_cost, FaultView, row, limit, cycle, bound, certificate}
 
 abbrev pub certificate_fault_view : CertificateFault → CertificateFaultView
 certificate_fault_view (certificates.Line number) = bad_line number
 certificate_fault_view certificates.Events = other_events
+certificate_fault_view certificates.Switches = other_switches
 certificate_fault_view (certificates.Short event needed) = short event.items needed
 certificate_fault_view (certificates.Bound stated) = other_bound stated
+certificate_fault_view (certificates.Switch switch cost) = other_cost switch.items cost
 
 abbrev pub fault_view : Fault → FaultView
 fault_view (faults.Row f) = row (row_fault_view f)

@@ -1,14 +1,21 @@
 //! The certificate of an accepted configuration, as a text.
 
-ghost use Rattle.std.specs.Prelude.{OnOk};
+ghost use Rattle.std.specs.Prelude.{OnOk, codes};
+ghost use Rattle.std.specs.List.{zip};
 ghost use Rattle.std.specs.Io.KnownBytes.{Appends};
-ghost use Rattle.config_checker.specs.CertificateText.{certificate_of, certificate_text, event_line, event_lines};
+ghost use Rattle.plan_tables.specs.declared.table.Table.TheVariants.{Switches};
+ghost use Rattle.plan_tables.specs.Limits.{entry_names};
+ghost use Rattle.cascade_rank.specs.Events.{weight_of};
+ghost use Rattle.cascade_rank.specs.Weights.{switch_costs};
+ghost use Rattle.config_checker.specs.CertificateText.{certificate_of, certificate_text, numbered_line, numbered_lines};
 
 use crate::checked::Checked;
-use plan_tables::entries::EventId;
+use cascade_rank::switch_cost;
+use plan_tables::entries::{EventId, SwitchId};
 use std::io::{self, Write};
 
-/// Writes the certificate: its version, the bound, and each event with its weight.
+/// Writes the certificate, in version 2: the bound, each switch with its cost (a change of it causes
+/// at most so many lines), and each event with its weight.
 ///
 /// # Errors
 ///
@@ -16,14 +23,30 @@ use std::io::{self, Write};
 pub fn write_certificate<W: Write>(checked: &Checked, writer: &mut W) -> io::Result<()>
     ensures { OnOk result (Appends (W.contents writer.old) (W.contents writer.new) (certificate_text checked.now)) }
 {
-    writeln!(writer, "pinball-certificate 1")?;
+    writeln!(writer, "pinball-certificate 2")?;
     writeln!(writer, "bound {}", checked.bound())?;
+    write_switches(checked, writer)?;
     write_events(checked, writer)
+}
+
+/// Writes the lines of the switches.
+fn write_switches<W: Write>(checked: &Checked, writer: &mut W) -> io::Result<()>
+    ensures { OnOk result (Appends (W.contents writer.old) (W.contents writer.new) (numbered_lines (codes "switch")
+        (zip (entry_names checked.now.plan Switches) (switch_costs checked.now.plan (weight_of checked.now.weights))))) }
+{
+    let plan = checked.plan();
+    let weights = checked.weights();
+    for number in 0..plan.switch_count() {
+        let switch = SwitchId(number as u16);
+        let cost = switch_cost(plan, weights, switch);
+        write_line(b"switch", plan.switch_name(switch), cost, writer)?;
+    }
+    Ok(())
 }
 
 /// Writes the lines of the events.
 fn write_events<W: Write>(checked: &Checked, writer: &mut W) -> io::Result<()>
-    ensures { OnOk result (Appends (W.contents writer.old) (W.contents writer.new) (event_lines (certificate_of checked.now).events)) }
+    ensures { OnOk result (Appends (W.contents writer.old) (W.contents writer.new) (numbered_lines (codes "event") (certificate_of checked.now).events)) }
 {
     let plan = checked.plan();
     let weights = checked.weights();
@@ -32,16 +55,17 @@ fn write_events<W: Write>(checked: &Checked, writer: &mut W) -> io::Result<()>
         let Some(weight) = weights.get(event) else {
             unreachable!()
         };
-        write_event(plan.event_name(event), weight, writer)?;
+        write_line(b"event", plan.event_name(event), weight, writer)?;
     }
     Ok(())
 }
 
-/// Writes the line of an event.
-fn write_event<W: Write>(name: &[u8], weight: u32, writer: &mut W) -> io::Result<()>
-    ensures { OnOk result (Appends (W.contents writer.old) (W.contents writer.new) (event_line (name.now, weight))) }
+/// Writes the line `WORD NAME NUMBER`.
+fn write_line<W: Write>(word: &[u8], name: &[u8], number: u32, writer: &mut W) -> io::Result<()>
+    ensures { OnOk result (Appends (W.contents writer.old) (W.contents writer.new) (numbered_line word.now (name.now, number))) }
 {
-    writer.write_all(b"event ")?;
+    writer.write_all(word)?;
+    writer.write_all(b" ")?;
     writer.write_all(name)?;
-    writeln!(writer, " {weight}")
+    writeln!(writer, " {number}")
 }

@@ -1,36 +1,42 @@
 //! The reader of a certificate's text.
 
-ghost use Rattle.std.specs.Prelude.{◌≡◌, ◌<◌, ◌+◌, ◌==◌, ◌&&◌, not, ℕ, Some, Err, [], ◌∷◌, IfOk, IfSome, MatchOption, length, nat_lt, option_map, position};
+ghost use Rattle.std.specs.Prelude.{Bool, ◌≡◌, ◌<◌, ◌≤◌, ◌+◌, ◌==◌, ◌&&◌, ◌^◌, not, Some, Err, [], ◌∷◌, IfOk, IfSome, MatchOption, length, nat_lt, option_map, position, codes};
 ghost use Rattle.std.specs.List.{list_all};
-ghost use Rattle.config_checker.specs.CertificateOf.{is_in_word as in_word, is_plain, number_in, parts, lines, certificate_words, bound_in, event_in, with_event, events_at, with_bound, bound_at, certificate_at};
-ghost use Rattle.config_checker.specs.CertificateRead.{certificate_event_view, GivesCertificate};
+ghost use Rattle.config_checker.specs.CertificateOf.{is_in_word as in_word, is_plain, number_in, parts, lines, certificate_words, has_switches as has_switches_of, bound_in, numbered_in, front as front_of, first_event as first_event_of, ended, with_line, bound_at, body_at, certificate_at};
+ghost use Rattle.config_checker.specs.CertificateRead.{line_view, lines_view, GivesCertificate};
 ghost use Rattle.config_checker.specs.declared.certificate_reader.ReadFault.TheVariants.{NoMemory};
 
-use std::alloc::{AllocFailed, Global};
+use std::alloc::{AllocError, Global};
 use yaml_bytes::{is_blank, number};
 
-const HEADING: &[u8] = b"pinball-certificate 1";
+const VERSION_1: &[u8] = b"pinball-certificate 1";
+
+const VERSION_2: &[u8] = b"pinball-certificate 2";
 
 const BOUND: &[u8] = b"bound";
 
+const SWITCH: &[u8] = b"switch";
+
 const EVENT: &[u8] = b"event";
 
-/// The number of the first line that states an event.
-const FIRST_EVENT: usize = 3;
+/// The number of the first line after the bound.
+const BODY: usize = 3;
 
-/// A certificate: the bound, the names of the events, and at the same places their weights.
+/// A certificate, as its text states it.
 #[derive(Drop)]
 pub(crate) struct CertificateLines<'a> {
     pub(crate) bound: u32,
-    pub(crate) names: Vec<&'a [u8]>,
-    pub(crate) weights: Vec<u32>,
+    /// The switches with their costs; none in version 1.
+    pub(crate) switches: Option<Vec<Line<'a>>>,
+    /// The events with their weights.
+    pub(crate) events: Vec<Line<'a>>,
 }
 
-/// An event, by its name, with its weight.
+/// What a line `WORD NAME NUMBER` states.
 #[derive(Clone, Copy)]
-struct Event<'a> {
-    name: &'a [u8],
-    weight: u32,
+pub(crate) struct Line<'a> {
+    pub(crate) name: &'a [u8],
+    pub(crate) number: u32,
 }
 
 /// Why there is no certificate.
@@ -42,66 +48,120 @@ pub(crate) enum ReadFault {
     Line(usize),
 }
 
-impl<T: Drop> From<AllocFailed<T>> for ReadFault {
+impl From<AllocError> for ReadFault {
     ghost from_gives = { λ _ e. e ≡ NoMemory };
 
-    fn from(_e: AllocFailed<T>) -> ReadFault {
+    fn from(_e: AllocError) -> ReadFault {
         ReadFault::NoMemory
     }
 }
 
-/// The certificate that a text is; or the number of its first bad line.
+/// The certificate that a text is, of version 1 or 2; or the number of its first bad line.
 pub(crate) fn read_certificate<'a>(
     alloc: Global,
     text: &'a [u8],
 ) -> Result<CertificateLines<'a>, ReadFault>
-    ensures exact { GivesCertificate result (certificate_at text.now) }
-    ensures count { IfOk result (λ lines. length lines.weights.items ≡ length lines.names.items) }
+    ensures { GivesCertificate result (certificate_at text.now) }
 {
-    let rest = after_heading(text).ok_or(ReadFault::Line(1))?;
-    let (bound, mut rest) = next_bound(rest).ok_or(ReadFault::Line(2))?;
-    let mut names = Vec::new(alloc);
-    let mut weights = Vec::new(alloc);
-    while !rest.is_empty() {
-        let number = FIRST_EVENT + names.len();
-        let (event, after) = next_event(rest).ok_or(ReadFault::Line(number))?;
-        names.push(event.name)?;
-        weights.push(event.weight)?;
-        rest = after;
+    let (switched, rest) = after_heading(text).ok_or(ReadFault::Line(1))?;
+    let (bound, rest) = next_bound(rest).ok_or(ReadFault::Line(2))?;
+    if !switched {
+        return read_events(alloc, bound, None, rest);
+    }
+    let (switches, rest) = front(alloc, rest, SWITCH)?;
+    read_events(alloc, bound, Some(switches), rest)
+}
+
+/// The certificate with this bound, these switches and the events of the text, if the text has
+/// nothing else.
+fn read_events<'a>(
+    alloc: Global,
+    bound: u32,
+    switches: Option<Vec<Line<'a>>>,
+    text: &'a [u8],
+) -> Result<CertificateLines<'a>, ReadFault>
+    requires { IfSome switches (λ v. length v.items + length text.now < 2 ^ 63) }
+    ensures { GivesCertificate result (ended bound (option_map (λ v. lines_view v.items) switches.entry) (front_of (codes "event") (lines text.now))) }
+{
+    let (events, rest) = front(alloc, text, EVENT)?;
+    if !rest.is_empty() {
+        return Err(ReadFault::Line(first_event(&switches) + events.len()));
     }
     Ok(CertificateLines {
         bound,
-        names,
-        weights,
+        switches,
+        events,
     })
 }
 
-/// The text after the first line, if that is the heading.
-fn after_heading(text: &[u8]) -> Option<&[u8]>
-    ensures { MatchOption result (certificate_at text.now ≡ Err 1) (λ rest. certificate_at text.now ≡ bound_at (lines rest.now)) }
+/// The number of the line where the events begin.
+fn first_event(switches: &Option<Vec<Line<'_>>>) -> usize
+    ensures { result ≡ first_event_of (option_map (λ v. lines_view v.items) switches.now) }
+{
+    match switches {
+        None => BODY,
+        Some(switches) => BODY + switches.len(),
+    }
+}
+
+/// The lines `WORD NAME NUMBER` with this word at the front of a text, and the text after them.
+fn front<'a>(
+    alloc: Global,
+    text: &'a [u8],
+    word: &[u8],
+) -> Result<(Vec<Line<'a>>, &'a [u8]), AllocError>
+    ensures lines { IfOk result (λ x. front_of word.now (lines text.now) ≡ (lines_view x.0.items, lines x.1.now)) }
+    ensures shorter { IfOk result (λ x. length x.0.items + length x.1.now ≤ length text.now) }
+{
+    let mut found = Vec::new(alloc);
+    let mut rest = text;
+    while let Some((line, after)) = next_line(rest, word) {
+        found.push(line)?;
+        rest = after;
+    }
+    Ok((found, rest))
+}
+
+/// Whether a certificate with this first line states switches, and the text after that line.
+fn after_heading(text: &[u8]) -> Option<(bool, &[u8])>
+    ensures { MatchOption result (certificate_at text.now ≡ Err 1) (λ x. certificate_at text.now ≡ bound_at x.0 (lines x.1.now)) }
 {
     let (line, rest) = first_line(text)?;
-    if line == HEADING { Some(rest) } else { None }
+    let switched = has_switches(line)?;
+    Some((switched, rest))
+}
+
+/// Whether a certificate with this first line states switches; none if no certificate begins so.
+fn has_switches(line: &[u8]) -> Option<bool>
+    ensures { result ≡ has_switches_of line.now }
+{
+    if line == VERSION_1 {
+        Some(false)
+    } else if line == VERSION_2 {
+        Some(true)
+    } else {
+        None
+    }
 }
 
 /// The bound that the first line states, and the text after that line.
 fn next_bound(text: &[u8]) -> Option<(u32, &[u8])>
-    ensures { MatchOption result (bound_at (lines text.now) ≡ Err 2) (λ x. bound_at (lines text.now) ≡ with_bound (Some x.0) (events_at 3 (lines x.1.now))) }
+    ensures { (switched : Bool) → MatchOption result (bound_at switched (lines text.now) ≡ Err 2) (λ x. bound_at switched (lines text.now) ≡ body_at switched x.0 (lines x.1.now)) }
 {
     let (line, rest) = first_line(text)?;
     let bound = read_bound(line)?;
     Some((bound, rest))
 }
 
-/// The event that the first line states, and the text after that line.
-fn next_event(text: &[u8]) -> Option<(Event<'_>, &[u8])>
-    requires { 0 < length text.now }
-    ensures event { (n : ℕ) → MatchOption result (events_at n (lines text.now) ≡ Err n) (λ x. events_at n (lines text.now) ≡ with_event (Some (certificate_event_view x.0)) n (events_at (n + 1) (lines x.1.now))) }
+/// The first line, if it is `WORD NAME NUMBER` with this word, and the text after it.
+fn next_line<'a>(text: &'a [u8], word: &[u8]) -> Option<(Line<'a>, &'a [u8])>
+    ensures line { MatchOption result (front_of word.now (lines text.now) ≡ ([], lines text.now))
+        (λ x. front_of word.now (lines text.now) ≡ with_line (Some (line_view x.0)) [] (front_of word.now (lines x.1.now))) }
     ensures shorter { IfSome result (λ x. length x.1.now < length text.now) }
 {
     let (line, rest) = first_line(text)?;
-    let event = read_event(line)?;
-    Some((event, rest))
+    let line = read_line(line, word)?;
+    Some((line, rest))
 }
 
 /// The bound that a line states: `bound N`.
@@ -116,17 +176,17 @@ fn read_bound(line: &[u8]) -> Option<u32>
     }
 }
 
-/// The event that a line states: `event NAME WEIGHT`.
-fn read_event(line: &[u8]) -> Option<Event<'_>>
-    ensures { option_map certificate_event_view result ≡ event_in line.now }
+/// The number that a line states for a name by this word: `WORD NAME NUMBER`.
+fn read_line<'a>(line: &'a [u8], word: &[u8]) -> Option<Line<'a>>
+    ensures { option_map line_view result ≡ numbered_in word.now line.now }
 {
-    let (word, rest) = first_word(line)?;
-    let (name, weight) = first_word(rest)?;
-    if word != EVENT || !is_name(name) {
+    let (first, rest) = first_word(line)?;
+    let (name, number) = first_word(rest)?;
+    if first != word || !is_name(name) {
         return None;
     }
-    let weight = read_number(weight)?;
-    Some(Event { name, weight })
+    let number = read_number(number)?;
+    Some(Line { name, number })
 }
 
 /// The first line of a text and what is after its line end, if it has one.

@@ -50,7 +50,7 @@ impl Checked {
         &self.plan
     }
 
-    /// The weight of each event, 1 to 10,000: posting it once causes at most so many lines.
+    /// The weight of each event, 1 to 100,000: posting it once causes at most so many lines.
     pub fn weights(&self) -> &Weights
         ensures weights { result.now ≡ self.now.weights }
         ensures accepted { IsAccepted self.now }
@@ -59,7 +59,7 @@ impl Checked {
         &self.weights
     }
 
-    /// The bound, 0 to 10,000: one stimulus causes at most so many lines.
+    /// The bound, 0 to 100,000: one stimulus causes at most so many lines.
     pub fn bound(&self) -> u32
         ensures bound { result ≡ self.now.bound }
         ensures accepted { IsAccepted self.now }

@@ -1,27 +1,27 @@
 //! The checker.
 
-ghost use Rattle.std.specs.Prelude.{◌≡◌, ◌==◌, [], Ok, IfOk, OnOk, IfErr, map};
+ghost use Rattle.std.specs.Prelude.{◌≡◌, [], Ok, IfOk, OnOk, IfErr, map};
 ghost use Rattle.mpf_config.specs.View.{rows_view};
 ghost use Rattle.mpf_plan.specs.PlanOf.{plan_at};
 ghost use Rattle.cascade_rank.specs.Weights.{IsLeastFitting};
 ghost use Rattle.written_machine.specs.Accepted.{IsAccepted};
 ghost use Rattle.written_machine.specs.GoodRun.{IsGood};
-ghost use Rattle.config_checker.specs.CertificateText.{certificate_text};
+ghost use Rattle.config_checker.specs.CertificateText.{IsCertificateText};
 ghost use Rattle.row_faults.specs.View.{row_faults_view};
 ghost use Rattle.config_checker.specs.FaultView.{row};
 ghost use Rattle.config_checker.specs.View.{GivesChecked, faults_view};
-ghost use Rattle.config_checker.specs.Checking.{same_names, faults_of_rows, checked_at, checked_with_at};
+ghost use Rattle.config_checker.specs.Checking.{faults_of_rows, checked_at, checked_with_at};
 ghost use Rattle.config_checker.specs.Refused.{IsLimitFault, IsFaultOf, IsFaultWith, Reports, ReportsOne, ReportsOwn};
 
-use crate::certificate_reader::{CertificateLines, ReadFault, read_certificate};
+use crate::certified::certified;
 use crate::checked::Checked;
-use crate::report::{CertificateFault, Fault, Report};
+use crate::report::{Fault, Report};
 use crate::reporting::{named_fault, report_of};
-use cascade_rank::{Bound, Weights, find, verify};
+use cascade_rank::{find, verify};
 use machine_definitions::Definitions;
 use mpf_config::config::Config;
 use mpf_plan::{PlanFault, plan_complete};
-use plan_tables::{EventId, Plan};
+use plan_tables::Plan;
 use row_faults::{RowFault, faults_of_rows};
 use std::alloc::{AllocError, Global};
 
@@ -39,7 +39,7 @@ use std::alloc::{AllocError, Global};
 ///
 /// - `Limit`: a table is above its limit; the first such table is reported.
 /// - `Cycle`: events lead to each other without end, so no weights fit.
-/// - `Bound`: one of the least weights or their bound is above 10,000.
+/// - `Bound`: one of the least weights or their bound is above 100,000.
 ///
 /// `NoMemory`: memory ran out.
 pub fn check(alloc: Global, config: &Config) -> Result<Checked, Report>
@@ -62,8 +62,9 @@ pub fn check(alloc: Global, config: &Config) -> Result<Checked, Report>
     Ok(Checked::new(plan, weights, bound.0))
 }
 
-/// Checks a configuration with a certificate. What it accepts has a plan, the weights of the
-/// certificate, whichever they are, and their bound; and every run of the plan is good.
+/// Checks a configuration with a certificate of version 1 or 2. What it accepts has a plan, the
+/// weights of the certificate, whichever they are, and their bound; and every run of the plan is
+/// good.
 ///
 /// # Errors
 ///
@@ -77,41 +78,26 @@ pub fn check(alloc: Global, config: &Config) -> Result<Checked, Report>
 /// - `Limit`: a table is above its limit; the first such table is reported.
 /// - `Certificate(Line)`: the text is no certificate.
 /// - `Certificate(Events)`: its events are not those of the plan.
+/// - `Certificate(Switches)`: it is of version 2, and its switches are not those of the plan.
 /// - `Certificate(Short)`: an event weighs less than it needs.
-/// - `Bound`: a weight or the bound is above 10,000.
+/// - `Bound`: a weight or the bound is above 100,000.
 /// - `Certificate(Bound)`: it states another bound than that of its weights.
+/// - `Certificate(Switch)`: it is of version 2, and states another cost of a switch than its weights
+///   give; the first such switch is reported.
 ///
 /// `NoMemory`: memory ran out.
 pub fn check_with(alloc: Global, config: &Config, certificate: &[u8]) -> Result<Checked, Report>
     ensures exact { GivesChecked result (checked_with_at (rows_view config.now) certificate.now) }
     ensures plan { IfOk result (λ c. plan_at (rows_view config.now) ≡ Ok c.plan) }
     ensures accepted { IfOk result (λ c. IsAccepted c) }
-    ensures text { IfOk result (λ c. certificate_text c ≡ certificate.now) }
+    ensures text { IfOk result (λ c. IsCertificateText c certificate.now) }
     ensures good { IfOk result (λ c. IsGood c) }
     ensures refused { IfErr result (λ report. Reports (IsFaultWith (rows_view config.now) certificate.now) (rows_view config.now) report) }
 {
     refuse_own(alloc, config)?;
     let plan = plan_of(alloc, config)?;
-    let CertificateLines {
-        bound: stated,
-        names,
-        weights,
-    } = match read_certificate(alloc, certificate) {
-        Ok(lines) => lines,
-        Err(ReadFault::NoMemory) => return Err(Report::NoMemory),
-        Err(ReadFault::Line(number)) => {
-            return Err(report_of(alloc, Fault::Certificate(CertificateFault::Line(number))));
-        }
-    };
-    if !are_events(&plan, &names) {
-        return Err(report_of(alloc, Fault::Certificate(CertificateFault::Events)));
-    }
-    let weights = Weights::of(weights);
-    match verify(&plan, &weights) {
-        Ok(bound) if is_stated(bound, stated) => Ok(Checked::new(plan, weights, bound.0)),
-        Ok(bound) => Err(report_of(alloc, Fault::Certificate(CertificateFault::Bound(bound.0)))),
-        Err(fault) => Err(report_of(alloc, named_fault(alloc, &plan, fault)?)),
-    }
+    let (weights, bound) = certified(alloc, &plan, certificate)?;
+    Ok(Checked::new(plan, weights, bound.0))
 }
 
 /// Refuses a configuration whose rows have faults of their own.
@@ -152,26 +138,4 @@ fn plan_of(alloc: Global, config: &Config) -> Result<Plan, Report>
         Err(PlanFault::NoSuchName) => unreachable!(),
         Err(PlanFault::Limit(table)) => Err(report_of(alloc, Fault::Limit(table))),
     }
-}
-
-/// Whether these are the names of the plan's events, in the order of their numbers.
-fn are_events(plan: &Plan, names: &[&[u8]]) -> bool
-    ensures { result ≡ same_names plan.now.events (map (λ n. n.now) names.now) }
-{
-    if names.len() != plan.event_count() {
-        return false;
-    }
-    for (number, name) in names.iter().enumerate() {
-        if plan.event_name(EventId(number as u16)) != *name {
-            return false;
-        }
-    }
-    true
-}
-
-/// Whether the bound that weights have is the one that is stated.
-fn is_stated(bound: Bound, stated: u32) -> bool
-    ensures { result ≡ (bound.0 == stated) }
-{
-    bound.0 == stated
 }

@@ -3,6 +3,7 @@
 
 pub mod certificate;
 mod certificate_reader;
+mod certified;
 pub mod checked;
 pub mod checker;
 pub mod law;

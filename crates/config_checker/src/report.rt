@@ -17,12 +17,18 @@ pub enum CertificateFault {
     /// Its events are not those of the plan, in the order of their numbers.
     #[error("Events")]
     Events,
+    /// Its switches are not those of the plan, in the order of their numbers.
+    #[error("Switches")]
+    Switches,
     /// The first event that weighs less than it needs, by its name, and the weight that it needs.
     #[error("Short {1}")]
     Short(Vec<u8>, u128),
     /// It states another bound than this one, which its weights have.
     #[error("Bound {0}")]
     Bound(u32),
+    /// The first switch whose stated cost is wrong, by its name, and the cost that the weights give it.
+    #[error("Switch {1}")]
+    Switch(Vec<u8>, u32),
 }
 
 /// A fault of a configuration.
@@ -37,7 +43,7 @@ pub enum Fault {
     /// Each of these events leads to the next, and the last one to the first. Here are their names.
     #[error("Cycle")]
     Cycle(Vec<Vec<u8>>),
-    /// A weight or the bound of a stimulus is above 10,000.
+    /// A weight or the bound of a stimulus is above 100,000.
     #[error("Bound")]
     Bound,
     /// The certificate is not one of this configuration.

@@ -62,11 +62,17 @@ fn write_certificate_fault<W: Write>(fault: &CertificateFault, writer: &mut W) -
     match fault {
         CertificateFault::Line(number) => write!(writer, "Line {number}"),
         CertificateFault::Events => writer.write_all(b"Events"),
+        CertificateFault::Switches => writer.write_all(b"Switches"),
         CertificateFault::Short(event, needed) => {
             writer.write_all(b"Short ")?;
             writer.write_all(event)?;
             write!(writer, " {needed}")
         }
         CertificateFault::Bound(bound) => write!(writer, "Bound {bound}"),
+        CertificateFault::Switch(switch, cost) => {
+            writer.write_all(b"Switch ")?;
+            writer.write_all(switch)?;
+            write!(writer, " {cost}")
+        }
     }
 }

@@ -1,8 +1,11 @@
 //! Plans of small configurations with the limits of their tables, and what is made of a plan: handlers
 //! and weights. Also queues.
 
+ghost use Rattle.std.specs.Prelude.{◌≡◌, length};
+ghost use Rattle.cascade_rank.specs.Weights.{IsWithinLimit};
+
 use crate::cases::{Subject, add, assert_rows};
-use cascade_rank::{Weights, find, verify};
+use cascade_rank::{Weights, find, switch_cost, verify};
 use event_queue::{Handlers, Posted, Queue};
 use mpf_config::Config;
 use mpf_plan::plan;
@@ -54,6 +57,28 @@ fn add_weights(pen: &mut Pen, weights: &Weights) {
     }
 }
 
+/// Adds what each switch costs at the least weights. Then adds the bound, which is the greatest of these costs and of
+/// those of alarms.
+fn add_costs(pen: &mut Pen, plan: &Plan) {
+    match find(pen.alloc, plan) {
+        Ok(weights) => {
+            add_switch_costs(pen, plan, &weights);
+            add(pen, &verify(plan, &weights));
+        }
+        Err(_) => pen.put("none"),
+    }
+}
+
+/// Adds what each switch costs at weights.
+fn add_switch_costs(pen: &mut Pen, plan: &Plan, weights: &Weights)
+    requires weights { length weights.now ≡ length plan.now.events }
+    requires limit { IsWithinLimit plan.now weights.now }
+{
+    for number in 0..plan.switch_count() {
+        add(pen, &switch_cost(plan, weights, SwitchId(number as u16)));
+    }
+}
+
 /// Adds what `verify` says of these weights.
 fn judged(pen: &mut Pen, plan: &Plan, numbers: &str) {
     let mut weights = Vec::new(pen.alloc);
@@ -78,6 +103,7 @@ fn told(pen: &mut Pen, plan: &Plan, word: &str, rest: &str) {
         "handlers" => handled(pen, plan, rest),
         "find" => add_least(pen, plan),
         "verify" => judged(pen, plan, rest),
+        "costs" => add_costs(pen, plan),
         "queue" => queued(pen, rest),
         _ => add_entry(pen, plan, word, rest.parse::<u16>().unwrap_or(u16::MAX)),
     }
@@ -317,8 +343,41 @@ verify 3 1 1 0 => Err(Short(EventId(3), 1))
 verify 2 1 1 => Err(WrongEvents)
 verify 3 1 => Err(WrongEvents)
 verify 3 1 1 1 1 => Err(WrongEvents)
-verify 9999 1 1 1 => Ok(Bound(10000))
-verify 10000 1 1 1 => Err(BoundTooLarge)
+verify 99999 1 1 1 => Ok(Bound(100000))
+verify 100000 1 1 1 => Err(BoundTooLarge)
+costs => 4 Ok(Bound(4))
+
+switches:
+  s_a:
+  s_b:
+    events_when_deactivated: x y y
+event_player:
+  s_a_active: x
+?
+costs => 3 5 Ok(Bound(5))
+
+switches:
+  s_ball:
+  s_flip:
+coils:
+  c_main:
+  c_hold: {allow_enable: yes}
+flippers:
+  f: {main_coil: c_main, hold_coil: c_hold, activation_switch: s_flip}
+ball_devices:
+  d: {ball_switches: s_ball, eject_coil: c_main}
+?
+costs => 2 4 Ok(Bound(5))
+
+switches:
+  s_ball:
+  s_field: {tags: playfield_active}
+coils:
+  c:
+ball_devices:
+  d: {ball_switches: s_ball, eject_coil: c}
+?
+costs => 2 8 Ok(Bound(8))
 
 event_player:
   a: b, b
@@ -326,8 +385,9 @@ event_player:
 ?
 find => 3 1 5
 verify 1 2147483648 3 => Err(Short(EventId(0), 4294967297))
-verify 3 1 10000 => Ok(Bound(0))
-verify 3 1 10001 => Err(BoundTooLarge)
+verify 3 1 100000 => Ok(Bound(0))
+verify 3 1 100001 => Err(BoundTooLarge)
+costs => Ok(Bound(0))
 
 event_player:
   e0: e1
@@ -349,36 +409,38 @@ event_player:
 find => 4096«4095  ~»
 
 event_player:
-  e0: «99 e1, »
-  e1: «100 e2, »
+  e0: «369 e1, »
+  e1: «270 e2, »
 ?
-find => 10000 101 1
-verify 10000 101 1 => Ok(Bound(0))
+find => 100000 271 1
+verify 100000 271 1 => Ok(Bound(0))
 
 event_player:
-  e0: «100 e1, »
-  e1: «99 e2, »
+  e0: «400 e1, »
+  e1: «249 e2, »
 ?
 find => BoundTooLarge
-verify 10001 100 1 => Err(BoundTooLarge)
+verify 100001 250 1 => Err(BoundTooLarge)
 
 switches:
   s_left:
 event_player:
-  s_left_active: «98 a, » «100 b, »
-  a: «100 b, »
+  s_left_active: «318 a, » «146 b, »
+  a: «313 b, »
 ?
-find => 9999 1 101 1
-verify 9999 1 101 1 => Ok(Bound(10000))
+find => 99999 1 314 1
+verify 99999 1 314 1 => Ok(Bound(100000))
+costs => 100000 Ok(Bound(100000))
 
 switches:
   s_left:
 event_player:
-  s_left_active: «99 a, »
-  a: «100 b, »
+  s_left_active: «318 a, » «147 b, »
+  a: «313 b, »
 ?
 find => BoundTooLarge
-verify 10000 1 101 1 => Err(BoundTooLarge)
+verify 100000 1 314 1 => Err(BoundTooLarge)
+costs => none
 
 event_player:
   e0: e1, e0

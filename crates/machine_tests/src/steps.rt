@@ -9,6 +9,7 @@ use pin_rig::{Input, Rig};
 use plan_tables::SwitchId;
 use std::alloc::Global;
 use worked_rows::Pen;
+use written_machine::Line;
 
 /// The word of a text at this place as a number, the greatest where it is none.
 pub(crate) fn number_at(text: &str, place: usize) -> u64 {
@@ -33,10 +34,19 @@ pub(crate) fn input_of(text: &str) -> Input {
     }
 }
 
+/// Adds lines, or how many there are if these are more than 100.
+fn add_lines(pen: &mut Pen, lines: &[Line]) {
+    if lines.len() > 100 {
+        add(pen, &lines.len());
+    } else {
+        add(pen, &lines);
+    }
+}
+
 /// Adds the lines of an input, or the number and the name of its refusal.
 pub(crate) fn add_step<D: Device, B: Board>(pen: &mut Pen, rig: &mut Rig<'_, D, B>, input: Input) {
     match rig.step(input) {
-        Ok(lines) => add(pen, &lines),
+        Ok(lines) => add_lines(pen, lines),
         Err(fault) => add_fault(pen, fault.number(), fault),
     }
 }
@@ -48,7 +58,7 @@ fn add_steps<D: Device, B: Board>(pen: &mut Pen, rig: &mut Rig<'_, D, B>, inputs
         add_step(pen, rig, input_of(text));
         add(pen, &(rig.now(), rig.next_due()));
     }
-    add(pen, &rig.trace());
+    add_lines(pen, rig.trace());
 }
 
 /// Answers to inputs, in a machine without devices.
@@ -158,8 +168,23 @@ Line { moment: 25, owner: Machine, happening: Event(EventId(5)) }] (25, Some(26)
 [Line { moment: 25, owner: Machine, happening: Switch(SwitchId(2), false) }, \
 Line { moment: 25, owner: Machine, happening: Event(EventId(5)) }]";
 
+// The bound is at its limit, and the activation causes as many lines. Nearly all of its events wait at once.
+const MOST: &str = "\
+switches:
+  s: {debounce: quick}
+event_player:
+  s_active: «318 a, » «146 b, »
+  a: «313 b, »
+?
+steps 7 0 1,8 0 0 => 100000 (7, None) \
+[Line { moment: 8, owner: Machine, happening: Switch(SwitchId(0), false) }, \
+Line { moment: 8, owner: Machine, happening: Event(EventId(1)) }] (8, None) \
+[Line { moment: 8, owner: Machine, happening: Switch(SwitchId(0), false) }, \
+Line { moment: 8, owner: Machine, happening: Event(EventId(1)) }]";
+
 #[test]
 fn steps(rt: HostRuntime) {
     assert_rows(&rt, Subject::Rig, STEPS);
     assert_rows(&rt, Subject::Rig, LEVELS);
+    assert_rows(&rt, Subject::Rig, MOST);
 }

@@ -1,5 +1,5 @@
 -- What was accepted of a bundle is accepted again with its certificate, which is not too long to be read.
-use Rattle.std.proofs.Common.{◌≡◌, ℕ, ◌≤◌, ◌^◌, List, ◌++◌, length, None, Some, Result, Ok, Err, refl, ap, sym, ◌∙◌}
+use Rattle.std.proofs.Common.{◌≡◌, ℕ, ◌≤◌, ◌^◌, List, ◌++◌, length, None, Some, Result, Ok, Err, inl, refl, ap, sym, ◌∙◌}
 use Rattle.mpf_config.specs.Rows.{Rows, RowsFault}
 use Rattle.mpf_config.specs.Reading.{rows_at}
 use Rattle.written_machine.specs.CheckedView.{CheckedView}
@@ -23,7 +23,7 @@ replied-again : (bundle : List ℕ) (read : Result Rows RowsFault) (c : CheckedV
     → replied (Some (certificate_text c)) read ≡ replied None read
 replied-again bundle (Ok rows) c is accepted =
     let first = accepted_is (checked_at rows) c accepted in
-    let again = read-again rows bundle c is first in
+    let again = read-again rows bundle c is (inl first) in
     λ i. record { notes = rows.notes; answer = answer_of ((again ∙ sym first) i) }
 replied-again bundle (Err f) c is accepted = absurd cc
 

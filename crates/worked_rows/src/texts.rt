@@ -3,6 +3,7 @@
 /// Each text is between its name and `(end)`:
 ///
 /// - one switch, whose activation posts two events;
+/// - two switches, of which the second is dearer when it becomes inactive;
 /// - one switch, whose activation posts an event, which posts another one twice;
 /// - two modes that start together, of which the one that is listed last has the higher priority;
 /// - three machines in one bundle: a mode with a timer, a game with two ball devices, and a counter.
@@ -15,6 +16,18 @@ switches:
     number: 1
 event_player:
   s_left_active: a, b
+(end)
+(two switches)
+@ config/config.yaml
+#config_version=6
+switches:
+  s_left:
+    number: 1
+  s_right:
+    number: 2
+event_player:
+  s_left_active: a
+  s_right_inactive: a, b
 (end)
 (twice posted)
 @ config/config.yaml

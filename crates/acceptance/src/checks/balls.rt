@@ -113,8 +113,9 @@ ball_devices:
   d: {ball_switches: s, eject_coil: c}
 => Yes
 yes
-pinball-certificate 1
+pinball-certificate 2
 bound 5
+switch s 2
 event s_active 1
 event s_inactive 1
 event balldevice_d_ball_enter 1
@@ -138,8 +139,9 @@ ball_devices:
   d: {ball_switches: s, mechanical_eject: yes, max_eject_attempts: 1}
 => Yes
 yes
-pinball-certificate 1
+pinball-certificate 2
 bound 2
+switch s 2
 event balldevice_d_ball_eject_failed 7
 event a 1
 event b 1
@@ -173,8 +175,11 @@ coils:
 game:
 => Yes
 yes
-pinball-certificate 1
+pinball-certificate 2
 bound 21
+switch s_t 2
+switch s_p 2
+switch s_f 8
 event balldevice_t_ball_enter 1
 event ball_drain 16
 event balldevice_t_ball_eject_attempt 1
@@ -256,8 +261,9 @@ multiballs:
 game:
 => Yes
 yes
-pinball-certificate 1
+pinball-certificate 2
 bound 8
+switch s 8
 event s_active 7
 event s_inactive 2
 event balldevice_t_ball_enter 1
@@ -314,8 +320,9 @@ coils:
 game:
 => Yes
 yes
-pinball-certificate 1
+pinball-certificate 2
 bound 25
+switch s 2
 event ball_save_b_saving_ball 15
 event sw_start 14
 event a 2

@@ -8,8 +8,9 @@ const ROWS: &str = "
 (one switch)
 => Yes
 yes
-pinball-certificate 1
+pinball-certificate 2
 bound 4
+switch s_left 4
 event s_left_active 3
 event s_left_inactive 1
 event a 1
@@ -102,7 +103,7 @@ lights:
 => Yes
 note config/config.yaml 2 skipped lights
 yes
-pinball-certificate 1
+pinball-certificate 2
 bound 0
 
 === notes before a fault
@@ -146,7 +147,7 @@ event_player:
   e: b,c
 => Yes
 yes
-pinball-certificate 1
+pinball-certificate 2
 bound 0
 event a 3
 event b 1

@@ -8,12 +8,32 @@ const ROWS: &str = "
 (twice posted)
 => Yes
 yes
-pinball-certificate 1
+pinball-certificate 2
 bound 5
+switch s_left 5
 event s_left_active 4
 event s_left_inactive 1
 event a 3
 event b 1
+
+=== weights within limit
+--- check
+@ config/config.yaml
+#config_version=6
+event_player:
+  e0: e1, e1, e1, e1, e1, e1, e1, e1, e1, e1
+  e1: e2, e2, e2, e2, e2, e2, e2, e2, e2, e2
+  e2: e3, e3, e3, e3, e3, e3, e3, e3, e3, e3
+  e3: e4, e4, e4, e4, e4, e4, e4, e4, e4, e4
+=> Yes
+yes
+pinball-certificate 2
+bound 0
+event e0 11111
+event e1 1111
+event e2 111
+event e3 11
+event e4 1
 
 === weights above limit
 --- check
@@ -24,6 +44,7 @@ event_player:
   e1: e2, e2, e2, e2, e2, e2, e2, e2, e2, e2
   e2: e3, e3, e3, e3, e3, e3, e3, e3, e3, e3
   e3: e4, e4, e4, e4, e4, e4, e4, e4, e4, e4
+  e4: e5, e5, e5, e5, e5, e5, e5, e5, e5, e5
 => Refused
 fault 9 Bound
 no
@@ -64,6 +85,7 @@ event_player:
   e1: e2, e2, e2, e2, e2, e2, e2, e2, e2, e2
   e2: e3, e3, e3, e3, e3, e3, e3, e3, e3, e3
   e3: e4, e4, e4, e4, e4, e4, e4, e4, e4, e4
+  e4: e5, e5, e5, e5, e5, e5, e5, e5, e5, e5
   p: q
   q: p
 => Refused

@@ -29,7 +29,7 @@ coil_player:
     c_up: {action: pulse, pulse_ms: 20}
 => Yes
 yes
-pinball-certificate 1
+pinball-certificate 2
 bound 0
 event kick 2
 
@@ -100,8 +100,10 @@ coil_player:
   mode_m_started: {c_h: enable}
 => Yes
 yes
-pinball-certificate 1
+pinball-certificate 2
 bound 9
+switch s_go 9
+switch s_stop 5
 event s_go_active 8
 event s_go_inactive 1
 event s_stop_active 4
@@ -131,8 +133,9 @@ flippers:
     activation_switch: s_f
 => Yes
 yes
-pinball-certificate 1
+pinball-certificate 2
 bound 4
+switch s_f 4
 event s_f_active 1
 event s_f_inactive 1
 event ball_started 1
@@ -153,8 +156,9 @@ autofire_coils:
     enable_events: go
 => Yes
 yes
-pinball-certificate 1
+pinball-certificate 2
 bound 3
+switch s 3
 event s_active 1
 event s_inactive 1
 event go 1
@@ -340,7 +344,7 @@ coils:
   c№:
 => Yes
 yes
-pinball-certificate 1
+pinball-certificate 2
 bound 0
 ";
 

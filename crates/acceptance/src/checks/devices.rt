@@ -17,8 +17,9 @@ counters:
     count_complete_value: 2
 => Yes
 yes
-pinball-certificate 1
+pinball-certificate 2
 bound 5
+switch s_left 5
 event s_left_active 4
 event s_left_inactive 1
 event logicblock_c_updated 1
@@ -42,8 +43,9 @@ event_player:
   a: again
 => Yes
 yes
-pinball-certificate 1
+pinball-certificate 2
 bound 7
+switch s_target 7
 event s_target_active 6
 event s_target_inactive 1
 event again 2

@@ -80,13 +80,18 @@ const WALKED: &str = "
 @ config/config.yaml
 #config_version=6
 lights:
+switches:
+  s:
 event_player:
   a: b
 => Yes
 note config/config.yaml 2 skipped lights
 yes
-pinball-certificate 1
-bound 0
+pinball-certificate 2
+bound 2
+switch s 2
+event s_active 1
+event s_inactive 1
 event a 2
 event b 1
 
@@ -138,6 +143,22 @@ event a 1
 event b 1
 => Refused
 fault 10 Certificate Short a 2
+no
+
+=== not verified for a switch
+--- verify
+@ config/config.yaml
+#config_version=6
+switches:
+  s:
+--- certificate
+pinball-certificate 2
+bound 2
+switch s 3
+event s_active 1
+event s_inactive 1
+=> Refused
+fault 10 Certificate Switch s 2
 no
 ";
 

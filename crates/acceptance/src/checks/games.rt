@@ -60,7 +60,7 @@ mode:
   start_events: x
 => Yes
 yes
-pinball-certificate 1
+pinball-certificate 2
 bound 0
 event x 8
 event player_v 1
@@ -84,7 +84,7 @@ event_player:
   player_a: y
 => Yes
 yes
-pinball-certificate 1
+pinball-certificate 2
 bound 0
 event x 6
 event player_a 2
@@ -102,7 +102,7 @@ game:
   max_players: 2
 => Yes
 yes
-pinball-certificate 1
+pinball-certificate 2
 bound 0
 event sw_start 11
 event game_will_start 10

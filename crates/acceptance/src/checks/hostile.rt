@@ -61,7 +61,7 @@ const LONG: &str = "
  \
 => Yes
 yes
-pinball-certificate 1
+pinball-certificate 2
 bound 0
 
 === one byte too many
@@ -86,7 +86,7 @@ lights:
 => Yes
 note config/config.yaml 2 skipped lights
 yes
-pinball-certificate 1
+pinball-certificate 2
 bound 0
 ";
 

@@ -15,7 +15,7 @@ lights:
 => Yes
 note config/config.yaml 2 skipped lights
 yes
-pinball-certificate 1
+pinball-certificate 2
 bound 0
 
 === depth 33 too deep
@@ -37,7 +37,7 @@ lights: [[[[[[[[]]]]]]]]
 => Yes
 note config/config.yaml 2 skipped lights
 yes
-pinball-certificate 1
+pinball-certificate 2
 bound 0
 
 === flow depth 9 too deep
@@ -108,7 +108,7 @@ coils:
   c№:
 => Yes
 yes
-pinball-certificate 1
+pinball-certificate 2
 bound 0
 
 === variables 257
@@ -157,7 +157,7 @@ event_player:
   a{current_player.v==№}:
 => Yes
 yes
-pinball-certificate 1
+pinball-certificate 2
 bound 0
 event a 1
 

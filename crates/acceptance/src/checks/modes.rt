@@ -10,8 +10,10 @@ that may have been kept, and the end of a ball for a stop of each mode.
 (priority order)
 => Yes
 yes
-pinball-certificate 1
+pinball-certificate 2
 bound 12
+switch s_go 12
+switch s_x 5
 event s_go_active 11
 event s_go_inactive 1
 event s_x_active 4
@@ -80,8 +82,10 @@ mode:
   stop_events: mode_m_starting
 => Yes
 yes
-pinball-certificate 1
+pinball-certificate 2
 bound 9
+switch s_go 9
+switch s_stop 2
 event s_go_active 8
 event s_go_inactive 1
 event s_stop_active 1
@@ -108,8 +112,9 @@ mode:
   stop_events: mode_m_starting, mode_m_started
 => Yes
 yes
-pinball-certificate 1
+pinball-certificate 2
 bound 11
+switch s_go 11
 event s_go_active 10
 event s_go_inactive 1
 event mode_m_will_start 9
@@ -129,7 +134,7 @@ modes: m
 #config_version=6
 => Yes
 yes
-pinball-certificate 1
+pinball-certificate 2
 bound 0
 event mode_m_will_start 5
 event mode_m_starting 4
@@ -201,7 +206,7 @@ timers:
     start_running: yes
 => Yes
 yes
-pinball-certificate 1
+pinball-certificate 2
 bound 14
 event sw_start 11
 event game_will_start 10
@@ -306,7 +311,7 @@ timers:
     start_running: yes
 => Yes
 yes
-pinball-certificate 1
+pinball-certificate 2
 bound 4
 event mode_bonus_will_start 6
 event mode_bonus_starting 5
@@ -344,7 +349,7 @@ modes: m
 => Yes
 note config/config.yaml 2 absent m
 yes
-pinball-certificate 1
+pinball-certificate 2
 bound 0
 
 === order of notes
@@ -378,7 +383,7 @@ note modes/b/config/b.yaml 3 skipped lights
 note modes/z/config/z.yaml 0 unlisted modes/z/config/z.yaml
 note modes/y/config/y.yaml 0 unlisted modes/y/config/y.yaml
 yes
-pinball-certificate 1
+pinball-certificate 2
 bound 0
 event mode_a_will_start 5
 event mode_a_starting 4

@@ -148,7 +148,7 @@ shots:
   x: {hit_events: e}
 => Yes
 yes
-pinball-certificate 1
+pinball-certificate 2
 bound 0
 event e 5
 event x_hit 1
@@ -169,7 +169,7 @@ shot_groups:
   g: {shots: x, rotate_events: r}
 => Yes
 yes
-pinball-certificate 1
+pinball-certificate 2
 bound 0
 event e 9
 event r 1
@@ -211,7 +211,7 @@ shot_groups:
   g: {shots: x, reset_events: g_complete}
 => Yes
 yes
-pinball-certificate 1
+pinball-certificate 2
 bound 0
 event e 9
 event g_complete 1

@@ -5,11 +5,24 @@ use crate::checks::row::assert_rows;
 use std::test::Fail;
 use worked_rows::Pen;
 
+// The start button begins a game. On the playfield a ball may be confirmed, and the plunger may eject the next one.
+const SWITCHES: &str = "\
+switch s_b1 2
+switch s_b2 2
+switch s_b3 2
+switch s_b4 2
+switch s_b5 2
+switch s_start 16
+switch s_plunger 2
+switch s_pf 8
+switch s_go 8
+switch s_stop 4
+switch s_left 5
+";
+
 // The end of a ball stops the mode, too: so `ball_ending` and what leads to it weigh 2 more than without the mode. The
 // bound is that of a ball that drains: its line, `ball_enter`, `ball_drain`, and an eject.
-const CERTIFICATE: &str = "\
-pinball-certificate 1
-bound 23
+const EVENTS: &str = "\
 event sw_start 14
 event game_will_start 13
 event game_starting 12
@@ -82,10 +95,21 @@ event timer_t_complete 1
 #[test]
 fn three_machines_are_checked(rt: HostRuntime) {
     let mut rows = Pen::new(rt.alloc());
-    rows.put("\n=== check\n--- check\n(three machines)\n=> Yes\nyes\n");
-    rows.put(CERTIFICATE);
-    rows.put("\n=== verify\n--- verify\n(three machines)\n--- certificate\n");
-    rows.put(CERTIFICATE);
+    rows.put(
+        "\n=== check\n--- check\n(three machines)\n=> Yes\nyes\npinball-certificate 2\nbound 23\n",
+    );
+    rows.put(SWITCHES);
+    rows.put(EVENTS);
+    rows.put(
+        "\n=== verify\n--- verify\n(three machines)\n--- certificate\npinball-certificate 2\nbound 23\n",
+    );
+    rows.put(SWITCHES);
+    rows.put(EVENTS);
+    rows.put("=> Yes\nyes\nbound 23\n");
+    rows.put(
+        "\n=== version 1\n--- verify\n(three machines)\n--- certificate\npinball-certificate 1\nbound 23\n",
+    );
+    rows.put(EVENTS);
     rows.put("=> Yes\nyes\nbound 23\n");
     assert_rows(&rt, rows.end());
 }

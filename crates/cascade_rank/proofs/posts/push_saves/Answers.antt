@@ -1,4 +1,4 @@
-use Rattle.std.proofs.Common.{◌≡◌, ◌<◌, ◌≤◌, ◌++◌, List, length, sym, ap, ◌∙◌, arith}
+use Rattle.std.proofs.Common.{◌<◌, ◌≤◌, ◌++◌, List, length, sym, ap, ◌∙◌, arith}
 use Rattle.plan_tables.specs.PlanView.{is_save, row_at, save_rows}
 use Rattle.plan_tables.specs.declared.devices.Act.TheVariants.{Save}
 use Rattle.plan_tables.specs.declared.devices.DeviceRow.{DeviceRow}

@@ -1,4 +1,4 @@
-use Rattle.std.proofs.Common.{◌≡◌, ◌<◌, ◌≤◌, List, length, sym, ap, ◌∙◌, arith}
+use Rattle.std.proofs.Common.{◌<◌, ◌≤◌, List, length, sym, ap, ◌∙◌, arith}
 use Rattle.plan_tables.specs.PlanView.{is_multiball, row_at}
 use Rattle.plan_tables.specs.declared.devices.Act.TheVariants.{End}
 use Rattle.plan_tables.specs.declared.devices.DeviceRow.{DeviceRow}

@@ -1,9 +1,10 @@
 use Rattle.std.proofs.Common.{sym, ap, ◌∙◌}
-use Rattle.config_checker.specs.CertificateOf.{parts, with_bound, events_at}
+use Rattle.config_checker.specs.CertificateOf.{parts, with_bound}
 use Rattle.config_checker.proofs.CertificateLines.{bound_first}
 use Rattle.config_checker.proofs.certificate_reader.next_bound.Goals as goal
 
 pub returns : goal.returns
 returns c =
-    bound_first c.args.text.now c.in_ok-line.line.now c.in_ok-line.rest.now c.in_ok-line.ensures.lines
-    ∙ ap (λ o. with_bound o (events_at 3 (parts 10 c.in_ok-line.rest.now))) (sym c.read_bound.ensures ∙ c.in_ok-bound.was)
+    λ switched.
+    bound_first c.args.text.now c.in_ok-line.line.now c.in_ok-line.rest.now c.in_ok-line.ensures.lines switched
+    ∙ ap (λ o. with_bound switched o (parts 10 c.in_ok-line.rest.now)) (sym c.read_bound.ensures ∙ c.in_ok-bound.was)

@@ -1,0 +1,52 @@
+use Rattle.std.proofs.Common.{◌≡◌, ◌≢◌, ℕ, ◌<◌, List, [], length, get_or, Some, sym, ap, ◌∙◌, below_more, arith}
+use Rattle.std.proofs.lemmas.List.{length-map, ext_get_or}
+use Rattle.cascade_rank.specs.Events.{weight_of}
+use Rattle.cascade_rank.specs.Weights.{switch_costs}
+use Rattle.config_checker.specs.declared.certificate_reader.Line.{Line}
+use Rattle.config_checker.specs.CertificateRead.{line_view, lines_view}
+use Rattle.config_checker.specs.Checking.{numbers_of, first_other}
+use Rattle.config_checker.proofs.CertificateMeaning.{cost_at, length-costs, first_other-at, first_other-same}
+use Rattle.config_checker.proofs.Names.{name_at, number_at, length-numbers_of}
+use Rattle.config_checker.proofs.certified.first_other.Goals as goal
+
+-- in place of a line where there is none
+abbrev none_line : Line
+none_line = record { name = record { ref_ptr = (0, 0); now = [] }; number = 0 }
+
+pub returns-then-line-cost : goal.returns-then-line-cost
+returns-then-line-cost c =
+    let plan = c.args.plan.now in
+    let lines = c.args.switches.now in
+    let weights = c.args.weights.now in
+    let k = c.loop-number.number in
+    let within : c.loop-number.number < length c.args.plan.now.switches = omega (arith, c.switch_count-number-end.ensures.count, c.loop-number-test.true) in
+    let listed : c.loop-number.number < length c.args.switches.now = omega (arith, within, c.requires.switches) in
+    let number = number_at lines k none_line listed in
+    let cost = cost_at plan weights k within in
+    let other : get_or (numbers_of (lines_view c.args.switches.now)) c.loop-number.number 0 ≢ get_or (switch_costs c.args.plan.now (weight_of c.args.weights.now)) c.loop-number.number 0 =
+    λ same. omega (arith, c.if-line-cost.true, number, cost, same, c.switch_cost-cost.ensures) in
+    sym (first_other-at (lines_view lines) (switch_costs plan (weight_of weights)) k (omega (arith, listed, length-map lines line_view)) (omega (arith, within, length-costs plan weights)) c.loop-number.invariant other
+    ∙ ap (λ (name : List ℕ). Some (name, get_or (switch_costs c.args.plan.now (weight_of c.args.weights.now)) c.loop-number.number 0)) (name_at lines k none_line listed)
+    ∙ ap (λ (n : ℕ). Some ((get_or c.args.switches.now c.loop-number.number none_line).name.now, n)) (cost ∙ sym c.switch_cost-cost.ensures))
+
+pub loop-number-preserved : goal.loop-number-preserved
+loop-number-preserved c =
+    let plan = c.args.plan.now in
+    let lines = c.args.switches.now in
+    let k = c.loop-number.number in
+    let within : c.loop-number.number < length c.args.plan.now.switches = omega (arith, c.switch_count-number-end.ensures.count, c.loop-number-test.true) in
+    let number = number_at lines k none_line (omega (arith, within, c.requires.switches)) in
+    let cost = cost_at plan c.args.weights.now k within in
+    below_more _ _ c.loop-number.invariant (omega (arith, c.if-line-cost.false, number, cost, c.switch_cost-cost.ensures))
+
+pub returns : goal.returns
+returns c =
+    let plan = c.args.plan.now in
+    let lines = c.args.switches.now in
+    let costs : List ℕ = switch_costs c.args.plan.now (weight_of c.args.weights.now) in
+    let counted = length-numbers_of lines in
+    let count : length (numbers_of (lines_view c.args.switches.now)) ≡ length (switch_costs c.args.plan.now (weight_of c.args.weights.now)) = omega (arith, counted, c.requires.switches, length-costs plan c.args.weights.now) in
+    let right : numbers_of (lines_view c.args.switches.now) ≡ switch_costs c.args.plan.now (weight_of c.args.weights.now) =
+    ext_get_or 0 (numbers_of (lines_view lines)) costs count
+    (λ k within. c.loop-number.invariant k (omega (arith, within, counted, c.requires.switches, c.switch_count-number-end.ensures.count, c.loop-number-test.false))) in
+    sym (ap (first_other (lines_view lines)) (sym right) ∙ first_other-same (lines_view lines))

@@ -1,0 +1,18 @@
+-- What contracts see of a certificate that was judged for a plan.
+use Rattle.std.specs.Prelude.{ℕ, List, Result, Ok, Err}
+use Rattle.plan_tables.specs.PlanView.{PlanView}
+use Rattle.cascade_rank.specs.declared.verdict.Bound.{Bound}
+use Rattle.cascade_rank.specs.Finding.{verified_at}
+use Rattle.written_machine.specs.CheckedView.{CheckedView}
+use Rattle.config_checker.specs.declared.report.Report.{Report}
+use Rattle.config_checker.specs.CertificateText.{Certificate}
+use Rattle.config_checker.specs.Checking.{FaultView, numbers_of, bounded}
+
+-- the plan with the weights and the bound, where they serve
+abbrev pub as_checked : PlanView → Result (List ℕ × Bound) Report → Result CheckedView Report
+as_checked plan (Ok x) = Ok (record { plan = plan; weights = x.0; bound = x.1.0 })
+as_checked plan (Err report) = Err report
+
+-- a certificate whose names are those of the plan
+abbrev pub judged : PlanView → Certificate → Result CheckedView FaultView
+judged plan c = bounded plan c (verified_at plan (numbers_of c.events))
