@@ -8,7 +8,7 @@ WHOLE = re.compile(r"^fault (?P<number>\d+) (?P<name>\w+)(?: (?P<rest>.*))?$")
 NOTE = re.compile(r"^note (?P<text>.+?) (?P<line>\d+) (?P<name>skipped|absent|unlisted) (?P<key>.*)$")
 REFUSED = re.compile(r"^refused (?P<line>\d+) (?P<number>\d+) (?P<name>\w+)$")
 STOPPED = re.compile(r"^fault: (?P<name>\w+)$")
-CERTIFICATE_FAULTS = ("Line", "Events", "Short", "Bound")
+CERTIFICATE_FAULTS = ("Line", "Events", "Switches", "Short", "Bound", "Switch")
 
 
 @dataclass(frozen=True)
@@ -34,6 +34,7 @@ class Answer:
     notes: tuple[Complaint, ...]
     accepted: bool
     bound: int
+    switches: dict[str, int]  # the most lines that a change of each can cause
     weights: dict[str, int]
 
 
@@ -69,16 +70,16 @@ def answer_of(output: str) -> Answer:
     """What an output of `check` or `verify` says."""
     lines = output.split("\n")
     complaints = [found for found in map(complaint_of, lines) if found]
-    weights = {}
+    numbers: dict[str, dict[str, int]] = {"switch": {}, "event": {}}
     for line in lines:
-        if line.startswith("event "):
-            _, name, weight = line.split(" ")
-            weights[name] = int(weight)
+        if found := re.fullmatch(r"(switch|event) (\S+) (\d+)", line):
+            numbers[found[1]][found[2]] = int(found[3])
     bounds = [int(line.split(" ")[1]) for line in lines if re.match(r"bound \d+$", line)]
     return Answer(
         tuple(it for it in complaints if not it.is_note),
         tuple(it for it in complaints if it.is_note),
         "yes" in lines,
         bounds[0] if bounds else 0,
-        weights,
+        numbers["switch"],
+        numbers["event"],
     )

@@ -6,7 +6,7 @@ from dataclasses import asdict, replace
 from pathlib import Path
 
 from . import errors, picture, program, trace, unused
-from .answers import complaint_of
+from .answers import Answer, answer_of, complaint_of
 from .findings import Finding, as_json, cure_of, finding_of, shown
 from .program import NoAnswer, Program
 from .scenery import Scenery
@@ -19,6 +19,7 @@ NO_PROOF = "These are hints, and nothing here is proved. The answer that counts 
 LINE_NUMBERS = (
     "Line numbers are those of your files now: begin with the last one, or run this again after each change."
 )
+MOST_NAMES = 3  # of switches that are named, and not counted
 
 
 def write_errors(asked: argparse.Namespace) -> int:
@@ -71,8 +72,8 @@ def write_explain(asked: argparse.Namespace) -> int:
     texts = read_texts(Path(asked.dir)) if asked.dir else {}
     scene = Scenery(texts)
     original = {**texts, asked.log: read_text(Path(asked.log))} if asked.log else texts
-    found = []
-    for line in sys.stdin.read().split("\n"):
+    found, said = [], sys.stdin.read()
+    for line in said.split("\n"):
         if complaint := complaint_of(line):
             if complaint.message.startswith("refused"):
                 complaint = replace(complaint, text=asked.log or "")
@@ -80,12 +81,27 @@ def write_explain(asked: argparse.Namespace) -> int:
             way = next(iter(cure.ways), None)
             found.append(finding_of(scene, complaint, cure, way, original))
         elif line == "yes":
-            print("yes: the machine is accepted. What that promises is in docs/promises.md.\n")
+            print("yes: the machine is accepted. What that promises is in docs/promises.md.")
+            answer = answer_of(said)
+            print(f"{longest(answer)}\n" if answer.switches else "")
     if asked.json:
         print(json.dumps([as_json(it) for it in found], indent=2))
     for finding in found if not asked.json else []:
         print("\n".join(shown(finding)) + "\n")
     return 0
+
+
+def longest(answer: Answer) -> str:
+    """What starts the longest cascade, by the lines of switches in a certificate."""
+    most = max(answer.switches.values())
+    names = [f"`{name}`" for name, cost in answer.switches.items() if cost == most]
+    switches = f"any of {len(names)} switches" if len(names) > MOST_NAMES else " or ".join(names)
+    if most == answer.bound:
+        return f"A cascade has at most {answer.bound:,} lines. A change of {switches} can cause so many."
+    return (
+        f"A cascade has at most {answer.bound:,} lines, if an alarm of a device starts it.\n"
+        f"A change of a switch can cause at most {most:,} ({switches})."
+    )
 
 
 def write_unused(asked: argparse.Namespace) -> int:

@@ -61,7 +61,8 @@ class Maker:
         devices = self.lines_of_switch(name)
         active = [f"{name}_active", *(f"sw_{tag}" for tag in tags), *names_of(entry, "events_when_activated")]
         inactive = [f"{name}_inactive", *names_of(entry, "events_when_deactivated")]
-        self.graph.stimulus(f" {name} active", Cost(1 + devices, active), f"switch {name}", text, entry)
+        told = self.arrivals() if "playfield_active" in tags else []
+        self.graph.stimulus(f" {name} active", Cost(1 + devices, active, told), f"switch {name}", text, entry)
         self.graph.stimulus(f" {name} inactive", Cost(1 + devices, inactive), f"switch {name}", text, entry)
 
     def of_event_player(self, text: str, entry: Entry) -> None:
@@ -247,6 +248,17 @@ class Maker:
                 lines = 1 if names_of(entry, "ball_switches") else 0
                 return Cost(lines, [f"{name}_ball_eject_attempt", f"{name}_ejecting_ball"][: 2 * lines])
         return Cost()
+
+    def arrivals(self) -> list[Cost]:
+        """What each device that ejects onto the playfield does when its ball has arrived there."""
+        found = []
+        for _, entry in self.scene.entries_of("ball_devices"):
+            if text_of(entry, "eject_targets", "playfield") == "playfield":
+                name = f"balldevice_{entry.key}"
+                again = setting(entry, "eject_coil") is not None
+                next_ball = [f"{name}_ball_eject_attempt", f"{name}_ejecting_ball"] if again else []
+                found.append(Cost(1 + again, [f"{name}_ball_eject_success", *next_ball]))
+        return found
 
     def drains(self) -> Cost:
         """What the machine does after `ball_drain`: a ball is saved, one is left, or none is left."""

@@ -126,17 +126,20 @@ MESSAGES = {
         "Events lead to each other without end.", "Take out one of the steps that are yours.", "`fault 8 Cycle"
     ),
     "fault 9 Bound": Message(
-        "Some event, or some switch change, causes more than 10,000 lines.",
+        "Some event, or some switch change, causes more than 100,000 lines.",
         "Let the dearest events post less.",
         "`fault 9 Bound",
     ),
     "fault 10 Certificate Line": Message(
         "Line {1} of the certificate is not as it should be.",
-        "Keep only what follows `yes`, from the line `pinball-certificate 1` on, as `check` wrote it.",
+        "Keep only what follows `yes`, from the line `pinball-certificate 2` on, as `check` wrote it.",
         CERTIFICATE,
     ),
     "fault 10 Certificate Events": Message(
         "The certificate is of other events.", "Make a new certificate with `pinball check`.", CERTIFICATE
+    ),
+    "fault 10 Certificate Switches": Message(
+        "The certificate is of other switches.", "Make a new certificate with `pinball check`.", CERTIFICATE
     ),
     "fault 10 Certificate Short": Message(
         "The event `{1}` needs a weight of {2} or more, and the certificate gives it less.",
@@ -146,6 +149,12 @@ MESSAGES = {
     "fault 10 Certificate Bound": Message(
         "The bound of these weights is {1}, and the certificate states another one.",
         "Write `bound {1}`, or make a new certificate with `pinball check`.",
+        CERTIFICATE,
+    ),
+    "fault 10 Certificate Switch": Message(
+        "By these weights a change of the switch `{1}` causes at most {2} lines, and the certificate states another "
+        "number.",
+        "Write `switch {1} {2}`, or make a new certificate with `pinball check`.",
         CERTIFICATE,
     ),
     "refused 8 BadLine": Message(

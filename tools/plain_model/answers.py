@@ -1,10 +1,12 @@
 """What `check`, `verify` and `play` print, and their exit status."""
 import re
 from collections import Counter
+from collections.abc import Iterable
 from dataclasses import dataclass
 
 from . import certificate
 from .bundle import Config, ConfigFault, read_bundle
+from .certificate import Certificate
 from .costs import Costs, Weights
 from .faults import Faults
 from .machine import Machine
@@ -20,6 +22,11 @@ def as_bytes(lines: list[str]) -> bytes:
 def shown(text: str) -> str:
     """A text that is no name: what would not be seen in it is written in hexadecimal digits."""
     return re.sub("[\0-\x1f\x7f]", lambda found: f"\\x{ord(found[0]):02x}", text)
+
+
+def are_named(said: list[tuple[str, int]], names: Iterable[str]) -> bool:
+    """Whether what a certificate says has these names, in this order."""
+    return [name.encode("latin-1") for name, _ in said] == [name.encode() for name in names]
 
 
 @dataclass
@@ -47,7 +54,12 @@ class Judged:
         return as_bytes([*self.notes, "yes"]) + self.certificate().encode(), 0
 
     def certificate(self) -> str:
-        return certificate.text(self.costs.bound(self.least), self.least)
+        return self.certificate_of(self.least).text()
+
+    def certificate_of(self, weights: Weights, version: int = 2) -> Certificate:
+        """With the right bound, and in version 2 with the right costs of the switches."""
+        switches = [*self.costs.switches(weights).items()] if version == 2 else []
+        return Certificate(version, self.costs.bound(weights), switches, [*weights.items()])
 
     def verify(self, text: bytes) -> Answer:
         if self.refusal:
@@ -55,25 +67,28 @@ class Judged:
         fault = self.fault_of(text)
         if fault:
             return as_bytes([*self.notes, f"fault {fault}", "no"]), 1
-        bound, _ = certificate.read(text)
-        return as_bytes([*self.notes, "yes", f"bound {bound}"]), 0
+        return as_bytes([*self.notes, "yes", f"bound {certificate.read(text).bound}"]), 0
 
     def fault_of(self, text: bytes) -> str | None:
         try:
-            stated, events = certificate.read(text)
+            given = certificate.read(text)
         except certificate.BadLine as bad:
             return f"10 Certificate Line {bad.args[0]}"
-        names = [name.encode("latin-1") for name, _ in events]
-        if names != [event.encode() for event in self.plan.events]:
+        if not are_named(given.events, self.plan.events):
             return "10 Certificate Events"
-        weights = dict(events)
+        if given.version == 2 and not are_named(given.switches, self.plan.switches):
+            return "10 Certificate Switches"
+        weights = dict(given.events)
         short = self.costs.short(weights)
         if short:
             return f"10 Certificate Short {short[0]} {short[1]}"
         if self.costs.too_large(weights):
             return "9 Bound"
-        bound = self.costs.bound(weights)
-        return None if bound == stated else f"10 Certificate Bound {bound}"
+        right = self.certificate_of(weights, given.version)
+        if given.bound != right.bound:
+            return f"10 Certificate Bound {right.bound}"
+        wrong = [switch for switch, said in zip(right.switches, given.switches) if switch != said]
+        return f"10 Certificate Switch {wrong[0][0]} {wrong[0][1]}" if wrong else None
 
     def play(self, log: bytes, seen: Counter[str] | None = None) -> Answer:
         if not self.is_accepted:

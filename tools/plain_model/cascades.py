@@ -1,16 +1,23 @@
 """Small machines whose cascades are long: what `check` and `verify` say of their weights.
 
-Each is a bundle with up to two switches, two modes and two coils, and events that post each other. `check` has to print
-the least weights and the bound of the model, or `fault 9 Bound` if one of these is above the limit, or a cycle of the
-model if there is one. Then one weight is made greater or less, and `verify` has to say what follows from the rules.
-This model knows what a machine does from the drawing, and never reads its text.
+Each is a bundle with up to two switches, two modes and two coils, and events that post each other. Some have a tower: a
+weight, or the bound, that is the limit, or near to it. `check` has to print the bound, the costs of the switches, and
+the least weights of the model, or `fault 9 Bound` if one of these is above the limit, or a cycle of the model if there is
+one. Then one weight is made greater or less, perhaps the bound and the costs with it, and `verify` has to say what
+follows from the rules. This model knows what a machine does from the drawing, and never reads its text.
 """
 import random
 from collections import Counter
 from collections.abc import Callable
+from dataclasses import dataclass
 
-LIMIT = 10_000
-KINDS = ("weights", "too large", "short cycle", "long cycle")
+LIMIT = 100_000
+GREATEST = (1 << 32) - 1  # weight that a text can state
+FLOOR = 300  # posts of the tower's middle event
+# What comes up, and in one of how many of these machines at least.
+KINDS = {"weights": 20, "too large": 20, "short cycle": 20, "long cycle": 20, "at the limit": 100, "one above": 100}
+KINDS |= {"verify: yes": 20, "verify: Short": 20, "verify: too large": 20, "verify: Bound": 20, "verify: Switch": 50}
+Weights = dict[str, int]
 Ask = Callable[[str, bytes, bytes], bytes]  # what the program prints: of a command, a bundle, and a certificate
 
 
@@ -21,7 +28,7 @@ class Machine:
         self.draw = draw
         self.posts: dict[str, list[str]] = {}
         self.lines: Counter[str] = Counter()
-        self.stimuli: list[list[str]] = []
+        self.stimuli: dict[str, list[list[str]]] = {}  # of each switch: what its two changes post
         switches = draw.choice([[], ["x"], ["x", "y"]])
         levels = [f"{switch}_{level}" for switch in switches for level in ("active", "inactive")]
         self.names = levels + list("abcdefgh")[: draw.randint(1, 8)]
@@ -29,13 +36,32 @@ class Machine:
         self.reach, self.anywhere = draw.choice([(1, 0.0), (3, 0.0), (2, 0.06), (4, 1.0)])
         self.share = draw.choice([0.5, 1.0])
         self.modes = draw.choice([[], [], ["m"], ["n", "m"]])
-        parts = [self.switches(switches), self.event_player()]
-        draw.shuffle(parts)
-        text = ["@ config/config.yaml", "#config_version=6", f"modes: {' '.join(self.modes)}", *sum(parts, [])]
-        text += ["coils:", "  l: {allow_enable: yes}", "  k: {allow_enable: yes}", *self.coil_player([])]
+        self.has_tower = draw.random() < 0.2
+        self.tower_at = draw.choice([*levels, ""])  # the change that posts the top of the tower
+        of_switches, player = self.switches(switches), self.event_player()
+        end = ["coils:", "  l: {allow_enable: yes}", "  k: {allow_enable: yes}", *self.coil_player([])]
         for mode in self.modes:
-            text += self.mode(mode)
-        self.bundle = "\n".join(text) + "\n"
+            end += self.mode(mode)
+        player += self.tower() if self.has_tower else []
+        parts = draw.sample([of_switches, player], 2)
+        head = ["@ config/config.yaml", "#config_version=6", f"modes: {' '.join(self.modes)}"]
+        self.bundle = "\n".join([*head, *sum(parts, []), *end]) + "\n"
+
+    def tower(self) -> list[str]:
+        """An event that weighs about the limit, or with which a change of a switch costs so much."""
+        besides = sum(self.cost_of(posted) - 1 for posted in self.all_stimuli() if "top" in posted)
+        floors, rest = divmod(max(LIMIT + self.draw.choice([-2, -1, 0, 0, 1, 1, 2]) - besides - 1, 0), FLOOR + 1)
+        self.post("top", *["middle"] * floors, *["low"] * rest)
+        self.post("middle", *["low"] * FLOOR)
+        return [f"  {name}: {' '.join(self.posts[name])}" for name in ("top", "middle")]
+
+    def all_stimuli(self) -> list[list[str]]:
+        return sum(self.stimuli.values(), [])
+
+    def cost_of(self, posted: list[str]) -> int:
+        """What a change costs that posts these, by the least weights; 1 where there are none."""
+        least = self.least()
+        return 1 if least is None else 1 + sum(least[name] for name in posted)
 
     def post(self, event: str, *posted: str) -> None:
         self.posts.setdefault(event, []).extend(posted)
@@ -57,8 +83,10 @@ class Machine:
             text.append(f"  {switch}:")
             for level, setting in ("active", "events_when_activated"), ("inactive", "events_when_deactivated"):
                 posted = self.some(-1)
+                if self.has_tower and self.tower_at == f"{switch}_{level}":
+                    posted.append("top")
                 text.append(f"    {setting}: {' '.join(posted)}")
-                self.stimuli.append([f"{switch}_{level}", *posted])
+                self.stimuli.setdefault(switch, []).append([f"{switch}_{level}", *posted])
         return text
 
     def event_player(self, own: dict[str, list[str]] | None = None) -> list[str]:
@@ -115,15 +143,22 @@ class Machine:
         self.lines[stopping] += len({coil for coil in "kl" if any(f"{coil}: enable" in line for line in coils)})
         return text
 
-    def cost(self, event: str, weights: dict[str, int]) -> int:
+    def cost(self, event: str, weights: Weights) -> int:
         return 1 + self.lines[event] + sum(weights.get(name, 1) for name in self.posts.get(event, []))
 
-    def bound(self, weights: dict[str, int]) -> int:
-        return max((1 + sum(weights.get(name, 1) for name in posted) for posted in self.stimuli), default=0)
+    def switch_costs(self, weights: Weights) -> Weights:
+        """What the dearer of the two changes of each switch costs."""
+        return {
+            switch: max(1 + sum(weights.get(name, 1) for name in posted) for posted in changes)
+            for switch, changes in self.stimuli.items()
+        }
 
-    def least(self) -> dict[str, int] | None:
+    def bound(self, weights: Weights) -> int:
+        return max(self.switch_costs(weights).values(), default=0)
+
+    def least(self) -> Weights | None:
         """The least weights, or none if events can go on without end."""
-        weights: dict[str, int] = {}
+        weights: Weights = {}
         open_events: set[str] = set()
 
         def weigh(event: str) -> bool:
@@ -137,18 +172,60 @@ class Machine:
                 weights[event] = self.cost(event, weights)
             return True
 
-        events = {*self.posts, *self.lines, *sum(self.posts.values(), []), *sum(self.stimuli, [])}
+        events = {*self.posts, *self.lines, *sum(self.posts.values(), []), *sum(self.all_stimuli(), [])}
         return weights if all(weigh(event) for event in sorted(events)) else None
 
-    def judged(self, order: list[str], weights: dict[str, int], stated: int) -> str:
-        """What `verify` has to say of a certificate with these weights."""
-        for event in order:
-            if weights[event] < self.cost(event, weights):
-                return f"fault 10 Certificate Short {event} {self.cost(event, weights)}\nno\n"
-        bound = self.bound(weights)
-        if max([bound, *weights.values()]) > LIMIT:
-            return "fault 9 Bound\nno\n"
-        return f"yes\nbound {bound}\n" if bound == stated else f"fault 10 Certificate Bound {bound}\nno\n"
+    def judged(self, given: "Given") -> tuple[str, str]:
+        """What `verify` has to say of a certificate, and the kind of this."""
+        for event, weight in given.weights.items():
+            need = self.cost(event, given.weights)
+            if weight < need:
+                return f"fault 10 Certificate Short {event} {need}\nno\n", "Short"
+        bound = self.bound(given.weights)
+        if max([bound, *given.weights.values()]) > LIMIT:
+            return "fault 9 Bound\nno\n", "too large"
+        if bound != given.bound:
+            return f"fault 10 Certificate Bound {bound}\nno\n", "Bound"
+        for switch, cost in self.switch_costs(given.weights).items():
+            if given.version == 2 and cost != given.switches[switch]:
+                return f"fault 10 Certificate Switch {switch} {cost}\nno\n", "Switch"
+        return f"yes\nbound {bound}\n", "yes"
+
+
+@dataclass
+class Given:
+    """A certificate that `verify` is asked about. Its weights are in the order of the certificate of `check`."""
+
+    version: int
+    bound: int
+    switches: Weights
+    weights: Weights
+
+    def text(self) -> str:
+        switches = [f"switch {name} {cost}" for name, cost in self.switches.items()] if self.version == 2 else []
+        events = [f"event {name} {weight}" for name, weight in self.weights.items()]
+        return "\n".join([f"pinball-certificate {self.version}", f"bound {self.bound}", *switches, *events, ""])
+
+
+def given(machine: Machine, weights: Weights) -> Given:
+    """One weight other than in these, and perhaps those greater that then do not fit. The bound and the costs are those
+    of the new weights, or of the old ones, or one of these is another."""
+    draw, changed = machine.draw, dict(weights)
+    if changed:
+        changed[draw.choice([*changed])] += draw.choice([1, 1, 1, -1, LIMIT // 2, LIMIT])
+    if draw.random() < 0.6:
+        while short := [event for event in changed if changed[event] < machine.cost(event, changed)]:
+            changed |= {event: machine.cost(event, changed) for event in short}
+        changed = {event: min(weight, GREATEST) for event, weight in changed.items()}
+    stated = draw.choice([weights, changed, changed, changed])
+    switches = {switch: min(cost, GREATEST) for switch, cost in machine.switch_costs(stated).items()}
+    found = Given(draw.choice([1, 2, 2]), min(machine.bound(stated), GREATEST), switches, changed)
+    what = draw.choice(["bound", "switch", "switch", "", ""])
+    if what == "bound":
+        found.bound ^= 1
+    elif what == "switch" and found.switches:
+        found.switches[draw.choice([*found.switches])] ^= 1
+    return found
 
 
 def is_cycle(machine: Machine, events: list[str]) -> bool:
@@ -156,8 +233,8 @@ def is_cycle(machine: Machine, events: list[str]) -> bool:
     return len(events) == len({*events}) and all(then in machine.posts.get(event, []) for event, then in steps)
 
 
-def compare(ask: Ask, machine: Machine) -> str:
-    """The kind of the answer. Raises AssertionError or ValueError where it is not that of the model."""
+def compare(ask: Ask, machine: Machine) -> list[str]:
+    """The kinds of the answers. Raises AssertionError or ValueError where one is not that of the model."""
     bundle = machine.bundle.encode()
     said = ask("check", bundle, b"").decode()
     least = machine.least()
@@ -165,20 +242,19 @@ def compare(ask: Ask, machine: Machine) -> str:
         words = said.split()
         assert words[:3] == ["fault", "8", "Cycle"] and words[-1] == "no", said
         assert is_cycle(machine, words[3:-1]), said
-        return "short cycle" if len(words) < 7 else "long cycle"
-    bound = machine.bound(least)
-    if max([bound, *least.values()]) > LIMIT:
+        return ["short cycle" if len(words) < 7 else "long cycle"]
+    bound, switches = machine.bound(least), machine.switch_costs(least)
+    greatest = max([bound, *least.values()])
+    if greatest > LIMIT:
         assert said == "fault 9 Bound\nno\n", said
-        return "too large"
+        return ["too large"] + ["one above"] * (greatest == LIMIT + 1)
     head, *lines = said.splitlines()
-    assert head == "yes" and lines[:2] == ["pinball-certificate 1", f"bound {bound}"], said
-    weights = {name: int(weight) for _, name, weight in (line.split() for line in lines[2:])}
+    assert head == "yes", said
+    weights = {name: int(weight) for kind, name, weight in (line.split() for line in lines[2:]) if kind == "event"}
     assert weights == {name: least.get(name, 1) for name in weights} and {*least} <= {*weights}, said
-    order = [*weights]
-    if order:
-        weights[machine.draw.choice(order)] += machine.draw.choice([1, -1, LIMIT])
-    lines = ["pinball-certificate 1", f"bound {bound}", *(f"event {name} {weights[name]}" for name in order)]
-    text = "\n".join(lines) + "\n"
-    judged = ask("verify", bundle, text.encode()).decode()
-    assert judged == machine.judged(order, weights, bound), f"{text}{judged}"
-    return "weights"
+    assert said == "yes\n" + Given(2, bound, switches, weights).text(), said
+    asked = given(machine, weights)
+    answer, kind = machine.judged(asked)
+    judged = ask("verify", bundle, asked.text().encode()).decode()
+    assert judged == answer, f"{asked.text()}{judged}"
+    return ["weights", f"verify: {kind}"] + ["at the limit"] * (greatest == LIMIT)

@@ -8,7 +8,7 @@ from collections import Counter
 from dataclasses import dataclass, field
 from pathlib import Path
 
-from . import cascades, certificate, damage, draw, logs, odd, plant, wanted
+from . import cascades, damage, draw, logs, odd, plant, wanted
 from .answers import Answer, Judged, judge
 from .bundle import MACHINE_TEXT, VERSION, ConfigFault, joined, split_bundle
 from .costs import Costs, Weights
@@ -19,6 +19,7 @@ from .yaml_text import read
 
 SECONDS, MOST_SECONDS = 2.0, 60.0  # of the processor for an answer, and by the clock
 MOST_LINES = 200  # of an answer, in a report
+VERSION_1 = b"pinball-certificate 1\n"
 SECTIONS = {*SETTINGS, *PLAYERS}
 OF_SAVES = {"active_time", "balls_to_save", "ball_count"}  # settings
 FORMS = re.compile(
@@ -34,8 +35,9 @@ FORMS = re.compile(
     | fault\ (?:1\ Name|2\ PulseLimit|3\ PowerLimit|4\ HoldNotAllowed|5\ TimerAtEnd|6\ BallRoute)\ [^ ]+\ [0-9]+\ [^ ]+
     | fault\ 7\ Limit\ (?:events|bindings|switches|coils|variables|rows)
     | fault\ 8\ Cycle(?:\ [^ ]+)+ | fault\ 9\ Bound
-    | fault\ 10\ Certificate\ (?:Line\ [0-9]+|Events|Short\ [^ ]+\ [0-9]+|Bound\ [0-9]+)
-    | pinball-certificate\ 1 | bound\ [0-9]+ | event\ [^ ]+\ [0-9]+ | yes | no
+    | fault\ 10\ Certificate\ (?:Line\ [0-9]+|Events|Switches|Short\ [^ ]+\ [0-9]+|Bound\ [0-9]+
+        |Switch\ [^ ]+\ [0-9]+)
+    | pinball-certificate\ 2 | bound\ [0-9]+ | (?:switch|event)\ [^ ]+\ [0-9]+ | yes | no
     )\n)*""",
     re.VERBOSE,
 )
@@ -122,7 +124,7 @@ def right_certificate(drawing: random.Random, judged: Judged) -> bytes:
     if isinstance(judged.least, dict):
         return judged.certificate().encode()
     weights = {event: drawing.choice([1, 2, 5, 50]) for event in judged.plan.events}
-    return certificate.text(judged.costs.bound(weights), weights).encode()
+    return judged.certificate_of(weights).text().encode()
 
 
 class Comparison:
@@ -232,6 +234,7 @@ class Comparison:
             self.compare("verify", judged.bundle, text, answer)
             said = next(line for line in lines_of(answer[0]) if not line.startswith("note"))
             self.count(" ".join(["verify:", *said.split()[:4]][: 5 if "Certificate" in said else 3]))
+            self.count(*["verify: yes, of version 1"] * (said == "yes" and text.startswith(VERSION_1)))
 
     def played(self, drawing: random.Random, judged: Judged, log: bytes) -> None:
         texts = [log, damage.damaged(drawing, log)] if judged.is_accepted else [log]
@@ -297,7 +300,7 @@ class Comparison:
             return asked[-1][-1][0]
 
         try:
-            self.count(f"cascades: {cascades.compare(ask, machine)}")
+            self.count(*(f"cascades: {kind}" for kind in cascades.compare(ask, machine)))
         except (AssertionError, ValueError, IndexError) as other:
             command, bundle, file, got = asked[-1]
             self.differ(command, bundle, file, (b"", 0), got, f"another answer than the model of cascades: {other}")

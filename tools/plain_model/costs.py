@@ -7,7 +7,7 @@ from .devices import Act, BallDevice, Device
 from .plan import MODE_EVENTS, Binding, Plan
 from .saves import BallSave, Multiball
 
-LIMIT = 10_000
+LIMIT = 100_000
 Weights = dict[str, int]
 
 
@@ -55,8 +55,10 @@ class Costs:
             event: Cost(1) + total(self.target(binding) for binding in bound.get(event, [])) + works.get(event, Cost())
             for event in plan.events
         }
-        self.stimuli = [self.acceptance(switch, on) for switch in plan.switches for on in (True, False)]
-        self.stimuli += [self.act(row, ("fire",)) for row in plan.rows]
+        self.of_switch = {
+            switch: one_of(self.acceptance(switch, True), self.acceptance(switch, False)) for switch in plan.switches
+        }
+        self.stimuli = [*self.of_switch.values(), *(self.act(row, ("fire",)) for row in plan.rows)]
 
     def target(self, binding: Binding) -> Cost:
         kind, *what = binding.target
@@ -163,6 +165,10 @@ class Costs:
 
     def bound(self, weights: Weights) -> int:
         return max((cost.value(weights) for cost in self.stimuli), default=0)
+
+    def switches(self, weights: Weights) -> dict[str, int]:
+        """What each switch costs: the dearer of its two changes."""
+        return {switch: cost.value(weights) for switch, cost in self.of_switch.items()}
 
     def too_large(self, weights: Weights) -> bool:
         return max([self.bound(weights), *weights.values()]) > LIMIT

@@ -22,9 +22,11 @@ SHARES: dict[float, str] = {
     10: """error 4 UnknownSection | accrual, list 2 | counter, list 2 | sequence, list 2 | timer, list 4 | ball awaited
         | a second game | another turn | line: coil enable | line: coil disable | line: final | line: player
         | line: refused TooLate | line: off | note skipped | note unlisted | verify: fault 10 Certificate Short
-        | verify: fault 10 Certificate Bound | verify: fault 10 Certificate Events | folder""",
+        | verify: fault 10 Certificate Bound | verify: fault 10 Certificate Events | verify: fault 10 Certificate Switch
+        | verify: fault 10 Certificate Switches | folder""",
     5: """error 1 Bundle | error 2 Version | error 7 Missing | Yaml DuplicateKey | Yaml Flow | Yaml NotUtf8
-        | line: skip enable | line: skip disable | damaged bundle: verify | ball held by 1 | the last hold""",
+        | line: skip enable | line: skip disable | damaged bundle: verify | ball held by 1 | the last hold
+        | verify: yes, of version 1""",
     2: """error 8 Duplicate | error 9 Limit | fault 2 PulseLimit | fault 3 PowerLimit | fault 4 HoldNotAllowed
         | fault 5 TimerAtEnd | fault 6 BallRoute | fault 7 Limit | fault 8 Cycle | fault 9 Bound | Yaml Quote | Yaml Tab
         | timer, list 1 | timer, list 2 | release | verify: fault 9 | Yaml TooDeep | ball held by 2 | a hold less
@@ -63,7 +65,8 @@ def table(found: Found) -> str:
 
 def rare(found: Found, count: int) -> list[str]:
     """What came up too rarely with so many machines."""
-    least = {"machines": count} | {f"cascades: {kind}": CASCADES * count // 20 for kind in cascades.KINDS}
+    least = {"machines": count}
+    least |= {f"cascades: {kind}": CASCADES * count // many for kind, many in cascades.KINDS.items()}
     for shares in [SHARES, SAVE_SHARES] if has_saves() else [SHARES]:
         for share, whats in shares.items():
             least |= {" ".join(what.split()): int(share * count / 500) for what in whats.split("|")}

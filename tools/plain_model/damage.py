@@ -6,6 +6,10 @@ MARKS = [b":", b" ", b"\n", b"  ", b"\t", b"[", b"]", b"{", b"}", b",", b"'", b'
 MARKS += [b"- ", b"&", b"|", b"?", b": ", b" #", b"\\", b"0", b"1", b"%", b"\xc3\xa4", b"\xff", b"\0", b"\r", b"=="]
 MARKS += [b"\xef\xbb\xbf", b"\xc2\x85", b"\xe2\x80\xa8", b"---\n", b"...\n", b"''", b"\\n", b"[[", b"}}", b"? "]
 ODD_LINES = ["", "event", "event a", "event a/b 1", "event  1", "switch a 1", "bound 1", "event a\t1", "#"]
+ODD_LINES += ["switch", "switch a", "switch a/b 1", "switch  1", "switch a\t1", "switches a 1"]
+ODD_NUMBERS = ["01", "", "x", "4294967295", "4294967296", "-1", "0", "10000", "100000", "100001", "1 1", " 1"]
+HEADERS = [f"pinball-certificate {version}" for version in (1, 1, 2, 3, 0, "02", "2 ", "1 2", 22)]
+HEADERS += ["pinball-certificate", "", "pinball-certificate  2", "Pinball-certificate 2"]
 
 
 def lines_of(data: bytes) -> list[bytes]:
@@ -67,25 +71,57 @@ def damaged(draw: random.Random, data: bytes) -> bytes:
 
 
 def certificate(draw: random.Random, text: bytes) -> bytes:
-    """A certificate with other numbers, another line, or another damage."""
+    """A certificate with other numbers, other lines of switches, another version, or another damage."""
     lines = text.decode().splitlines()
-    kind = draw.randrange(8)
+    kind = draw.randrange(12)
     if kind == 0 or kind < 5 and len(lines) < 3:
         return damaged(draw, text)
     at = draw.randrange(1, len(lines)) if kind > 2 else draw.randrange(2, len(lines))
     words = lines[at].split(" ")
     if kind in (1, 2):
-        words[-1] = str(max(0, int(words[-1]) + draw.choice([-1, 1, 1, 5, -2, 9_000])))
+        words[-1] = another(draw, words[-1])
         lines[at] = " ".join(words)
     elif kind == 3:
-        words[-1] = draw.choice(["01", "", "x", "4294967295", "4294967296", "-1", "0", "10000", "10001", "1 1", " 1"])
+        words[-1] = draw.choice(ODD_NUMBERS)
         lines[at] = " ".join(words)
     elif kind == 4:
         lines[at] = draw.choice(ODD_LINES)
     elif kind == 5:
-        lines[1] = f"bound {draw.choice([0, 1, 3, 10, 9_999, 10_000, 10_001, 4_294_967_295])}"
+        lines[1] = f"bound {draw.choice([0, 1, 3, 10, 9_999, 99_999, 100_000, 100_001, 4_294_967_295])}"
     elif kind == 6:
         del lines[at:]
+    elif kind == 7:
+        lines[0] = draw.choice(HEADERS)
+    elif kind == 8:  # version 1 reads no lines of switches
+        lines = ["pinball-certificate 1", *(line for line in lines[1:] if not line.startswith("switch "))]
+        if draw.random() < 0.3:
+            return damaged(draw, "".join(f"{line}\n" for line in lines).encode())
     else:
-        lines[0] = draw.choice(["pinball-certificate 2", "pinball-certificate 1 ", "pinball-certificate", ""])
+        damage_switches(draw, lines)
     return "".join(f"{line}\n" for line in lines).encode()
+
+
+def another(draw: random.Random, number: str) -> str:
+    return str(max(0, int(number) + draw.choice([-1, 1, 1, 5, -2, 90_000])))
+
+
+def damage_switches(draw: random.Random, lines: list[str]) -> None:
+    """Another number in lines of switches, one line less or more, two that change places, or one among the events."""
+    places = [at for at, line in enumerate(lines) if line.startswith("switch ")]
+    if not places:
+        lines.insert(2, "switch s_none 1")
+        return
+    one, other = draw.choice(places), draw.choice(places)
+    kind = draw.randrange(8)
+    if kind < 4:
+        for at in {one, draw.choice([one, other])}:
+            _, name, number = lines[at].split(" ")
+            lines[at] = f"switch {name} {another(draw, number)}"
+    elif kind == 4:
+        del lines[one]
+    elif kind == 5:
+        lines.insert(other, lines[one])
+    elif kind == 6:
+        lines[one], lines[other] = lines[other], lines[one]
+    else:
+        lines.insert(draw.randint(places[-1] + 1, len(lines)), lines.pop(one))

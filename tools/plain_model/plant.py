@@ -245,9 +245,12 @@ class Planter:
 
     def bound(self) -> None:
         """A chain that fans out, to a weight or a bound about the limit."""
-        section, width = self.anywhere("event_player"), self.draw.choice([9, 10, 10, 10, 21])
-        for step in range(4 if width < 20 else 3):
+        section = self.anywhere("event_player")
+        width, steps = self.draw.choice([(10, 5), (10, 5), (9, 5), (17, 4), (46, 3), (46, 3), (316, 2)])
+        for step in range(steps):
             section[f"fan{step}"] = Names([f"fan{step + 1}"] * width)
+        if width == 46:  # with 501 more, the first of them weighs the limit
+            section["fan0"] += [f"fan{steps}"] * self.draw.choice([0, 499, 500, 501, 502])
         if self.chance(0.5):
             self.anywhere("event_player")[self.event()] = Names(["fan0"])
 
