@@ -59,6 +59,41 @@ def room_of(crate: str, room: Path) -> Path:
     return room / "crates" / crate
 
 
+@cache
+def kit() -> Path:
+    """The folder of the kit."""
+    said = subprocess.run(["rt", "doc"], stdout=subprocess.PIPE, text=True, check=True).stdout
+    return Path(said.strip()).parent
+
+
+@cache
+def libraries(name: str) -> tuple[str, ...]:
+    """All libraries below a crate, those of the kit among them, but `std`."""
+    own = listed()[name].partition("#")[0].partition(":")[2].split()
+    return tuple(dict.fromkeys(it for dep in own for it in ((*libraries(dep), dep) if dep in listed() else (dep,))))
+
+
+def check_over_gate(folder: Path) -> tuple[int, str]:
+    """Checks a crate of a room over the libraries that the gate built in this checkout, and what such a check kept."""
+    built = {it: TOP / "crates" / it / "out" / "rlib" for it in libraries(folder.name) if it in listed()}
+    words = [str(kit() / "bin" / "rattle"), "check", "--crate-name", folder.name, "src/lib.rt"]
+    for name in (*libraries(folder.name), "std"):
+        words += ["--extern", f"{name}={built.get(name, kit() / 'rlibs')}/{name}.rlib"]
+    for path in (kit() / "rlibs", *built.values()):
+        words += ["-L", f"dependency={path}"]
+    words += ["--antt-project", str(kit() / "rattle" / "logic" / "antt-project.json"), "--jobs", "1",
+              "--logic-built", str(kit() / "logic_built"), "--incremental", str(folder / "out" / "over-gate")]
+    (folder / "out").mkdir(exist_ok=True)
+    ran = subprocess.run(words, cwd=folder, stdin=subprocess.DEVNULL, stdout=subprocess.PIPE, stderr=subprocess.STDOUT,
+                         text=True, errors="replace")
+    return ran.returncode, ran.stdout
+
+
+def check_by_rt(folder: Path) -> tuple[int, str]:
+    """Checks a crate of a room, over what the last `rt check` of it and of those below it kept."""
+    return run(folder, "check", "--jobs", "1")
+
+
 def run(folder: Path, *words: str) -> tuple[int, str]:
     """Runs tools/rt in a crate's folder, and returns its status and all that it prints."""
     ran = subprocess.run([str(TOP / "tools" / "rt"), *words], cwd=folder, stdin=subprocess.DEVNULL,
