@@ -5,6 +5,7 @@ pub mod Pairs
 pub mod Kept
 pub mod FirstLines
 pub mod Pieces
+pub mod PieceSearch
 pub mod BundleTexts
 pub mod NewNames
 pub mod EntryKeys

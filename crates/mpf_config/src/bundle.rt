@@ -37,15 +37,19 @@ pub struct MachineRead {
 
 // The machine text of a bundle of these texts; or the first fault in it.
 #[tactic(auto, unfolding(crate::specs::Reading::machine_read_at, crate::specs::Reading::text_rows_at))]
-fn read_machine(alloc: Global, texts: &[Text<'_>]) -> Result<MachineRead, ConfigFault>
+fn read_machine(
+    alloc: Global,
+    hashing: KeyHashing,
+    texts: &[Text<'_>],
+) -> Result<MachineRead, ConfigFault>
     ensures { GivesRows machine_read_view result (machine_read_at (texts_view texts.now)) }
 {
     let text = machine_text(alloc, texts)?;
-    let tree = tree_of(alloc, MACHINE_NAME, text)?;
+    let tree = tree_of(alloc, hashing, MACHINE_NAME, text)?;
     let entries = sections_in(alloc, MACHINE_NAME, &tree)?;
-    let sections = sections(alloc, TextKind::Machine, MACHINE_NAME, entries)?;
+    let sections = sections(alloc, TextKind::Machine, MACHINE_NAME, entries.pairs)?;
     let modes = listed_modes(alloc, modes_in(&sections))?;
-    let notes = machine_notes(alloc, entries, &modes, texts)?;
+    let notes = machine_notes(alloc, entries.pairs, &modes, texts)?;
     drop(modes);
     Ok(MachineRead { sections, notes })
 }
@@ -63,7 +67,7 @@ fn read_modes(
 {
     let mut taken = no_keys(alloc, hashing);
     take_entries(alloc, MACHINE_NAME, sections, &mut taken)?;
-    let found = find_modes(alloc, listed, texts, &mut taken)?;
+    let found = find_modes(alloc, hashing, listed, texts, &mut taken)?;
     Ok(found)
 }
 
@@ -77,12 +81,13 @@ fn read_exactly(alloc: Global, bundle: &[u8]) -> Result<Config, ConfigFault>
         return Err(ConfigFault::Bundle(fault));
     }
     let texts = texts(alloc, bundle)?;
+    let hashing = KeyHashing::of(bundle);
     let MachineRead {
         sections,
         mut notes,
-    } = read_machine(alloc, &texts)?;
+    } = read_machine(alloc, hashing, &texts)?;
     let listed = listed_modes(alloc, modes_in(&sections))?;
-    let found = read_modes(alloc, KeyHashing::of(bundle), &sections, &listed, &texts)?;
+    let found = read_modes(alloc, hashing, &sections, &listed, &texts)?;
     let modes = take_modes(alloc, found, &mut notes)?;
     add_unlisted(alloc, &listed, &texts, &mut notes)?;
     drop(listed);
@@ -90,6 +95,7 @@ fn read_exactly(alloc: Global, bundle: &[u8]) -> Result<Config, ConfigFault>
         machine: MachineText { sections },
         modes,
         notes,
+        hashing,
     })
 }
 
@@ -157,9 +163,9 @@ fn texts_of(alloc: Global, names: &[Name]) -> Result<Vec<Vec<u8>>, AllocError>
 fn names_exactly(alloc: Global, text: &[u8]) -> Result<Vec<Vec<u8>>, ConfigFault>
     ensures { GivesRows names_only_view result (mode_names_at text.now) }
 {
-    let tree = tree_of(alloc, MACHINE_NAME, text)?;
+    let tree = tree_of(alloc, KeyHashing::of(text), MACHINE_NAME, text)?;
     let entries = sections_in(alloc, MACHINE_NAME, &tree)?;
-    let sections = sections(alloc, TextKind::Machine, MACHINE_NAME, entries)?;
+    let sections = sections(alloc, TextKind::Machine, MACHINE_NAME, entries.pairs)?;
     let names = texts_of(alloc, modes_in(&sections))?;
     Ok(names)
 }

@@ -13,6 +13,7 @@ ghost use Rattle.mpf_config.specs.ModeView.{mode_view};
 pub use mpf_sections::{
     CoilAction, Contact, Content, ControlAction, Debounce, Direction, Section, VariableAction,
 };
+use yaml_subset::keys::KeyHashing;
 
 /// The machine text: its sections as written; in the rows of a bundle no name occurs twice.
 #[derive(Drop)]
@@ -62,6 +63,8 @@ pub struct Config {
     pub modes: Vec<ModeText>,
     /// What was not read, in the order in which it is reported.
     pub notes: Vec<Note>,
+    /// Where hashers of names start: in a state that comes from the SipHash of the bundle.
+    pub hashing: KeyHashing,
     ghost lists_short: { All IsShortSection (map section_view machine.sections.items) × All IsShortMode (map mode_view modes.items) },
     ghost few_modes: { AreFewModes (map mode_view modes.items) },
     ghost all_named: { ∥ All IsNamed (map section_view machine.sections.items) × All IsNamedMode (map mode_view modes.items) ∥₁ },

@@ -24,7 +24,7 @@ use mpf_tables::TextKind;
 use section_tables::rows::Name;
 use std::alloc::{AllocError, Global};
 use std::collections::BTreeSet;
-use yaml_subset::keys::KeySet;
+use yaml_subset::keys::{KeyHashing, KeySet};
 
 /// A mode by its text, with the notes on that text.
 #[derive(Drop)]
@@ -35,13 +35,18 @@ pub struct ModeRead {
 
 /// The mode of this name by its text; or the first fault in it.
 #[tactic(auto, unfolding(crate::specs::Reading::mode_read_at, crate::specs::Reading::text_rows_at))]
-fn read_mode(alloc: Global, name: &Name, text: Text<'_>) -> Result<ModeRead, ConfigFault>
+fn read_mode(
+    alloc: Global,
+    hashing: KeyHashing,
+    name: &Name,
+    text: Text<'_>,
+) -> Result<ModeRead, ConfigFault>
     ensures { GivesRows mode_read_view result (mode_read_at (name_view name.now) (text_view text.entry)) }
 {
-    let tree = tree_of(alloc, text.name, text.text)?;
+    let tree = tree_of(alloc, hashing, text.name, text.text)?;
     let entries = sections_in(alloc, text.name, &tree)?;
-    let sections = sections(alloc, TextKind::Mode, text.name, entries)?;
-    let notes = mode_notes(alloc, text.name, entries)?;
+    let sections = sections(alloc, TextKind::Mode, text.name, entries.pairs)?;
+    let notes = mode_notes(alloc, text.name, entries.pairs)?;
     let name = Vec::from_slice(alloc, &name.text)?;
     Ok(ModeRead {
         mode: ModeText { name, sections },
@@ -54,6 +59,7 @@ fn read_mode(alloc: Global, name: &Name, text: Text<'_>) -> Result<ModeRead, Con
 #[tactic(auto, unfolding(crate::specs::Reading::new_mode_at))]
 fn read_new_mode(
     alloc: Global,
+    hashing: KeyHashing,
     name: &Name,
     text: Text<'_>,
     taken: &mut KeySet,
@@ -61,7 +67,7 @@ fn read_new_mode(
     ensures value { GivesRows mode_read_view result (new_mode_at (copies_view taken.old) (name_view name.now) (text_view text.entry)) }
     ensures known { IfOk result (λ read. (q : List ℕ) → is_among (copies_view taken.new) q ≡ (is_among (entry_keys (mode_read_view read).mode.sections) q || is_among (copies_view taken.old) q)) }
 {
-    let read = read_mode(alloc, name, text)?;
+    let read = read_mode(alloc, hashing, name, text)?;
     take_entries(alloc, text.name, &read.mode.sections, taken)?;
     Ok(read)
 }
@@ -70,6 +76,7 @@ fn read_new_mode(
 /// if it is the text of no listed mode.
 fn place(
     alloc: Global,
+    hashing: KeyHashing,
     modes: &[ListedMode<'_>],
     text: Text<'_>,
     taken: &mut KeySet,
@@ -80,7 +87,7 @@ fn place(
     ensures known { IfOk result (λ _. (q : List ℕ) → is_among (copies_view taken.new) q ≡ (is_among (placed_keys (found_modes_view found.new) (found_in mode_text_of text.entry.name.now (modes_view modes.now))) q || is_among (copies_view taken.old) q)) }
 {
     if let Some((place, name)) = mode_of(modes, text.name) {
-        found[place] = Some(read_new_mode(alloc, name, text, taken)?);
+        found[place] = Some(read_new_mode(alloc, hashing, name, text, taken)?);
     }
     Ok(())
 }
@@ -101,6 +108,7 @@ fn none_found(alloc: Global, modes: &[ListedMode<'_>]) -> Result<Vec<Option<Mode
 /// are taken before.
 fn place_all(
     alloc: Global,
+    hashing: KeyHashing,
     modes: &[ListedMode<'_>],
     texts: &[Text<'_>],
     taken: &mut KeySet,
@@ -116,7 +124,7 @@ fn place_all(
             let fault = line_of(text.name, 1).fault(alloc, FaultKind::Duplicate)?;
             return Err(ConfigFault::Bundle(fault));
         }
-        place(alloc, modes, *text, taken, found)?;
+        place(alloc, hashing, modes, *text, taken, found)?;
     }
     Ok(())
 }
@@ -126,6 +134,7 @@ fn place_all(
 /// the machine text nor by an earlier mode.
 pub fn find_modes(
     alloc: Global,
+    hashing: KeyHashing,
     modes: &[ListedMode<'_>],
     texts: &[Text<'_>],
     taken: &mut KeySet,
@@ -133,7 +142,7 @@ pub fn find_modes(
     ensures { GivesRows (λ found. found_modes_view found.items) result (modes_from (copies_view taken.old) (modes_view modes.now) [] (none_found (modes_view modes.now)) (texts_view texts.now)) }
 {
     let mut found = none_found(alloc, modes)?;
-    place_all(alloc, modes, texts, taken, &mut found)?;
+    place_all(alloc, hashing, modes, texts, taken, &mut found)?;
     Ok(found)
 }
 

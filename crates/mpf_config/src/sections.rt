@@ -20,7 +20,7 @@ use mpf_tables::{TextKind, shape_of};
 use section_tables::rows::Name;
 use section_tables::spot::{Spot, spot_of};
 use section_tables::table::Shape;
-use section_tables::{entries, entry as read_entry, name_list, players};
+use section_tables::{Below, entries, entry as read_entry, name_list, players};
 use std::alloc::Global;
 use std::collections::BTreeSet;
 use yaml_subset::tree::{Key, Tree};
@@ -172,18 +172,18 @@ fn section(
 
 /// The sections that a tree of the text of this name has; or BadValue where it is no mapping.
 #[tactic(auto, unfolding(crate::specs::Reading::sections_in))]
-pub fn sections_in<'a>(
+pub fn sections_in<'a, 't: 'a>(
     alloc: Global,
     text: &[u8],
-    tree: &'a Tree,
-) -> Result<&'a [(Key, Tree)], ConfigFault>
+    tree: &'a Tree<'t>,
+) -> Result<Below<'a, 't>, ConfigFault>
     ensures { GivesRows pairs_in_view result (sections_in text.now (node_view tree.now)) }
 {
-    let Some(sections) = tree.as_map() else {
+    let Some(pairs) = tree.as_map() else {
         let fault = line_of(text, tree.line()).fault(alloc, FaultKind::BadValue)?;
         return Err(ConfigFault::Bundle(fault));
     };
-    Ok(sections)
+    Ok(Below { pairs })
 }
 
 /// The rows of sections of a text of this kind and name, as written, without those that are

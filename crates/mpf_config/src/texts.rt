@@ -11,6 +11,7 @@ ghost use Rattle.mpf_config.specs.Inside.{bytes_view, text_view, texts_view, key
 
 use crate::fault::{ConfigFault, FaultKind};
 use crate::spot::{NONE, line_of};
+use memchr::{memchr_iter, memmem};
 use std::alloc::{AllocError, AllocFailed, Global};
 use std::collections::BTreeSet;
 use yaml_bytes::{behind_blanks, is_blank, split_line, trimmed};
@@ -57,18 +58,10 @@ fn piece_len(bundle: &[u8]) -> usize
     ensures within { result ≤ length bundle.now }
     ensures value { result ≡ piece_len false bundle.now }
 {
-    let mut len = 0;
-    let mut begins = false;
-    let mut rest = bundle;
-    while let [b, after @ ..] = rest {
-        if begins && *b == b'@' {
-            break;
-        }
-        begins = *b == b'\n';
-        rest = after;
-        len += 1;
+    match memmem::find(bundle, b"\n@") {
+        None => bundle.len(),
+        Some(end) => end + 1,
     }
-    len
 }
 
 /// How many lines end in a piece of a bundle.
@@ -76,7 +69,7 @@ fn line_ends(piece: &[u8]) -> usize
     ensures value { result ≡ line_ends piece.now }
     ensures few { result ≤ length piece.now }
 {
-    piece.iter().filter(|b| **b == b'\n').count()
+    memchr_iter(b'\n', piece).count()
 }
 
 /// The text of a piece of the bundle, which begins at this line of it; or Bundle at the line.

@@ -13,7 +13,8 @@ use section_tables::spot::Spot;
 use std::alloc::Global;
 use yaml_bytes::{split_line, trimmed};
 use yaml_subset::fault::{FaultKind as YamlKind, YamlFault};
-use yaml_subset::reader::read;
+use yaml_subset::keys::KeyHashing;
+use yaml_subset::reader::read_hashed;
 use yaml_subset::tree::Tree;
 
 /// The first line of a text, of the version that is read.
@@ -45,14 +46,19 @@ fn has_version(text: &[u8]) -> bool
 
 /// The tree of the text of this name; or Version, or Yaml with its kind as the key.
 #[tactic(auto, unfolding(crate::specs::Reading::text_tree_at))]
-pub fn tree_of(alloc: Global, name: &[u8], text: &[u8]) -> Result<Tree, ConfigFault>
+pub fn tree_of<'a>(
+    alloc: Global,
+    hashing: KeyHashing,
+    name: &[u8],
+    text: &'a [u8],
+) -> Result<Tree<'a>, ConfigFault>
     ensures { GivesRows node_view result (text_tree_at name.now text.now) }
 {
     if !has_version(text) {
         let fault = line_of(name, 1).fault(alloc, FaultKind::Version)?;
         return Err(ConfigFault::Bundle(fault));
     }
-    match read(alloc, text) {
+    match read_hashed(alloc, hashing, text) {
         Ok(tree) => Ok(tree),
         Err(YamlFault::NoMemory) => Err(ConfigFault::NoMemory),
         Err(YamlFault::Text(fault)) => {

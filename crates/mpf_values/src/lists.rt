@@ -12,7 +12,7 @@ use std::alloc::Global;
 use yaml_subset::tree::Tree;
 
 // The items that nodes are, each of which is to be a scalar, without the empty ones.
-fn scalar_items(alloc: Global, nodes: &[Tree]) -> Result<Vec<Item<'_>>, ListFault>
+fn scalar_items<'a>(alloc: Global, nodes: &'a [Tree]) -> Result<Vec<Item<'a>>, ListFault>
     ensures { GivesList (λ items. items_view items.items) result (scalars_at (map node_view nodes.now)) }
 {
     let mut items = Vec::new(alloc);
@@ -30,7 +30,7 @@ fn scalar_items(alloc: Global, nodes: &[Tree]) -> Result<Vec<Item<'_>>, ListFaul
 
 // The items of a list.
 #[tactic(auto, unfolding(crate::specs::Reading::list_at))]
-fn items_of(alloc: Global, tree: &Tree) -> Result<Vec<Item<'_>>, ListFault>
+fn items_of<'a>(alloc: Global, tree: &'a Tree) -> Result<Vec<Item<'a>>, ListFault>
     ensures { GivesList (λ items. items_view items.items) result (list_at (node_view tree.now)) }
 {
     if let Some(text) = tree.as_scalar() {
@@ -49,7 +49,7 @@ fn items_of(alloc: Global, tree: &Tree) -> Result<Vec<Item<'_>>, ListFault>
 ///
 /// Any other node is `BadValue`: a mapping, and a YAML list that holds a list or a mapping.
 /// The error is `NoMemory` where memory runs out before that is found.
-pub fn list(alloc: Global, tree: &Tree) -> Result<Vec<Item<'_>>, ListFault>
+pub fn list<'a>(alloc: Global, tree: &'a Tree) -> Result<Vec<Item<'a>>, ListFault>
     // The result is the items of the list.
     ensures found { IfOk result (λ items. IsList (node_view tree.now) (items_view items.items)) }
 

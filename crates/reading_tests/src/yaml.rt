@@ -61,7 +61,7 @@ const LENGTHS: &str = "\
 ";
 
 /// The tree of a text, if it has one; adds its fault otherwise.
-pub(crate) fn tree_of(pen: &mut Pen, text: &[u8]) -> Option<Tree> {
+pub(crate) fn tree_of<'a>(pen: &mut Pen, text: &'a [u8]) -> Option<Tree<'a>> {
     match read(pen.alloc, text) {
         Ok(tree) => return Some(tree),
         Err(YamlFault::Text(fault)) => {

@@ -167,9 +167,9 @@ fn fields(
 ) -> Result<Fields, ConfigFault>
     ensures { GivesRows fields_view result (fields_at (map field_view table.now) (others_view others) (spot_view spot.entry) (node_view tree.now)) }
 {
-    let pairs = pairs(alloc, spot, tree)?;
+    let below = pairs(alloc, spot, tree)?;
     let line = tree.line();
-    let values = fields_row(alloc, Spot { line, ..spot }, table, others, pairs)?;
+    let values = fields_row(alloc, Spot { line, ..spot }, table, others, below.pairs)?;
     Ok(Fields { line, values })
 }
 
@@ -184,10 +184,10 @@ pub fn maps(
 ) -> Result<Vec<Fields>, ConfigFault>
     ensures { GivesRows maps_view result (nodes_at (fields_at (map field_view table.now) (others_view others)) (bounds_view bounds) (spot_view spot.entry) (node_view tree.now)) }
 {
-    let nodes = nodes(alloc, spot, bounds, tree)?;
+    let listed = nodes(alloc, spot, bounds, tree)?;
     each(
         alloc,
-        nodes,
+        listed.nodes,
         |node|
             ensures { GivesRows fields_view result (fields_at (map field_view table.entry.now) (others_view others) (spot_view spot.entry) (node_view node.now)) }
         { fields(alloc, spot, table, others, node) },
@@ -283,8 +283,8 @@ fn keyed_row(
 {
     match tree.as_scalar() {
         None => {
-            let pairs = pairs(alloc, spot, tree)?;
-            fields_row(alloc, spot, table, Others::Refused, pairs)
+            let below = pairs(alloc, spot, tree)?;
+            fields_row(alloc, spot, table, Others::Refused, below.pairs)
         }
         Some(_) => {
             let value = plain(alloc, spot, short, tree)?;
@@ -329,11 +329,11 @@ pub fn keyed_list(
 ) -> Result<Vec<Keyed>, ConfigFault>
     ensures { GivesRows keyed_list_view result (keyed_list_at (map field_view table.now) at (scalar_view short) (spot_view spot.entry) (node_view tree.now)) }
 {
-    let pairs = few_pairs(alloc, spot, tree)?;
+    let below = few_pairs(alloc, spot, tree)?;
     let text = spot.text;
     each(
         alloc,
-        pairs,
+        below.pairs,
         |pair|
             ensures { GivesRows keyed_view result (keyed_at text.entry.now (map field_view table.entry.now) at (scalar_view short) (pair_view pair.now)) }
         { keyed(alloc, text, table, at, short, pair) },

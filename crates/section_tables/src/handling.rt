@@ -49,10 +49,10 @@ fn read_players(
 ) -> Result<Vec<Player>, ConfigFault>
     ensures { GivesRows players_view result (players_at text.now (player_kinds_view kinds) (pair_view pair.now)) }
 {
-    let pairs = pairs(alloc, spot_of(text, &pair.0), &pair.1)?;
+    let below = pairs(alloc, spot_of(text, &pair.0), &pair.1)?;
     each(
         alloc,
-        pairs,
+        below.pairs,
         |pair|
             ensures { GivesRows player_view result (player_at text.entry.now (player_kinds_view kinds) (pair_view pair.now)) }
         { player(alloc, kinds, text, pair) },

@@ -35,9 +35,9 @@ fn read_entry(
     if !is_name(&key.text) {
         return Err(ConfigFault::Bundle(spot.fault(alloc, FaultKind::BadValue)?));
     }
-    let pairs = pairs(alloc, spot, &pair.1)?;
-    let mut order = Vec::with_capacity(alloc, pairs.len())?;
-    let values = values(alloc, spot, table, pairs, &mut order)?;
+    let below = pairs(alloc, spot, &pair.1)?;
+    let mut order = Vec::with_capacity(alloc, below.pairs.len())?;
+    let values = values(alloc, spot, table, below.pairs, &mut order)?;
     let name = name_of(alloc, key.line, &key.text)?;
     Ok(Entry {
         name,
@@ -79,10 +79,10 @@ fn read_entries(
 ) -> Result<Vec<Entry>, ConfigFault>
     ensures { GivesRows entries_view result (entries_at text.now (barred_view barred) (table_view table.now) (pair_view pair.now)) }
 {
-    let pairs = pairs(alloc, spot_of(text, &pair.0), &pair.1)?;
+    let below = pairs(alloc, spot_of(text, &pair.0), &pair.1)?;
     each(
         alloc,
-        pairs,
+        below.pairs,
         |pair|
             ensures { GivesRows entry_view result (other_entry_at text.entry.now (barred_view barred) (table_view table.entry.now) (pair_view pair.now)) }
         { read_other_entry(alloc, barred, table, text, pair) },

@@ -164,10 +164,10 @@ fn steps(
 ) -> Result<Vec<Vec<Handler>>, ConfigFault>
     ensures { GivesRows steps_view result (nodes_at (listed_at handled_in most_items (at_least 1)) (bounds_view bounds) (spot_view spot.entry) (node_view tree.now)) }
 {
-    let nodes = nodes(alloc, spot, bounds, tree)?;
+    let listed = nodes(alloc, spot, bounds, tree)?;
     each(
         alloc,
-        nodes,
+        listed.nodes,
         |node|
             ensures { GivesRows handlers_view result (listed_at handled_in most_items (at_least 1) (spot_view spot.entry) (node_view node.now)) }
         { handlers(alloc, spot, Bounds::AtLeast(1), node) },

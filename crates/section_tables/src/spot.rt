@@ -1,6 +1,7 @@
 //! Where a fault stands.
 
 ghost use Rattle.std.specs.Prelude.{◌≡◌, IfOk};
+ghost use Rattle.std.specs.Cow.{cow_slice_items};
 ghost use Rattle.section_tables.specs.Reading.{rows_fault_at};
 ghost use Rattle.section_tables.specs.View.{spot_view, rows_fault_view};
 
@@ -33,7 +34,7 @@ impl Spot<'_> {
 
 /// Where a key stands, in the text of this name.
 pub fn spot_of<'a>(text: &'a [u8], key: &'a Key) -> Spot<'a>
-    ensures { spot_view result ≡ record { text = text.now; line = key.now.line; key = key.now.text.items } }
+    ensures { spot_view result ≡ record { text = text.now; line = key.now.line; key = cow_slice_items key.now.text } }
 {
     Spot {
         text,

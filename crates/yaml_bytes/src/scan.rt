@@ -1,6 +1,6 @@
 //! Passes over the bytes of a line.
 
-ghost use Rattle.std.specs.Prelude.{◌≡◌, ◌≤◌, length};
+ghost use Rattle.std.specs.Prelude.{◌≡◌, ◌≤◌, ◌&&◌, nat_le, length};
 ghost use Rattle.std.specs.List.{prefix_len};
 ghost use Rattle.yaml_bytes.specs.Bytes.{is_blank, characters};
 ghost use Rattle.yaml_bytes.specs.Plain.{ends_word};
@@ -38,6 +38,14 @@ pub fn trimmed(text: &[u8]) -> &[u8]
     rest
 }
 
+// Whether a byte is a small letter or one of `^ _` and the grave accent. No word ends before these,
+// and most bytes of words are among them.
+fn is_inner(b: u8) -> bool
+    ensures { result ≡ (nat_le 94 b && nat_le b 122) }
+{
+    b'^' <= b && b <= b'z'
+}
+
 // Whether a plain word ends before this text, where `before` is the byte in front of it.
 fn ends_word(flow: bool, before: u8, text: &[u8]) -> bool
     ensures { result ≡ ends_word flow before text.now }
@@ -45,9 +53,10 @@ fn ends_word(flow: bool, before: u8, text: &[u8]) -> bool
     match text {
         [] => true,
         [b, after @ ..] => {
-            (flow && is_flow_indicator(*b))
-                || (*b == b'#' && is_blank(before))
-                || (*b == b':' && begins_break(flow, after))
+            !is_inner(*b)
+                && ((flow && is_flow_indicator(*b))
+                    || (*b == b'#' && is_blank(before))
+                    || (*b == b':' && begins_break(flow, after)))
         }
     }
 }

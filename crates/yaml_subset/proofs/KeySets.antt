@@ -3,6 +3,7 @@ use Rattle.std.proofs.Common.{is_eq, ◌≡◌, ℕ, Bool, true, false, cond, �
 use Rattle.std.specs.Bool.{Decides}
 use Rattle.std.specs.List.{list_any, Contains}
 use Rattle.std.specs.Str.{bytes_eq}
+use Rattle.std.specs.Cow.{cow_slice_items}
 use Rattle.std.specs.Global.{Vec}
 use Rattle.std.specs.Ordering.{nat_cmp, match_ordering}
 use Rattle.std.specs.declared.cmp.Ordering.{Ordering}
@@ -124,6 +125,6 @@ hashed_key-among keys v q = seen (list_any (λ k. bytes_eq v.items k.items) keys
 -- ---- keys of pairs
 
 -- comparing a key with each of the keys of pairs
-pub among_pairs : (pairs : List (Key × Tree)) (key : List ℕ) → list_any (λ p. bytes_eq p.0.text.items key) pairs ≡ is_among (keys_of (map pair_view pairs)) key
+pub among_pairs : (pairs : List (Key × Tree)) (key : List ℕ) → list_any (λ p. bytes_eq (cow_slice_items p.0.text) key) pairs ≡ is_among (keys_of (map pair_view pairs)) key
 among_pairs [] key = refl
-among_pairs (p ∷ pairs) key = ap (λ b. bytes_eq p.0.text.items key || b) (among_pairs pairs key)
+among_pairs (p ∷ pairs) key = ap (λ b. bytes_eq (cow_slice_items p.0.text) key || b) (among_pairs pairs key)

@@ -1,5 +1,6 @@
 -- A text in quotes is what reading it from the left gives.
-use Rattle.std.proofs.Common.{◌≡◌, ◌≢◌, ℕ, ◌≤◌, ◌<◌, ◌-◌, ◌==◌, true, false, List, [], ◌∷◌, ◌++◌, length, take, drop, get_or, Option, Some, None, Result, Ok, Err, refl, sym, ap, subst, ◌∙◌, inl, inr, arith, append_assoc}
+use Rattle.std.proofs.Common.{◌≡◌, ◌≢◌, ℕ, suc, ◌≤◌, ◌<◌, ◌-◌, ◌==◌, Bool, true, false, List, [], ◌∷◌, ◌++◌, length, take, drop, get_or, Option, Some, None, Result, Ok, Err, refl, sym, ap, subst, ◌∙◌, inl, inr, arith, append_assoc}
+use Rattle.std.specs.List.{prefix_len}
 use Rattle.std.proofs.lemmas.Bool.{cases_Bool, both_ways, eqb-true, eq-eqb, ne_eqb}
 use Rattle.std.proofs.lemmas.List.{append-nil}
 use Rattle.yaml_subset.specs.declared.fault.FaultKind.TheVariants.{Quote}
@@ -8,7 +9,7 @@ use Rattle.yaml_subset.specs.declared.place.Halt.{Halt}
 use Rattle.yaml_subset.specs.declared.place.Halt.TheVariants as halts
 use Rattle.yaml_bytes.specs.Results.{◌>>=◌}
 use Rattle.yaml_subset.specs.Placed.{fault_at, HaltsAs}
-use Rattle.yaml_subset.specs.Quoted.{IsSingleByte, unescaped, IsDoubleByte, IsWrittenBy, begins_single, IsSingle, IsDouble, onto_value, single_at, escape_at, double_at, byte_behind_backslash, double_byte_at}
+use Rattle.yaml_subset.specs.Quoted.{IsSingleByte, unescaped, IsDoubleByte, is_itself_in_single, is_itself_in_double, IsWrittenBy, begins_single, IsSingle, IsDouble, onto_value, single_at, escape_at, double_at, byte_behind_backslash, double_byte_at}
 use Rattle.yaml_bytes.proofs.Steps.{ok_is}
 use Rattle.yaml_bytes.proofs.TextLines.{none_at, after_first}
 
@@ -52,6 +53,11 @@ pub double-ends : (n : ℕ) (b : ℕ) (bs : List ℕ) → (b == 34) ≡ true →
 unfolding double_at
 double-ends n b [] e = rw e refl
 double-ends n b (c ∷ cs) e = rw e refl
+
+double-other : (n : ℕ) (b : ℕ) (bs : List ℕ) → (b == 34) ≡ false → (b == 92) ≡ false → double_at n (b ∷ bs) ≡ onto_value b (double_at n bs)
+unfolding double_at
+double-other n b [] f g = rw (f, g) refl
+double-other n b (c ∷ cs) f g = rw (f, g) refl
 
 escape_step : (n : ℕ) (o : Option ℕ) (left : ℕ) (cs : List ℕ) → escape_at n o left (double_at n cs) ≡ (byte_behind_backslash n o left cs >>= λ r. onto_value r.0 (double_at n r.1))
 escape_step n None left cs = refl
@@ -147,6 +153,74 @@ module _ (n : ℕ) (rest value : List ℕ) (total : Result (List ℕ × List ℕ
   unfolding double_at
   double_open so_far short = sym so_far ∙ ap (λ xs. with_value value (double_at n xs)) (none_at rest short)
 
+-- ---- the bytes at the front that stand for themselves
+
+len_yes : (p : ℕ → Bool) (x : ℕ) (xs : List ℕ) → p x ≡ true → prefix_len p (x ∷ xs) ≡ suc (prefix_len p xs)
+len_yes p x xs t = rw t (omega arith)
+
+len_no : (p : ℕ → Bool) (x : ℕ) (xs : List ℕ) → p x ≡ false → prefix_len p (x ∷ xs) ≡ 0
+len_no p x xs t = rw t refl
+
+-- one byte more in front of those that were read
+one_more : (p : ℕ → Bool) (b : ℕ) (bs after : List ℕ) (read : Result (List ℕ × List ℕ) PlacedFault) → p b ≡ true → read ≡ Ok (take (prefix_len p bs) bs, after)
+    → onto_value b read ≡ Ok (take (prefix_len p (b ∷ bs)) (b ∷ bs), after)
+one_more p b bs after read t e = ap (onto_value b) e ∙ ap (λ k. Ok (take k (b ∷ bs), after)) (sym (len_yes p b bs t))
+
+-- none is in front of the quote
+none_more : (p : ℕ → Bool) (b x : ℕ) (bs after : List ℕ) (read : Result (List ℕ × List ℕ) PlacedFault) → p b ≡ false → drop (prefix_len p (b ∷ bs)) (b ∷ bs) ≡ x ∷ after → read ≡ Ok ([], bs)
+    → read ≡ Ok (take (prefix_len p (b ∷ bs)) (b ∷ bs), after)
+none_more p b x bs after read f e is =
+    let here : b ∷ bs ≡ x ∷ after = ap (λ k. drop k (b ∷ bs)) (sym (len_no p b bs f)) ∙ e in
+    is ∙ ap (λ (xs : List ℕ). Ok ([], xs)) (ap (drop 1) here) ∙ ap (λ k. Ok (take k (b ∷ bs), after)) (sym (len_no p b bs f))
+
+single_front : (n : ℕ) (text : List ℕ) (x : ℕ) (after : List ℕ) → drop (prefix_len is_itself_in_single text) text ≡ x ∷ after → begins_single after ≡ false
+    → single_at n text ≡ Ok (take (prefix_len is_itself_in_single text) text, after)
+single_front n [] x after e ends = absurd cc
+single_front n (b ∷ bs) x after e ends =
+    elim (cases_Bool (b == 39)) [
+      | inl t ↦
+          let no : is_itself_in_single b ≡ false = rw t refl in
+          let here : b ∷ bs ≡ x ∷ after = ap (λ k. drop k (b ∷ bs)) (sym (len_no is_itself_in_single b bs no)) ∙ e in
+          none_more is_itself_in_single b x bs after (single_at n (b ∷ bs)) no e (single-ends n b bs t (ap (λ (xs : List ℕ). begins_single (drop 1 xs)) here ∙ ends))
+      | inr f ↦
+          let yes : is_itself_in_single b ≡ true = rw f refl in
+          let below = single_front n bs x after (ap (λ k. drop k (b ∷ bs)) (sym (len_yes is_itself_in_single b bs yes)) ∙ e) ends in
+          single-other n b bs f ∙ one_more is_itself_in_single b bs after (single_at n bs) yes below
+    ]
+
+double_front : (n : ℕ) (text after : List ℕ) → drop (prefix_len is_itself_in_double text) text ≡ 34 ∷ after → double_at n text ≡ Ok (take (prefix_len is_itself_in_double text) text, after)
+double_front n [] after e = absurd cc
+double_front n (b ∷ bs) after e =
+    elim (cases_Bool (b == 34)) [
+      | inl t ↦
+          let no : is_itself_in_double b ≡ false = rw t refl in
+          none_more is_itself_in_double b 34 bs after (double_at n (b ∷ bs)) no e (double-ends n b bs t)
+      | inr f ↦ elim (cases_Bool (b == 92)) [
+        | inl u ↦
+            let no : is_itself_in_double b ≡ false = rw (f, u) refl in
+            let here : b ∷ bs ≡ 34 ∷ after = ap (λ k. drop k (b ∷ bs)) (sym (len_no is_itself_in_double b bs no)) ∙ e in
+            absurd (both_ways (b == 34) f (eq-eqb b 34 (ap (λ (xs : List ℕ). get_or xs 0 0) here)))
+        | inr g ↦
+            let yes : is_itself_in_double b ≡ true = rw (f, g) refl in
+            let below = double_front n bs after (ap (λ k. drop k (b ∷ bs)) (sym (len_yes is_itself_in_double b bs yes)) ∙ e) in
+            double-other n b bs f g ∙ one_more is_itself_in_double b bs after (double_at n bs) yes below
+      ]
+    ]
+
+-- a text that is cut after those bytes
+module _ (n : ℕ) (text front end : List ℕ) (len : ℕ) where
+  pub single_cut : len ≡ prefix_len is_itself_in_single text → front ≡ take len text → end ≡ drop len text → 1 ≤ length end → begins_single (behind end) ≡ false → single_at n text ≡ Ok (front, behind end)
+  single_cut is cut rest long ends =
+      single_front n text (get_or end 0 0) (behind end) (ap (λ k. drop k text) (sym is) ∙ sym rest ∙ after_first end long) ends
+      ∙ ap (λ k. Ok (take k text, behind end)) (sym is)
+      ∙ ap (λ (xs : List ℕ). Ok (xs, behind end)) (sym cut)
+
+  pub double_cut : len ≡ prefix_len is_itself_in_double text → front ≡ take len text → end ≡ drop len text → 1 ≤ length end → get_or end 0 0 ≡ 34 → double_at n text ≡ Ok (front, behind end)
+  double_cut is cut rest long quote =
+      double_front n text (behind end) (ap (λ k. drop k text) (sym is) ∙ sym rest ∙ after_first end long ∙ ap (λ b. b ∷ behind end) quote)
+      ∙ ap (λ k. Ok (take k text, behind end)) (sym is)
+      ∙ ap (λ (xs : List ℕ). Ok (xs, behind end)) (sym cut)
+
 -- ---- the value is written so
 
 onto_ok : (b : ℕ) (read : Result (List ℕ × List ℕ) PlacedFault) (value after : List ℕ) → onto_value b read ≡ Ok (value, after) → (v : List ℕ) × (value ≡ b ∷ v) × (read ≡ Ok (v, after))
@@ -240,11 +314,6 @@ double_escaped b c x cs v after t u h = record {
   is_written = (92 ∷ c ∷ [], h.written, refl, inr (c, u, refl), h.is_written);
   parts = ap (λ y. y ∷ c ∷ cs) (eqb-true b 92 t) ∙ ap (λ (xs : List ℕ). 92 ∷ c ∷ xs) h.parts;
 }
-
-double-other : (n : ℕ) (b : ℕ) (bs : List ℕ) → (b == 34) ≡ false → (b == 92) ≡ false → double_at n (b ∷ bs) ≡ onto_value b (double_at n bs)
-unfolding double_at
-double-other n b [] f g = rw (f, g) refl
-double-other n b (c ∷ cs) f g = rw (f, g) refl
 
 double-escape : (n : ℕ) (b c : ℕ) (cs : List ℕ) → (b == 34) ≡ false → (b == 92) ≡ true → double_at n (b ∷ c ∷ cs) ≡ escape_at n (unescaped c) (length (b ∷ c ∷ cs)) (double_at n cs)
 unfolding double_at

@@ -1,7 +1,9 @@
 -- What the reader's own contracts see of the values that it passes on.
 use Rattle.std.specs.Prelude.{◌≡◌, ℕ, nat_le, ◌==◌, Bool, ◌&&◌, ◌||◌, List, map, drop, Option, Some, None, Result, Ok, Err}
 use Rattle.std.specs.Borrow.{Bor}
-use Rattle.std.specs.Global.{Vec}
+use Rattle.std.specs.Cow.{cow_slice_items}
+use Rattle.std.specs.Global.{Vec, Global}
+use Rattle.std.specs.declared.borrow.CowSlice.{CowSlice}
 use Rattle.yaml_subset.specs.declared.place.PlacedFault.{PlacedFault}
 use Rattle.yaml_subset.specs.declared.entry.Head as heads
 use Rattle.yaml_subset.specs.declared.line.Line as lines
@@ -23,7 +25,7 @@ node_option_view (Some t) = Some (node_view t)
 
 abbrev pub head_view : heads.Head → Head
 head_view (heads.TheVariants.Item after) = item after.now
-head_view (heads.TheVariants.Entry key after) = entry key.items after.now
+head_view (heads.TheVariants.Entry key after) = entry (cow_slice_items key) after.now
 head_view (heads.TheVariants.Alone t) = alone (node_view t)
 
 abbrev pub line_view : lines.Line → Line
@@ -36,15 +38,18 @@ abbrev pub line_option_view : Option lines.Line → Option Line
 line_option_view None = None
 line_option_view (Some l) = Some (line_view l)
 
--- a byte or a value, and the part of a line that comes after it
+-- a byte, a value in quotes or a word, and the part of a line that comes after it
 abbrev pub byte_view : ℕ × Bor (List ℕ) → ℕ × List ℕ
 byte_view r = (r.0, r.1.now)
 
-abbrev pub word_view : Vec ℕ × Bor (List ℕ) → List ℕ × List ℕ
-word_view r = (r.0.items, r.1.now)
+abbrev pub quoted_view : Vec ℕ × Bor (List ℕ) → List ℕ × List ℕ
+quoted_view r = (r.0.items, r.1.now)
+
+abbrev pub word_view : CowSlice ℕ Global × Bor (List ℕ) → List ℕ × List ℕ
+word_view r = (cow_slice_items r.0, r.1.now)
 
 -- a key and what comes after its colon, or nothing
-abbrev pub key_option_view : Option (Vec ℕ × Bor (List ℕ)) → Option (List ℕ × List ℕ)
+abbrev pub key_option_view : Option (CowSlice ℕ Global × Bor (List ℕ)) → Option (List ℕ × List ℕ)
 key_option_view None = None
 key_option_view (Some r) = Some (word_view r)
 

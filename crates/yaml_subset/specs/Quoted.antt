@@ -1,5 +1,5 @@
 -- Texts in quotes, as they are on a line after the opening quote.
-use Rattle.std.specs.Prelude.{◌≡◌, ◌≢◌, ℕ, Bool, false, List, [], ◌∷◌, ◌++◌, length, Option, Some, None, Result, Ok, Err, if◌then◌else◌, ◌==◌, ◌⊎◌}
+use Rattle.std.specs.Prelude.{◌≡◌, ◌≢◌, ℕ, Bool, false, not, ◌||◌, List, [], ◌∷◌, ◌++◌, length, Option, Some, None, Result, Ok, Err, if◌then◌else◌, ◌==◌, ◌⊎◌}
 use Rattle.yaml_subset.specs.declared.fault.FaultKind.TheVariants.{Quote}
 use Rattle.yaml_subset.specs.declared.place.PlacedFault.{PlacedFault}
 use Rattle.yaml_subset.specs.Placed.{fault_at}
@@ -17,6 +17,13 @@ unescaped e = if e == 92 then Some 92 else (if e == 34 then Some 34 else (if e =
 -- how a byte is written between double quotes: as it is, but for the quote and the backslash; or after a backslash
 abbrev pub IsDoubleByte : ℕ → List ℕ → Type 0
 IsDoubleByte b text = ((b ≢ 34) × (b ≢ 92) × (text ≡ b ∷ [])) ⊎ ((e : ℕ) × (unescaped e ≡ Some b) × (text ≡ 92 ∷ e ∷ []))
+
+-- whether a byte stands for itself between quotes, and ends no value
+abbrev pub is_itself_in_single : ℕ → Bool
+is_itself_in_single b = not (b == 39)
+
+abbrev pub is_itself_in_double : ℕ → Bool
+is_itself_in_double b = not ((b == 34) || (b == 92))
 
 -- how a value is written: its bytes, one after the other
 abbrev pub IsWrittenBy : (ℕ → List ℕ → Type 0) → List ℕ → List ℕ → Type 0

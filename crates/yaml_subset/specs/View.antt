@@ -1,5 +1,6 @@
 -- What contracts see of a tree, and of an answer.
 use Rattle.std.specs.Prelude.{◌≡◌, ℕ, List, map, Option, Some, None, Result, Ok, Err}
+use Rattle.std.specs.Cow.{cow_slice_items}
 pub use Rattle.yaml_bytes.specs.View.{option_slice}
 use Rattle.yaml_subset.specs.declared.fault.Fault.{Fault}
 use Rattle.yaml_subset.specs.declared.fault.YamlFault.{YamlFault}
@@ -11,10 +12,10 @@ use Rattle.yaml_subset.specs.Node.{Node, scalar, sequence, mapping, Pair, nodes_
 
 -- one level of a tree, each value in it seen already
 abbrev pub pair_step : (Key × Node) → Pair
-pair_step p = record { line = p.0.line; key = p.0.text.items; value = p.1 }
+pair_step p = record { line = p.0.line; key = cow_slice_items p.0.text; value = p.1 }
 
 abbrev pub node_step : Tree-F Node → Node
-node_step (Tree-F.Scalar n text) = scalar n text.items
+node_step (Tree-F.Scalar n text) = scalar n (cow_slice_items text)
 node_step (Tree-F.List n items) = sequence n (nodes_of items.items)
 node_step (Tree-F.Map n pairs) = mapping n (pairs_of (map pair_step pairs.items))
 
@@ -24,7 +25,7 @@ node_view = fold-Tree Node node_step
 
 -- the pair that a key and its tree are
 abbrev pub pair_view : (Key × Tree) → Pair
-pair_view p = record { line = p.0.line; key = p.0.text.items; value = node_view p.1 }
+pair_view p = record { line = p.0.line; key = cow_slice_items p.0.text; value = node_view p.1 }
 
 -- the line of a node
 abbrev pub line_of : Node → ℕ

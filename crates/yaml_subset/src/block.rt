@@ -16,6 +16,7 @@ use crate::line::Line;
 use crate::place::Halt;
 use crate::tree::{Key, Tree};
 use std::alloc::Global;
+use std::borrow::CowSlice;
 use yaml_bytes::{
     before_colon, begins_blank, begins_item, behind_blanks, behind_dash, behind_spaces, is_over,
     spaces_len,
@@ -93,8 +94,8 @@ fn misplaced(around: Option<usize>, line: &Line) -> Halt
 
 // A value that is on a line, where no line may be below it.
 #[tactic(auto, unfolding(crate::specs::Reading::closed_at))]
-fn closed(around: Option<usize>, value: Tree, below: &[Line]) -> Result<Tree, Halt>
-    ensures { GivesOrHalts node_view result (closed_at around (node_view value) (lines_view below.now)) }
+fn closed<'a>(around: Option<usize>, value: Tree<'a>, below: &[Line]) -> Result<Tree<'a>, Halt>
+    ensures { GivesOrHalts node_view result (closed_at around (node_view value.entry) (lines_view below.now)) }
 {
     match below {
         [] => Ok(value),
@@ -103,31 +104,34 @@ fn closed(around: Option<usize>, value: Tree, below: &[Line]) -> Result<Tree, Ha
 }
 
 // The empty text at a line.
-fn empty(alloc: Global, number: u32) -> Tree
+fn empty<'a>(number: u32) -> Tree<'a>
     ensures { node_view result ≡ scalar number [] }
 {
-    Tree::Scalar(number, Vec::new(alloc))
+    Tree::Scalar(number, CowSlice::Borrowed(&[]))
 }
 
 // The value of an entry or item at an indentation: on its line, or the block below it, or the empty
 // text.
 #[cycle(block)]
 #[tactic(auto, unfolding(crate::specs::Reading::entry_value_at))]
-fn value(
+fn value<'a>(
     alloc: Global,
     hashing: KeyHashing,
     number: u32,
     indent: usize,
-    inline: Option<Tree>,
-    below: &[Line],
+    inline: Option<Tree<'a>>,
+    below: &[Line<'a>],
     levels: u8,
-) -> Result<Tree, Halt>
-    ensures { GivesOrHalts node_view result (entry_value_at (tree_at levels 8) number indent (node_option_view inline) (lines_view below.now)) }
+) -> Result<Tree<'a>, Halt>
+    ensures { GivesOrHalts node_view result (entry_value_at (tree_at levels 8) number indent (node_option_view inline.entry) (lines_view below.now)) }
 {
     match inline {
         Some(value) => closed(Some(indent), value, below),
         None => match below {
-            [] => Ok(empty(alloc, number)),
+            [] => {
+                let value = empty(number);
+                Ok(value)
+            }
             [first, others @ ..] => block(alloc, hashing, Some(indent), first, others, levels),
         },
     }
@@ -137,17 +141,17 @@ fn value(
 // their keys, or none.
 #[cycle(block)]
 #[tactic(auto, unfolding(crate::specs::Reading::pair_at, crate::specs::Reading::pair_from))]
-fn pair(
+fn pair<'a>(
     alloc: Global,
     hashing: KeyHashing,
     around: Option<usize>,
     indent: usize,
-    line: &Line,
-    below: &[Line],
+    line: &Line<'a>,
+    below: &[Line<'a>],
     pairs: &[(Key, Tree)],
     keys: &mut KeySet,
     levels: u8,
-) -> Result<(Key, Tree), Halt>
+) -> Result<(Key<'a>, Tree<'a>), Halt>
     requires { HasNoneOrAll (copies_view keys.old) (keys_of (map pair_view pairs.now)) }
     ensures value { GivesOrHalts pair_view result (pair_at 8 (tree_at levels 8) around indent (keys_of (map pair_view pairs.now)) (record { head = line_view line.now; below = lines_view below.now })) }
     ensures known { IfOk result (λ pair. HasNoneOrAll (copies_view keys.new) (keys_of (map pair_view pairs.now) ++ (pair_view pair).key ∷ [])) }
@@ -188,7 +192,7 @@ fn mapping<'a>(
     first: &Line<'a>,
     others: &[Line<'a>],
     levels: u8,
-) -> Result<Tree, Halt>
+) -> Result<Tree<'a>, Halt>
     ensures { GivesOrHalts node_view result (mapping_at 8 (tree_at levels 8) around (line_view first.now) (lines_view others.now)) }
 {
     let indent = first.indent;
@@ -231,7 +235,7 @@ fn item<'a>(
     line: &Line<'a>,
     below: &[Line<'a>],
     levels: u8,
-) -> Result<Tree, Halt>
+) -> Result<Tree<'a>, Halt>
     ensures { GivesOrHalts node_view result (sequence_item_at 8 (tree_at levels 8) around indent (record { head = line_view line.now; below = lines_view below.now })) }
 {
     let number = line.number;
@@ -276,7 +280,7 @@ fn sequence<'a>(
     first: &Line<'a>,
     others: &[Line<'a>],
     levels: u8,
-) -> Result<Tree, Halt>
+) -> Result<Tree<'a>, Halt>
     ensures { GivesOrHalts node_view result (sequence_at 8 (tree_at levels 8) around (line_view first.now) (lines_view others.now)) }
 {
     let indent = first.indent;
@@ -304,7 +308,7 @@ fn block<'a>(
     first: &Line<'a>,
     others: &[Line<'a>],
     levels: u8,
-) -> Result<Tree, Halt>
+) -> Result<Tree<'a>, Halt>
     ensures { GivesOrHalts node_view result (tree_at levels 8 around (line_view first.now ∷ lines_view others.now)) }
 {
     match head_of(alloc, hashing, first.number, first.text())? {
@@ -317,7 +321,12 @@ fn block<'a>(
 
 /// The tree of lines with at most so many sequences and mappings one inside the other.
 #[tactic(auto, unfolding(crate::specs::Reading::tree_at, crate::specs::Reading::block_at))]
-pub fn tree(alloc: Global, hashing: KeyHashing, lines: &[Line], levels: u8) -> Result<Tree, Halt>
+pub fn tree<'a>(
+    alloc: Global,
+    hashing: KeyHashing,
+    lines: &[Line<'a>],
+    levels: u8,
+) -> Result<Tree<'a>, Halt>
     ensures { GivesOrHalts node_view result (tree_at levels 8 None (lines_view lines.now)) }
 {
     match lines {

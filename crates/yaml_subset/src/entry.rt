@@ -12,6 +12,7 @@ use crate::place::Halt;
 use crate::tree::Tree;
 use crate::words::word;
 use std::alloc::{AllocError, Global};
+use std::borrow::CowSlice;
 use yaml_bytes::{behind_blanks, behind_dash, is_over};
 
 /// The most lists and mappings that may be one inside the other on one line.
@@ -23,9 +24,9 @@ pub enum Head<'a> {
     /// An item: the text after its `-`.
     Item(&'a [u8]),
     /// An entry: its key, and the text after its colon.
-    Entry(Vec<u8>, &'a [u8]),
+    Entry(CowSlice<'a, u8>, &'a [u8]),
     /// A value, and nothing after it but a comment.
-    Alone(Tree),
+    Alone(Tree<'a>),
 }
 
 // What a line begins that is no item: an entry or a value.
@@ -70,7 +71,7 @@ pub fn key_of(
     alloc: Global,
     number: u32,
     text: &[u8],
-) -> Result<Option<(Vec<u8>, &[u8])>, AllocError>
+) -> Result<Option<(CowSlice<'_, u8>, &[u8])>, AllocError>
     ensures { IfOk result (λ key. key_option_view key ≡ key_at number text.now) }
 {
     match word(alloc, number, false, text) {
@@ -87,7 +88,7 @@ pub fn inline(
     hashing: KeyHashing,
     number: u32,
     text: &[u8],
-) -> Result<Option<Tree>, Halt>
+) -> Result<Option<Tree<'_>>, Halt>
     ensures { GivesOrHalts node_option_view result (inline_at 8 number text.now) }
 {
     let rest = behind_blanks(text);

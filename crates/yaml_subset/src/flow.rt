@@ -133,7 +133,7 @@ fn value(
     levels: u8,
     number: u32,
     text: &[u8],
-) -> Result<(Tree, &[u8]), Halt>
+) -> Result<(Tree<'_>, &[u8]), Halt>
     ensures { GivesOrHalts flow_view result (flow_value_at number (flow_at levels number) text.now) }
 {
     if begins_bracket(text) {
@@ -154,7 +154,7 @@ fn pair<'a>(
     pairs: &[(Key, Tree)],
     keys: &mut KeySet,
     text: &'a [u8],
-) -> Result<((Key, Tree), &'a [u8]), Halt>
+) -> Result<((Key<'a>, Tree<'a>), &'a [u8]), Halt>
     requires { HasNoneOrAll (copies_view keys.old) (keys_of (map pair_view pairs.now)) }
     ensures value { GivesOrHalts flow_pair_view result (flow_pair_at number (flow_value_at number (flow_at levels number)) (keys_of (map pair_view pairs.now)) text.now) }
     ensures known { IfOk result (λ r. HasNoneOrAll (copies_view keys.new) (keys_of (map pair_view pairs.now) ++ (pair_view r.0).key ∷ [])) }
@@ -195,7 +195,7 @@ fn list(
     levels: u8,
     number: u32,
     after: &[u8],
-) -> Result<(Tree, &[u8]), Halt>
+) -> Result<(Tree<'_>, &[u8]), Halt>
     ensures { GivesOrHalts flow_view result (flow_list_at number (flow_value_at number (flow_at levels number)) after.now) }
 {
     let mut items = Vec::new(alloc);
@@ -219,7 +219,7 @@ fn mapping(
     levels: u8,
     number: u32,
     after: &[u8],
-) -> Result<(Tree, &[u8]), Halt>
+) -> Result<(Tree<'_>, &[u8]), Halt>
     ensures { GivesOrHalts flow_view result (flow_mapping_at number (flow_value_at number (flow_at levels number)) after.now) }
 {
     let mut keys = no_keys(alloc, hashing);
@@ -252,7 +252,7 @@ pub fn flow(
     levels: u8,
     number: u32,
     text: &[u8],
-) -> Result<(Tree, &[u8]), Halt>
+) -> Result<(Tree<'_>, &[u8]), Halt>
     ensures { GivesOrHalts flow_view result (flow_at levels number text.now) }
 {
     if levels == 0 {

@@ -32,5 +32,5 @@ pub mod tree;
 mod words;
 
 pub use fault::{Fault, FaultKind, YamlFault};
-pub use reader::read;
+pub use reader::{read, read_hashed};
 pub use tree::{Key, Tree};

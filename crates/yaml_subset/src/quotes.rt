@@ -1,13 +1,15 @@
 //! Texts in quotes.
 
-ghost use Rattle.std.specs.Prelude.{◌≡◌};
+ghost use Rattle.std.specs.Prelude.{◌≡◌, ◌≤◌, length};
+ghost use Rattle.std.specs.List.{prefix_len};
 ghost use Rattle.yaml_subset.specs.Placed.{GivesOrHalts};
-ghost use Rattle.yaml_subset.specs.Quoted.{begins_single, single_at, double_byte_at, double_at, unescaped};
-ghost use Rattle.yaml_subset.specs.Inside.{word_view, byte_view};
+ghost use Rattle.yaml_subset.specs.Quoted.{begins_single, is_itself_in_single, is_itself_in_double, single_at, double_byte_at, double_at, unescaped};
+ghost use Rattle.yaml_subset.specs.Inside.{quoted_view, word_view, byte_view};
 
 use crate::fault::FaultKind;
 use crate::place::Halt;
 use std::alloc::Global;
+use std::borrow::CowSlice;
 
 // Whether a single quote comes first.
 fn begins_single(text: &[u8]) -> bool
@@ -19,9 +21,17 @@ fn begins_single(text: &[u8]) -> bool
     }
 }
 
-/// The value of a text in single quotes, read from after the first quote on, and what follows the last.
-pub fn single(alloc: Global, number: u32, text: &[u8]) -> Result<(Vec<u8>, &[u8]), Halt>
-    ensures { GivesOrHalts word_view result (single_at number text.now) }
+// How many bytes come first that stand for themselves between single quotes.
+fn single_len(text: &[u8]) -> usize
+    ensures within { result ≤ length text.now }
+    ensures value { result ≡ prefix_len is_itself_in_single text.now }
+{
+    text.iter().take_while(|b| **b != b'\'').count()
+}
+
+// The value of a text in single quotes, byte by byte.
+fn each_single(alloc: Global, number: u32, text: &[u8]) -> Result<(Vec<u8>, &[u8]), Halt>
+    ensures { GivesOrHalts quoted_view result (single_at number text.now) }
 {
     let mut value = Vec::new(alloc);
     let mut rest = text;
@@ -36,6 +46,21 @@ pub fn single(alloc: Global, number: u32, text: &[u8]) -> Result<(Vec<u8>, &[u8]
         value.push(*b)?;
     }
     Err(Halt::at(FaultKind::Quote, number, 0))
+}
+
+/// The value of a text in single quotes, read from after the first quote on, and what follows the last.
+/// It has bytes of its own only where a quote is written in it.
+pub fn single(alloc: Global, number: u32, text: &[u8]) -> Result<(CowSlice<'_, u8>, &[u8]), Halt>
+    ensures { GivesOrHalts word_view result (single_at number text.now) }
+{
+    let (front, end) = text.split_at(single_len(text));
+    if let [_, after @ ..] = end
+        && !begins_single(after)
+    {
+        return Ok((CowSlice::Borrowed(front), after));
+    }
+    let (value, after) = each_single(alloc, number, text)?;
+    Ok((CowSlice::Owned(value), after))
 }
 
 // What comes after a backslash for a byte.
@@ -67,9 +92,24 @@ fn double_byte(number: u32, text: &[u8]) -> Result<(u8, &[u8]), Halt>
     }
 }
 
-/// The value of a text in double quotes, read from after the first quote on, and what follows the last.
-pub fn double(alloc: Global, number: u32, text: &[u8]) -> Result<(Vec<u8>, &[u8]), Halt>
-    ensures { GivesOrHalts word_view result (double_at number text.now) }
+// Whether a byte stands for itself between double quotes.
+fn is_itself_in_double(b: u8) -> bool
+    ensures { result ≡ is_itself_in_double b }
+{
+    !(b == b'"' || b == b'\\')
+}
+
+// How many bytes come first that stand for themselves between double quotes.
+fn double_len(text: &[u8]) -> usize
+    ensures within { result ≤ length text.now }
+    ensures value { result ≡ prefix_len is_itself_in_double text.now }
+{
+    text.iter().take_while(|b| is_itself_in_double(**b)).count()
+}
+
+// The value of a text in double quotes, byte by byte.
+fn each_double(alloc: Global, number: u32, text: &[u8]) -> Result<(Vec<u8>, &[u8]), Halt>
+    ensures { GivesOrHalts quoted_view result (double_at number text.now) }
 {
     let mut value = Vec::new(alloc);
     let mut rest = text;
@@ -82,4 +122,19 @@ pub fn double(alloc: Global, number: u32, text: &[u8]) -> Result<(Vec<u8>, &[u8]
         rest = more;
     }
     Err(Halt::at(FaultKind::Quote, number, 0))
+}
+
+/// The value of a text in double quotes, read from after the first quote on, and what follows the last.
+/// It has bytes of its own only where a backslash is in it.
+pub fn double(alloc: Global, number: u32, text: &[u8]) -> Result<(CowSlice<'_, u8>, &[u8]), Halt>
+    ensures { GivesOrHalts word_view result (double_at number text.now) }
+{
+    let (front, end) = text.split_at(double_len(text));
+    if let [b, after @ ..] = end
+        && *b == b'"'
+    {
+        return Ok((CowSlice::Borrowed(front), after));
+    }
+    let (value, after) = each_double(alloc, number, text)?;
+    Ok((CowSlice::Owned(value), after))
 }

@@ -21,16 +21,21 @@ const MAX_BYTES: usize = 1_048_576;
 /// itself among them.
 const MAX_LEVELS: u8 = 32;
 
-// The tree of a text, or its first fault.
+/// The tree of a text, as [`read`] gives it, or its first fault. Keys are hashed as the caller says:
+/// where many texts are read, one SipHash of them all does for each.
 #[tactic(auto, unfolding(crate::specs::Reading::read_at))]
-fn read_exactly(alloc: Global, text: &[u8]) -> Result<Tree, YamlFault>
+pub fn read_hashed<'a>(
+    alloc: Global,
+    hashing: KeyHashing,
+    text: &'a [u8],
+) -> Result<Tree<'a>, YamlFault>
     ensures { GivesTree node_view result (read_at text.now) }
 {
     if text.len() > MAX_BYTES {
         return Err(YamlFault::at(FaultKind::TooLong, 1));
     }
     let found = content_lines(alloc, text)?;
-    match tree(alloc, KeyHashing::of(text), &found.lines, MAX_LEVELS) {
+    match tree(alloc, hashing, &found.lines, MAX_LEVELS) {
         Ok(tree) => match found.fault {
             None => Ok(tree),
             Some(fault) => Err(YamlFault::at(fault.kind, fault.line)),
@@ -51,7 +56,7 @@ fn read_exactly(alloc: Global, text: &[u8]) -> Result<Tree, YamlFault>
 /// leftmost. Bytes that are not UTF-8, or a character that no line may have, come before another
 /// fault at the same place. A text of more than 1 MiB is `TooLong` at line 1, whatever else is
 /// wrong with it.
-pub fn read(alloc: Global, text: &[u8]) -> Result<Tree, YamlFault>
+pub fn read(alloc: Global, text: &[u8]) -> Result<Tree<'_>, YamlFault>
     // What is read is the tree of the text.
     ensures found { IfOk result (λ tree. IsTreeOf 32 8 text.now (node_view tree)) }
 
@@ -64,5 +69,5 @@ pub fn read(alloc: Global, text: &[u8]) -> Result<Tree, YamlFault>
     // Which fault it is, and its line, is what reading line by line gives.
     ensures exact { GivesTree node_view result (read_at text.now) }
 {
-    read_exactly(alloc, text)
+    read_hashed(alloc, KeyHashing::of(text), text)
 }

@@ -3,26 +3,29 @@
 ghost use Rattle.std.specs.Prelude.{◌≡◌, map};
 ghost use Rattle.yaml_subset.specs.View.{node_view, pair_view, line_of, text_in, items_in, pairs_in, option_slice};
 
-/// A key, with the line where it begins.
+use std::borrow::CowSlice;
+
+/// A key, with the line where it begins. Its text is a part of what was read, and has bytes of its own
+/// only where an escape is written in it.
 #[derive(Drop)]
-pub struct Key {
+pub struct Key<'t> {
     pub line: u32,
-    pub text: Vec<u8>,
+    pub text: CowSlice<'t, u8>,
 }
 
 /// A node of a text, with the line where it begins, counted from 1. Where no value
-/// is written, that is the line of the key or `-` in front of it.
+/// is written, that is the line of the key or `-` in front of it. Its texts are as the text of a key.
 #[derive(Drop)]
-pub enum Tree {
+pub enum Tree<'t> {
     /// A text; the empty text where there is no value.
-    Scalar(u32, Vec<u8>),
+    Scalar(u32, CowSlice<'t, u8>),
     /// Nodes in order.
-    List(u32, Vec<Tree>),
+    List(u32, Vec<Tree<'t>>),
     /// Keys with their values, in order; no key comes twice.
-    Map(u32, Vec<(Key, Tree)>),
+    Map(u32, Vec<(Key<'t>, Tree<'t>)>),
 }
 
-impl Tree {
+impl<'t> Tree<'t> {
     /// The line where the node begins.
     pub fn line(&self) -> u32
         ensures { result ≡ line_of (node_view self.now) }
@@ -45,7 +48,7 @@ impl Tree {
     }
 
     /// The nodes of a list.
-    pub fn as_list(&self) -> Option<&[Tree]>
+    pub fn as_list(&self) -> Option<&[Tree<'t>]>
         ensures { option_slice (map node_view) result ≡ items_in (node_view self.now) }
     {
         match self {
@@ -55,7 +58,7 @@ impl Tree {
     }
 
     /// The pairs of a mapping.
-    pub fn as_map(&self) -> Option<&[(Key, Tree)]>
+    pub fn as_map(&self) -> Option<&[(Key<'t>, Tree<'t>)]>
         ensures { option_slice (map pair_view) result ≡ pairs_in (node_view self.now) }
     {
         match self {

@@ -10,6 +10,7 @@ use crate::fault::FaultKind;
 use crate::place::Halt;
 use crate::quotes::{double, single};
 use std::alloc::Global;
+use std::borrow::CowSlice;
 use yaml_bytes::{
     begins_bare_colon, begins_blank, begins_flow_indicator, begins_gap, begins_word, behind_blanks,
     is_flow_indicator, is_mark, split_word, trimmed,
@@ -55,7 +56,7 @@ fn misfit(flow: bool, text: &[u8]) -> FaultKind
 
 // A plain word.
 #[tactic(auto, unfolding(crate::specs::Words::plain_word_at))]
-fn plain(alloc: Global, number: u32, flow: bool, text: &[u8]) -> Result<(Vec<u8>, &[u8]), Halt>
+fn plain(number: u32, flow: bool, text: &[u8]) -> Result<(CowSlice<'_, u8>, &[u8]), Halt>
     ensures { GivesOrHalts word_view result (plain_word_at number flow text.now) }
 {
     if !begins_word(flow, text) {
@@ -65,7 +66,7 @@ fn plain(alloc: Global, number: u32, flow: bool, text: &[u8]) -> Result<(Vec<u8>
     if breaks_flow(flow, rest) {
         return Err(Halt::at(FaultKind::Flow, number, rest.len()));
     }
-    Ok((Vec::from_slice(alloc, trimmed(front))?, rest))
+    Ok((CowSlice::Borrowed(trimmed(front)), rest))
 }
 
 // What comes after a text in quotes and the blanks that follow it, read from after the closing quote on.
@@ -97,13 +98,18 @@ fn behind_quote(number: u32, flow: bool, after: &[u8]) -> Result<&[u8], Halt>
 /// - `NotInSubset`: no word can begin with this character.
 /// - `NoMemory`: memory ran out.
 #[tactic(auto, unfolding(crate::specs::Words::word_at))]
-pub fn word(alloc: Global, number: u32, flow: bool, text: &[u8]) -> Result<(Vec<u8>, &[u8]), Halt>
+pub fn word(
+    alloc: Global,
+    number: u32,
+    flow: bool,
+    text: &[u8],
+) -> Result<(CowSlice<'_, u8>, &[u8]), Halt>
     ensures { GivesOrHalts word_view result (word_at number flow text.now) }
 {
     let (value, after) = match text {
         [b'\'', inside @ ..] => single(alloc, number, inside)?,
         [b'"', inside @ ..] => double(alloc, number, inside)?,
-        _ => return plain(alloc, number, flow, text),
+        _ => return plain(number, flow, text),
     };
     Ok((value, behind_quote(number, flow, after)?))
 }

@@ -1,6 +1,7 @@
 use Rattle.std.proofs.Common.{◌≡◌, ℕ, ◌<◌, List, [], ◌∷◌, ◌++◌, length, map, Result, Ok, refl, sym, inl, ◌∙◌, arith}
 use Rattle.std.proofs.lemmas.Result.{err_from_is_err_and}
 use Rattle.std.proofs.lemmas.List.{map_push}
+use Rattle.std.specs.Cow.{cow_slice_items}
 use Rattle.yaml_subset.specs.declared.place.PlacedFault.{PlacedFault}
 use Rattle.yaml_subset.specs.Node.{Node, Pair, sequence, mapping, nodes_of, pairs_of}
 use Rattle.yaml_subset.specs.Flow.{keys_of, between_at, flow_pair_at, flow_list_at, flow_mapping_at, flow_value_at, flow_at}
@@ -200,4 +201,4 @@ mapping-returns t c =
 -- ---- pairs
 
 pub pair-slice_bounds-is_too_long-count : goal.pair-slice_bounds-is_too_long-count
-pair-slice_bounds-is_too_long-count t c = word_less c.args.number c.args.text.now c.in_ok-key.key.items c.in_ok-key.colon.now c.in_ok-key.ensures
+pair-slice_bounds-is_too_long-count t c = word_less c.args.number c.args.text.now (cow_slice_items c.in_ok-key.key) c.in_ok-key.colon.now c.in_ok-key.ensures

@@ -1,4 +1,5 @@
 use Rattle.std.proofs.Common.{rules, tests, ◌∙◌}
+use Rattle.std.specs.Cow.{cow_slice_items}
 use Rattle.std.specs.Str.{bytes_eq}
 use Rattle.std.proofs.lemmas.Iterator.Search.{any_from_yields_List}
 use Rattle.std.proofs.lemmas.Iterator.{YieldsList-from_slice}
@@ -11,5 +12,5 @@ pub returns : goal.returns
 returns c =
     let pairs = c.args.pairs.now in
     let key = c.args.key.now in
-    any_from_yields_List (λ (p : Key × Tree). bytes_eq p.0.text.items key) _ _ c.any.result c.any.ensures.ran (YieldsList-from_slice pairs cc) (λ x b q k. search (rules, tests))
+    any_from_yields_List (λ (p : Key × Tree). bytes_eq (cow_slice_items p.0.text) key) _ _ c.any.result c.any.ensures.ran (YieldsList-from_slice pairs cc) (λ x b q k. search (rules, tests))
     ∙ among_pairs pairs key

@@ -1,23 +1,8 @@
-use Rattle.std.proofs.Common.{◌∙◌, sym}
-use Rattle.yaml_subset.specs.Quoted.{single_at}
-use Rattle.yaml_subset.proofs.QuotedTexts.{single_stops, single_twice, single_once, single_open}
-use Rattle.yaml_subset.proofs.quotes.single.Goals.{then-b-eq39+else-not-begins_single, else-b-eq39}
+use Rattle.std.proofs.Common.{sym, ◌∙◌}
+use Rattle.yaml_subset.proofs.QuotedTexts.{single_cut}
 use Rattle.yaml_subset.proofs.quotes.single.Goals as goal
 
-pub returns-then-not-begins_single : goal.returns-then-not-begins_single
-returns-then-not-begins_single c =
-    single_stops c.args.number c.loop-rest.rest.now c.loop-rest.value.items (single_at c.args.number c.args.text.now) c.loop-rest.invariant c.in-len1-up.len_at_least c.if-b-eq39.true (sym c.begins_single.ensures ∙ c.if-not-begins_single.true)
-
-pub loop-rest-preserved : goal.loop-rest-preserved
-loop-rest-preserved c =
-    elim c.if-b-eq39.branch [
-      | then-b-eq39+else-not-begins_single w ↦
-          rw (c.in_ok-push.ensures.items, w.rest-is)
-          (single_twice c.args.number c.loop-rest.rest.now c.loop-rest.value.items (single_at c.args.number c.args.text.now) c.loop-rest.invariant c.in-len1-up.len_at_least w.if-b-eq39.true (sym w.begins_single.ensures ∙ w.if-not-begins_single.false))
-      | else-b-eq39 w ↦
-          rw (c.in_ok-push.ensures.items, w.rest-is)
-          (single_once c.args.number c.loop-rest.rest.now c.loop-rest.value.items (single_at c.args.number c.args.text.now) c.loop-rest.invariant c.in-len1-up.len_at_least w.if-b-eq39.false)
-    ]
-
 pub returns : goal.returns
-returns c = rw c.at.ensures (single_open c.args.number c.loop-rest.rest.now c.loop-rest.value.items (single_at c.args.number c.args.text.now) c.loop-rest.invariant c.in_default.len_below)
+returns c =
+    single_cut c.args.number c.args.text.now c.split_at.result.0.now c.split_at.result.1.now c.single_len.result c.single_len.ensures.value c.split_at.ensures.front c.split_at.ensures.back c.in-len1-up.len_at_least
+    (sym c.begins_single.ensures ∙ c.if-not-begins_single.true)
