@@ -1,10 +1,10 @@
 -- What the maps of `Definitions` hold.
-use Rattle.std.specs.Prelude.{◌≡◌, ℕ, Bool, List, map, Option, option_map}
-use Rattle.std.specs.List.{list_any}
+use Rattle.std.specs.Prelude.{◌≡◌, ◌||◌, ℕ, Bool, List, fold, map, Option, option_map}
+use Rattle.std.specs.List.{filter_map, flat_map, list_any}
 use Rattle.std.specs.Str.{bytes_eq}
 use Rattle.std.specs.Borrow.{Bor}
-use Rattle.std.specs.BTreeMap.{BTreeMap}
-use Rattle.std.specs.BTreeSet.{BTreeSet}
+use Rattle.std.specs.HashMap.{HashMap}
+use Rattle.std.specs.HashSet.{HashSet}
 use Rattle.std.specs.Map.{lookup}
 use Rattle.mpf_sections.specs.declared.coils.Coil as coil_rows
 use Rattle.mpf_sections.specs.Rows.{Coil, SectionRows}
@@ -15,10 +15,18 @@ use Rattle.mpf_sections.specs.View.{shot_view}
 use Rattle.mpf_sections.specs.declared.balls.BallDevice as ball_rows
 use Rattle.mpf_sections.specs.Rows.{BallDevice}
 use Rattle.mpf_sections.specs.View.{ball_device_view}
+use Rattle.section_tables.specs.declared.rows.Entry as entry_rows
+use Rattle.section_tables.specs.declared.rows.Fields as field_rows
+use Rattle.mpf_sections.specs.declared.section.Section.{Section}
+use Rattle.mpf_sections.specs.View.{entry_view, fields_view, section_view}
+use Rattle.mpf_sections.specs.Typed.{switch_of}
+use Rattle.mpf_sections.specs.TypedCoils.{coil_of, flipper_of, autofire_of}
+use Rattle.mpf_sections.specs.TypedBalls.{ball_device_of}
+use Rattle.mpf_sections.specs.TypedShots.{shot_of, state_of, shot_profile_of, shots_in, shot_profiles_in}
 use Rattle.mpf_config.specs.Rows.{Rows}
 use Rattle.machine_definitions.specs.declared.profile.Profile as profiles
-use Rattle.machine_definitions.specs.Definitions.{coil_called, has_switch, makes_quick, ball_device_called}
-use Rattle.machine_definitions.specs.Shots.{shot_called, Profile, standard_profile, profile_called}
+use Rattle.machine_definitions.specs.Definitions.{latest_coil, coil_called, has_switch, makes_quick, latest_ball_device, ball_device_called}
+use Rattle.machine_definitions.specs.Shots.{latest_shot, shot_called, Profile, profile_of, standard_profile, latest_profile, profile_called}
 
 -- the names of states
 abbrev pub names_view : List (Bor (List ℕ)) → List (List ℕ)
@@ -32,46 +40,109 @@ abbrev pub has_bytes : List ℕ → Bor (List ℕ) → Bool
 has_bytes name key = bytes_eq name key.now
 
 -- the coil that is found by a name, and whether a name is found
-abbrev pub found_coil : BTreeMap (Bor (List ℕ)) coil_rows.Coil → List ℕ → Option Coil
+abbrev pub found_coil : {S : Type 0} → HashMap (Bor (List ℕ)) coil_rows.Coil S → List ℕ → Option Coil
 found_coil coils name = option_map coil_view (lookup (has_bytes name) coils.entries)
 
-abbrev pub is_found : BTreeSet (Bor (List ℕ)) → List ℕ → Bool
+abbrev pub is_found : {S : Type 0} → HashSet (Bor (List ℕ)) S → List ℕ → Bool
 is_found names name = list_any (has_bytes name) names.keys
 
-abbrev pub found_ball_device : BTreeMap (Bor (List ℕ)) ball_rows.BallDevice → List ℕ → Option BallDevice
+abbrev pub found_ball_device : {S : Type 0} → HashMap (Bor (List ℕ)) ball_rows.BallDevice S → List ℕ → Option BallDevice
 found_ball_device devices name = option_map ball_device_view (lookup (has_bytes name) devices.entries)
 
-abbrev pub found_shot : BTreeMap (Bor (List ℕ)) shot_rows.Shot → List ℕ → Option Shot
+abbrev pub found_shot : {S : Type 0} → HashMap (Bor (List ℕ)) shot_rows.Shot S → List ℕ → Option Shot
 found_shot shots name = option_map shot_view (lookup (has_bytes name) shots.entries)
 
-abbrev pub found_profile : BTreeMap (Bor (List ℕ)) profiles.Profile → List ℕ → Option Profile
+abbrev pub found_profile : {S : Type 0} → HashMap (Bor (List ℕ)) profiles.Profile S → List ℕ → Option Profile
 found_profile found name = option_map profile_view (lookup (has_bytes name) found.entries)
 
 -- by each name the coil that has it is found
-abbrev pub HasCoils : List SectionRows → BTreeMap (Bor (List ℕ)) coil_rows.Coil → Type 0
+abbrev pub HasCoils : {S : Type 0} → List SectionRows → HashMap (Bor (List ℕ)) coil_rows.Coil S → Type 0
 HasCoils machine coils = (name : List ℕ) → found_coil coils name ≡ coil_called machine name
 
 -- the names of switches are found, and those of switches that are made quick
-abbrev pub HasSwitches : List SectionRows → BTreeSet (Bor (List ℕ)) → Type 0
+abbrev pub HasSwitches : {S : Type 0} → List SectionRows → HashSet (Bor (List ℕ)) S → Type 0
 HasSwitches machine names = (name : List ℕ) → is_found names name ≡ has_switch machine name
 
-abbrev pub HasQuick : List SectionRows → BTreeSet (Bor (List ℕ)) → Type 0
+abbrev pub HasQuick : {S : Type 0} → List SectionRows → HashSet (Bor (List ℕ)) S → Type 0
 HasQuick machine names = (name : List ℕ) → is_found names name ≡ makes_quick machine name
 
 -- by each name the ball device that has it is found
-abbrev pub HasBallDevices : List SectionRows → BTreeMap (Bor (List ℕ)) ball_rows.BallDevice → Type 0
+abbrev pub HasBallDevices : {S : Type 0} → List SectionRows → HashMap (Bor (List ℕ)) ball_rows.BallDevice S → Type 0
 HasBallDevices machine devices = (name : List ℕ) → found_ball_device devices name ≡ ball_device_called machine name
 
 -- the shots and the profiles of all texts
-abbrev pub HasShots : Rows → BTreeMap (Bor (List ℕ)) shot_rows.Shot → Type 0
+abbrev pub HasShots : {S : Type 0} → Rows → HashMap (Bor (List ℕ)) shot_rows.Shot S → Type 0
 HasShots rows shots = (name : List ℕ) → found_shot shots name ≡ shot_called rows name
 
-abbrev pub HasProfiles : Rows → BTreeMap (Bor (List ℕ)) profiles.Profile → Type 0
+abbrev pub HasProfiles : {S : Type 0} → Rows → HashMap (Bor (List ℕ)) profiles.Profile S → Type 0
 HasProfiles rows found = (name : List ℕ) → found_profile found name ≡ profile_called rows name
 
+-- ---- what a map gains
+
+-- Under each name is found what was, or the last of these that has the name.
+abbrev pub GainsCoils : {S : Type 0} → (old new : HashMap (Bor (List ℕ)) coil_rows.Coil S) → List Coil → Type 0
+GainsCoils old new more = (name : List ℕ) → found_coil new name ≡ fold (latest_coil name) (found_coil old name) more
+
+abbrev pub GainsBallDevices : {S : Type 0} → (old new : HashMap (Bor (List ℕ)) ball_rows.BallDevice S) → List BallDevice → Type 0
+GainsBallDevices old new more = (name : List ℕ) → found_ball_device new name ≡ fold (latest_ball_device name) (found_ball_device old name) more
+
+abbrev pub GainsShots : {S : Type 0} → (old new : HashMap (Bor (List ℕ)) shot_rows.Shot S) → List Shot → Type 0
+GainsShots old new more = (name : List ℕ) → found_shot new name ≡ fold (latest_shot name) (found_shot old name) more
+
+abbrev pub GainsProfiles : {S : Type 0} → (old new : HashMap (Bor (List ℕ)) profiles.Profile S) → List Profile → Type 0
+GainsProfiles old new more = (name : List ℕ) → found_profile new name ≡ fold (latest_profile name) (found_profile old name) more
+
+-- a name is found that was found, or that is one of these
+abbrev pub GainsNames : {S : Type 0} → (old new : HashSet (Bor (List ℕ)) S) → (is_one : List ℕ → Bool) → Type 0
+GainsNames old new is_one = (name : List ℕ) → is_found new name ≡ (is_found old name || is_one name)
+
+-- ---- entries, as what they are read
+
+abbrev pub as_coils : List entry_rows.Entry → List Coil
+as_coils entries = map coil_of (map entry_view entries)
+
+abbrev pub as_ball_devices : List entry_rows.Entry → List BallDevice
+as_ball_devices entries = map ball_device_of (map entry_view entries)
+
+abbrev pub as_shots : List entry_rows.Entry → List Shot
+as_shots entries = map shot_of (map entry_view entries)
+
+abbrev pub as_profile : entry_rows.Entry → Profile
+as_profile entry = profile_of (shot_profile_of (entry_view entry))
+
+abbrev pub as_profiles : List entry_rows.Entry → List Profile
+as_profiles entries = map profile_of (map shot_profile_of (map entry_view entries))
+
+-- the names of the states of a profile
+abbrev pub as_states : List field_rows.Fields → List (List ℕ)
+as_states maps = map (λ w. w.text) (filter_map state_of (map fields_view maps))
+
+-- whether one of them defines a switch of this name; whether one of these flippers, or autofire coils, uses it
+abbrev pub is_one_switch : List entry_rows.Entry → List ℕ → Bool
+is_one_switch entries name = list_any (λ s. bytes_eq name s.name.text) (map switch_of (map entry_view entries))
+
+abbrev pub is_used_by_flippers : List entry_rows.Entry → List ℕ → Bool
+is_used_by_flippers entries name = list_any (bytes_eq name) (map (λ f. f.switch.text) (map flipper_of (map entry_view entries)))
+
+abbrev pub is_used_by_autofires : List entry_rows.Entry → List ℕ → Bool
+is_used_by_autofires entries name = list_any (bytes_eq name) (map (λ a. a.switch.text) (map autofire_of (map entry_view entries)))
+
+-- ---- sections of the program
+
+-- what they hold
+abbrev pub section_rows : List Section → List SectionRows
+section_rows sections = map section_view sections
+
+-- the shots and the profiles that they define
+abbrev pub shots_among : List Section → List Shot
+shots_among sections = flat_map shots_in (section_rows sections)
+
+abbrev pub profiles_among : List Section → List Profile
+profiles_among sections = map profile_of (flat_map shot_profiles_in (section_rows sections))
+
 -- what all fields of `Definitions` hold, where it is of these rows
-pub record IsDefined (rows : Rows) (coils : BTreeMap (Bor (List ℕ)) coil_rows.Coil) (switches quick : BTreeSet (Bor (List ℕ))) (devices : BTreeMap (Bor (List ℕ)) ball_rows.BallDevice) (shots : BTreeMap (Bor (List ℕ)) shot_rows.Shot)
-    (found : BTreeMap (Bor (List ℕ)) profiles.Profile) (standard : profiles.Profile) : Type 0 where
+pub record IsDefined {S : Type 0} (rows : Rows) (coils : HashMap (Bor (List ℕ)) coil_rows.Coil S) (switches quick : HashSet (Bor (List ℕ)) S) (devices : HashMap (Bor (List ℕ)) ball_rows.BallDevice S) (shots : HashMap (Bor (List ℕ)) shot_rows.Shot S)
+    (found : HashMap (Bor (List ℕ)) profiles.Profile S) (standard : profiles.Profile) : Type 0 where
   pub coils_found : HasCoils rows.machine coils
   pub switches_found : HasSwitches rows.machine switches
   pub quick_found : HasQuick rows.machine quick

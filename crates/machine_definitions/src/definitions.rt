@@ -1,20 +1,17 @@
 //! What the entries of all texts define, found by name.
 
-ghost use Rattle.std.specs.Prelude.{◌≡◌, ◌||◌, ℕ, List, fold, map, option_map, IfOk, OnOk};
-ghost use Rattle.std.specs.List.{list_any};
-ghost use Rattle.std.specs.Str.{bytes_eq};
-ghost use Rattle.mpf_sections.specs.Typed.{switch_of};
-ghost use Rattle.mpf_sections.specs.TypedCoils.{coil_of, flipper_of, autofire_of};
-ghost use Rattle.mpf_sections.specs.TypedBalls.{ball_device_of};
+ghost use Rattle.std.specs.Prelude.{◌≡◌, option_map, IfOk, OnOk};
 ghost use Rattle.mpf_sections.specs.TypedGame.{min_balls_of};
-ghost use Rattle.mpf_sections.specs.View.{entry_view, section_view, coil_view, shot_view, ball_device_view};
+ghost use Rattle.mpf_sections.specs.View.{coil_view, shot_view, ball_device_view};
 ghost use Rattle.mpf_config.specs.View.{rows_view};
-ghost use Rattle.machine_definitions.specs.Definitions.{coil_called, latest_coil, has_switch, makes_quick, latest_ball_device, ball_device_called};
+ghost use Rattle.machine_definitions.specs.Definitions.{coil_called, has_switch, makes_quick, ball_device_called};
 ghost use Rattle.machine_definitions.specs.Shots.{shot_called, has_profile, profile_of_name};
-ghost use Rattle.machine_definitions.specs.Found.{found_coil, found_ball_device, is_found, profile_view, HasCoils, HasSwitches, HasQuick, HasBallDevices};
+ghost use Rattle.machine_definitions.specs.Found.{profile_view, HasCoils, HasSwitches, HasQuick, HasBallDevices, GainsBallDevices, GainsCoils, GainsNames, as_ball_devices, as_coils, is_one_switch, is_used_by_autofires, is_used_by_flippers, section_rows};
 
+use crate::by_name::{ByName, Names};
 use crate::profile::Profile;
 use crate::shots::{profiles_of, shots_of, standard_profile};
+use indexmap::{IndexMap, IndexSet};
 use mpf_config::config::Config;
 use mpf_config::{
     Coil, Entry, Section, Shot, as_autofire, as_coil, as_flipper, as_switch, min_balls,
@@ -25,8 +22,8 @@ use mpf_tables::tables::{
     SWITCHES_NAME,
 };
 use std::alloc::{AllocError, Global};
-use std::collections::{BTreeMap, BTreeSet};
 use std::marker::Model;
+use yaml_subset::keys::KeyHashing;
 
 /// What the entries of a configuration define: the coils of the machine text, the names of its
 /// switches, the names of those that flippers and autofire coils use, its ball devices, and the shots
@@ -34,12 +31,12 @@ use std::marker::Model;
 #[derive(Drop)]
 pub struct Definitions<'a> {
     config: &'a Config,
-    coils: BTreeMap<&'a [u8], Coil<'a>>,
-    switches: BTreeSet<&'a [u8]>,
-    quick: BTreeSet<&'a [u8]>,
-    ball_devices: BTreeMap<&'a [u8], BallDevice<'a>>,
-    shots: BTreeMap<&'a [u8], Shot<'a>>,
-    profiles: BTreeMap<&'a [u8], Profile<'a>>,
+    coils: ByName<'a, Coil<'a>>,
+    switches: Names<'a>,
+    quick: Names<'a>,
+    ball_devices: ByName<'a, BallDevice<'a>>,
+    shots: ByName<'a, Shot<'a>>,
+    profiles: ByName<'a, Profile<'a>>,
     standard: Profile<'a>,
 }
 
@@ -65,10 +62,11 @@ impl<'a> Definitions<'a> {
         ensures { IfOk result (λ d. d ≡ rows_view config.now) }
     {
         let machine: &'a [Section] = config.machine.sections.as_slice();
-        let coils = coils_of(alloc, machine)?;
-        let switches = switches_of(alloc, machine)?;
-        let quick = quick_of(alloc, machine)?;
-        let ball_devices = ball_devices_of(alloc, machine)?;
+        let hashing = config.hashing;
+        let coils = coils_of(alloc, hashing, machine)?;
+        let switches = switches_of(alloc, hashing, machine)?;
+        let quick = quick_of(alloc, hashing, machine)?;
+        let ball_devices = ball_devices_of(alloc, hashing, machine)?;
         let shots = shots_of(alloc, config)?;
         let profiles = profiles_of(alloc, config)?;
         let standard = standard_profile(alloc)?;
@@ -153,22 +151,20 @@ impl<'a> Definitions<'a> {
 #[tactic(auto, unfolding(mpf_sections::specs::TypedCoils::coils_in))]
 fn coils_of<'a>(
     alloc: Global,
+    hashing: KeyHashing,
     sections: &'a [Section],
-) -> Result<BTreeMap<&'a [u8], Coil<'a>>, AllocError>
-    ensures { IfOk result (λ coils. HasCoils (map section_view sections.now) coils) }
+) -> Result<ByName<'a, Coil<'a>>, AllocError>
+    ensures { IfOk result (λ coils. HasCoils (section_rows sections.now) coils) }
 {
-    let mut coils = BTreeMap::new(alloc);
+    let mut coils = IndexMap::with_hasher(alloc, hashing);
     for section in sections {
         add_coils(&mut coils, section.entries_of(COILS_NAME))?;
     }
     Ok(coils)
 }
 
-fn add_coils<'a>(
-    coils: &mut BTreeMap<&'a [u8], Coil<'a>>,
-    entries: &'a [Entry],
-) -> Result<(), AllocError>
-    ensures { OnOk result ((name : List ℕ) → found_coil coils.new name ≡ fold (latest_coil name) (found_coil coils.old name) (map coil_of (map entry_view entries.now))) }
+fn add_coils<'a>(coils: &mut ByName<'a, Coil<'a>>, entries: &'a [Entry]) -> Result<(), AllocError>
+    ensures { OnOk result (GainsCoils coils.old coils.new (as_coils entries.now)) }
 {
     for entry in entries {
         let coil = as_coil(entry);
@@ -180,11 +176,12 @@ fn add_coils<'a>(
 /// The ball devices of all sections, by their names.
 fn ball_devices_of<'a>(
     alloc: Global,
+    hashing: KeyHashing,
     sections: &'a [Section],
-) -> Result<BTreeMap<&'a [u8], BallDevice<'a>>, AllocError>
-    ensures { IfOk result (λ devices. HasBallDevices (map section_view sections.now) devices) }
+) -> Result<ByName<'a, BallDevice<'a>>, AllocError>
+    ensures { IfOk result (λ devices. HasBallDevices (section_rows sections.now) devices) }
 {
-    let mut devices = BTreeMap::new(alloc);
+    let mut devices = IndexMap::with_hasher(alloc, hashing);
     for section in sections {
         add_ball_devices(&mut devices, section.entries_of(BALL_DEVICES_NAME))?;
     }
@@ -192,10 +189,10 @@ fn ball_devices_of<'a>(
 }
 
 fn add_ball_devices<'a>(
-    devices: &mut BTreeMap<&'a [u8], BallDevice<'a>>,
+    devices: &mut ByName<'a, BallDevice<'a>>,
     entries: &'a [Entry],
 ) -> Result<(), AllocError>
-    ensures { OnOk result ((name : List ℕ) → found_ball_device devices.new name ≡ fold (latest_ball_device name) (found_ball_device devices.old name) (map ball_device_of (map entry_view entries.now))) }
+    ensures { OnOk result (GainsBallDevices devices.old devices.new (as_ball_devices entries.now)) }
 {
     for entry in entries {
         let device = as_ball_device(entry);
@@ -206,18 +203,22 @@ fn add_ball_devices<'a>(
 
 /// The names of the switches of all sections.
 #[tactic(auto, unfolding(mpf_sections::specs::Typed::switches_in))]
-fn switches_of<'a>(alloc: Global, sections: &'a [Section]) -> Result<BTreeSet<&'a [u8]>, AllocError>
-    ensures { IfOk result (λ names. HasSwitches (map section_view sections.now) names) }
+fn switches_of<'a>(
+    alloc: Global,
+    hashing: KeyHashing,
+    sections: &'a [Section],
+) -> Result<Names<'a>, AllocError>
+    ensures { IfOk result (λ names. HasSwitches (section_rows sections.now) names) }
 {
-    let mut names = BTreeSet::new(alloc);
+    let mut names = IndexSet::with_hasher(alloc, hashing);
     for section in sections {
         add_switches(&mut names, section.entries_of(SWITCHES_NAME))?;
     }
     Ok(names)
 }
 
-fn add_switches<'a>(names: &mut BTreeSet<&'a [u8]>, entries: &'a [Entry]) -> Result<(), AllocError>
-    ensures { OnOk result ((name : List ℕ) → is_found names.new name ≡ (is_found names.old name || list_any (λ s. bytes_eq name s.name.text) (map switch_of (map entry_view entries.now)))) }
+fn add_switches<'a>(names: &mut Names<'a>, entries: &'a [Entry]) -> Result<(), AllocError>
+    ensures { OnOk result (GainsNames names.old names.new (is_one_switch entries.now)) }
 {
     for entry in entries {
         names.insert(&as_switch(entry).name.text)?;
@@ -227,10 +228,14 @@ fn add_switches<'a>(names: &mut BTreeSet<&'a [u8]>, entries: &'a [Entry]) -> Res
 
 /// The names of the switches of all flippers and autofire coils.
 #[tactic(auto, unfolding(mpf_sections::specs::TypedCoils::flippers_in, mpf_sections::specs::TypedCoils::autofires_in))]
-fn quick_of<'a>(alloc: Global, sections: &'a [Section]) -> Result<BTreeSet<&'a [u8]>, AllocError>
-    ensures { IfOk result (λ names. HasQuick (map section_view sections.now) names) }
+fn quick_of<'a>(
+    alloc: Global,
+    hashing: KeyHashing,
+    sections: &'a [Section],
+) -> Result<Names<'a>, AllocError>
+    ensures { IfOk result (λ names. HasQuick (section_rows sections.now) names) }
 {
-    let mut names = BTreeSet::new(alloc);
+    let mut names = IndexSet::with_hasher(alloc, hashing);
     for section in sections {
         add_flippers(&mut names, section.entries_of(FLIPPERS_NAME))?;
         add_autofires(&mut names, section.entries_of(AUTOFIRE_COILS_NAME))?;
@@ -238,8 +243,8 @@ fn quick_of<'a>(alloc: Global, sections: &'a [Section]) -> Result<BTreeSet<&'a [
     Ok(names)
 }
 
-fn add_flippers<'a>(names: &mut BTreeSet<&'a [u8]>, entries: &'a [Entry]) -> Result<(), AllocError>
-    ensures { OnOk result ((name : List ℕ) → is_found names.new name ≡ (is_found names.old name || list_any (bytes_eq name) (map (λ f. f.switch.text) (map flipper_of (map entry_view entries.now))))) }
+fn add_flippers<'a>(names: &mut Names<'a>, entries: &'a [Entry]) -> Result<(), AllocError>
+    ensures { OnOk result (GainsNames names.old names.new (is_used_by_flippers entries.now)) }
 {
     for entry in entries {
         names.insert(as_flipper(entry).switch.text)?;
@@ -247,8 +252,8 @@ fn add_flippers<'a>(names: &mut BTreeSet<&'a [u8]>, entries: &'a [Entry]) -> Res
     Ok(())
 }
 
-fn add_autofires<'a>(names: &mut BTreeSet<&'a [u8]>, entries: &'a [Entry]) -> Result<(), AllocError>
-    ensures { OnOk result ((name : List ℕ) → is_found names.new name ≡ (is_found names.old name || list_any (bytes_eq name) (map (λ a. a.switch.text) (map autofire_of (map entry_view entries.now))))) }
+fn add_autofires<'a>(names: &mut Names<'a>, entries: &'a [Entry]) -> Result<(), AllocError>
+    ensures { OnOk result (GainsNames names.old names.new (is_used_by_autofires entries.now)) }
 {
     for entry in entries {
         names.insert(as_autofire(entry).switch.text)?;

@@ -4,6 +4,7 @@
 //! names.
 #![tactic(auto)]
 
+pub mod by_name;
 pub mod definitions;
 pub mod game_events;
 pub mod profile;

@@ -1,19 +1,17 @@
 //! The shots of all texts, and their profiles, by their names.
 
-ghost use Rattle.std.specs.Prelude.{◌≡◌, ℕ, List, fold, map, IfOk, OnOk};
-ghost use Rattle.std.specs.List.{filter_map, flat_map};
-ghost use Rattle.mpf_sections.specs.TypedShots.{shot_of, state_of, shot_profile_of, shots_in, shot_profiles_in};
-ghost use Rattle.mpf_sections.specs.View.{entry_view, fields_view, section_view};
+ghost use Rattle.std.specs.Prelude.{◌≡◌, IfOk, OnOk};
 ghost use Rattle.mpf_config.specs.View.{rows_view};
-ghost use Rattle.machine_definitions.specs.Shots.{latest_shot, profile_of, standard_profile, latest_profile};
-ghost use Rattle.machine_definitions.specs.Found.{names_view, profile_view, found_shot, found_profile, HasShots, HasProfiles};
+ghost use Rattle.machine_definitions.specs.Shots.{standard_profile};
+ghost use Rattle.machine_definitions.specs.Found.{names_view, profile_view, HasShots, HasProfiles, GainsProfiles, GainsShots, as_profile, as_profiles, as_shots, as_states, profiles_among, shots_among};
 
+use crate::by_name::ByName;
 use crate::profile::Profile;
+use indexmap::IndexMap;
 use mpf_config::config::{Config, ModeText};
 use mpf_config::{Entry, Fields, Section, Shot, as_shot, as_shot_profile, as_state};
 use mpf_tables::tables::{DEFAULT_PROFILE, SHOT_PROFILES_NAME, SHOTS_NAME};
 use std::alloc::{AllocError, Global};
-use std::collections::BTreeMap;
 
 // ---- shots
 
@@ -21,12 +19,12 @@ use std::collections::BTreeMap;
 pub(crate) fn shots_of<'a>(
     alloc: Global,
     config: &'a Config,
-) -> Result<BTreeMap<&'a [u8], Shot<'a>>, AllocError>
+) -> Result<ByName<'a, Shot<'a>>, AllocError>
     ensures { IfOk result (λ shots. HasShots (rows_view config.now) shots) }
 {
     let machine: &'a [Section] = config.machine.sections.as_slice();
     let modes: &'a [ModeText] = config.modes.as_slice();
-    let mut shots: BTreeMap<&'a [u8], Shot<'a>> = BTreeMap::new(alloc);
+    let mut shots: ByName<'a, Shot<'a>> = IndexMap::with_hasher(alloc, config.hashing);
     add_text_shots(&mut shots, machine)?;
     for mode in modes {
         add_text_shots(&mut shots, &mode.sections)?;
@@ -37,10 +35,10 @@ pub(crate) fn shots_of<'a>(
 /// Adds those of a text.
 #[tactic(auto, unfolding(mpf_sections::specs::TypedShots::shots_in))]
 fn add_text_shots<'a>(
-    shots: &mut BTreeMap<&'a [u8], Shot<'a>>,
+    shots: &mut ByName<'a, Shot<'a>>,
     sections: &'a [Section],
 ) -> Result<(), AllocError>
-    ensures { OnOk result ((name : List ℕ) → found_shot shots.new name ≡ fold (latest_shot name) (found_shot shots.old name) (flat_map shots_in (map section_view sections.now))) }
+    ensures { OnOk result (GainsShots shots.old shots.new (shots_among sections.now)) }
 {
     for section in sections {
         add_shots(shots, section.entries_of(SHOTS_NAME))?;
@@ -48,11 +46,8 @@ fn add_text_shots<'a>(
     Ok(())
 }
 
-fn add_shots<'a>(
-    shots: &mut BTreeMap<&'a [u8], Shot<'a>>,
-    entries: &'a [Entry],
-) -> Result<(), AllocError>
-    ensures { OnOk result ((name : List ℕ) → found_shot shots.new name ≡ fold (latest_shot name) (found_shot shots.old name) (map shot_of (map entry_view entries.now))) }
+fn add_shots<'a>(shots: &mut ByName<'a, Shot<'a>>, entries: &'a [Entry]) -> Result<(), AllocError>
+    ensures { OnOk result (GainsShots shots.old shots.new (as_shots entries.now)) }
 {
     for entry in entries {
         let shot = as_shot(entry);
@@ -67,12 +62,12 @@ fn add_shots<'a>(
 pub(crate) fn profiles_of<'a>(
     alloc: Global,
     config: &'a Config,
-) -> Result<BTreeMap<&'a [u8], Profile<'a>>, AllocError>
+) -> Result<ByName<'a, Profile<'a>>, AllocError>
     ensures { IfOk result (λ profiles. HasProfiles (rows_view config.now) profiles) }
 {
     let machine: &'a [Section] = config.machine.sections.as_slice();
     let modes: &'a [ModeText] = config.modes.as_slice();
-    let mut profiles: BTreeMap<&'a [u8], Profile<'a>> = BTreeMap::new(alloc);
+    let mut profiles: ByName<'a, Profile<'a>> = IndexMap::with_hasher(alloc, config.hashing);
     add_text_profiles(alloc, &mut profiles, machine)?;
     for mode in modes {
         add_text_profiles(alloc, &mut profiles, &mode.sections)?;
@@ -83,10 +78,10 @@ pub(crate) fn profiles_of<'a>(
 /// Adds those of a text.
 fn add_text_profiles<'a>(
     alloc: Global,
-    profiles: &mut BTreeMap<&'a [u8], Profile<'a>>,
+    profiles: &mut ByName<'a, Profile<'a>>,
     sections: &'a [Section],
 ) -> Result<(), AllocError>
-    ensures { OnOk result ((name : List ℕ) → found_profile profiles.new name ≡ fold (latest_profile name) (found_profile profiles.old name) (map profile_of (flat_map shot_profiles_in (map section_view sections.now)))) }
+    ensures { OnOk result (GainsProfiles profiles.old profiles.new (profiles_among sections.now)) }
 {
     for section in sections {
         add_profiles(alloc, profiles, section.entries_of(SHOT_PROFILES_NAME))?;
@@ -96,10 +91,10 @@ fn add_text_profiles<'a>(
 
 fn add_profiles<'a>(
     alloc: Global,
-    profiles: &mut BTreeMap<&'a [u8], Profile<'a>>,
+    profiles: &mut ByName<'a, Profile<'a>>,
     entries: &'a [Entry],
 ) -> Result<(), AllocError>
-    ensures { OnOk result ((name : List ℕ) → found_profile profiles.new name ≡ fold (latest_profile name) (found_profile profiles.old name) (map profile_of (map shot_profile_of (map entry_view entries.now)))) }
+    ensures { OnOk result (GainsProfiles profiles.old profiles.new (as_profiles entries.now)) }
 {
     for entry in entries {
         let profile = profile_of(alloc, entry)?;
@@ -126,7 +121,7 @@ pub(crate) fn standard_profile<'a>(alloc: Global) -> Result<Profile<'a>, AllocEr
 
 /// The profile that an entry defines.
 pub(crate) fn profile_of<'a>(alloc: Global, entry: &'a Entry) -> Result<Profile<'a>, AllocError>
-    ensures { IfOk result (λ p. profile_view p ≡ profile_of (shot_profile_of (entry_view entry.now))) }
+    ensures { IfOk result (λ p. profile_view p ≡ as_profile entry.now) }
 {
     let row = as_shot_profile(entry);
     Ok(Profile {
@@ -139,7 +134,7 @@ pub(crate) fn profile_of<'a>(alloc: Global, entry: &'a Entry) -> Result<Profile<
 
 /// The names of the states.
 fn states_of<'a>(alloc: Global, maps: &'a [Fields]) -> Result<Vec<&'a [u8]>, AllocError>
-    ensures { IfOk result (λ states. names_view states.items ≡ map (λ w. w.text) (filter_map state_of (map fields_view maps.now))) }
+    ensures { IfOk result (λ states. names_view states.items ≡ as_states maps.now) }
 {
     let mut states = Vec::new(alloc);
     for fields in maps {

@@ -1,7 +1,7 @@
 -- What rows, seats and members hold.
 use Rattle.std.specs.Prelude.{ℕ, List, map, Option, option_map, if◌then◌else◌}
 use Rattle.std.specs.Borrow.{Bor}
-use Rattle.std.specs.BTreeMap.{BTreeMap}
+use Rattle.std.specs.HashMap.{HashMap}
 use Rattle.std.specs.Map.{lookup}
 use Rattle.std.specs.Str.{bytes_eq}
 use Rattle.mpf_sections.specs.View.{entry_view, player_view, mode_settings_view}
@@ -22,15 +22,15 @@ abbrev pub seat_view : seats.Seat → Seat
 seat_view s = record { row = s.row; shot = s.shot }
 
 -- the seat that is found by a name
-abbrev pub found_seat : BTreeMap (Bor (List ℕ)) seats.Seat → List ℕ → Option Seat
+abbrev pub found_seat : {S : Type 0} → HashMap (Bor (List ℕ)) seats.Seat S → List ℕ → Option Seat
 found_seat found name = option_map seat_view (lookup (has_bytes name) found.entries)
 
 -- the row that is found by a name
-abbrev pub found_row : BTreeMap (Bor (List ℕ)) ℕ → List ℕ → Option ℕ
+abbrev pub found_row : {S : Type 0} → HashMap (Bor (List ℕ)) ℕ S → List ℕ → Option ℕ
 found_row found name = lookup (has_bytes name) found.entries
 
 -- where balls go that are ejected to what has this name, where these are the rows of ball devices
-abbrev pub found_destination : BTreeMap (Bor (List ℕ)) ℕ → List ℕ → Destination
+abbrev pub found_destination : {S : Type 0} → HashMap (Bor (List ℕ)) ℕ S → List ℕ → Destination
 found_destination found name = if bytes_eq name playfield then Playfield else row_or_unknown (found_row found name)
 
 abbrev pub members_view : members.Members → Members

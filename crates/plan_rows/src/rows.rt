@@ -1,14 +1,9 @@
 //! The rows of a configuration, in plan order.
 
-ghost use Rattle.std.specs.Prelude.{◌≡◌, ◌++◌, map, IfOk, OnOk};
-ghost use Rattle.mpf_sections.specs.TypedShots.{shot_of};
-ghost use Rattle.mpf_sections.specs.TypedBalls.{ball_device_of};
-ghost use Rattle.mpf_sections.specs.View.{section_view, entry_view, player_view};
-ghost use Rattle.mpf_config.specs.View.{mode_view, rows_view};
-ghost use Rattle.plan_rows.specs.Rows.{player, shot_row, ball_device_row, other_row, entry_row, rows_from, rows_in, text_rows, mode_rows, rows_of};
-ghost use Rattle.plan_rows.specs.Seats.{rows_after_text};
-ghost use Rattle.plan_rows.specs.declared.place.Place.TheVariants.{Mode};
-ghost use Rattle.plan_rows.specs.View.{found_seat, found_destination, row_view, row_list_view};
+ghost use Rattle.std.specs.Prelude.{◌≡◌, IfOk, OnOk};
+ghost use Rattle.plan_rows.specs.Rows.{rows_of};
+ghost use Rattle.plan_rows.specs.View.{row_view, row_list_view};
+ghost use Rattle.plan_rows.specs.Gained.{Gains, ball_device_gives, mode_gives, players_give, rows_until, rows_until_mode, text_gives, entries_give, entry_gives, other_gives, section_gives, sections_give, shot_gives};
 
 use crate::destination::Destination;
 use crate::members::{Members, members_of};
@@ -80,8 +75,8 @@ fn add_mode<'d, 'a>(
     before: usize,
     mode: &'a ModeText,
 ) -> Result<usize, AllocError>
-    ensures rows { OnOk result (row_list_view rows.new.items ≡ row_list_view rows.old.items ++ mode_rows definitions.now before (mode_view mode.now)) }
-    ensures after { IfOk result (λ after. after ≡ rows_after_text Mode before (mode_view mode.now).sections) }
+    ensures rows { OnOk result (Gains rows.old rows.new (mode_gives definitions.now before mode.now)) }
+    ensures after { IfOk result (λ after. after ≡ rows_until_mode before mode.now) }
 {
     let sections = mode.sections.as_slice();
     rows.push(Row::Mode(&mode.name, mode_settings(sections)))?;
@@ -98,10 +93,10 @@ fn add_text<'d, 'a>(
     before: usize,
     sections: &'a [Section],
 ) -> Result<usize, AllocError>
-    ensures rows { OnOk result (row_list_view rows.new.items ≡ row_list_view rows.old.items ++ text_rows definitions.now place before (map section_view sections.now)) }
-    ensures after { IfOk result (λ after. after ≡ rows_after_text place before (map section_view sections.now)) }
+    ensures rows { OnOk result (Gains rows.old rows.new (text_gives definitions.now place before sections.now)) }
+    ensures after { IfOk result (λ after. after ≡ rows_until place before sections.now) }
 {
-    let (seats, after) = seats_of(alloc, place, before, sections)?;
+    let (seats, after) = seats_of(alloc, definitions.config().hashing, place, before, sections)?;
     add_sections(rows, definitions, place, &seats, sections)?;
     Ok(after)
 }
@@ -114,7 +109,7 @@ fn add_sections<'d, 'a>(
     seats: &Seats<'a>,
     sections: &'a [Section],
 ) -> Result<(), AllocError>
-    ensures { OnOk result (row_list_view rows.new.items ≡ row_list_view rows.old.items ++ rows_in definitions.now place (found_seat seats.now.shots) (found_destination seats.now.devices) (map section_view sections.now)) }
+    ensures { OnOk result (Gains rows.old rows.new (sections_give definitions.now place seats.now sections.now)) }
 {
     for section in sections {
         add_rows(rows, definitions, place, seats, section)?;
@@ -129,7 +124,7 @@ fn add_rows<'d, 'a>(
     seats: &Seats<'a>,
     section: &'a Section,
 ) -> Result<(), AllocError>
-    ensures { OnOk result (row_list_view rows.new.items ≡ row_list_view rows.old.items ++ rows_from definitions.now place (found_seat seats.now.shots) (found_destination seats.now.devices) (section_view section.now).name (section_view section.now).content) }
+    ensures { OnOk result (Gains rows.old rows.new (section_gives definitions.now place seats.now section.now)) }
 {
     match &section.content {
         Content::Entries(entries) => {
@@ -152,7 +147,7 @@ fn add_entries<'d, 'a>(
     section: &'a [u8],
     entries: &'a [Entry],
 ) -> Result<(), AllocError>
-    ensures { OnOk result (row_list_view rows.new.items ≡ row_list_view rows.old.items ++ map (entry_row definitions.now place (found_seat seats.now.shots) (found_destination seats.now.devices) section.now) (map entry_view entries.now)) }
+    ensures { OnOk result (Gains rows.old rows.new (entries_give definitions.now place seats.now section.now entries.now)) }
 {
     rows.reserve(entries.len())?;
     for entry in entries {
@@ -167,7 +162,7 @@ fn add_players<'d, 'a>(
     section: &'a [u8],
     players: &'a [Player],
 ) -> Result<(), AllocError>
-    ensures { OnOk result (row_list_view rows.new.items ≡ row_list_view rows.old.items ++ map (player place section.now) (map player_view players.now)) }
+    ensures { OnOk result (Gains rows.old rows.new (players_give place section.now players.now)) }
 {
     rows.reserve(players.len())?;
     for player in players {
@@ -184,7 +179,7 @@ fn entry_row<'d, 'a>(
     section: &'a [u8],
     entry: &'a Entry,
 ) -> Row<'d, 'a>
-    ensures { row_view result ≡ entry_row definitions.now place (found_seat seats.now.shots) (found_destination seats.now.devices) section.now (entry_view entry.now) }
+    ensures { row_view result ≡ entry_gives definitions.now place seats.now section.now entry.now }
 {
     if section == SHOTS_NAME {
         return shot_row(definitions, place, seats, entry);
@@ -202,7 +197,7 @@ fn shot_row<'d, 'a>(
     seats: &Seats<'a>,
     entry: &'a Entry,
 ) -> Row<'d, 'a>
-    ensures { row_view result ≡ shot_row definitions.now place (found_seat seats.now.shots) (shot_of (entry_view entry.now)) }
+    ensures { row_view result ≡ shot_gives definitions.now place seats.now entry.now }
 {
     let shot = as_shot(entry);
     let profile = shot.profile.text;
@@ -222,7 +217,7 @@ fn other_row<'d, 'a>(
     section: &'a [u8],
     entry: &'a Entry,
 ) -> Row<'d, 'a>
-    ensures { row_view result ≡ other_row (found_destination seats.now.devices) place section.now (entry_view entry.now) }
+    ensures { row_view result ≡ other_gives place seats.now section.now entry.now }
 {
     match place {
         Place::Machine if section == BALL_DEVICES_NAME => ball_device_row(seats, entry),
@@ -232,7 +227,7 @@ fn other_row<'d, 'a>(
 
 /// That of a ball device.
 fn ball_device_row<'d, 'a>(seats: &Seats<'a>, entry: &'a Entry) -> Row<'d, 'a>
-    ensures { row_view result ≡ ball_device_row (found_destination seats.now.devices) (ball_device_of (entry_view entry.now)) }
+    ensures { row_view result ≡ ball_device_gives seats.now entry.now }
 {
     Row::BallDevice(entry, seats.destination(as_ball_device(entry).target.text))
 }

@@ -3,17 +3,16 @@
 //! A group has a row, and its shots have seats in it. A shot that no group of its text lists has a
 //! row of its own.
 
-ghost use Rattle.std.specs.Prelude.{◌≡◌, ◌||◌, ℕ, List, fold, map, IfOk, OnOk};
-ghost use Rattle.std.specs.List.{list_any, flat_map};
-ghost use Rattle.std.specs.Str.{bytes_eq};
-ghost use Rattle.mpf_sections.specs.TypedShots.{shot_group_of};
-ghost use Rattle.mpf_sections.specs.View.{name_view, entry_view, section_view};
-ghost use Rattle.machine_definitions.specs.Found.{is_found};
-ghost use Rattle.plan_rows.specs.Seats.{section_entries, lists_shot, is_grouped, has_row, rows_after, rows_after_all, given_from, latest, seats_at, entry_seats, seat_of, entry_ball_row, row_or_unknown, destination_of, rows_after_text};
-ghost use Rattle.plan_rows.specs.View.{found_seat, found_row, found_destination};
+ghost use Rattle.std.specs.Prelude.{◌≡◌, IfOk, OnOk};
+ghost use Rattle.machine_definitions.specs.Found.{is_found, GainsNames};
+ghost use Rattle.plan_rows.specs.Seats.{has_row, rows_after, rows_after_all, entry_seats, entry_ball_row, row_or_unknown};
+ghost use Rattle.plan_rows.specs.View.{found_row, found_destination};
+ghost use Rattle.plan_rows.specs.Gained.{all_devices_given, all_entries, all_seats_given, GainsDevices, GainsSeats, HasDestinations, HasGrouped, HasSeats, is_one_listed, is_one_named, named_entries, named_entry, rows_until, seats_of_names, devices_given, seats_given};
 
 use crate::destination::Destination;
 use crate::place::Place;
+use indexmap::{IndexMap, IndexSet};
+use machine_definitions::by_name::{ByName, Names};
 use mpf_config::{
     ACCRUALS_NAME, AUTOFIRE_COILS_NAME, BALL_DEVICES_NAME, BALL_SAVES_NAME, COUNTERS_NAME, Entry,
     FLIPPERS_NAME, MULTIBALLS_NAME, Name, PLAYFIELD, SEQUENCES_NAME, SHOT_GROUPS_NAME, SHOTS_NAME,
@@ -21,7 +20,7 @@ use mpf_config::{
 };
 use section_tables::is_one_of;
 use std::alloc::{AllocError, Global};
-use std::collections::{BTreeMap, BTreeSet};
+use yaml_subset::keys::KeyHashing;
 
 /// The seat of a shot in a group.
 #[derive(Clone, Copy)]
@@ -35,8 +34,8 @@ pub struct Seat {
 /// The seats of the shots of a text, and the numbers of the rows of its ball devices, by their names.
 #[derive(Drop)]
 pub(crate) struct Seats<'a> {
-    pub(crate) shots: BTreeMap<&'a [u8], Seat>,
-    pub(crate) devices: BTreeMap<&'a [u8], usize>,
+    pub(crate) shots: ByName<'a, Seat>,
+    pub(crate) devices: ByName<'a, usize>,
 }
 
 impl Seats<'_> {
@@ -88,23 +87,41 @@ const ROW_SECTIONS: [&[u8]; 10] = [
 /// Memory ran out.
 pub(crate) fn seats_of<'a>(
     alloc: Global,
+    hashing: KeyHashing,
     place: Place,
     before: usize,
     sections: &'a [Section],
 ) -> Result<(Seats<'a>, usize), AllocError>
-    ensures seats { IfOk result (λ r. (name : List ℕ) → found_seat r.0.shots name ≡ seat_of place before (map section_view sections.now) name) }
-    ensures destinations { IfOk result (λ r. (name : List ℕ) → found_destination r.0.devices name ≡ destination_of place before (map section_view sections.now) name) }
-    ensures rows { IfOk result (λ r. r.1 ≡ rows_after_text place before (map section_view sections.now)) }
+    ensures seats { IfOk result (λ r. HasSeats place before sections.now r.0) }
+    ensures destinations { IfOk result (λ r. HasDestinations place before sections.now r.0) }
+    ensures rows { IfOk result (λ r. r.1 ≡ rows_until place before sections.now) }
 {
-    let grouped = grouped_shots(alloc, sections)?;
-    let shots = BTreeMap::new(alloc);
-    let devices = BTreeMap::new(alloc);
-    let mut seats = Seats { shots, devices };
+    let grouped = grouped_shots(alloc, hashing, sections)?;
+    let shots: ByName<'a, Seat> = IndexMap::with_hasher(alloc, hashing);
+    let devices: ByName<'a, usize> = IndexMap::with_hasher(alloc, hashing);
+    let mut seats: Seats<'a> = Seats { shots, devices };
+    let rows = add_sections(&mut seats, place, &grouped, before, sections)?;
+    Ok((seats, rows))
+}
+
+/// Adds the seats of sections, where so many rows come before them. Returns how many come before what
+/// comes after them.
+fn add_sections<'a>(
+    seats: &mut Seats<'a>,
+    place: Place,
+    grouped: &Names<'a>,
+    before: usize,
+    sections: &'a [Section],
+) -> Result<usize, AllocError>
+    ensures shots { OnOk result (GainsSeats seats.old.shots seats.new.shots (all_seats_given place grouped.now before sections.now)) }
+    ensures devices { OnOk result (GainsDevices seats.old.devices seats.new.devices (all_devices_given place grouped.now before sections.now)) }
+    ensures rows { IfOk result (λ rows. rows ≡ rows_after_all place (is_found grouped.now) before (all_entries sections.now)) }
+{
     let mut rows = before;
     for section in sections {
-        rows = add_section(&mut seats, place, &grouped, rows, section)?;
+        rows = add_section(seats, place, grouped, rows, section)?;
     }
-    Ok((seats, rows))
+    Ok(rows)
 }
 
 /// Adds the seats of a section, where so many rows come before it. Returns how many come before the
@@ -112,13 +129,13 @@ pub(crate) fn seats_of<'a>(
 fn add_section<'a>(
     seats: &mut Seats<'a>,
     place: Place,
-    grouped: &BTreeSet<&'a [u8]>,
+    grouped: &Names<'a>,
     before: usize,
     section: &'a Section,
 ) -> Result<usize, AllocError>
-    ensures shots { OnOk result ((name : List ℕ) → found_seat seats.new.shots name ≡ fold (latest name) (found_seat seats.old.shots name) (given_from entry_seats place (is_found grouped.now) before (section_entries (section_view section.now)))) }
-    ensures devices { OnOk result ((name : List ℕ) → found_row seats.new.devices name ≡ fold (latest name) (found_row seats.old.devices name) (given_from entry_ball_row place (is_found grouped.now) before (section_entries (section_view section.now)))) }
-    ensures rows { IfOk result (λ rows. rows ≡ rows_after_all place (is_found grouped.now) before (section_entries (section_view section.now))) }
+    ensures shots { OnOk result (GainsSeats seats.old.shots seats.new.shots (seats_given place grouped.now before section.now)) }
+    ensures devices { OnOk result (GainsDevices seats.old.devices seats.new.devices (devices_given place grouped.now before section.now)) }
+    ensures rows { IfOk result (λ rows. rows ≡ rows_after_all place (is_found grouped.now) before (named_entries section.now)) }
 {
     let mut rows = before;
     for entry in section.content.entries() {
@@ -135,8 +152,8 @@ fn add_entry<'a>(
     section: &[u8],
     entry: &'a Entry,
 ) -> Result<(), AllocError>
-    ensures shots { OnOk result ((name : List ℕ) → found_seat seats.new.shots name ≡ fold (latest name) (found_seat seats.old.shots name) (entry_seats before (section.now, entry_view entry.now))) }
-    ensures devices { OnOk result ((name : List ℕ) → found_row seats.new.devices name ≡ fold (latest name) (found_row seats.old.devices name) (entry_ball_row before (section.now, entry_view entry.now))) }
+    ensures shots { OnOk result (GainsSeats seats.old.shots seats.new.shots (entry_seats before (named_entry section.now entry.now))) }
+    ensures devices { OnOk result (GainsDevices seats.old.devices seats.new.devices (entry_ball_row before (named_entry section.now entry.now))) }
 {
     add_group(&mut seats.shots, before, section, entry)?;
     add_ball_device(&mut seats.devices, before, section, entry)
@@ -144,12 +161,12 @@ fn add_entry<'a>(
 
 /// Adds the seats that an entry has, where so many rows come before it.
 fn add_group<'a>(
-    seats: &mut BTreeMap<&'a [u8], Seat>,
+    seats: &mut ByName<'a, Seat>,
     before: usize,
     section: &[u8],
     entry: &'a Entry,
 ) -> Result<(), AllocError>
-    ensures { OnOk result ((name : List ℕ) → found_seat seats.new name ≡ fold (latest name) (found_seat seats.old name) (entry_seats before (section.now, entry_view entry.now))) }
+    ensures { OnOk result (GainsSeats seats.old seats.new (entry_seats before (named_entry section.now entry.now))) }
 {
     if section == SHOT_GROUPS_NAME {
         return add_seats(seats, before, as_shot_group(entry).shots);
@@ -159,12 +176,12 @@ fn add_group<'a>(
 
 /// Adds the row of an entry that is a ball device, where so many rows come before it.
 fn add_ball_device<'a>(
-    rows: &mut BTreeMap<&'a [u8], usize>,
+    rows: &mut ByName<'a, usize>,
     before: usize,
     section: &[u8],
     entry: &'a Entry,
 ) -> Result<(), AllocError>
-    ensures { OnOk result ((name : List ℕ) → found_row rows.new name ≡ fold (latest name) (found_row rows.old name) (entry_ball_row before (section.now, entry_view entry.now))) }
+    ensures { OnOk result (GainsDevices rows.old rows.new (entry_ball_row before (named_entry section.now entry.now))) }
 {
     if section == BALL_DEVICES_NAME {
         rows.insert(&as_ball_device(entry).name.text, before)?;
@@ -174,11 +191,11 @@ fn add_ball_device<'a>(
 
 /// Adds the seats of the shots that a group lists, whose row has this number.
 fn add_seats<'a>(
-    seats: &mut BTreeMap<&'a [u8], Seat>,
+    seats: &mut ByName<'a, Seat>,
     row: usize,
     shots: &'a [Name],
 ) -> Result<(), AllocError>
-    ensures { OnOk result ((name : List ℕ) → found_seat seats.new name ≡ fold (latest name) (found_seat seats.old name) (seats_at row 0 (map name_view shots.now))) }
+    ensures { OnOk result (GainsSeats seats.old seats.new (seats_of_names row shots.now)) }
 {
     for shot in 0..shots.len() {
         seats.insert(&shots[shot].text, Seat { row, shot })?;
@@ -190,12 +207,12 @@ fn add_seats<'a>(
 /// holds so many entries that they cannot be counted.
 fn rows_after(
     place: Place,
-    grouped: &BTreeSet<&[u8]>,
+    grouped: &Names<'_>,
     before: usize,
     section: &[u8],
     entry: &Entry,
 ) -> Result<usize, AllocError>
-    ensures { IfOk result (λ rows. rows ≡ rows_after place (is_found grouped.now) before (section.now, entry_view entry.now)) }
+    ensures { IfOk result (λ rows. rows ≡ rows_after place (is_found grouped.now) before (named_entry section.now entry.now)) }
 {
     if has_row(place, grouped, section, entry) {
         return before.checked_add(1).ok_or(AllocError);
@@ -204,8 +221,8 @@ fn rows_after(
 }
 
 /// Whether an entry has a row, where these shots are in groups of its text.
-fn has_row(place: Place, grouped: &BTreeSet<&[u8]>, section: &[u8], entry: &Entry) -> bool
-    ensures { result ≡ has_row place (is_found grouped.now) (section.now, entry_view entry.now) }
+fn has_row(place: Place, grouped: &Names<'_>, section: &[u8], entry: &Entry) -> bool
+    ensures { result ≡ has_row place (is_found grouped.now) (named_entry section.now entry.now) }
 {
     if section == SHOTS_NAME {
         return !grouped.contains(entry.name.text.as_slice());
@@ -222,19 +239,20 @@ fn has_row(place: Place, grouped: &BTreeSet<&[u8]>, section: &[u8], entry: &Entr
 #[tactic(auto, unfolding(mpf_sections::specs::TypedShots::shot_groups_in))]
 fn grouped_shots<'a>(
     alloc: Global,
+    hashing: KeyHashing,
     sections: &'a [Section],
-) -> Result<BTreeSet<&'a [u8]>, AllocError>
-    ensures { IfOk result (λ names. (name : List ℕ) → is_found names name ≡ is_grouped (map section_view sections.now) name) }
+) -> Result<Names<'a>, AllocError>
+    ensures { IfOk result (λ names. HasGrouped sections.now names) }
 {
-    let mut names = BTreeSet::new(alloc);
+    let mut names = IndexSet::with_hasher(alloc, hashing);
     for section in sections {
         take_groups(&mut names, section.entries_of(SHOT_GROUPS_NAME))?;
     }
     Ok(names)
 }
 
-fn take_groups<'a>(names: &mut BTreeSet<&'a [u8]>, groups: &'a [Entry]) -> Result<(), AllocError>
-    ensures { OnOk result ((name : List ℕ) → is_found names.new name ≡ (is_found names.old name || list_any (lists_shot name) (map shot_group_of (map entry_view groups.now)))) }
+fn take_groups<'a>(names: &mut Names<'a>, groups: &'a [Entry]) -> Result<(), AllocError>
+    ensures { OnOk result (GainsNames names.old names.new (is_one_listed groups.now)) }
 {
     for group in groups {
         take_shots(names, as_shot_group(group).shots)?;
@@ -242,8 +260,8 @@ fn take_groups<'a>(names: &mut BTreeSet<&'a [u8]>, groups: &'a [Entry]) -> Resul
     Ok(())
 }
 
-fn take_shots<'a>(names: &mut BTreeSet<&'a [u8]>, shots: &'a [Name]) -> Result<(), AllocError>
-    ensures { OnOk result ((name : List ℕ) → is_found names.new name ≡ (is_found names.old name || list_any (λ w. bytes_eq name w.text) (map name_view shots.now))) }
+fn take_shots<'a>(names: &mut Names<'a>, shots: &'a [Name]) -> Result<(), AllocError>
+    ensures { OnOk result (GainsNames names.old names.new (is_one_named shots.now)) }
 {
     for shot in shots {
         names.insert(&shot.text)?;

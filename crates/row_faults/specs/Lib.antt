@@ -14,3 +14,4 @@ pub mod View
 pub mod Named
 pub mod Numbers
 pub mod Collected
+pub mod FaultsOf

@@ -2,7 +2,7 @@
 use Rattle.std.specs.Prelude.{◌≡◌, ℕ, zero, suc, ◌+◌, ◌<◌, if◌then◌else◌, List, length, get_or, Option, None, Some, IfSome, unwrap_or, slice_get}
 use Rattle.std.specs.Str.{bytes_eq}
 use Rattle.std.specs.Borrow.{Bor}
-use Rattle.std.specs.BTreeMap.{BTreeMap}
+use Rattle.std.specs.HashMap.{HashMap}
 use Rattle.std.specs.Map.{lookup}
 use Rattle.mpf_sections.specs.Rows.{BallDevice}
 use Rattle.mpf_sections.specs.TypedBalls.{playfield}
@@ -10,7 +10,7 @@ use Rattle.machine_definitions.specs.Definitions.{ball_device_among}
 use Rattle.machine_definitions.specs.Found.{has_bytes}
 
 -- the place that is found by a name
-abbrev pub number_found : BTreeMap (Bor (List ℕ)) ℕ → List ℕ → Option ℕ
+abbrev pub number_found : {S : Type 0} → HashMap (Bor (List ℕ)) ℕ S → List ℕ → Option ℕ
 number_found numbers name = lookup (has_bytes name) numbers.entries
 
 -- the ball device at a place

@@ -1,10 +1,10 @@
 //! What is wrong with the settings of an entry, in the order in which the settings are written.
 
-ghost use Rattle.std.specs.Prelude.{◌≡◌, ◌==◌, map, position, IfOk, OnOk};
-ghost use Rattle.std.specs.List.{flat_map};
-ghost use Rattle.row_faults.specs.AsWritten.{ordered_by, written_before, in_order};
+ghost use Rattle.std.specs.Prelude.{◌≡◌, ◌==◌, position, IfOk, OnOk};
+ghost use Rattle.row_faults.specs.AsWritten.{ordered_by, written_before};
 ghost use Rattle.row_faults.specs.Collected.{Gains};
 ghost use Rattle.row_faults.specs.Named.{named_faults};
+ghost use Rattle.row_faults.specs.FaultsOf.{faults_in_order, faults_of_parts};
 
 use crate::ball_faults::{add_named_coil, add_switches, add_target};
 use crate::coil_faults::add_hold_coil;
@@ -66,7 +66,7 @@ pub(crate) fn add_as_written(
     order: &[usize],
     parts: &[(usize, Named<'_>)],
 ) -> Result<(), AllocError>
-    ensures { OnOk result (Gains faults.old faults.new (in_order order.now (map (λ part. (part.0, named_faults faults.old.rows faults.old.text part.1)) parts.now))) }
+    ensures { OnOk result (Gains faults.old faults.new (faults_in_order faults.old order.now parts.now)) }
 {
     if order.is_empty() {
         add_parts(faults, parts)?;
@@ -78,7 +78,7 @@ pub(crate) fn add_as_written(
 }
 
 fn add_parts(faults: &mut Faults<'_, '_>, parts: &[(usize, Named<'_>)]) -> Result<(), AllocError>
-    ensures { OnOk result (Gains faults.old faults.new (flat_map (λ part. named_faults faults.old.rows faults.old.text part.1) parts.now)) }
+    ensures { OnOk result (Gains faults.old faults.new (faults_of_parts faults.old parts.now)) }
 {
     for part in parts {
         add_named(faults, part.1)?;

@@ -1,12 +1,9 @@
 //! What is wrong with ball devices.
 
-ghost use Rattle.std.specs.Prelude.{◌≡◌, map, option_map, OnOk};
-ghost use Rattle.std.specs.List.{flat_map};
-ghost use Rattle.mpf_sections.specs.TypedBalls.{ball_devices_in};
-ghost use Rattle.mpf_sections.specs.View.{name_view, name_at_view, section_view, ball_device_view};
-ghost use Rattle.row_faults.specs.CoilFaults.{switch_name_faults};
-ghost use Rattle.row_faults.specs.BallFaults.{is_place, eject_coil_faults, target_faults, ball_device_faults};
+ghost use Rattle.std.specs.Prelude.{◌≡◌, OnOk};
+ghost use Rattle.row_faults.specs.BallFaults.{is_place};
 ghost use Rattle.row_faults.specs.Collected.{Gains};
+ghost use Rattle.row_faults.specs.FaultsOf.{faults_of_ball_device, faults_of_ball_devices, faults_of_eject_coil, faults_of_switches, faults_of_target};
 
 use crate::as_written::{Named, add_as_written};
 use crate::coil_faults::{add_coil_name, add_switch_name};
@@ -25,7 +22,7 @@ pub(crate) fn add_ball_devices(
     faults: &mut Faults<'_, '_>,
     section: &Section,
 ) -> Result<(), AllocError>
-    ensures { OnOk result (Gains faults.old faults.new (flat_map (ball_device_faults faults.old.rows.machine faults.old.text) (ball_devices_in (section_view section.now)))) }
+    ensures { OnOk result (Gains faults.old faults.new (faults_of_ball_devices faults.old section.now)) }
 {
     let entries = section.entries_of(BALL_DEVICES_NAME);
     for entry in entries {
@@ -36,7 +33,7 @@ pub(crate) fn add_ball_devices(
 
 /// Adds the faults of the names in a ball device.
 fn add_ball_device(faults: &mut Faults<'_, '_>, device: BallDevice<'_>) -> Result<(), AllocError>
-    ensures { OnOk result (Gains faults.old faults.new (ball_device_faults faults.old.rows.machine faults.old.text (ball_device_view device.entry))) }
+    ensures { OnOk result (Gains faults.old faults.new (faults_of_ball_device faults.old device.entry)) }
 {
     let parts = [
         (BALL_SWITCHES, Named::Switches(device.switches)),
@@ -48,7 +45,7 @@ fn add_ball_device(faults: &mut Faults<'_, '_>, device: BallDevice<'_>) -> Resul
 
 /// Adds a fault for each of these switches that no entry defines.
 pub(crate) fn add_switches(faults: &mut Faults<'_, '_>, switches: &[Name]) -> Result<(), AllocError>
-    ensures { OnOk result (Gains faults.old faults.new (flat_map (switch_name_faults faults.old.rows.machine faults.old.text) (map name_view switches.now))) }
+    ensures { OnOk result (Gains faults.old faults.new (faults_of_switches faults.old switches.now)) }
 {
     for switch in switches {
         add_switch_name(faults, at(switch))?;
@@ -61,7 +58,7 @@ pub(crate) fn add_named_coil(
     faults: &mut Faults<'_, '_>,
     coil: Option<NameAt<'_>>,
 ) -> Result<(), AllocError>
-    ensures { OnOk result (Gains faults.old faults.new (eject_coil_faults faults.old.rows.machine faults.old.text (option_map name_at_view coil.entry))) }
+    ensures { OnOk result (Gains faults.old faults.new (faults_of_eject_coil faults.old coil.entry)) }
 {
     match coil {
         Some(name) => add_coil_name(faults, name),
@@ -71,7 +68,7 @@ pub(crate) fn add_named_coil(
 
 /// Adds a fault where balls cannot be ejected to a place of this name.
 pub(crate) fn add_target(faults: &mut Faults<'_, '_>, target: NameAt<'_>) -> Result<(), AllocError>
-    ensures { OnOk result (Gains faults.old faults.new (target_faults faults.old.rows.machine faults.old.text (name_at_view target.entry))) }
+    ensures { OnOk result (Gains faults.old faults.new (faults_of_target faults.old target.entry)) }
 {
     let unknown = !is_place(faults.definitions, target.text);
     add_if(faults, unknown, RowFaultKind::Name, target)

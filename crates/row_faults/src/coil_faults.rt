@@ -1,12 +1,9 @@
 //! What is wrong with coils, and with what is said of them elsewhere.
 
-ghost use Rattle.std.specs.Prelude.{◌≡◌, ◌||◌, ◌&&◌, not, nat_lt, Some, map, option_map, OnOk};
-ghost use Rattle.std.specs.List.{flat_map};
-ghost use Rattle.mpf_sections.specs.TypedCoils.{coil_item_of, coils_in, coil_players_in, flippers_in, autofires_in};
-ghost use Rattle.mpf_sections.specs.View.{keyed_view, section_view, name_at_view, coil_view, coil_item_view, flipper_view, autofire_view};
-ghost use Rattle.row_faults.specs.CoilFaults.{is_above, is_enable, coil_name_faults, switch_name_faults, coil_faults, item_faults_by, item_faults, coil_player_faults, hold_faults_by, hold_faults, flipper_faults, autofire_faults};
+ghost use Rattle.std.specs.Prelude.{◌≡◌, ◌||◌, ◌&&◌, not, nat_lt, OnOk};
+ghost use Rattle.row_faults.specs.CoilFaults.{is_above, is_enable};
 ghost use Rattle.row_faults.specs.Collected.{Gains};
-ghost use Rattle.row_faults.specs.RowFaults.{coil_faults_in};
+ghost use Rattle.row_faults.specs.FaultsOf.{faults_by_limits, faults_of_autofire, faults_of_autofires, faults_of_coil, faults_of_coil_item, faults_of_coil_items, faults_of_coil_name, faults_of_coil_players, faults_of_coils, faults_of_coils_in, faults_of_flipper, faults_of_flippers, faults_of_hold, faults_of_hold_coil, faults_of_switch_name};
 
 use crate::as_written::{Named, add_as_written};
 use crate::collector::{Faults, add_if, at};
@@ -24,7 +21,7 @@ pub(crate) fn add_coil_faults(
     faults: &mut Faults<'_, '_>,
     section: &Section,
 ) -> Result<(), AllocError>
-    ensures { OnOk result (Gains faults.old faults.new (coil_faults_in faults.old.rows.machine faults.old.text (section_view section.now))) }
+    ensures { OnOk result (Gains faults.old faults.new (faults_of_coils_in faults.old section.now)) }
 {
     add_coils(faults, section)?;
     add_coil_players(faults, section)?;
@@ -36,7 +33,7 @@ pub(crate) fn add_coil_faults(
 
 /// Adds a fault where no entry defines a coil of this name.
 pub(crate) fn add_coil_name(faults: &mut Faults<'_, '_>, name: NameAt<'_>) -> Result<(), AllocError>
-    ensures { OnOk result (Gains faults.old faults.new (coil_name_faults faults.old.rows.machine faults.old.text (name_at_view name.entry))) }
+    ensures { OnOk result (Gains faults.old faults.new (faults_of_coil_name faults.old name.entry)) }
 {
     let unknown = faults.definitions.coil(name.text).is_none();
     add_if(faults, unknown, RowFaultKind::Name, name)
@@ -47,7 +44,7 @@ pub(crate) fn add_switch_name(
     faults: &mut Faults<'_, '_>,
     name: NameAt<'_>,
 ) -> Result<(), AllocError>
-    ensures { OnOk result (Gains faults.old faults.new (switch_name_faults faults.old.rows.machine faults.old.text (name_at_view name.entry))) }
+    ensures { OnOk result (Gains faults.old faults.new (faults_of_switch_name faults.old name.entry)) }
 {
     let unknown = !faults.definitions.has_switch(name.text);
     add_if(faults, unknown, RowFaultKind::Name, name)
@@ -58,7 +55,7 @@ pub(crate) fn add_switch_name(
 /// Adds the faults of the coils of a section.
 #[tactic(auto, unfolding(mpf_sections::specs::TypedCoils::coils_in))]
 fn add_coils(faults: &mut Faults<'_, '_>, section: &Section) -> Result<(), AllocError>
-    ensures { OnOk result (Gains faults.old faults.new (flat_map (coil_faults faults.old.text) (coils_in (section_view section.now)))) }
+    ensures { OnOk result (Gains faults.old faults.new (faults_of_coils faults.old section.now)) }
 {
     let entries = section.entries_of(COILS_NAME);
     for entry in entries {
@@ -69,7 +66,7 @@ fn add_coils(faults: &mut Faults<'_, '_>, section: &Section) -> Result<(), Alloc
 
 /// Adds the faults of a coil.
 fn add_coil(faults: &mut Faults<'_, '_>, coil: Coil<'_>) -> Result<(), AllocError>
-    ensures { OnOk result (Gains faults.old faults.new (coil_faults faults.old.text (coil_view coil.entry))) }
+    ensures { OnOk result (Gains faults.old faults.new (faults_of_coil faults.old coil.entry)) }
 {
     let name = at(coil.name);
     let long = coil.max_pulse_ms < coil.pulse_ms;
@@ -90,7 +87,7 @@ fn is_strong(coil: Coil<'_>) -> bool
 /// Adds the faults of what coils do in the entries of a section.
 #[tactic(auto, unfolding(mpf_sections::specs::TypedCoils::coil_players_in))]
 fn add_coil_players(faults: &mut Faults<'_, '_>, section: &Section) -> Result<(), AllocError>
-    ensures { OnOk result (Gains faults.old faults.new (flat_map (coil_player_faults faults.old.rows.machine faults.old.text) (coil_players_in (section_view section.now)))) }
+    ensures { OnOk result (Gains faults.old faults.new (faults_of_coil_players faults.old section.now)) }
 {
     let players = section.players_of(COIL_PLAYER_NAME);
     for player in players {
@@ -101,7 +98,7 @@ fn add_coil_players(faults: &mut Faults<'_, '_>, section: &Section) -> Result<()
 
 /// Adds the faults of what coils do in an entry.
 fn add_items(faults: &mut Faults<'_, '_>, items: &[Keyed]) -> Result<(), AllocError>
-    ensures { OnOk result (Gains faults.old faults.new (flat_map (item_faults faults.old.rows.machine faults.old.text) (map coil_item_of (map keyed_view items.now)))) }
+    ensures { OnOk result (Gains faults.old faults.new (faults_of_coil_items faults.old items.now)) }
 {
     for item in items {
         add_item(faults, as_coil_item(item))?;
@@ -111,7 +108,7 @@ fn add_items(faults: &mut Faults<'_, '_>, items: &[Keyed]) -> Result<(), AllocEr
 
 /// Adds the faults of what a coil does. The limits of a coil that there is not are not judged.
 fn add_item(faults: &mut Faults<'_, '_>, item: CoilItem<'_>) -> Result<(), AllocError>
-    ensures { OnOk result (Gains faults.old faults.new (item_faults faults.old.rows.machine faults.old.text (coil_item_view item.entry))) }
+    ensures { OnOk result (Gains faults.old faults.new (faults_of_coil_item faults.old item.entry)) }
 {
     match faults.definitions.coil(&item.coil.text) {
         Some(coil) => add_limits(faults, item, coil),
@@ -128,7 +125,7 @@ fn add_limits(
     item: CoilItem<'_>,
     coil: Coil<'_>,
 ) -> Result<(), AllocError>
-    ensures { OnOk result (Gains faults.old faults.new (item_faults_by faults.old.text (coil_item_view item.entry) (Some (coil_view coil.entry)))) }
+    ensures { OnOk result (Gains faults.old faults.new (faults_by_limits faults.old item.entry coil.entry)) }
 {
     let name = at(item.coil);
     let long = is_longer(item.pulse_ms, coil.max_pulse_ms);
@@ -183,7 +180,7 @@ fn may_not_hold(action: CoilAction, coil: Coil<'_>) -> bool
 /// Adds the faults of the flippers of a section.
 #[tactic(auto, unfolding(mpf_sections::specs::TypedCoils::flippers_in))]
 fn add_flippers(faults: &mut Faults<'_, '_>, section: &Section) -> Result<(), AllocError>
-    ensures { OnOk result (Gains faults.old faults.new (flat_map (flipper_faults faults.old.rows.machine faults.old.text) (flippers_in (section_view section.now)))) }
+    ensures { OnOk result (Gains faults.old faults.new (faults_of_flippers faults.old section.now)) }
 {
     let entries = section.entries_of(FLIPPERS_NAME);
     for entry in entries {
@@ -194,7 +191,7 @@ fn add_flippers(faults: &mut Faults<'_, '_>, section: &Section) -> Result<(), Al
 
 /// Adds the faults of a flipper.
 fn add_flipper(faults: &mut Faults<'_, '_>, flipper: Flipper<'_>) -> Result<(), AllocError>
-    ensures { OnOk result (Gains faults.old faults.new (flipper_faults faults.old.rows.machine faults.old.text (flipper_view flipper.entry))) }
+    ensures { OnOk result (Gains faults.old faults.new (faults_of_flipper faults.old flipper.entry)) }
 {
     let parts = [
         (MAIN_COIL, Named::Coil(Some(flipper.main_coil))),
@@ -209,7 +206,7 @@ pub(crate) fn add_hold_coil(
     faults: &mut Faults<'_, '_>,
     flipper: Flipper<'_>,
 ) -> Result<(), AllocError>
-    ensures { OnOk result (Gains faults.old faults.new (hold_faults faults.old.rows.machine faults.old.text (flipper_view flipper.entry) (flipper_view flipper.entry).hold_coil)) }
+    ensures { OnOk result (Gains faults.old faults.new (faults_of_hold_coil faults.old flipper.entry)) }
 {
     match flipper.hold_coil {
         Some(hold) => {
@@ -227,7 +224,7 @@ fn add_hold(
     hold: NameAt<'_>,
     coil: Option<Coil<'_>>,
 ) -> Result<(), AllocError>
-    ensures { OnOk result (Gains faults.old faults.new (hold_faults_by faults.old.text (flipper_view flipper.entry) (name_at_view hold.entry) (option_map coil_view coil.entry))) }
+    ensures { OnOk result (Gains faults.old faults.new (faults_of_hold faults.old flipper.entry hold.entry coil.entry)) }
 {
     match coil {
         Some(coil) => {
@@ -245,7 +242,7 @@ fn add_hold(
 /// Adds the faults of the autofire coils of a section.
 #[tactic(auto, unfolding(mpf_sections::specs::TypedCoils::autofires_in))]
 fn add_autofires(faults: &mut Faults<'_, '_>, section: &Section) -> Result<(), AllocError>
-    ensures { OnOk result (Gains faults.old faults.new (flat_map (autofire_faults faults.old.rows.machine faults.old.text) (autofires_in (section_view section.now)))) }
+    ensures { OnOk result (Gains faults.old faults.new (faults_of_autofires faults.old section.now)) }
 {
     let entries = section.entries_of(AUTOFIRE_COILS_NAME);
     for entry in entries {
@@ -256,7 +253,7 @@ fn add_autofires(faults: &mut Faults<'_, '_>, section: &Section) -> Result<(), A
 
 /// Adds the faults of an autofire coil.
 fn add_autofire(faults: &mut Faults<'_, '_>, autofire: Autofire<'_>) -> Result<(), AllocError>
-    ensures { OnOk result (Gains faults.old faults.new (autofire_faults faults.old.rows.machine faults.old.text (autofire_view autofire.entry))) }
+    ensures { OnOk result (Gains faults.old faults.new (faults_of_autofire faults.old autofire.entry)) }
 {
     let parts = [
         (COIL, Named::Coil(Some(autofire.coil))),

@@ -2,9 +2,10 @@
 
 ghost use Rattle.std.specs.Prelude.{◌≡◌, IfOk, OnOk};
 ghost use Rattle.mpf_sections.specs.View.{name_view, name_at_view};
-ghost use Rattle.row_faults.specs.CoilFaults.{fault_at, fault_if};
+ghost use Rattle.row_faults.specs.CoilFaults.{fault_at};
 ghost use Rattle.row_faults.specs.Collected.{Gains};
 ghost use Rattle.row_faults.specs.View.{row_fault_view, row_faults_view};
+ghost use Rattle.row_faults.specs.FaultsOf.{fault_where};
 
 use crate::fault::{RowFault, RowFaultKind};
 use crate::reserved::ModeEvents;
@@ -76,7 +77,7 @@ pub(crate) fn add_if(
     kind: RowFaultKind,
     name: NameAt<'_>,
 ) -> Result<(), AllocError>
-    ensures { OnOk result (Gains faults.old faults.new (fault_if wrong kind faults.old.text (name_at_view name.entry))) }
+    ensures { OnOk result (Gains faults.old faults.new (fault_where faults.old wrong kind name.entry)) }
 {
     if wrong {
         let fault = fault_at(faults.alloc, kind, faults.text, name)?;

@@ -1,6 +1,6 @@
 //! The line of a fault of rows in a report.
 
-ghost use Rattle.std.specs.Prelude.{◌≡◌, OnOk};
+ghost use Rattle.std.specs.Prelude.{OnOk};
 ghost use Rattle.std.specs.Io.KnownBytes.{Appends};
 ghost use Rattle.row_faults.specs.FaultText.{row_title, row_place, row_fault_line};
 ghost use Rattle.row_faults.specs.View.{row_fault_view};

@@ -1,11 +1,10 @@
 //! Faults that print the same line are listed once.
 
-ghost use Rattle.std.specs.Prelude.{◌≡◌, ◌||◌, ℕ, List, [], map, not, IfOk};
-ghost use Rattle.std.specs.Str.{bytes_eq};
+ghost use Rattle.std.specs.Prelude.{◌≡◌, [], not, IfOk};
 ghost use Rattle.yaml_subset.specs.Keys.{is_among, copies_view};
-ghost use Rattle.row_faults.specs.FaultText.{row_fault_line};
 ghost use Rattle.row_faults.specs.RowFaults.{listed_once};
-ghost use Rattle.row_faults.specs.View.{row_fault_view, row_faults_view};
+ghost use Rattle.row_faults.specs.View.{row_faults_view};
+ghost use Rattle.row_faults.specs.FaultsOf.{GainsLine, line_of_fault};
 
 use crate::fault::RowFault;
 use crate::fault_text::write_row_fault;
@@ -45,8 +44,8 @@ fn hashing_of(faults: &[RowFault]) -> KeyHashing {
 /// Takes the line of a fault, and says whether it is new. Where memory runs out it may be taken or
 /// not.
 fn is_new(alloc: Global, lines: &mut KeySet, fault: &RowFault) -> Result<bool, AllocError>
-    ensures fresh { IfOk result (λ fresh. fresh ≡ not (is_among (copies_view lines.old) (row_fault_line (row_fault_view fault.now)))) }
-    ensures known { IfOk result (λ fresh. (q : List ℕ) → is_among (copies_view lines.new) q ≡ (bytes_eq (row_fault_line (row_fault_view fault.now)) q || is_among (copies_view lines.old) q)) }
+    ensures fresh { IfOk result (λ fresh. fresh ≡ not (is_among (copies_view lines.old) (line_of_fault fault.now))) }
+    ensures known { IfOk result (λ fresh. GainsLine lines.old lines.new (line_of_fault fault.now)) }
 {
     let line = line_of(alloc, fault)?;
     let fresh = take_key(lines, line)?;
@@ -55,7 +54,7 @@ fn is_new(alloc: Global, lines: &mut KeySet, fault: &RowFault) -> Result<bool, A
 
 /// The line that a report has for a fault.
 fn line_of(alloc: Global, fault: &RowFault) -> Result<Vec<u8>, AllocError>
-    ensures { IfOk result (λ line. line.items ≡ row_fault_line (row_fault_view fault.now)) }
+    ensures { IfOk result (λ line. line.items ≡ line_of_fault fault.now) }
 {
     let mut line = Vec::new(alloc);
     match write_row_fault(fault, &mut line) {

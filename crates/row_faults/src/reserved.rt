@@ -1,16 +1,12 @@
 //! The events that no row may post, and where a text posts them.
 
-ghost use Rattle.std.specs.Prelude.{◌≡◌, ◌++◌, ◌∷◌, ℕ, List, map, codes, IfOk, OnOk};
-ghost use Rattle.std.specs.List.{flat_map};
+ghost use Rattle.std.specs.Prelude.{◌≡◌, ◌++◌, [], ◌∷◌, codes, IfOk, OnOk};
 ghost use Rattle.yaml_subset.specs.Keys.{is_among};
-ghost use Rattle.mpf_sections.specs.View.{name_view, entry_view, section_view};
-ghost use Rattle.mpf_config.specs.View.{mode_view};
-ghost use Rattle.mpf_sections.specs.Typed.{step_block_of, switches_in, event_players_in, counters_in};
 ghost use Rattle.machine_definitions.specs.GameEvents.{reserved_game_events};
-ghost use Rattle.row_faults.specs.AsWritten.{in_order};
 ghost use Rattle.row_faults.specs.Collected.{Gains, post_faults};
-ghost use Rattle.row_faults.specs.Reserved.{mode_events, events_of_modes, is_reserved_by, switch_posts, player_posts, counter_posts, step_posts, posts_in};
+ghost use Rattle.row_faults.specs.Reserved.{mode_events, is_reserved_by};
 ghost use Rattle.row_faults.specs.View.{keys_view};
+ghost use Rattle.row_faults.specs.FaultsOf.{GainsEvents, HasEvents, events_of_listed, events_of_texts, posts_by_section, posts_in_order, posts_of_counters, posts_of_names, posts_of_parts, posts_of_players, posts_of_steps, posts_of_switches};
 
 use crate::as_written::as_written;
 use crate::collector::{Faults, add_if, at};
@@ -34,7 +30,7 @@ pub(crate) type ModeEvents = BTreeSet<Vec<u8>>;
 
 /// The events of the modes of these names.
 pub(crate) fn events_of_modes(alloc: Global, modes: &[Name]) -> Result<ModeEvents, AllocError>
-    ensures { IfOk result (λ events. (q : List ℕ) → is_among (keys_view events) q ≡ is_among (events_of_modes (map (λ w. w.text) (map name_view modes.now))) q) }
+    ensures { IfOk result (λ events. HasEvents events (events_of_listed modes.now)) }
 {
     let mut events = BTreeSet::new(alloc);
     for mode in modes {
@@ -49,7 +45,7 @@ pub(crate) fn add_texts(
     events: &mut ModeEvents,
     texts: &[ModeText],
 ) -> Result<(), AllocError>
-    ensures { OnOk result ((q : List ℕ) → is_among (keys_view events.new) q ≡ is_among (keys_view events.old ++ events_of_modes (map (λ m. m.name) (map mode_view texts.now))) q) }
+    ensures { OnOk result (HasEvents events.new (keys_view events.old ++ events_of_texts texts.now)) }
 {
     for text in texts {
         add_mode(alloc, events, &text.name)?;
@@ -59,7 +55,7 @@ pub(crate) fn add_texts(
 
 /// Adds the events of a mode.
 fn add_mode(alloc: Global, events: &mut ModeEvents, mode: &[u8]) -> Result<(), AllocError>
-    ensures { OnOk result ((q : List ℕ) → is_among (keys_view events.new) q ≡ is_among (mode_events mode.now ++ keys_view events.old) q) }
+    ensures { OnOk result (GainsEvents events.old events.new (mode_events mode.now)) }
 {
     add_event(alloc, events, mode, b"_stopped")?;
     add_event(alloc, events, mode, b"_stopping")?;
@@ -75,7 +71,7 @@ fn add_event(
     mode: &[u8],
     end: &[u8],
 ) -> Result<(), AllocError>
-    ensures { OnOk result ((q : List ℕ) → is_among (keys_view events.new) q ≡ is_among ((codes "mode_" ++ mode.now ++ end.now) ∷ keys_view events.old) q) }
+    ensures { OnOk result (GainsEvents events.old events.new ((codes "mode_" ++ mode.now ++ end.now) ∷ [])) }
 {
     let mut name = Vec::from_slice(alloc, b"mode_")?;
     name.extend_from_slice(mode)?;
@@ -110,7 +106,7 @@ pub(crate) fn is_reserved(modes: &ModeEvents, name: &[u8]) -> bool
 /// Adds a fault for each reserved event that a section posts, entry by entry as written.
 #[tactic(auto, unfolding(mpf_sections::specs::Typed::accruals_in, mpf_sections::specs::Typed::sequences_in))]
 pub(crate) fn add_posts(faults: &mut Faults<'_, '_>, section: &Section) -> Result<(), AllocError>
-    ensures { OnOk result (Gains faults.old faults.new (post_faults faults.old (posts_in (section_view section.now)))) }
+    ensures { OnOk result (Gains faults.old faults.new (post_faults faults.old (posts_by_section section.now))) }
 {
     add_switches(faults, section)?;
     add_players(faults, section)?;
@@ -122,7 +118,7 @@ pub(crate) fn add_posts(faults: &mut Faults<'_, '_>, section: &Section) -> Resul
 /// Adds those of what switches post.
 #[tactic(auto, unfolding(mpf_sections::specs::Typed::switches_in))]
 fn add_switches(faults: &mut Faults<'_, '_>, section: &Section) -> Result<(), AllocError>
-    ensures { OnOk result (Gains faults.old faults.new (post_faults faults.old (flat_map switch_posts (switches_in (section_view section.now))))) }
+    ensures { OnOk result (Gains faults.old faults.new (post_faults faults.old (posts_of_switches section.now))) }
 {
     let entries = section.entries_of(SWITCHES_NAME);
     for entry in entries {
@@ -139,7 +135,7 @@ fn add_switches(faults: &mut Faults<'_, '_>, section: &Section) -> Result<(), Al
 /// Adds those of what entries of `event_player` post.
 #[tactic(auto, unfolding(mpf_sections::specs::Typed::event_players_in))]
 fn add_players(faults: &mut Faults<'_, '_>, section: &Section) -> Result<(), AllocError>
-    ensures { OnOk result (Gains faults.old faults.new (post_faults faults.old (flat_map player_posts (event_players_in (section_view section.now))))) }
+    ensures { OnOk result (Gains faults.old faults.new (post_faults faults.old (posts_of_players section.now))) }
 {
     let players = section.players_of(EVENT_PLAYER_NAME);
     for player in players {
@@ -151,7 +147,7 @@ fn add_players(faults: &mut Faults<'_, '_>, section: &Section) -> Result<(), All
 /// Adds those of what counters post.
 #[tactic(auto, unfolding(mpf_sections::specs::Typed::counters_in))]
 fn add_counters(faults: &mut Faults<'_, '_>, section: &Section) -> Result<(), AllocError>
-    ensures { OnOk result (Gains faults.old faults.new (post_faults faults.old (flat_map counter_posts (counters_in (section_view section.now))))) }
+    ensures { OnOk result (Gains faults.old faults.new (post_faults faults.old (posts_of_counters section.now))) }
 {
     let entries = section.entries_of(COUNTERS_NAME);
     for entry in entries {
@@ -167,7 +163,7 @@ fn add_counters(faults: &mut Faults<'_, '_>, section: &Section) -> Result<(), Al
 
 /// Adds those of what accruals or sequences post.
 fn add_step_blocks(faults: &mut Faults<'_, '_>, entries: &[Entry]) -> Result<(), AllocError>
-    ensures { OnOk result (Gains faults.old faults.new (post_faults faults.old (flat_map step_posts (map step_block_of (map entry_view entries.now))))) }
+    ensures { OnOk result (Gains faults.old faults.new (post_faults faults.old (posts_of_steps entries.now))) }
 {
     for entry in entries {
         let steps = as_step_block(entry);
@@ -187,7 +183,7 @@ fn add_in_order(
     order: &[usize],
     parts: &[(usize, &[Name])],
 ) -> Result<(), AllocError>
-    ensures { OnOk result (Gains faults.old faults.new (post_faults faults.old (in_order order.now (map (λ part. (part.0, map name_view part.1.now)) parts.now)))) }
+    ensures { OnOk result (Gains faults.old faults.new (post_faults faults.old (posts_in_order order.now parts.now))) }
 {
     if order.is_empty() {
         add_parts(faults, parts)?;
@@ -199,7 +195,7 @@ fn add_in_order(
 }
 
 fn add_parts(faults: &mut Faults<'_, '_>, parts: &[(usize, &[Name])]) -> Result<(), AllocError>
-    ensures { OnOk result (Gains faults.old faults.new (post_faults faults.old (flat_map (λ part. map name_view part.1.now) parts.now))) }
+    ensures { OnOk result (Gains faults.old faults.new (post_faults faults.old (posts_of_parts parts.now))) }
 {
     for part in parts {
         add_names(faults, part.1)?;
@@ -209,7 +205,7 @@ fn add_parts(faults: &mut Faults<'_, '_>, parts: &[(usize, &[Name])]) -> Result<
 
 /// Adds those of these names.
 fn add_names(faults: &mut Faults<'_, '_>, names: &[Name]) -> Result<(), AllocError>
-    ensures { OnOk result (Gains faults.old faults.new (post_faults faults.old (map name_view names.now))) }
+    ensures { OnOk result (Gains faults.old faults.new (post_faults faults.old (posts_of_names names.now))) }
 {
     for name in names {
         let reserved = is_reserved(faults.modes, &name.text);

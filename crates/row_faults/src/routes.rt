@@ -1,37 +1,37 @@
 //! What is wrong with the ways of balls.
 
-ghost use Rattle.std.specs.Prelude.{◌≡◌, ◌++◌, ◌||◌, not, List, map, IfOk, OnOk};
-ghost use Rattle.std.specs.List.{flat_map};
-ghost use Rattle.mpf_sections.specs.TypedBalls.{ball_device_of};
-ghost use Rattle.mpf_sections.specs.View.{name_view, entry_view, section_view, ball_device_view};
+ghost use Rattle.std.specs.Prelude.{◌≡◌, ◌||◌, not, map, IfOk, OnOk};
+ghost use Rattle.mpf_sections.specs.View.{ball_device_view};
 ghost use Rattle.machine_definitions.specs.Definitions.{ball_devices_of};
-ghost use Rattle.machine_definitions.specs.Found.{is_found};
+ghost use Rattle.machine_definitions.specs.Found.{is_found, section_rows, as_ball_devices};
 ghost use Rattle.row_faults.specs.Collected.{Gains};
-ghost use Rattle.row_faults.specs.Routes.{leads_to_playfield, lacks_coil, switch_names, all_taken, is_one_taken};
+ghost use Rattle.row_faults.specs.Routes.{leads_to_playfield, lacks_coil, all_taken, is_one_taken};
 ghost use Rattle.row_faults.specs.BallFaults.{route_faults};
 ghost use Rattle.row_faults.specs.View.{devices_view};
+ghost use Rattle.row_faults.specs.FaultsOf.{GainsDevices, faults_of_routes, texts_of};
 
 use crate::collector::{Faults, add_if, at};
 use crate::fault::RowFaultKind;
 use crate::targets::leads_of;
+use indexmap::IndexSet;
+use machine_definitions::by_name::Names;
 use mpf_config::{Entry, Name, Section};
 use mpf_sections::{BallDevice, as_ball_device};
 use mpf_tables::tables::BALL_DEVICES_NAME;
 use std::alloc::{AllocError, Global};
-use std::collections::BTreeSet;
 
 /// Names of ball switches, which lie where they are written.
-type Switches<'a> = BTreeSet<&'a [u8]>;
+type Switches<'a> = Names<'a>;
 
 /// Adds the faults of the ways of balls through the ball devices of these sections.
 pub(crate) fn add_route_faults(
     faults: &mut Faults<'_, '_>,
     sections: &[Section],
 ) -> Result<(), AllocError>
-    ensures { OnOk result (Gains faults.old faults.new (route_faults faults.old.text (ball_devices_of (map section_view sections.now)))) }
+    ensures { OnOk result (Gains faults.old faults.new (faults_of_routes faults.old sections.now)) }
 {
     let devices = ball_devices_of(faults.alloc, sections)?;
-    let leads = leads_of(faults.alloc, &devices)?;
+    let leads = leads_of(faults.alloc, faults.definitions.config().hashing, &devices)?;
     add_faults(faults, &devices, &leads)
 }
 
@@ -40,7 +40,7 @@ fn ball_devices_of<'a>(
     alloc: Global,
     sections: &'a [Section],
 ) -> Result<Vec<BallDevice<'a>>, AllocError>
-    ensures { IfOk result (λ devices. devices_view devices.items ≡ ball_devices_of (map section_view sections.now)) }
+    ensures { IfOk result (λ devices. devices_view devices.items ≡ ball_devices_of (section_rows sections.now)) }
 {
     let mut devices = Vec::new(alloc);
     for section in sections {
@@ -53,7 +53,7 @@ fn add_entries<'a>(
     devices: &mut Vec<BallDevice<'a>>,
     entries: &'a [Entry],
 ) -> Result<(), AllocError>
-    ensures { OnOk result (devices_view devices.new.items ≡ devices_view devices.old.items ++ map ball_device_of (map entry_view entries.now)) }
+    ensures { OnOk result (GainsDevices devices.old devices.new (as_ball_devices entries.now)) }
 {
     for entry in entries {
         devices.push(as_ball_device(entry))?;
@@ -71,7 +71,7 @@ fn add_faults(
     requires { leads.now ≡ map (leads_to_playfield (devices_view devices.now)) (devices_view devices.now) }
     ensures { OnOk result (Gains faults.old faults.new (route_faults faults.old.text (devices_view devices.now))) }
 {
-    let mut taken = BTreeSet::new(faults.alloc);
+    let mut taken = IndexSet::with_hasher(faults.alloc, faults.definitions.config().hashing);
     for (number, device) in devices.iter().enumerate() {
         let again = take_switches(&mut taken, device.switches)?;
         let wrong = is_wrong(leads[number], again, *device);
@@ -92,8 +92,8 @@ fn is_wrong(leads: bool, again: bool, device: BallDevice<'_>) -> bool
 /// Takes the ball switches of a ball device, and says whether one was taken, or stands twice among
 /// them. Where memory runs out, some may be taken.
 fn take_switches<'a>(taken: &mut Switches<'a>, switches: &'a [Name]) -> Result<bool, AllocError>
-    ensures again { IfOk result (λ again. again ≡ is_one_taken (map (λ w. w.text) (map name_view switches.now)) (is_found taken.old)) }
-    ensures taken { IfOk result (λ _. is_found taken.new ≡ all_taken (map (λ w. w.text) (map name_view switches.now)) (is_found taken.old)) }
+    ensures again { IfOk result (λ again. again ≡ is_one_taken (texts_of switches.now) (is_found taken.old)) }
+    ensures taken { IfOk result (λ _. is_found taken.new ≡ all_taken (texts_of switches.now) (is_found taken.old)) }
 {
     let mut again = false;
     for switch in switches {

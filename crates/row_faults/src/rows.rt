@@ -1,17 +1,13 @@
 //! The faults of all rows.
 
-ghost use Rattle.std.specs.Prelude.{◌≡◌, [], ◌++◌, map, IfOk, OnOk};
-ghost use Rattle.std.specs.List.{filter};
-ghost use Rattle.mpf_sections.specs.Typed.{timers_in};
-ghost use Rattle.mpf_sections.specs.View.{section_view, timer_view};
-ghost use Rattle.mpf_config.specs.View.{mode_view, rows_view};
-ghost use Rattle.machine_definitions.specs.Found.{is_found};
-ghost use Rattle.row_faults.specs.AsWritten.{ordered_by};
+ghost use Rattle.std.specs.Prelude.{◌≡◌, [], IfOk, OnOk};
+ghost use Rattle.mpf_sections.specs.View.{timer_view};
+ghost use Rattle.mpf_config.specs.View.{rows_view};
 ghost use Rattle.row_faults.specs.Collected.{Gains};
-ghost use Rattle.row_faults.specs.RowFaults.{has_reached, starts_at_end, section_faults, written_faults, timer_fault, fault_line, fault_number, text_faults, mode_faults, faults_by, row_faults};
-ghost use Rattle.row_faults.specs.ShotFaults.{listed_in, listed_of, taken_after};
+ghost use Rattle.row_faults.specs.RowFaults.{has_reached, starts_at_end, fault_line, fault_number, faults_by, row_faults};
 ghost use Rattle.row_faults.specs.Sound.{IsSound};
 ghost use Rattle.row_faults.specs.View.{keys_view, row_faults_view};
+ghost use Rattle.row_faults.specs.FaultsOf.{GainsFaults, Sorts, Takes, faults_of_modes, faults_of_section, faults_of_sections, faults_of_text, faults_of_timers, section_lists, sections_list};
 
 use crate::ball_faults::add_ball_devices;
 use crate::coil_faults::add_coil_faults;
@@ -22,6 +18,7 @@ use crate::reserved::{ModeEvents, add_posts, add_texts, events_of_modes};
 use crate::routes::add_route_faults;
 use crate::shot_faults::{Shots, add_groups, add_shots, shots_of};
 use crate::variable_faults::add_variable_players;
+use indexmap::IndexSet;
 use machine_definitions::Definitions;
 use mpf_config::{
     Config, Direction, MACHINE_NAME, ModeText, Section, Timer, as_timer, listed_modes,
@@ -29,7 +26,6 @@ use mpf_config::{
 };
 use mpf_tables::tables::TIMERS_NAME;
 use std::alloc::{AllocError, Global};
-use std::collections::BTreeSet;
 
 /// The faults of the rows that these definitions are of, in the order in which a report lists them: by text,
 /// line and number, and those of one line and number as they are written. Those that print the same
@@ -67,7 +63,7 @@ fn faults_of_texts<'a>(
 {
     let machine: &'a [Section] = config.machine.sections.as_slice();
     let texts: &'a [ModeText] = config.modes.as_slice();
-    let mut taken: Shots<'a> = BTreeSet::new(alloc);
+    let mut taken: Shots<'a> = IndexSet::with_hasher(alloc, config.hashing);
     let mut faults = faults_of_text(alloc, &mut taken, modes, definitions, MACHINE_NAME, machine)?;
     add_modes(alloc, &mut faults, &mut taken, modes, definitions, texts)?;
     Ok(faults)
@@ -83,7 +79,7 @@ fn add_modes<'a>(
     definitions: &Definitions<'_>,
     texts: &'a [ModeText],
 ) -> Result<(), AllocError>
-    ensures { OnOk result (row_faults_view faults.new.items ≡ row_faults_view faults.old.items ++ mode_faults (keys_view modes.now) definitions.now (is_found taken.old) (map mode_view texts.now)) }
+    ensures { OnOk result (GainsFaults faults.old faults.new (faults_of_modes modes.now definitions.now taken.old texts.now)) }
 {
     for text in texts {
         let name = mode_text_name(alloc, &text.name)?;
@@ -94,7 +90,7 @@ fn add_modes<'a>(
 }
 
 fn add_all(faults: &mut Vec<RowFault>, own: Vec<RowFault>) -> Result<(), AllocError>
-    ensures { OnOk result (row_faults_view faults.new.items ≡ row_faults_view faults.old.items ++ row_faults_view own.items) }
+    ensures { OnOk result (GainsFaults faults.old faults.new (row_faults_view own.items)) }
 {
     for fault in own {
         faults.push(fault)?;
@@ -112,10 +108,10 @@ fn faults_of_text<'a>(
     text: &[u8],
     sections: &'a [Section],
 ) -> Result<Vec<RowFault>, AllocError>
-    ensures faults { IfOk result (λ faults. row_faults_view faults.items ≡ text_faults (keys_view modes.now) definitions.now (is_found taken.old) text.now (map section_view sections.now)) }
-    ensures taken { IfOk result (λ _. is_found taken.new ≡ taken_after (is_found taken.old) (listed_of definitions.now (map section_view sections.now))) }
+    ensures faults { IfOk result (λ faults. row_faults_view faults.items ≡ faults_of_text modes.now definitions.now taken.old text.now sections.now) }
+    ensures taken { IfOk result (λ _. Takes taken.old taken.new (sections_list definitions.now sections.now)) }
 {
-    let own = shots_of(alloc, sections)?;
+    let own = shots_of(alloc, definitions.config().hashing, sections)?;
     let mut faults = Faults {
         alloc,
         definitions,
@@ -133,7 +129,7 @@ fn faults_of_text<'a>(
 
 /// By number, those of one number as they are.
 fn sort_by_number(faults: &mut Vec<RowFault>) -> Result<(), AllocError>
-    ensures { OnOk result (row_faults_view faults.new.items ≡ ordered_by fault_number (row_faults_view faults.old.items)) }
+    ensures { OnOk result (Sorts fault_number faults.old faults.new) }
 {
     faults.sort_by_key(|fault| fault.kind.number())?;
     Ok(())
@@ -141,7 +137,7 @@ fn sort_by_number(faults: &mut Vec<RowFault>) -> Result<(), AllocError>
 
 /// By line, those of one line as they are.
 fn sort_by_line(faults: &mut Vec<RowFault>) -> Result<(), AllocError>
-    ensures { OnOk result (row_faults_view faults.new.items ≡ ordered_by fault_line (row_faults_view faults.old.items)) }
+    ensures { OnOk result (Sorts fault_line faults.old faults.new) }
 {
     faults.sort_by_key(|fault| fault.line)?;
     Ok(())
@@ -154,8 +150,8 @@ fn add_sections<'a>(
     own: &Shots<'_>,
     sections: &'a [Section],
 ) -> Result<(), AllocError>
-    ensures faults { OnOk result (Gains faults.old faults.new (written_faults faults.old.modes faults.old.rows (is_found own.now) (is_found taken.old) faults.old.text (map section_view sections.now))) }
-    ensures taken { OnOk result (is_found taken.new ≡ taken_after (is_found taken.old) (listed_of faults.old.rows (map section_view sections.now))) }
+    ensures faults { OnOk result (Gains faults.old faults.new (faults_of_sections faults.old own.now taken.old sections.now)) }
+    ensures taken { OnOk result (Takes taken.old taken.new (sections_list faults.old.rows sections.now)) }
 {
     for section in sections {
         add_section(faults, taken, own, section)?;
@@ -170,8 +166,8 @@ fn add_section<'a>(
     own: &Shots<'_>,
     section: &'a Section,
 ) -> Result<(), AllocError>
-    ensures faults { OnOk result (Gains faults.old faults.new (section_faults faults.old.modes faults.old.rows (is_found own.now) (is_found taken.old) faults.old.text (section_view section.now))) }
-    ensures taken { OnOk result (is_found taken.new ≡ taken_after (is_found taken.old) (listed_in faults.old.rows (section_view section.now))) }
+    ensures faults { OnOk result (Gains faults.old faults.new (faults_of_section faults.old own.now taken.old section.now)) }
+    ensures taken { OnOk result (Takes taken.old taken.new (section_lists faults.old.rows section.now)) }
 {
     add_posts(faults, section)?;
     add_variable_players(faults, section)?;
@@ -185,7 +181,7 @@ fn add_section<'a>(
 /// Adds a fault for each timer of a section that starts at its end.
 #[tactic(auto, unfolding(mpf_sections::specs::Typed::timers_in))]
 fn add_timers(faults: &mut Faults<'_, '_>, section: &Section) -> Result<(), AllocError>
-    ensures { OnOk result (Gains faults.old faults.new (map (timer_fault faults.old.text) (filter starts_at_end (timers_in (section_view section.now))))) }
+    ensures { OnOk result (Gains faults.old faults.new (faults_of_timers faults.old section.now)) }
 {
     let entries = section.entries_of(TIMERS_NAME);
     for entry in entries {

@@ -1,34 +1,34 @@
 //! What is wrong with shots, and with the shots that groups list.
 
-ghost use Rattle.std.specs.Prelude.{◌≡◌, ◌||◌, ℕ, List, map, option_map, IfOk, OnOk};
-ghost use Rattle.std.specs.List.{flat_map, list_any};
-ghost use Rattle.std.specs.Str.{bytes_eq};
-ghost use Rattle.mpf_sections.specs.TypedShots.{shot_of, shots_in};
-ghost use Rattle.mpf_sections.specs.View.{name_view, name_at_view, entry_view, section_view, shot_view, shot_group_view};
-ghost use Rattle.machine_definitions.specs.Found.{is_found};
-ghost use Rattle.row_faults.specs.Collected.{Gains, group_faults};
-ghost use Rattle.row_faults.specs.ShotFaults.{shot_switch_faults, profile_faults, shot_faults, first_shot, listed_with, listed_by, listed_in, is_own_shot, are_of_two_profiles, is_misplaced, taken_after};
+ghost use Rattle.std.specs.Prelude.{◌≡◌, ℕ, map, option_map, IfOk, OnOk};
+ghost use Rattle.mpf_sections.specs.View.{name_view, shot_view};
+ghost use Rattle.machine_definitions.specs.Found.{is_found, GainsNames};
+ghost use Rattle.row_faults.specs.Collected.{Gains};
+ghost use Rattle.row_faults.specs.ShotFaults.{first_shot, are_of_two_profiles};
+ghost use Rattle.row_faults.specs.FaultsOf.{HasOwnShots, Takes, faults_of_listed, faults_of_profile, faults_of_shot, faults_of_shot_switch, faults_of_shots, group_lists, is_one_shot, may_not_list, names_listed, section_lists};
 
 use crate::as_written::{Named, add_as_written};
 use crate::coil_faults::add_switch_name;
 use crate::collector::{Faults, add_if, at};
 use crate::fault::RowFaultKind;
+use indexmap::IndexSet;
 use machine_definitions::Definitions;
+use machine_definitions::by_name::Names;
 use mpf_config::{Entry, Name, NameAt, Section, Shot, ShotGroup, as_shot, as_shot_group};
 use mpf_sections::shots::{PROFILE, SWITCH};
 use mpf_tables::tables::{SHOT_GROUPS_NAME, SHOTS_NAME};
 use std::alloc::{AllocError, Global};
-use std::collections::BTreeSet;
+use yaml_subset::keys::KeyHashing;
 
 /// Names of shots, which lie where they are written.
-pub(crate) type Shots<'a> = BTreeSet<&'a [u8]>;
+pub(crate) type Shots<'a> = Names<'a>;
 
 // ---- `shots`
 
 /// Adds the faults of the shots of a section.
 #[tactic(auto, unfolding(mpf_sections::specs::TypedShots::shots_in))]
 pub(crate) fn add_shots(faults: &mut Faults<'_, '_>, section: &Section) -> Result<(), AllocError>
-    ensures { OnOk result (Gains faults.old faults.new (flat_map (shot_faults faults.old.rows faults.old.text) (shots_in (section_view section.now)))) }
+    ensures { OnOk result (Gains faults.old faults.new (faults_of_shots faults.old section.now)) }
 {
     let entries = section.entries_of(SHOTS_NAME);
     for entry in entries {
@@ -39,7 +39,7 @@ pub(crate) fn add_shots(faults: &mut Faults<'_, '_>, section: &Section) -> Resul
 
 /// Adds the faults of a shot.
 fn add_shot(faults: &mut Faults<'_, '_>, shot: Shot<'_>) -> Result<(), AllocError>
-    ensures { OnOk result (Gains faults.old faults.new (shot_faults faults.old.rows faults.old.text (shot_view shot.entry))) }
+    ensures { OnOk result (Gains faults.old faults.new (faults_of_shot faults.old shot.entry)) }
 {
     let parts = [
         (SWITCH, Named::Switch(shot.switch)),
@@ -53,7 +53,7 @@ pub(crate) fn add_profile(
     faults: &mut Faults<'_, '_>,
     profile: NameAt<'_>,
 ) -> Result<(), AllocError>
-    ensures { OnOk result (Gains faults.old faults.new (profile_faults faults.old.rows faults.old.text (name_at_view profile.entry))) }
+    ensures { OnOk result (Gains faults.old faults.new (faults_of_profile faults.old profile.entry)) }
 {
     let unknown = !faults.definitions.has_profile(profile.text);
     add_if(faults, unknown, RowFaultKind::Name, profile)
@@ -64,7 +64,7 @@ pub(crate) fn add_named_switch(
     faults: &mut Faults<'_, '_>,
     switch: Option<NameAt<'_>>,
 ) -> Result<(), AllocError>
-    ensures { OnOk result (Gains faults.old faults.new (shot_switch_faults faults.old.rows.machine faults.old.text (option_map name_at_view switch.entry))) }
+    ensures { OnOk result (Gains faults.old faults.new (faults_of_shot_switch faults.old switch.entry)) }
 {
     match switch {
         Some(name) => add_switch_name(faults, name),
@@ -83,8 +83,8 @@ pub(crate) fn add_groups<'a>(
     own: &Shots<'_>,
     section: &'a Section,
 ) -> Result<(), AllocError>
-    ensures faults { OnOk result (Gains faults.old faults.new (group_faults faults.old (is_found own.now) (is_found taken.old) (listed_in faults.old.rows (section_view section.now)))) }
-    ensures taken { OnOk result (is_found taken.new ≡ taken_after (is_found taken.old) (listed_in faults.old.rows (section_view section.now))) }
+    ensures faults { OnOk result (Gains faults.old faults.new (faults_of_listed faults.old own.now taken.old (section_lists faults.old.rows section.now))) }
+    ensures taken { OnOk result (Takes taken.old taken.new (section_lists faults.old.rows section.now)) }
 {
     let groups: &'a [Entry] = section.entries_of(SHOT_GROUPS_NAME);
     for group in groups {
@@ -100,8 +100,8 @@ fn add_group<'a>(
     own: &Shots<'_>,
     group: ShotGroup<'a>,
 ) -> Result<(), AllocError>
-    ensures faults { OnOk result (Gains faults.old faults.new (group_faults faults.old (is_found own.now) (is_found taken.old) (listed_by faults.old.rows (shot_group_view group.entry)))) }
-    ensures taken { OnOk result (is_found taken.new ≡ taken_after (is_found taken.old) (listed_by faults.old.rows (shot_group_view group.entry))) }
+    ensures faults { OnOk result (Gains faults.old faults.new (faults_of_listed faults.old own.now taken.old (group_lists faults.old.rows group.entry))) }
+    ensures taken { OnOk result (Takes taken.old taken.new (group_lists faults.old.rows group.entry)) }
 {
     let first = first_shot(faults.definitions, group.shots);
     add_listed(faults, taken, own, first, group.shots)
@@ -125,8 +125,8 @@ fn add_listed<'a>(
     first: Option<Shot<'_>>,
     listed: &'a [Name],
 ) -> Result<(), AllocError>
-    ensures faults { OnOk result (Gains faults.old faults.new (group_faults faults.old (is_found own.now) (is_found taken.old) (listed_with (option_map shot_view first.entry) (map name_view listed.now)))) }
-    ensures taken { OnOk result (is_found taken.new ≡ taken_after (is_found taken.old) (listed_with (option_map shot_view first.entry) (map name_view listed.now))) }
+    ensures faults { OnOk result (Gains faults.old faults.new (faults_of_listed faults.old own.now taken.old (names_listed first.entry listed.now))) }
+    ensures taken { OnOk result (Takes taken.old taken.new (names_listed first.entry listed.now)) }
 {
     for name in listed {
         let misplaced = is_misplaced(faults, taken, own, first, &name.text);
@@ -144,7 +144,7 @@ fn is_misplaced(
     first: Option<Shot<'_>>,
     name: &[u8],
 ) -> bool
-    ensures { (line : ℕ) → result ≡ is_misplaced faults.now.rows (is_found own.now) (is_found taken.now) (record { first = option_map shot_view first.entry; shot = record { line = line; text = name.now } }) }
+    ensures { (line : ℕ) → result ≡ may_not_list faults.now own.now taken.now first.entry line name.now }
 {
     !has_name(own, name)
         || has_name(taken, name)
@@ -172,10 +172,14 @@ fn are_of_two_profiles(one: Option<Shot<'_>>, other: Option<Shot<'_>>) -> bool
 
 /// The shots that these sections define.
 #[tactic(auto, unfolding(mpf_sections::specs::TypedShots::shots_in))]
-pub(crate) fn shots_of<'a>(alloc: Global, sections: &'a [Section]) -> Result<Shots<'a>, AllocError>
-    ensures { IfOk result (λ shots. (name : List ℕ) → is_found shots name ≡ is_own_shot (map section_view sections.now) name) }
+pub(crate) fn shots_of<'a>(
+    alloc: Global,
+    hashing: KeyHashing,
+    sections: &'a [Section],
+) -> Result<Shots<'a>, AllocError>
+    ensures { IfOk result (λ shots. HasOwnShots sections.now shots) }
 {
-    let mut shots = BTreeSet::new(alloc);
+    let mut shots = IndexSet::with_hasher(alloc, hashing);
     for section in sections {
         take_shots(&mut shots, section.entries_of(SHOTS_NAME))?;
     }
@@ -183,7 +187,7 @@ pub(crate) fn shots_of<'a>(alloc: Global, sections: &'a [Section]) -> Result<Sho
 }
 
 fn take_shots<'a>(shots: &mut Shots<'a>, entries: &'a [Entry]) -> Result<(), AllocError>
-    ensures { OnOk result ((name : List ℕ) → is_found shots.new name ≡ (is_found shots.old name || list_any (λ s. bytes_eq name s.name.text) (map shot_of (map entry_view entries.now)))) }
+    ensures { OnOk result (GainsNames shots.old shots.new (is_one_shot entries.now)) }
 {
     for entry in entries {
         shots.insert(&as_shot(entry).name.text)?;

@@ -7,31 +7,42 @@ ghost use Rattle.std.specs.Prelude.{◌≡◌, ◌<◌, ◌==◌, length, map, g
 ghost use Rattle.row_faults.specs.Routes.{leads_to_playfield};
 ghost use Rattle.row_faults.specs.Numbers.{number_found, IsNumbered, number_of, after};
 ghost use Rattle.row_faults.specs.View.{devices_view};
+ghost use Rattle.row_faults.specs.FaultsOf.{numbers_of_targets};
 
+use indexmap::IndexMap;
+use machine_definitions::by_name::ByName;
 use mpf_sections::BallDevice;
 use mpf_tables::tables::PLAYFIELD;
 use std::alloc::{AllocError, Global};
-use std::collections::BTreeMap;
+use yaml_subset::keys::KeyHashing;
 
 /// The places of ball devices, by their names.
-type Numbers<'a> = BTreeMap<&'a [u8], usize>;
+type Numbers<'a> = ByName<'a, usize>;
 
 /// Whether the balls that each of these ball devices ejects come to the playfield. The time grows
 /// with their number times its logarithm.
-pub(crate) fn leads_of(alloc: Global, devices: &[BallDevice<'_>]) -> Result<Vec<bool>, AllocError>
+pub(crate) fn leads_of(
+    alloc: Global,
+    hashing: KeyHashing,
+    devices: &[BallDevice<'_>],
+) -> Result<Vec<bool>, AllocError>
     ensures { IfOk result (λ leads. leads.items ≡ map (leads_to_playfield (devices_view devices.now)) (devices_view devices.now)) }
 {
-    let numbers = numbers_of(alloc, devices)?;
+    let numbers = numbers_of(alloc, hashing, devices)?;
     let targets = targets_of(alloc, &numbers, devices)?;
     let ends = ends_of(alloc, &targets, devices.len())?;
     are_playfield(alloc, &ends)
 }
 
 /// The places of these ball devices, by their names.
-fn numbers_of<'a>(alloc: Global, devices: &[BallDevice<'a>]) -> Result<Numbers<'a>, AllocError>
+fn numbers_of<'a>(
+    alloc: Global,
+    hashing: KeyHashing,
+    devices: &[BallDevice<'a>],
+) -> Result<Numbers<'a>, AllocError>
     ensures { IfOk result (λ numbers. IsNumbered (devices_view devices.now) (number_found numbers)) }
 {
-    let mut numbers: Numbers<'a> = BTreeMap::new(alloc);
+    let mut numbers: Numbers<'a> = IndexMap::with_hasher(alloc, hashing);
     for (number, device) in devices.iter().enumerate() {
         numbers.insert(&device.name.text, number)?;
     }
@@ -44,7 +55,7 @@ fn targets_of(
     numbers: &Numbers<'_>,
     devices: &[BallDevice<'_>],
 ) -> Result<Vec<usize>, AllocError>
-    ensures { IfOk result (λ targets. targets.items ≡ map (λ d. number_of (number_found numbers.now) (length devices.now) d.target.text) (devices_view devices.now)) }
+    ensures { IfOk result (λ targets. targets.items ≡ numbers_of_targets numbers.now devices.now) }
 {
     let mut targets = Vec::new(alloc);
     for device in devices {

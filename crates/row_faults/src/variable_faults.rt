@@ -1,12 +1,10 @@
 //! What is wrong with what rows say of variables.
 
-ghost use Rattle.std.specs.Prelude.{◌≡◌, map, IfOk, OnOk};
-ghost use Rattle.std.specs.List.{flat_map};
-ghost use Rattle.mpf_sections.specs.TypedGame.{variable_item_of};
-ghost use Rattle.mpf_sections.specs.View.{keyed_view, section_view, variable_item_view};
+ghost use Rattle.std.specs.Prelude.{◌≡◌, IfOk, OnOk};
 ghost use Rattle.row_faults.specs.Collected.{Gains};
-ghost use Rattle.row_faults.specs.VariableFaults.{is_barred, variable_item_faults, variable_faults};
+ghost use Rattle.row_faults.specs.VariableFaults.{is_barred};
 ghost use Rattle.row_faults.specs.View.{keys_view};
+ghost use Rattle.row_faults.specs.FaultsOf.{faults_of_variable_item, faults_of_variable_items, faults_of_variables};
 
 use crate::collector::{Faults, add_if, at};
 use crate::fault::RowFaultKind;
@@ -26,7 +24,7 @@ pub(crate) fn add_variable_players(
     faults: &mut Faults<'_, '_>,
     section: &Section,
 ) -> Result<(), AllocError>
-    ensures { OnOk result (Gains faults.old faults.new (variable_faults faults.old.modes faults.old.text (section_view section.now))) }
+    ensures { OnOk result (Gains faults.old faults.new (faults_of_variables faults.old section.now)) }
 {
     let players = section.players_of(VARIABLE_PLAYER_NAME);
     for player in players {
@@ -37,7 +35,7 @@ pub(crate) fn add_variable_players(
 
 /// Adds the faults of the variables that an entry changes.
 fn add_items(faults: &mut Faults<'_, '_>, items: &[Keyed]) -> Result<(), AllocError>
-    ensures { OnOk result (Gains faults.old faults.new (flat_map (variable_item_faults faults.old.modes faults.old.text) (map variable_item_of (map keyed_view items.now)))) }
+    ensures { OnOk result (Gains faults.old faults.new (faults_of_variable_items faults.old items.now)) }
 {
     for item in items {
         add_item(faults, as_variable_item(item))?;
@@ -47,7 +45,7 @@ fn add_items(faults: &mut Faults<'_, '_>, items: &[Keyed]) -> Result<(), AllocEr
 
 /// Adds the fault of a variable, if no row may change it.
 fn add_item(faults: &mut Faults<'_, '_>, item: VariableItem<'_>) -> Result<(), AllocError>
-    ensures { OnOk result (Gains faults.old faults.new (variable_item_faults faults.old.modes faults.old.text (variable_item_view item.entry))) }
+    ensures { OnOk result (Gains faults.old faults.new (faults_of_variable_item faults.old item.entry)) }
 {
     let barred = is_barred(faults.alloc, faults.modes, &item.variable.text)?;
     let name = at(item.variable);

@@ -17,8 +17,8 @@ returns c =
     let given = c.args.definitions.now in
     let machine = c.as_slice-machine.result.now in
     let texts = c.as_slice-texts.result.now in
-    let nothing = is_found c.new-taken.result in
-    let none : nothing ≡ is_none_taken = λ i name. ap (λ (keys : List (Bor (List ℕ))). list_any (has_bytes name) keys) c.new-taken.ensures.empty i in
+    let nothing = is_found c.with_hasher-taken.result in
+    let none : nothing ≡ is_none_taken = λ i name. ap (λ (keys : List (Bor (List ℕ))). list_any (has_bytes name) keys) c.with_hasher-taken.ensures.empty i in
     let is : given ≡ rows_view c.args.config.now = c.requires in
     c.in_ok-add_modes.ensures
     ∙ ap (λ (fs : List RowFaultView). fs ++ mode_faults modes given (is_found c.faults_of_text.new.taken) (map mode_view texts)) c.in_ok-faults.ensures.faults

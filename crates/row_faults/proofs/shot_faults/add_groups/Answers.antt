@@ -1,4 +1,4 @@
-use Rattle.std.proofs.Common.{◌≡◌, ◌++◌, List, map, drop, ◌+◌, ap, ◌∙◌}
+use Rattle.std.proofs.Common.{◌≡◌, List, map, drop, ◌+◌, ap, ◌∙◌}
 use Rattle.std.specs.List.{flat_map}
 use Rattle.mpf_sections.specs.TypedShots.{shot_group_of}
 use Rattle.mpf_sections.specs.View.{entry_view}

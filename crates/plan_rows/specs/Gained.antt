@@ -1,0 +1,134 @@
+-- What lists of rows and maps of seats gain, and what the entries and the sections of the program give to them.
+use Rattle.std.specs.Prelude.{◌≡◌, ℕ, Bool, List, ◌++◌, fold, map}
+use Rattle.std.specs.List.{list_any}
+use Rattle.std.specs.Str.{bytes_eq}
+use Rattle.std.specs.Borrow.{Bor}
+use Rattle.std.specs.HashMap.{HashMap}
+use Rattle.std.specs.HashSet.{HashSet}
+use Rattle.std.specs.Global.{Vec}
+use Rattle.section_tables.specs.declared.rows.Entry as written_entries
+use Rattle.section_tables.specs.declared.rows.Name.{Name}
+use Rattle.section_tables.specs.declared.rows.Player as written_players
+use Rattle.mpf_sections.specs.declared.section.Section.{Section}
+use Rattle.mpf_sections.specs.Rows.{Written, Entry}
+use Rattle.mpf_sections.specs.TypedShots.{shot_of, shot_group_of}
+use Rattle.mpf_sections.specs.TypedBalls.{ball_device_of}
+use Rattle.mpf_sections.specs.View.{name_view, entry_view, player_view, section_view}
+use Rattle.mpf_config.specs.declared.config.ModeText.{ModeText}
+use Rattle.mpf_config.specs.Rows.{Rows}
+use Rattle.mpf_config.specs.View.{mode_view}
+use Rattle.machine_definitions.specs.Found.{is_found, section_rows}
+use Rattle.plan_rows.specs.declared.place.Place.{Place}
+use Rattle.plan_rows.specs.declared.place.Place.TheVariants.{Mode}
+use Rattle.plan_rows.specs.declared.rows.Row as rows
+use Rattle.plan_rows.specs.declared.seats.Seat as seats
+use Rattle.plan_rows.specs.declared.seats.Seats.{Seats}
+use Rattle.plan_rows.specs.Seats.{section_entries, text_entries, lists_shot, is_grouped, given_from, latest, Seat, seats_at, entry_seats, seat_of, entry_ball_row, destination_of, rows_after_text}
+use Rattle.plan_rows.specs.Rows.{Row, player, shot_row, ball_device_row, other_row, entry_row, rows_from, rows_in, text_rows, mode_rows}
+use Rattle.plan_rows.specs.View.{found_seat, found_row, found_destination, row_list_view}
+
+-- a list of rows has grown by these
+abbrev pub Gains : (old new : Vec rows.Row) → List Row → Type 0
+Gains old new more = row_list_view new.items ≡ row_list_view old.items ++ more
+
+-- Under each name is found what was, or the last of these that has the name.
+abbrev pub GainsSeats : {S : Type 0} → (old new : HashMap (Bor (List ℕ)) seats.Seat S) → List (List ℕ × Seat) → Type 0
+GainsSeats old new more = (name : List ℕ) → found_seat new name ≡ fold (latest name) (found_seat old name) more
+
+abbrev pub GainsDevices : {S : Type 0} → (old new : HashMap (Bor (List ℕ)) ℕ S) → List (List ℕ × ℕ) → Type 0
+GainsDevices old new more = (name : List ℕ) → found_row new name ≡ fold (latest name) (found_row old name) more
+
+-- ---- entries and names of the program
+
+-- an entry with the name of its section, those of a section, and those of sections
+abbrev pub named_entry : List ℕ → written_entries.Entry → List ℕ × Entry
+named_entry section e = (section, entry_view e)
+
+abbrev pub named_entries : Section → List (List ℕ × Entry)
+named_entries s = section_entries (section_view s)
+
+abbrev pub all_entries : List Section → List (List ℕ × Entry)
+all_entries sections = text_entries (section_rows sections)
+
+abbrev pub as_written : List Name → List Written
+as_written names = map name_view names
+
+-- the seats of the shots that a group lists, whose row has this number
+abbrev pub seats_of_names : ℕ → List Name → List (List ℕ × Seat)
+seats_of_names row names = seats_at row 0 (as_written names)
+
+-- whether one of these groups lists a shot of this name, and whether one of the names is this one
+abbrev pub is_one_listed : List written_entries.Entry → List ℕ → Bool
+is_one_listed groups name = list_any (lists_shot name) (map shot_group_of (map entry_view groups))
+
+abbrev pub is_one_named : List Name → List ℕ → Bool
+is_one_named names name = list_any (λ w. bytes_eq name w.text) (as_written names)
+
+-- ---- the seats of a text, before which come so many rows
+
+-- a name is found where a group of the text lists the shot of this name
+abbrev pub HasGrouped : {S : Type 0} → List Section → HashSet (Bor (List ℕ)) S → Type 0
+HasGrouped sections names = (name : List ℕ) → is_found names name ≡ is_grouped (section_rows sections) name
+
+abbrev pub HasSeats : Place → ℕ → List Section → Seats → Type 0
+HasSeats place before sections found = (name : List ℕ) → found_seat found.shots name ≡ seat_of place before (section_rows sections) name
+
+abbrev pub HasDestinations : Place → ℕ → List Section → Seats → Type 0
+HasDestinations place before sections found = (name : List ℕ) → found_destination found.devices name ≡ destination_of place before (section_rows sections) name
+
+-- what a section gives, where such shots are grouped: the seats of shots, and the rows of ball devices
+abbrev pub seats_given : {S : Type 0} → Place → HashSet (Bor (List ℕ)) S → ℕ → Section → List (List ℕ × Seat)
+seats_given place grouped before s = given_from entry_seats place (is_found grouped) before (named_entries s)
+
+abbrev pub devices_given : {S : Type 0} → Place → HashSet (Bor (List ℕ)) S → ℕ → Section → List (List ℕ × ℕ)
+devices_given place grouped before s = given_from entry_ball_row place (is_found grouped) before (named_entries s)
+
+-- what sections give
+abbrev pub all_seats_given : {S : Type 0} → Place → HashSet (Bor (List ℕ)) S → ℕ → List Section → List (List ℕ × Seat)
+all_seats_given place grouped before sections = given_from entry_seats place (is_found grouped) before (all_entries sections)
+
+abbrev pub all_devices_given : {S : Type 0} → Place → HashSet (Bor (List ℕ)) S → ℕ → List Section → List (List ℕ × ℕ)
+all_devices_given place grouped before sections = given_from entry_ball_row place (is_found grouped) before (all_entries sections)
+
+-- how many rows come before the next text, after that of a place, and after that of a mode
+abbrev pub rows_until : Place → ℕ → List Section → ℕ
+rows_until place before sections = rows_after_text place before (section_rows sections)
+
+abbrev pub rows_until_mode : ℕ → ModeText → ℕ
+rows_until_mode before mode = rows_after_text Mode before (mode_view mode).sections
+
+-- ---- the rows that the program's entries give, where these are the seats of their text
+
+module _ (defined : Rows) (place : Place) (found : Seats) where
+  abbrev pub entry_gives : List ℕ → written_entries.Entry → Row
+  entry_gives section e = entry_row defined place (found_seat found.shots) (found_destination found.devices) section (entry_view e)
+
+  abbrev pub entries_give : List ℕ → List written_entries.Entry → List Row
+  entries_give section es = map (entry_row defined place (found_seat found.shots) (found_destination found.devices) section) (map entry_view es)
+
+  abbrev pub section_gives : Section → List Row
+  section_gives s = rows_from defined place (found_seat found.shots) (found_destination found.devices) (section_view s).name (section_view s).content
+
+  abbrev pub sections_give : List Section → List Row
+  sections_give sections = rows_in defined place (found_seat found.shots) (found_destination found.devices) (section_rows sections)
+
+  abbrev pub shot_gives : written_entries.Entry → Row
+  shot_gives e = shot_row defined place (found_seat found.shots) (shot_of (entry_view e))
+
+-- an entry that is neither a shot nor a group
+abbrev pub other_gives : Place → Seats → List ℕ → written_entries.Entry → Row
+other_gives place found section e = other_row (found_destination found.devices) place section (entry_view e)
+
+abbrev pub ball_device_gives : Seats → written_entries.Entry → Row
+ball_device_gives found e = ball_device_row (found_destination found.devices) (ball_device_of (entry_view e))
+
+-- the entries of a player
+abbrev pub players_give : Place → List ℕ → List written_players.Player → List Row
+players_give place section ps = map (player place section) (map player_view ps)
+
+-- a text, and a mode with its text, before which come so many rows of devices
+abbrev pub text_gives : Rows → Place → ℕ → List Section → List Row
+text_gives defined place before sections = text_rows defined place before (section_rows sections)
+
+abbrev pub mode_gives : Rows → ℕ → ModeText → List Row
+mode_gives defined before mode = mode_rows defined before (mode_view mode)
