@@ -12,3 +12,4 @@ pub mod View
 pub mod Facts
 pub mod BallFacts
 pub mod Doing
+pub mod Gives

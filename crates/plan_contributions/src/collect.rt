@@ -1,10 +1,11 @@
 //! What a row of a configuration gives to a plan, by names.
 
-ghost use Rattle.std.specs.Prelude.{◌≡◌, ◌++◌, map, OnOk};
-ghost use Rattle.mpf_sections.specs.View.{switch_view as switch_row_view, event_player_view, mode_settings_view, entry_view, player_view, name_view};
-ghost use Rattle.plan_contributions.specs.Contributions.{active, inactive, does, posts, texts, contact_of, is_quick, kind_of, confirms, tag_event, active_posts, inactive_posts, switch_contributions, player_contributions, stopper_where, stops_at_ball_end, stops_at_game_end, later_events, controls, mode_contributions, machine_entry_contributions, entry_contributions, alone_contributions, player_entry_contributions, row_contributions};
+ghost use Rattle.std.specs.Prelude.{◌≡◌, map, OnOk};
+ghost use Rattle.mpf_sections.specs.View.{mode_settings_view, name_view};
+ghost use Rattle.plan_contributions.specs.Contributions.{contact_of, is_quick, confirms, stopper_where, stops_at_ball_end, stops_at_game_end, later_events, row_contributions};
 ghost use Rattle.plan_contributions.specs.View.{contributions_view};
 ghost use Rattle.plan_rows.specs.View.{row_view};
+ghost use Rattle.plan_contributions.specs.Gives.{Gains, alone_gives, controls_give, entry_gives, event_player_gives, kind_of_switch, machine_entry_gives, mode_gives, names_do_post, player_entry_gives, switch_gives, switch_posts_active, switch_posts_inactive, tags_post_active};
 
 use crate::collect_balls::collect_ball_device;
 use crate::collect_bound::{collect_bound, collect_each};
@@ -76,7 +77,7 @@ fn collect_entry<'a>(
     section: &[u8],
     entry: &'a Entry,
 ) -> Result<(), AllocError>
-    ensures { OnOk result (contributions_view contributions.new.items ≡ contributions_view contributions.old.items ++ entry_contributions definitions.now.machine place section.now (entry_view entry.now)) }
+    ensures { OnOk result (Gains contributions.old contributions.new (entry_gives definitions.now.machine place section.now entry.now)) }
 {
     match place {
         Place::Machine => collect_machine_entry(contributions, definitions, section, entry),
@@ -92,7 +93,7 @@ fn collect_machine_entry<'a>(
     section: &[u8],
     entry: &'a Entry,
 ) -> Result<(), AllocError>
-    ensures { OnOk result (contributions_view contributions.new.items ≡ contributions_view contributions.old.items ++ machine_entry_contributions definitions.now.machine section.now (entry_view entry.now)) }
+    ensures { OnOk result (Gains contributions.old contributions.new (machine_entry_gives definitions.now.machine section.now entry.now)) }
 {
     if section == COILS_NAME {
         return collect_coil(contributions, as_coil(entry));
@@ -119,7 +120,7 @@ fn collect_alone(
     section: &[u8],
     entry: &Entry,
 ) -> Result<(), AllocError>
-    ensures { OnOk result (contributions_view contributions.new.items ≡ contributions_view contributions.old.items ++ alone_contributions definitions.now.machine place section.now (entry_view entry.now)) }
+    ensures { OnOk result (Gains contributions.old contributions.new (alone_gives definitions.now.machine place section.now entry.now)) }
 {
     match place {
         Place::Machine if section == GAME_NAME => {
@@ -138,7 +139,7 @@ fn collect_player<'a>(
     section: &[u8],
     player: &'a Player,
 ) -> Result<(), AllocError>
-    ensures { OnOk result (contributions_view contributions.new.items ≡ contributions_view contributions.old.items ++ player_entry_contributions definitions.now.machine place section.now (player_view player.now)) }
+    ensures { OnOk result (Gains contributions.old contributions.new (player_entry_gives definitions.now.machine place section.now player.now)) }
 {
     if section == EVENT_PLAYER_NAME {
         return collect_event_player(contributions, place, as_event_player(player));
@@ -160,7 +161,7 @@ fn collect_switch<'a>(
     definitions: &Definitions<'_>,
     row: Switch<'a>,
 ) -> Result<(), AllocError>
-    ensures { OnOk result (contributions_view contributions.new.items ≡ contributions_view contributions.old.items ++ switch_contributions definitions.now.machine (switch_row_view row.entry)) }
+    ensures { OnOk result (Gains contributions.old contributions.new (switch_gives definitions.now.machine row.entry)) }
 {
     add(
         contributions,
@@ -177,7 +178,7 @@ fn collect_switch<'a>(
 
 /// How the switch of a row is read.
 fn kind_of(definitions: &Definitions<'_>, row: Switch<'_>) -> SwitchKind
-    ensures { result ≡ kind_of definitions.now.machine (switch_row_view row.entry) }
+    ensures { result ≡ kind_of_switch definitions.now.machine row.entry }
 {
     SwitchKind {
         contact: contact_of(row.contact),
@@ -222,7 +223,7 @@ fn collect_active<'a>(
     contributions: &mut Vec<Contribution<'a>>,
     row: Switch<'a>,
 ) -> Result<(), AllocError>
-    ensures { OnOk result (contributions_view contributions.new.items ≡ contributions_view contributions.old.items ++ map active (active_posts (switch_row_view row.entry))) }
+    ensures { OnOk result (Gains contributions.old contributions.new (switch_posts_active row.entry)) }
 {
     let own = joined(&row.name.text, b"", b"_active");
     add(contributions, Contribution::Active(own))?;
@@ -237,7 +238,7 @@ fn collect_tags<'a>(
     contributions: &mut Vec<Contribution<'a>>,
     tags: &'a [Name],
 ) -> Result<(), AllocError>
-    ensures { OnOk result (contributions_view contributions.new.items ≡ contributions_view contributions.old.items ++ map active (map tag_event (map name_view tags.now))) }
+    ensures { OnOk result (Gains contributions.old contributions.new (tags_post_active tags.now)) }
 {
     for tag in tags {
         let event = joined(b"sw_", b"", &tag.text);
@@ -251,7 +252,7 @@ fn collect_inactive<'a>(
     contributions: &mut Vec<Contribution<'a>>,
     row: Switch<'a>,
 ) -> Result<(), AllocError>
-    ensures { OnOk result (contributions_view contributions.new.items ≡ contributions_view contributions.old.items ++ map inactive (inactive_posts (switch_row_view row.entry))) }
+    ensures { OnOk result (Gains contributions.old contributions.new (switch_posts_inactive row.entry)) }
 {
     let own = joined(&row.name.text, b"", b"_inactive");
     add(contributions, Contribution::Inactive(own))?;
@@ -269,7 +270,7 @@ fn collect_event_player<'a>(
     place: Place,
     row: EventPlayer<'a>,
 ) -> Result<(), AllocError>
-    ensures { OnOk result (contributions_view contributions.new.items ≡ contributions_view contributions.old.items ++ player_contributions place (event_player_view row.entry)) }
+    ensures { OnOk result (Gains contributions.old contributions.new (event_player_gives place row.entry)) }
 {
     collect_bound(contributions, row.event, place, Aim::Run)?;
     collect_posts(contributions, row.posts)
@@ -280,7 +281,7 @@ fn collect_posts<'a>(
     contributions: &mut Vec<Contribution<'a>>,
     names: &'a [Name],
 ) -> Result<(), AllocError>
-    ensures { OnOk result (contributions_view contributions.new.items ≡ contributions_view contributions.old.items ++ map (λ e. does (posts e)) (texts (map name_view names.now))) }
+    ensures { OnOk result (Gains contributions.old contributions.new (names_do_post names.now)) }
 {
     for name in names {
         add(
@@ -300,7 +301,7 @@ fn collect_mode<'a>(
     name: &'a [u8],
     settings: ModeSettings<'a>,
 ) -> Result<(), AllocError>
-    ensures { OnOk result (contributions_view contributions.new.items ≡ contributions_view contributions.old.items ++ mode_contributions name.now (mode_settings_view settings.entry)) }
+    ensures { OnOk result (Gains contributions.old contributions.new (mode_gives name.now settings.entry)) }
 {
     add(
         contributions,
@@ -321,7 +322,7 @@ fn collect_later_events<'a>(
     contributions: &mut Vec<Contribution<'a>>,
     name: &'a [u8],
 ) -> Result<(), AllocError>
-    ensures { OnOk result (contributions_view contributions.new.items ≡ contributions_view contributions.old.items ++ later_events name.now) }
+    ensures { OnOk result (Gains contributions.old contributions.new (later_events name.now)) }
 {
     add(
         contributions,
@@ -346,7 +347,7 @@ fn collect_controls<'a>(
     contributions: &mut Vec<Contribution<'a>>,
     settings: ModeSettings<'a>,
 ) -> Result<(), AllocError>
-    ensures { OnOk result (contributions_view contributions.new.items ≡ contributions_view contributions.old.items ++ controls (mode_settings_view settings.entry)) }
+    ensures { OnOk result (Gains contributions.old contributions.new (controls_give settings.entry)) }
 {
     collect_each(contributions, settings.starts, Place::Control, Aim::Start)?;
     collect_each(contributions, settings.stops, Place::Control, Aim::Stop)?;
@@ -375,7 +376,7 @@ fn collect_stop_where<'a>(
     holds: bool,
     event: &'a [u8],
 ) -> Result<(), AllocError>
-    ensures { OnOk result (contributions_view contributions.new.items ≡ contributions_view contributions.old.items ++ stopper_where holds event.now) }
+    ensures { OnOk result (Gains contributions.old contributions.new (stopper_where holds event.now)) }
 {
     if holds {
         let bound = Contribution::Binds(whole(event), Place::Control, Aim::Stop);

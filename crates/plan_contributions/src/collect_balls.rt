@@ -1,11 +1,13 @@
 //! What the entries of ball devices give to a plan.
 
-ghost use Rattle.std.specs.Prelude.{◌≡◌, ◌≤◌, ◌++◌, [], ◌∷◌, length, map, option_map, OnOk};
-ghost use Rattle.mpf_sections.specs.View.{name_view, name_at_view, section_view, ball_device_view};
-ghost use Rattle.plan_contributions.specs.BallEntries.{is_game, has_game, drains, ball_event, eject_pulse, attempt_effects, later_lists, ball_lists, drain_mentions, entry_mentions, target_of, attempts_of, ball_settings, is_known};
-ghost use Rattle.plan_contributions.specs.Contributions.{mentions, listens, does_in, effects_from, texts, listens_from, unknown_unless, ball_device_contributions};
-ghost use Rattle.plan_contributions.specs.View.{parts_text, contributions_view};
+ghost use Rattle.std.specs.Prelude.{◌≡◌, ◌≤◌, [], ◌∷◌, length, map, OnOk};
+ghost use Rattle.mpf_sections.specs.View.{section_view, ball_device_view};
+ghost use Rattle.plan_contributions.specs.BallEntries.{is_game, has_game, drains, ball_event, later_lists, drain_mentions, entry_mentions, target_of, attempts_of, is_known};
+ghost use Rattle.plan_contributions.specs.Contributions.{mentions, listens, effects_from};
+ghost use Rattle.machine_definitions.specs.Found.{section_rows};
+ghost use Rattle.plan_contributions.specs.View.{parts_text};
 ghost use Rattle.plan_tables.specs.declared.table.Table.TheVariants.{Events};
+ghost use Rattle.plan_contributions.specs.Gives.{Gains, attempt_does, ball_device_does, ball_device_gives, ball_switches_give, eject_pulse_does, settings_of_ball_device};
 
 use crate::collect_coils::{defaults_of, own_pulse};
 use crate::collect_effects::{collect_effect, collect_event, collect_post};
@@ -26,7 +28,7 @@ pub(crate) fn collect_ball_device<'a>(
     to: Destination,
 ) -> Result<(), AllocError>
     requires few { length row.switches.now ≤ 16 }
-    ensures { OnOk result (contributions_view contributions.new.items ≡ contributions_view contributions.old.items ++ ball_device_contributions definitions.now.machine (ball_device_view row.entry) to) }
+    ensures { OnOk result (Gains contributions.old contributions.new (ball_device_gives definitions.now.machine row.entry to)) }
 {
     let drain = drains(definitions, row);
     collect_unknown(contributions, is_known(to))?;
@@ -55,7 +57,7 @@ fn collect_switches<'a>(
     contributions: &mut Vec<Contribution<'a>>,
     switches: &'a [Name],
 ) -> Result<(), AllocError>
-    ensures { OnOk result (contributions_view contributions.new.items ≡ contributions_view contributions.old.items ++ listens_from 0 (texts (map name_view switches.now))) }
+    ensures { OnOk result (Gains contributions.old contributions.new (ball_switches_give switches.now)) }
 {
     for number in 0..switches.len() {
         collect_switch(contributions, number, &switches[number].text)?;
@@ -69,7 +71,7 @@ fn collect_switch<'a>(
     number: usize,
     name: &'a [u8],
 ) -> Result<(), AllocError>
-    ensures { OnOk result (contributions_view contributions.new.items ≡ contributions_view contributions.old.items ++ listens number name.now ∷ []) }
+    ensures { OnOk result (Gains contributions.old contributions.new (listens number name.now ∷ [])) }
 {
     add(contributions, Contribution::Listens(number, name))
 }
@@ -86,7 +88,7 @@ fn drains(definitions: &Definitions<'_>, row: BallDevice<'_>) -> bool
 
 /// Whether one of these sections is `game`.
 fn has_game(sections: &[Section]) -> bool
-    ensures { result ≡ has_game (map section_view sections.now) }
+    ensures { result ≡ has_game (section_rows sections.now) }
 {
     sections.iter().any(|section| is_game(section))
 }
@@ -125,7 +127,7 @@ fn attempts_of(attempts: u16) -> Option<u16>
 
 fn ball_settings(row: BallDevice<'_>, to: Destination) -> Settings
     requires few { length row.switches.now ≤ 16 }
-    ensures { result ≡ ball_settings (ball_device_view row.entry) to }
+    ensures { result ≡ settings_of_ball_device row.entry to }
 {
     Settings::BallDevice(BallSettings {
         switches: row.switches.len() as u8,
@@ -156,7 +158,7 @@ fn collect_mentions<'a>(
     name: &'a [u8],
     drain: bool,
 ) -> Result<(), AllocError>
-    ensures { OnOk result (contributions_view contributions.new.items ≡ contributions_view contributions.old.items ++ map (mentions Events) (entry_mentions name.now drain)) }
+    ensures { OnOk result (Gains contributions.old contributions.new (map (mentions Events) (entry_mentions name.now drain))) }
 {
     collect_event(contributions, ball_event(name, b"_ball_enter"))?;
     collect_drain(contributions, drain)?;
@@ -165,7 +167,7 @@ fn collect_mentions<'a>(
 
 /// The event that a ball has drained, where it may have.
 fn collect_drain(contributions: &mut Vec<Contribution<'_>>, drain: bool) -> Result<(), AllocError>
-    ensures { OnOk result (contributions_view contributions.new.items ≡ contributions_view contributions.old.items ++ map (mentions Events) (drain_mentions drain)) }
+    ensures { OnOk result (Gains contributions.old contributions.new (map (mentions Events) (drain_mentions drain))) }
 {
     if drain {
         collect_event(contributions, whole(b"ball_drain"))?;
@@ -181,7 +183,7 @@ fn collect_lists<'a>(
     drain: bool,
 ) -> Result<(), AllocError>
     requires drains { drain ≡ drains definitions.now.machine (ball_device_view row) }
-    ensures { OnOk result (contributions_view contributions.new.items ≡ contributions_view contributions.old.items ++ effects_from 0 (ball_lists definitions.now.machine (ball_device_view row.entry))) }
+    ensures { OnOk result (Gains contributions.old contributions.new (ball_device_does definitions.now.machine row.entry)) }
 {
     let enter = Effect::Enter(ball_event(&row.name.text, b"_ball_enter"), drain);
     collect_effect(contributions, 0, enter)?;
@@ -197,7 +199,7 @@ fn collect_attempt<'a>(
     name: &'a [u8],
     coil: Option<NameAt<'a>>,
 ) -> Result<(), AllocError>
-    ensures { OnOk result (contributions_view contributions.new.items ≡ contributions_view contributions.old.items ++ map (does_in 1) (attempt_effects definitions.now.machine name.now (option_map name_at_view coil.entry))) }
+    ensures { OnOk result (Gains contributions.old contributions.new (attempt_does definitions.now.machine name.now coil.entry)) }
 {
     collect_post(contributions, 1, ball_event(name, b"_ball_eject_attempt"))?;
     collect_post(contributions, 1, ball_event(name, b"_ejecting_ball"))?;
@@ -211,7 +213,7 @@ fn collect_pulse<'a>(
     definitions: &Definitions<'_>,
     coil: Option<NameAt<'a>>,
 ) -> Result<(), AllocError>
-    ensures { OnOk result (contributions_view contributions.new.items ≡ contributions_view contributions.old.items ++ map (does_in 1) (eject_pulse definitions.now.machine (option_map name_at_view coil.entry))) }
+    ensures { OnOk result (Gains contributions.old contributions.new (eject_pulse_does definitions.now.machine coil.entry)) }
 {
     match coil {
         Some(name) => {
@@ -227,7 +229,7 @@ fn collect_later<'a>(
     contributions: &mut Vec<Contribution<'a>>,
     name: &'a [u8],
 ) -> Result<(), AllocError>
-    ensures { OnOk result (contributions_view contributions.new.items ≡ contributions_view contributions.old.items ++ effects_from 2 (later_lists name.now)) }
+    ensures { OnOk result (Gains contributions.old contributions.new (effects_from 2 (later_lists name.now))) }
 {
     collect_effect(contributions, 2, Effect::Leave)?;
     collect_effect(contributions, 3, Effect::Lose)?;

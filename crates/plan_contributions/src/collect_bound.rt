@@ -1,11 +1,7 @@
 //! What a handled event gives to a plan: a binding, and its condition where it has one.
 
-ghost use Rattle.std.specs.Prelude.{◌≡◌, ◌++◌, map, OnOk};
-ghost use Rattle.std.specs.List.{flat_map};
-ghost use Rattle.mpf_sections.specs.View.{handler_view, handled_at_view};
-ghost use Rattle.plan_contributions.specs.Contributions.{events, bound, act_binding};
-ghost use Rattle.plan_contributions.specs.DeviceEntries.{acts};
-ghost use Rattle.plan_contributions.specs.View.{contributions_view};
+ghost use Rattle.std.specs.Prelude.{OnOk};
+ghost use Rattle.plan_contributions.specs.Gives.{Gains, handled_binds, handlers_act, handlers_bind};
 
 use crate::contribution::{Aim, Contribution, add, whole};
 use mpf_config::{HandledAt, Handler, as_handled};
@@ -20,7 +16,7 @@ pub(crate) fn collect_bound<'a>(
     place: Place,
     aim: Aim,
 ) -> Result<(), AllocError>
-    ensures { OnOk result (contributions_view contributions.new.items ≡ contributions_view contributions.old.items ++ bound (handled_at_view handled.entry).event place aim) }
+    ensures { OnOk result (Gains contributions.old contributions.new (handled_binds handled.entry place aim)) }
 {
     add(
         contributions,
@@ -42,7 +38,7 @@ pub(crate) fn collect_each<'a>(
     place: Place,
     aim: Aim,
 ) -> Result<(), AllocError>
-    ensures { OnOk result (contributions_view contributions.new.items ≡ contributions_view contributions.old.items ++ flat_map (λ e. bound e place aim) (events (map handler_view handlers.now))) }
+    ensures { OnOk result (Gains contributions.old contributions.new (handlers_bind handlers.now place aim)) }
 {
     for handler in handlers {
         collect_bound(contributions, as_handled(handler), place, aim)?;
@@ -57,7 +53,7 @@ pub(crate) fn collect_acts<'a>(
     act: Act,
     handlers: &'a [Handler],
 ) -> Result<(), AllocError>
-    ensures { OnOk result (contributions_view contributions.new.items ≡ contributions_view contributions.old.items ++ flat_map (act_binding place) (acts act (map handler_view handlers.now))) }
+    ensures { OnOk result (Gains contributions.old contributions.new (handlers_act place act handlers.now)) }
 {
     collect_each(contributions, handlers, place, Aim::Do(act))
 }

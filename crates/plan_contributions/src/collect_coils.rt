@@ -1,13 +1,10 @@
 //! What the entries of coils, coil players, flippers and autofire coils give to a plan.
 
-ghost use Rattle.std.specs.Prelude.{◌≡◌, ◌++◌, [], ◌∷◌, map, OnOk};
-ghost use Rattle.mpf_sections.specs.Rows.{SectionRows};
-ghost use Rattle.mpf_sections.specs.TypedCoils.{coil_item_of};
-ghost use Rattle.mpf_sections.specs.View.{keyed_view, coil_view, coil_item_view, name_at_view, coil_player_view, flipper_view, autofire_view};
-ghost use Rattle.plan_contributions.specs.CoilEntries.{limits_of_coil, defaults_called, own_pulse, own_hold, deed_by, item_effect, flipper_on, flipper_off, flipper_device, autofire_device};
-ghost use Rattle.plan_contributions.specs.Contributions.{does, does_in, effects_from, device_contributions, coil_contributions, coil_player_contributions};
-ghost use Rattle.plan_rows.specs.declared.place.Place.TheVariants.{Machine};
-ghost use Rattle.plan_contributions.specs.View.{deed_view, defaults_view, contributions_view};
+ghost use Rattle.std.specs.Prelude.{◌≡◌, OnOk};
+ghost use Rattle.mpf_sections.specs.View.{coil_view, coil_item_view};
+ghost use Rattle.plan_contributions.specs.CoilEntries.{limits_of_coil, defaults_called, own_pulse, own_hold, deed_by};
+ghost use Rattle.plan_contributions.specs.View.{deed_view, defaults_view};
+ghost use Rattle.plan_contributions.specs.Gives.{Gains, autofire_gives, coil_gives, coil_items_give, coil_player_gives, flipper_does, flipper_gives};
 
 use crate::collect_bound::{collect_acts, collect_bound};
 use crate::collect_effects::collect_effect;
@@ -41,7 +38,7 @@ pub(crate) fn collect_coil<'a>(
     contributions: &mut Vec<Contribution<'a>>,
     row: Coil<'a>,
 ) -> Result<(), AllocError>
-    ensures { OnOk result (contributions_view contributions.new.items ≡ contributions_view contributions.old.items ++ coil_contributions (coil_view row.entry)) }
+    ensures { OnOk result (Gains contributions.old contributions.new (coil_gives row.entry)) }
 {
     add(
         contributions,
@@ -104,7 +101,7 @@ pub(crate) fn collect_coil_player<'a>(
     place: Place,
     row: CoilPlayer<'a>,
 ) -> Result<(), AllocError>
-    ensures { OnOk result (contributions_view contributions.new.items ≡ contributions_view contributions.old.items ++ coil_player_contributions definitions.now.machine place (coil_player_view row.entry)) }
+    ensures { OnOk result (Gains contributions.old contributions.new (coil_player_gives definitions.now.machine place row.entry)) }
 {
     collect_bound(contributions, row.event, place, Aim::Run)?;
     collect_items(contributions, definitions, row.items)
@@ -116,7 +113,7 @@ fn collect_items<'a>(
     definitions: &Definitions<'_>,
     items: &'a [Keyed],
 ) -> Result<(), AllocError>
-    ensures { OnOk result (contributions_view contributions.new.items ≡ contributions_view contributions.old.items ++ map (λ item. does (item_effect definitions.now.machine item)) (map coil_item_of (map keyed_view items.now))) }
+    ensures { OnOk result (Gains contributions.old contributions.new (coil_items_give definitions.now.machine items.now)) }
 {
     for keyed in items {
         let item = as_coil_item(keyed);
@@ -155,7 +152,7 @@ pub(crate) fn collect_flipper<'a>(
     definitions: &Definitions<'_>,
     row: Flipper<'a>,
 ) -> Result<(), AllocError>
-    ensures { OnOk result (contributions_view contributions.new.items ≡ contributions_view contributions.old.items ++ device_contributions Machine (flipper_device definitions.now.machine (flipper_view row.entry))) }
+    ensures { OnOk result (Gains contributions.old contributions.new (flipper_gives definitions.now.machine row.entry)) }
 {
     add(
         contributions,
@@ -177,7 +174,7 @@ fn collect_two_coils<'a>(
     main: NameAt<'a>,
     hold: NameAt<'a>,
 ) -> Result<(), AllocError>
-    ensures { OnOk result (contributions_view contributions.new.items ≡ contributions_view contributions.old.items ++ effects_from 0 (flipper_on definitions.now.machine (name_at_view main.entry) (Some (name_at_view hold.entry)) ∷ flipper_off definitions.now.machine (name_at_view main.entry) (Some (name_at_view hold.entry)) ∷ [])) }
+    ensures { OnOk result (Gains contributions.old contributions.new (flipper_does definitions.now.machine main.entry (Some hold.entry))) }
 {
     let pulse = own_pulse(defaults_of(definitions, main.text));
     let enable = own_hold(defaults_of(definitions, hold.text));
@@ -192,7 +189,7 @@ fn collect_main_coil<'a>(
     definitions: &Definitions<'_>,
     main: NameAt<'a>,
 ) -> Result<(), AllocError>
-    ensures { OnOk result (contributions_view contributions.new.items ≡ contributions_view contributions.old.items ++ effects_from 0 (flipper_on definitions.now.machine (name_at_view main.entry) None ∷ flipper_off definitions.now.machine (name_at_view main.entry) None ∷ [])) }
+    ensures { OnOk result (Gains contributions.old contributions.new (flipper_does definitions.now.machine main.entry None)) }
 {
     let coil = defaults_of(definitions, main.text);
     if !coil.may_hold {
@@ -209,7 +206,7 @@ pub(crate) fn collect_autofire<'a>(
     definitions: &Definitions<'_>,
     row: Autofire<'a>,
 ) -> Result<(), AllocError>
-    ensures { OnOk result (contributions_view contributions.new.items ≡ contributions_view contributions.old.items ++ device_contributions Machine (autofire_device definitions.now.machine (autofire_view row.entry))) }
+    ensures { OnOk result (Gains contributions.old contributions.new (autofire_gives definitions.now.machine row.entry)) }
 {
     let pulse = own_pulse(defaults_of(definitions, row.coil.text));
     add(

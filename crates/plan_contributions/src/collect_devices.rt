@@ -1,14 +1,10 @@
 //! What the entries of devices give to a plan: counters, accruals, sequences and timers; and those of other devices.
 
-ghost use Rattle.std.specs.Prelude.{◌≡◌, ◌++◌, [], map, OnOk};
-ghost use Rattle.std.specs.List.{flat_map};
-ghost use Rattle.mpf_sections.specs.Typed.{control_of, controls_of, with_control};
-ghost use Rattle.mpf_sections.specs.View.{name_view, handlers_view, fields_view, entry_view, block_view, counter_view, step_block_view, timer_view};
-ghost use Rattle.plan_contributions.specs.DeviceEntries.{direction_in_plan, block_settings, block_acts, block_mentions, block_event, or_own, block_lists, counter_settings, counter_device, step_acts, step_settings, step_device, control_act, controlled, timer_event, timer_lists, timer_settings, timer_device, device_of};
-ghost use Rattle.plan_rows.specs.Members.{is_none};
-ghost use Rattle.plan_contributions.specs.Contributions.{mentions, does_in, effects_from, posts, texts, act_binding, device_contributions, where_device};
-ghost use Rattle.plan_contributions.specs.View.{parts_text, contributions_view};
-ghost use Rattle.plan_tables.specs.declared.table.Table.TheVariants.{Events};
+ghost use Rattle.std.specs.Prelude.{◌≡◌, OnOk};
+ghost use Rattle.plan_contributions.specs.DeviceEntries.{direction_in_plan, block_event, control_act, timer_event, timer_lists};
+ghost use Rattle.plan_contributions.specs.Contributions.{effects_from};
+ghost use Rattle.plan_contributions.specs.View.{parts_text};
+ghost use Rattle.plan_contributions.specs.Gives.{Gains, block_binds, block_mentions_and_posts, block_posts, control_binds, controls_bind, counter_gives, device_entry_gives, names_mention, names_or_own_post, names_post, settings_of_block, settings_of_counter, settings_of_steps, settings_of_timer, step_block_gives, steps_bind, timer_gives};
 
 use crate::collect_bound::{collect_acts, collect_bound};
 use crate::collect_effects::{collect_event, collect_post};
@@ -33,7 +29,7 @@ pub(crate) fn collect_device<'a>(
     section: &[u8],
     entry: &'a Entry,
 ) -> Result<(), AllocError>
-    ensures { OnOk result (contributions_view contributions.new.items ≡ contributions_view contributions.old.items ++ where_device place (device_of section.now (entry_view entry.now))) }
+    ensures { OnOk result (Gains contributions.old contributions.new (device_entry_gives place section.now entry.now)) }
 {
     if section == COUNTERS_NAME {
         return collect_counter(contributions, place, as_counter(entry));
@@ -75,7 +71,7 @@ pub fn direction_in_plan(direction: WrittenDirection) -> Direction
 // ---- logic blocks
 
 fn block_settings(block: Block<'_>) -> BlockSettings
-    ensures { result ≡ block_settings (block_view block.entry) }
+    ensures { result ≡ settings_of_block block.entry }
 {
     BlockSettings {
         enabled: is_none(block.enables),
@@ -91,7 +87,7 @@ fn collect_block_acts<'a>(
     place: Place,
     block: Block<'a>,
 ) -> Result<(), AllocError>
-    ensures { OnOk result (contributions_view contributions.new.items ≡ contributions_view contributions.old.items ++ flat_map (act_binding place) (block_acts (block_view block.entry))) }
+    ensures { OnOk result (Gains contributions.old contributions.new (block_binds place block.entry)) }
 {
     collect_acts(contributions, place, Act::Enable, block.enables)?;
     collect_acts(contributions, place, Act::Disable, block.disables)?;
@@ -106,7 +102,7 @@ fn collect_block_posts<'a>(
     name: &'a [u8],
     block: Block<'a>,
 ) -> Result<(), AllocError>
-    ensures { OnOk result (contributions_view contributions.new.items ≡ contributions_view contributions.old.items ++ (map (mentions Events) (block_mentions (block_view block.entry)) ++ effects_from 0 (block_lists name.now (block_view block.entry)))) }
+    ensures { OnOk result (Gains contributions.old contributions.new (block_mentions_and_posts name.now block.entry)) }
 {
     collect_mentions(contributions, block.hit)?;
     collect_mentions(contributions, block.complete)?;
@@ -119,7 +115,7 @@ fn collect_mentions<'a>(
     contributions: &mut Vec<Contribution<'a>>,
     names: &'a [Name],
 ) -> Result<(), AllocError>
-    ensures { OnOk result (contributions_view contributions.new.items ≡ contributions_view contributions.old.items ++ map (mentions Events) (texts (map name_view names.now))) }
+    ensures { OnOk result (Gains contributions.old contributions.new (names_mention names.now)) }
 {
     for name in names {
         collect_event(contributions, whole(&name.text))?;
@@ -140,7 +136,7 @@ fn collect_block_lists<'a>(
     name: &'a [u8],
     block: Block<'a>,
 ) -> Result<(), AllocError>
-    ensures { OnOk result (contributions_view contributions.new.items ≡ contributions_view contributions.old.items ++ effects_from 0 (block_lists name.now (block_view block.entry))) }
+    ensures { OnOk result (Gains contributions.old contributions.new (block_posts name.now block.entry)) }
 {
     collect_post(contributions, 0, block_event(name, b"_updated"))?;
     collect_list(contributions, 1, block.hit, block_event(name, b"_hit"))?;
@@ -160,7 +156,7 @@ fn collect_list<'a>(
     names: &'a [Name],
     own: Parts<'a>,
 ) -> Result<(), AllocError>
-    ensures { OnOk result (contributions_view contributions.new.items ≡ contributions_view contributions.old.items ++ map (does_in number) (map posts (or_own (map name_view names.now) (parts_text own.entry)))) }
+    ensures { OnOk result (Gains contributions.old contributions.new (names_or_own_post number names.now own.entry)) }
 {
     if is_none(names) {
         return collect_post(contributions, number, own);
@@ -173,7 +169,7 @@ fn collect_written<'a>(
     number: u16,
     names: &'a [Name],
 ) -> Result<(), AllocError>
-    ensures { OnOk result (contributions_view contributions.new.items ≡ contributions_view contributions.old.items ++ map (does_in number) (map posts (texts (map name_view names.now)))) }
+    ensures { OnOk result (Gains contributions.old contributions.new (names_post number names.now)) }
 {
     for name in names {
         collect_post(contributions, number, whole(&name.text))?;
@@ -184,7 +180,7 @@ fn collect_written<'a>(
 // ---- `counters`
 
 fn counter_settings(row: Counter<'_>) -> Settings
-    ensures { result ≡ counter_settings (counter_view row.entry) }
+    ensures { result ≡ settings_of_counter row.entry }
 {
     Settings::Counter(CounterSettings {
         block: block_settings(row.block),
@@ -202,7 +198,7 @@ fn collect_counter<'a>(
     place: Place,
     row: Counter<'a>,
 ) -> Result<(), AllocError>
-    ensures { OnOk result (contributions_view contributions.new.items ≡ contributions_view contributions.old.items ++ device_contributions place (counter_device (counter_view row.entry))) }
+    ensures { OnOk result (Gains contributions.old contributions.new (counter_gives place row.entry)) }
 {
     add(
         contributions,
@@ -217,7 +213,7 @@ fn collect_counter<'a>(
 // ---- `accruals` and `sequences`
 
 fn step_settings(row: StepBlock<'_>) -> StepSettings
-    ensures { result ≡ step_settings (step_block_view row.entry) }
+    ensures { result ≡ settings_of_steps row.entry }
 {
     StepSettings {
         block: block_settings(row.block),
@@ -233,7 +229,7 @@ fn collect_step_block<'a>(
     settings: Settings,
     row: StepBlock<'a>,
 ) -> Result<(), AllocError>
-    ensures { OnOk result (contributions_view contributions.new.items ≡ contributions_view contributions.old.items ++ device_contributions place (step_device settings (step_block_view row.entry))) }
+    ensures { OnOk result (Gains contributions.old contributions.new (step_block_gives place settings row.entry)) }
 {
     add(contributions, Contribution::Device(place, settings))?;
     collect_steps(contributions, place, row.steps)?;
@@ -248,7 +244,7 @@ fn collect_steps<'a>(
     place: Place,
     steps: &'a [Vec<Handler>],
 ) -> Result<(), AllocError>
-    ensures { OnOk result (contributions_view contributions.new.items ≡ contributions_view contributions.old.items ++ flat_map (act_binding place) (step_acts 0 (map handlers_view steps.now))) }
+    ensures { OnOk result (Gains contributions.old contributions.new (steps_bind place steps.now)) }
 {
     for number in 0..steps.len() {
         collect_acts(contributions, place, Act::Step(number), &steps[number])?;
@@ -259,7 +255,7 @@ fn collect_steps<'a>(
 // ---- `timers`
 
 fn timer_settings(row: Timer<'_>) -> Settings
-    ensures { result ≡ timer_settings (timer_view row.entry) }
+    ensures { result ≡ settings_of_timer row.entry }
 {
     Settings::Timer(TimerSettings {
         start: row.start,
@@ -277,7 +273,7 @@ fn collect_timer<'a>(
     place: Place,
     row: Timer<'a>,
 ) -> Result<(), AllocError>
-    ensures { OnOk result (contributions_view contributions.new.items ≡ contributions_view contributions.old.items ++ device_contributions place (timer_device (timer_view row.entry))) }
+    ensures { OnOk result (Gains contributions.old contributions.new (timer_gives place row.entry)) }
 {
     add(
         contributions,
@@ -294,7 +290,7 @@ fn collect_timer_acts<'a>(
     place: Place,
     maps: &'a [Fields],
 ) -> Result<(), AllocError>
-    ensures { OnOk result (contributions_view contributions.new.items ≡ contributions_view contributions.old.items ++ flat_map (act_binding place) (map controlled (controls_of (map fields_view maps.now)))) }
+    ensures { OnOk result (Gains contributions.old contributions.new (controls_bind place maps.now)) }
 {
     for fields in maps {
         collect_control(contributions, place, fields)?;
@@ -307,7 +303,7 @@ fn collect_control<'a>(
     place: Place,
     fields: &'a Fields,
 ) -> Result<(), AllocError>
-    ensures { OnOk result (contributions_view contributions.new.items ≡ contributions_view contributions.old.items ++ flat_map (act_binding place) (map controlled (with_control (control_of (fields_view fields.now)) []))) }
+    ensures { OnOk result (Gains contributions.old contributions.new (control_binds place fields.now)) }
 {
     let Some(control) = as_control(fields) else {
         return Ok(());
@@ -344,7 +340,7 @@ fn collect_timer_lists<'a>(
     contributions: &mut Vec<Contribution<'a>>,
     name: &'a [u8],
 ) -> Result<(), AllocError>
-    ensures { OnOk result (contributions_view contributions.new.items ≡ contributions_view contributions.old.items ++ effects_from 0 (timer_lists name.now)) }
+    ensures { OnOk result (Gains contributions.old contributions.new (effects_from 0 (timer_lists name.now))) }
 {
     collect_post(contributions, 0, timer_event(name, b"_started"))?;
     collect_post(contributions, 1, timer_event(name, b"_stopped"))?;

@@ -1,9 +1,10 @@
 //! What the effect lists of a row do, and the events that its settings name.
 
-ghost use Rattle.std.specs.Prelude.{◌≡◌, ◌++◌, [], ◌∷◌, OnOk};
+ghost use Rattle.std.specs.Prelude.{[], ◌∷◌, OnOk};
 ghost use Rattle.plan_contributions.specs.Contributions.{does_in, mentions, posts};
 ghost use Rattle.plan_tables.specs.declared.table.Table.TheVariants.{Events};
-ghost use Rattle.plan_contributions.specs.View.{parts_text, effect_view, contributions_view};
+ghost use Rattle.plan_contributions.specs.View.{parts_text};
+ghost use Rattle.plan_contributions.specs.Gives.{Gains, effect_gives};
 
 use crate::contribution::{Contribution, Effect, Parts, add};
 use plan_tables::table::Table;
@@ -15,7 +16,7 @@ pub(crate) fn collect_effect<'a>(
     number: u16,
     effect: Effect<'a>,
 ) -> Result<(), AllocError>
-    ensures { OnOk result (contributions_view contributions.new.items ≡ contributions_view contributions.old.items ++ does_in number (effect_view effect.entry) ∷ []) }
+    ensures { OnOk result (Gains contributions.old contributions.new (effect_gives number effect.entry)) }
 {
     add(contributions, Contribution::DoesIn(number, effect))
 }
@@ -26,7 +27,7 @@ pub(crate) fn collect_post<'a>(
     number: u16,
     event: Parts<'a>,
 ) -> Result<(), AllocError>
-    ensures { OnOk result (contributions_view contributions.new.items ≡ contributions_view contributions.old.items ++ does_in number (posts (parts_text event.entry)) ∷ []) }
+    ensures { OnOk result (Gains contributions.old contributions.new (does_in number (posts (parts_text event.entry)) ∷ [])) }
 {
     collect_effect(contributions, number, Effect::Post(event))
 }
@@ -36,7 +37,7 @@ pub(crate) fn collect_event<'a>(
     contributions: &mut Vec<Contribution<'a>>,
     event: Parts<'a>,
 ) -> Result<(), AllocError>
-    ensures { OnOk result (contributions_view contributions.new.items ≡ contributions_view contributions.old.items ++ mentions Events (parts_text event.entry) ∷ []) }
+    ensures { OnOk result (Gains contributions.old contributions.new (mentions Events (parts_text event.entry) ∷ [])) }
 {
     add(contributions, Contribution::Mentions(Table::Events, event))
 }

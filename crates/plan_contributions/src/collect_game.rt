@@ -1,11 +1,9 @@
 //! What the section of the game gives to a plan.
 
-ghost use Rattle.std.specs.Prelude.{◌≡◌, ◌++◌, map, OnOk};
-ghost use Rattle.mpf_sections.specs.View.{game_view};
-ghost use Rattle.machine_definitions.specs.GameEvents.{game_event_names};
-ghost use Rattle.plan_contributions.specs.Contributions.{mentions, game_contributions};
-ghost use Rattle.plan_contributions.specs.View.{contributions_view};
+ghost use Rattle.std.specs.Prelude.{map, OnOk};
+ghost use Rattle.plan_contributions.specs.Contributions.{mentions};
 ghost use Rattle.plan_tables.specs.declared.table.Table.TheVariants.{Events};
+ghost use Rattle.plan_contributions.specs.Gives.{Gains, game_gives};
 
 use crate::collect_effects::collect_event;
 use crate::contribution::{Contribution, add, whole};
@@ -19,7 +17,7 @@ pub(crate) fn collect_game(
     definitions: &Definitions<'_>,
     row: GameSettings,
 ) -> Result<(), AllocError>
-    ensures { OnOk result (contributions_view contributions.new.items ≡ contributions_view contributions.old.items ++ game_contributions definitions.now.machine (game_view row)) }
+    ensures { OnOk result (Gains contributions.old contributions.new (game_gives definitions.now.machine row)) }
 {
     collect_events(contributions, &GAME_EVENT_NAMES)?;
     add(
@@ -38,7 +36,7 @@ fn collect_events<'a>(
     contributions: &mut Vec<Contribution<'a>>,
     names: &[&'a [u8]],
 ) -> Result<(), AllocError>
-    ensures { OnOk result (contributions_view contributions.new.items ≡ contributions_view contributions.old.items ++ map (mentions Events) (map (λ n. n.now) names.now)) }
+    ensures { OnOk result (Gains contributions.old contributions.new (map (mentions Events) (map (λ n. n.now) names.now))) }
 {
     for name in names {
         collect_event(contributions, whole(name))?;

@@ -1,11 +1,10 @@
 //! What the entries of ball saves and multiballs give to a plan.
 
-ghost use Rattle.std.specs.Prelude.{◌≡◌, ◌++◌, OnOk};
-ghost use Rattle.std.specs.List.{flat_map};
-ghost use Rattle.mpf_sections.specs.View.{entry_view, ball_save_view, multiball_view};
-ghost use Rattle.plan_contributions.specs.SaveEntries.{save_event, save_settings, save_acts, save_lists, save_device, multiball_event, multiball_settings, multiball_lists, multiball_device, save_device_of};
-ghost use Rattle.plan_contributions.specs.Contributions.{act_binding, effects_from, device_contributions, where_device};
-ghost use Rattle.plan_contributions.specs.View.{parts_text, contributions_view};
+ghost use Rattle.std.specs.Prelude.{◌≡◌, OnOk};
+ghost use Rattle.plan_contributions.specs.SaveEntries.{save_event, save_lists, multiball_event, multiball_lists};
+ghost use Rattle.plan_contributions.specs.Contributions.{effects_from};
+ghost use Rattle.plan_contributions.specs.View.{parts_text};
+ghost use Rattle.plan_contributions.specs.Gives.{Gains, ball_save_binds, ball_save_gives, multiball_gives, save_entry_gives, settings_of_multiball, settings_of_save};
 
 use crate::collect_bound::collect_acts;
 use crate::collect_effects::{collect_effect, collect_post};
@@ -25,7 +24,7 @@ pub(crate) fn collect_save_device<'a>(
     section: &[u8],
     entry: &'a Entry,
 ) -> Result<(), AllocError>
-    ensures { OnOk result (contributions_view contributions.new.items ≡ contributions_view contributions.old.items ++ where_device place (save_device_of section.now (entry_view entry.now))) }
+    ensures { OnOk result (Gains contributions.old contributions.new (save_entry_gives place section.now entry.now)) }
 {
     if section == BALL_SAVES_NAME {
         return collect_ball_save(contributions, place, as_ball_save(entry));
@@ -39,7 +38,7 @@ pub(crate) fn collect_save_device<'a>(
 // ---- `ball_saves`
 
 fn save_settings(row: BallSave<'_>) -> Settings
-    ensures { result ≡ save_settings (ball_save_view row.entry) }
+    ensures { result ≡ settings_of_save row.entry }
 {
     Settings::BallSave(SaveSettings {
         active_time: row.active_time,
@@ -53,7 +52,7 @@ fn collect_ball_save<'a>(
     place: Place,
     row: BallSave<'a>,
 ) -> Result<(), AllocError>
-    ensures { OnOk result (contributions_view contributions.new.items ≡ contributions_view contributions.old.items ++ device_contributions place (save_device (ball_save_view row.entry))) }
+    ensures { OnOk result (Gains contributions.old contributions.new (ball_save_gives place row.entry)) }
 {
     add(
         contributions,
@@ -70,7 +69,7 @@ fn collect_save_acts<'a>(
     place: Place,
     row: BallSave<'a>,
 ) -> Result<(), AllocError>
-    ensures { OnOk result (contributions_view contributions.new.items ≡ contributions_view contributions.old.items ++ flat_map (act_binding place) (save_acts (ball_save_view row.entry))) }
+    ensures { OnOk result (Gains contributions.old contributions.new (ball_save_binds place row.entry)) }
 {
     collect_acts(contributions, place, Act::Enable, row.enable_events)?;
     collect_acts(contributions, place, Act::Disable, row.disable_events)?;
@@ -89,7 +88,7 @@ fn collect_save_lists<'a>(
     contributions: &mut Vec<Contribution<'a>>,
     name: &'a [u8],
 ) -> Result<(), AllocError>
-    ensures { OnOk result (contributions_view contributions.new.items ≡ contributions_view contributions.old.items ++ effects_from 0 (save_lists name.now)) }
+    ensures { OnOk result (Gains contributions.old contributions.new (effects_from 0 (save_lists name.now))) }
 {
     collect_post(contributions, 0, save_event(name, b"_enabled"))?;
     collect_post(contributions, 1, save_event(name, b"_disabled"))?;
@@ -101,7 +100,7 @@ fn collect_save_lists<'a>(
 // ---- `multiballs`
 
 fn multiball_settings(row: Multiball<'_>) -> Settings
-    ensures { result ≡ multiball_settings (multiball_view row.entry) }
+    ensures { result ≡ settings_of_multiball row.entry }
 {
     Settings::Multiball(MultiballSettings { balls: row.balls })
 }
@@ -112,7 +111,7 @@ fn collect_multiball<'a>(
     place: Place,
     row: Multiball<'a>,
 ) -> Result<(), AllocError>
-    ensures { OnOk result (contributions_view contributions.new.items ≡ contributions_view contributions.old.items ++ device_contributions place (multiball_device (multiball_view row.entry))) }
+    ensures { OnOk result (Gains contributions.old contributions.new (multiball_gives place row.entry)) }
 {
     add(
         contributions,
@@ -136,7 +135,7 @@ fn collect_multiball_lists<'a>(
     name: &'a [u8],
     balls: u8,
 ) -> Result<(), AllocError>
-    ensures { OnOk result (contributions_view contributions.new.items ≡ contributions_view contributions.old.items ++ effects_from 0 (multiball_lists name.now balls)) }
+    ensures { OnOk result (Gains contributions.old contributions.new (effects_from 0 (multiball_lists name.now balls))) }
 {
     collect_post(contributions, 0, multiball_event(name, b"_started"))?;
     collect_effect(contributions, 0, Effect::AddBalls(balls))?;

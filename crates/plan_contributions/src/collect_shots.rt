@@ -1,15 +1,13 @@
 //! What the entries of shots and of their groups give to a plan.
 
-ghost use Rattle.std.specs.Prelude.{◌≡◌, ◌≤◌, ◌+◌, ◌*◌, ◌++◌, [], ◌∷◌, length, map, option_map, codes, IfOk, OnOk};
-ghost use Rattle.std.specs.List.{flat_map};
-ghost use Rattle.mpf_sections.specs.View.{name_view, name_at_view, handler_view, shot_view, shot_group_view};
+ghost use Rattle.std.specs.Prelude.{◌≡◌, ◌≤◌, ◌+◌, ◌*◌, ◌++◌, [], ◌∷◌, length, map, codes, IfOk, OnOk};
 ghost use Rattle.machine_definitions.specs.Found.{profile_view};
-ghost use Rattle.plan_contributions.specs.DeviceEntries.{acts, posts, texts};
-ghost use Rattle.plan_contributions.specs.ShotEntries.{switch_hits, shot_acts, group_acts, bank_settings, shot_events, shot_lists, group_events, state_lists, group_lists, lone_device, group_device};
-ghost use Rattle.plan_rows.specs.Members.{flags, is_enabled};
-ghost use Rattle.plan_contributions.specs.Contributions.{does_in, effects_from, act_binding, device_contributions, unknown_unless, shot_switch, aim_at, act_at, seated, shot_contributions, group_contributions};
-ghost use Rattle.plan_contributions.specs.View.{parts_text, contributions_view};
-ghost use Rattle.plan_rows.specs.View.{seat_view, members_view};
+ghost use Rattle.plan_contributions.specs.DeviceEntries.{posts};
+ghost use Rattle.plan_contributions.specs.ShotEntries.{bank_settings, shot_events, group_events};
+ghost use Rattle.plan_rows.specs.Members.{flags};
+ghost use Rattle.plan_contributions.specs.Contributions.{does_in, unknown_unless, aim_at};
+ghost use Rattle.plan_contributions.specs.View.{parts_text};
+ghost use Rattle.plan_contributions.specs.Gives.{Gains, each_shot_posts, group_binds, group_gives, group_posts, handlers_act_at, lone_gives, shot_binds, shot_gives, shot_posts, shot_switch_gives, states_post, switch_hit_binds};
 
 use crate::collect_bound::{collect_acts, collect_each};
 use crate::collect_effects::collect_post;
@@ -31,7 +29,7 @@ pub(crate) fn collect_shot<'a>(
     known: bool,
     profile: &Profile<'a>,
 ) -> Result<(), AllocError>
-    ensures { OnOk result (contributions_view contributions.new.items ≡ contributions_view contributions.old.items ++ shot_contributions place (shot_view row.entry) (option_map seat_view seat) known (profile_view profile.now)) }
+    ensures { OnOk result (Gains contributions.old contributions.new (shot_gives place row.entry seat known profile.now)) }
 {
     collect_unknown(contributions, known)?;
     collect_switch(contributions, row.switch)?;
@@ -56,7 +54,7 @@ pub(crate) fn collect_group<'a>(
     members: Members<'_, 'a>,
 ) -> Result<(), AllocError>
     requires few { length row.shots.now ≤ 16 }
-    ensures { OnOk result (contributions_view contributions.new.items ≡ contributions_view contributions.old.items ++ group_contributions place (shot_group_view row.entry) (members_view members.entry)) }
+    ensures { OnOk result (Gains contributions.old contributions.new (group_gives place row.entry members.entry)) }
 {
     let shots = row.shots.len() as u8;
     let settings = bank_settings(members.profile, shots, members.enabled, true);
@@ -71,7 +69,7 @@ pub(crate) fn collect_unknown(
     contributions: &mut Vec<Contribution<'_>>,
     known: bool,
 ) -> Result<(), AllocError>
-    ensures { OnOk result (contributions_view contributions.new.items ≡ contributions_view contributions.old.items ++ unknown_unless known) }
+    ensures { OnOk result (Gains contributions.old contributions.new (unknown_unless known)) }
 {
     if !known {
         add(contributions, Contribution::Unknown)?;
@@ -84,7 +82,7 @@ fn collect_switch<'a>(
     contributions: &mut Vec<Contribution<'a>>,
     switch: Option<NameAt<'a>>,
 ) -> Result<(), AllocError>
-    ensures { OnOk result (contributions_view contributions.new.items ≡ contributions_view contributions.old.items ++ shot_switch (option_map name_at_view switch.entry)) }
+    ensures { OnOk result (Gains contributions.old contributions.new (shot_switch_gives switch.entry)) }
 {
     if let Some(name) = switch {
         add(
@@ -103,7 +101,7 @@ fn collect_lone<'a>(
     row: Shot<'a>,
     profile: &Profile<'a>,
 ) -> Result<(), AllocError>
-    ensures { OnOk result (contributions_view contributions.new.items ≡ contributions_view contributions.old.items ++ device_contributions place (lone_device (profile_view profile.now) (shot_view row.entry))) }
+    ensures { OnOk result (Gains contributions.old contributions.new (lone_gives place profile.now row.entry)) }
 {
     let settings = bank_settings(profile, 1, first_flag(is_enabled(row)), false);
     add(contributions, Contribution::Device(place, settings))?;
@@ -162,7 +160,7 @@ fn collect_shot_acts<'a>(
     number: usize,
     shot: Shot<'a>,
 ) -> Result<(), AllocError>
-    ensures { OnOk result (contributions_view contributions.new.items ≡ contributions_view contributions.old.items ++ flat_map (act_at target.place target.row) (shot_acts number (shot_view shot.entry))) }
+    ensures { OnOk result (Gains contributions.old contributions.new (shot_binds target.place target.row number shot.entry)) }
 {
     collect_switch_hits(contributions, target, Act::Hit(number), shot.switch)?;
     collect_acts_at(contributions, target, Act::Hit(number), shot.hits)?;
@@ -185,7 +183,7 @@ fn collect_switch_hits<'a>(
     hit: Act,
     switch: Option<NameAt<'a>>,
 ) -> Result<(), AllocError>
-    ensures { OnOk result (contributions_view contributions.new.items ≡ contributions_view contributions.old.items ++ flat_map (act_at target.place target.row) (switch_hits hit (option_map name_at_view switch.entry))) }
+    ensures { OnOk result (Gains contributions.old contributions.new (switch_hit_binds target.place target.row hit switch.entry)) }
 {
     if let Some(name) = switch {
         let event = joined(name.text, b"", b"_active");
@@ -202,7 +200,7 @@ fn collect_acts_at<'a>(
     act: Act,
     handlers: &'a [Handler],
 ) -> Result<(), AllocError>
-    ensures { OnOk result (contributions_view contributions.new.items ≡ contributions_view contributions.old.items ++ flat_map (act_at target.place target.row) (acts act (map handler_view handlers.now))) }
+    ensures { OnOk result (Gains contributions.old contributions.new (handlers_act_at target.place target.row act handlers.now)) }
 {
     let aim = aim_at(target.row, act);
     collect_each(contributions, handlers, target.place, aim)
@@ -214,7 +212,7 @@ fn collect_group_acts<'a>(
     place: Place,
     group: ShotGroup<'a>,
 ) -> Result<(), AllocError>
-    ensures { OnOk result (contributions_view contributions.new.items ≡ contributions_view contributions.old.items ++ flat_map (act_binding place) (group_acts (shot_group_view group.entry))) }
+    ensures { OnOk result (Gains contributions.old contributions.new (group_binds place group.entry)) }
 {
     collect_acts(contributions, place, Act::RotateRight, group.rotates)?;
     collect_acts(contributions, place, Act::RotateRight, group.rotates_right)?;
@@ -233,7 +231,7 @@ fn collect_group_lists<'a>(
     shots: &'a [Name],
 ) -> Result<(), AllocError>
     requires few { length shots.now ≤ 16 }
-    ensures { OnOk result (contributions_view contributions.new.items ≡ contributions_view contributions.old.items ++ effects_from 0 (group_lists (profile_view profile.now) name.now (texts (map name_view shots.now)))) }
+    ensures { OnOk result (Gains contributions.old contributions.new (group_posts profile.now name.now shots.now)) }
 {
     let hits = collect_each_shot(contributions, profile, shots)?;
     let completes = collect_states(contributions, hits, profile, name, b"_hit")?;
@@ -248,7 +246,7 @@ fn collect_each_shot<'a>(
     shots: &'a [Name],
 ) -> Result<u16, AllocError>
     requires few { length shots.now ≤ 16 }
-    ensures lists { OnOk result (contributions_view contributions.new.items ≡ contributions_view contributions.old.items ++ effects_from 0 (flat_map (shot_lists (profile_view profile.now)) (texts (map name_view shots.now)))) }
+    ensures lists { OnOk result (Gains contributions.old contributions.new (each_shot_posts profile.now shots.now)) }
     ensures next { IfOk result (λ next. next ≡ length shots.now * length profile.now.states.items) }
 {
     let mut next = 0;
@@ -267,7 +265,7 @@ fn collect_shot_lists<'a>(
     name: &'a [u8],
 ) -> Result<u16, AllocError>
     requires few { first ≤ 288 }
-    ensures lists { OnOk result (contributions_view contributions.new.items ≡ contributions_view contributions.old.items ++ effects_from first (shot_lists (profile_view profile.now) name.now)) }
+    ensures lists { OnOk result (Gains contributions.old contributions.new (shot_posts first profile.now name.now)) }
     ensures next { IfOk result (λ next. next ≡ first + length profile.now.states.items) }
 {
     let mut number = first;
@@ -286,7 +284,7 @@ fn collect_shot_list<'a>(
     profile: &'a [u8],
     state: &'a [u8],
 ) -> Result<(), AllocError>
-    ensures { OnOk result (contributions_view contributions.new.items ≡ contributions_view contributions.old.items ++ map (does_in number) (map posts (shot_events name.now profile.now state.now))) }
+    ensures { OnOk result (Gains contributions.old contributions.new (map (does_in number) (map posts (shot_events name.now profile.now state.now)))) }
 {
     collect_post(contributions, number, joined(name, b"", b"_hit"))?;
     collect_post(contributions, number, ending(name, profile, b"_hit"))?;
@@ -305,7 +303,7 @@ fn collect_states<'a>(
     end: &'static [u8],
 ) -> Result<u16, AllocError>
     requires few { first ≤ 288 }
-    ensures lists { OnOk result (contributions_view contributions.new.items ≡ contributions_view contributions.old.items ++ effects_from first (state_lists end.now (profile_view profile.now) name.now)) }
+    ensures lists { OnOk result (Gains contributions.old contributions.new (states_post first end.now profile.now name.now)) }
     ensures next { IfOk result (λ next. next ≡ first + length profile.now.states.items) }
 {
     let mut number = first;
@@ -324,7 +322,7 @@ fn collect_group_list<'a>(
     state: &'a [u8],
     end: &'static [u8],
 ) -> Result<(), AllocError>
-    ensures { OnOk result (contributions_view contributions.new.items ≡ contributions_view contributions.old.items ++ map (does_in number) (map posts (group_events end.now name.now state.now))) }
+    ensures { OnOk result (Gains contributions.old contributions.new (map (does_in number) (map posts (group_events end.now name.now state.now)))) }
 {
     collect_post(contributions, number, joined(name, b"", end))?;
     collect_post(contributions, number, ending(name, state, end))?;

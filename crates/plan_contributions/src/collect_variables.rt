@@ -1,12 +1,10 @@
 //! What the entries of variable players give to a plan.
 
-ghost use Rattle.std.specs.Prelude.{◌≡◌, ◌++◌, map, OnOk};
-ghost use Rattle.std.specs.List.{flat_map};
-ghost use Rattle.mpf_sections.specs.TypedGame.{variable_item_of};
-ghost use Rattle.mpf_sections.specs.View.{keyed_view, variable_item_view, variable_player_view};
+ghost use Rattle.std.specs.Prelude.{◌≡◌, OnOk};
+ghost use Rattle.mpf_sections.specs.View.{variable_item_view};
 ghost use Rattle.plan_contributions.specs.VariableEntries.{variable_action, item_change};
-ghost use Rattle.plan_contributions.specs.Contributions.{item_contributions, variable_player_contributions};
-ghost use Rattle.plan_contributions.specs.View.{contributions_view, effect_view};
+ghost use Rattle.plan_contributions.specs.View.{effect_view};
+ghost use Rattle.plan_contributions.specs.Gives.{Gains, variable_items_give, variable_player_gives};
 
 use crate::collect_bound::collect_bound;
 use crate::collect_effects::collect_event;
@@ -45,7 +43,7 @@ pub(crate) fn collect_variable_player<'a>(
     place: Place,
     row: VariablePlayer<'a>,
 ) -> Result<(), AllocError>
-    ensures { OnOk result (contributions_view contributions.new.items ≡ contributions_view contributions.old.items ++ variable_player_contributions place (variable_player_view row.entry)) }
+    ensures { OnOk result (Gains contributions.old contributions.new (variable_player_gives place row.entry)) }
 {
     collect_bound(contributions, row.event, place, Aim::Run)?;
     collect_changes(contributions, row.items)
@@ -57,7 +55,7 @@ fn collect_changes<'a>(
     contributions: &mut Vec<Contribution<'a>>,
     items: &'a [Keyed],
 ) -> Result<(), AllocError>
-    ensures { OnOk result (contributions_view contributions.new.items ≡ contributions_view contributions.old.items ++ flat_map item_contributions (map variable_item_of (map keyed_view items.now))) }
+    ensures { OnOk result (Gains contributions.old contributions.new (variable_items_give items.now)) }
 {
     for keyed in items {
         let item = as_variable_item(keyed);
