@@ -1,5 +1,5 @@
 -- What rows are judged to be, case by case.
-use Rattle.std.proofs.Common.{◌≡◌, ℕ, List, [], ◌∷◌, map, Option, Some, None, option_map, Result, Ok, Err, refl, sym, ap, ◌∙◌, subst}
+use Rattle.std.proofs.Common.{◌≡◌, ℕ, List, [], ◌∷◌, map, Option, Some, None, option_map, Result, Ok, Err, refl, sym, ap, ◌∙◌, subst, inl, inr}
 use Rattle.mpf_config.specs.Rows.{Rows}
 use Rattle.plan_tables.specs.PlanView.{PlanView}
 use Rattle.mpf_plan.specs.PlanOf.{plan_at, plan_of}
@@ -17,7 +17,7 @@ use Rattle.config_checker.specs.declared.report.Report.TheVariants.{NoMemory, Fa
 use Rattle.written_machine.specs.CheckedView.{CheckedView}
 use Rattle.config_checker.specs.Checking.{FaultView, row, limit, cycle, bound, certificate, named_fault, weighed, weighed_plan, certified_plan, reported_alone, faults_of_rows, faults_first, checked, checked_at, checked_with_at}
 use Rattle.config_checker.specs.View.{GivesChecked, ReportsFault, fault_view}
-use Rattle.config_checker.specs.Refused.{IsLimitFault, IsFaultOf, IsFaultWith, IsReport, Reports, ReportsOne, AreOwn, ReportsOwn}
+use Rattle.config_checker.specs.Refused.{IsLimitFault, IsFaultOf, IsFaultWith, IsReport, Reports, ReportsOne, AreOwn, ReportsOwn, ReportsNoPlan}
 use Rattle.config_checker.proofs.CertificateMeaning.{IsFaultOfText, fault_is_there}
 
 -- ---- what a report lists
@@ -62,6 +62,16 @@ unfolding checked_with_at
 own-given rows text report h = own-gives rows report (checked (certified_plan text) (plan_at rows)) h
 
 -- without them the rest is judged
+
+-- why there is no plan
+pub no-plan-own : (rows : Rows) (report : Report) → ReportsOwn rows report → ReportsNoPlan rows report
+no-plan-own rows NoMemory h = tt
+no-plan-own rows (Faults faults) h = inl h
+
+pub no-plan-limit : (rows : Rows) (report : Report) → faults_of_rows rows ≡ [] → ReportsOne (IsLimitFault rows) report → ReportsNoPlan rows report
+no-plan-limit rows NoMemory none h = tt
+no-plan-limit rows (Faults faults) none h = inr (none, h)
+
 first-none : (rows : Rows) (answer : Result CheckedView (List FaultView)) → faults_of_rows rows ≡ [] → faults_first (faults_of_rows rows) answer ≡ answer
 first-none rows answer none = ap (λ (own : List FaultView). faults_first own answer) none
 
@@ -116,6 +126,22 @@ module _ (rows : Rows) where
   limit-fault_with text (cycle names) h = absurd h
   limit-fault_with text bound h = absurd h
   limit-fault_with text (certificate fault) h = absurd h
+
+  -- what is reported where there is no plan is what the checker reports
+  pub no-plan-found : (report : Report) → ReportsNoPlan rows report → GivesChecked (Err report) (checked_at rows)
+  no-plan-found NoMemory h = tt
+  no-plan-found (Faults faults) (inl own) = own-found rows (Faults faults) own
+  no-plan-found (Faults faults) (inr (none, one)) = one-gives (IsLimitFault rows) (Faults faults) (checked_at rows) one (limit-found none)
+
+  pub no-plan-given : (text : List ℕ) (report : Report) → ReportsNoPlan rows report → GivesChecked (Err report) (checked_with_at rows text)
+  no-plan-given text NoMemory h = tt
+  no-plan-given text (Faults faults) (inl own) = own-given rows text (Faults faults) own
+  no-plan-given text (Faults faults) (inr (none, one)) = one-gives (IsLimitFault rows) (Faults faults) (checked_with_at rows text) one (limit-given none text)
+
+  pub no-plan-reports : (there : FaultView → Type 0) (report : Report) → ((fault : FaultView) → IsLimitFault rows fault → there fault) → ReportsNoPlan rows report → Reports there rows report
+  no-plan-reports there NoMemory weaker h = tt
+  no-plan-reports there (Faults faults) weaker (inl own) = own-reports rows there (Faults faults) own
+  no-plan-reports there (Faults faults) weaker (inr (none, one)) = reports-one rows (IsLimitFault rows) there (Faults faults) none one weaker
 
   text-fault_with : (text : List ℕ) (fault : FaultView) → IsFaultOfText (plan_of rows) text fault → IsFaultWith rows text fault
   text-fault_with text (row f) h = absurd h

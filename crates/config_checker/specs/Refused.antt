@@ -1,5 +1,5 @@
 -- Why a configuration or a certificate is refused.
-use Rattle.std.specs.Prelude.{◌≡◌, ◌≢◌, ℕ, ◌<◌, Option, None, Some, List, [], ◌∷◌, length, map, slice_index}
+use Rattle.std.specs.Prelude.{◌⊎◌, ◌≡◌, ◌≢◌, ℕ, ◌<◌, Option, None, Some, List, [], ◌∷◌, length, map, slice_index}
 use Rattle.mpf_config.specs.Rows.{Rows}
 use Rattle.plan_tables.specs.PlanView.{PlanView, name_of_event, switch_at}
 use Rattle.plan_tables.specs.declared.table.Table.TheVariants.{Switches}
@@ -151,3 +151,9 @@ AreOwn (own ∷ more) faults = faults ≡ own ∷ more
 abbrev pub ReportsOwn : Rows → Report → Type 0
 ReportsOwn rows reports.NoMemory = Unit {0}
 ReportsOwn rows (reports.Faults faults) = AreOwn (faults_of_rows rows) (map fault_view faults.items)
+
+-- the report where there is no plan: that of the faults of rows, or where there are none, of the table above its limit
+abbrev pub ReportsNoPlan : Rows → Report → Type 0
+ReportsNoPlan rows reports.NoMemory = Unit {0}
+ReportsNoPlan rows (reports.Faults faults) =
+    ReportsOwn rows (reports.Faults faults) ⊎ ((faults_of_rows rows ≡ []) × ReportsOne (IsLimitFault rows) (reports.Faults faults))

@@ -11,7 +11,7 @@ ghost use Rattle.row_faults.specs.View.{row_faults_view};
 ghost use Rattle.config_checker.specs.FaultView.{row};
 ghost use Rattle.config_checker.specs.View.{GivesChecked, faults_view};
 ghost use Rattle.config_checker.specs.Checking.{faults_of_rows, checked_at, checked_with_at};
-ghost use Rattle.config_checker.specs.Refused.{IsLimitFault, IsFaultOf, IsFaultWith, Reports, ReportsOne, ReportsOwn};
+ghost use Rattle.config_checker.specs.Refused.{IsLimitFault, IsFaultOf, IsFaultWith, Reports, ReportsNoPlan, ReportsOne, ReportsOwn};
 
 use crate::certified::certified;
 use crate::checked::Checked;
@@ -50,7 +50,6 @@ pub fn check(alloc: Global, config: &Config) -> Result<Checked, Report>
     ensures good { IfOk result (λ c. IsGood c) }
     ensures refused { IfErr result (λ report. Reports (IsFaultOf (rows_view config.now)) (rows_view config.now) report) }
 {
-    refuse_own(alloc, config)?;
     let plan = plan_of(alloc, config)?;
     let weights = match find(alloc, &plan) {
         Ok(weights) => weights,
@@ -94,19 +93,37 @@ pub fn check_with(alloc: Global, config: &Config, certificate: &[u8]) -> Result<
     ensures good { IfOk result (λ c. IsGood c) }
     ensures refused { IfErr result (λ report. Reports (IsFaultWith (rows_view config.now) certificate.now) (rows_view config.now) report) }
 {
-    refuse_own(alloc, config)?;
     let plan = plan_of(alloc, config)?;
     let (weights, bound) = certified(alloc, &plan, certificate)?;
     Ok(Checked::new(plan, weights, bound.0))
 }
 
-/// Refuses a configuration whose rows have faults of their own.
-fn refuse_own(alloc: Global, config: &Config) -> Result<(), Report>
+/// The plan of a configuration, or the report of why it has none.
+fn plan_of(alloc: Global, config: &Config) -> Result<Plan, Report>
     ensures none { OnOk result (faults_of_rows (rows_view config.now) ≡ []) }
-    ensures own { IfErr result (λ report. ReportsOwn (rows_view config.now) report) }
+    ensures plan { IfOk result (λ plan. plan_at (rows_view config.now) ≡ Ok plan) }
+    ensures refused { IfErr result (λ report. ReportsNoPlan (rows_view config.now) report) }
 {
     let definitions = Definitions::new(alloc, config)?;
-    let own = faults_of_rows(alloc, &definitions)?;
+    plan_of_definitions(alloc, &definitions)
+}
+
+/// The same, of the configuration that these definitions are of.
+fn plan_of_definitions(alloc: Global, definitions: &Definitions<'_>) -> Result<Plan, Report>
+    ensures none { OnOk result (faults_of_rows definitions.now ≡ []) }
+    ensures plan { IfOk result (λ plan. plan_at definitions.now ≡ Ok plan) }
+    ensures refused { IfErr result (λ report. ReportsNoPlan definitions.now report) }
+{
+    refuse_own(alloc, definitions)?;
+    plan_within(alloc, definitions)
+}
+
+/// Refuses definitions whose rows have faults of their own.
+fn refuse_own(alloc: Global, definitions: &Definitions<'_>) -> Result<(), Report>
+    ensures none { OnOk result (faults_of_rows definitions.now ≡ []) }
+    ensures own { IfErr result (λ report. ReportsOwn definitions.now report) }
+{
+    let own = faults_of_rows(alloc, definitions)?;
     if own.is_empty() {
         return Ok(());
     }
@@ -125,14 +142,14 @@ fn faults_of(alloc: Global, own: Vec<RowFault>) -> Result<Vec<Fault>, AllocError
     Ok(faults)
 }
 
-/// The plan of a configuration whose rows have no faults of their own, or the report of the table
-/// that is above its limit.
-fn plan_of(alloc: Global, config: &Config) -> Result<Plan, Report>
-    requires { faults_of_rows (rows_view config.now) ≡ [] }
-    ensures plan { IfOk result (λ plan. plan_at (rows_view config.now) ≡ Ok plan) }
-    ensures limit { IfErr result (λ report. ReportsOne (IsLimitFault (rows_view config.now)) report) }
+/// The plan of definitions whose rows have no faults of their own, or the report of the table that is
+/// above its limit.
+fn plan_within(alloc: Global, definitions: &Definitions<'_>) -> Result<Plan, Report>
+    requires { faults_of_rows definitions.now ≡ [] }
+    ensures plan { IfOk result (λ plan. plan_at definitions.now ≡ Ok plan) }
+    ensures limit { IfErr result (λ report. ReportsOne (IsLimitFault definitions.now) report) }
 {
-    match plan_complete(alloc, config) {
+    match plan_complete(alloc, definitions) {
         Ok(plan) => Ok(plan),
         Err(PlanFault::NoMemory) => Err(Report::NoMemory),
         Err(PlanFault::NoSuchName) => unreachable!(),

@@ -13,10 +13,10 @@ use Rattle.plan_contributions.specs.View.{contribution_view, contributions_view}
 use Rattle.plan_rows.specs.View.{row_view, row_list_view}
 use Rattle.mpf_plan.proofs.Taken.{contributions_more, rows_more}
 
--- what two calls' clauses say together
-pub on_ok_both : {T E P Q R : Type 0} (r : Result T E) → (P → Q → R) → OnOk r P → OnOk r Q → OnOk r R
-on_ok_both (Ok x) f p q = f p q
-on_ok_both (Err e) f p q = q
+-- what a call's clause says, said otherwise
+pub on_ok : {T E P Q : Type 0} (r : Result T E) → (P → Q) → OnOk r P → OnOk r Q
+on_ok (Ok x) f p = f p
+on_ok (Err e) f p = p
 
 -- ---- contributions
 

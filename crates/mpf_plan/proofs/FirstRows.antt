@@ -1,5 +1,5 @@
 -- Where the first rows use too many events, all rows do.
-use Rattle.std.proofs.Common.{◌≡◌, ℕ, ◌<◌, ◌≤◌, Bool, true, cond, List, [], ◌∷◌, ◌++◌, length, take, drop, nat_lt, Option, Some, refl, sym, ◌∙◌, ap, subst, arith}
+use Rattle.std.proofs.Common.{◌≡◌, ℕ, true, cond, List, [], ◌∷◌, ◌++◌, length, take, drop, nat_lt, Some, sym, ◌∙◌, ap, arith}
 use Rattle.std.specs.Prelude.{find}
 use Rattle.std.proofs.lemmas.Bool.{lt-ltb, ltb-true}
 use Rattle.std.proofs.lemmas.Grind.{flat_map-append}
@@ -8,18 +8,12 @@ use Rattle.mpf_sections.specs.Rows.{SectionRows}
 use Rattle.plan_rows.specs.declared.rows.Row as rows
 use Rattle.plan_tables.specs.declared.table.Table.TheVariants.{Events, Bindings, Switches, Coils, Variables, Rows}
 use Rattle.plan_contributions.specs.Contributions.{Contribution, row_contributions, given_by}
-use Rattle.plan_contributions.specs.UsedNames.{used, name_in_table, uses}
 use Rattle.plan_rows.specs.View.{row_view, row_list_view}
-use Rattle.plan_tables.specs.Limits.{entry_count, limit_of, tables_in_order, first_above}
-use Rattle.mpf_plan.specs.Uses.{first_uses, names_from}
+use Rattle.plan_tables.specs.Limits.{entry_count, limit_of, first_above}
+use Rattle.mpf_plan.specs.Uses.{names_from}
 use Rattle.mpf_plan.specs.PlanOf.{plan_from}
 use Rattle.mpf_plan.proofs.Drafted.{count-from}
-use Rattle.mpf_plan.proofs.Firsts.{first_uses-more}
-
--- more contributions use no fewer events
-events-more : (cs more : List Contribution) → length (names_from cs Events) ≤ length (names_from (cs ++ more) Events)
-events-more cs more =
-    omega (arith, first_uses-more (uses Events cs) (uses Events more), ap (λ us. length (first_uses us)) (flat_map-append (λ c. name_in_table Events (used c)) cs more))
+use Rattle.mpf_plan.proofs.UseNumbers.{count-more}
 
 module _ (machine : List SectionRows) (rs : List rows.Row) (i : ℕ) where
   abbrev all : List Contribution
@@ -37,7 +31,7 @@ module _ (machine : List SectionRows) (rs : List rows.Row) (i : ℕ) where
   exceeds : nat_lt (limit_of Events) (entry_count (plan_from first) Events) ≡ true → nat_lt (limit_of Events) (entry_count (plan_from all) Events) ≡ true
   exceeds above =
       lt-ltb (limit_of Events) (entry_count (plan_from all) Events)
-      (omega (arith, ltb-true (limit_of Events) (entry_count (plan_from first) Events) above, count-from first Events, count-from all Events, ap (λ cs. length (names_from cs Events)) parts, events-more first (given_by machine (row_list_view (drop i rs)))))
+      (omega (arith, ltb-true (limit_of Events) (entry_count (plan_from first) Events) above, count-from first Events, count-from all Events, ap (λ cs. length (names_from cs Events)) parts, count-more first (given_by machine (row_list_view (drop i rs))) Events))
 
   -- so the first table is above its limit
   pub events_exceed : nat_lt (limit_of Events) (entry_count (plan_from first) Events) ≡ true → first_above (plan_from all) ≡ Some Events

@@ -1,8 +1,8 @@
 -- Names noted in turn, each where it comes first.
-use Rattle.std.proofs.Common.{◌≡◌, ◌≤◌, ℕ, Bool, true, false, cond, not, ◌&&◌, ◌||◌, List, [], ◌∷◌, ◌++◌, length, filter, fold, refl, sym, ◌∙◌, ap, arith}
+use Rattle.std.proofs.Common.{◌≡◌, ℕ, Bool, true, false, cond, not, ◌&&◌, ◌||◌, List, [], ◌∷◌, ◌++◌, filter, fold, refl, sym, ◌∙◌, ap}
 use Rattle.std.specs.Str.{bytes_eq}
 use Rattle.std.specs.List.{list_any}
-use Rattle.std.proofs.lemmas.List.{append_assoc, append-nil, length-append}
+use Rattle.std.proofs.lemmas.List.{append_assoc, append-nil}
 use Rattle.std.proofs.lemmas.List.Folds.{list_any-append}
 use Rattle.std.proofs.lemmas.List.Sums.{fold-append}
 use Rattle.std.proofs.lemmas.Cmp.{nat_list_eq_equiv}
@@ -74,11 +74,11 @@ with_names (n ∷ ns) done = one_more n ns done (with_names ns) (has done n) ref
 pub with_names-all : (uses : List (List ℕ)) → fold with_name [] uses ≡ first_uses uses
 with_names-all uses = with_names uses [] ∙ all_of (first_uses uses)
 
--- more uses have no fewer names
-pub first_uses-more : (us more : List (List ℕ)) → length (first_uses us) ≤ length (first_uses (us ++ more))
+-- the names that later uses add
+abbrev pub later_uses : List (List ℕ) → List (List ℕ) → List (List ℕ)
+later_uses us more = filter (is_new (first_uses us)) (first_uses more)
+
+-- more uses leave the names that are there
+pub first_uses-more : (us more : List (List ℕ)) → first_uses (us ++ more) ≡ first_uses us ++ later_uses us more
 first_uses-more us more =
-    let new = filter (is_new (first_uses us)) (first_uses more) in
-    let all : first_uses (us ++ more) ≡ first_uses us ++ new =
     sym (with_names-all (us ++ more)) ∙ fold-append with_name [] us more ∙ ap (λ d. fold with_name d more) (with_names-all us) ∙ with_names more (first_uses us)
-    in
-    omega (arith, ap length all, length-append (first_uses us) new)

@@ -1,33 +1,40 @@
 -- What is found in contributions: their names and bindings, one contribution after the other.
 use Rattle.std.proofs.Common.{◌≡◌, ℕ, ◌+◌, ◌<◌, ◌≤◌, ◌==◌, ◌⊎◌, inl, inr, Bool, true, false, cond, List, [], ◌∷◌, ◌++◌, length, fold, set, get_or, nat_lt, Some, None, refl, sym, ◌∙◌, ap, subst, arith}
-use Rattle.std.specs.Prelude.{slice_get}
+use Rattle.std.specs.Prelude.{not, slice_get}
+use Rattle.std.specs.List.{position_or_len}
+use Rattle.std.specs.Str.{bytes_eq}
 use Rattle.std.proofs.lemmas.Bool.{eq-eqb, ne_eqb, lt-ltb, le-ltb}
 use Rattle.std.proofs.lemmas.Grind.{flat_map-append}
 use Rattle.std.proofs.lemmas.List.{append-nil, length-set}
-use Rattle.std.proofs.lemmas.List.Sums.{fold-append, sum_by-append}
-use Rattle.std.proofs.lemmas.Option.{slice_get_cases}
+use Rattle.std.proofs.lemmas.List.Sums.{fold-append, sum_by-append, prefix_len-le-length}
+use Rattle.std.proofs.lemmas.Option.{slice_get_cases, slice_get-get_or}
 use Rattle.mpf_sections.specs.Rows.{SectionRows}
 use Rattle.plan_tables.specs.declared.table.Table.{Table}
-use Rattle.plan_tables.specs.declared.table.Table.TheVariants.{Bindings, Rows}
+use Rattle.plan_tables.specs.declared.table.Table.TheVariants.{Events, Bindings, Rows}
 use Rattle.plan_tables.specs.declared.names.NameTable.{NameTable}
 use Rattle.mpf_plan.specs.declared.first_uses.Found.{Found}
 use Rattle.plan_contributions.specs.Contributions.{Contribution, given_by}
 use Rattle.plan_rows.specs.Rows.{Row}
 use Rattle.plan_contributions.specs.UsedNames.{used, name_in_table, uses}
-use Rattle.mpf_plan.specs.Uses.{first_uses, names_from}
+use Rattle.mpf_plan.specs.Uses.{first_uses, names_from, number_among}
 use Rattle.plan_tables.specs.Limits.{entry_count, limit_of, order_of, tables_in_order, first_above}
 use Rattle.mpf_plan.specs.PlanOf.{plan_from}
 use Rattle.plan_tables.specs.NamesKept.{names_of, names_kept}
 use Rattle.first_names.specs.FirstNames.{with_name, IsNameTableOf}
-use Rattle.mpf_plan.specs.Numbering.{AreNameTablesOf, bindings_given, binding_count, rows_given, row_count, IsCount, HasFound}
+use Rattle.mpf_plan.specs.Numbering.{AreNameTablesOf, bindings_given, binding_count, rows_given, row_count, number_in, IsCount, HasFound}
 use Rattle.mpf_plan.proofs.Firsts.{with_names-all}
 use Rattle.mpf_plan.proofs.Counts.{count_of}
 use Rattle.mpf_plan.proofs.Drafted.{count-from}
+use Rattle.mpf_plan.proofs.UseNumbers.{AllFit, numbers_more}
 use Rattle.mpf_plan.proofs.ByTable.{place_within, each_changed}
 use Rattle.mpf_plan.proofs.Judged.{all_within}
 use Rattle.plan_contributions.proofs.Unnamed.{bindings_unnamed, rows_unnamed}
 
 -- ---- one contribution more
+
+limits_few : (t : Table) → limit_of t ≤ 65535
+limits_few Events = omega arith
+limits_few _ = omega arith
 
 module _ (cs : List Contribution) (d : Contribution) where
   abbrev more : List Contribution
@@ -64,8 +71,8 @@ module _ (cs : List Contribution) (d : Contribution) where
   module _ (old new : Found) (has : HasFound cs old) (bindings : (all : ℕ) → IsCount 16384 all old.bindings → IsCount 16384 (all + bindings_given d) new.bindings)
       (rows : (all : ℕ) → IsCount 1024 all old.rows → IsCount 1024 (all + rows_given d) new.rows) where
     -- a contribution that uses no name
-    pub found_nameless : used d ≡ None → new.tables.items ≡ old.tables.items → HasFound more new
-    found_nameless none same = record {
+    pub found_nameless : used d ≡ None → new.tables.items ≡ old.tables.items → new.numbers.items ≡ old.numbers.items ++ 0 ∷ [] → HasFound more new
+    found_nameless none same numbered = record {
       tables = subst (AreNameTablesOf more) (sym same) (record {
         count = has.tables.count;
         limits = has.tables.limits;
@@ -73,12 +80,15 @@ module _ (cs : List Contribution) (d : Contribution) where
       });
       bindings = count_then new.bindings (bindings (binding_count cs) has.bindings);
       rows = rows_then new.rows (rows (row_count cs) has.rows);
+      numbers = numbers_more cs d old.numbers.items new.numbers.items 0 has.numbers (λ fit. ap (number_in (names_from more)) (sym none)) numbered;
     }
 
     -- a contribution that uses this name
     pub found_named : (u : Table) (n : List ℕ) (p : ℕ) (was is : NameTable) → used d ≡ Some (u, n) → p ≡ order_of u → new.tables.items ≡ set old.tables.items p is → was ≡ get_or old.tables.items p was
-        → is.limit ≡ was.limit → ((all : List (List ℕ)) → IsNameTableOf all was → IsNameTableOf (with_name all n) is) → HasFound more new
-    found_named u n p was is uses_it place changed got limit noted = record {
+        → is.limit ≡ was.limit → ((all : List (List ℕ)) → IsNameTableOf all was → IsNameTableOf (with_name all n) is)
+        → (number kept : ℕ) → ((all : List (List ℕ)) → IsNameTableOf all was → length (with_name all n) ≤ was.limit → number ≡ position_or_len (bytes_eq n) (with_name all n))
+        → (number ≤ 65535 → kept ≡ number) → new.numbers.items ≡ old.numbers.items ++ kept ∷ [] → HasFound more new
+    found_named u n p was is uses_it place changed got limit noted number kept numbered keeps pushed = record {
       tables = subst (AreNameTablesOf more) (sym (changed ∙ ap (λ k. set old.tables.items k is) place)) (record {
         count = length-set old.tables.items (order_of u) is ∙ has.tables.count;
         limits = each_changed (λ t k. k.limit ≡ limit_of t) (λ t k. k.limit ≡ limit_of t) u old.tables.items was is has.tables.count at (λ t e h. limit ∙ h) (λ t e k h. h) has.tables.limits;
@@ -88,10 +98,26 @@ module _ (cs : List Contribution) (d : Contribution) where
       });
       bindings = count_then new.bindings (bindings (binding_count cs) has.bindings);
       rows = rows_then new.rows (rows (row_count cs) has.rows);
+      numbers = numbers_more cs d old.numbers.items new.numbers.items kept has.numbers
+          (λ fit. keeps (few fit) ∙ here fit ∙ ap (number_in (names_from more)) (sym uses_it)) pushed;
     }
       where
         at : was ≡ get_or old.tables.items (order_of u) was
         at = got ∙ ap (λ k. get_or old.tables.items k was) place
+
+        there : slice_get old.tables.items (order_of u) ≡ Some was
+        there = slice_get-get_or old.tables.items (order_of u) was (omega (arith, has.tables.count, place_within u)) ∙ ap Some (sym at)
+
+        then : with_name (names_from cs u) n ≡ names_from more u
+        then = names_here u n uses_it u refl
+
+        here : AllFit more → number ≡ number_among (names_from more u) n
+        here fit =
+            numbered (names_from cs u) (has.tables.names u was there) (omega (arith, fit u, ap length then, has.tables.limits u was there))
+            ∙ ap (λ ns. number_among ns n) then
+
+        few : AllFit more → number ≤ 65535
+        few fit = omega (arith, here fit, prefix_len-le-length (λ m. not (bytes_eq n m)) (names_from more u), fit u, limits_few u)
 
 -- ---- before any
 
@@ -147,7 +173,7 @@ module _ (cs : List Contribution) (found : Found) (has : HasFound cs found) wher
     pub device_rows_fit : row_count cs ≤ 1024
     device_rows_fit = omega (arith, all_within (plan_from cs) none Rows, count-from cs Rows)
 
-    names_fit : (t : Table) → length (names_from cs t) ≤ limit_of t
+    pub names_fit : (t : Table) → length (names_from cs t) ≤ limit_of t
     names_fit Bindings = omega (arith, ap length unnamed.0)
     names_fit Rows = omega (arith, ap length unnamed.1)
     names_fit t = omega (arith, all_within (plan_from cs) none t, count-from cs t)

@@ -31,6 +31,7 @@ pub mod DoneNames
 pub mod Limited
 pub mod ValidPlan
 pub mod Planned
+pub mod UseNumbers
 pub mod FirstRows
 pub mod EventNames
 pub mod ModeEventNames

@@ -10,6 +10,7 @@ use Rattle.mpf_config.specs.FewModes.{AreFewModes}
 use Rattle.plan_rows.specs.declared.rows.Row as found
 use Rattle.plan_tables.specs.declared.names.NameSets.{NameSets}
 use Rattle.mpf_plan.specs.declared.draft.Draft.{Draft}
+use Rattle.mpf_plan.specs.declared.first_uses.NumberedNames.{NumberedNames}
 use Rattle.plan_tables.specs.declared.table.Table.{Table}
 use Rattle.plan_tables.specs.declared.table.Table.TheVariants.{Coils}
 use Rattle.mpf_plan.specs.declared.fault.PlanFault.{PlanFault}
@@ -62,7 +63,10 @@ module _ (rows : Rows) (machine : List SectionRows) (text : machine ≡ rows.mac
 
   -- ---- a plan
 
-  module _ (names : NameSets) (numbered : Numbered cs (Ok names)) where
+  module _ (n : NumberedNames) (numbered : Numbered cs (Ok n)) where
+    abbrev names : NameSets
+    names = n.names
+
     complete : lacks_name (contributions_of rows) ≡ false
     complete = ap lacks_name (sym same) ∙ numbered.0
 

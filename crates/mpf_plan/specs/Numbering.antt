@@ -1,18 +1,18 @@
 -- What the pass that numbers the names has found.
-use Rattle.std.specs.Prelude.{◌≡◌, ℕ, ◌<◌, ◌≤◌, ◌⊎◌, true, false, List, [], None, Some, Result, Ok, Err, length, slice_get, fold, Vec}
+use Rattle.std.specs.Prelude.{◌≡◌, ℕ, ◌<◌, ◌≤◌, ◌⊎◌, true, false, List, [], Option, None, Some, Result, Ok, Err, length, map, slice_get, fold, Vec}
 use Rattle.std.specs.Global.{Global}
 use Rattle.indexmap.specs.IndexSet.{IndexSet}
 use Rattle.std.specs.List.{sum_by}
 use Rattle.plan_tables.specs.declared.names.NameTable.{NameTable}
-use Rattle.plan_tables.specs.declared.names.NameSets.{NameSets}
 use Rattle.mpf_plan.specs.declared.fault.PlanFault.{PlanFault}
 use Rattle.mpf_plan.specs.declared.fault.PlanFault.TheVariants as faults
 use Rattle.plan_tables.specs.Devices.{list_count}
 use Rattle.plan_tables.specs.declared.table.Table.{Table}
 use Rattle.mpf_plan.specs.declared.first_uses.Found.{Found}
+use Rattle.mpf_plan.specs.declared.first_uses.NumberedNames.{NumberedNames}
 use Rattle.plan_contributions.specs.Contributions.{Contribution, mode, binds, device}
-use Rattle.plan_contributions.specs.UsedNames.{given_names}
-use Rattle.mpf_plan.specs.Uses.{names_from, lacks_name}
+use Rattle.plan_contributions.specs.UsedNames.{used, given_names}
+use Rattle.mpf_plan.specs.Uses.{Names, names_from, number_among, lacks_name}
 use Rattle.plan_tables.specs.Limits.{limit_of, order_of, tables_in_order, first_above}
 use Rattle.mpf_plan.specs.PlanOf.{plan_from}
 use Rattle.plan_tables.specs.NamesKept.{names_of}
@@ -51,6 +51,17 @@ lists_given _ = 0
 abbrev pub lists_count : List Contribution → ℕ
 lists_count cs = sum_by lists_given cs
 
+-- the number of the name that a contribution uses, where names have these numbers; 0 where it uses none
+abbrev pub number_in : Names → Option (Table × List ℕ) → ℕ
+number_in names None = 0
+number_in names (Some (t, n)) = number_among (names t) n
+
+abbrev pub number_of : Names → Contribution → ℕ
+number_of names c = number_in names (used c)
+
+abbrev pub numbers_of : Names → List Contribution → List ℕ
+numbers_of names cs = map (number_of names) cs
+
 -- all are counted, or both numbers are above the limit
 abbrev pub IsCount : ℕ → ℕ → ℕ → Type 0
 IsCount limit all count = ((limit < all) × (limit < count)) ⊎ ((count ≡ all) × (all ≤ limit))
@@ -74,13 +85,21 @@ pub record HasFound (cs : List Contribution) (found : Found) : Type 0 where
   pub tables : AreNameTablesOf cs found.tables.items
   pub bindings : IsCount 16384 (binding_count cs) found.bindings
   pub rows : IsCount 1024 (row_count cs) found.rows
+  pub numbers : ((t : Table) → length (names_from cs t) ≤ limit_of t) → found.numbers.items ≡ numbers_of (names_from cs) cs
 
--- the names of contributions whose plan is within all limits; or they use a name that nothing has; or the first table
--- that is above its limit
-abbrev pub Numbered : List Contribution → Result NameSets PlanFault → Type 0
+-- what the pass answers: what it found, or the first table that is above its limit
+abbrev pub HasNames : List Contribution → Result Found PlanFault → Type 0
+HasNames cs (Ok found) = HasFound cs found
+HasNames cs (Err faults.NoMemory) = Unit {0}
+HasNames cs (Err faults.NoSuchName) = ⊥
+HasNames cs (Err (faults.Limit t)) = first_above (plan_from cs) ≡ Some t
+
+-- the names of contributions, and the numbers of their uses, where the plan is within all limits; or they use a name
+-- that nothing has; or the first table that is above its limit
+abbrev pub Numbered : List Contribution → Result NumberedNames PlanFault → Type 0
 Numbered cs (Ok n) =
-    (lacks_name cs ≡ false) × (name_sets_view n ≡ names_from cs) × (first_above (plan_from cs) ≡ None)
-    × (binding_count cs ≤ 16384) × (row_count cs ≤ 1024)
+    (lacks_name cs ≡ false) × (name_sets_view n.names ≡ names_from cs) × (first_above (plan_from cs) ≡ None)
+    × (binding_count cs ≤ 16384) × (row_count cs ≤ 1024) × (n.numbers.items ≡ numbers_of (names_from cs) cs)
 Numbered cs (Err faults.NoMemory) = Unit {0}
 Numbered cs (Err faults.NoSuchName) = lacks_name cs ≡ true
 Numbered cs (Err (faults.Limit t)) = (lacks_name cs ≡ false) × (first_above (plan_from cs) ≡ Some t)

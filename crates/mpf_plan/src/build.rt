@@ -104,31 +104,44 @@ pub fn plan(alloc: Global, config: &Config) -> Result<Plan, PlanFault>
     ensures limit { (t : TableValue) → result ≡ Err (PlanFault.Limit t) → IsExceeded (rows_view config.now) t }
 {
     let definitions = Definitions::new(alloc, config)?;
-    let rows = rows_of(alloc, &definitions)?;
-    let lacking = lacks_name(alloc, &definitions, &rows)?;
+    plan_of_definitions(alloc, &definitions)
+}
+
+/// The plan of the rows that these definitions are of, as [`plan`] gives it.
+fn plan_of_definitions(alloc: Global, definitions: &Definitions<'_>) -> Result<Plan, PlanFault>
+    ensures exact { GivesPlan result (plan_at definitions.now) }
+    ensures plan { IfOk result (λ p. p ≡ plan_of definitions.now) }
+    ensures within { IfOk result (λ _. (t : TableValue) → entry_count (plan_of definitions.now) t ≤ limit_of t) }
+    ensures limit { (t : TableValue) → result ≡ Err (PlanFault.Limit t) → IsExceeded definitions.now t }
+{
+    // its lists are short, and its modes are few
+    let _config = definitions.config();
+    let rows = rows_of(alloc, definitions)?;
+    let lacking = lacks_name(alloc, definitions, &rows)?;
     if lacking {
         return Err(PlanFault::NoSuchName);
     }
-    plan_of_rows(alloc, &definitions, &rows)
+    plan_of_rows(alloc, definitions, &rows)
 }
 
-/// The plan of the rows, as [`plan`] gives it, where no name is used that nothing has. It does not
-/// look for one.
+/// The plan of the rows that these definitions are of, as [`plan`] gives it, where no name is used
+/// that nothing has. It does not look for one.
 ///
 /// # Errors
 ///
 /// - `Limit`: a table is above its limit; the first such table in the order of `Table` is reported.
 /// - `NoMemory`: memory ran out.
-pub fn plan_complete(alloc: Global, config: &Config) -> Result<Plan, PlanFault>
-    requires { lacks_name (contributions_of (rows_view config.now)) ≡ false }
-    ensures exact { GivesPlan result (plan_at (rows_view config.now)) }
-    ensures plan { IfOk result (λ p. p ≡ plan_of (rows_view config.now)) }
-    ensures within { IfOk result (λ _. (t : TableValue) → entry_count (plan_of (rows_view config.now)) t ≤ limit_of t) }
-    ensures limit { (t : TableValue) → result ≡ Err (PlanFault.Limit t) → IsExceeded (rows_view config.now) t }
+pub fn plan_complete(alloc: Global, definitions: &Definitions<'_>) -> Result<Plan, PlanFault>
+    requires { lacks_name (contributions_of definitions.now) ≡ false }
+    ensures exact { GivesPlan result (plan_at definitions.now) }
+    ensures plan { IfOk result (λ p. p ≡ plan_of definitions.now) }
+    ensures within { IfOk result (λ _. (t : TableValue) → entry_count (plan_of definitions.now) t ≤ limit_of t) }
+    ensures limit { (t : TableValue) → result ≡ Err (PlanFault.Limit t) → IsExceeded definitions.now t }
 {
-    let definitions = Definitions::new(alloc, config)?;
-    let rows = rows_of(alloc, &definitions)?;
-    plan_of_rows(alloc, &definitions, &rows)
+    // its lists are short, and its modes are few
+    let _config = definitions.config();
+    let rows = rows_of(alloc, definitions)?;
+    plan_of_rows(alloc, definitions, &rows)
 }
 
 /// The plan of these rows, where they use no name that nothing has.
@@ -142,12 +155,12 @@ fn plan_of_rows(alloc: Global, definitions: &Definitions, rows: &[Row]) -> Resul
     ensures within { IfOk result (λ _. (t : TableValue) → entry_count (plan_of definitions.now) t ≤ limit_of t) }
     ensures limit { (t : TableValue) → result ≡ Err (PlanFault.Limit t) → IsExceeded definitions.now t }
 {
-    let names = number(alloc, definitions, rows)?;
-    let draft = fill(alloc, &names, definitions, rows)?;
+    let numbered = number(alloc, definitions, rows)?;
+    let draft = fill(alloc, &numbered.names, &numbered.numbers, definitions, rows)?;
     let plan = Plan::new(
         alloc,
         Tables {
-            names,
+            names: numbered.names,
             modes: draft.modes,
             switches: draft.switches,
             coils: draft.coils,

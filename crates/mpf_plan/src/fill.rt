@@ -3,45 +3,44 @@
 ghost use Rattle.std.specs.Prelude.{◌≡◌, ◌<◌, ◌≤◌, ◌+◌, ◌*◌, ◌++◌, List, [], ℕ, false, length, map, fold, replicate, slice_index_or, slice_set, IfOk, OnOk};
 ghost use Rattle.std.specs.List.{All};
 ghost use Rattle.plan_tables.specs.declared.names.NameSets.{NameSets as NameSetsValue};
-ghost use Rattle.plan_tables.specs.declared.entries.Action.TheVariants.{Change};
-ghost use Rattle.plan_tables.specs.declared.table.Table.TheVariants.{Events, Switches, Coils, Variables};
+ghost use Rattle.plan_tables.specs.declared.table.Table.TheVariants.{Events};
 ghost use Rattle.machine_definitions.specs.GameEvents.{game_event_names};
-ghost use Rattle.machine_definitions.specs.Players.{player_event};
-ghost use Rattle.plan_contributions.specs.Contributions.{gives, active, inactive, mode, mode_event, binds, does, does_in, listens, coil, under, plays, given_by};
-ghost use Rattle.mpf_plan.specs.PlanOf.{event_of, coil_of, variable_of, last_conditioned, action_with, action_of, owner_at, priority_at, with_switch, with_kind, with_active, with_inactive, first_event, with_event, last_with_event, last_mode, last_row, next_binding, last_priority, lists_for, with_one_more, last_with, next_row, with_device, first_of_last, with_contribution, next_listener, with_listener, limited_to, named_switch, named_coil, blank, drafted, next_list, with_action_in};
+ghost use Rattle.plan_contributions.specs.Contributions.{mode, does, does_in, coil, plays, given_by};
+ghost use Rattle.mpf_plan.specs.PlanOf.{event_of, last_conditioned, action_with, action_of, owner_at, priority_at, with_switch, with_kind, with_active, with_inactive, first_event, with_event, last_with_event, last_mode, last_row, next_binding, last_priority, lists_for, with_one_more, last_with, next_row, with_device, first_of_last, with_contribution, next_listener, with_listener, limited_to, named_switch, named_coil, blank, drafted, with_given, with_mode, with_list_for, with_binding};
 ghost use Rattle.plan_tables.specs.Inside.{name_sets_view, mode_entry_view, action_lists, switches_view};
 ghost use Rattle.plan_contributions.specs.View.{parts_text, deed_view, effect_view, contribution_view, contributions_view};
 ghost use Rattle.plan_rows.specs.View.{row_list_view};
 ghost use Rattle.mpf_plan.specs.Inside.{limited_coils, IsRowNumbered, IsActNumbered, draft_view};
-ghost use Rattle.mpf_plan.specs.Numbering.{binding_count, lists_count, mode_count, row_count};
-ghost use Rattle.plan_tables.specs.PlanView.{no_switch, no_coil};
-ghost use Rattle.plan_tables.specs.NamesKept.{names_of};
+ghost use Rattle.mpf_plan.specs.Numbering.{binding_count, lists_count, mode_count, row_count, number_in, number_of, numbers_of};
+ghost use Rattle.plan_contributions.specs.UsedNames.{used_by};
+ghost use Rattle.plan_tables.specs.PlanView.{no_coil};
 
 use crate::draft::Draft;
 use crate::numbering::number_among;
 use machine_definitions::{Definitions, GAME_EVENT_NAMES};
 use plan_contributions::{
-    Aim, Contribution, Deed, Effect, Parts, collect_row, mode_event_name, player_event, whole,
+    Aim, Contribution, Deed, Effect, Parts, collect_row, player_event, whole,
 };
 use plan_rows::{Place, Row};
-use plan_tables::Comparison;
 use plan_tables::devices::{DeviceRow, RowId, Settings};
 use plan_tables::entries::{
     Action, Binding, CoilId, CoilLimits, Condition, Contact, EventId, GameRules, ListId, Listener,
     Mode, ModeEntry, ModeEvent, ModeEvents, ModeId, Owner, SwitchEntry, SwitchKind, Target,
-    VariableAction, VariableId,
+    VariableId,
 };
 use plan_tables::names::NameSets;
 use plan_tables::table::Table;
 use std::alloc::{AllocError, Global};
 
-/// What the rows make, where names have these numbers.
+/// What the rows make. `numbers` are those of the names that the contributions use, in their order.
 pub(crate) fn fill(
     alloc: Global,
     names: &NameSets,
+    numbers: &[u16],
     definitions: &Definitions,
     rows: &[Row],
 ) -> Result<Draft, AllocError>
+    requires numbers { numbers.now ≡ numbers_of (name_sets_view names.now) (given_by definitions.now.machine (row_list_view rows.now)) }
     requires bindings { binding_count (given_by definitions.now.machine (row_list_view rows.now)) ≤ 16384 }
     requires lists { lists_count (given_by definitions.now.machine (row_list_view rows.now)) ≤ 294912 }
     requires rows { row_count (given_by definitions.now.machine (row_list_view rows.now)) ≤ 1024 }
@@ -52,9 +51,19 @@ pub(crate) fn fill(
     let mut draft = blank(alloc, names)?;
     let mut text = Vec::new(alloc);
     let mut contributions = Vec::new(alloc);
+    let mut numbers_left = numbers;
     for row in rows {
         collect_row(&mut contributions, definitions, *row)?;
-        add_all(alloc, names, &mut text, &mut draft, &contributions)?;
+        let (numbers_here, others) = numbers_left.split_at(contributions.len());
+        add_all(
+            alloc,
+            names,
+            numbers_here,
+            &mut text,
+            &mut draft,
+            &contributions,
+        )?;
+        numbers_left = others;
     }
     Ok(draft)
 }
@@ -62,69 +71,90 @@ pub(crate) fn fill(
 fn add_all(
     alloc: Global,
     names: &NameSets,
+    numbers: &[u16],
     text: &mut Vec<u8>,
     draft: &mut Draft,
     contributions: &[Contribution],
 ) -> Result<(), AllocError>
+    requires numbers { numbers.now ≡ numbers_of (name_sets_view names.now) (contributions_view contributions.now) }
     requires lists { length draft.old.lists.items + binding_count (contributions_view contributions.now) + lists_count (contributions_view contributions.now) ≤ 311296 }
     requires rows { length draft.old.rows.items + row_count (contributions_view contributions.now) ≤ 1024 }
     requires modes { length draft.old.modes.items + mode_count (contributions_view contributions.now) ≤ 64 }
     requires acts { All IsActNumbered (contributions_view contributions.now) }
     ensures { OnOk result (draft_view names.now draft.new ≡ fold (with_contribution (name_sets_view names.now)) (draft_view names.now draft.old) (contributions_view contributions.now)) }
 {
-    for contribution in contributions {
-        add(alloc, names, text, draft, contribution)?;
+    for (place, contribution) in contributions.iter().enumerate() {
+        add(alloc, names, numbers[place], text, draft, contribution)?;
     }
     Ok(())
 }
 
+/// Adds what a contribution makes. The number is that of the name that it uses.
 fn add(
     alloc: Global,
     names: &NameSets,
+    number: u16,
     text: &mut Vec<u8>,
     draft: &mut Draft,
     contribution: &Contribution,
 ) -> Result<(), AllocError>
+    requires number { number ≡ number_of (name_sets_view names.now) (contribution_view contribution.now) }
     requires lists { length draft.old.lists.items ≤ 311296 }
     requires rows { length draft.old.rows.items ≤ 1024 }
     requires modes { length draft.old.modes.items ≤ 64 }
     requires acts { IsActNumbered (contribution_view contribution.now) }
     ensures { OnOk result (draft_view names.now draft.new ≡ with_contribution (name_sets_view names.now) (draft_view names.now draft.old) (contribution_view contribution.now)) }
 {
+    let event = EventId(number);
     match *contribution {
-        Contribution::Gives(table, name) => add_given(names, text, draft, table, name),
+        Contribution::Gives(table, _) => {
+            add_given(draft, table, number as usize);
+            Ok(())
+        }
         Contribution::Reads(kind, confirms) => {
             read_switch(draft, kind, confirms);
             Ok(())
         }
-        Contribution::Active(name) => add_active(names, text, draft, name),
-        Contribution::Inactive(name) => add_inactive(names, text, draft, name),
+        Contribution::Active(_) => post_active(draft, event),
+        Contribution::Inactive(_) => post_inactive(draft, event),
         Contribution::Mode {
             name,
             priority,
             game,
             holds_ball_end,
         } => {
-            let settings = Mode {
+            let mode = Mode {
                 priority,
                 game,
                 holds_ball_end,
-                events: first_event(EventId(0)),
+                events: first_event(event),
             };
-            add_mode(alloc, names, text, draft, name, settings)
+            add_mode(alloc, draft, name, mode)
         }
-        Contribution::ModeEvent(which, name) => add_mode_event(names, text, draft, which, name),
-        Contribution::Binds(name, place, aim) => {
-            add_binding(alloc, names, text, draft, name, place, aim)
+        Contribution::ModeEvent(which, _) => {
+            set_event(&mut draft.modes, which, event);
+            Ok(())
         }
-        Contribution::Does(effect) => add_effect(names, text, draft, effect),
+        Contribution::Binds(_, place, aim) => add_binding(alloc, draft, event, place, aim),
+        Contribution::Does(effect) => add_effect(names, number, text, draft, effect),
         Contribution::Device(place, settings) => add_device(alloc, draft, place, settings),
-        Contribution::DoesIn(number, effect) => add_effect_in(names, text, draft, number, effect),
-        Contribution::Listens(number, name) => add_listener(names, text, draft, number, name),
-        Contribution::Coil(name, limits) => add_coil(names, text, draft, name, limits),
+        Contribution::DoesIn(in_row, effect) => {
+            add_effect_in(names, number, text, draft, in_row, effect)
+        }
+        Contribution::Listens(in_row, _) => add_listener(draft, number as usize, in_row),
+        Contribution::Coil(_, limits) => {
+            limit_coil(&mut draft.coils, number as usize, limits);
+            Ok(())
+        }
         Contribution::Mentions(_, _) | Contribution::Unknown => Ok(()),
-        Contribution::Under(name, comparison, number) => {
-            add_condition(names, text, draft, name, comparison, number)
+        Contribution::Under(_, comparison, bound) => {
+            let condition = Condition {
+                variable: VariableId(number),
+                comparison,
+                number: bound,
+            };
+            put_condition(&mut draft.bindings, condition);
+            Ok(())
         }
         Contribution::Plays {
             min_balls,
@@ -143,22 +173,12 @@ fn event_of(names: &NameSets, text: &mut Vec<u8>, name: Parts) -> Result<EventId
 
 // ---- switches
 
-fn add_given(
-    names: &NameSets,
-    text: &mut Vec<u8>,
-    draft: &mut Draft,
-    table: Table,
-    name: &[u8],
-) -> Result<(), AllocError>
-    ensures { OnOk result (draft_view names.now draft.new ≡ with_contribution (name_sets_view names.now) (draft_view names.now draft.old) (gives table name.now)) }
+/// The switch of this number comes last, where one is given, and nothing has defined it.
+fn add_given(draft: &mut Draft, table: Table, n: usize)
+    ensures { (names : NameSetsValue) → draft_view names draft.new ≡ with_given table n (draft_view names draft.old) }
 {
-    match table {
-        Table::Switches => {
-            let n = number_among(names.of(table), text, whole(name))?;
-            define_switch(draft, n);
-            Ok(())
-        }
-        _ => Ok(()),
+    if let Table::Switches = table {
+        define_switch(draft, n);
     }
 }
 
@@ -186,19 +206,6 @@ fn read_switch(draft: &mut Draft, kind: SwitchKind, confirms: bool)
     }
 }
 
-fn add_active(
-    names: &NameSets,
-    text: &mut Vec<u8>,
-    draft: &mut Draft,
-    name: Parts,
-) -> Result<(), AllocError>
-    ensures { OnOk result (draft_view names.now draft.new ≡ with_contribution (name_sets_view names.now) (draft_view names.now draft.old) (active (parts_text name.entry))) }
-{
-    let event = event_of(names, text, name)?;
-    post_active(draft, event)?;
-    Ok(())
-}
-
 /// The switch that came last posts the event when it becomes active.
 fn post_active(draft: &mut Draft, event: EventId) -> Result<(), AllocError>
     ensures { OnOk result ((names : NameSetsValue) → draft_view names draft.new ≡ with_active event (draft_view names draft.old)) }
@@ -207,19 +214,6 @@ fn post_active(draft: &mut Draft, event: EventId) -> Result<(), AllocError>
     if last < draft.switches.len() {
         draft.switches[last].active.push(event)?;
     }
-    Ok(())
-}
-
-fn add_inactive(
-    names: &NameSets,
-    text: &mut Vec<u8>,
-    draft: &mut Draft,
-    name: Parts,
-) -> Result<(), AllocError>
-    ensures { OnOk result (draft_view names.now draft.new ≡ with_contribution (name_sets_view names.now) (draft_view names.now draft.old) (inactive (parts_text name.entry))) }
-{
-    let event = event_of(names, text, name)?;
-    post_inactive(draft, event)?;
     Ok(())
 }
 
@@ -236,22 +230,10 @@ fn post_inactive(draft: &mut Draft, event: EventId) -> Result<(), AllocError>
 
 // ---- modes
 
-/// A mode, of which no event is known yet; it gets its first one.
-fn add_mode(
-    alloc: Global,
-    names: &NameSets,
-    text: &mut Vec<u8>,
-    draft: &mut Draft,
-    name: &[u8],
-    settings: Mode,
-) -> Result<(), AllocError>
-    ensures { OnOk result (draft_view names.now draft.new ≡ with_contribution (name_sets_view names.now) (draft_view names.now draft.old) (mode name.now settings.priority settings.game settings.holds_ball_end)) }
+/// A mode.
+fn add_mode(alloc: Global, draft: &mut Draft, name: &[u8], mode: Mode) -> Result<(), AllocError>
+    ensures { OnOk result ((names : NameSetsValue) → draft_view names draft.new ≡ with_mode (record { name = name.now; mode = mode }) (draft_view names draft.old)) }
 {
-    let event = event_of(names, text, mode_event_name(ModeEvent::WillStart, name))?;
-    let mode = Mode {
-        events: first_event(event),
-        ..settings
-    };
     let name = Vec::from_slice(alloc, name)?;
     draft.modes.push(ModeEntry { name, mode })?;
     Ok(())
@@ -268,20 +250,6 @@ fn first_event(will_start: EventId) -> ModeEvents
         stopping: EventId(0),
         stopped: EventId(0),
     }
-}
-
-fn add_mode_event(
-    names: &NameSets,
-    text: &mut Vec<u8>,
-    draft: &mut Draft,
-    which: ModeEvent,
-    name: &[u8],
-) -> Result<(), AllocError>
-    ensures { OnOk result (draft_view names.now draft.new ≡ with_contribution (name_sets_view names.now) (draft_view names.now draft.old) (mode_event which name.now)) }
-{
-    let event = event_of(names, text, mode_event_name(which, name))?;
-    set_event(&mut draft.modes, which, event);
-    Ok(())
 }
 
 /// The mode that came last has this event.
@@ -328,10 +296,8 @@ fn with_event(events: ModeEvents, which: ModeEvent, event: EventId) -> ModeEvent
 /// A binding, and the effect list that begins with it, where it is to run one.
 fn add_binding(
     alloc: Global,
-    names: &NameSets,
-    text: &mut Vec<u8>,
     draft: &mut Draft,
-    name: Parts,
+    event: EventId,
     place: Place,
     aim: Aim,
 ) -> Result<(), AllocError>
@@ -339,9 +305,8 @@ fn add_binding(
     requires rows { length draft.old.rows.items ≤ 1024 }
     requires modes { length draft.old.modes.items ≤ 64 }
     requires acts { IsRowNumbered aim }
-    ensures { OnOk result (draft_view names.now draft.new ≡ with_contribution (name_sets_view names.now) (draft_view names.now draft.old) (binds (parts_text name.entry) place aim)) }
+    ensures { OnOk result ((names : NameSetsValue) → draft_view names draft.new ≡ with_list_for aim (with_binding (next_binding (draft_view names draft.old).plan event place aim) (draft_view names draft.old))) }
 {
-    let event = event_of(names, text, name)?;
     let binding = next_binding(draft, event, place, aim);
     draft.bindings.push(binding)?;
     begin_list(alloc, &mut draft.lists, aim)
@@ -421,34 +386,6 @@ fn last_priority(modes: &[ModeEntry]) -> u32
     }
 }
 
-/// The binding that came last has a condition: its variable compares so with the number.
-fn add_condition(
-    names: &NameSets,
-    text: &mut Vec<u8>,
-    draft: &mut Draft,
-    name: &[u8],
-    comparison: Comparison,
-    number: i64,
-) -> Result<(), AllocError>
-    ensures { OnOk result (draft_view names.now draft.new ≡ with_contribution (name_sets_view names.now) (draft_view names.now draft.old) (under (record { variable = name.now; comparison = comparison; number = number }))) }
-{
-    let variable = variable_of(names, text, name)?;
-    let condition = Condition {
-        variable,
-        comparison,
-        number,
-    };
-    put_condition(&mut draft.bindings, condition);
-    Ok(())
-}
-
-fn variable_of(names: &NameSets, text: &mut Vec<u8>, name: &[u8]) -> Result<VariableId, AllocError>
-    ensures { IfOk result (λ v. v ≡ variable_of (name_sets_view names.now Variables) name.now) }
-{
-    let number = number_among(names.of(Table::Variables), text, whole(name))?;
-    Ok(VariableId(number as u16))
-}
-
 /// The binding that came last has this condition.
 fn put_condition(bindings: &mut Vec<Binding>, condition: Condition)
     ensures { bindings.new.items ≡ last_conditioned condition bindings.old.items }
@@ -473,14 +410,16 @@ fn begin_list(alloc: Global, lists: &mut Vec<Vec<Action>>, aim: Aim) -> Result<(
 /// The effect list that began last does this.
 fn add_effect(
     names: &NameSets,
+    number: u16,
     text: &mut Vec<u8>,
     draft: &mut Draft,
     effect: Effect,
 ) -> Result<(), AllocError>
+    requires number { number ≡ number_in (name_sets_view names.now) (used_by (effect_view effect)) }
     requires rows { length draft.old.rows.items ≤ 1024 }
     ensures { OnOk result (draft_view names.now draft.new ≡ with_contribution (name_sets_view names.now) (draft_view names.now draft.old) (does (effect_view effect.entry))) }
 {
-    let action = action_of(names, text, last_row(draft), effect)?;
+    let action = action_of(names, number, text, last_row(draft), effect)?;
     push_action(&mut draft.lists, action)?;
     Ok(())
 }
@@ -488,63 +427,37 @@ fn add_effect(
 /// What an effect list does, by number. What happens with the balls of a device is of this row.
 fn action_of(
     names: &NameSets,
+    number: u16,
     text: &mut Vec<u8>,
     row: RowId,
     effect: Effect,
 ) -> Result<Action, AllocError>
+    requires { number ≡ number_in (name_sets_view names.now) (used_by (effect_view effect)) }
     ensures { IfOk result (λ a. a ≡ action_of (name_sets_view names.now) row (effect_view effect.entry)) }
 {
     match effect {
-        Effect::Post(name) => {
-            let event = event_of(names, text, name)?;
-            Ok(Action::Post(event))
-        }
-        Effect::Coil(name, deed) => {
-            let coil = coil_of(names, text, name)?;
-            Ok(action_with(coil, deed))
-        }
-        Effect::Variable(name, action, number) => change_of(names, text, name, action, number),
-        Effect::Enter(name, drain) => {
-            let event = event_of(names, text, name)?;
-            Ok(Action::Enter {
-                device: row,
+        Effect::Post(_) => Ok(Action::Post(EventId(number))),
+        Effect::Coil(_, deed) => Ok(action_with(CoilId(number), deed)),
+        Effect::Variable(name, action, operand) => {
+            let event = event_of(names, text, player_event(name))?;
+            Ok(Action::Change {
+                variable: VariableId(number),
+                action,
+                number: operand,
                 event,
-                drain,
             })
         }
+        Effect::Enter(_, drain) => Ok(Action::Enter {
+            device: row,
+            event: EventId(number),
+            drain,
+        }),
         Effect::Leave => Ok(Action::Leave { device: row }),
         Effect::Lose => Ok(Action::Lose { device: row }),
         Effect::Arrive => Ok(Action::Arrive { device: row }),
         Effect::Request(balls) => Ok(Action::Request { balls }),
         Effect::AddBalls(balls) => Ok(Action::AddBalls { balls }),
     }
-}
-
-/// What is done with a variable, with the event that is posted after it.
-fn change_of(
-    names: &NameSets,
-    text: &mut Vec<u8>,
-    name: &[u8],
-    action: VariableAction,
-    number: i64,
-) -> Result<Action, AllocError>
-    ensures { IfOk result (λ a. a ≡ Change (variable_of (name_sets_view names.now Variables) name.now) action number (event_of (name_sets_view names.now Events) (player_event name.now))) }
-{
-    let variable = variable_of(names, text, name)?;
-    let event = event_of(names, text, player_event(name))?;
-    Ok(Action::Change {
-        variable,
-        action,
-        number,
-        event,
-    })
-}
-
-fn coil_of(names: &NameSets, text: &mut Vec<u8>, name: &[u8]) -> Result<CoilId, AllocError>
-    ensures { IfOk result (λ c. c ≡ coil_of (name_sets_view names.now Coils) name.now) }
-{
-    let number = number_among(names.of(Table::Coils), text, whole(name))?;
-    Ok(CoilId(number as u16))
 }
 
 /// What is done with this coil.
@@ -617,16 +530,18 @@ fn begin_lists(alloc: Global, lists: &mut Vec<Vec<Action>>, count: usize) -> Res
 /// This effect list of the row that came last does this.
 fn add_effect_in(
     names: &NameSets,
+    number: u16,
     text: &mut Vec<u8>,
     draft: &mut Draft,
-    number: u16,
+    in_row: u16,
     effect: Effect,
 ) -> Result<(), AllocError>
+    requires number { number ≡ number_in (name_sets_view names.now) (used_by (effect_view effect)) }
     requires rows { length draft.old.rows.items ≤ 1024 }
-    ensures { OnOk result (draft_view names.now draft.new ≡ with_contribution (name_sets_view names.now) (draft_view names.now draft.old) (does_in number (effect_view effect.entry))) }
+    ensures { OnOk result (draft_view names.now draft.new ≡ with_contribution (name_sets_view names.now) (draft_view names.now draft.old) (does_in in_row (effect_view effect.entry))) }
 {
-    let action = action_of(names, text, last_row(draft), effect)?;
-    let place = first_of_last(&draft.row_lists).0 as usize + number as usize;
+    let action = action_of(names, number, text, last_row(draft), effect)?;
+    let place = first_of_last(&draft.row_lists).0 as usize + in_row as usize;
     push_action_at(&mut draft.lists, place, action)?;
     Ok(())
 }
@@ -655,21 +570,13 @@ fn push_action_at(
     Ok(())
 }
 
-/// The row that came last listens to the switch of this name.
-fn add_listener(
-    names: &NameSets,
-    text: &mut Vec<u8>,
-    draft: &mut Draft,
-    number: usize,
-    name: &[u8],
-) -> Result<(), AllocError>
+/// The row that came last listens to the switch of this number.
+fn add_listener(draft: &mut Draft, n: usize, in_row: usize) -> Result<(), AllocError>
     requires rows { length draft.old.rows.items ≤ 1024 }
-    ensures { OnOk result (draft_view names.now draft.new ≡ with_contribution (name_sets_view names.now) (draft_view names.now draft.old) (listens number name.now)) }
+    ensures { OnOk result ((names : NameSetsValue) → draft_view names draft.new ≡ with_listener n (next_listener (draft_view names draft.old).plan in_row) (draft_view names draft.old)) }
 {
-    let n = number_among(names.of(Table::Switches), text, whole(name))?;
-    let listener = next_listener(draft, number);
-    push_listener(draft, n, listener)?;
-    Ok(())
+    let listener = next_listener(draft, in_row);
+    push_listener(draft, n, listener)
 }
 
 /// The row that came last listens to its switch of this number.
@@ -694,20 +601,6 @@ fn push_listener(draft: &mut Draft, n: usize, listener: Listener) -> Result<(), 
 }
 
 // ---- coils
-
-fn add_coil(
-    names: &NameSets,
-    text: &mut Vec<u8>,
-    draft: &mut Draft,
-    name: &[u8],
-    limits: CoilLimits,
-) -> Result<(), AllocError>
-    ensures { OnOk result (draft_view names.now draft.new ≡ with_contribution (name_sets_view names.now) (draft_view names.now draft.old) (coil name.now limits)) }
-{
-    let n = number_among(names.of(Table::Coils), text, whole(name))?;
-    limit_coil(&mut draft.coils, n, limits);
-    Ok(())
-}
 
 /// The coil of this number may be sent this.
 fn limit_coil(coils: &mut Vec<CoilLimits>, n: usize, limits: CoilLimits)

@@ -1,9 +1,8 @@
 //! Names by number, in the order of their first uses.
 
-ghost use Rattle.std.specs.Prelude.{◌≡◌, ◌≤◌, ◌<◌, ◌+◌, ◌++◌, ℕ, List, [], ◌∷◌, Option, Some, true, false, length, nat_lt, IfOk, OnOk};
+ghost use Rattle.std.specs.Prelude.{◌≡◌, ◌≤◌, ◌<◌, ◌+◌, ◌++◌, ℕ, List, [], ◌∷◌, false, length, nat_lt, IfOk, OnOk};
 ghost use Rattle.std.specs.List.{list_any};
 ghost use Rattle.plan_contributions.specs.Contributions.{Contribution as ContributionValue, given_by};
-ghost use Rattle.plan_tables.specs.declared.table.Table.TheVariants.{Events};
 ghost use Rattle.plan_tables.specs.Limits.{entry_count, limit_of, tables_in_order, first_above};
 ghost use Rattle.plan_contributions.specs.UsedNames.{given_names};
 ghost use Rattle.mpf_plan.specs.Uses.{number_among, is_to_be_given, is_unknown, lacks, lacks_name};
@@ -11,11 +10,10 @@ ghost use Rattle.mpf_plan.specs.PlanOf.{plan_from};
 ghost use Rattle.plan_tables.specs.NamesKept.{names_of};
 ghost use Rattle.plan_contributions.specs.View.{parts_text, contribution_view, contributions_view};
 ghost use Rattle.plan_rows.specs.View.{row_list_view};
-ghost use Rattle.mpf_plan.specs.Numbering.{AreNameTablesOf, bindings_given, rows_given, IsCount, HoldGivenNames, HasFound, Numbered};
-ghost use Rattle.plan_tables.specs.Inside.{name_sets_view};
+ghost use Rattle.mpf_plan.specs.Numbering.{AreNameTablesOf, bindings_given, rows_given, IsCount, HoldGivenNames, HasFound, HasNames, Numbered};
 
 use crate::fault::PlanFault;
-use crate::first_uses::Found;
+use crate::first_uses::{Found, NumberedNames};
 use first_names::note_name;
 use machine_definitions::Definitions;
 use plan_contributions::{Contribution, Parts, collect_row, given, used, write_name};
@@ -23,28 +21,25 @@ use plan_rows::Row;
 use plan_tables::names::{NameHashing, NameSet, NameSets, NameTable};
 use plan_tables::table::{TABLES, Table};
 use std::alloc::{AllocError, Global};
-use std::hash::{DefaultHasher, FoldHasher, Hasher};
 
-/// The names of the rows, by number, where the plan is within its limits.
+/// The names of the rows, by number, where the plan is within its limits, and the number of each use.
 pub(crate) fn number(
     alloc: Global,
     definitions: &Definitions,
     rows: &[Row],
-) -> Result<NameSets, PlanFault>
+) -> Result<NumberedNames, PlanFault>
     requires { lacks_name (given_by definitions.now.machine (row_list_view rows.now)) ≡ false }
     ensures { Numbered (given_by definitions.now.machine (row_list_view rows.now)) result }
 {
-    let many = first_rows_exceed(alloc, definitions, rows)?;
-    if many {
-        return Err(PlanFault::Limit(Table::Events));
-    }
-    let hashing = hashing_of(alloc, definitions, rows)?;
-    let found = find_names(alloc, definitions, hashing, rows)?;
+    let found = find_names(alloc, definitions, rows)?;
     if let Some(table) = first_above(&found) {
         return Err(PlanFault::Limit(table));
     }
-    Ok(NameSets {
-        tables: found.tables,
+    Ok(NumberedNames {
+        names: NameSets {
+            tables: found.tables,
+        },
+        numbers: found.numbers,
     })
 }
 
@@ -60,106 +55,6 @@ pub(crate) fn number_among(
     write_name(text, name)?;
     let place = names.get_index_of(text.as_slice()).unwrap_or(names.len());
     Ok(place)
-}
-
-// ---- hashing
-
-/// Hashing by all names that the rows use. Their SipHash is the first thing that is hashed.
-fn hashing_of(
-    alloc: Global,
-    definitions: &Definitions,
-    rows: &[Row],
-) -> Result<NameHashing, AllocError> {
-    let mut all = DefaultHasher::new();
-    let mut contributions = Vec::new(alloc);
-    for row in rows {
-        collect_row(&mut contributions, definitions, *row)?;
-        feed(&mut all, &contributions);
-    }
-    let mut start = FoldHasher::default();
-    start.write_u64(all.finish());
-    Ok(NameHashing { start })
-}
-
-/// Each name that the contributions use.
-fn feed(hasher: &mut DefaultHasher, contributions: &[Contribution]) {
-    for contribution in contributions {
-        if let Some((_, name)) = used(contribution) {
-            feed_name(hasher, name);
-        }
-    }
-}
-
-/// The pieces of a name, and after them a byte that is in no name.
-fn feed_name(hasher: &mut DefaultHasher, name: Parts) {
-    feed_piece(hasher, name.first);
-    feed_piece(hasher, name.second);
-    feed_piece(hasher, name.third);
-    feed_piece(hasher, name.fourth);
-    feed_piece(hasher, name.fifth);
-    feed_piece(hasher, name.sixth);
-    hasher.write(b"\n");
-}
-
-/// A piece of a name. Most pieces are empty.
-fn feed_piece(hasher: &mut DefaultHasher, piece: &[u8]) {
-    if !piece.is_empty() {
-        hasher.write(piece);
-    }
-}
-
-// ---- the first rows
-
-/// So many of the first rows are looked at alone, where there are more than three times as many.
-/// Most rows use events of their own: a bank of shots up to hundreds, another device three or more,
-/// a switch two, a player's entry one. So where far too many are used, few rows have to be read.
-const FIRST_ROWS: [usize; 3] = [128, 1_400, 4_100];
-
-/// Whether some of the first rows use too many events. Then the first table is above its limit, as
-/// it may also be where this says no.
-fn first_rows_exceed(
-    alloc: Global,
-    definitions: &Definitions,
-    rows: &[Row],
-) -> Result<bool, AllocError>
-    ensures { IfOk result (λ b. b ≡ true → first_above (plan_from (given_by definitions.now.machine (row_list_view rows.now))) ≡ Some Events) }
-{
-    for count in FIRST_ROWS {
-        let many = first_exceed(alloc, definitions, rows, count)?;
-        if many {
-            return Ok(true);
-        }
-    }
-    Ok(false)
-}
-
-/// Whether so many of the first rows use too many events. It is no where not many more come after
-/// them.
-fn first_exceed(
-    alloc: Global,
-    definitions: &Definitions,
-    rows: &[Row],
-    count: usize,
-) -> Result<bool, AllocError>
-    ensures { IfOk result (λ b. b ≡ true → first_above (plan_from (given_by definitions.now.machine (row_list_view rows.now))) ≡ Some Events) }
-{
-    if rows.len() / 3 < count {
-        return Ok(false);
-    }
-    have_many_events(alloc, definitions, &rows[..count])
-}
-
-/// Whether the rows use too many events.
-fn have_many_events(
-    alloc: Global,
-    definitions: &Definitions,
-    rows: &[Row],
-) -> Result<bool, AllocError>
-    ensures { IfOk result (λ b. b ≡ nat_lt (limit_of Events) (entry_count (plan_from (given_by definitions.now.machine (row_list_view rows.now))) Events)) }
-{
-    let hashing = hashing_of(alloc, definitions, rows)?;
-    let found = find_names(alloc, definitions, hashing, rows)?;
-    Ok(is_above(&found, Table::Events))
 }
 
 // ---- limits
@@ -188,18 +83,15 @@ fn is_above(found: &Found, table: Table) -> bool
 
 // ---- first uses
 
-/// The names that the rows use, each table up to its limit, and how many bindings and rows of
-/// devices they give.
-fn find_names(
-    alloc: Global,
-    definitions: &Definitions,
-    hashing: NameHashing,
-    rows: &[Row],
-) -> Result<Found, AllocError>
-    ensures { IfOk result (HasFound (given_by definitions.now.machine (row_list_view rows.now))) }
+/// The names that the rows use, each table up to its limit, the numbers of their uses, and how many
+/// bindings and rows of devices they give. Events are the first table that is judged: where there are
+/// too many, no more rows are looked at.
+fn find_names(alloc: Global, definitions: &Definitions, rows: &[Row]) -> Result<Found, PlanFault>
+    ensures { HasNames (given_by definitions.now.machine (row_list_view rows.now)) result }
 {
     let mut found = Found {
-        tables: no_names(alloc, hashing)?,
+        tables: no_names(alloc, definitions.config().hashing)?,
+        numbers: Vec::new(alloc),
         bindings: 0,
         rows: 0,
     };
@@ -208,6 +100,9 @@ fn find_names(
     for row in rows {
         collect_row(&mut contributions, definitions, *row)?;
         note_all(alloc, &mut found, &mut text, &contributions)?;
+        if is_above(&found, Table::Events) {
+            return Err(PlanFault::Limit(Table::Events));
+        }
     }
     Ok(found)
 }
@@ -241,7 +136,7 @@ fn note_all(
     Ok(())
 }
 
-/// The name that the contribution uses, and its binding or row.
+/// The name that the contribution uses, the number of it, and its binding or row.
 fn note_one(
     alloc: Global,
     found: &mut Found,
@@ -253,10 +148,23 @@ fn note_one(
     found.bindings = count_binding(found.bindings, contribution);
     found.rows = count_row(found.rows, contribution);
     let Some((table, name)) = used(contribution) else {
+        found.numbers.push(0)?;
         return Ok(());
     };
     write_name(text, name)?;
-    note_name(alloc, &mut found.tables[table.index()], text)
+    let number = note_name(alloc, &mut found.tables[table.index()], text)?;
+    found.numbers.push(as_kept(number))?;
+    Ok(())
+}
+
+/// A number as it is kept. No table has so many names that one would not fit; such a one would be 0.
+fn as_kept(number: usize) -> u16
+    ensures { number ≤ 65535 → result ≡ number }
+{
+    if number > 65_535 {
+        return 0;
+    }
+    number as u16
 }
 
 /// How many bindings there are with that of the contribution, or more than a plan may have.
@@ -301,7 +209,7 @@ pub(crate) fn lacks_name(
 ) -> Result<bool, AllocError>
     ensures { IfOk result (λ b. b ≡ lacks_name (given_by definitions.now.machine (row_list_view rows.now))) }
 {
-    let hashing = hashing_of(alloc, definitions, rows)?;
+    let hashing = definitions.config().hashing;
     let sets = given_names(alloc, definitions, hashing, rows)?;
     let mut text = Vec::new(alloc);
     let mut contributions = Vec::new(alloc);

@@ -7,35 +7,23 @@ use Rattle.written_machine.specs.CheckedView.{CheckedView}
 use Rattle.written_machine.specs.GoodRun.{IsGood}
 use Rattle.config_checker.specs.View.{GivesChecked, fault_view}
 use Rattle.config_checker.specs.Checking.{checked_at}
-use Rattle.config_checker.specs.Refused.{IsLimitFault, IsFaultOf, Reports}
+use Rattle.config_checker.specs.Refused.{IsFaultOf, Reports}
 use Rattle.written_machine.proofs.Good.{every_run_is_good}
 use Rattle.config_checker.proofs.PlanFree.{plan_accepted}
-use Rattle.config_checker.proofs.Judging.{own-found, own-reports, reports-one, one-gives, reports-gives, reports-there, limit-found, limit-fault, unfound-checked, unfound-fault, found-accepted}
+use Rattle.config_checker.proofs.Judging.{reports-gives, reports-there, no-plan-found, no-plan-reports, limit-fault, unfound-checked, unfound-fault, found-accepted}
 use Rattle.config_checker.proofs.checker.check.Goals as goal
-
-pub returns-in_err-refuse_own-clause-exact : goal.returns-in_err-refuse_own-clause-exact
-returns-in_err-refuse_own-clause-exact c =
-    let rows = rows_view c.args.config.now in
-    let p = err_from_is_err_and c.from_residual.result c.from_residual.ensures.1 in
-    subst (λ (r : Result CheckedView Report). GivesChecked r (checked_at rows)) (sym (p.1 ∙ ap Err p.2)) (own-found rows c.in_err-refuse_own.field-0.0 c.in_err-refuse_own.ensures.own)
 
 pub returns-in_err-plan-clause-exact : goal.returns-in_err-plan-clause-exact
 returns-in_err-plan-clause-exact c =
     let rows = rows_view c.args.config.now in
-    let p = err_from_is_err_and c.from_residual-in_err-plan.result c.from_residual-in_err-plan.ensures.1 in
-    subst (λ (r : Result CheckedView Report). GivesChecked r (checked_at rows)) (sym (p.1 ∙ ap Err p.2)) (one-gives (IsLimitFault rows) c.in_err-plan.field-0.0 (checked_at rows) c.in_err-plan.ensures.limit (limit-found rows c.in_ok-refuse_own.ensures.none))
-
-pub returns-in_err-refuse_own-clause-refused : goal.returns-in_err-refuse_own-clause-refused
-returns-in_err-refuse_own-clause-refused c =
-    let rows = rows_view c.args.config.now in
     let p = err_from_is_err_and c.from_residual.result c.from_residual.ensures.1 in
-    subst (λ (r : Result CheckedView Report). IfErr r (Reports (IsFaultOf rows) rows)) (sym (p.1 ∙ ap Err p.2)) (own-reports rows (IsFaultOf rows) c.in_err-refuse_own.field-0.0 c.in_err-refuse_own.ensures.own)
+    subst (λ (r : Result CheckedView Report). GivesChecked r (checked_at rows)) (sym (p.1 ∙ ap Err p.2)) (no-plan-found rows c.in_err-plan.field-0.0 c.in_err-plan.ensures.refused)
 
 pub returns-in_err-plan-clause-refused : goal.returns-in_err-plan-clause-refused
 returns-in_err-plan-clause-refused c =
     let rows = rows_view c.args.config.now in
-    let p = err_from_is_err_and c.from_residual-in_err-plan.result c.from_residual-in_err-plan.ensures.1 in
-    subst (λ (r : Result CheckedView Report). IfErr r (Reports (IsFaultOf rows) rows)) (sym (p.1 ∙ ap Err p.2)) (reports-one rows (IsLimitFault rows) (IsFaultOf rows) c.in_err-plan.field-0.0 c.in_ok-refuse_own.ensures.none c.in_err-plan.ensures.limit (limit-fault rows))
+    let p = err_from_is_err_and c.from_residual.result c.from_residual.ensures.1 in
+    subst (λ (r : Result CheckedView Report). IfErr r (Reports (IsFaultOf rows) rows)) (sym (p.1 ∙ ap Err p.2)) (no-plan-reports rows (IsFaultOf rows) c.in_err-plan.field-0.0 (limit-fault rows) c.in_err-plan.ensures.refused)
 
 -- ---- no weights were found
 
@@ -43,22 +31,22 @@ pub returns-in-Err-clause-exact : goal.returns-in-Err-clause-exact
 returns-in-Err-clause-exact c =
     let rows = rows_view c.args.config.now in
     reports-gives c.report_of.result (fault_view c.in_ok-named_fault-in-Err.field-0) (checked_at rows) c.report_of.ensures
-    (unfound-checked rows c.in_ok-refuse_own.ensures.none c.in_ok-plan.plan c.in_ok-plan.ensures.plan (rank_view c.in-Err.fault) (fault_view c.in_ok-named_fault-in-Err.field-0) c.in_ok-named_fault-in-Err.ensures c.in-Err.ensures.exact)
+    (unfound-checked rows c.in_ok-plan.ensures.none c.in_ok-plan.plan c.in_ok-plan.ensures.plan (rank_view c.in-Err.fault) (fault_view c.in_ok-named_fault-in-Err.field-0) c.in_ok-named_fault-in-Err.ensures c.in-Err.ensures.exact)
 
 pub returns-in-Err-clause-refused : goal.returns-in-Err-clause-refused
 returns-in-Err-clause-refused c =
     let rows = rows_view c.args.config.now in
-    reports-there rows (IsFaultOf rows) c.report_of.result (fault_view c.in_ok-named_fault-in-Err.field-0) c.in_ok-refuse_own.ensures.none c.report_of.ensures
-    (unfound-fault rows c.in_ok-refuse_own.ensures.none c.in_ok-plan.plan c.in_ok-plan.ensures.plan (rank_view c.in-Err.fault) (fault_view c.in_ok-named_fault-in-Err.field-0) c.in_ok-named_fault-in-Err.ensures c.in-Err.ensures.refused)
+    reports-there rows (IsFaultOf rows) c.report_of.result (fault_view c.in_ok-named_fault-in-Err.field-0) c.in_ok-plan.ensures.none c.report_of.ensures
+    (unfound-fault rows c.in_ok-plan.ensures.none c.in_ok-plan.plan c.in_ok-plan.ensures.plan (rank_view c.in-Err.fault) (fault_view c.in_ok-named_fault-in-Err.field-0) c.in_ok-named_fault-in-Err.ensures c.in-Err.ensures.refused)
 
 -- ---- accepted
 
 pub returns-clause-exact : goal.returns-clause-exact
 returns-clause-exact c =
-    found-accepted (rows_view c.args.config.now) c.in_ok-refuse_own.ensures.none c.in_ok-plan.plan c.in_ok-plan.ensures.plan c.in-Ok.weights c.in-Ok-verify.bound.0 c.in-Ok.ensures.exact c.in-Ok-verify.ensures.verified.bound_is ∙ ap Ok (sym c.new.ensures)
+    found-accepted (rows_view c.args.config.now) c.in_ok-plan.ensures.none c.in_ok-plan.plan c.in_ok-plan.ensures.plan c.in-Ok.weights c.in-Ok-verify.bound.0 c.in-Ok.ensures.exact c.in-Ok-verify.ensures.verified.bound_is ∙ ap Ok (sym c.new.ensures)
 
 pub returns-clause-good : goal.returns-clause-good
-returns-clause-good c = subst IsGood (sym c.new.ensures) (every_run_is_good _ (plan_accepted (rows_view c.args.config.now) c.args.config.now.lists_short c.args.config.now.few_modes c.in_ok-refuse_own.ensures.none _ c.in_ok-plan.ensures.plan c.in-Ok-verify.ensures.verified))
+returns-clause-good c = subst IsGood (sym c.new.ensures) (every_run_is_good _ (plan_accepted (rows_view c.args.config.now) c.args.config.now.lists_short c.args.config.now.few_modes c.in_ok-plan.ensures.none _ c.in_ok-plan.ensures.plan c.in-Ok-verify.ensures.verified))
 
 pub new-requires : goal.new-requires
-new-requires c = plan_accepted (rows_view c.args.config.now) c.args.config.now.lists_short c.args.config.now.few_modes c.in_ok-refuse_own.ensures.none _ c.in_ok-plan.ensures.plan c.in-Ok-verify.ensures.verified
+new-requires c = plan_accepted (rows_view c.args.config.now) c.args.config.now.lists_short c.args.config.now.few_modes c.in_ok-plan.ensures.none _ c.in_ok-plan.ensures.plan c.in-Ok-verify.ensures.verified

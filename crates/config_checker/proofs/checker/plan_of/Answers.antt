@@ -1,22 +1,16 @@
-use Rattle.std.proofs.Common.{sym, ◌∙◌, true≢false}
-use Rattle.mpf_config.specs.View.{rows_view}
-use Rattle.mpf_plan.proofs.Judged.{plan_at-Err, plan_at-named}
-use Rattle.config_checker.specs.Checking.{limit}
-use Rattle.config_checker.specs.Refused.{IsLimitFault}
-use Rattle.config_checker.proofs.Judging.{one-there}
-use Rattle.config_checker.proofs.Given.{lacks_nothing}
-use Rattle.config_checker.proofs.PlanFree.{rows_sound}
+use Rattle.std.proofs.Common.{◌≡◌, [], subst}
+use Rattle.std.specs.Prelude.{Ok, IfOk, OnOk, IfErr}
+use Rattle.mpf_config.specs.Rows.{Rows}
+use Rattle.mpf_plan.specs.PlanOf.{plan_at}
+use Rattle.config_checker.specs.Checking.{faults_of_rows}
+use Rattle.config_checker.specs.Refused.{ReportsNoPlan}
 use Rattle.config_checker.proofs.checker.plan_of.Goals as goal
 
-pub returns-in-Err-Limit-clause-limit : goal.returns-in-Err-Limit-clause-limit
-returns-in-Err-Limit-clause-limit c =
-    let rows = rows_view c.args.config.now in
-    one-there (IsLimitFault rows) c.report_of.result (limit c.in-Err-Limit.table) c.report_of.ensures (plan_at-Err rows c.in-Err-Limit.table (rw c.in-Err-Limit.field-0-is at c.in-Err-Limit.ensures.exact))
+pub returns-clause-none : goal.returns-clause-none
+returns-clause-none c = subst (λ (rows : Rows). OnOk c.plan_of_definitions.result (faults_of_rows rows ≡ [])) c.in_ok-definitions.ensures c.plan_of_definitions.ensures.none
 
-pub unreachable-requires : goal.unreachable-requires
-unreachable-requires c =
-    let rows = rows_view c.args.config.now in
-    true≢false (sym (plan_at-named rows (rw c.in-Err-NoSuchName.field-0-is at c.in-Err-NoSuchName.ensures.exact)) ∙ lacks_nothing rows (rows_sound rows c.requires))
+pub returns-clause-plan : goal.returns-clause-plan
+returns-clause-plan c = subst (λ (rows : Rows). IfOk c.plan_of_definitions.result (λ plan. plan_at rows ≡ Ok plan)) c.in_ok-definitions.ensures c.plan_of_definitions.ensures.plan
 
-pub plan_complete-requires : goal.plan_complete-requires
-plan_complete-requires c = let rows = rows_view c.args.config.now in lacks_nothing rows (rows_sound rows c.requires)
+pub returns-clause-refused : goal.returns-clause-refused
+returns-clause-refused c = subst (λ (rows : Rows). IfErr c.plan_of_definitions.result (λ report. ReportsNoPlan rows report)) c.in_ok-definitions.ensures c.plan_of_definitions.ensures.refused

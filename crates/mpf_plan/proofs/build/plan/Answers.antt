@@ -1,20 +1,19 @@
-use Rattle.std.proofs.Common.{ap, sym, subst, ◌∙◌}
+use Rattle.std.proofs.Common.{◌≡◌, ◌≤◌, subst}
+use Rattle.std.specs.Prelude.{IfOk}
 use Rattle.mpf_config.specs.Rows.{Rows}
-use Rattle.mpf_config.specs.View.{rows_view}
-use Rattle.plan_contributions.specs.Contributions.{given_by, contributions_of}
-use Rattle.plan_rows.specs.View.{row_list_view}
-use Rattle.mpf_plan.specs.PlanOf.{IsExceeded}
-use Rattle.mpf_plan.specs.Uses.{lacks_name}
-use Rattle.mpf_plan.proofs.Judged.{plan_at-lacking}
+use Rattle.plan_tables.specs.declared.table.Table.{Table}
+use Rattle.plan_tables.specs.Limits.{entry_count, limit_of}
+use Rattle.mpf_plan.specs.PlanOf.{IsExceeded, GivesPlan, plan_at, plan_of}
 use Rattle.mpf_plan.proofs.build.plan.Goals as goal
 
-pub returns-then-lacking-clause-exact : goal.returns-then-lacking-clause-exact
-returns-then-lacking-clause-exact c =
-    plan_at-lacking (rows_view c.args.config.now)
-    (ap (λ (rows : Rows). lacks_name (contributions_of rows)) (sym c.in_ok-definitions.ensures)
-    ∙ ap (λ rs. lacks_name (given_by c.in_ok-definitions.definitions.machine rs)) (sym (ap row_list_view c.deref.ensures.value ∙ c.in_ok-rows.ensures))
-    ∙ sym c.in_ok-lacking.ensures
-    ∙ c.if-lacking.true)
+pub returns-clause-exact : goal.returns-clause-exact
+returns-clause-exact c = subst (λ (rows : Rows). GivesPlan c.plan_of_definitions.result (plan_at rows)) c.in_ok-definitions.ensures c.plan_of_definitions.ensures.exact
+
+pub returns-clause-plan : goal.returns-clause-plan
+returns-clause-plan c = subst (λ (rows : Rows). IfOk c.plan_of_definitions.result (λ p. p ≡ plan_of rows)) c.in_ok-definitions.ensures c.plan_of_definitions.ensures.plan
+
+pub returns-clause-within : goal.returns-clause-within
+returns-clause-within c = subst (λ (rows : Rows). IfOk c.plan_of_definitions.result (λ p. (t : Table) → entry_count (plan_of rows) t ≤ limit_of t)) c.in_ok-definitions.ensures c.plan_of_definitions.ensures.within
 
 pub returns-clause-limit : goal.returns-clause-limit
-returns-clause-limit c t exceeds = subst (λ (rows : Rows). IsExceeded rows t) c.in_ok-definitions.ensures (c.plan_of_rows.ensures.limit t exceeds)
+returns-clause-limit c t exceeds = subst (λ (rows : Rows). IsExceeded rows t) c.in_ok-definitions.ensures (c.plan_of_definitions.ensures.limit t exceeds)

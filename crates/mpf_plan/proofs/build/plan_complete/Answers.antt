@@ -1,7 +1,11 @@
 use Rattle.std.proofs.Common.{subst}
 use Rattle.mpf_config.specs.Rows.{Rows}
-use Rattle.mpf_plan.specs.PlanOf.{IsExceeded}
+use Rattle.mpf_config.specs.Short.{AreListsShort}
+use Rattle.mpf_config.specs.FewModes.{AreFewModes}
 use Rattle.mpf_plan.proofs.build.plan_complete.Goals as goal
 
-pub returns-clause-limit : goal.returns-clause-limit
-returns-clause-limit c t exceeds = subst (λ (rows : Rows). IsExceeded rows t) c.in_ok-definitions.ensures (c.plan_of_rows.ensures.limit t exceeds)
+pub plan_of_rows-requires-clause-short : goal.plan_of_rows-requires-clause-short
+plan_of_rows-requires-clause-short c = subst AreListsShort c.config-config.ensures c.config-config.result.now.lists_short
+
+pub plan_of_rows-requires-clause-modes : goal.plan_of_rows-requires-clause-modes
+plan_of_rows-requires-clause-modes c = subst (λ (rows : Rows). AreFewModes rows.modes) c.config-config.ensures c.config-config.result.now.few_modes
