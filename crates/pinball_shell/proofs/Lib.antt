@@ -1,4 +1,5 @@
 pub mod FirstPlace
+pub mod Fronts
 pub mod TextLines
 pub mod LineWords
 pub mod Alarms

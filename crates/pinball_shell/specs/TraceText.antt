@@ -28,56 +28,71 @@ owner_text plan (owners.Mode m) = (mode_at plan m).name
 abbrev pub level_text : Bool → List ℕ
 level_text active = if active then codes "active" else codes "inactive"
 
--- `switch NAME active`, or `inactive`, and LF
+-- The word that says what happened, and a blank. Names and numbers follow, up to LF.
+abbrev pub word_text : Happening → List ℕ
+word_text (happenings.Switch n active) = codes "switch "
+word_text (happenings.Event e) = codes "event "
+word_text (happenings.Coil command) = codes "coil "
+word_text (happenings.Skip command) = codes "skip "
+word_text (happenings.Player player v value) = codes "player "
+word_text (happenings.Balls booking counts) = codes "balls "
+word_text (happenings.Final player score) = codes "final "
+
+-- `NAME active`, or `inactive`, and LF
 abbrev pub switch_text : List ℕ → Bool → List ℕ
-switch_text name active = codes "switch " ++ name ++ codes " " ++ level_text active ++ 10 ∷ []
+switch_text name active = name ++ codes " " ++ level_text active ++ 10 ∷ []
 
--- `event NAME`, and LF
+-- `NAME`, and LF
 abbrev pub event_text : List ℕ → List ℕ
-event_text name = codes "event " ++ name ++ 10 ∷ []
+event_text name = name ++ 10 ∷ []
 
--- `coil NAME pulse MS POWER`, `coil NAME enable POWER`, or `coil NAME disable`, and LF
+-- `NAME pulse MS POWER`, `NAME enable POWER`, or `NAME disable`, and LF
 abbrev pub sent_text : List ℕ → Command → List ℕ
-sent_text name (Pulse coil ms power) = codes "coil " ++ name ++ codes " pulse " ++ decimal ms ++ codes " " ++ decimal power ++ 10 ∷ []
-sent_text name (Enable coil power) = codes "coil " ++ name ++ codes " enable " ++ decimal power ++ 10 ∷ []
-sent_text name (Disable coil) = codes "coil " ++ name ++ codes " disable" ++ 10 ∷ []
+sent_text name (Pulse coil ms power) = name ++ codes " pulse " ++ decimal ms ++ codes " " ++ decimal power ++ 10 ∷ []
+sent_text name (Enable coil power) = name ++ codes " enable " ++ decimal power ++ 10 ∷ []
+sent_text name (Disable coil) = name ++ codes " disable" ++ 10 ∷ []
 
 abbrev pub action_name : Command → List ℕ
 action_name (Pulse coil ms power) = codes "pulse"
 action_name (Enable coil power) = codes "enable"
 action_name (Disable coil) = codes "disable"
 
--- `skip NAME pulse`, `enable`, or `disable`, and LF
+-- `NAME pulse`, `enable`, or `disable`, and LF
 abbrev pub skip_text : List ℕ → Command → List ℕ
-skip_text name command = codes "skip " ++ name ++ codes " " ++ action_name command ++ 10 ∷ []
+skip_text name command = name ++ codes " " ++ action_name command ++ 10 ∷ []
 
--- `player NUMBER NAME VALUE`, and LF
+-- `NUMBER NAME VALUE`, and LF
 abbrev pub player_text : ℕ → List ℕ → ℤ → List ℕ
-player_text player name value = codes "player " ++ decimal player ++ codes " " ++ name ++ codes " " ++ signed_decimal value ++ 10 ∷ []
+player_text player name value = decimal player ++ codes " " ++ name ++ codes " " ++ signed_decimal value ++ 10 ∷ []
 
--- `balls KNOWN COUNTED TRANSIT PLAYFIELD`, and LF: how many balls are known, lie in devices, are on their way, and are on
--- the playfield
+-- `KNOWN COUNTED TRANSIT PLAYFIELD`, and LF: how many balls are known, lie in devices, are on their way, and are on the
+-- playfield
 abbrev pub balls_text : BallCounts → List ℕ
 balls_text counts =
-    codes "balls " ++ decimal counts.known ++ codes " " ++ decimal counts.counted ++ codes " " ++ decimal counts.transit ++ codes " "
+    decimal counts.known ++ codes " " ++ decimal counts.counted ++ codes " " ++ decimal counts.transit ++ codes " "
     ++ decimal counts.playfield ++ 10 ∷ []
 
--- `final NUMBER SCORE`, and LF
+-- `NUMBER SCORE`, and LF
 abbrev pub final_text : ℕ → ℤ → List ℕ
-final_text player score = codes "final " ++ decimal player ++ codes " " ++ signed_decimal score ++ 10 ∷ []
+final_text player score = decimal player ++ codes " " ++ signed_decimal score ++ 10 ∷ []
 
-abbrev pub happening_text : PlanView → Happening → List ℕ
-happening_text plan (happenings.Switch n active) = switch_text (switch_at plan n).name active
-happening_text plan (happenings.Event e) = event_text (name_of_event plan e)
-happening_text plan (happenings.Coil command) = sent_text (coil_at plan (coil_of command)).name command
-happening_text plan (happenings.Skip command) = skip_text (coil_at plan (coil_of command)).name command
-happening_text plan (happenings.Player player v value) = player_text player (name_of_variable plan v) value
-happening_text plan (happenings.Balls booking counts) = balls_text counts
-happening_text plan (happenings.Final player score) = final_text player score
+-- what follows the word
+abbrev pub rest_text : PlanView → Happening → List ℕ
+rest_text plan (happenings.Switch n active) = switch_text (switch_at plan n).name active
+rest_text plan (happenings.Event e) = event_text (name_of_event plan e)
+rest_text plan (happenings.Coil command) = sent_text (coil_at plan (coil_of command)).name command
+rest_text plan (happenings.Skip command) = skip_text (coil_at plan (coil_of command)).name command
+rest_text plan (happenings.Player player v value) = player_text player (name_of_variable plan v) value
+rest_text plan (happenings.Balls booking counts) = balls_text counts
+rest_text plan (happenings.Final player score) = final_text player score
 
--- the moment, the owner, and what happened
+-- `MOMENT OWNER WORD `
+abbrev pub start_text : PlanView → Line → List ℕ
+start_text plan line = decimal line.moment ++ codes " " ++ owner_text plan line.owner ++ codes " " ++ word_text line.happening
+
+-- the moment, the owner, and what happened, such as `5 machine switch s_left active`
 abbrev pub line_text : PlanView → Line → List ℕ
-line_text plan line = decimal line.moment ++ codes " " ++ owner_text plan line.owner ++ codes " " ++ happening_text plan line.happening
+line_text plan line = start_text plan line ++ rest_text plan line.happening
 
 -- The number and the name of a refusal are those of the fault of the step. A line that is no line of a log has its own.
 abbrev pub refusal_number : Refusal → ℕ

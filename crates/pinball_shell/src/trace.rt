@@ -6,7 +6,7 @@ ghost use Rattle.std.specs.Fmt.{decimal, signed_decimal};
 ghost use Rattle.std.specs.Io.KnownBytes.{Appends};
 ghost use Rattle.plan_tables.specs.PlanView.{mode_at, name_of_event, name_of_variable, switch_at, coil_at};
 ghost use Rattle.coil_guard.specs.SentCommands.{coil_of};
-ghost use Rattle.pinball_shell.specs.TraceText.{owner_text, level_text, switch_text, event_text, sent_text, action_name, skip_text, player_text, balls_text, happening_text, line_text, off_text, off_texts, refused_text};
+ghost use Rattle.pinball_shell.specs.TraceText.{level_text, word_text, switch_text, event_text, sent_text, action_name, skip_text, player_text, balls_text, rest_text, start_text, line_text, off_text, off_texts, refused_text};
 
 use crate::front::Front;
 use crate::refusal::Refusal;
@@ -21,7 +21,22 @@ use written_machine::{Happening, Line};
 pub fn write_lines<W: Write>(plan: &Plan, lines: &[Line], writer: &mut W) -> io::Result<()>
     ensures { OnOk result (Appends (W.contents writer.old) (W.contents writer.new) (flat_map (line_text plan.now) lines.now)) }
 {
-    let mut front = Front::new(0);
+    match lines.first() {
+        None => Ok(()),
+        Some(first) => write_from(plan, Front::new(first.moment), lines, writer),
+    }
+}
+
+/// Writes lines, whatever moment the front is of. It is made anew only where a line is of another
+/// moment than the one before.
+fn write_from<W: Write>(
+    plan: &Plan,
+    mut front: Front,
+    lines: &[Line],
+    writer: &mut W,
+) -> io::Result<()>
+    ensures { OnOk result (Appends (W.contents writer.old) (W.contents writer.new) (flat_map (line_text plan.now) lines.now)) }
+{
     for line in lines {
         front.turn_to(line.moment);
         write_line(plan, *line, &front, writer)?;
@@ -73,14 +88,47 @@ fn write_line<W: Write>(plan: &Plan, line: Line, front: &Front, writer: &mut W) 
     requires { front.now ≡ line.moment }
     ensures { OnOk result (Appends (W.contents writer.old) (W.contents writer.new) (line_text plan.now line)) }
 {
-    writer.write_all(front.as_bytes())?;
-    writer.write_all(owner_name(plan, line.owner))?;
-    writer.write_all(b" ")?;
-    write_happening(plan, line.happening, writer)
+    write_start(plan, line, front, writer)?;
+    write_rest(plan, line.happening, writer)
 }
 
-fn write_happening<W: Write>(plan: &Plan, happening: Happening, writer: &mut W) -> io::Result<()>
-    ensures { OnOk result (Appends (W.contents writer.old) (W.contents writer.new) (happening_text plan.now happening)) }
+/// Writes the moment, the owner, and the word that says what happened.
+fn write_start<W: Write>(plan: &Plan, line: Line, front: &Front, writer: &mut W) -> io::Result<()>
+    requires { front.now ≡ line.moment }
+    ensures { OnOk result (Appends (W.contents writer.old) (W.contents writer.new) (start_text plan.now line)) }
+{
+    match (line.owner, line.happening) {
+        (Owner::Machine, Happening::Event(_)) => writer.write_all(front.of_machine_event()),
+        (Owner::Machine, _) => {
+            writer.write_all(front.of_machine())?;
+            writer.write_all(word(line.happening))
+        }
+        (Owner::Mode(mode), _) => {
+            writer.write_all(front.of_moment())?;
+            writer.write_all(mode_name(plan, mode))?;
+            writer.write_all(word(line.happening))
+        }
+    }
+}
+
+/// A blank, the word that says what happened, and a blank.
+fn word(happening: Happening) -> &'static [u8]
+    ensures { result.now ≡ codes " " ++ word_text happening }
+{
+    match happening {
+        Happening::Switch(..) => b" switch ",
+        Happening::Event(_) => b" event ",
+        Happening::Coil(_) => b" coil ",
+        Happening::Skip(_) => b" skip ",
+        Happening::Player(..) => b" player ",
+        Happening::Balls(..) => b" balls ",
+        Happening::Final(..) => b" final ",
+    }
+}
+
+/// Writes what follows the word.
+fn write_rest<W: Write>(plan: &Plan, happening: Happening, writer: &mut W) -> io::Result<()>
+    ensures { OnOk result (Appends (W.contents writer.old) (W.contents writer.new) (rest_text plan.now happening)) }
 {
     match happening {
         Happening::Switch(switch, active) => {
@@ -93,14 +141,16 @@ fn write_happening<W: Write>(plan: &Plan, happening: Happening, writer: &mut W) 
             write_player(player, variable_name(plan, variable), value, writer)
         }
         Happening::Balls(_, counts) => write_balls(counts, writer),
-        Happening::Final(player, score) => writeln!(writer, "final {player} {score}"),
+        Happening::Final(player, score) => {
+            write_player_number(player, writer)?;
+            write_value(score, writer)
+        }
     }
 }
 
 fn write_switch<W: Write>(name: &[u8], active: bool, writer: &mut W) -> io::Result<()>
     ensures { OnOk result (Appends (W.contents writer.old) (W.contents writer.new) (switch_text name.now active)) }
 {
-    writer.write_all(b"switch ")?;
     writer.write_all(name)?;
     writer.write_all(level_end(active))
 }
@@ -108,7 +158,6 @@ fn write_switch<W: Write>(name: &[u8], active: bool, writer: &mut W) -> io::Resu
 fn write_event<W: Write>(name: &[u8], writer: &mut W) -> io::Result<()>
     ensures { OnOk result (Appends (W.contents writer.old) (W.contents writer.new) (event_text name.now)) }
 {
-    writer.write_all(b"event ")?;
     writer.write_all(name)?;
     writer.write_all(b"\n")
 }
@@ -116,7 +165,6 @@ fn write_event<W: Write>(name: &[u8], writer: &mut W) -> io::Result<()>
 fn write_sent<W: Write>(name: &[u8], command: Command, writer: &mut W) -> io::Result<()>
     ensures { OnOk result (Appends (W.contents writer.old) (W.contents writer.new) (sent_text name.now command)) }
 {
-    writer.write_all(b"coil ")?;
     writer.write_all(name)?;
     match command {
         Command::Pulse { ms, power, .. } => {
@@ -138,7 +186,6 @@ fn write_sent<W: Write>(name: &[u8], command: Command, writer: &mut W) -> io::Re
 fn write_skip<W: Write>(name: &[u8], command: Command, writer: &mut W) -> io::Result<()>
     ensures { OnOk result (Appends (W.contents writer.old) (W.contents writer.new) (skip_text name.now command)) }
 {
-    writer.write_all(b"skip ")?;
     writer.write_all(name)?;
     writer.write_all(b" ")?;
     writer.write_all(action_word(command))?;
@@ -150,21 +197,20 @@ fn write_player<W: Write>(player: usize, name: &[u8], value: i64, writer: &mut W
 {
     write_player_number(player, writer)?;
     writer.write_all(name)?;
+    writer.write_all(b" ")?;
     write_value(value, writer)
 }
 
 fn write_player_number<W: Write>(player: usize, writer: &mut W) -> io::Result<()>
-    ensures { OnOk result (Appends (W.contents writer.old) (W.contents writer.new) (codes "player " ++ decimal player ++ codes " ")) }
+    ensures { OnOk result (Appends (W.contents writer.old) (W.contents writer.new) (decimal player ++ codes " ")) }
 {
-    writer.write_all(b"player ")?;
     write_number(player, writer)?;
     writer.write_all(b" ")
 }
 
 fn write_value<W: Write>(value: i64, writer: &mut W) -> io::Result<()>
-    ensures { OnOk result (Appends (W.contents writer.old) (W.contents writer.new) (codes " " ++ signed_decimal value ++ 10 ∷ [])) }
+    ensures { OnOk result (Appends (W.contents writer.old) (W.contents writer.new) (signed_decimal value ++ 10 ∷ [])) }
 {
-    writer.write_all(b" ")?;
     write_number(value, writer)?;
     writer.write_all(b"\n")
 }
@@ -180,11 +226,18 @@ fn write_number<N: Integer, W: Write>(number: N, writer: &mut W) -> io::Result<(
 fn write_balls<W: Write>(counts: BallCounts, writer: &mut W) -> io::Result<()>
     ensures { OnOk result (Appends (W.contents writer.old) (W.contents writer.new) (balls_text counts)) }
 {
-    writeln!(
-        writer,
-        "balls {} {} {} {}",
-        counts.known, counts.counted, counts.transit, counts.playfield
-    )
+    write_number(counts.known, writer)?;
+    write_next_count(counts.counted, writer)?;
+    write_next_count(counts.transit, writer)?;
+    write_next_count(counts.playfield, writer)?;
+    writer.write_all(b"\n")
+}
+
+fn write_next_count<W: Write>(count: u64, writer: &mut W) -> io::Result<()>
+    ensures { OnOk result (Appends (W.contents writer.old) (W.contents writer.new) (codes " " ++ decimal count)) }
+{
+    writer.write_all(b" ")?;
+    write_number(count, writer)
 }
 
 /// The action that was asked for.
@@ -198,16 +251,7 @@ fn action_word(command: Command) -> &'static [u8]
     }
 }
 
-/// The name of who acts: nothing where the plan lacks the mode.
-fn owner_name(plan: &Plan, owner: Owner) -> &[u8]
-    ensures { result.now ≡ owner_text plan.now owner }
-{
-    match owner {
-        Owner::Machine => b"machine",
-        Owner::Mode(mode) => mode_name(plan, mode),
-    }
-}
-
+/// The name of a mode: nothing where the plan lacks it.
 fn mode_name(plan: &Plan, mode: ModeId) -> &[u8]
     ensures { result.now ≡ (mode_at plan.now mode).name }
 {
