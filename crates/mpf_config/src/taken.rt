@@ -1,46 +1,53 @@
 //! The entries of texts, of which no two may be of one section and name.
 
-ghost use Rattle.std.specs.Prelude.{◌≡◌, ◌||◌, ℕ, List, map, not, IfOk};
+ghost use Rattle.std.specs.Prelude.{◌≡◌, ◌++◌, [], map, IfOk};
 ghost use Rattle.std.specs.Str.{bytes_eq};
 ghost use Rattle.yaml_subset.specs.Keys.{is_among};
-ghost use Rattle.mpf_config.specs.Apart.{joined, entry_key, entries_named, entry_keys, entry_names};
-ghost use Rattle.mpf_config.specs.Reading.{entries_new_at};
-ghost use Rattle.mpf_sections.specs.View.{section_view};
-ghost use Rattle.mpf_config.specs.View.{GivesRows};
-ghost use Rattle.mpf_config.specs.Inside.{copies_view};
+ghost use Rattle.mpf_config.specs.Apart.{joined, entry_key};
+ghost use Rattle.mpf_config.specs.Gives.{Passes, entries_of_section, entries_of_sections, keys_of_sections, is_new_key, GainsKeys, entries_all_new};
 
 use crate::config::Section;
 use crate::fault::{ConfigFault, FaultKind};
 use section_tables::spot::Spot;
 use std::alloc::{AllocError, Global};
+use std::borrow::CowSlice;
 use yaml_subset::keys::{KeySet, take_key};
 
-/// The name of a section and that of an entry in it as one list of bytes, which no other two give.
-fn joined(alloc: Global, section: &[u8], name: &[u8]) -> Result<Vec<u8>, AllocError>
-    ensures { IfOk result (λ key. key.items ≡ joined section.now name.now) }
+/// The front of the keys of a section's entries: the key of an entry is this and its name. No two
+/// entries of two sections, or with two names, have one key.
+fn front_of(alloc: Global, section: &[u8]) -> Result<Vec<u8>, AllocError>
+    ensures { IfOk result (λ front. front.items ≡ joined section.now []) }
 {
-    let mut key = Vec::new(alloc);
+    let mut front = Vec::new(alloc);
     for byte in section {
-        key.push(1)?;
-        key.push(*byte)?;
+        front.push(1)?;
+        front.push(*byte)?;
     }
-    key.push(0)?;
+    front.push(0)?;
+    Ok(front)
+}
+
+/// The key of an entry of this name, in a section whose keys have this front.
+fn key_of(alloc: Global, front: &[u8], name: &[u8]) -> Result<Vec<u8>, AllocError>
+    ensures { IfOk result (λ key. key.items ≡ front.now ++ name.now) }
+{
+    let mut key = Vec::from_slice(alloc, front)?;
     key.extend_from_slice(name)?;
     Ok(key)
 }
 
-/// Takes an entry, and says whether it is new. If memory runs out, it may be taken or not.
+/// Takes an entry by its key, and says whether it is new. If memory runs out, it may be taken or not.
 fn take_entry(
     alloc: Global,
-    section: &[u8],
+    front: &[u8],
     name: &[u8],
     taken: &mut KeySet,
 ) -> Result<bool, AllocError>
-    ensures fresh { IfOk result (λ fresh. fresh ≡ not (is_among (copies_view taken.old) (joined section.now name.now))) }
-    ensures known { IfOk result (λ fresh. (q : List ℕ) → is_among (copies_view taken.new) q ≡ (bytes_eq (joined section.now name.now) q || is_among (copies_view taken.old) q)) }
+    ensures fresh { IfOk result (λ fresh. fresh ≡ is_new_key taken.old (front.now ++ name.now)) }
+    ensures known { IfOk result (λ _. GainsKeys taken.old taken.new (bytes_eq (front.now ++ name.now))) }
 {
-    let key = joined(alloc, section, name)?;
-    let fresh = take_key(taken, key)?;
+    let key = key_of(alloc, front, name)?;
+    let fresh = take_key(taken, CowSlice::Owned(key))?;
     Ok(fresh)
 }
 
@@ -51,13 +58,14 @@ fn take_section(
     section: &Section,
     taken: &mut KeySet,
 ) -> Result<(), ConfigFault>
-    ensures value { GivesRows (λ u. u) result (entries_new_at text.now (copies_view taken.old) (entries_named (section_view section.now))) }
-    ensures known { IfOk result (λ _. (q : List ℕ) → is_among (copies_view taken.new) q ≡ (is_among (map entry_key (entries_named (section_view section.now))) q || is_among (copies_view taken.old) q)) }
+    ensures value { Passes result (entries_all_new text.now taken.old (entries_of_section section.now)) }
+    ensures known { IfOk result (λ _. GainsKeys taken.old taken.new (is_among (map entry_key (entries_of_section section.now)))) }
 {
+    let front = front_of(alloc, &section.name)?;
     let entries = section.content.entries();
     for entry in entries {
         let name = &entry.name;
-        let fresh = take_entry(alloc, &section.name, &name.text, taken)?;
+        let fresh = take_entry(alloc, &front, &name.text, taken)?;
         if !fresh {
             let at = Spot {
                 text,
@@ -77,8 +85,8 @@ pub fn take_entries(
     sections: &[Section],
     taken: &mut KeySet,
 ) -> Result<(), ConfigFault>
-    ensures value { GivesRows (λ u. u) result (entries_new_at text.now (copies_view taken.old) (entry_names (map section_view sections.now))) }
-    ensures known { IfOk result (λ _. (q : List ℕ) → is_among (copies_view taken.new) q ≡ (is_among (entry_keys (map section_view sections.now)) q || is_among (copies_view taken.old) q)) }
+    ensures value { Passes result (entries_all_new text.now taken.old (entries_of_sections sections.now)) }
+    ensures known { IfOk result (λ _. GainsKeys taken.old taken.new (is_among (keys_of_sections sections.now))) }
 {
     for section in sections {
         take_section(alloc, text, section, taken)?;

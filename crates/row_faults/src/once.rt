@@ -4,11 +4,12 @@ ghost use Rattle.std.specs.Prelude.{◌≡◌, [], not, IfOk};
 ghost use Rattle.yaml_subset.specs.Keys.{is_among, copies_view};
 ghost use Rattle.row_faults.specs.RowFaults.{listed_once};
 ghost use Rattle.row_faults.specs.View.{row_faults_view};
-ghost use Rattle.row_faults.specs.FaultsOf.{GainsLine, line_of_fault};
+ghost use Rattle.row_faults.specs.FaultsOf.{GainsLine, printed_line};
 
 use crate::fault::RowFault;
 use crate::fault_text::write_row_fault;
 use std::alloc::{AllocError, Global};
+use std::borrow::CowSlice;
 use std::hash::{DefaultHasher, FoldHasher, Hasher};
 use yaml_subset::keys::{KeyHashing, KeySet, no_keys, take_key};
 
@@ -44,17 +45,17 @@ fn hashing_of(faults: &[RowFault]) -> KeyHashing {
 /// Takes the line of a fault, and says whether it is new. Where memory runs out it may be taken or
 /// not.
 fn is_new(alloc: Global, lines: &mut KeySet, fault: &RowFault) -> Result<bool, AllocError>
-    ensures fresh { IfOk result (λ fresh. fresh ≡ not (is_among (copies_view lines.old) (line_of_fault fault.now))) }
-    ensures known { IfOk result (λ fresh. GainsLine lines.old lines.new (line_of_fault fault.now)) }
+    ensures fresh { IfOk result (λ fresh. fresh ≡ not (is_among (copies_view lines.old) (printed_line fault.now))) }
+    ensures known { IfOk result (λ fresh. GainsLine lines.old lines.new (printed_line fault.now)) }
 {
     let line = line_of(alloc, fault)?;
-    let fresh = take_key(lines, line)?;
+    let fresh = take_key(lines, CowSlice::Owned(line))?;
     Ok(fresh)
 }
 
 /// The line that a report has for a fault.
 fn line_of(alloc: Global, fault: &RowFault) -> Result<Vec<u8>, AllocError>
-    ensures { IfOk result (λ line. line.items ≡ line_of_fault fault.now) }
+    ensures { IfOk result (λ line. line.items ≡ printed_line fault.now) }
 {
     let mut line = Vec::new(alloc);
     match write_row_fault(fault, &mut line) {

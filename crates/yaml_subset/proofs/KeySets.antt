@@ -4,7 +4,6 @@ use Rattle.std.specs.Bool.{Decides}
 use Rattle.std.specs.List.{list_any, Contains}
 use Rattle.std.specs.Str.{bytes_eq}
 use Rattle.std.specs.Cow.{cow_slice_items}
-use Rattle.std.specs.Global.{Vec}
 use Rattle.std.specs.Ordering.{nat_cmp, match_ordering}
 use Rattle.std.specs.declared.cmp.Ordering.{Ordering}
 use Rattle.std.specs.declared.cmp.Ordering.TheVariants.{Less, Equal, Greater}
@@ -107,20 +106,21 @@ among-again keys key q e =
 turned : (k q : List ℕ) → bytes_eq q k ≡ bytes_eq k q
 turned k q = same_from_decides (bytes_eq q k) (bytes_eq k q) (λ e. sym ((bytes_eq-Decides q k).0 e), λ p. (bytes_eq-Decides q k).1 (sym p)) (bytes_eq-Decides k q)
 
--- the set's own test is whether the bytes are among those of its keys
-pub hashed_key : (keys : List (Vec ℕ)) (v : Vec ℕ) → list_any (λ k. bytes_eq v.items k.items) keys ≡ is_among (map (λ k. k.items) keys) v.items
-hashed_key [] v = refl
-hashed_key (k ∷ keys) v = rw (turned k.items v.items, hashed_key keys v) refl
+module _ {K : Type 0} (bytes_of : K → List ℕ) where
+  -- the set's own test is whether the bytes are among those of its keys
+  pub hashed_key : (keys : List K) (v : K) → list_any (λ k. bytes_eq (bytes_of v) (bytes_of k)) keys ≡ is_among (map bytes_of keys) (bytes_of v)
+  hashed_key [] v = refl
+  hashed_key (k ∷ keys) v = rw (turned (bytes_of k) (bytes_of v), hashed_key keys v) refl
 
--- after a key was taken, it and those before are among the keys
-pub hashed_key-among : (keys : List (Vec ℕ)) (v : Vec ℕ) (q : List ℕ)
-    → is_among (map (λ k. k.items) (cond (list_any (λ k. bytes_eq v.items k.items) keys) keys (keys ++ v ∷ []))) q ≡ (bytes_eq v.items q || is_among (map (λ k. k.items) keys) q)
-hashed_key-among keys v q = seen (list_any (λ k. bytes_eq v.items k.items) keys) (hashed_key keys v)
-  where
-    seen : (b : Bool) → b ≡ is_among (map (λ k. k.items) keys) v.items
-        → is_among (map (λ k. k.items) (cond b keys (keys ++ v ∷ []))) q ≡ (bytes_eq v.items q || is_among (map (λ k. k.items) keys) q)
-    seen true e = among-again (map (λ k. k.items) keys) v.items q (sym e)
-    seen false e = ap (λ (ks : List (List ℕ)). is_among ks q) (map-append (λ k. k.items) keys (v ∷ [])) ∙ among-push (map (λ k. k.items) keys) v.items q
+  -- after a key was taken, it and those before are among the keys
+  pub hashed_key-among : (keys : List K) (v : K) (q : List ℕ)
+      → is_among (map bytes_of (cond (list_any (λ k. bytes_eq (bytes_of v) (bytes_of k)) keys) keys (keys ++ v ∷ []))) q ≡ (bytes_eq (bytes_of v) q || is_among (map bytes_of keys) q)
+  hashed_key-among keys v q = seen (list_any (λ k. bytes_eq (bytes_of v) (bytes_of k)) keys) (hashed_key keys v)
+    where
+      seen : (b : Bool) → b ≡ is_among (map bytes_of keys) (bytes_of v)
+          → is_among (map bytes_of (cond b keys (keys ++ v ∷ []))) q ≡ (bytes_eq (bytes_of v) q || is_among (map bytes_of keys) q)
+      seen true e = among-again (map bytes_of keys) (bytes_of v) q (sym e)
+      seen false e = ap (λ (ks : List (List ℕ)). is_among ks q) (map-append bytes_of keys (v ∷ [])) ∙ among-push (map bytes_of keys) (bytes_of v) q
 
 -- ---- keys of pairs
 

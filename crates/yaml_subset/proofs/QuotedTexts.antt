@@ -153,7 +153,7 @@ module _ (n : ℕ) (rest value : List ℕ) (total : Result (List ℕ × List ℕ
   unfolding double_at
   double_open so_far short = sym so_far ∙ ap (λ xs. with_value value (double_at n xs)) (none_at rest short)
 
--- ---- the bytes at the front that stand for themselves
+-- ---- the bytes at the front that are written as themselves
 
 len_yes : (p : ℕ → Bool) (x : ℕ) (xs : List ℕ) → p x ≡ true → prefix_len p (x ∷ xs) ≡ suc (prefix_len p xs)
 len_yes p x xs t = rw t (omega arith)

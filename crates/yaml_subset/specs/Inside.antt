@@ -38,7 +38,7 @@ abbrev pub line_option_view : Option lines.Line → Option Line
 line_option_view None = None
 line_option_view (Some l) = Some (line_view l)
 
--- a byte, a value in quotes or a word, and the part of a line that comes after it
+-- a byte, a value with bytes of its own, or a word, and the part of a line that comes after it
 abbrev pub byte_view : ℕ × Bor (List ℕ) → ℕ × List ℕ
 byte_view r = (r.0, r.1.now)
 

@@ -18,7 +18,7 @@ unescaped e = if e == 92 then Some 92 else (if e == 34 then Some 34 else (if e =
 abbrev pub IsDoubleByte : ℕ → List ℕ → Type 0
 IsDoubleByte b text = ((b ≢ 34) × (b ≢ 92) × (text ≡ b ∷ [])) ⊎ ((e : ℕ) × (unescaped e ≡ Some b) × (text ≡ 92 ∷ e ∷ []))
 
--- whether a byte stands for itself between quotes, and ends no value
+-- whether a byte between quotes is written as itself, and does not end the value
 abbrev pub is_itself_in_single : ℕ → Bool
 is_itself_in_single b = not (b == 39)
 

@@ -16,7 +16,6 @@ use crate::line::Line;
 use crate::place::Halt;
 use crate::tree::{Key, Tree};
 use std::alloc::Global;
-use std::borrow::CowSlice;
 use yaml_bytes::{
     before_colon, begins_blank, begins_item, behind_blanks, behind_dash, behind_spaces, is_over,
     spaces_len,
@@ -107,7 +106,7 @@ fn closed<'a>(around: Option<usize>, value: Tree<'a>, below: &[Line]) -> Result<
 fn empty<'a>(number: u32) -> Tree<'a>
     ensures { node_view result ≡ scalar number [] }
 {
-    Tree::Scalar(number, CowSlice::Borrowed(&[]))
+    Tree::Scalar(number, &[])
 }
 
 // The value of an entry or item at an indentation: on its line, or the block below it, or the empty
@@ -148,8 +147,8 @@ fn pair<'a>(
     indent: usize,
     line: &Line<'a>,
     below: &[Line<'a>],
-    pairs: &[(Key, Tree)],
-    keys: &mut KeySet,
+    pairs: &[(Key<'a>, Tree<'a>)],
+    keys: &mut KeySet<'a>,
     levels: u8,
 ) -> Result<(Key<'a>, Tree<'a>), Halt>
     requires { HasNoneOrAll (copies_view keys.old) (keys_of (map pair_view pairs.now)) }
@@ -164,7 +163,7 @@ fn pair<'a>(
         Some(found) => found,
         None => return Err(line.fault(FaultKind::NotInSubset)),
     };
-    let fresh = take_next(alloc, keys, pairs, &key)?;
+    let fresh = take_next(keys, pairs, &key)?;
     if !fresh {
         return Err(line.fault(FaultKind::DuplicateKey));
     }

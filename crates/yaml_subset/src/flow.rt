@@ -140,7 +140,7 @@ fn value(
         return flow(alloc, hashing, levels, number, text);
     }
     let (text, rest) = word(alloc, number, true, text)?;
-    Ok((Tree::Scalar(number, text), rest))
+    Ok((Tree::scalar(number, text), rest))
 }
 
 // The pair at the front, in a mapping with these pairs before it. The set has their keys, or none.
@@ -151,8 +151,8 @@ fn pair<'a>(
     hashing: KeyHashing,
     levels: u8,
     number: u32,
-    pairs: &[(Key, Tree)],
-    keys: &mut KeySet,
+    pairs: &[(Key<'a>, Tree<'a>)],
+    keys: &mut KeySet<'a>,
     text: &'a [u8],
 ) -> Result<((Key<'a>, Tree<'a>), &'a [u8]), Halt>
     requires { HasNoneOrAll (copies_view keys.old) (keys_of (map pair_view pairs.now)) }
@@ -161,7 +161,7 @@ fn pair<'a>(
 {
     let (key, colon) = word(alloc, number, true, text)?;
     let after = behind_colon(number, colon)?;
-    let fresh = take_next(alloc, keys, pairs, &key)?;
+    let fresh = take_next(keys, pairs, &key)?;
     if !fresh {
         return Err(Halt::at(FaultKind::DuplicateKey, number, text.len()));
     }

@@ -2,6 +2,7 @@
 
 ghost use Rattle.std.specs.Prelude.{◌≡◌, ◌||◌, ℕ, List, [], ◌∷◌, ◌++◌, map, nat_lt, not, IfOk};
 ghost use Rattle.std.specs.Str.{bytes_eq};
+ghost use Rattle.std.specs.Cow.{cow_slice_items};
 ghost use Rattle.yaml_bytes.specs.Bytes.{characters};
 ghost use Rattle.yaml_subset.specs.Keys.{is_among, copies_view, HasNoneOrAll};
 ghost use Rattle.yaml_subset.specs.Flow.{keys_of};
@@ -10,9 +11,10 @@ ghost use Rattle.yaml_subset.specs.View.{pair_view};
 use crate::tree::{Key, Tree};
 use indexmap::IndexSet;
 use std::alloc::{AllocError, Global};
+use std::borrow::CowSlice;
 use yaml_bytes::characters;
 
-/// Makes the hashers of keys, by the text that the keys are parts of.
+/// Makes the hashers of keys, by the bundle or the text that the keys are parts of.
 pub use yaml_bytes::SeededHashing as KeyHashing;
 
 /// How many characters of a line may come before the colon of a key.
@@ -29,42 +31,43 @@ pub(crate) fn is_too_long(front: &[u8]) -> bool
     front.len() > MAX_KEY && characters(front) > MAX_KEY
 }
 
-/// Copies of keys.
-pub type KeySet = IndexSet<Vec<u8>, KeyHashing>;
+/// Keys, each a part of a text or with bytes of its own.
+pub type KeySet<'t> = IndexSet<CowSlice<'t, u8>, KeyHashing>;
 
 /// A set without keys.
-pub fn no_keys(alloc: Global, hashing: KeyHashing) -> KeySet
+pub fn no_keys<'t>(alloc: Global, hashing: KeyHashing) -> KeySet<'t>
     ensures { copies_view result ≡ [] }
 {
     IndexSet::with_hasher(alloc, hashing)
 }
 
 /// Takes a key, and says whether it is new. Where memory runs out it may be taken or not.
-pub fn take_key(keys: &mut KeySet, key: Vec<u8>) -> Result<bool, AllocError>
-    ensures fresh { IfOk result (λ fresh. fresh ≡ not (is_among (copies_view keys.old) key.items)) }
-    ensures known { IfOk result (λ fresh. (q : List ℕ) → is_among (copies_view keys.new) q ≡ (bytes_eq key.items q || is_among (copies_view keys.old) q)) }
+pub fn take_key<'t>(keys: &mut KeySet<'t>, key: CowSlice<'t, u8>) -> Result<bool, AllocError>
+    ensures fresh { IfOk result (λ fresh. fresh ≡ not (is_among (copies_view keys.old) (cow_slice_items key.entry))) }
+    ensures known { IfOk result (λ fresh. (q : List ℕ) → is_among (copies_view keys.new) q ≡ (bytes_eq (cow_slice_items key.entry) q || is_among (copies_view keys.old) q)) }
 {
     let fresh = keys.insert(key)?;
     Ok(fresh)
 }
 
 // Takes a copy of a key, and says whether it is new. Where memory runs out it may be taken or not.
-fn take_copy(alloc: Global, keys: &mut KeySet, key: &[u8]) -> Result<bool, AllocError>
-    ensures fresh { IfOk result (λ fresh. fresh ≡ not (is_among (copies_view keys.old) key.now)) }
-    ensures known { IfOk result (λ fresh. (q : List ℕ) → is_among (copies_view keys.new) q ≡ (bytes_eq key.now q || is_among (copies_view keys.old) q)) }
+fn take_copy<'t>(keys: &mut KeySet<'t>, key: &CowSlice<'t, u8>) -> Result<bool, AllocError>
+    ensures fresh { IfOk result (λ fresh. fresh ≡ not (is_among (copies_view keys.old) (cow_slice_items key.now))) }
+    ensures known { IfOk result (λ fresh. (q : List ℕ) → is_among (copies_view keys.new) q ≡ (bytes_eq (cow_slice_items key.now) q || is_among (copies_view keys.old) q)) }
 {
-    let copy = Vec::from_slice(alloc, key)?;
+    // The copy of a part of the text is the same part.
+    let copy = key.clone()?;
     let is_new = take_key(keys, copy)?;
     Ok(is_new)
 }
 
 // Takes copies of the keys of pairs.
-fn take_all(alloc: Global, keys: &mut KeySet, pairs: &[(Key, Tree)]) -> Result<(), AllocError>
+fn take_all<'t>(keys: &mut KeySet<'t>, pairs: &[(Key<'t>, Tree<'t>)]) -> Result<(), AllocError>
     ensures { IfOk result (λ _. (q : List ℕ) → is_among (copies_view keys.new) q ≡ (is_among (copies_view keys.old) q || is_among (keys_of (map pair_view pairs.now)) q)) }
 {
     let mut rest = pairs;
     while let [(key, _), after @ ..] = rest {
-        take_copy(alloc, keys, &key.text)?;
+        take_copy(keys, &key.text)?;
         rest = after;
     }
     Ok(())
@@ -80,21 +83,20 @@ fn has_key(pairs: &[(Key, Tree)], key: &[u8]) -> bool
 /// Takes a key that comes after pairs, and says whether it is none of their keys. The set has copies
 /// of their keys, or still none, as where they are few: then keys are compared one by one. Where
 /// memory runs out it may have any of them.
-pub(crate) fn take_next(
-    alloc: Global,
-    keys: &mut KeySet,
-    pairs: &[(Key, Tree)],
-    key: &[u8],
+pub(crate) fn take_next<'t>(
+    keys: &mut KeySet<'t>,
+    pairs: &[(Key<'t>, Tree<'t>)],
+    key: &CowSlice<'t, u8>,
 ) -> Result<bool, AllocError>
     requires { HasNoneOrAll (copies_view keys.old) (keys_of (map pair_view pairs.now)) }
-    ensures fresh { IfOk result (λ fresh. fresh ≡ not (is_among (keys_of (map pair_view pairs.now)) key.now)) }
-    ensures known { IfOk result (λ fresh. HasNoneOrAll (copies_view keys.new) (keys_of (map pair_view pairs.now) ++ key.now ∷ [])) }
+    ensures fresh { IfOk result (λ fresh. fresh ≡ not (is_among (keys_of (map pair_view pairs.now)) (cow_slice_items key.now))) }
+    ensures known { IfOk result (λ fresh. HasNoneOrAll (copies_view keys.new) (keys_of (map pair_view pairs.now) ++ cow_slice_items key.now ∷ [])) }
 {
     if keys.is_empty() {
         if pairs.len() < FEW_KEYS {
             return Ok(!has_key(pairs, key));
         }
-        take_all(alloc, keys, pairs)?;
+        take_all(keys, pairs)?;
     }
-    take_copy(alloc, keys, key)
+    take_copy(keys, key)
 }

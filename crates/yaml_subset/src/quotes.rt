@@ -21,7 +21,7 @@ fn begins_single(text: &[u8]) -> bool
     }
 }
 
-// How many bytes come first that stand for themselves between single quotes.
+// How many bytes come first that are written as themselves between single quotes.
 fn single_len(text: &[u8]) -> usize
     ensures within { result ≤ length text.now }
     ensures value { result ≡ prefix_len is_itself_in_single text.now }
@@ -92,14 +92,14 @@ fn double_byte(number: u32, text: &[u8]) -> Result<(u8, &[u8]), Halt>
     }
 }
 
-// Whether a byte stands for itself between double quotes.
+// Whether a byte is written as itself between double quotes.
 fn is_itself_in_double(b: u8) -> bool
     ensures { result ≡ is_itself_in_double b }
 {
     !(b == b'"' || b == b'\\')
 }
 
-// How many bytes come first that stand for themselves between double quotes.
+// How many bytes come first that are written as themselves between double quotes.
 fn double_len(text: &[u8]) -> usize
     ensures within { result ≤ length text.now }
     ensures value { result ≡ prefix_len is_itself_in_double text.now }

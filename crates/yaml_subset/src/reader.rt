@@ -21,10 +21,9 @@ const MAX_BYTES: usize = 1_048_576;
 /// itself among them.
 const MAX_LEVELS: u8 = 32;
 
-/// The tree of a text, as [`read`] gives it, or its first fault. Keys are hashed as the caller says:
-/// where many texts are read, one SipHash of them all does for each.
+// The tree of a text, or its first fault.
 #[tactic(auto, unfolding(crate::specs::Reading::read_at))]
-pub fn read_hashed<'a>(
+fn read_exactly<'a>(
     alloc: Global,
     hashing: KeyHashing,
     text: &'a [u8],
@@ -70,4 +69,30 @@ pub fn read(alloc: Global, text: &[u8]) -> Result<Tree<'_>, YamlFault>
     ensures exact { GivesTree node_view result (read_at text.now) }
 {
     read_hashed(alloc, KeyHashing::of(text), text)
+}
+
+/// The same, with keys hashed as the caller says: where many texts are read, one SipHash of all of
+/// them is enough.
+///
+/// # Errors
+///
+/// As [`read`].
+pub fn read_hashed<'a>(
+    alloc: Global,
+    hashing: KeyHashing,
+    text: &'a [u8],
+) -> Result<Tree<'a>, YamlFault>
+    // What is read is the tree of the text.
+    ensures found { IfOk result (λ tree. IsTreeOf 32 8 text.now (node_view tree)) }
+
+    // The text has no other tree, however many levels are allowed.
+    ensures only { IfOk result (λ tree. (levels depth : ℕ) (t : Node) → IsTreeOf levels depth text.now t → t ≡ node_view tree) }
+
+    // A text that is refused has no tree within the limits.
+    ensures refused { IfErr result (λ e. e ≢ YamlFault.NoMemory → (levels depth : ℕ) (t : Node) → IsTreeOf levels depth text.now t → IsTextAbove levels depth text.now) }
+
+    // Which fault it is, and its line, is what reading line by line gives.
+    ensures exact { GivesTree node_view result (read_at text.now) }
+{
+    read_exactly(alloc, hashing, text)
 }
