@@ -1,4 +1,4 @@
--- What the maps of `Definitions` hold.
+-- What the maps of `Definitions` hold and gain, and what entries are read as.
 use Rattle.std.specs.Prelude.{◌≡◌, ◌||◌, ℕ, Bool, List, fold, map, Option, option_map}
 use Rattle.std.specs.List.{filter_map, flat_map, list_any}
 use Rattle.std.specs.Str.{bytes_eq}
@@ -118,8 +118,8 @@ abbrev pub as_states : List field_rows.Fields → List (List ℕ)
 as_states maps = map (λ w. w.text) (filter_map state_of (map fields_view maps))
 
 -- whether one of them defines a switch of this name; whether one of these flippers, or autofire coils, uses it
-abbrev pub is_one_switch : List entry_rows.Entry → List ℕ → Bool
-is_one_switch entries name = list_any (λ s. bytes_eq name s.name.text) (map switch_of (map entry_view entries))
+abbrev pub defines_switch : List entry_rows.Entry → List ℕ → Bool
+defines_switch entries name = list_any (λ s. bytes_eq name s.name.text) (map switch_of (map entry_view entries))
 
 abbrev pub is_used_by_flippers : List entry_rows.Entry → List ℕ → Bool
 is_used_by_flippers entries name = list_any (bytes_eq name) (map (λ f. f.switch.text) (map flipper_of (map entry_view entries)))

@@ -6,7 +6,7 @@ ghost use Rattle.mpf_sections.specs.View.{coil_view, shot_view, ball_device_view
 ghost use Rattle.mpf_config.specs.View.{rows_view};
 ghost use Rattle.machine_definitions.specs.Definitions.{coil_called, has_switch, makes_quick, ball_device_called};
 ghost use Rattle.machine_definitions.specs.Shots.{shot_called, has_profile, profile_of_name};
-ghost use Rattle.machine_definitions.specs.Found.{profile_view, HasCoils, HasSwitches, HasQuick, HasBallDevices, GainsBallDevices, GainsCoils, GainsNames, as_ball_devices, as_coils, is_one_switch, is_used_by_autofires, is_used_by_flippers, section_rows};
+ghost use Rattle.machine_definitions.specs.Found.{profile_view, HasCoils, HasSwitches, HasQuick, HasBallDevices, GainsBallDevices, GainsCoils, GainsNames, as_ball_devices, as_coils, defines_switch, is_used_by_autofires, is_used_by_flippers, section_rows};
 
 use crate::by_name::{ByName, Names};
 use crate::profile::Profile;
@@ -218,7 +218,7 @@ fn switches_of<'a>(
 }
 
 fn add_switches<'a>(names: &mut Names<'a>, entries: &'a [Entry]) -> Result<(), AllocError>
-    ensures { OnOk result (GainsNames names.old names.new (is_one_switch entries.now)) }
+    ensures { OnOk result (GainsNames names.old names.new (defines_switch entries.now)) }
 {
     for entry in entries {
         names.insert(&as_switch(entry).name.text)?;

@@ -11,7 +11,7 @@ line_at = 10 ∷ 64 ∷ []
 next_place : (k j : ℕ) → suc (k + j) ≡ suc k + j
 next_place k j = omega arith
 
--- at one place more, behind a byte more
+-- at one place more, after a byte more
 later : (b : ℕ) (bs : List ℕ) (k : ℕ) → OccursAt bs line_at k → OccursAt (b ∷ bs) line_at (suc k)
 later b bs k h =
     let fits = h.fits in
@@ -36,7 +36,7 @@ here b c cs lf at = record { fits = omega arith; reads = by }
     by (suc zero) l = at
     by (suc (suc j)) l = absurd (omega (arith, l))
 
--- behind a byte the piece goes on, if `@` does not come at once after a line end
+-- after a byte the piece goes on, if `@` does not come at once after a line end
 goes_on : (b : ℕ) (bs : List ℕ) → ¬ (OccursAt (b ∷ bs) line_at 0) → piece_len false (b ∷ bs) ≡ suc (piece_len false bs)
 goes_on b [] not_here = refl
 goes_on b (c ∷ cs) not_here = by (b == 10) (c == 64) refl refl

@@ -1,6 +1,8 @@
 -- The pieces of a bundle, one after the other.
-use Rattle.std.proofs.Common.{◌≡◌, ◌≢◌, ℕ, ◌+◌, ◌<◌, ◌==◌, Bool, true, false, ◌&&◌, List, [], ◌∷◌, ◌++◌, length, take, drop, refl, sym, ap, ◌∙◌, ◌⊎◌, inl, inr, arith}
-use Rattle.std.proofs.lemmas.List.{take-append-drop}
+use Rattle.std.proofs.Common.{◌≡◌, ◌≢◌, ℕ, zero, suc, ◌+◌, ◌-◌, ◌<◌, ◌≤◌, ◌==◌, Bool, true, false, cond, ◌&&◌, List, [], ◌∷◌, ◌++◌, length, take, drop, refl, sym, ap, ap₂, ◌∙◌, ◌⊎◌, inl, inr, arith}
+use Rattle.std.proofs.lemmas.List.{take-append-drop, length-drop, drop-drop, drop_all}
+use lib.Seq.{take-nil}
+use Rattle.std.proofs.lemmas.List.Sums.{sum_by-cons}
 use Rattle.std.proofs.lemmas.Bool.{eqb-true, and_parts, false_from_ne_true}
 use Rattle.mpf_config.specs.RowsOf.{EndsLine}
 use Rattle.mpf_config.specs.BundleText.{pieces_from, pieces_of, piece_len, line_ends, numbered}
@@ -34,22 +36,45 @@ first_piece b bs = first_by b bs (b == 64) refl ∙ rw (cut (b == 10) bs) refl
 
 -- ---- what the code goes by
 
-pub none_left : (rest : List ℕ) → length rest == 0 ≡ true → pieces_of rest ≡ []
+pub none_left : (bundle : List ℕ) (at : ℕ) → length bundle ≤ at → pieces_of (drop at bundle) ≡ []
 unfolding pieces_of
-none_left [] e = refl
-none_left (b ∷ bs) e = let no_bytes : length (b ∷ bs) ≡ 0 = eqb-true (length (b ∷ bs)) 0 e in absurd (omega arith)
+none_left bundle at all = rw (drop_all at bundle all) refl
 
-pub next_piece : (rest piece behind : List ℕ) (n : ℕ) → length rest == 0 ≡ false → n ≡ piece_len false rest → piece ≡ take n rest → behind ≡ drop n rest → pieces_of rest ≡ piece ∷ pieces_of behind
-next_piece [] piece behind n some len p d = absurd cc
-next_piece (b ∷ bs) piece behind n some len p d = rw (p, d, len) (first_piece b bs)
+next_piece : (rest : List ℕ) (n : ℕ) → 0 < length rest → n ≡ piece_len false rest → pieces_of rest ≡ take n rest ∷ pieces_of (drop n rest)
+next_piece [] n some len = let no : ⊥ = omega (arith, some) in absurd no
+next_piece (b ∷ bs) n some len = rw len (first_piece b bs)
 
-pub next_numbered : (line : ℕ) (rest piece behind : List ℕ) (n : ℕ) → length rest == 0 ≡ false → n ≡ piece_len false rest → piece ≡ take n rest → behind ≡ drop n rest
-    → numbered line (pieces_of rest) ≡ (line, piece) ∷ numbered (line + line_ends piece) (pieces_of behind)
-next_numbered line rest piece behind n some len p d = ap (numbered line) (next_piece rest piece behind n some len p d)
+-- the lines that end in two parts, one after the other
+ends_more : (bundle : List ℕ) (at n : ℕ) → line_ends (take (at + n) bundle) ≡ line_ends (take at bundle) + line_ends (take n (drop at bundle))
+ends_more bundle zero n = let sum : 0 + n ≡ n = omega arith in ap (λ k. line_ends (take k bundle)) sum ∙ omega arith
+ends_more [] (suc at) n = ap line_ends (take-nil (suc at + n) ∙ sym (take-nil n)) ∙ omega arith
+ends_more (b ∷ bs) (suc at) n =
+    let sum : suc at + n ≡ suc (at + n) = omega arith in
+    let whole = sum_by-cons (λ c. cond (c == 10) 1 0) b (take (at + n) bs) in
+    let front = sum_by-cons (λ c. cond (c == 10) 1 0) b (take at bs) in
+    let more = ends_more bs at n in
+    ap (λ k. line_ends (take k (b ∷ bs))) sum ∙ omega (arith, whole, front, more)
 
-pub has_bytes : (rest : List ℕ) (n : ℕ) → length rest == 0 ≡ false → n ≡ piece_len false rest → 0 < n
-has_bytes [] n some len = absurd cc
-has_bytes (b ∷ bs) n some len = omega (arith, len)
+-- the pieces from a place on, each with the number of its first line
+abbrev pub numbered_from : List ℕ → ℕ → List (ℕ × List ℕ)
+numbered_from bundle at = numbered (1 + line_ends (take at bundle)) (pieces_of (drop at bundle))
+
+pub next_numbered : (bundle : List ℕ) (at n : ℕ) → at < length bundle → n ≡ piece_len false (drop at bundle)
+    → numbered_from bundle at ≡ (1 + line_ends (take at bundle), take n (drop at bundle)) ∷ numbered_from bundle (at + n)
+next_numbered bundle at n some len =
+    let left = length-drop at bundle in
+    let first = next_piece (drop at bundle) n (omega (arith, some, left)) len in
+    let more = ends_more bundle at n in
+    ap (numbered (1 + line_ends (take at bundle))) first
+    ∙ ap₂ (λ (line : ℕ) (behind : List ℕ). (1 + line_ends (take at bundle), take n (drop at bundle)) ∷ numbered line (pieces_of behind))
+    (omega (arith, more)) (drop-drop n at bundle)
+
+pub has_bytes : (bundle : List ℕ) (at n : ℕ) → at < length bundle → n ≡ piece_len false (drop at bundle) → 0 < n
+has_bytes bundle at n some len = seen (drop at bundle) (length-drop at bundle) len
+  where
+    seen : (rest : List ℕ) → length rest ≡ length bundle - at → n ≡ piece_len false rest → 0 < n
+    seen [] e h = let no : ⊥ = omega (arith, some, e) in absurd no
+    seen (b ∷ bs) e h = omega (arith, h)
 
 -- ---- lines that begin with `@`
 

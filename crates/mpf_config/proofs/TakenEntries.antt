@@ -10,7 +10,7 @@ use Rattle.section_tables.specs.Reading.{refused, rows_fault_at}
 use Rattle.section_tables.proofs.Steps.{guard_false}
 use Rattle.mpf_sections.specs.Rows.{SectionRows}
 use Rattle.mpf_config.specs.Rows.{RowsFault}
-use Rattle.mpf_config.specs.Apart.{EntryName, entries_named, entry_names, entry_key, entry_keys}
+use Rattle.mpf_config.specs.Apart.{EntryName, joined, entries_named, entry_names, entry_key, entry_keys}
 use Rattle.mpf_config.specs.Reading.{entries_new_at}
 use Rattle.mpf_config.specs.View.{FailsRows}
 
@@ -51,6 +51,23 @@ not_true true e = absurd cc
 not_true false e = refl
 
 -- ---- one entry
+
+-- the front of the keys of a section's entries, and a name after it
+pub front_and_name : (section name : List ℕ) → joined section [] ++ name ≡ joined section name
+front_and_name [] name = refl
+front_and_name (b ∷ section) name = ap (λ key. 1 ∷ b ∷ key) (front_and_name section name)
+
+not_false : (b : Bool) → not b ≡ false → b ≡ true
+not_false true e = refl
+not_false false e = absurd cc
+
+-- an entry that was taken before
+pub refuses_entry : (text : List ℕ) (keys : List (List ℕ)) (fresh : Bool) (e : EntryName) (es all : List EntryName) → all ≡ e ∷ es
+    → fresh ≡ not (is_among keys (entry_key e)) → fresh ≡ false
+    → entries_new_at text keys all ≡ Err (rows_fault_at Duplicate (record { text = text; line = e.name.line; key = e.name.text }))
+refuses_entry text keys fresh e es all is said old =
+    let among : is_among keys (entry_key e) ≡ true = not_false (is_among keys (entry_key e)) (sym said ∙ old) in
+    rw (is, among) refl
 
 -- an entry that is new
 pub takes_entry : (text : List ℕ) (keys known : List (List ℕ)) (fresh : Bool) (e : EntryName) (es all : List EntryName) → all ≡ e ∷ es

@@ -11,6 +11,7 @@ pub mod Reading
 pub mod ModeView
 pub mod View
 pub mod Inside
+pub mod Gives
 pub mod Escaped
 pub mod FaultLine
 pub mod NoteLine

@@ -1,12 +1,13 @@
 //! A bundle of texts.
 
-ghost use Rattle.std.specs.Prelude.{◌≡◌, ◌≢◌, ℕ, List, map, IfOk, IfErr};
-ghost use Rattle.mpf_config.specs.Reading.{machine_read_at, modes_in_texts, rows_at, mode_names_at};
+ghost use Rattle.std.specs.Prelude.{◌≡◌, ◌≢◌, ℕ, List, IfOk, IfErr};
+ghost use Rattle.mpf_config.specs.Reading.{rows_at, mode_names_at};
 ghost use Rattle.mpf_config.specs.Rows.{Rows};
 ghost use Rattle.mpf_config.specs.RowsOf.{Sizes, within_limits, IsRowsOf, IsAbove, AreModesOf, IsTextOver};
-ghost use Rattle.mpf_sections.specs.View.{name_view, section_view};
-ghost use Rattle.mpf_config.specs.View.{rows_view, GivesRows};
-ghost use Rattle.mpf_config.specs.Inside.{texts_view, names_only_view, machine_read_view, modes_view, found_modes_view};
+ghost use Rattle.section_tables.specs.declared.fault.ConfigFault.TheVariants.{NoMemory};
+ghost use Rattle.mpf_config.specs.View.{rows_view};
+ghost use Rattle.mpf_config.specs.Inside.{names_only_view};
+ghost use Rattle.mpf_config.specs.Gives.{GivesModes, GivesMachine, GivesConfig, GivesModeNames, machine_in_texts, modes_of_machine, AreTextsOf};
 
 use crate::config::{Config, MachineText, Note, Section};
 use crate::fault::{ConfigFault, FaultKind};
@@ -42,7 +43,7 @@ fn read_machine(
     hashing: KeyHashing,
     texts: &[Text<'_>],
 ) -> Result<MachineRead, ConfigFault>
-    ensures { GivesRows machine_read_view result (machine_read_at (texts_view texts.now)) }
+    ensures { GivesMachine result (machine_in_texts texts.now) }
 {
     let text = machine_text(alloc, texts)?;
     let tree = tree_of(alloc, hashing, MACHINE_NAME, text)?;
@@ -63,7 +64,7 @@ fn read_modes(
     listed: &[ListedMode<'_>],
     texts: &[Text<'_>],
 ) -> Result<Vec<Option<ModeRead>>, ConfigFault>
-    ensures { GivesRows (λ found. found_modes_view found.items) result (modes_in_texts (map section_view sections.now) (modes_view listed.now) (texts_view texts.now)) }
+    ensures { GivesModes result (modes_of_machine sections.now listed.now texts.now) }
 {
     let mut taken = no_keys(alloc, hashing);
     take_entries(alloc, MACHINE_NAME, sections, &mut taken)?;
@@ -74,7 +75,7 @@ fn read_modes(
 // The rows of a bundle, or its first fault.
 #[tactic(auto, unfolding(crate::specs::Reading::rows_at))]
 fn read_exactly(alloc: Global, bundle: &[u8]) -> Result<Config, ConfigFault>
-    ensures { GivesRows rows_view result (rows_at bundle.now) }
+    ensures { GivesConfig result (rows_at bundle.now) }
 {
     if bundle.len() > MAX_BUNDLE_LEN {
         let fault = line_of(NONE, 1).fault(alloc, FaultKind::Limit)?;
@@ -138,17 +139,17 @@ pub fn read_bundle(alloc: Global, bundle: &[u8]) -> Result<Config, ConfigFault>
     ensures only { IfOk result (λ config. (sizes : Sizes) (rows : Rows) → IsRowsOf sizes bundle.now rows → rows ≡ rows_view config) }
 
     // A bundle that is refused has no rows within the limits.
-    ensures refused { IfErr result (λ e. e ≢ ConfigFault.NoMemory → (sizes : Sizes) (rows : Rows) → IsRowsOf sizes bundle.now rows → IsAbove sizes bundle.now rows) }
+    ensures refused { IfErr result (λ e. e ≢ NoMemory → (sizes : Sizes) (rows : Rows) → IsRowsOf sizes bundle.now rows → IsAbove sizes bundle.now rows) }
 
     // Which fault it is, with its text, line and key, is the first that reading in order meets.
-    ensures exact { GivesRows rows_view result (rows_at bundle.now) }
+    ensures exact { GivesConfig result (rows_at bundle.now) }
 {
     read_exactly(alloc, bundle)
 }
 
 // Names as they are written.
 fn texts_of(alloc: Global, names: &[Name]) -> Result<Vec<Vec<u8>>, AllocError>
-    ensures { IfOk result (λ texts. names_only_view texts ≡ map (λ w. w.text) (map name_view names.now)) }
+    ensures { IfOk result (λ texts. AreTextsOf names.now texts) }
 {
     let mut texts = Vec::with_capacity(alloc, names.len())?;
     for name in names {
@@ -161,7 +162,7 @@ fn texts_of(alloc: Global, names: &[Name]) -> Result<Vec<Vec<u8>>, AllocError>
 // The names of the modes that a machine text lists, or its first fault.
 #[tactic(auto, unfolding(crate::specs::Reading::mode_names_at, crate::specs::Reading::text_rows_at))]
 fn names_exactly(alloc: Global, text: &[u8]) -> Result<Vec<Vec<u8>>, ConfigFault>
-    ensures { GivesRows names_only_view result (mode_names_at text.now) }
+    ensures { GivesModeNames result (mode_names_at text.now) }
 {
     let tree = tree_of(alloc, KeyHashing::of(text), MACHINE_NAME, text)?;
     let entries = sections_in(alloc, MACHINE_NAME, &tree)?;
@@ -184,10 +185,10 @@ pub fn mode_names(alloc: Global, text: &[u8]) -> Result<Vec<Vec<u8>>, ConfigFaul
     ensures only { IfOk result (λ names. (sizes : Sizes) (others : List (List ℕ)) → AreModesOf sizes text.now others → others ≡ names_only_view names) }
 
     // A text that is refused lists no modes within the limits.
-    ensures refused { IfErr result (λ e. e ≢ ConfigFault.NoMemory → (sizes : Sizes) (names : List (List ℕ)) → AreModesOf sizes text.now names → IsTextOver sizes text.now) }
+    ensures refused { IfErr result (λ e. e ≢ NoMemory → (sizes : Sizes) (names : List (List ℕ)) → AreModesOf sizes text.now names → IsTextOver sizes text.now) }
 
     // Which fault it is, with its line and key, is the first that reading in order meets.
-    ensures exact { GivesRows names_only_view result (mode_names_at text.now) }
+    ensures exact { GivesModeNames result (mode_names_at text.now) }
 {
     names_exactly(alloc, text)
 }

@@ -63,7 +63,8 @@ pub struct Config {
     pub modes: Vec<ModeText>,
     /// What was not read, in the order in which it is reported.
     pub notes: Vec<Note>,
-    /// Where hashers of names start: in a state that comes from the SipHash of the bundle.
+    /// What makes the hashers of names. They start in a state that comes from the SipHash of the
+    /// bundle.
     pub hashing: KeyHashing,
     ghost lists_short: { All IsShortSection (map section_view machine.sections.items) × All IsShortMode (map mode_view modes.items) },
     ghost few_modes: { AreFewModes (map mode_view modes.items) },

@@ -1,11 +1,7 @@
 //! The modes that the machine text lists, and the names of their texts.
 
-ghost use Rattle.std.specs.Prelude.{◌≡◌, ◌<◌, length, map, IfOk, IfSome};
-ghost use Rattle.section_tables.specs.Tables.{found_in};
-ghost use Rattle.mpf_config.specs.View.{name_view};
-ghost use Rattle.section_tables.specs.View.{found_view};
-ghost use Rattle.mpf_config.specs.Unread.{mode_text_of};
-ghost use Rattle.mpf_config.specs.Inside.{modes_view};
+ghost use Rattle.std.specs.Prelude.{◌<◌, length, IfOk, IfSome};
+ghost use Rattle.mpf_config.specs.Gives.{AreListed, IsModeOfText};
 
 use crate::listed_mode::ListedMode;
 use crate::texts::mode_text_name;
@@ -14,7 +10,7 @@ use std::alloc::{AllocError, Global};
 
 /// The modes of these names, in order, each with the name of its text.
 pub fn listed_modes<'a>(alloc: Global, names: &'a [Name]) -> Result<Vec<ListedMode<'a>>, AllocError>
-    ensures { IfOk result (λ modes. modes_view modes.items ≡ map name_view names.now) }
+    ensures { IfOk result (λ modes. AreListed names.now modes.items) }
 {
     let mut modes = Vec::with_capacity(alloc, names.len())?;
     for name in names {
@@ -26,7 +22,7 @@ pub fn listed_modes<'a>(alloc: Global, names: &'a [Name]) -> Result<Vec<ListedMo
 
 /// The mode whose text has this name, with its place in the list.
 pub fn mode_of<'a>(modes: &[ListedMode<'a>], text: &[u8]) -> Option<(usize, &'a Name)>
-    ensures found { found_view name_view result ≡ found_in mode_text_of text.now (modes_view modes.now) }
+    ensures found { IsModeOfText modes.now text.now result }
     ensures within { IfSome result (λ found. found.0 < length modes.now) }
 {
     for (place, mode) in modes.iter().enumerate() {

@@ -1,14 +1,8 @@
 //! The texts of modes.
 
-ghost use Rattle.std.specs.Prelude.{◌≡◌, ◌++◌, ◌||◌, ℕ, List, [], length, map, IfOk};
-ghost use Rattle.std.specs.List.{flat_map};
+ghost use Rattle.std.specs.Prelude.{◌≡◌, length, IfOk};
 ghost use Rattle.yaml_subset.specs.Keys.{is_among};
-ghost use Rattle.section_tables.specs.Tables.{found_in};
-ghost use Rattle.mpf_config.specs.Unread.{mode_text_of};
-ghost use Rattle.mpf_config.specs.Apart.{entry_keys};
-ghost use Rattle.mpf_config.specs.Reading.{mode_read_at, new_mode_at, placed_at, modes_from, none_found, found_of};
-ghost use Rattle.mpf_config.specs.View.{name_view, mode_view, GivesRows};
-ghost use Rattle.mpf_config.specs.Inside.{text_view, texts_view, modes_view, notes_view, mode_read_view, found_modes_view, copies_view, placed_keys};
+ghost use Rattle.mpf_config.specs.Gives.{GainsKeys, GivesMode, GivesModes, LeavesModes, mode_of_text, new_mode_of_text, keys_of_mode, with_mode_of_text, keys_at_text, IsNoneFound, with_modes_of_texts, modes_of_texts, AreModesFound, notes_found, GainsNotes};
 
 use crate::config::{ModeText, Note};
 use crate::fault::{ConfigFault, FaultKind};
@@ -41,7 +35,7 @@ fn read_mode(
     name: &Name,
     text: Text<'_>,
 ) -> Result<ModeRead, ConfigFault>
-    ensures { GivesRows mode_read_view result (mode_read_at (name_view name.now) (text_view text.entry)) }
+    ensures { GivesMode result (mode_of_text name.now text.entry) }
 {
     let tree = tree_of(alloc, hashing, text.name, text.text)?;
     let entries = sections_in(alloc, text.name, &tree)?;
@@ -64,8 +58,8 @@ fn read_new_mode(
     text: Text<'_>,
     taken: &mut KeySet,
 ) -> Result<ModeRead, ConfigFault>
-    ensures value { GivesRows mode_read_view result (new_mode_at (copies_view taken.old) (name_view name.now) (text_view text.entry)) }
-    ensures known { IfOk result (λ read. (q : List ℕ) → is_among (copies_view taken.new) q ≡ (is_among (entry_keys (mode_read_view read).mode.sections) q || is_among (copies_view taken.old) q)) }
+    ensures value { GivesMode result (new_mode_of_text taken.old name.now text.entry) }
+    ensures known { IfOk result (λ read. GainsKeys taken.old taken.new (is_among (keys_of_mode read))) }
 {
     let read = read_mode(alloc, hashing, name, text)?;
     take_entries(alloc, text.name, &read.mode.sections, taken)?;
@@ -83,8 +77,8 @@ fn place(
     found: &mut [Option<ModeRead>],
 ) -> Result<(), ConfigFault>
     requires { length found.old ≡ length modes.now }
-    ensures value { GivesRows (λ _. found_modes_view found.new) result (placed_at (text_view text.entry) (copies_view taken.old) (found_modes_view found.old) (found_in mode_text_of text.entry.name.now (modes_view modes.now))) }
-    ensures known { IfOk result (λ _. (q : List ℕ) → is_among (copies_view taken.new) q ≡ (is_among (placed_keys (found_modes_view found.new) (found_in mode_text_of text.entry.name.now (modes_view modes.now))) q || is_among (copies_view taken.old) q)) }
+    ensures value { LeavesModes found.new result (with_mode_of_text taken.old modes.now found.old text.entry) }
+    ensures known { IfOk result (λ _. GainsKeys taken.old taken.new (is_among (keys_at_text modes.now found.new text.entry))) }
 {
     if let Some((place, name)) = mode_of(modes, text.name) {
         found[place] = Some(read_new_mode(alloc, hashing, name, text, taken)?);
@@ -94,7 +88,7 @@ fn place(
 
 /// `None` for each mode of the list.
 fn none_found(alloc: Global, modes: &[ListedMode<'_>]) -> Result<Vec<Option<ModeRead>>, AllocError>
-    ensures { IfOk result (λ found. found_modes_view found.items ≡ none_found (modes_view modes.now)) }
+    ensures { IfOk result (λ found. IsNoneFound modes.now found.items) }
 {
     let mut found = Vec::with_capacity(alloc, modes.len())?;
     for _ in modes {
@@ -114,8 +108,8 @@ fn place_all(
     taken: &mut KeySet,
     found: &mut [Option<ModeRead>],
 ) -> Result<(), ConfigFault>
-    requires none { found_modes_view found.old ≡ none_found (modes_view modes.now) }
-    ensures { GivesRows (λ _. found_modes_view found.new) result (modes_from (copies_view taken.old) (modes_view modes.now) [] (found_modes_view found.old) (texts_view texts.now)) }
+    requires none { IsNoneFound modes.now found.old }
+    ensures { LeavesModes found.new result (with_modes_of_texts taken.old modes.now found.old texts.now) }
 {
     let mut names = BTreeSet::new(alloc);
     for text in texts {
@@ -139,7 +133,7 @@ pub fn find_modes(
     texts: &[Text<'_>],
     taken: &mut KeySet,
 ) -> Result<Vec<Option<ModeRead>>, ConfigFault>
-    ensures { GivesRows (λ found. found_modes_view found.items) result (modes_from (copies_view taken.old) (modes_view modes.now) [] (none_found (modes_view modes.now)) (texts_view texts.now)) }
+    ensures { GivesModes result (modes_of_texts taken.old modes.now texts.now) }
 {
     let mut found = none_found(alloc, modes)?;
     place_all(alloc, hashing, modes, texts, taken, &mut found)?;
@@ -152,8 +146,8 @@ pub fn take_modes(
     found: Vec<Option<ModeRead>>,
     notes: &mut Vec<Note>,
 ) -> Result<Vec<ModeText>, AllocError>
-    ensures modes { IfOk result (λ modes. map mode_view modes.items ≡ map (λ m. m.mode) (found_of (found_modes_view found.items))) }
-    ensures added { IfOk result (λ _. notes_view notes.new ≡ notes_view notes.old ++ flat_map (λ m. m.notes) (found_of (found_modes_view found.items))) }
+    ensures modes { IfOk result (λ modes. AreModesFound found.items modes.items) }
+    ensures added { IfOk result (λ _. GainsNotes notes.old notes.new (notes_found found.items)) }
 {
     let mut modes = Vec::with_capacity(alloc, found.len())?;
     for one in found {

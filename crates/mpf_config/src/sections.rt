@@ -1,13 +1,11 @@
 //! The sections of a text.
 
-ghost use Rattle.std.specs.Prelude.{◌≡◌, [], map};
-ghost use Rattle.yaml_subset.specs.View.{node_view, pair_view};
-ghost use Rattle.section_tables.specs.TableView.{shape_view};
-ghost use Rattle.section_tables.specs.View.{names_view, spot_view, pairs_view, pairs_in_view};
-ghost use Rattle.mpf_config.specs.Reading.{modes_new_at, modes_at, content_at, has_right_starts, keeps_to_ball_end, line_of_key, starts_spot, section_at, sections_in, sections_at};
-ghost use Rattle.mpf_sections.specs.View.{name_view, content_view, section_view, mode_settings_view};
-ghost use Rattle.mpf_config.specs.View.{GivesRows};
-ghost use Rattle.mpf_config.specs.Inside.{sections_view};
+ghost use Rattle.std.specs.Prelude.{◌≡◌};
+ghost use Rattle.yaml_subset.specs.View.{pair_view};
+ghost use Rattle.section_tables.specs.View.{spot_view, pairs_view};
+ghost use Rattle.mpf_config.specs.Reading.{has_right_starts, keeps_to_ball_end, line_of_key, starts_spot};
+ghost use Rattle.mpf_sections.specs.View.{content_view, mode_settings_view};
+ghost use Rattle.mpf_config.specs.Gives.{Passes, GivesPairs, GivesNames, GivesContent, GivesSection, GivesSections, pairs_of_tree, modes_all_new, modes_of_entry, content_of_entry, section_of_entry, sections_of_entries};
 
 use crate::config::{Content, Section};
 use crate::fault::{ConfigFault, FaultKind};
@@ -20,7 +18,7 @@ use mpf_tables::{TextKind, shape_of};
 use section_tables::rows::Name;
 use section_tables::spot::{Spot, spot_of};
 use section_tables::table::Shape;
-use section_tables::{Below, entries, entry as read_entry, name_list, players};
+use section_tables::{MapPairs, entries, entry as read_entry, name_list, players};
 use std::alloc::Global;
 use std::collections::BTreeSet;
 use yaml_subset::tree::{Key, Tree};
@@ -37,7 +35,7 @@ const START_EVENTS: &[u8] = b"start_events";
 // Sees that no mode has the name of the machine, or that of an earlier mode; or BadValue at the
 // list, or Duplicate at the later mode.
 fn compare_modes(alloc: Global, spot: Spot<'_>, modes: &[Name]) -> Result<(), ConfigFault>
-    ensures { GivesRows (λ u. u) result (modes_new_at (spot_view spot.entry) [] (map name_view modes.now)) }
+    ensures { Passes result (modes_all_new spot.entry modes.now) }
 {
     let mut names = BTreeSet::new(alloc);
     for mode in modes {
@@ -62,7 +60,7 @@ fn compare_modes(alloc: Global, spot: Spot<'_>, modes: &[Name]) -> Result<(), Co
 // of all, and then those of the names.
 #[tactic(auto, unfolding(crate::specs::Reading::modes_at))]
 fn modes(alloc: Global, text: &[u8], entry: &(Key, Tree)) -> Result<Vec<Name>, ConfigFault>
-    ensures { GivesRows names_view result (modes_at text.now (pair_view entry.now)) }
+    ensures { GivesNames result (modes_of_entry text.now entry.now) }
 {
     let names = name_list(alloc, MAX_MODES, text, entry)?;
     compare_modes(alloc, spot_of(text, &entry.0), &names)?;
@@ -76,7 +74,7 @@ fn content(
     text: &[u8],
     entry: &(Key, Tree),
 ) -> Result<Content, ConfigFault>
-    ensures { GivesRows content_view result (content_at text.now (pair_view entry.now) (shape_view shape)) }
+    ensures { GivesContent result (content_of_entry text.now entry.now shape) }
 {
     match shape {
         Shape::Entries(barred, table) => {
@@ -155,7 +153,7 @@ fn section(
     text: &[u8],
     entry: &(Key, Tree),
 ) -> Result<Section, ConfigFault>
-    ensures { GivesRows section_view result (section_at kind text.now (pair_view entry.now)) }
+    ensures { GivesSection result (section_of_entry kind text.now entry.now) }
 {
     let Some(shape) = shape_of(kind, &entry.0.text) else {
         let fault = spot_of(text, &entry.0).fault(alloc, FaultKind::UnknownSection)?;
@@ -176,14 +174,14 @@ pub fn sections_in<'a, 't: 'a>(
     alloc: Global,
     text: &[u8],
     tree: &'a Tree<'t>,
-) -> Result<Below<'a, 't>, ConfigFault>
-    ensures { GivesRows pairs_in_view result (sections_in text.now (node_view tree.now)) }
+) -> Result<MapPairs<'a, 't>, ConfigFault>
+    ensures { GivesPairs result (pairs_of_tree text.now tree.now) }
 {
     let Some(pairs) = tree.as_map() else {
         let fault = line_of(text, tree.line()).fault(alloc, FaultKind::BadValue)?;
         return Err(ConfigFault::Bundle(fault));
     };
-    Ok(Below { pairs })
+    Ok(MapPairs { pairs })
 }
 
 /// The rows of sections of a text of this kind and name, as written, without those that are
@@ -194,7 +192,7 @@ pub fn sections(
     text: &[u8],
     entries: &[(Key, Tree)],
 ) -> Result<Vec<Section>, ConfigFault>
-    ensures { GivesRows sections_view result (sections_at kind text.now (pairs_view entries.now)) }
+    ensures { GivesSections result (sections_of_entries kind text.now entries.now) }
 {
     let mut sections = Vec::new(alloc);
     for entry in entries {

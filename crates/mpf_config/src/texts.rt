@@ -1,13 +1,10 @@
 //! The texts of a bundle.
 
-ghost use Rattle.std.specs.Prelude.{◌≡◌, ◌≤◌, ◌^◌, ◌||◌, ℕ, List, not, false, length, IfOk};
-ghost use Rattle.std.specs.Str.{bytes_eq};
-ghost use Rattle.yaml_subset.specs.Keys.{is_among};
+ghost use Rattle.std.specs.Prelude.{◌≡◌, ◌≤◌, ◌+◌, ◌^◌, false, length, IfOk};
 ghost use Rattle.yaml_subset.specs.View.{option_slice};
 ghost use Rattle.mpf_config.specs.BundleText.{mode_text_name, name_in, piece_len, line_ends};
-ghost use Rattle.mpf_config.specs.Reading.{text_at, texts_at, machine_at};
-ghost use Rattle.mpf_config.specs.View.{GivesRows};
-ghost use Rattle.mpf_config.specs.Inside.{bytes_view, text_view, texts_view, keys_view};
+ghost use Rattle.mpf_config.specs.Reading.{text_at, texts_at};
+ghost use Rattle.mpf_config.specs.Gives.{GivesText, GivesTexts, GivesBytes, machine_text_in, is_new_name, GainsName};
 
 use crate::fault::{ConfigFault, FaultKind};
 use crate::spot::{NONE, line_of};
@@ -64,21 +61,24 @@ fn piece_len(bundle: &[u8]) -> usize
     }
 }
 
-/// How many lines end in a piece of a bundle.
-fn line_ends(piece: &[u8]) -> usize
-    ensures value { result ≡ line_ends piece.now }
-    ensures few { result ≤ length piece.now }
+/// How many lines end in the front of a bundle.
+fn line_ends(front: &[u8]) -> usize
+    ensures value { result ≡ line_ends front.now }
+    ensures few { result ≤ length front.now }
 {
-    memchr_iter(b'\n', piece).count()
+    memchr_iter(b'\n', front).count()
 }
 
-/// The text of a piece of the bundle, which begins at this line of it; or Bundle at the line.
+/// The text of a piece of the bundle, which comes after this front of it; or Bundle at the line where
+/// the piece begins. Lines are counted only then.
 #[tactic(auto, unfolding(crate::specs::Reading::text_at))]
-fn text_of<'a>(alloc: Global, line: u32, piece: &'a [u8]) -> Result<Text<'a>, ConfigFault>
-    ensures { GivesRows text_view result (text_at (line, piece.now)) }
+fn text_of<'a>(alloc: Global, front: &[u8], piece: &'a [u8]) -> Result<Text<'a>, ConfigFault>
+    requires { length front.now ≤ 2 ^ 23 }
+    ensures { GivesText result (text_at (1 + line_ends front.now, piece.now)) }
 {
     let (first, after) = split_line(piece);
     let Some(name) = name_in(first) else {
+        let line = 1 + line_ends(front) as u32;
         let fault = line_of(NONE, line).fault(alloc, FaultKind::Bundle)?;
         return Err(ConfigFault::Bundle(fault));
     };
@@ -93,24 +93,23 @@ fn text_of<'a>(alloc: Global, line: u32, piece: &'a [u8]) -> Result<Text<'a>, Co
 /// is not: the first one, or one that begins with `@`. An empty bundle has no texts.
 pub fn texts(alloc: Global, bundle: &[u8]) -> Result<Vec<Text<'_>>, ConfigFault>
     requires { length bundle.now ≤ 2 ^ 23 }
-    ensures { GivesRows (λ texts. texts_view texts.items) result (texts_at bundle.now) }
+    ensures { GivesTexts result (texts_at bundle.now) }
 {
     let mut texts = Vec::new(alloc);
-    let mut line = 1;
-    let mut rest = bundle;
-    while !rest.is_empty() {
-        let (piece, behind) = rest.split_at(piece_len(rest));
-        let text = text_of(alloc, line, piece)?;
+    let mut at = 0;
+    while at < bundle.len() {
+        let (front, rest) = bundle.split_at(at);
+        let (piece, _) = rest.split_at(piece_len(rest));
+        let text = text_of(alloc, front, piece)?;
         texts.push(text)?;
-        line += line_ends(piece) as u32;
-        rest = behind;
+        at += piece.len();
     }
     Ok(texts)
 }
 
 /// The machine text, wherever it stands among the texts; or Bundle.
 pub fn machine_text<'a>(alloc: Global, texts: &[Text<'a>]) -> Result<&'a [u8], ConfigFault>
-    ensures { GivesRows bytes_view result (machine_at (texts_view texts.now)) }
+    ensures { GivesBytes result (machine_text_in texts.now) }
 {
     for text in texts {
         if text.name == MACHINE_NAME {
@@ -126,8 +125,8 @@ pub fn take_name<'a>(
     names: &mut BTreeSet<&'a [u8]>,
     name: &'a [u8],
 ) -> Result<bool, AllocFailed<&'a [u8]>>
-    ensures fresh { IfOk result (λ fresh. fresh ≡ not (is_among (keys_view names.old) name.now)) }
-    ensures known { IfOk result (λ fresh. (q : List ℕ) → is_among (keys_view names.new) q ≡ (bytes_eq name.now q || is_among (keys_view names.old) q)) }
+    ensures fresh { IfOk result (λ fresh. fresh ≡ is_new_name names.old name.now) }
+    ensures known { IfOk result (λ _. GainsName names.old names.new name.now) }
 {
     names.insert(name)
 }

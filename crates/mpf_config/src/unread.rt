@@ -1,13 +1,11 @@
 //! What is not read of a bundle, and the notes on it: sections that are carried out nowhere, listed
 //! modes that have no text, and texts that are neither the machine text nor that of a listed mode.
 
-ghost use Rattle.std.specs.Prelude.{◌≡◌, ◌++◌, map, IfOk, IfErr};
-ghost use Rattle.yaml_subset.specs.View.{pair_view};
-ghost use Rattle.mpf_config.specs.Unread.{is_skipped, has_text, absent_of, skipped_note, absent_note, unlisted_note, machine_notes, mode_notes, unlisted_notes};
+ghost use Rattle.std.specs.Prelude.{◌≡◌, IfOk, IfErr};
+ghost use Rattle.mpf_config.specs.Unread.{is_skipped, has_text};
 ghost use Rattle.section_tables.specs.declared.fault.ConfigFault.TheVariants.{NoMemory};
-ghost use Rattle.section_tables.specs.View.{pairs_view};
-ghost use Rattle.mpf_config.specs.View.{name_view, note_view};
-ghost use Rattle.mpf_config.specs.Inside.{text_view, texts_view, notes_view, modes_view};
+ghost use Rattle.mpf_config.specs.Inside.{texts_view};
+ghost use Rattle.mpf_config.specs.Gives.{GainsNotes, IsSkippedNote, IsAbsentNote, IsUnlistedNote, notes_on_absent, notes_on_unlisted, AreMachineNotes, AreModeNotes};
 
 use crate::config::{Note, NoteKind};
 use crate::fault::ConfigFault;
@@ -65,7 +63,7 @@ pub fn is_skipped(name: &[u8]) -> bool
 
 /// The note on a skipped section of the text of this name.
 fn skipped(alloc: Global, text: &[u8], entry: &(Key, Tree)) -> Result<Note, AllocError>
-    ensures { IfOk result (λ note. note_view note ≡ skipped_note text.now (pair_view entry.now)) }
+    ensures { IfOk result (λ note. IsSkippedNote text.now entry.now note) }
 {
     let key = &entry.0;
     Ok(Note {
@@ -78,7 +76,7 @@ fn skipped(alloc: Global, text: &[u8], entry: &(Key, Tree)) -> Result<Note, Allo
 
 /// The note on a listed mode that has no text.
 fn absent(alloc: Global, mode: &Name) -> Result<Note, AllocError>
-    ensures { IfOk result (λ note. note_view note ≡ absent_note (name_view mode.now)) }
+    ensures { IfOk result (λ note. IsAbsentNote mode.now note) }
 {
     Ok(Note {
         kind: NoteKind::Absent,
@@ -90,7 +88,7 @@ fn absent(alloc: Global, mode: &Name) -> Result<Note, AllocError>
 
 /// The note on an unlisted text.
 fn unlisted(alloc: Global, text: Text<'_>) -> Result<Note, AllocError>
-    ensures { IfOk result (λ note. note_view note ≡ unlisted_note (text_view text.entry)) }
+    ensures { IfOk result (λ note. IsUnlistedNote text.entry note) }
 {
     Ok(Note {
         kind: NoteKind::Unlisted,
@@ -114,7 +112,7 @@ fn add_absent(
     texts: &[Text<'_>],
     notes: &mut Vec<Note>,
 ) -> Result<(), ConfigFault>
-    ensures added { IfOk result (λ _. notes_view notes.new ≡ notes_view notes.old ++ map absent_note (absent_of (texts_view texts.now) (modes_view modes.now))) }
+    ensures added { IfOk result (λ _. GainsNotes notes.old notes.new (notes_on_absent texts.now modes.now)) }
     ensures fails { IfErr result (λ e. e ≡ NoMemory) }
 {
     for mode in modes {
@@ -134,7 +132,7 @@ pub fn machine_notes(
     modes: &[ListedMode<'_>],
     texts: &[Text<'_>],
 ) -> Result<Vec<Note>, ConfigFault>
-    ensures are { IfOk result (λ notes. notes_view notes ≡ machine_notes (texts_view texts.now) (modes_view modes.now) (pairs_view sections.now)) }
+    ensures are { IfOk result (λ notes. AreMachineNotes texts.now modes.now sections.now notes) }
     ensures fails { IfErr result (λ e. e ≡ NoMemory) }
 {
     let mut notes = Vec::new(alloc);
@@ -156,7 +154,7 @@ pub fn mode_notes(
     text: &[u8],
     sections: &[(Key, Tree)],
 ) -> Result<Vec<Note>, ConfigFault>
-    ensures are { IfOk result (λ notes. notes_view notes ≡ mode_notes text.now (pairs_view sections.now)) }
+    ensures are { IfOk result (λ notes. AreModeNotes text.now sections.now notes) }
     ensures fails { IfErr result (λ e. e ≡ NoMemory) }
 {
     let mut notes = Vec::new(alloc);
@@ -177,7 +175,7 @@ pub fn add_unlisted(
     texts: &[Text<'_>],
     notes: &mut Vec<Note>,
 ) -> Result<(), ConfigFault>
-    ensures added { IfOk result (λ _. notes_view notes.new ≡ notes_view notes.old ++ unlisted_notes (modes_view modes.now) (texts_view texts.now)) }
+    ensures added { IfOk result (λ _. GainsNotes notes.old notes.new (notes_on_unlisted texts.now modes.now)) }
     ensures fails { IfErr result (λ e. e ≡ NoMemory) }
 {
     for text in texts {

@@ -1,11 +1,10 @@
 //! The tree of a text, and the version in its first line.
 
 ghost use Rattle.std.specs.Prelude.{◌≡◌};
-ghost use Rattle.yaml_subset.specs.View.{node_view};
 ghost use Rattle.mpf_config.specs.BundleText.{has_version};
 ghost use Rattle.mpf_config.specs.FaultLine.{yaml_kind_name};
 ghost use Rattle.mpf_config.specs.Reading.{text_tree_at};
-ghost use Rattle.mpf_config.specs.View.{GivesRows};
+ghost use Rattle.mpf_config.specs.Gives.{GivesTree};
 
 use crate::fault::{ConfigFault, FaultKind};
 use crate::spot::line_of;
@@ -52,7 +51,7 @@ pub fn tree_of<'a>(
     name: &[u8],
     text: &'a [u8],
 ) -> Result<Tree<'a>, ConfigFault>
-    ensures { GivesRows node_view result (text_tree_at name.now text.now) }
+    ensures { GivesTree result (text_tree_at name.now text.now) }
 {
     if !has_version(text) {
         let fault = line_of(name, 1).fault(alloc, FaultKind::Version)?;

@@ -1,8 +1,28 @@
 -- What contracts of the functions inside this crate see.
-use Rattle.std.specs.Prelude.{ℕ, ◌+◌, List, slice_get, unwrap_or}
-use Rattle.section_tables.specs.Rows.{Written, Value, Entry}
+use Rattle.std.specs.Prelude.{◌≡◌, ℕ, ◌+◌, Bool, List, map, Option, Some, option_map, slice_get, unwrap_or}
+use Rattle.std.specs.List.{list_all}
+use Rattle.std.specs.Str.{bytes_eq}
+use Rattle.std.specs.Borrow.{Bor}
+use Rattle.std.specs.Global.{Vec}
+use Rattle.section_tables.specs.declared.rows.Name.{Name}
+use Rattle.section_tables.specs.declared.rows.Handler.{Handler}
+use Rattle.section_tables.specs.declared.rows.Plain as plain_rows
+use Rattle.section_tables.specs.declared.rows.Value as value_rows
+use Rattle.section_tables.specs.declared.rows.Fields as field_rows
+use Rattle.section_tables.specs.declared.rows.Keyed as keyed_rows
+use Rattle.section_tables.specs.declared.rows.Entry as entry_rows
+use Rattle.section_tables.specs.Rows.{Written, Plain, Value, Entry, name as named}
+use Rattle.section_tables.specs.Entries.{written_at}
+use Rattle.section_tables.specs.View.{value_view, values_view, plains_view}
+use Rattle.mpf_sections.specs.declared.section.Content as contents
+use Rattle.mpf_sections.specs.declared.section.Section.{Section}
+use Rattle.mpf_sections.specs.declared.typed.NameAt.{NameAt}
+use Rattle.mpf_sections.specs.declared.typed.HandledAt.{HandledAt}
+use Rattle.mpf_sections.specs.declared.blocks.Block as typed_blocks
 use Rattle.mpf_sections.specs.Rows.{Block}
-use Rattle.mpf_sections.specs.Typed.{text_of, flag_of, listed_events, listed_posts, name_in}
+use Rattle.mpf_sections.specs.Typed.{text_of, flag_of, listed_names, listed_events, listed_posts, listed_steps, listed_maps, listed_keyed, name_in, handled_in, event_in, pulse_in, power_in, ball_ending, content_named}
+use Rattle.mpf_sections.specs.TypedShots.{few}
+use Rattle.mpf_sections.specs.View.{name_view, handler_view, handlers_view, plain_view, fields_view, keyed_view, entry_view, content_view, section_view, name_at_view, handled_at_view, plain_option_view, block_view}
 
 -- the settings that all logic blocks have, from this place on in a row
 abbrev pub block_at : ℕ → List Value → Block
@@ -21,3 +41,105 @@ block_at first row = record {
 -- the name at a place of an entry; its own in a row that has none there
 abbrev pub needed_at : ℕ → Entry → Written
 needed_at place e = unwrap_or (name_in (text_of (slice_get e.values place))) e.name
+
+-- the settings of a logic block, from this place on in a row of the program
+abbrev pub IsBlockAt : ℕ → List value_rows.Value → typed_blocks.Block → Type 0
+IsBlockAt first row block = block_view block ≡ block_at first (values_view row)
+
+-- the name at a place of an entry of the program; its own where there is none
+abbrev pub IsNeededAt : ℕ → entry_rows.Entry → NameAt → Type 0
+IsNeededAt place entry name = name_at_view name ≡ needed_at place (entry_view entry)
+
+-- ---- rows
+
+-- the value at a place of a row
+abbrev pub value_at : List value_rows.Value → ℕ → Option Value
+value_at row place = slice_get (values_view row) place
+
+-- the text at a place of a row, if there is one
+abbrev pub IsTextAt : List value_rows.Value → ℕ → Option (Bor plain_rows.Plain) → Type 0
+IsTextAt row place text = plain_option_view text ≡ text_of (value_at row place)
+
+-- the names that are listed at a place of a row
+abbrev pub AreNamesAt : List value_rows.Value → ℕ → List Name → Type 0
+AreNamesAt row place names = map name_view names ≡ listed_names (value_at row place)
+
+-- the names that are listed at a place of a row, where they are 16 at most
+abbrev pub AreFewNamesAt : List value_rows.Value → ℕ → List Name → Type 0
+AreFewNamesAt row place names = map name_view names ≡ few (listed_names (value_at row place))
+
+-- the handled events that are listed at a place of a row
+abbrev pub AreEventsAt : List value_rows.Value → ℕ → List Handler → Type 0
+AreEventsAt row place events = map handler_view events ≡ listed_events (value_at row place)
+
+-- the posted events that a value lists
+abbrev pub ArePostsOf : value_rows.Value → List Name → Type 0
+ArePostsOf value posts = map name_view posts ≡ listed_posts (Some (value_view value))
+
+-- the posted events that are listed at a place of a row
+abbrev pub ArePostsAt : List value_rows.Value → ℕ → List Name → Type 0
+ArePostsAt row place posts = map name_view posts ≡ listed_posts (value_at row place)
+
+-- the steps at a place of a row
+abbrev pub AreStepsAt : List value_rows.Value → ℕ → List (Vec Handler) → Type 0
+AreStepsAt row place steps = map handlers_view steps ≡ listed_steps (value_at row place)
+
+-- the maps that are listed at a place of a row
+abbrev pub AreMapsAt : List value_rows.Value → ℕ → List field_rows.Fields → Type 0
+AreMapsAt row place maps = map fields_view maps ≡ listed_maps (value_at row place)
+
+-- the maps that are listed at a place of a row, where they are 16 at most
+abbrev pub AreFewMapsAt : List value_rows.Value → ℕ → List field_rows.Fields → Type 0
+AreFewMapsAt row place maps = map fields_view maps ≡ few (listed_maps (value_at row place))
+
+-- the names of a value, with what belongs to each
+abbrev pub AreKeyedOf : value_rows.Value → List keyed_rows.Keyed → Type 0
+AreKeyedOf value keyed = map keyed_view keyed ≡ listed_keyed (Some (value_view value))
+
+-- ---- maps and texts
+
+-- the text at a place of a map, if there is one
+abbrev pub field_at : List plain_rows.Plain → ℕ → Option Plain
+field_at values place = slice_get (plains_view values) place
+
+-- the same, as the program has it
+abbrev pub IsFieldAt : List plain_rows.Plain → ℕ → Option (Bor plain_rows.Plain) → Type 0
+IsFieldAt values place text = plain_option_view text ≡ field_at values place
+
+-- the event of this name, handled always
+abbrev pub IsAlways : NameAt → HandledAt → Type 0
+IsAlways name event = handled_at_view event ≡ handled_in (named (name_at_view name))
+
+-- the handled event that a text is
+abbrev pub IsHandledIn : plain_rows.Plain → HandledAt → Type 0
+IsHandledIn text event = handled_at_view event ≡ handled_in (plain_view text)
+
+-- the handled event that a text is, where it is written as one
+abbrev pub IsEventIn : Option (Bor plain_rows.Plain) → Option HandledAt → Type 0
+IsEventIn text event = option_map handled_at_view event ≡ event_in (plain_option_view text)
+
+-- the name that a text is, where it is one
+abbrev pub IsNameIn : Option (Bor plain_rows.Plain) → Option NameAt → Type 0
+IsNameIn text name = option_map name_at_view name ≡ name_in (plain_option_view text)
+
+-- the name that a text is, or this other one at line 0
+abbrev pub IsNameOr : List ℕ → Option (Bor plain_rows.Plain) → NameAt → Type 0
+IsNameOr otherwise text name = name_at_view name ≡ unwrap_or (name_in (plain_option_view text)) (written_at 0 otherwise)
+
+-- the milliseconds of a pulse that a text is
+abbrev pub pulse_of_text : Option (Bor plain_rows.Plain) → Option ℕ
+pulse_of_text text = pulse_in (plain_option_view text)
+
+-- the power that a text is
+abbrev pub power_of_text : Option (Bor plain_rows.Plain) → Option ℕ
+power_of_text text = power_in (plain_option_view text)
+
+-- ---- modes and sections
+
+-- whether each of these events is `ball_ending`
+abbrev pub are_ball_ending : List Handler → Bool
+are_ball_ending starts = list_all (λ h. bytes_eq h.event.name ball_ending) (map handler_view starts)
+
+-- what stands in the section of this name, if there is one
+abbrev pub IsContentNamed : List ℕ → List Section → Option (Bor contents.Content) → Type 0
+IsContentNamed name sections found = option_map (λ content. content_view content.now) found ≡ content_named name (map section_view sections)

@@ -9,4 +9,5 @@ pub mod Named
 pub mod Short
 pub mod SectionView
 pub mod View
+pub mod TypedOf
 pub mod Inside

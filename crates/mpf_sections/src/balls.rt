@@ -1,10 +1,11 @@
 //! The entries of `ball_devices`, by the names of their settings.
 
-ghost use Rattle.std.specs.Prelude.{◌≡◌, slice_get};
-ghost use Rattle.section_tables.specs.View.{values_view};
+ghost use Rattle.std.specs.Prelude.{◌≡◌};
 ghost use Rattle.mpf_sections.specs.Typed.{natural_within};
-ghost use Rattle.mpf_sections.specs.TypedBalls.{ball_device_of, is_tagged, is_trough, is_home, is_drain};
-ghost use Rattle.mpf_sections.specs.View.{entry_view, ball_device_view};
+ghost use Rattle.mpf_sections.specs.TypedBalls.{is_tagged, is_trough, is_home, is_drain};
+ghost use Rattle.mpf_sections.specs.View.{ball_device_view};
+ghost use Rattle.mpf_sections.specs.TypedOf.{IsBallDeviceOf};
+ghost use Rattle.mpf_sections.specs.Inside.{value_at};
 
 use crate::typed::NameAt;
 use crate::values::{few_names, flag, name, name_or, names, some_time, text};
@@ -71,7 +72,7 @@ const DRAIN: &[u8] = b"drain";
 
 // The number of attempts at a place of a row: up to 1,000; 0 where there is no such number.
 fn attempts(row: &[Value], at: usize) -> u16
-    ensures { result ≡ natural_within 0 1000 0 (slice_get (values_view row.now) at) }
+    ensures { result ≡ natural_within 0 1000 0 (value_at row.now at) }
 {
     match row.get(at) {
         Some(Value::One(Plain::Number(number))) => match u16::try_from(*number) {
@@ -85,7 +86,7 @@ fn attempts(row: &[Value], at: usize) -> u16
 /// An entry of `ball_devices`, by the names of its settings.
 #[tactic(auto, unfolding(crate::specs::TypedBalls::ball_device_of))]
 pub fn as_ball_device(entry: &Entry) -> BallDevice<'_>
-    ensures { ball_device_view result ≡ ball_device_of (entry_view entry.now) }
+    ensures { IsBallDeviceOf entry.now result }
 {
     let row = entry.values.as_slice();
     BallDevice {

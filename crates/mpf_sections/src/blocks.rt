@@ -1,10 +1,8 @@
 //! The entries of `counters`, `accruals` and `sequences`, by the names of their settings.
 
-ghost use Rattle.std.specs.Prelude.{◌≡◌, ◌≤◌};
-ghost use Rattle.section_tables.specs.View.{values_view};
-ghost use Rattle.mpf_sections.specs.Typed.{counter_of, step_block_of};
-ghost use Rattle.mpf_sections.specs.View.{entry_view, block_view, counter_view, step_block_view};
-ghost use Rattle.mpf_sections.specs.Inside.{block_at};
+ghost use Rattle.std.specs.Prelude.{◌≤◌};
+ghost use Rattle.mpf_sections.specs.Inside.{IsBlockAt};
+ghost use Rattle.mpf_sections.specs.TypedOf.{IsCounterOf, IsStepBlockOf};
 
 use crate::values::{direction, flag, handlers, limit, milliseconds, number, posts_at, steps};
 use crate::words::Direction;
@@ -102,7 +100,7 @@ pub const STEPS_COMPLETE: usize = 9;
 // The settings that all logic blocks have, from this place on in a row.
 fn as_block(row: &[Value], first: usize) -> Block<'_>
     requires { first ≤ 6 }
-    ensures { block_view result ≡ block_at first (values_view row.now) }
+    ensures { IsBlockAt first row.now result }
 {
     Block {
         reset_on_complete: flag(row, first),
@@ -120,7 +118,7 @@ fn as_block(row: &[Value], first: usize) -> Block<'_>
 /// An entry of `counters`, by the names of its settings.
 #[tactic(auto, unfolding(crate::specs::Typed::counter_of))]
 pub fn as_counter(entry: &Entry) -> Counter<'_>
-    ensures { counter_view result ≡ counter_of (entry_view entry.now) }
+    ensures { IsCounterOf entry.now result }
 {
     let row = entry.values.as_slice();
     Counter {
@@ -139,7 +137,7 @@ pub fn as_counter(entry: &Entry) -> Counter<'_>
 /// An entry of `accruals` or `sequences`, by the names of its settings.
 #[tactic(auto, unfolding(crate::specs::Typed::step_block_of))]
 pub fn as_step_block(entry: &Entry) -> StepBlock<'_>
-    ensures { step_block_view result ≡ step_block_of (entry_view entry.now) }
+    ensures { IsStepBlockOf entry.now result }
 {
     let row = entry.values.as_slice();
     StepBlock {

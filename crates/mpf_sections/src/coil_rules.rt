@@ -1,9 +1,7 @@
 //! The entries of `flippers` and `autofire_coils`, by the names of their settings.
 
-ghost use Rattle.std.specs.Prelude.{◌≡◌};
-ghost use Rattle.mpf_sections.specs.Inside.{needed_at};
-ghost use Rattle.mpf_sections.specs.TypedCoils.{flipper_of, autofire_of};
-ghost use Rattle.mpf_sections.specs.View.{entry_view, name_at_view, flipper_view, autofire_view};
+ghost use Rattle.mpf_sections.specs.Inside.{IsNeededAt};
+ghost use Rattle.mpf_sections.specs.TypedOf.{IsFlipperOf, IsAutofireOf};
 
 use crate::typed::NameAt;
 use crate::values::{handlers, name, text};
@@ -71,7 +69,7 @@ const AUTOFIRE_DISABLES: usize = 3;
 
 // A name that has to be written; the entry's own in a row that no table gives.
 fn needed_name(entry: &Entry, at: usize) -> NameAt<'_>
-    ensures { name_at_view result ≡ needed_at at (entry_view entry.now) }
+    ensures { IsNeededAt at entry.now result }
 {
     let row = entry.values.as_slice();
     match name(text(row, at)) {
@@ -86,7 +84,7 @@ fn needed_name(entry: &Entry, at: usize) -> NameAt<'_>
 /// An entry of `flippers`, by the names of its settings.
 #[tactic(auto, unfolding(crate::specs::TypedCoils::flipper_of))]
 pub fn as_flipper(entry: &Entry) -> Flipper<'_>
-    ensures { flipper_view result ≡ flipper_of (entry_view entry.now) }
+    ensures { IsFlipperOf entry.now result }
 {
     let row = entry.values.as_slice();
     Flipper {
@@ -103,7 +101,7 @@ pub fn as_flipper(entry: &Entry) -> Flipper<'_>
 /// An entry of `autofire_coils`, by the names of its settings.
 #[tactic(auto, unfolding(crate::specs::TypedCoils::autofire_of))]
 pub fn as_autofire(entry: &Entry) -> Autofire<'_>
-    ensures { autofire_view result ≡ autofire_of (entry_view entry.now) }
+    ensures { IsAutofireOf entry.now result }
 {
     let row = entry.values.as_slice();
     Autofire {

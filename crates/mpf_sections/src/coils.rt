@@ -1,8 +1,8 @@
 //! The entries of `coils` and `coil_player`, by the names of their settings.
 
-ghost use Rattle.std.specs.Prelude.{◌≡◌, unwrap_or};
-ghost use Rattle.mpf_sections.specs.TypedCoils.{may_hold, max_hold_power, coil_action_of, coil_of, coil_item_of, coil_player_of};
-ghost use Rattle.mpf_sections.specs.View.{keyed_view, entry_view, player_view, coil_view, coil_item_view, coil_player_view};
+ghost use Rattle.std.specs.Prelude.{◌≡◌};
+ghost use Rattle.mpf_sections.specs.TypedCoils.{may_hold, max_hold_power, coil_action_of};
+ghost use Rattle.mpf_sections.specs.TypedOf.{IsCoilPlayerOf, IsCoilItemOf, IsCoilOf};
 
 use crate::typed::HandledAt;
 use crate::values::{field, flag, handled, keyed, power, pulse, text, word_field};
@@ -114,7 +114,7 @@ fn max_hold_power(written: Option<u16>, allowed: bool, power: Option<u16>) -> u1
 /// An entry of `coils`, by the names of its settings.
 #[tactic(auto, unfolding(crate::specs::TypedCoils::coil_of))]
 pub fn as_coil(entry: &Entry) -> Coil<'_>
-    ensures { coil_view result ≡ coil_of (entry_view entry.now) }
+    ensures { IsCoilOf entry.now result }
 {
     let row = entry.values.as_slice();
     let pulse_ms = pulse(text(row, DEFAULT_PULSE_MS)).unwrap_or(10);
@@ -136,7 +136,7 @@ pub fn as_coil(entry: &Entry) -> Coil<'_>
 /// What belongs to a coil in an entry of `coil_player`, by the names of its fields.
 #[tactic(auto, unfolding(crate::specs::TypedCoils::coil_item_of))]
 pub fn as_coil_item(keyed: &Keyed) -> CoilItem<'_>
-    ensures { coil_item_view result ≡ coil_item_of (keyed_view keyed.now) }
+    ensures { IsCoilItemOf keyed.now result }
 {
     let values = keyed.values.as_slice();
     CoilItem {
@@ -151,7 +151,7 @@ pub fn as_coil_item(keyed: &Keyed) -> CoilItem<'_>
 /// An entry of `coil_player`, by the names of what it has.
 #[tactic(auto, unfolding(crate::specs::TypedCoils::coil_player_of))]
 pub fn as_coil_player(player: &Player) -> CoilPlayer<'_>
-    ensures { coil_player_view result ≡ coil_player_of (player_view player.now) }
+    ensures { IsCoilPlayerOf player.now result }
 {
     CoilPlayer {
         event: handled(&player.event),

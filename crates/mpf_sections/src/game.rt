@@ -1,8 +1,8 @@
 //! The entries of `machine`, `game` and `variable_player`, by the names of their settings.
 
-ghost use Rattle.std.specs.Prelude.{◌≡◌, map};
-ghost use Rattle.mpf_sections.specs.TypedGame.{variable_action_of, variable_item_of, variable_player_of, game_of, min_balls_of};
-ghost use Rattle.mpf_sections.specs.View.{keyed_view, entry_view, player_view, section_view, variable_item_view, variable_player_view, game_view};
+ghost use Rattle.std.specs.Prelude.{◌≡◌};
+ghost use Rattle.mpf_sections.specs.TypedGame.{variable_action_of};
+ghost use Rattle.mpf_sections.specs.TypedOf.{IsVariablePlayerOf, IsVariableItemOf, IsGameOf, min_balls_in};
 
 use crate::section::{Content, Section};
 use crate::typed::{HandledAt, section_named};
@@ -66,7 +66,7 @@ fn action_of(word: &[u8]) -> VariableAction
 /// What belongs to a variable in an entry of `variable_player`, by the names of its fields.
 #[tactic(auto, unfolding(crate::specs::TypedGame::variable_item_of))]
 pub fn as_variable_item(keyed: &Keyed) -> VariableItem<'_>
-    ensures { variable_item_view result ≡ variable_item_of (keyed_view keyed.now) }
+    ensures { IsVariableItemOf keyed.now result }
 {
     let values = keyed.values.as_slice();
     VariableItem {
@@ -79,7 +79,7 @@ pub fn as_variable_item(keyed: &Keyed) -> VariableItem<'_>
 /// An entry of `variable_player`, by the names of what it has.
 #[tactic(auto, unfolding(crate::specs::TypedGame::variable_player_of))]
 pub fn as_variable_player(player: &Player) -> VariablePlayer<'_>
-    ensures { variable_player_view result ≡ variable_player_of (player_view player.now) }
+    ensures { IsVariablePlayerOf player.now result }
 {
     VariablePlayer {
         event: handled(&player.event),
@@ -90,7 +90,7 @@ pub fn as_variable_player(player: &Player) -> VariablePlayer<'_>
 /// The entry that the section `game` is, by the names of its settings.
 #[tactic(auto, unfolding(crate::specs::TypedGame::game_of))]
 pub fn as_game(entry: &Entry) -> GameSettings
-    ensures { game_view result ≡ game_of (entry_view entry.now) }
+    ensures { IsGameOf entry.now result }
 {
     let row = entry.values.as_slice();
     GameSettings {
@@ -102,7 +102,7 @@ pub fn as_game(entry: &Entry) -> GameSettings
 /// How many balls have to be there for a game to begin: what the section `machine` says, up to 99;
 /// 1 where it says nothing, and where there is no such section.
 pub fn min_balls(sections: &[Section]) -> u32
-    ensures { result ≡ min_balls_of (map section_view sections.now) }
+    ensures { result ≡ min_balls_in sections.now }
 {
     match section_named(sections, MACHINE_SECTION_NAME) {
         Some(Content::Entry(entry)) => natural_within(&entry.values, MIN_BALLS, 0, 99, 1),

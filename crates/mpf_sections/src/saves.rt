@@ -1,10 +1,9 @@
 //! The entries of `ball_saves` and `multiballs`, by the names of their settings.
 
-ghost use Rattle.std.specs.Prelude.{◌≡◌, slice_get};
-ghost use Rattle.section_tables.specs.View.{values_view};
+ghost use Rattle.std.specs.Prelude.{◌≡◌};
 ghost use Rattle.mpf_sections.specs.Typed.{natural_within};
-ghost use Rattle.mpf_sections.specs.TypedSaves.{ball_save_of, multiball_of};
-ghost use Rattle.mpf_sections.specs.View.{entry_view, ball_save_view, multiball_view};
+ghost use Rattle.mpf_sections.specs.TypedOf.{IsBallSaveOf, IsMultiballOf};
+ghost use Rattle.mpf_sections.specs.Inside.{value_at};
 
 use crate::values::{handlers, milliseconds};
 use section_tables::rows::{Entry, Handler, Name, Plain, Value};
@@ -51,7 +50,7 @@ const START_EVENTS: usize = 1;
 // The number of balls at a place of a row: at most 99, and at least this; this where there is no such
 // number.
 fn balls(row: &[Value], at: usize, least: u8) -> u8
-    ensures { result ≡ natural_within least 99 least (slice_get (values_view row.now) at) }
+    ensures { result ≡ natural_within least 99 least (value_at row.now at) }
 {
     match row.get(at) {
         Some(Value::One(Plain::Number(number))) => match u8::try_from(*number) {
@@ -65,7 +64,7 @@ fn balls(row: &[Value], at: usize, least: u8) -> u8
 /// An entry of `ball_saves`, by the names of its settings.
 #[tactic(auto, unfolding(crate::specs::TypedSaves::ball_save_of))]
 pub fn as_ball_save(entry: &Entry) -> BallSave<'_>
-    ensures { ball_save_view result ≡ ball_save_of (entry_view entry.now) }
+    ensures { IsBallSaveOf entry.now result }
 {
     let row = entry.values.as_slice();
     BallSave {
@@ -80,7 +79,7 @@ pub fn as_ball_save(entry: &Entry) -> BallSave<'_>
 /// An entry of `multiballs`, by the names of its settings.
 #[tactic(auto, unfolding(crate::specs::TypedSaves::multiball_of))]
 pub fn as_multiball(entry: &Entry) -> Multiball<'_>
-    ensures { multiball_view result ≡ multiball_of (entry_view entry.now) }
+    ensures { IsMultiballOf entry.now result }
 {
     let row = entry.values.as_slice();
     Multiball {

@@ -1,10 +1,7 @@
 //! The entries of `shots`, `shot_groups` and `shot_profiles`, by the names of their settings.
 
-ghost use Rattle.std.specs.Prelude.{◌≡◌, map, option_map, slice_get};
-ghost use Rattle.section_tables.specs.View.{values_view};
-ghost use Rattle.mpf_sections.specs.Typed.{listed_maps};
-ghost use Rattle.mpf_sections.specs.TypedShots.{few, shot_of, shot_group_of, state_of, shot_profile_of};
-ghost use Rattle.mpf_sections.specs.View.{fields_view, entry_view, name_at_view, shot_view, shot_group_view, shot_profile_view};
+ghost use Rattle.mpf_sections.specs.TypedOf.{IsShotOf, IsShotGroupOf, IsShotProfileOf, IsStateOf};
+ghost use Rattle.mpf_sections.specs.Inside.{AreFewMapsAt};
 
 use crate::typed::NameAt;
 use crate::values::{few_names, field, flag, handlers, maps, name, name_or, text};
@@ -105,7 +102,7 @@ const STATE_NAME: usize = 0;
 
 // The maps at a place of a row, 16 at most.
 fn few_maps(row: &[Value], at: usize) -> &[Fields]
-    ensures { map fields_view result.now ≡ few (listed_maps (slice_get (values_view row.now) at)) }
+    ensures { AreFewMapsAt row.now at result.now }
 {
     let maps = maps(row, at);
     if maps.len() <= 16 { maps } else { &[] }
@@ -114,7 +111,7 @@ fn few_maps(row: &[Value], at: usize) -> &[Fields]
 /// An entry of `shots`, by the names of its settings.
 #[tactic(auto, unfolding(crate::specs::TypedShots::shot_of))]
 pub fn as_shot(entry: &Entry) -> Shot<'_>
-    ensures { shot_view result ≡ shot_of (entry_view entry.now) }
+    ensures { IsShotOf entry.now result }
 {
     let row = entry.values.as_slice();
     Shot {
@@ -133,7 +130,7 @@ pub fn as_shot(entry: &Entry) -> Shot<'_>
 /// An entry of `shot_groups`, by the names of its settings.
 #[tactic(auto, unfolding(crate::specs::TypedShots::shot_group_of))]
 pub fn as_shot_group(entry: &Entry) -> ShotGroup<'_>
-    ensures { shot_group_view result ≡ shot_group_of (entry_view entry.now) }
+    ensures { IsShotGroupOf entry.now result }
 {
     let row = entry.values.as_slice();
     ShotGroup {
@@ -149,7 +146,7 @@ pub fn as_shot_group(entry: &Entry) -> ShotGroup<'_>
 /// A map of `states`: the name of the state; none if it has none, as no map has that is read.
 #[tactic(auto, unfolding(crate::specs::TypedShots::state_of))]
 pub fn as_state(map: &Fields) -> Option<NameAt<'_>>
-    ensures { option_map name_at_view result ≡ state_of (fields_view map.now) }
+    ensures { IsStateOf map.now result }
 {
     name(field(&map.values, STATE_NAME))
 }
@@ -157,7 +154,7 @@ pub fn as_state(map: &Fields) -> Option<NameAt<'_>>
 /// An entry of `shot_profiles`, by the names of its settings.
 #[tactic(auto, unfolding(crate::specs::TypedShots::shot_profile_of))]
 pub fn as_shot_profile(entry: &Entry) -> ShotProfile<'_>
-    ensures { shot_profile_view result ≡ shot_profile_of (entry_view entry.now) }
+    ensures { IsShotProfileOf entry.now result }
 {
     let row = entry.values.as_slice();
     ShotProfile {

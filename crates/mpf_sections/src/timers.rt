@@ -1,8 +1,8 @@
 //! The entries of `timers`, by the names of their settings.
 
-ghost use Rattle.std.specs.Prelude.{◌≡◌, map, option_map};
-ghost use Rattle.mpf_sections.specs.Typed.{action_of, end_from, interval_from, control_of, timer_of};
-ghost use Rattle.mpf_sections.specs.View.{fields_view, entry_view, control_view, timer_view};
+ghost use Rattle.std.specs.Prelude.{◌≡◌};
+ghost use Rattle.mpf_sections.specs.Typed.{action_of, end_from, interval_from};
+ghost use Rattle.mpf_sections.specs.TypedOf.{IsTimerOf, IsControlOf};
 
 use crate::typed::HandledAt;
 use crate::values::{
@@ -130,7 +130,7 @@ fn interval_from(ms: u32) -> u32
 /// that is read.
 #[tactic(auto, unfolding(crate::specs::Typed::control_of))]
 pub fn as_control(map: &Fields) -> Option<Control<'_>>
-    ensures { option_map control_view result ≡ control_of (fields_view map.now) }
+    ensures { IsControlOf map.now result }
 {
     let values = map.values.as_slice();
     let event = event(field(values, EVENT))?;
@@ -144,7 +144,7 @@ pub fn as_control(map: &Fields) -> Option<Control<'_>>
 /// An entry of `timers`, by the names of its settings.
 #[tactic(auto, unfolding(crate::specs::Typed::timer_of))]
 pub fn as_timer(entry: &Entry) -> Timer<'_>
-    ensures { timer_view result ≡ timer_of (entry_view entry.now) }
+    ensures { IsTimerOf entry.now result }
 {
     let row = entry.values.as_slice();
     let direction = direction(row, DIRECTION);

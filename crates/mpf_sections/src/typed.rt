@@ -1,11 +1,10 @@
 //! The entries of sections, by the names of their settings.
 
-ghost use Rattle.std.specs.Prelude.{◌≡◌, None, map, option_map};
-ghost use Rattle.std.specs.List.{list_all};
-ghost use Rattle.std.specs.Str.{bytes_eq};
-ghost use Rattle.section_tables.specs.View.{name_view, handler_view, values_view, entry_view, player_view};
-ghost use Rattle.mpf_sections.specs.Typed.{mode_settings_of, ball_ending, starts_at_ball_end, mode_row, mode_settings, listed_modes, content_named, contact_of, debounce_of, switch_of, event_player_of, entries_in, players_in, entries_of, players_of};
-ghost use Rattle.mpf_sections.specs.View.{content_view, section_view, handled_at_view, switch_view, event_player_view, mode_settings_view};
+ghost use Rattle.std.specs.Prelude.{◌≡◌, None};
+ghost use Rattle.mpf_sections.specs.Typed.{mode_settings_of, starts_at_ball_end, mode_row, contact_of, debounce_of};
+ghost use Rattle.mpf_sections.specs.View.{mode_settings_view};
+ghost use Rattle.mpf_sections.specs.TypedOf.{IsEventOf, IsSwitchOf, IsEventPlayerOf, AreModeSettingsOf, AreModeSettingsIn, AreModesIn, AreEntriesIn, ArePlayersIn, AreEntriesOf, ArePlayersOf};
+ghost use Rattle.mpf_sections.specs.Inside.{are_ball_ending, IsContentNamed};
 
 use crate::section::{Content, Section};
 use crate::values::{flag, handled, handlers, names, natural, posts, posts_at, word};
@@ -75,7 +74,7 @@ pub struct ModeSettings<'a> {
 
 /// An event of a list, where it is written.
 pub fn as_handled(handler: &Handler) -> HandledAt<'_>
-    ensures { handled_at_view result ≡ handler_view handler.now }
+    ensures { IsEventOf handler.now result }
 {
     HandledAt {
         line: handler.line,
@@ -131,7 +130,7 @@ fn debounce_of(word: &[u8]) -> Debounce
 /// An entry of `switches`, by the names of its settings.
 #[tactic(auto, unfolding(crate::specs::Typed::switch_of))]
 pub fn as_switch(entry: &Entry) -> Switch<'_>
-    ensures { switch_view result ≡ switch_of (entry_view entry.now) }
+    ensures { IsSwitchOf entry.now result }
 {
     let row = entry.values.as_slice();
     Switch {
@@ -150,7 +149,7 @@ pub fn as_switch(entry: &Entry) -> Switch<'_>
 /// An entry of `event_player`, by the names of what it has.
 #[tactic(auto, unfolding(crate::specs::Typed::event_player_of))]
 pub fn as_event_player(player: &Player) -> EventPlayer<'_>
-    ensures { event_player_view result ≡ event_player_of (player_view player.now) }
+    ensures { IsEventPlayerOf player.now result }
 {
     EventPlayer {
         event: handled(&player.event),
@@ -193,7 +192,7 @@ fn default_settings<'a>() -> ModeSettings<'a>
 /// The row of `mode`, by the names of its settings.
 #[tactic(auto, unfolding(crate::specs::Typed::mode_settings_of))]
 pub fn as_mode_settings(row: &[Value]) -> ModeSettings<'_>
-    ensures { mode_settings_view result ≡ mode_settings_of (values_view row.now) }
+    ensures { AreModeSettingsOf row.now result }
 {
     ModeSettings {
         starts: handlers(row, START_EVENTS),
@@ -218,7 +217,7 @@ impl ModeSettings<'_> {
 
 // Whether each of these events is `ball_ending`.
 fn are_ball_ending(starts: &[Handler]) -> bool
-    ensures { result ≡ list_all (λ h. bytes_eq h.event.name ball_ending) (map handler_view starts.now) }
+    ensures { result ≡ are_ball_ending starts.now }
 {
     starts
         .iter()
@@ -228,7 +227,7 @@ fn are_ball_ending(starts: &[Handler]) -> bool
 /// What the sections of a mode say of it: its section `mode`, with the defaults for what is not
 /// written.
 pub fn mode_settings(sections: &[Section]) -> ModeSettings<'_>
-    ensures { mode_settings_view result ≡ mode_settings (map section_view sections.now) }
+    ensures { AreModeSettingsIn sections.now result }
 {
     match section_named(sections, MODE_NAME) {
         Some(Content::Entry(entry)) => as_mode_settings(&entry.values),
@@ -241,7 +240,7 @@ pub fn mode_settings(sections: &[Section]) -> ModeSettings<'_>
 /// The names that the section `modes` lists, each with its line; none where there is no such
 /// section.
 pub fn listed_modes(sections: &[Section]) -> &[Name]
-    ensures { map name_view result.now ≡ listed_modes (map section_view sections.now) }
+    ensures { AreModesIn sections.now result.now }
 {
     match section_named(sections, MODES_NAME) {
         Some(Content::Names(names)) => names,
@@ -253,7 +252,7 @@ pub fn listed_modes(sections: &[Section]) -> &[Name]
 
 /// The content of the section of this name, if there is one.
 pub(crate) fn section_named<'a>(sections: &'a [Section], name: &[u8]) -> Option<&'a Content>
-    ensures { option_map (λ content. content_view content.now) result ≡ content_named name.now (map section_view sections.now) }
+    ensures { IsContentNamed name.now sections.now result }
 {
     for section in sections {
         if section.name.as_slice() == name {
@@ -266,7 +265,7 @@ pub(crate) fn section_named<'a>(sections: &'a [Section], name: &[u8]) -> Option<
 impl Content {
     /// The entries of a section that is written as entries; none of any other.
     pub fn entries(&self) -> &[Entry]
-        ensures { map entry_view result.now ≡ entries_in (content_view self.now) }
+        ensures { AreEntriesIn self.now result.now }
     {
         match self {
             Content::Entries(entries) => entries,
@@ -275,7 +274,7 @@ impl Content {
     }
 
     fn players(&self) -> &[Player]
-        ensures { map player_view result.now ≡ players_in (content_view self.now) }
+        ensures { ArePlayersIn self.now result.now }
     {
         match self {
             Content::Players(players) => players,
@@ -288,7 +287,7 @@ impl Section {
     /// The entries of the section, where it has this name; none otherwise. Those of `switches` are to be
     /// read with [`as_switch`], and so on. `mpf_tables::tables` has the names.
     pub fn entries_of(&self, name: &[u8]) -> &[Entry]
-        ensures { map entry_view result.now ≡ entries_of name.now (section_view self.now) }
+        ensures { AreEntriesOf name.now self.now result.now }
     {
         if self.name.as_slice() == name {
             return self.content.entries();
@@ -298,7 +297,7 @@ impl Section {
 
     /// The entries of the player, where the section has this name; none otherwise.
     pub fn players_of(&self, name: &[u8]) -> &[Player]
-        ensures { map player_view result.now ≡ players_of name.now (section_view self.now) }
+        ensures { ArePlayersOf name.now self.now result.now }
     {
         if self.name.as_slice() == name {
             return self.content.players();

@@ -1,15 +1,11 @@
 //! Values in a row, by their places.
 
-ghost use Rattle.std.specs.Prelude.{◌≡◌, ◌&&◌, nat_le, map, option_map, slice_get, unwrap_or, pos, negsuc};
-ghost use Rattle.section_tables.specs.Entries.{written_at};
+ghost use Rattle.std.specs.Prelude.{◌≡◌, ◌&&◌, nat_le, pos, negsuc};
 ghost use Rattle.section_tables.specs.EntryOf.{within};
-ghost use Rattle.section_tables.specs.View.{name_view, handler_view, handlers_view, fields_view, keyed_view, plain_view, plains_view, value_view, values_view};
-ghost use Rattle.mpf_sections.specs.Typed.{listed_names, listed_events, listed_posts, listed_steps, listed_maps, listed_keyed, text_of, word_of, flag_of, natural_of, natural_within, number_of, direction_of, limit_of, time_of, handled_in, event_in, name_in, word_in, number_in, pulse_in, power_in};
-ghost use Rattle.section_tables.specs.Rows.{name as named};
+ghost use Rattle.mpf_sections.specs.Typed.{word_of, flag_of, natural_of, natural_within, number_of, direction_of, limit_of, time_of, word_in, number_in};
 ghost use Rattle.mpf_sections.specs.TypedGame.{change_in};
-ghost use Rattle.mpf_sections.specs.TypedShots.{few};
 ghost use Rattle.mpf_sections.specs.TypedBalls.{some_time_of};
-ghost use Rattle.mpf_sections.specs.View.{name_at_view, handled_at_view, plain_option_view};
+ghost use Rattle.mpf_sections.specs.Inside.{value_at, IsTextAt, AreNamesAt, AreFewNamesAt, AreEventsAt, ArePostsOf, ArePostsAt, AreStepsAt, AreMapsAt, AreKeyedOf, field_at, IsFieldAt, IsAlways, IsHandledIn, IsEventIn, IsNameIn, IsNameOr, pulse_of_text, power_of_text};
 
 use crate::typed::{HandledAt, NameAt, as_handled};
 use crate::words::Direction;
@@ -21,7 +17,7 @@ const DOWN: &[u8] = b"down";
 
 /// The names at a place of a row; none where there is no list of names.
 pub fn names(row: &[Value], at: usize) -> &[Name]
-    ensures { map name_view result.now ≡ listed_names (slice_get (values_view row.now) at) }
+    ensures { AreNamesAt row.now at result.now }
 {
     match row.get(at) {
         Some(Value::Names(names)) => names,
@@ -32,7 +28,7 @@ pub fn names(row: &[Value], at: usize) -> &[Name]
 /// The names at a place of a row, 16 at most; none where there are more, or there is no list of
 /// names.
 pub fn few_names(row: &[Value], at: usize) -> &[Name]
-    ensures { map name_view result.now ≡ few (listed_names (slice_get (values_view row.now) at)) }
+    ensures { AreFewNamesAt row.now at result.now }
 {
     let names = names(row, at);
     if names.len() <= 16 { names } else { &[] }
@@ -40,7 +36,7 @@ pub fn few_names(row: &[Value], at: usize) -> &[Name]
 
 /// The handled events at a place of a row; none where there is no list of them.
 pub fn handlers(row: &[Value], at: usize) -> &[Handler]
-    ensures { map handler_view result.now ≡ listed_events (slice_get (values_view row.now) at) }
+    ensures { AreEventsAt row.now at result.now }
 {
     match row.get(at) {
         Some(Value::Events(handlers)) => handlers,
@@ -50,7 +46,7 @@ pub fn handlers(row: &[Value], at: usize) -> &[Handler]
 
 /// The posted events that a value is; none where it is no list of them.
 pub fn posts(value: &Value) -> &[Name]
-    ensures { map name_view result.now ≡ listed_posts (Some (value_view value.now)) }
+    ensures { ArePostsOf value.now result.now }
 {
     match value {
         Value::Posts(posts) => posts,
@@ -60,7 +56,7 @@ pub fn posts(value: &Value) -> &[Name]
 
 /// The posted events at a place of a row.
 pub fn posts_at(row: &[Value], at: usize) -> &[Name]
-    ensures { map name_view result.now ≡ listed_posts (slice_get (values_view row.now) at) }
+    ensures { ArePostsAt row.now at result.now }
 {
     match row.get(at) {
         Some(value) => posts(value),
@@ -70,7 +66,7 @@ pub fn posts_at(row: &[Value], at: usize) -> &[Name]
 
 /// The word at a place of a row; the empty one where there is none.
 pub fn word(row: &[Value], at: usize) -> &'static [u8]
-    ensures { result.now ≡ word_of (slice_get (values_view row.now) at) }
+    ensures { result.now ≡ word_of (value_at row.now at) }
 {
     match row.get(at) {
         Some(Value::One(Plain::Word(word))) => word,
@@ -80,7 +76,7 @@ pub fn word(row: &[Value], at: usize) -> &'static [u8]
 
 /// The flag at a place of a row; false where there is none.
 pub fn flag(row: &[Value], at: usize) -> bool
-    ensures { result ≡ flag_of (slice_get (values_view row.now) at) }
+    ensures { result ≡ flag_of (value_at row.now at) }
 {
     match row.get(at) {
         Some(Value::One(Plain::Flag(flag))) => *flag,
@@ -90,7 +86,7 @@ pub fn flag(row: &[Value], at: usize) -> bool
 
 /// The number at a place of a row; 0 where there is none, or it is not of 32 bits.
 pub fn natural(row: &[Value], at: usize) -> u32
-    ensures { result ≡ natural_of (slice_get (values_view row.now) at) }
+    ensures { result ≡ natural_of (value_at row.now at) }
 {
     match row.get(at) {
         Some(Value::One(Plain::Number(number))) => u32::try_from(*number).unwrap_or(0),
@@ -100,7 +96,7 @@ pub fn natural(row: &[Value], at: usize) -> u32
 
 /// The number at a place of a row, of this range; where there is none, another.
 pub fn natural_within(row: &[Value], at: usize, least: u32, greatest: u32, otherwise: u32) -> u32
-    ensures { result ≡ natural_within least greatest otherwise (slice_get (values_view row.now) at) }
+    ensures { result ≡ natural_within least greatest otherwise (value_at row.now at) }
 {
     match row.get(at) {
         Some(Value::One(Plain::Number(number))) => match u32::try_from(*number) {
@@ -120,7 +116,7 @@ fn is_limit(n: i64) -> bool
 
 /// The whole number at a place of a row; 0 where there is none.
 pub fn number(row: &[Value], at: usize) -> i64
-    ensures { result ≡ number_of (slice_get (values_view row.now) at) }
+    ensures { result ≡ number_of (value_at row.now at) }
 {
     match row.get(at) {
         Some(Value::One(Plain::Number(number))) => *number,
@@ -130,7 +126,7 @@ pub fn number(row: &[Value], at: usize) -> i64
 
 /// The number at a place of a row where there may be none.
 pub fn limit(row: &[Value], at: usize) -> Option<i64>
-    ensures { result ≡ limit_of (slice_get (values_view row.now) at) }
+    ensures { result ≡ limit_of (value_at row.now at) }
 {
     match row.get(at) {
         Some(Value::One(Plain::Number(number))) if is_limit(*number) => Some(*number),
@@ -140,7 +136,7 @@ pub fn limit(row: &[Value], at: usize) -> Option<i64>
 
 /// The direction at a place of a row; up where there is none.
 pub fn direction(row: &[Value], at: usize) -> Direction
-    ensures { result ≡ direction_of (word_of (slice_get (values_view row.now) at)) }
+    ensures { result ≡ direction_of (word_of (value_at row.now at)) }
 {
     if word(row, at) == DOWN {
         return Direction::Down;
@@ -150,7 +146,7 @@ pub fn direction(row: &[Value], at: usize) -> Direction
 
 /// The milliseconds at a place of a row; 0 where there is no time.
 pub fn milliseconds(row: &[Value], at: usize) -> u32
-    ensures { result ≡ time_of (slice_get (values_view row.now) at) }
+    ensures { result ≡ time_of (value_at row.now at) }
 {
     match row.get(at) {
         Some(Value::One(Plain::Time(ms))) => *ms,
@@ -160,7 +156,7 @@ pub fn milliseconds(row: &[Value], at: usize) -> u32
 
 /// The milliseconds at a place of a row, at least 1; where there are none, others.
 pub fn some_time(row: &[Value], at: usize, otherwise: u32) -> u32
-    ensures { result ≡ some_time_of otherwise (slice_get (values_view row.now) at) }
+    ensures { result ≡ some_time_of otherwise (value_at row.now at) }
 {
     match row.get(at) {
         Some(Value::One(Plain::Time(ms))) if *ms >= 1 => *ms,
@@ -170,7 +166,7 @@ pub fn some_time(row: &[Value], at: usize, otherwise: u32) -> u32
 
 /// The steps at a place of a row, 16 at most; none where there are no steps.
 pub fn steps(row: &[Value], at: usize) -> &[Vec<Handler>]
-    ensures { map handlers_view result.now ≡ listed_steps (slice_get (values_view row.now) at) }
+    ensures { AreStepsAt row.now at result.now }
 {
     match row.get(at) {
         Some(Value::Steps(steps)) if steps.len() <= 16 => steps,
@@ -180,7 +176,7 @@ pub fn steps(row: &[Value], at: usize) -> &[Vec<Handler>]
 
 /// The maps at a place of a row; none where there is no list of them.
 pub fn maps(row: &[Value], at: usize) -> &[Fields]
-    ensures { map fields_view result.now ≡ listed_maps (slice_get (values_view row.now) at) }
+    ensures { AreMapsAt row.now at result.now }
 {
     match row.get(at) {
         Some(Value::Maps(maps)) => maps,
@@ -190,7 +186,7 @@ pub fn maps(row: &[Value], at: usize) -> &[Fields]
 
 /// The names that a value has, with what belongs to each; none where it is no map of names.
 pub fn keyed(value: &Value) -> &[Keyed]
-    ensures { map keyed_view result.now ≡ listed_keyed (Some (value_view value.now)) }
+    ensures { AreKeyedOf value.now result.now }
 {
     match value {
         Value::Keyed(keyed) => keyed,
@@ -200,7 +196,7 @@ pub fn keyed(value: &Value) -> &[Keyed]
 
 /// The text at a place of a row; none where there is none.
 pub fn text(row: &[Value], at: usize) -> Option<&Plain>
-    ensures { plain_option_view result ≡ text_of (slice_get (values_view row.now) at) }
+    ensures { IsTextAt row.now at result }
 {
     match row.get(at) {
         Some(Value::One(text)) => Some(text),
@@ -212,7 +208,7 @@ pub fn text(row: &[Value], at: usize) -> Option<&Plain>
 
 // An event that is handled always.
 fn always(name: NameAt<'_>) -> HandledAt<'_>
-    ensures { handled_at_view result ≡ handled_in (named (name_at_view name.entry)) }
+    ensures { IsAlways name.entry result }
 {
     HandledAt {
         line: name.line,
@@ -224,7 +220,7 @@ fn always(name: NameAt<'_>) -> HandledAt<'_>
 /// The handled event that a text is. A name is one that is handled always; what is neither has line
 /// 0 and no name.
 pub fn handled(event: &Plain) -> HandledAt<'_>
-    ensures { handled_at_view result ≡ handled_in (plain_view event.now) }
+    ensures { IsHandledIn event.now result }
 {
     match event {
         Plain::Event(handler) => as_handled(handler),
@@ -239,7 +235,7 @@ pub fn handled(event: &Plain) -> HandledAt<'_>
 
 /// The handled event that a text is, where it is written as one.
 pub fn event(text: Option<&Plain>) -> Option<HandledAt<'_>>
-    ensures { option_map handled_at_view result ≡ event_in (plain_option_view text.entry) }
+    ensures { IsEventIn text.entry result }
 {
     match text {
         Some(Plain::Event(handler)) => Some(as_handled(handler)),
@@ -249,7 +245,7 @@ pub fn event(text: Option<&Plain>) -> Option<HandledAt<'_>>
 
 /// The name that a text is, where it is written; none where it is no name.
 pub fn name(text: Option<&Plain>) -> Option<NameAt<'_>>
-    ensures { option_map name_at_view result ≡ name_in (plain_option_view text.entry) }
+    ensures { IsNameIn text.entry result }
 {
     match text {
         Some(Plain::Name(name)) => Some(NameAt {
@@ -263,7 +259,7 @@ pub fn name(text: Option<&Plain>) -> Option<NameAt<'_>>
 
 /// The name that a text is, where it is written; where it is no name, another one, at line 0.
 pub fn name_or<'a>(text: Option<&'a Plain>, otherwise: &'static [u8]) -> NameAt<'a>
-    ensures { name_at_view result ≡ unwrap_or (name_in (plain_option_view text.entry)) (written_at 0 otherwise.now) }
+    ensures { IsNameOr otherwise.now text.entry result }
 {
     match name(text) {
         Some(written) => written,
@@ -283,7 +279,7 @@ fn is_pulse(ms: u32) -> bool
 
 /// The milliseconds of a pulse, from 1 to 5,000; none where none are written.
 pub fn pulse(text: Option<&Plain>) -> Option<u32>
-    ensures { result ≡ pulse_in (plain_option_view text.entry) }
+    ensures { result ≡ pulse_of_text text.entry }
 {
     match text {
         Some(Plain::Time(ms)) if is_pulse(*ms) => Some(*ms),
@@ -293,7 +289,7 @@ pub fn pulse(text: Option<&Plain>) -> Option<u32>
 
 /// A power in thousandths, up to 1,000; none where none is written.
 pub fn power(text: Option<&Plain>) -> Option<u16>
-    ensures { result ≡ power_in (plain_option_view text.entry) }
+    ensures { result ≡ power_of_text text.entry }
 {
     match text {
         Some(Plain::Power(power)) if *power <= 1_000 => Some(*power),
@@ -305,14 +301,14 @@ pub fn power(text: Option<&Plain>) -> Option<u16>
 
 /// The text at a place of a map; none where there is none.
 pub fn field(values: &[Plain], at: usize) -> Option<&Plain>
-    ensures { plain_option_view result ≡ slice_get (plains_view values.now) at }
+    ensures { IsFieldAt values.now at result }
 {
     values.get(at)
 }
 
 /// The word at a place of a map; the empty one where there is none.
 pub fn word_field(values: &[Plain], at: usize) -> &'static [u8]
-    ensures { result.now ≡ word_in (slice_get (plains_view values.now) at) }
+    ensures { result.now ≡ word_in (field_at values.now at) }
 {
     match values.get(at) {
         Some(Plain::Word(word)) => word,
@@ -322,7 +318,7 @@ pub fn word_field(values: &[Plain], at: usize) -> &'static [u8]
 
 /// The number at a place of a map, from -1,000,000,000 to 1,000,000,000; 0 where there is none.
 pub fn change(values: &[Plain], at: usize) -> i64
-    ensures { result ≡ change_in (slice_get (plains_view values.now) at) }
+    ensures { result ≡ change_in (field_at values.now at) }
 {
     match values.get(at) {
         Some(Plain::Number(number)) if is_limit(*number) => *number,
@@ -332,7 +328,7 @@ pub fn change(values: &[Plain], at: usize) -> i64
 
 /// The number at a place of a map; 0 where there is none.
 pub fn number_field(values: &[Plain], at: usize) -> i64
-    ensures { result ≡ number_in (slice_get (plains_view values.now) at) }
+    ensures { result ≡ number_in (field_at values.now at) }
 {
     match values.get(at) {
         Some(Plain::Number(number)) => *number,

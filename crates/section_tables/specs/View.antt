@@ -4,8 +4,8 @@ use Rattle.std.specs.Borrow.{Bor}
 use Rattle.std.specs.Global.{Box, Vec}
 use Rattle.yaml_subset.specs.declared.tree.Key.{Key}
 use Rattle.yaml_subset.specs.declared.tree.Tree.{Tree}
-use Rattle.section_tables.specs.declared.nodes.Below.{Below}
-use Rattle.section_tables.specs.declared.nodes.Listed.{Listed}
+use Rattle.section_tables.specs.declared.nodes.MapPairs.{MapPairs}
+use Rattle.section_tables.specs.declared.nodes.ListNodes.{ListNodes}
 use Rattle.yaml_subset.specs.Node.{Node, Pair}
 use Rattle.yaml_subset.specs.View.{node_view, pair_view}
 use Rattle.mpf_values.specs.Events.{Condition}
@@ -126,10 +126,10 @@ GivesRows view (Err e) read = FailsRows e read
 abbrev pub pairs_view : List (Key × Tree) → List Pair
 pairs_view = map pair_view
 
-abbrev pub pairs_in_view : Below → List Pair
+abbrev pub pairs_in_view : MapPairs → List Pair
 pairs_in_view below = pairs_view below.pairs.now
 
-abbrev pub nodes_in_view : Listed → List Node
+abbrev pub nodes_in_view : ListNodes → List Node
 nodes_in_view listed = map node_view listed.nodes.now
 
 -- the place and the element that were found

@@ -1,14 +1,14 @@
 //! Maps that are read by a table of fields.
 
-ghost use Rattle.std.specs.Prelude.{◌≡◌, ◌<◌, Bool, length, map, set, false, IfOk, IfSome};
+ghost use Rattle.std.specs.Prelude.{◌≡◌, ◌<◌, length, IfOk, IfSome};
 ghost use Rattle.std.specs.List.{list_any};
 ghost use Rattle.std.specs.Str.{bytes_eq};
-ghost use Rattle.yaml_subset.specs.View.{node_view, pair_view, text_in, option_slice};
-ghost use Rattle.section_tables.specs.Tables.{found_in, plain_default, field_key, field_default, plain_lacks, field_lacks};
-ghost use Rattle.section_tables.specs.EntryOf.{pass, own_name};
-ghost use Rattle.section_tables.specs.Reading.{put_at, overwritten_at, lacking, field_at, fields_row_at, fields_at, nodes_at, are_apart, named_maps_at, keyed_row_at, keyed_at, keyed_list_at};
-ghost use Rattle.section_tables.specs.TableView.{scalar_view, bounds_view, others_view, absent_view, field_view};
-ghost use Rattle.section_tables.specs.View.{plain_view, plains_view, fields_view, maps_view, keyed_view, keyed_list_view, spot_view, pairs_view, found_view, GivesRows};
+ghost use Rattle.yaml_subset.specs.View.{option_slice};
+ghost use Rattle.section_tables.specs.Tables.{plain_default, plain_lacks};
+ghost use Rattle.section_tables.specs.Reading.{are_apart};
+ghost use Rattle.section_tables.specs.TableView.{others_view, absent_view};
+ghost use Rattle.section_tables.specs.View.{plain_view};
+ghost use Rattle.section_tables.specs.Inside.{GivesPlains, FillsPlains, GivesFields, GivesMaps, GivesKeyed, GivesKeyedList, FindsField, AreFieldDefaults, AreFieldDefaultsBut, lacking_field, put_field, overwrite_fields, read_field_row, read_fields, read_maps, read_named_maps, name_of_map, names_of_maps, read_keyed_row, read_keyed, read_keyed_list};
 
 use crate::each::each;
 use crate::fault::{ConfigFault, FaultKind};
@@ -40,7 +40,7 @@ pub fn default_plain(absent: Absent) -> Plain
 
 // The place in a table of the field with this key, and the field.
 fn field_of<'t>(table: &'t [Field], key: &[u8]) -> Option<(usize, &'t Field)>
-    ensures found { found_view field_view result ≡ found_in field_key key.now (map field_view table.now) }
+    ensures found { FindsField result table.now key.now }
     ensures within { IfSome result (λ found. found.0 < length table.now) }
 {
     for (at, field) in table.iter().enumerate() {
@@ -53,7 +53,7 @@ fn field_of<'t>(table: &'t [Field], key: &[u8]) -> Option<(usize, &'t Field)>
 
 // A row with nothing written in it.
 fn bare_row(alloc: Global, table: &[Field]) -> Result<Vec<Plain>, AllocError>
-    ensures row { IfOk result (λ row. plains_view row.items ≡ map field_default (map field_view table.now)) }
+    ensures row { IfOk result (λ row. AreFieldDefaults table.now row.items) }
     ensures len { IfOk result (λ row. length row.items ≡ length table.now) }
 {
     let mut row = Vec::with_capacity(alloc, table.len())?;
@@ -84,7 +84,7 @@ fn put(
     row: &mut [Plain],
 ) -> Result<(), ConfigFault>
     requires { length row.old ≡ length table.now }
-    ensures { GivesRows (λ _. plains_view row.new) result (put_at field_at (others_view others) (spot_view spot.entry) (node_view tree.now) (plains_view row.old) (found_in field_key spot.entry.key.now (map field_view table.now))) }
+    ensures { FillsPlains result row.new (put_field spot.entry table.now others tree.now row.old) }
 {
     let Some((at, field)) = field_of(table, spot.key) else {
         if others.is_ignored() {
@@ -106,7 +106,7 @@ fn overwrite(
     row: &mut [Plain],
 ) -> Result<(), ConfigFault>
     requires { length row.old ≡ length table.now }
-    ensures { GivesRows (λ _. plains_view row.new) result (overwritten_at field_key field_at (pass (others_view others)) text.now (map field_view table.now) (pairs_view pairs.now) (plains_view row.old)) }
+    ensures { FillsPlains result row.new (overwrite_fields text.now table.now others pairs.now row.old) }
 {
     for pair in pairs {
         put(alloc, spot_of(text, &pair.0), table, others, &pair.1, row)?;
@@ -124,7 +124,7 @@ pub fn lacks(absent: Absent, value: &Plain) -> bool
 // The key of the first field that has to be written and is not.
 fn first_lacking(table: &[Field], row: &[Plain]) -> Option<&'static [u8]>
     requires { length row.now ≡ length table.now }
-    ensures { option_slice (λ key. key) result ≡ lacking field_key field_lacks (map field_view table.now) (plains_view row.now) }
+    ensures { option_slice (λ key. key) result ≡ lacking_field table.now row.now }
 {
     for (at, field) in table.iter().enumerate() {
         if lacks(field.absent, &row[at]) {
@@ -143,7 +143,7 @@ fn fields_row(
     others: Others,
     pairs: &[(Key, Tree)],
 ) -> Result<Vec<Plain>, ConfigFault>
-    ensures { GivesRows (λ row. plains_view row.items) result (fields_row_at (others_view others) (spot_view spot.entry) (map field_view table.now) (pairs_view pairs.now)) }
+    ensures { GivesPlains result (read_field_row spot.entry table.now others pairs.now) }
 {
     let mut row = bare_row(alloc, table)?;
     overwrite(alloc, spot.text, table, others, pairs, &mut row)?;
@@ -165,7 +165,7 @@ fn fields(
     others: Others,
     tree: &Tree,
 ) -> Result<Fields, ConfigFault>
-    ensures { GivesRows fields_view result (fields_at (map field_view table.now) (others_view others) (spot_view spot.entry) (node_view tree.now)) }
+    ensures { GivesFields result (read_fields spot.entry table.now others tree.now) }
 {
     let below = pairs(alloc, spot, tree)?;
     let line = tree.line();
@@ -182,14 +182,14 @@ pub fn maps(
     bounds: Bounds,
     tree: &Tree,
 ) -> Result<Vec<Fields>, ConfigFault>
-    ensures { GivesRows maps_view result (nodes_at (fields_at (map field_view table.now) (others_view others)) (bounds_view bounds) (spot_view spot.entry) (node_view tree.now)) }
+    ensures { GivesMaps result (read_maps spot.entry table.now others bounds tree.now) }
 {
     let listed = nodes(alloc, spot, bounds, tree)?;
     each(
         alloc,
         listed.nodes,
         |node|
-            ensures { GivesRows fields_view result (fields_at (map field_view table.entry.now) (others_view others) (spot_view spot.entry) (node_view node.now)) }
+            ensures { GivesFields result (read_fields spot.entry table.entry.now others node.now) }
         { fields(alloc, spot, table, others, node) },
     )
 }
@@ -198,7 +198,7 @@ pub fn maps(
 
 // The name that the first value of a map is; the empty text where it is none.
 fn own_name(map: &Fields) -> &[u8]
-    ensures { result.now ≡ own_name (fields_view map.now) }
+    ensures { result.now ≡ name_of_map map.now }
 {
     match map.values.first() {
         Some(Plain::Name(name)) => &name.text,
@@ -209,19 +209,19 @@ fn own_name(map: &Fields) -> &[u8]
 
 // Whether one of these maps has the same name as another one.
 fn has_namesake(maps: &[Fields], other: &Fields) -> bool
-    ensures { result ≡ list_any (λ map. bytes_eq (own_name (fields_view other.now)) (own_name (fields_view map))) maps.now }
+    ensures { result ≡ list_any (λ map. bytes_eq (name_of_map other.now) (name_of_map map)) maps.now }
 {
     let name = own_name(other);
     maps.iter().any(
         |map|
-            ensures { result ≡ bytes_eq name.entry.now (own_name (fields_view map.now)) }
+            ensures { result ≡ bytes_eq name.entry.now (name_of_map map.now) }
         { name == own_name(map) },
     )
 }
 
 // Whether no two maps have the same name.
 fn are_apart(maps: &[Fields]) -> bool
-    ensures { result ≡ are_apart (map own_name (map fields_view maps.now)) }
+    ensures { result ≡ are_apart (names_of_maps maps.now) }
 {
     for (at, map) in maps.iter().enumerate() {
         if has_namesake(&maps[at + 1..], map) {
@@ -242,7 +242,7 @@ pub fn named_maps(
     bounds: Bounds,
     tree: &Tree,
 ) -> Result<Vec<Fields>, ConfigFault>
-    ensures { GivesRows maps_view result (named_maps_at (map field_view table.now) (others_view others) (bounds_view bounds) (spot_view spot.entry) (node_view tree.now)) }
+    ensures { GivesMaps result (read_named_maps spot.entry table.now others bounds tree.now) }
 {
     let maps = maps(alloc, spot, table, others, bounds, tree)?;
     if !are_apart(&maps) {
@@ -260,7 +260,7 @@ fn short_row(
     at: usize,
     value: Plain,
 ) -> Result<Vec<Plain>, AllocError>
-    ensures { IfOk result (λ row. plains_view row.items ≡ set (map field_default (map field_view table.now)) at (plain_view value)) }
+    ensures { IfOk result (λ row. AreFieldDefaultsBut at value table.now row.items) }
 {
     let mut row = bare_row(alloc, table)?;
     if at >= row.len() {
@@ -279,7 +279,7 @@ fn keyed_row(
     short: Scalar,
     tree: &Tree,
 ) -> Result<Vec<Plain>, ConfigFault>
-    ensures { GivesRows (λ row. plains_view row.items) result (keyed_row_at (map field_view table.now) at (scalar_view short) (spot_view spot.entry) (node_view tree.now) (text_in (node_view tree.now))) }
+    ensures { GivesPlains result (read_keyed_row spot.entry table.now at short tree.now) }
 {
     match tree.as_scalar() {
         None => {
@@ -304,7 +304,7 @@ fn keyed(
     short: Scalar,
     pair: &(Key, Tree),
 ) -> Result<Keyed, ConfigFault>
-    ensures { GivesRows keyed_view result (keyed_at text.now (map field_view table.now) at (scalar_view short) (pair_view pair.now)) }
+    ensures { GivesKeyed result (read_keyed text.now table.now at short pair.now) }
 {
     let key = &pair.0;
     let spot = spot_of(text, key);
@@ -327,7 +327,7 @@ pub fn keyed_list(
     short: Scalar,
     tree: &Tree,
 ) -> Result<Vec<Keyed>, ConfigFault>
-    ensures { GivesRows keyed_list_view result (keyed_list_at (map field_view table.now) at (scalar_view short) (spot_view spot.entry) (node_view tree.now)) }
+    ensures { GivesKeyedList result (read_keyed_list spot.entry table.now at short tree.now) }
 {
     let below = few_pairs(alloc, spot, tree)?;
     let text = spot.text;
@@ -335,7 +335,7 @@ pub fn keyed_list(
         alloc,
         below.pairs,
         |pair|
-            ensures { GivesRows keyed_view result (keyed_at text.entry.now (map field_view table.entry.now) at (scalar_view short) (pair_view pair.now)) }
+            ensures { GivesKeyed result (read_keyed text.entry.now table.entry.now at short pair.now) }
         { keyed(alloc, text, table, at, short, pair) },
     )
 }

@@ -1,12 +1,10 @@
 //! The entries of players: events, each with a value.
 
 ghost use Rattle.std.specs.Prelude.{◌≡◌, ◌≢◌, ℕ, ◌<◌, List, IfOk, IfErr};
-ghost use Rattle.yaml_subset.specs.View.{pair_view};
 ghost use Rattle.section_tables.specs.Rows.{Player as Row};
-ghost use Rattle.section_tables.specs.EntryOf.{ArePlayers};
-ghost use Rattle.section_tables.specs.Reading.{player_at, players_at};
-ghost use Rattle.section_tables.specs.TableView.{player_kinds_view};
-ghost use Rattle.section_tables.specs.View.{player_view, players_view, GivesRows};
+ghost use Rattle.section_tables.specs.View.{players_view};
+ghost use Rattle.section_tables.specs.Gives.{ArePlayersOf, read_players, GivesPlayers};
+ghost use Rattle.section_tables.specs.Inside.{GivesPlayer, read_player};
 
 use crate::each::each;
 use crate::fault::{ConfigFault, FaultKind};
@@ -28,7 +26,7 @@ fn player(
     text: &[u8],
     pair: &(Key, Tree),
 ) -> Result<Player, ConfigFault>
-    ensures { GivesRows player_view result (player_at text.now (player_kinds_view kinds) (pair_view pair.now)) }
+    ensures { GivesPlayer result (read_player kinds text.now pair.now) }
 {
     let key = &pair.0;
     let spot = spot_of(text, key);
@@ -47,14 +45,14 @@ fn read_players(
     text: &[u8],
     pair: &(Key, Tree),
 ) -> Result<Vec<Player>, ConfigFault>
-    ensures { GivesRows players_view result (players_at text.now (player_kinds_view kinds) (pair_view pair.now)) }
+    ensures { GivesPlayers result (read_players kinds text.now pair.now) }
 {
     let below = pairs(alloc, spot_of(text, &pair.0), &pair.1)?;
     each(
         alloc,
         below.pairs,
         |pair|
-            ensures { GivesRows player_view result (player_at text.entry.now (player_kinds_view kinds) (pair_view pair.now)) }
+            ensures { GivesPlayer result (read_player kinds text.entry.now pair.now) }
         { player(alloc, kinds, text, pair) },
     )
 }
@@ -72,16 +70,16 @@ pub fn players(
     pair: &(Key, Tree),
 ) -> Result<Vec<Player>, ConfigFault>
     // What is answered are the entries of the player.
-    ensures found { IfOk result (λ xs. ArePlayers 1024 (player_kinds_view kinds) (pair_view pair.now) (players_view xs)) }
+    ensures found { IfOk result (λ xs. ArePlayersOf 1024 kinds pair.now (players_view xs)) }
 
     // It has no others, however many items its lists may have.
-    ensures only { IfOk result (λ xs. (longest : ℕ) (rows : List Row) → ArePlayers longest (player_kinds_view kinds) (pair_view pair.now) rows → rows ≡ players_view xs) }
+    ensures only { IfOk result (λ xs. (longest : ℕ) (rows : List Row) → ArePlayersOf longest kinds pair.now rows → rows ≡ players_view xs) }
 
     // A player that is refused, but for want of memory, has entries only where a list is too long.
-    ensures refused { IfErr result (λ e. e ≢ ConfigFault.NoMemory → (longest : ℕ) (rows : List Row) → ArePlayers longest (player_kinds_view kinds) (pair_view pair.now) rows → 1024 < longest) }
+    ensures refused { IfErr result (λ e. e ≢ ConfigFault.NoMemory → (longest : ℕ) (rows : List Row) → ArePlayersOf longest kinds pair.now rows → 1024 < longest) }
 
     // Which fault it is, with its line and key, is what reading from the first entry gives.
-    ensures exact { GivesRows players_view result (players_at text.now (player_kinds_view kinds) (pair_view pair.now)) }
+    ensures exact { GivesPlayers result (read_players kinds text.now pair.now) }
 {
     read_players(alloc, kinds, text, pair)
 }

@@ -20,6 +20,6 @@ pub mod spot;
 pub mod table;
 
 pub use handling::players;
-pub use nodes::Below;
+pub use nodes::MapPairs;
 pub use sections::{entries, entry, name_list};
 pub use settings::is_one_of;

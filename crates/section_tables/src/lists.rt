@@ -2,12 +2,11 @@
 
 ghost use Rattle.std.specs.Prelude.{◌≡◌, not, length, map, filter};
 ghost use Rattle.yaml_subset.specs.View.{node_view};
-ghost use Rattle.mpf_values.specs.Reading.{list_at};
-ghost use Rattle.mpf_values.specs.View.{item_view, items_view};
 ghost use Rattle.section_tables.specs.Kinds.{fits};
-ghost use Rattle.section_tables.specs.Reading.{most_items, count_at, counts, written_in, handled_in, list_items_at, listed_at};
+ghost use Rattle.section_tables.specs.Reading.{counts};
 ghost use Rattle.section_tables.specs.TableView.{bounds_view};
-ghost use Rattle.section_tables.specs.View.{name_view, names_view, handler_view, handlers_view, spot_view, GivesRows};
+ghost use Rattle.section_tables.specs.Gives.{GivesNames};
+ghost use Rattle.section_tables.specs.Inside.{GivesCheck, GivesItems, GivesName, GivesHandler, GivesHandlers, check_of_count, read_items, read_item_name, read_item_handler, read_listed_names, read_listed_handlers};
 
 use crate::each::each;
 use crate::fault::{ConfigFault, FaultKind};
@@ -44,7 +43,7 @@ pub fn check_count(
     bounds: Bounds,
     count: usize,
 ) -> Result<(), ConfigFault>
-    ensures { GivesRows (λ _. tt) result (count_at most (bounds_view bounds) (spot_view spot.entry) count) }
+    ensures { GivesCheck result (check_of_count spot.entry most bounds count) }
 {
     if count > most {
         return Err(ConfigFault::Bundle(spot.fault(alloc, FaultKind::Limit)?));
@@ -86,7 +85,7 @@ fn items<'a>(
     bounds: Bounds,
     value: &'a Tree,
 ) -> Result<Vec<Item<'a>>, ConfigFault>
-    ensures { GivesRows (λ items. items_view items.items) result (list_items_at most (bounds_view bounds) (spot_view spot.entry) (node_view value.now)) }
+    ensures { GivesItems result (read_items spot.entry most bounds value.now) }
 {
     if let Some(nodes) = value.as_list()
         && item_count(nodes) > most
@@ -107,7 +106,7 @@ fn items<'a>(
 // The name that an item of a list is; or BadValue at the spot.
 #[tactic(auto, unfolding(crate::specs::Reading::written_in))]
 fn item_name(alloc: Global, spot: Spot<'_>, item: Item<'_>) -> Result<Name, ConfigFault>
-    ensures { GivesRows name_view result (written_in (spot_view spot.entry) (item_view item.entry)) }
+    ensures { GivesName result (read_item_name spot.entry item.entry) }
 {
     if !is_name(item.text) {
         return Err(ConfigFault::Bundle(spot.fault(alloc, FaultKind::BadValue)?));
@@ -119,7 +118,7 @@ fn item_name(alloc: Global, spot: Spot<'_>, item: Item<'_>) -> Result<Name, Conf
 // The handled event that an item of a list is; or BadValue at the spot.
 #[tactic(auto, unfolding(crate::specs::Reading::handled_in))]
 fn item_handler(alloc: Global, spot: Spot<'_>, item: Item<'_>) -> Result<Handler, ConfigFault>
-    ensures { GivesRows handler_view result (handled_in (spot_view spot.entry) (item_view item.entry)) }
+    ensures { GivesHandler result (read_item_handler spot.entry item.entry) }
 {
     let Ok(event) = event(item.text) else {
         return Err(ConfigFault::Bundle(spot.fault(alloc, FaultKind::BadValue)?));
@@ -138,14 +137,14 @@ pub fn names(
     bounds: Bounds,
     value: &Tree,
 ) -> Result<Vec<Name>, ConfigFault>
-    ensures { GivesRows names_view result (listed_at written_in most (bounds_view bounds) (spot_view spot.entry) (node_view value.now)) }
+    ensures { GivesNames result (read_listed_names spot.entry most bounds value.now) }
 {
     let items = items(alloc, spot, most, bounds, value)?;
     each(
         alloc,
         &items,
         |item|
-            ensures { GivesRows name_view result (written_in (spot_view spot.entry) (item_view item.now)) }
+            ensures { GivesName result (read_item_name spot.entry item.now) }
         { item_name(alloc, spot, *item) },
     )
 }
@@ -157,14 +156,14 @@ pub fn handlers(
     bounds: Bounds,
     value: &Tree,
 ) -> Result<Vec<Handler>, ConfigFault>
-    ensures { GivesRows handlers_view result (listed_at handled_in most_items (bounds_view bounds) (spot_view spot.entry) (node_view value.now)) }
+    ensures { GivesHandlers result (read_listed_handlers spot.entry bounds value.now) }
 {
     let items = items(alloc, spot, MAX_ITEMS, bounds, value)?;
     each(
         alloc,
         &items,
         |item|
-            ensures { GivesRows handler_view result (handled_in (spot_view spot.entry) (item_view item.now)) }
+            ensures { GivesHandler result (read_item_handler spot.entry item.now) }
         { item_handler(alloc, spot, *item) },
     )
 }

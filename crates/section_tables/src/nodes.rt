@@ -1,11 +1,15 @@
-//! Nodes, as the readers of sections take them.
+//! What stands below a key: the pairs of a mapping, or the nodes of a YAML list.
+//!
+//! A reader that expects a mapping asks [`pairs`] for its pairs, or [`few_pairs`] where it counts as
+//! a list, and one that expects a YAML list asks [`nodes`] for its nodes. Each gets them, or the fault
+//! to report at the key: `BadValue` where the node is something else, and `Limit` where a list is too
+//! long. The empty text, as where nothing is written behind a key, is taken for a mapping without
+//! pairs and for a list without nodes.
 
 ghost use Rattle.std.specs.Prelude.{◌≡◌, [], map};
 ghost use Rattle.yaml_subset.specs.View.{node_view, pair_view, option_slice};
 ghost use Rattle.section_tables.specs.Entries.{pairs_below, nodes_below};
-ghost use Rattle.section_tables.specs.Reading.{expect, few_pairs_at, list_nodes_at};
-ghost use Rattle.section_tables.specs.TableView.{bounds_view};
-ghost use Rattle.section_tables.specs.View.{spot_view, pairs_in_view, nodes_in_view, GivesRows};
+ghost use Rattle.section_tables.specs.Inside.{GivesPairs, GivesNodes, read_pairs, read_few_pairs, read_nodes};
 
 use crate::fault::{ConfigFault, FaultKind};
 use crate::lists::{MAX_ITEMS, check_count};
@@ -14,16 +18,16 @@ use crate::table::Bounds;
 use std::alloc::Global;
 use yaml_subset::tree::{Key, Tree};
 
-/// The pairs of a mapping. A struct has them, since the borrow checker does not cover results of slices of
-/// values that borrow.
+/// The pairs of a mapping. A struct has them, since the borrow checker does not cover a `Result` of a
+/// slice of values that borrow.
 #[derive(Clone, Copy)]
-pub struct Below<'a, 't> {
+pub struct MapPairs<'a, 't> {
     pub pairs: &'a [(Key<'t>, Tree<'t>)],
 }
 
-/// The nodes of a list, in a struct for the same reason.
+/// The nodes of a YAML list, in a struct for the same reason.
 #[derive(Clone, Copy)]
-pub struct Listed<'a, 't> {
+pub struct ListNodes<'a, 't> {
     pub nodes: &'a [Tree<'t>],
 }
 
@@ -74,11 +78,11 @@ pub fn pairs<'a, 't: 'a>(
     alloc: Global,
     spot: Spot<'_>,
     tree: &'a Tree<'t>,
-) -> Result<Below<'a, 't>, ConfigFault>
-    ensures { GivesRows pairs_in_view result (expect (spot_view spot.entry) (pairs_below (node_view tree.now))) }
+) -> Result<MapPairs<'a, 't>, ConfigFault>
+    ensures { GivesPairs result (read_pairs spot.entry tree.now) }
 {
     match pairs_of(tree) {
-        Some(pairs) => Ok(Below { pairs }),
+        Some(pairs) => Ok(MapPairs { pairs }),
         None => Err(ConfigFault::Bundle(spot.fault(alloc, FaultKind::BadValue)?)),
     }
 }
@@ -90,8 +94,8 @@ pub fn few_pairs<'a, 't: 'a>(
     alloc: Global,
     spot: Spot<'_>,
     tree: &'a Tree<'t>,
-) -> Result<Below<'a, 't>, ConfigFault>
-    ensures { GivesRows pairs_in_view result (few_pairs_at (spot_view spot.entry) (node_view tree.now)) }
+) -> Result<MapPairs<'a, 't>, ConfigFault>
+    ensures { GivesPairs result (read_few_pairs spot.entry tree.now) }
 {
     let below = pairs(alloc, spot, tree)?;
     check_count(
@@ -111,12 +115,12 @@ pub fn nodes<'a, 't: 'a>(
     spot: Spot<'_>,
     bounds: Bounds,
     tree: &'a Tree<'t>,
-) -> Result<Listed<'a, 't>, ConfigFault>
-    ensures { GivesRows nodes_in_view result (list_nodes_at (bounds_view bounds) (spot_view spot.entry) (node_view tree.now)) }
+) -> Result<ListNodes<'a, 't>, ConfigFault>
+    ensures { GivesNodes result (read_nodes spot.entry bounds tree.now) }
 {
     let Some(nodes) = nodes_of(tree) else {
         return Err(ConfigFault::Bundle(spot.fault(alloc, FaultKind::BadValue)?));
     };
     check_count(alloc, spot, MAX_ITEMS, bounds, nodes.len())?;
-    Ok(Listed { nodes })
+    Ok(ListNodes { nodes })
 }

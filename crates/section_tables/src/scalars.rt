@@ -1,15 +1,14 @@
 //! Values that are one text.
 
 ghost use Rattle.std.specs.Prelude.{◌≡◌, map, IfOk, Some, None, if◌then◌else◌};
-ghost use Rattle.yaml_subset.specs.View.{node_view, option_slice};
-ghost use Rattle.mpf_values.specs.Reading.{is_name, event_at};
+ghost use Rattle.yaml_subset.specs.View.{option_slice};
+ghost use Rattle.mpf_values.specs.Reading.{is_name};
 ghost use Rattle.mpf_values.specs.View.{event_view};
-ghost use Rattle.section_tables.specs.Rows.{name as named, event as handled};
 ghost use Rattle.section_tables.specs.Entries.{written_at, handled_at};
 ghost use Rattle.section_tables.specs.EntryOf.{within};
-ghost use Rattle.section_tables.specs.Reading.{give, is_one_of, scalar_of, plain_at};
-ghost use Rattle.section_tables.specs.TableView.{scalar_view};
-ghost use Rattle.section_tables.specs.View.{name_view, handler_view, plain_view, spot_view, GivesRows};
+ghost use Rattle.section_tables.specs.Reading.{is_one_of};
+ghost use Rattle.section_tables.specs.View.{name_view, handler_view};
+ghost use Rattle.section_tables.specs.Inside.{GivesPlain, IsPlainSaid, name_said, event_said, scalar_said, read_plain};
 
 use crate::fault::{ConfigFault, FaultKind};
 use crate::rows::{Guard, Handler, Name, Plain};
@@ -80,7 +79,7 @@ pub fn word_in(words: &'static [&'static [u8]], text: &[u8]) -> Option<&'static 
 
 // The name that a text at a line says; or nothing where it says none.
 fn plain_name(alloc: Global, line: u32, text: &[u8]) -> Result<Option<Plain>, AllocError>
-    ensures { IfOk result (λ value. give plain_view value ≡ (if is_name text.now then Some (named (written_at line text.now)) else None)) }
+    ensures { IfOk result (λ value. IsPlainSaid value (name_said line text.now)) }
 {
     if !is_name(text) {
         return Ok(None);
@@ -91,7 +90,7 @@ fn plain_name(alloc: Global, line: u32, text: &[u8]) -> Result<Option<Plain>, Al
 
 // The handled event that a text at a line says; or nothing where it says none.
 fn plain_event(alloc: Global, line: u32, text: &[u8]) -> Result<Option<Plain>, AllocError>
-    ensures { IfOk result (λ value. give plain_view value ≡ give (λ e. handled (handled_at line e)) (event_at text.now)) }
+    ensures { IfOk result (λ value. IsPlainSaid value (event_said line text.now)) }
 {
     let Ok(event) = event(text) else {
         return Ok(None);
@@ -108,7 +107,7 @@ pub fn scalar(
     line: u32,
     text: &[u8],
 ) -> Result<Option<Plain>, AllocError>
-    ensures { IfOk result (λ value. give plain_view value ≡ scalar_of (scalar_view kind) line text.now) }
+    ensures { IfOk result (λ value. IsPlainSaid value (scalar_said kind line text.now)) }
 {
     match kind {
         Scalar::Flag => match boolean(text) {
@@ -139,7 +138,7 @@ pub fn scalar(
 /// What a node says that is a text; or BadValue at the spot.
 #[tactic(auto, unfolding(crate::specs::Reading::plain_at))]
 pub fn plain(alloc: Global, spot: Spot<'_>, kind: Scalar, tree: &Tree) -> Result<Plain, ConfigFault>
-    ensures { GivesRows plain_view result (plain_at (scalar_view kind) (spot_view spot.entry) (node_view tree.now)) }
+    ensures { GivesPlain result (read_plain spot.entry kind tree.now) }
 {
     let Some(text) = tree.as_scalar() else {
         return Err(ConfigFault::Bundle(spot.fault(alloc, FaultKind::BadValue)?));

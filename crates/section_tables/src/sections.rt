@@ -1,12 +1,10 @@
 //! Sections that are read by a table or as a list: entries, one entry, or names.
 
 ghost use Rattle.std.specs.Prelude.{◌≡◌, ◌≢◌, ℕ, ◌<◌, List, IfOk, IfErr};
-ghost use Rattle.yaml_subset.specs.View.{pair_view};
 ghost use Rattle.section_tables.specs.Rows.{Entry as Row, Written};
-ghost use Rattle.section_tables.specs.EntryOf.{IsEntry, AreEntries, AreNamesListed};
-ghost use Rattle.section_tables.specs.Reading.{entry_at, other_entry_at, entries_at, names_at};
-ghost use Rattle.section_tables.specs.TableView.{barred_view, table_view};
-ghost use Rattle.section_tables.specs.View.{names_view, entry_view, entries_view, GivesRows};
+ghost use Rattle.section_tables.specs.View.{names_view, entry_view, entries_view};
+ghost use Rattle.section_tables.specs.Gives.{IsEntryOf, AreEntriesOf, AreNamesOf, read_entry, read_entries, read_names, GivesEntry, GivesEntries, GivesNames};
+ghost use Rattle.section_tables.specs.Inside.{read_other_entry};
 
 use crate::each::each;
 use crate::fault::{ConfigFault, FaultKind};
@@ -28,7 +26,7 @@ fn read_entry(
     text: &[u8],
     pair: &(Key, Tree),
 ) -> Result<Entry, ConfigFault>
-    ensures { GivesRows entry_view result (entry_at text.now (table_view table.now) (pair_view pair.now)) }
+    ensures { GivesEntry result (read_entry table.now text.now pair.now) }
 {
     let key = &pair.0;
     let spot = spot_of(text, key);
@@ -55,7 +53,7 @@ fn read_other_entry(
     text: &[u8],
     pair: &(Key, Tree),
 ) -> Result<Entry, ConfigFault>
-    ensures { GivesRows entry_view result (other_entry_at text.now (barred_view barred) (table_view table.now) (pair_view pair.now)) }
+    ensures { GivesEntry result (read_other_entry barred table.now text.now pair.now) }
 {
     let key = &pair.0;
     match word_in(barred.names, &key.text) {
@@ -77,14 +75,14 @@ fn read_entries(
     text: &[u8],
     pair: &(Key, Tree),
 ) -> Result<Vec<Entry>, ConfigFault>
-    ensures { GivesRows entries_view result (entries_at text.now (barred_view barred) (table_view table.now) (pair_view pair.now)) }
+    ensures { GivesEntries result (read_entries barred table.now text.now pair.now) }
 {
     let below = pairs(alloc, spot_of(text, &pair.0), &pair.1)?;
     each(
         alloc,
         below.pairs,
         |pair|
-            ensures { GivesRows entry_view result (other_entry_at text.entry.now (barred_view barred) (table_view table.entry.now) (pair_view pair.now)) }
+            ensures { GivesEntry result (read_other_entry barred table.entry.now text.entry.now pair.now) }
         { read_other_entry(alloc, barred, table, text, pair) },
     )
 }
@@ -97,7 +95,7 @@ fn read_names(
     text: &[u8],
     pair: &(Key, Tree),
 ) -> Result<Vec<Name>, ConfigFault>
-    ensures { GivesRows names_view result (names_at most text.now (pair_view pair.now)) }
+    ensures { GivesNames result (read_names most text.now pair.now) }
 {
     names(
         alloc,
@@ -123,16 +121,16 @@ pub fn entry(
     pair: &(Key, Tree),
 ) -> Result<Entry, ConfigFault>
     // What is answered is the entry.
-    ensures found { IfOk result (λ x. IsEntry 1024 (table_view table.now) (pair_view pair.now) (entry_view x)) }
+    ensures found { IfOk result (λ x. IsEntryOf 1024 table.now pair.now (entry_view x)) }
 
     // The pair is no other, however many items its lists may have.
-    ensures only { IfOk result (λ x. (longest : ℕ) (e : Row) → IsEntry longest (table_view table.now) (pair_view pair.now) e → e ≡ entry_view x) }
+    ensures only { IfOk result (λ x. (longest : ℕ) (e : Row) → IsEntryOf longest table.now pair.now e → e ≡ entry_view x) }
 
     // A pair that is refused, but for want of memory, is an entry only where a list is too long.
-    ensures refused { IfErr result (λ e. e ≢ ConfigFault.NoMemory → (longest : ℕ) (row : Row) → IsEntry longest (table_view table.now) (pair_view pair.now) row → 1024 < longest) }
+    ensures refused { IfErr result (λ e. e ≢ ConfigFault.NoMemory → (longest : ℕ) (row : Row) → IsEntryOf longest table.now pair.now row → 1024 < longest) }
 
     // Which fault it is, with its line and key, is what reading from the first setting gives.
-    ensures exact { GivesRows entry_view result (entry_at text.now (table_view table.now) (pair_view pair.now)) }
+    ensures exact { GivesEntry result (read_entry table.now text.now pair.now) }
 {
     read_entry(alloc, table, text, pair)
 }
@@ -152,16 +150,16 @@ pub fn entries(
     pair: &(Key, Tree),
 ) -> Result<Vec<Entry>, ConfigFault>
     // What is answered are the entries of the section.
-    ensures found { IfOk result (λ xs. AreEntries 1024 (barred_view barred) (table_view table.now) (pair_view pair.now) (entries_view xs)) }
+    ensures found { IfOk result (λ xs. AreEntriesOf 1024 barred table.now pair.now (entries_view xs)) }
 
     // The section has no others, however many items its lists may have.
-    ensures only { IfOk result (λ xs. (longest : ℕ) (es : List Row) → AreEntries longest (barred_view barred) (table_view table.now) (pair_view pair.now) es → es ≡ entries_view xs) }
+    ensures only { IfOk result (λ xs. (longest : ℕ) (es : List Row) → AreEntriesOf longest barred table.now pair.now es → es ≡ entries_view xs) }
 
     // A section that is refused, but for want of memory, has entries only where a list is too long.
-    ensures refused { IfErr result (λ e. e ≢ ConfigFault.NoMemory → (longest : ℕ) (es : List Row) → AreEntries longest (barred_view barred) (table_view table.now) (pair_view pair.now) es → 1024 < longest) }
+    ensures refused { IfErr result (λ e. e ≢ ConfigFault.NoMemory → (longest : ℕ) (es : List Row) → AreEntriesOf longest barred table.now pair.now es → 1024 < longest) }
 
     // Which fault it is, with its line and key, is what reading from the first entry gives.
-    ensures exact { GivesRows entries_view result (entries_at text.now (barred_view barred) (table_view table.now) (pair_view pair.now)) }
+    ensures exact { GivesEntries result (read_entries barred table.now text.now pair.now) }
 {
     read_entries(alloc, barred, table, text, pair)
 }
@@ -180,16 +178,16 @@ pub fn name_list(
     pair: &(Key, Tree),
 ) -> Result<Vec<Name>, ConfigFault>
     // What is answered are the names of the section.
-    ensures found { IfOk result (λ xs. AreNamesListed most (pair_view pair.now) (names_view xs)) }
+    ensures found { IfOk result (λ xs. AreNamesOf most pair.now (names_view xs)) }
 
     // The section lists no others, however many items it may have.
-    ensures only { IfOk result (λ xs. (longest : ℕ) (ws : List Written) → AreNamesListed longest (pair_view pair.now) ws → ws ≡ names_view xs) }
+    ensures only { IfOk result (λ xs. (longest : ℕ) (ws : List Written) → AreNamesOf longest pair.now ws → ws ≡ names_view xs) }
 
     // A section that is refused, but for want of memory, lists names only where the list is too long.
-    ensures refused { IfErr result (λ e. e ≢ ConfigFault.NoMemory → (longest : ℕ) (ws : List Written) → AreNamesListed longest (pair_view pair.now) ws → most < longest) }
+    ensures refused { IfErr result (λ e. e ≢ ConfigFault.NoMemory → (longest : ℕ) (ws : List Written) → AreNamesOf longest pair.now ws → most < longest) }
 
     // Which fault it is is what reading the list gives.
-    ensures exact { GivesRows names_view result (names_at most text.now (pair_view pair.now)) }
+    ensures exact { GivesNames result (read_names most text.now pair.now) }
 {
     read_names(alloc, most, text, pair)
 }

@@ -1,16 +1,14 @@
 //! The settings of an entry, read by the table of its section.
 
-ghost use Rattle.std.specs.Prelude.{◌≡◌, ◌<◌, List, [], ◌∷◌, ◌++◌, length, map, None, IfOk, IfSome, OnOk};
+ghost use Rattle.std.specs.Prelude.{◌≡◌, ◌<◌, [], ◌∷◌, length, None, IfOk, IfSome, OnOk};
 ghost use Rattle.std.specs.List.{list_any};
 ghost use Rattle.std.specs.Str.{bytes_eq};
-ghost use Rattle.yaml_subset.specs.View.{node_view, option_slice};
+ghost use Rattle.yaml_subset.specs.View.{option_slice};
 ghost use Rattle.section_tables.specs.Entries.{is_ignored, written_at, handled_at};
-ghost use Rattle.section_tables.specs.Kinds.{at_least};
-ghost use Rattle.section_tables.specs.EntryOf.{place_found, places_written};
-ghost use Rattle.section_tables.specs.Tables.{found_in, value_default, setting_key, setting_default, value_lacks, setting_lacks};
-ghost use Rattle.section_tables.specs.Reading.{most_items, put_at, overwritten_at, lacking, handled_in, listed_at, nodes_at, value_at, setting_at, values_at};
-ghost use Rattle.section_tables.specs.TableView.{bounds_view, kind_view, without_view, setting_view, table_view};
-ghost use Rattle.section_tables.specs.View.{names_view, handlers_view, steps_view, value_view, values_view, spot_view, pairs_view, found_view, GivesRows};
+ghost use Rattle.section_tables.specs.Tables.{value_default, value_lacks};
+ghost use Rattle.section_tables.specs.TableView.{without_view};
+ghost use Rattle.section_tables.specs.View.{names_view, handlers_view, value_view};
+ghost use Rattle.section_tables.specs.Inside.{GivesHandlers, GivesSteps, GivesValue, GivesValues, FillsValues, FindsSetting, AreSettingDefaults, lacking_setting, read_step, read_steps, read_value, put_setting, overwrite_settings, read_row, GainsPlaces, place_of_key, places_of_pairs};
 
 use crate::each::each;
 use crate::fault::{ConfigFault, FaultKind};
@@ -58,7 +56,7 @@ fn is_ignored(key: &[u8]) -> bool
 
 // The place in a table of the setting with this key, and the setting.
 fn setting_of<'t>(table: &'t [Setting], key: &[u8]) -> Option<(usize, &'t Setting)>
-    ensures found { found_view setting_view result ≡ found_in setting_key key.now (table_view table.now) }
+    ensures found { FindsSetting result table.now key.now }
     ensures within { IfSome result (λ found. found.0 < length table.now) }
 {
     for (at, setting) in table.iter().enumerate() {
@@ -119,7 +117,7 @@ fn default_value(alloc: Global, without: Without) -> Result<Value, AllocError>
 
 // A row with nothing written in it.
 fn bare_row(alloc: Global, table: &[Setting]) -> Result<Vec<Value>, AllocError>
-    ensures row { IfOk result (λ row. values_view row.items ≡ map setting_default (table_view table.now)) }
+    ensures row { IfOk result (λ row. AreSettingDefaults table.now row.items) }
     ensures len { IfOk result (λ row. length row.items ≡ length table.now) }
 {
     let mut row = Vec::with_capacity(alloc, table.len())?;
@@ -143,7 +141,7 @@ fn lacks(without: Without, value: &Value) -> bool
 // The key of the first setting that has to be written and is not.
 fn first_lacking(table: &[Setting], row: &[Value]) -> Option<&'static [u8]>
     requires { length row.now ≡ length table.now }
-    ensures { option_slice (λ key. key) result ≡ lacking setting_key setting_lacks (table_view table.now) (values_view row.now) }
+    ensures { option_slice (λ key. key) result ≡ lacking_setting table.now row.now }
 {
     for (at, setting) in table.iter().enumerate() {
         if lacks(setting.without, &row[at]) {
@@ -162,14 +160,14 @@ fn steps(
     bounds: Bounds,
     tree: &Tree,
 ) -> Result<Vec<Vec<Handler>>, ConfigFault>
-    ensures { GivesRows steps_view result (nodes_at (listed_at handled_in most_items (at_least 1)) (bounds_view bounds) (spot_view spot.entry) (node_view tree.now)) }
+    ensures { GivesSteps result (read_steps spot.entry bounds tree.now) }
 {
     let listed = nodes(alloc, spot, bounds, tree)?;
     each(
         alloc,
         listed.nodes,
         |node|
-            ensures { GivesRows handlers_view result (listed_at handled_in most_items (at_least 1) (spot_view spot.entry) (node_view node.now)) }
+            ensures { GivesHandlers result (read_step spot.entry node.now) }
         { handlers(alloc, spot, Bounds::AtLeast(1), node) },
     )
 }
@@ -177,7 +175,7 @@ fn steps(
 /// The value of a setting of this kind; or its first fault.
 #[tactic(auto, unfolding(crate::specs::Reading::value_at))]
 pub fn value(alloc: Global, spot: Spot<'_>, kind: Kind, tree: &Tree) -> Result<Value, ConfigFault>
-    ensures { GivesRows value_view result (value_at (kind_view kind) (spot_view spot.entry) (node_view tree.now)) }
+    ensures { GivesValue result (read_value spot.entry kind tree.now) }
 {
     match kind {
         Kind::One(scalar) => {
@@ -226,8 +224,8 @@ fn put(
     order: &mut Vec<usize>,
 ) -> Result<(), ConfigFault>
     requires { length row.old ≡ length table.now }
-    ensures order { OnOk result (order.new.items ≡ order.old.items ++ place_found (found_in setting_key spot.entry.key.now (table_view table.now))) }
-    ensures row { GivesRows (λ _. values_view row.new) result (put_at setting_at (is_ignored spot.entry.key.now) (spot_view spot.entry) (node_view tree.now) (values_view row.old) (found_in setting_key spot.entry.key.now (table_view table.now))) }
+    ensures order { OnOk result (GainsPlaces order.old order.new (place_of_key table.now spot.entry.key.now)) }
+    ensures row { FillsValues result row.new (put_setting spot.entry table.now tree.now row.old) }
 {
     let Some((at, setting)) = setting_of(table, spot.key) else {
         if is_ignored(spot.key) {
@@ -251,8 +249,8 @@ fn overwrite(
     order: &mut Vec<usize>,
 ) -> Result<(), ConfigFault>
     requires { length row.old ≡ length table.now }
-    ensures order { OnOk result (order.new.items ≡ order.old.items ++ places_written (table_view table.now) (pairs_view pairs.now)) }
-    ensures row { GivesRows (λ _. values_view row.new) result (overwritten_at setting_key setting_at is_ignored text.now (table_view table.now) (pairs_view pairs.now) (values_view row.old)) }
+    ensures order { OnOk result (GainsPlaces order.old order.new (places_of_pairs table.now pairs.now)) }
+    ensures row { FillsValues result row.new (overwrite_settings text.now table.now pairs.now row.old) }
 {
     for pair in pairs {
         put(alloc, spot_of(text, &pair.0), table, &pair.1, row, order)?;
@@ -271,8 +269,8 @@ pub fn values(
     pairs: &[(Key, Tree)],
     order: &mut Vec<usize>,
 ) -> Result<Vec<Value>, ConfigFault>
-    ensures order { OnOk result (order.new.items ≡ order.old.items ++ places_written (table_view table.now) (pairs_view pairs.now)) }
-    ensures row { GivesRows (λ row. values_view row.items) result (values_at (spot_view spot.entry) (table_view table.now) (pairs_view pairs.now)) }
+    ensures order { OnOk result (GainsPlaces order.old order.new (places_of_pairs table.now pairs.now)) }
+    ensures row { GivesValues result (read_row spot.entry table.now pairs.now) }
 {
     let mut row = bare_row(alloc, table)?;
     overwrite(alloc, spot.text, table, pairs, &mut row, order)?;

@@ -2,8 +2,8 @@
 
 ghost use Rattle.std.specs.Prelude.{◌≡◌, IfOk};
 ghost use Rattle.std.specs.Cow.{cow_slice_items};
-ghost use Rattle.section_tables.specs.Reading.{rows_fault_at};
-ghost use Rattle.section_tables.specs.View.{spot_view, rows_fault_view};
+ghost use Rattle.section_tables.specs.View.{spot_view};
+ghost use Rattle.section_tables.specs.Gives.{IsFaultAt};
 
 use crate::fault::{Fault, FaultKind};
 use std::alloc::{AllocError, Global};
@@ -21,7 +21,7 @@ pub struct Spot<'a> {
 impl Spot<'_> {
     /// A fault that stands here.
     pub fn fault(self, alloc: Global, kind: FaultKind) -> Result<Fault, AllocError>
-        ensures { IfOk result (λ fault. rows_fault_view fault ≡ rows_fault_at kind (spot_view self.entry)) }
+        ensures { IfOk result (λ fault. IsFaultAt kind self.entry fault) }
     {
         Ok(Fault {
             kind,

@@ -1,16 +1,15 @@
-use Rattle.std.proofs.Common.{◌≡◌, ◌≤◌, ◌+◌, length}
-use Rattle.mpf_config.specs.BundleText.{pieces_of, numbered}
+use Rattle.std.proofs.Common.{◌≡◌, ◌-◌, length}
 use Rattle.section_tables.specs.Reading.{each_read}
+use Rattle.mpf_config.specs.BundleText.{pieces_of, numbered}
 use Rattle.mpf_config.specs.Reading.{text_at}
 use Rattle.mpf_config.specs.Inside.{texts_view}
 use Rattle.mpf_config.proofs.EachRead.{with_front}
+use Rattle.mpf_config.proofs.Pieces.{numbered_from}
 use Rattle.mpf_config.proofs.texts.texts.Given as goal
 
-abbrev pub invariant-loop-rest : goal.invariant-loop-rest
-invariant-loop-rest l = record {
-  few : l.line + length l.rest ≤ length l.bundle + 1;
-  so_far : with_front (texts_view l.texts.items) (each_read text_at (numbered l.line (pieces_of l.rest))) ≡ each_read text_at (numbered 1 (pieces_of l.bundle));
-}
+-- the texts in front of a place, and those from there on, are those of the bundle
+abbrev pub invariant-loop-at : goal.invariant-loop-at
+invariant-loop-at l = with_front (texts_view l.texts.items) (each_read text_at (numbered_from l.bundle l.at)) ≡ each_read text_at (numbered 1 (pieces_of l.bundle))
 
-abbrev pub decreases-loop-rest : goal.decreases-loop-rest
-decreases-loop-rest l = length l.rest
+abbrev pub decreases-loop-at : goal.decreases-loop-at
+decreases-loop-at l = length l.bundle - l.at

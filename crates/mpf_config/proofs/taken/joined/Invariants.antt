@@ -1,6 +1,0 @@
-use Rattle.std.proofs.Common.{◌≡◌, ◌++◌, drop}
-use Rattle.mpf_config.specs.Apart.{joined}
-use Rattle.mpf_config.proofs.taken.joined.Given as goal
-
-abbrev pub invariant-loop-byte : goal.invariant-loop-byte
-invariant-loop-byte l = l.key.items ++ joined (drop l.byte-index l.section) l.name ≡ joined l.section l.name

@@ -1,0 +1,271 @@
+-- What is read, as the program has it, and what its lists and sets gain. An answer gives what reading gives, unless memory
+-- ran out: this, or the first fault.
+use Rattle.std.specs.Prelude.{◌≡◌, ◌||◌, ℕ, Bool, not, List, [], ◌++◌, map, Option, Result}
+use Rattle.std.specs.List.{flat_map}
+use Rattle.std.specs.Str.{bytes_eq}
+use Rattle.std.specs.Borrow.{Bor}
+use Rattle.std.specs.Global.{Vec, Global}
+use Rattle.std.specs.BTreeSet.{BTreeSet}
+use Rattle.std.specs.HashSet.{HashSet}
+use Rattle.std.specs.declared.borrow.CowSlice.{CowSlice}
+use Rattle.yaml_subset.specs.declared.tree.Key.{Key}
+use Rattle.yaml_subset.specs.declared.tree.Tree.{Tree}
+use Rattle.yaml_subset.specs.Node.{Node, Pair}
+use Rattle.yaml_subset.specs.Keys.{is_among, copies_view}
+use Rattle.yaml_subset.specs.View.{node_view, pair_view}
+use Rattle.mpf_tables.specs.declared.tables.TextKind.{TextKind}
+use Rattle.section_tables.specs.declared.rows.Name.{Name}
+use Rattle.section_tables.specs.declared.fault.ConfigFault.{ConfigFault}
+use Rattle.section_tables.specs.declared.nodes.MapPairs.{MapPairs}
+use Rattle.section_tables.specs.declared.spot.Spot as spots
+use Rattle.section_tables.specs.declared.table.Shape as shapes
+use Rattle.section_tables.specs.Tables.{found_in}
+use Rattle.section_tables.specs.TableView.{shape_view}
+use Rattle.section_tables.specs.View.{names_view, spot_view, pairs_view, pairs_in_view, found_view}
+use Rattle.mpf_sections.specs.declared.section.Content as contents
+use Rattle.mpf_sections.specs.declared.section.Section.{Section}
+use Rattle.mpf_sections.specs.Rows.{Written, Content, SectionRows}
+use Rattle.mpf_sections.specs.View.{content_view, section_view}
+use Rattle.mpf_config.specs.declared.config.Note as notes
+use Rattle.mpf_config.specs.declared.config.ModeText.{ModeText}
+use Rattle.mpf_config.specs.declared.config.Config.{Config}
+use Rattle.mpf_config.specs.declared.texts.Text as texts
+use Rattle.mpf_config.specs.declared.bundle.MachineRead as machines
+use Rattle.mpf_config.specs.declared.modes.ModeRead as modes
+use Rattle.mpf_config.specs.declared.listed_mode.ListedMode.{ListedMode}
+use Rattle.mpf_config.specs.Rows.{Note, Rows, RowsFault}
+use Rattle.mpf_config.specs.BundleText.{Text}
+use Rattle.mpf_config.specs.ModeReads.{MachineRead, ModeRead}
+use Rattle.mpf_config.specs.Unread.{absent_of, mode_text_of, skipped_note, absent_note, unlisted_note, machine_notes, mode_notes, unlisted_notes}
+use Rattle.mpf_config.specs.Apart.{EntryName, entries_named, entry_names, entry_keys}
+use Rattle.mpf_config.specs.Reading.{modes_new_at, modes_at, content_at, section_at, sections_in, sections_at, machine_at, machine_read_at, mode_read_at, entries_new_at, new_mode_at, placed_at, found_of, modes_from, none_found, modes_in_texts}
+use Rattle.mpf_config.specs.View.{name_view, mode_view, note_view, rows_view, GivesRows}
+use Rattle.mpf_config.specs.Inside.{bytes_view, text_view, texts_view, notes_view, names_only_view, sections_view, modes_view, machine_read_view, mode_read_view, found_modes_view, keys_view, placed_keys}
+
+-- ---- sections
+
+-- it passes, where reading does, and has no more to say
+abbrev pub Passes : Result (Unit {0}) ConfigFault → Result (Unit {0}) RowsFault → Type 0
+Passes result read = GivesRows (λ u. u) result read
+
+-- it gives the tree that reading gives
+abbrev pub GivesTree : Result Tree ConfigFault → Result Node RowsFault → Type 0
+GivesTree result read = GivesRows node_view result read
+
+-- it gives these pairs of a tree
+abbrev pub GivesPairs : Result MapPairs ConfigFault → Result (List Pair) RowsFault → Type 0
+GivesPairs result read = GivesRows pairs_in_view result read
+
+-- it gives these names
+abbrev pub GivesNames : Result (Vec Name) ConfigFault → Result (List Written) RowsFault → Type 0
+GivesNames result read = GivesRows names_view result read
+
+-- it gives this, which stands in a section
+abbrev pub GivesContent : Result contents.Content ConfigFault → Result Content RowsFault → Type 0
+GivesContent result read = GivesRows content_view result read
+
+-- it gives this section
+abbrev pub GivesSection : Result Section ConfigFault → Result SectionRows RowsFault → Type 0
+GivesSection result read = GivesRows section_view result read
+
+-- it gives these sections
+abbrev pub GivesSections : Result (Vec Section) ConfigFault → Result (List SectionRows) RowsFault → Type 0
+GivesSections result read = GivesRows sections_view result read
+
+-- the pairs that a tree has
+abbrev pub pairs_of_tree : List ℕ → Tree → Result (List Pair) RowsFault
+pairs_of_tree text tree = sections_in text (node_view tree)
+
+-- none of these modes is named `machine`, and none as an earlier one
+abbrev pub modes_all_new : spots.Spot → List Name → Result (Unit {0}) RowsFault
+modes_all_new spot names = modes_new_at (spot_view spot) [] (map name_view names)
+
+-- the modes that an entry of a text lists
+abbrev pub modes_of_entry : List ℕ → (Key × Tree) → Result (List Written) RowsFault
+modes_of_entry text entry = modes_at text (pair_view entry)
+
+-- what stands in an entry of a text, as a section of this shape
+abbrev pub content_of_entry : List ℕ → (Key × Tree) → shapes.Shape → Result Content RowsFault
+content_of_entry text entry shape = content_at text (pair_view entry) (shape_view shape)
+
+-- the section that an entry of a text is
+abbrev pub section_of_entry : TextKind → List ℕ → (Key × Tree) → Result SectionRows RowsFault
+section_of_entry kind text entry = section_at kind text (pair_view entry)
+
+-- the sections of these entries of a text, without those that are skipped
+abbrev pub sections_of_entries : TextKind → List ℕ → List (Key × Tree) → Result (List SectionRows) RowsFault
+sections_of_entries kind text entries = sections_at kind text (pairs_view entries)
+
+-- ---- entries that are taken
+
+-- the entries of a section, by its name and their own
+abbrev pub entries_of_section : Section → List EntryName
+entries_of_section section = entries_named (section_view section)
+
+-- the entries of these sections
+abbrev pub entries_of_sections : List Section → List EntryName
+entries_of_sections sections = entry_names (map section_view sections)
+
+-- the keys of the entries of sections
+abbrev pub keys_of_sections : List Section → List (List ℕ)
+keys_of_sections sections = entry_keys (map section_view sections)
+
+-- whether a key is not among those of a set
+abbrev pub is_new_key : {S : Type 0} → HashSet (CowSlice ℕ Global) S → List ℕ → Bool
+is_new_key taken key = not (is_among (copies_view taken) key)
+
+-- a key is in the set that is one of these, or that was in it
+abbrev pub GainsKeys : {S : Type 0} → (old new : HashSet (CowSlice ℕ Global) S) → (is_one : List ℕ → Bool) → Type 0
+GainsKeys old new is_one = (q : List ℕ) → is_among (copies_view new) q ≡ (is_one q || is_among (copies_view old) q)
+
+-- none of these entries is taken, and none is the same as an earlier one
+abbrev pub entries_all_new : {S : Type 0} → List ℕ → HashSet (CowSlice ℕ Global) S → List EntryName → Result (Unit {0}) RowsFault
+entries_all_new text taken entries = entries_new_at text (copies_view taken) entries
+
+-- ---- modes
+
+-- the modes of these names, with the names of their texts
+abbrev pub AreListed : List Name → List ListedMode → Type 0
+AreListed names modes = modes_view modes ≡ map name_view names
+
+-- the mode whose text has this name, with its place, if there is one
+abbrev pub IsModeOfText : List ListedMode → List ℕ → Option (ℕ × Bor Name) → Type 0
+IsModeOfText modes text found = found_view name_view found ≡ found_in mode_text_of text (modes_view modes)
+
+-- it gives this mode, with the notes on its text
+abbrev pub GivesMode : Result modes.ModeRead ConfigFault → Result ModeRead RowsFault → Type 0
+GivesMode result read = GivesRows mode_read_view result read
+
+-- it gives for each listed mode that, or none
+abbrev pub GivesModes : Result (Vec (Option modes.ModeRead)) ConfigFault → Result (List (Option ModeRead)) RowsFault → Type 0
+GivesModes result read = GivesRows (λ found. found_modes_view found.items) result read
+
+-- it leaves that here, at the places of the listed modes
+abbrev pub LeavesModes : List (Option modes.ModeRead) → Result (Unit {0}) ConfigFault → Result (List (Option ModeRead)) RowsFault → Type 0
+LeavesModes found result read = GivesRows (λ _. found_modes_view found) result read
+
+-- the mode of this name by its text
+abbrev pub mode_of_text : Name → texts.Text → Result ModeRead RowsFault
+mode_of_text name text = mode_read_at (name_view name) (text_view text)
+
+-- the mode of this name by its text, where none of its entries is taken
+abbrev pub new_mode_of_text : {S : Type 0} → HashSet (CowSlice ℕ Global) S → Name → texts.Text → Result ModeRead RowsFault
+new_mode_of_text taken name text = new_mode_at (copies_view taken) (name_view name) (text_view text)
+
+-- the keys of the entries of a mode
+abbrev pub keys_of_mode : modes.ModeRead → List (List ℕ)
+keys_of_mode read = entry_keys (mode_read_view read).mode.sections
+
+-- what is found, with the mode of this text at its place
+abbrev pub with_mode_of_text : {S : Type 0} → HashSet (CowSlice ℕ Global) S → List ListedMode → List (Option modes.ModeRead) → texts.Text → Result (List (Option ModeRead)) RowsFault
+with_mode_of_text taken modes found text = placed_at (text_view text) (copies_view taken) (found_modes_view found) (found_in mode_text_of text.name.now (modes_view modes))
+
+-- the keys of the entries of the mode that is found at the place of this text
+abbrev pub keys_at_text : List ListedMode → List (Option modes.ModeRead) → texts.Text → List (List ℕ)
+keys_at_text modes found text = placed_keys (found_modes_view found) (found_in mode_text_of text.name.now (modes_view modes))
+
+-- none is found of these modes
+abbrev pub IsNoneFound : List ListedMode → List (Option modes.ModeRead) → Type 0
+IsNoneFound modes found = found_modes_view found ≡ none_found (modes_view modes)
+
+-- what is found, with the modes of these texts at their places
+abbrev pub with_modes_of_texts : {S : Type 0} → HashSet (CowSlice ℕ Global) S → List ListedMode → List (Option modes.ModeRead) → List texts.Text → Result (List (Option ModeRead)) RowsFault
+with_modes_of_texts taken modes found texts = modes_from (copies_view taken) (modes_view modes) [] (found_modes_view found) (texts_view texts)
+
+-- the modes of these texts at their places
+abbrev pub modes_of_texts : {S : Type 0} → HashSet (CowSlice ℕ Global) S → List ListedMode → List texts.Text → Result (List (Option ModeRead)) RowsFault
+modes_of_texts taken modes texts = modes_from (copies_view taken) (modes_view modes) [] (none_found (modes_view modes)) (texts_view texts)
+
+-- the modes that were found
+abbrev pub AreModesFound : List (Option modes.ModeRead) → List ModeText → Type 0
+AreModesFound found modes = map mode_view modes ≡ map (λ m. m.mode) (found_of (found_modes_view found))
+
+-- the notes on the texts of the modes that were found
+abbrev pub notes_found : List (Option modes.ModeRead) → List Note
+notes_found found = flat_map (λ m. m.notes) (found_of (found_modes_view found))
+
+-- ---- notes
+
+-- a list of notes has grown by these
+abbrev pub GainsNotes : (old new : Vec notes.Note) → List Note → Type 0
+GainsNotes old new more = notes_view new ≡ notes_view old ++ more
+
+-- the note on a skipped section of this text
+abbrev pub IsSkippedNote : List ℕ → (Key × Tree) → notes.Note → Type 0
+IsSkippedNote text entry note = note_view note ≡ skipped_note text (pair_view entry)
+
+-- the note on a listed mode without a text
+abbrev pub IsAbsentNote : Name → notes.Note → Type 0
+IsAbsentNote mode note = note_view note ≡ absent_note (name_view mode)
+
+-- the note on an unlisted text
+abbrev pub IsUnlistedNote : texts.Text → notes.Note → Type 0
+IsUnlistedNote text note = note_view note ≡ unlisted_note (text_view text)
+
+-- the notes on the listed modes that have no text
+abbrev pub notes_on_absent : List texts.Text → List ListedMode → List Note
+notes_on_absent texts modes = map absent_note (absent_of (texts_view texts) (modes_view modes))
+
+-- the notes on the unlisted texts
+abbrev pub notes_on_unlisted : List texts.Text → List ListedMode → List Note
+notes_on_unlisted texts modes = unlisted_notes (modes_view modes) (texts_view texts)
+
+-- the notes on the sections of the machine text
+abbrev pub AreMachineNotes : List texts.Text → List ListedMode → List (Key × Tree) → Vec notes.Note → Type 0
+AreMachineNotes texts modes sections notes = notes_view notes ≡ machine_notes (texts_view texts) (modes_view modes) (pairs_view sections)
+
+-- the notes on the sections of the text of a mode
+abbrev pub AreModeNotes : List ℕ → List (Key × Tree) → Vec notes.Note → Type 0
+AreModeNotes text sections notes = notes_view notes ≡ mode_notes text (pairs_view sections)
+
+-- ---- the bundle
+
+-- it gives this machine text, with the notes on it
+abbrev pub GivesMachine : Result machines.MachineRead ConfigFault → Result MachineRead RowsFault → Type 0
+GivesMachine result read = GivesRows machine_read_view result read
+
+-- it gives these rows of a bundle
+abbrev pub GivesConfig : Result Config ConfigFault → Result Rows RowsFault → Type 0
+GivesConfig result read = GivesRows rows_view result read
+
+-- it gives these names of modes
+abbrev pub GivesModeNames : Result (Vec (Vec ℕ)) ConfigFault → Result (List (List ℕ)) RowsFault → Type 0
+GivesModeNames result read = GivesRows names_only_view result read
+
+-- what the texts of a bundle say of the machine
+abbrev pub machine_in_texts : List texts.Text → Result MachineRead RowsFault
+machine_in_texts texts = machine_read_at (texts_view texts)
+
+-- the modes that a machine text of these sections lists, by the texts of the bundle
+abbrev pub modes_of_machine : List Section → List ListedMode → List texts.Text → Result (List (Option ModeRead)) RowsFault
+modes_of_machine sections listed texts = modes_in_texts (map section_view sections) (modes_view listed) (texts_view texts)
+
+-- the names as they are written
+abbrev pub AreTextsOf : List Name → Vec (Vec ℕ) → Type 0
+AreTextsOf names texts = names_only_view texts ≡ map (λ w. w.text) (map name_view names)
+
+-- ---- texts and their names
+
+-- it gives this text of a bundle
+abbrev pub GivesText : Result texts.Text ConfigFault → Result Text RowsFault → Type 0
+GivesText result read = GivesRows text_view result read
+
+-- it gives these texts of a bundle
+abbrev pub GivesTexts : Result (Vec texts.Text) ConfigFault → Result (List Text) RowsFault → Type 0
+GivesTexts result read = GivesRows (λ texts. texts_view texts.items) result read
+
+-- it gives these bytes
+abbrev pub GivesBytes : Result (Bor (List ℕ)) ConfigFault → Result (List ℕ) RowsFault → Type 0
+GivesBytes result read = GivesRows bytes_view result read
+
+-- the machine text among these texts
+abbrev pub machine_text_in : List texts.Text → Result (List ℕ) RowsFault
+machine_text_in texts = machine_at (texts_view texts)
+
+-- whether a name is not among these
+abbrev pub is_new_name : BTreeSet (Bor (List ℕ)) → List ℕ → Bool
+is_new_name names name = not (is_among (keys_view names) name)
+
+-- a name is in the set that is this one, or that was in it
+abbrev pub GainsName : (old new : BTreeSet (Bor (List ℕ))) → List ℕ → Type 0
+GainsName old new name = (q : List ℕ) → is_among (keys_view new) q ≡ (bytes_eq name q || is_among (keys_view old) q)

@@ -1,0 +1,81 @@
+-- What the readers of sections answer, by the tables of the program.
+use Rattle.std.specs.Prelude.{◌≡◌, ℕ, List, Result}
+use Rattle.std.specs.Global.{Vec}
+use Rattle.yaml_subset.specs.declared.tree.Key.{Key}
+use Rattle.yaml_subset.specs.declared.tree.Tree.{Tree}
+use Rattle.yaml_subset.specs.View.{pair_view}
+use Rattle.section_tables.specs.declared.rows.Name.{Name}
+use Rattle.section_tables.specs.declared.rows.Entry as entries
+use Rattle.section_tables.specs.declared.rows.Player as players
+use Rattle.section_tables.specs.declared.table.Barred.{Barred}
+use Rattle.section_tables.specs.declared.table.PlayerKinds.{PlayerKinds}
+use Rattle.section_tables.specs.declared.table.Setting.{Setting}
+use Rattle.section_tables.specs.declared.spot.Spot.{Spot}
+use Rattle.section_tables.specs.declared.fault.Fault.{Fault}
+use Rattle.section_tables.specs.declared.fault.FaultKind.{FaultKind}
+use Rattle.section_tables.specs.declared.fault.ConfigFault.{ConfigFault}
+use Rattle.section_tables.specs.Rows.{Written, Entry, Player, RowsFault}
+use Rattle.section_tables.specs.EntryOf.{IsEntry, AreEntries, ArePlayers, AreNamesListed}
+use Rattle.section_tables.specs.Reading.{rows_fault_at, entry_at, entries_at, players_at, names_at}
+use Rattle.section_tables.specs.TableView.{barred_view, table_view, player_kinds_view}
+use Rattle.section_tables.specs.View.{names_view, entry_view, entries_view, players_view, spot_view, rows_fault_view, GivesRows}
+
+-- ---- what a pair is, with at most so many items in each list
+
+-- an entry by this table
+abbrev pub IsEntryOf : ℕ → List Setting → Key × Tree → Entry → Type 0
+IsEntryOf longest table pair e = IsEntry longest (table_view table) (pair_view pair) e
+
+-- a section with these entries by this table, none of which has a barred name
+abbrev pub AreEntriesOf : ℕ → Barred → List Setting → Key × Tree → List Entry → Type 0
+AreEntriesOf longest barred table pair es = AreEntries longest (barred_view barred) (table_view table) (pair_view pair) es
+
+-- a player with these entries
+abbrev pub ArePlayersOf : ℕ → PlayerKinds → Key × Tree → List Player → Type 0
+ArePlayersOf longest kinds pair rows = ArePlayers longest (player_kinds_view kinds) (pair_view pair) rows
+
+-- a section that lists these names
+abbrev pub AreNamesOf : ℕ → Key × Tree → List Written → Type 0
+AreNamesOf longest pair ws = AreNamesListed longest (pair_view pair) ws
+
+-- ---- what reading a pair gives in the text of this name: a value, or the first fault
+
+-- an entry by this table
+abbrev pub read_entry : List Setting → List ℕ → Key × Tree → Result Entry RowsFault
+read_entry table text pair = entry_at text (table_view table) (pair_view pair)
+
+-- the entries of a section by this table, none of which has a barred name
+abbrev pub read_entries : Barred → List Setting → List ℕ → Key × Tree → Result (List Entry) RowsFault
+read_entries barred table text pair = entries_at text (barred_view barred) (table_view table) (pair_view pair)
+
+-- the entries of a player
+abbrev pub read_players : PlayerKinds → List ℕ → Key × Tree → Result (List Player) RowsFault
+read_players kinds text pair = players_at text (player_kinds_view kinds) (pair_view pair)
+
+-- the names that a section lists, of which there may be so many
+abbrev pub read_names : ℕ → List ℕ → Key × Tree → Result (List Written) RowsFault
+read_names most text pair = names_at most text (pair_view pair)
+
+-- ---- answers: what reading gives, which is a value or the first fault, unless memory ran out
+
+-- the answer is the entry that is read
+abbrev pub GivesEntry : Result entries.Entry ConfigFault → Result Entry RowsFault → Type 0
+GivesEntry answer read = GivesRows entry_view answer read
+
+-- the answer is the entries that are read
+abbrev pub GivesEntries : Result (Vec entries.Entry) ConfigFault → Result (List Entry) RowsFault → Type 0
+GivesEntries answer read = GivesRows entries_view answer read
+
+-- the answer is the entries of a player that are read
+abbrev pub GivesPlayers : Result (Vec players.Player) ConfigFault → Result (List Player) RowsFault → Type 0
+GivesPlayers answer read = GivesRows players_view answer read
+
+-- the answer is the names that are read
+abbrev pub GivesNames : Result (Vec Name) ConfigFault → Result (List Written) RowsFault → Type 0
+GivesNames answer read = GivesRows names_view answer read
+
+-- ---- faults
+
+-- a fault of this kind that stands here
+abbrev pub IsFaultAt : FaultKind → Spot → Fault → Type 0
+IsFaultAt kind spot fault = rows_fault_view fault ≡ rows_fault_at kind (spot_view spot)
