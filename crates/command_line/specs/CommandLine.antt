@@ -1,6 +1,8 @@
 -- What the words of the command line ask for, as `clap` reads them.
-use Rattle.std.specs.Prelude.{◌≡◌, ◌==◌, ℕ, Bool, true, false, List, [], ◌∷◌, Option, Some, None, Result, Ok, Err, option_map, option_and_then, if◌then◌else◌, codes, string_bytes}
+use Rattle.std.specs.Prelude.{◌≡◌, ◌==◌, ℕ, Bool, true, false, List, [], ◌∷◌, Option, Some, None, Result, Ok, Err, map, option_map, option_and_then, if◌then◌else◌, codes, String, string_bytes}
 use Rattle.std.specs.Str.{bytes_eq}
+use Rattle.std.specs.Borrow.{Bor}
+use Rattle.std.specs.Global.{Global}
 use Rattle.clap.specs.Simple.{on_top}
 use Rattle.clap.specs.Words.{App, Kinds, Row, Rule, Text, fault_of, first_of, new_app, new_rule, subcommand_of, with_rule, with_subcommand}
 use Rattle.clap.specs.declared.builder.action.ArgAction.TheVariants.{Set}
@@ -78,6 +80,22 @@ asked_at words = where_no_fault (fault_of pinball_app words) (asked_of (subcomma
 abbrev pub begins_with_hyphen : List ℕ → Bool
 begins_with_hyphen [] = false
 begins_with_hyphen (x ∷ xs) = x == 45
+
+-- a word that is no flag: it does not begin with a hyphen
+abbrev pub IsNoFlag : List ℕ → Type 0
+IsNoFlag word = begins_with_hyphen word ≡ false
+
+-- the words that are given, as text
+abbrev pub given_words : List (String Global) → List Text
+given_words words = map string_bytes words
+
+-- the text that is given for an argument, if one is
+abbrev pub given_text : Option (Bor (List ℕ)) → Option Text
+given_text text = option_map (λ s. s.now) text
+
+-- this is what is asked for
+abbrev pub IsAsked : Option AskView → Ask → Type 0
+IsAsked asked ask = asked ≡ Some (ask_view ask)
 
 -- the answer is this, unless memory ran out
 abbrev pub Asks : AskView → Result Ask AskFault → Type 0

@@ -1,9 +1,9 @@
 //! What the words after the program's name ask for.
 
-ghost use Rattle.std.specs.Prelude.{◌≡◌, ℕ, List, [], ◌∷◌, Some, true, false, IfOk, IfErr, IsSome, map, option_map, None, codes, string_bytes};
+ghost use Rattle.std.specs.Prelude.{◌≡◌, ℕ, List, [], ◌∷◌, Some, true, false, IfOk, IfErr, IsSome, option_map, None, codes, string_bytes};
 ghost use Rattle.clap.specs.declared.builder.command.Command.{out-Command};
 ghost use Rattle.clap.specs.Words.{app_of, kind_of, new_app, rule_of, subcommand_rows_of};
-ghost use Rattle.command_line.specs.CommandLine.{path_rule, folder_rule, check_app, path_app, program_app, pinball_app, check, verify, play, ask_view, asked_by, asked_of, asked_at, begins_with_hyphen, Asks};
+ghost use Rattle.command_line.specs.CommandLine.{path_rule, folder_rule, check_app, path_app, program_app, pinball_app, check, verify, play, asked_by, asked_of, asked_at, IsNoFlag, given_words, given_text, IsAsked, Asks};
 ghost use Rattle.command_line.specs.declared.ask.AskFault.TheVariants.{NoMemory};
 
 use clap::error::ErrorKind;
@@ -75,24 +75,22 @@ impl From<AllocError> for AskFault {
 /// - `Usage`: the words are not one of these, or ask for help or for the version.
 /// - `NoMemory`: memory ran out.
 pub fn command(alloc: Global, words: Vec<String>) -> Result<Ask, AskFault>
-    ensures asked { IfOk result (λ ask. asked_at (map string_bytes words.items) ≡ Some (ask_view ask)) }
-    ensures checks { map string_bytes words.items ≡ codes "check" ∷ [] → Asks (check None) result }
-    ensures checks_folder { (folder : List ℕ) → begins_with_hyphen folder ≡ false → map string_bytes words.items ≡ codes "check" ∷ folder ∷ [] → Asks (check (Some folder)) result }
-    ensures verifies { (path : List ℕ) → begins_with_hyphen path ≡ false → map string_bytes words.items ≡ codes "verify" ∷ path ∷ [] → Asks (verify path None) result }
-    ensures verifies_folder { (path folder : List ℕ) → begins_with_hyphen path ≡ false → begins_with_hyphen folder ≡ false
-        → map string_bytes words.items ≡ codes "verify" ∷ path ∷ folder ∷ [] → Asks (verify path (Some folder)) result }
-    ensures plays { (log : List ℕ) → begins_with_hyphen log ≡ false → map string_bytes words.items ≡ codes "play" ∷ log ∷ [] → Asks (play log None) result }
-    ensures plays_folder { (log folder : List ℕ) → begins_with_hyphen log ≡ false → begins_with_hyphen folder ≡ false
-        → map string_bytes words.items ≡ codes "play" ∷ log ∷ folder ∷ [] → Asks (play log (Some folder)) result }
-    ensures only { IfErr result (λ fault. IsSome (asked_at (map string_bytes words.items)) → fault ≡ AskFault.NoMemory) }
+    ensures asked { IfOk result (IsAsked (asked_at (given_words words.items))) }
+    ensures checks { given_words words.items ≡ codes "check" ∷ [] → Asks (check None) result }
+    ensures checks_folder { (folder : List ℕ) → IsNoFlag folder → given_words words.items ≡ codes "check" ∷ folder ∷ [] → Asks (check (Some folder)) result }
+    ensures verifies { (path : List ℕ) → IsNoFlag path → given_words words.items ≡ codes "verify" ∷ path ∷ [] → Asks (verify path None) result }
+    ensures verifies_folder { (path folder : List ℕ) → IsNoFlag path → IsNoFlag folder → given_words words.items ≡ codes "verify" ∷ path ∷ folder ∷ [] → Asks (verify path (Some folder)) result }
+    ensures plays { (log : List ℕ) → IsNoFlag log → given_words words.items ≡ codes "play" ∷ log ∷ [] → Asks (play log None) result }
+    ensures plays_folder { (log folder : List ℕ) → IsNoFlag log → IsNoFlag folder → given_words words.items ≡ codes "play" ∷ log ∷ folder ∷ [] → Asks (play log (Some folder)) result }
+    ensures only { IfErr result (λ fault. IsSome (asked_at (given_words words.items)) → fault ≡ AskFault.NoMemory) }
 {
     read_words(alloc, &words)
 }
 
 /// What the words ask for. Words that ask for something fail only by memory.
 fn read_words(alloc: Global, words: &[String]) -> Result<Ask, AskFault>
-    ensures asked { IfOk result (λ ask. asked_at (map string_bytes words.now) ≡ Some (ask_view ask)) }
-    ensures only { IfErr result (λ fault. IsSome (asked_at (map string_bytes words.now)) → fault ≡ AskFault.NoMemory) }
+    ensures asked { IfOk result (IsAsked (asked_at (given_words words.now))) }
+    ensures only { IfErr result (λ fault. IsSome (asked_at (given_words words.now)) → fault ≡ AskFault.NoMemory) }
 {
     match pinball(alloc)?.try_get_matches_from(words) {
         Ok(matches) => ask_of(alloc, &matches),
@@ -185,7 +183,7 @@ fn path_argument<'a>(alloc: Global, value_name: &'a str, help: &'a str) -> Arg<'
 }
 
 fn ask_of(alloc: Global, matches: &ArgMatches<'_>) -> Result<Ask, AskFault>
-    ensures asked { IfOk result (λ ask. asked_of (subcommand_rows_of matches.now) ≡ Some (ask_view ask)) }
+    ensures asked { IfOk result (IsAsked (asked_of (subcommand_rows_of matches.now))) }
     ensures only { IfErr result (λ fault. IsSome (asked_of (subcommand_rows_of matches.now)) → fault ≡ AskFault.NoMemory) }
 {
     match matches.subcommand() {
@@ -205,8 +203,8 @@ fn ask_by(
     path: Option<&str>,
     folder: Option<&str>,
 ) -> Result<Ask, AskFault>
-    ensures asked { IfOk result (λ ask. asked_by name.now (option_map (λ s. s.now) path.entry) (option_map (λ s. s.now) folder.entry) ≡ Some (ask_view ask)) }
-    ensures only { IfErr result (λ fault. IsSome (asked_by name.now (option_map (λ s. s.now) path.entry) (option_map (λ s. s.now) folder.entry)) → fault ≡ AskFault.NoMemory) }
+    ensures asked { IfOk result (IsAsked (asked_by name.now (given_text path.entry) (given_text folder.entry))) }
+    ensures only { IfErr result (λ fault. IsSome (asked_by name.now (given_text path.entry) (given_text folder.entry)) → fault ≡ AskFault.NoMemory) }
 {
     let folder = copied(alloc, folder)?;
     if name == "check" {
@@ -226,7 +224,7 @@ fn ask_by(
 }
 
 fn copied(alloc: Global, text: Option<&str>) -> Result<Option<String>, AllocError>
-    ensures { IfOk result (λ copy. option_map string_bytes copy ≡ option_map (λ s. s.now) text.entry) }
+    ensures { IfOk result (λ copy. option_map string_bytes copy ≡ given_text text.entry) }
 {
     match text {
         Some(text) => Ok(Some(String::from_str(alloc, text)?)),

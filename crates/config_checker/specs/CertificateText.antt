@@ -54,6 +54,14 @@ certificate_of c = record {
   events = zip c.plan.events c.weights;
 }
 
+-- the lines of the switches with their costs, of what was accepted
+abbrev pub cost_lines : CheckedView → List ℕ
+cost_lines c = numbered_lines (codes "switch") (zip (entry_names c.plan Switches) (switch_costs c.plan (weight_of c.weights)))
+
+-- the lines of the events with their weights
+abbrev pub weight_lines : CheckedView → List ℕ
+weight_lines c = numbered_lines (codes "event") (certificate_of c).events
+
 -- a certificate as version 1 has it
 abbrev pub as_version_1 : Certificate → Certificate
 as_version_1 c = record { bound = c.bound; switches = None; events = c.events }

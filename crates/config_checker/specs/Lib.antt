@@ -4,6 +4,7 @@ pub mod FaultView
 pub mod Checking
 pub mod View
 pub mod Refused
+pub mod OfConfig
 pub mod ReadAgain
 pub mod ReportText
 -- No promise rests on these: contracts of private functions cite them, and proofs.

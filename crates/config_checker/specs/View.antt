@@ -1,8 +1,11 @@
 -- What contracts see of an answer.
-use Rattle.std.specs.Prelude.{◌≡◌, ◌<◌, List, [], ◌∷◌, length, map, Result, Ok, Err}
+use Rattle.std.specs.Prelude.{◌≡◌, ℕ, ◌<◌, Option, Some, option_map, List, [], ◌∷◌, length, map, Result, Ok, Err}
 use Rattle.std.specs.List.{All}
-use Rattle.row_faults.specs.View.{row_fault_view}
+use Rattle.row_faults.specs.declared.fault.RowFault.{RowFault}
+use Rattle.row_faults.specs.View.{row_fault_view, row_faults_view}
 use Rattle.plan_tables.specs.PlanView.{PlanView}
+use Rattle.cascade_rank.specs.declared.fault.RankFault.{RankFault}
+use Rattle.cascade_rank.specs.View.{rank_view}
 use Rattle.cascade_rank.specs.Finding.{RankView}
 use Rattle.cascade_rank.specs.Finding as ranks
 use Rattle.config_checker.specs.declared.report.CertificateFault.{CertificateFault}
@@ -12,7 +15,8 @@ use Rattle.config_checker.specs.declared.report.Fault.TheVariants as faults
 use Rattle.config_checker.specs.declared.report.Report.{Report}
 use Rattle.config_checker.specs.declared.report.Report.TheVariants as reports
 use Rattle.written_machine.specs.CheckedView.{CheckedView}
-use Rattle.config_checker.specs.Checking.{CertificateFaultView, bad_line, other_events, other_switches, short, other_bound, other_cost, FaultView, row, limit, cycle, bound, certificate}
+use Rattle.config_checker.specs.Checking.{CertificateFaultView, bad_line, other_events, other_switches, short, other_bound, other_cost, FaultView, row, limit, cycle, bound, certificate, named_fault}
+use Rattle.config_checker.specs.ReportText.{certificate_fault_text, report_line, report_text}
 
 abbrev pub certificate_fault_view : CertificateFault → CertificateFaultView
 certificate_fault_view (certificates.Line number) = bad_line number
@@ -49,3 +53,33 @@ HasEvents plan ranks.wrong_events = Unit {0}
 
 abbrev pub faults_view : List Fault → List FaultView
 faults_view faults = map fault_view faults
+
+-- the report lists this fault alone, unless memory ran out
+abbrev pub ReportsAlone : Report → Fault → Type 0
+ReportsAlone report fault = ReportsFault report (fault_view fault)
+
+-- these are the faults of rows, each as a fault of the configuration
+abbrev pub AreOfRows : List RowFault → List Fault → Type 0
+AreOfRows own faults = faults_view faults ≡ map row (row_faults_view own)
+
+-- the fault is the one that is wrong with the weights, by the names of the plan's events
+abbrev pub NamesFault : PlanView → RankFault → Fault → Type 0
+NamesFault plan fault named = option_map (named_fault plan) (rank_view fault) ≡ Some (fault_view named)
+
+-- the fault of the certificate, if there is one, is this
+abbrev pub FindsWrong : Option CertificateFault → Option CertificateFaultView → Type 0
+FindsWrong fault wrong = option_map certificate_fault_view fault ≡ wrong
+
+-- ---- as text
+
+-- the lines of faults
+abbrev pub text_of_faults : List Fault → List ℕ
+text_of_faults faults = report_text (map fault_view faults)
+
+-- the line of a fault
+abbrev pub text_of_fault : Fault → List ℕ
+text_of_fault fault = report_line (fault_view fault)
+
+-- what the line of a fault says of a certificate
+abbrev pub text_of_certificate_fault : CertificateFault → List ℕ
+text_of_certificate_fault fault = certificate_fault_text (certificate_fault_view fault)

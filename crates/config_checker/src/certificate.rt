@@ -1,13 +1,8 @@
 //! The certificate of an accepted configuration, as a text.
 
-ghost use Rattle.std.specs.Prelude.{OnOk, codes};
-ghost use Rattle.std.specs.List.{zip};
+ghost use Rattle.std.specs.Prelude.{OnOk};
 ghost use Rattle.std.specs.Io.KnownBytes.{Appends};
-ghost use Rattle.plan_tables.specs.declared.table.Table.TheVariants.{Switches};
-ghost use Rattle.plan_tables.specs.Limits.{entry_names};
-ghost use Rattle.cascade_rank.specs.Events.{weight_of};
-ghost use Rattle.cascade_rank.specs.Weights.{switch_costs};
-ghost use Rattle.config_checker.specs.CertificateText.{certificate_of, certificate_text, numbered_line, numbered_lines};
+ghost use Rattle.config_checker.specs.CertificateText.{certificate_text, cost_lines, weight_lines, numbered_line};
 
 use crate::checked::Checked;
 use cascade_rank::switch_cost;
@@ -31,8 +26,7 @@ pub fn write_certificate<W: Write>(checked: &Checked, writer: &mut W) -> io::Res
 
 /// Writes the lines of the switches.
 fn write_switches<W: Write>(checked: &Checked, writer: &mut W) -> io::Result<()>
-    ensures { OnOk result (Appends (W.contents writer.old) (W.contents writer.new) (numbered_lines (codes "switch")
-        (zip (entry_names checked.now.plan Switches) (switch_costs checked.now.plan (weight_of checked.now.weights))))) }
+    ensures { OnOk result (Appends (W.contents writer.old) (W.contents writer.new) (cost_lines checked.now)) }
 {
     let plan = checked.plan();
     let weights = checked.weights();
@@ -46,7 +40,7 @@ fn write_switches<W: Write>(checked: &Checked, writer: &mut W) -> io::Result<()>
 
 /// Writes the lines of the events.
 fn write_events<W: Write>(checked: &Checked, writer: &mut W) -> io::Result<()>
-    ensures { OnOk result (Appends (W.contents writer.old) (W.contents writer.new) (numbered_lines (codes "event") (certificate_of checked.now).events)) }
+    ensures { OnOk result (Appends (W.contents writer.old) (W.contents writer.new) (weight_lines checked.now)) }
 {
     let plan = checked.plan();
     let weights = checked.weights();

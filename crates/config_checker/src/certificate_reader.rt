@@ -1,9 +1,9 @@
 //! The reader of a certificate's text.
 
-ghost use Rattle.std.specs.Prelude.{Bool, ◌≡◌, ◌<◌, ◌≤◌, ◌+◌, ◌==◌, ◌&&◌, ◌^◌, not, Some, Err, [], ◌∷◌, IfOk, IfSome, MatchOption, length, nat_lt, option_map, position, codes};
+ghost use Rattle.std.specs.Prelude.{◌≡◌, ◌<◌, ◌≤◌, ◌+◌, ◌==◌, ◌&&◌, ◌^◌, not, [], ◌∷◌, IfOk, IfSome, MatchOption, length, nat_lt, position, codes};
 ghost use Rattle.std.specs.List.{list_all};
-ghost use Rattle.config_checker.specs.CertificateOf.{is_in_word as in_word, is_plain, number_in, parts, lines, certificate_words, has_switches as has_switches_of, bound_in, numbered_in, front as front_of, first_event as first_event_of, ended, with_line, bound_at, body_at, certificate_at};
-ghost use Rattle.config_checker.specs.CertificateRead.{line_view, lines_view, GivesCertificate};
+ghost use Rattle.config_checker.specs.CertificateOf.{is_in_word as in_word, is_plain, number_in, parts, lines, certificate_words, has_switches as has_switches_of, bound_in, numbered_in, front as front_of, first_event as first_event_of, ended, certificate_at};
+ghost use Rattle.config_checker.specs.CertificateRead.{GivesCertificate, ReadsHeading, ReadsBound, States, HasNoFront, FrontBeginsWith, IsFront, stated_switches};
 ghost use Rattle.config_checker.specs.declared.certificate_reader.ReadFault.TheVariants.{NoMemory};
 
 use std::alloc::{AllocError, Global};
@@ -81,7 +81,7 @@ fn read_events<'a>(
     text: &'a [u8],
 ) -> Result<CertificateLines<'a>, ReadFault>
     requires { IfSome switches (λ v. length v.items + length text.now < 2 ^ 63) }
-    ensures { GivesCertificate result (ended bound (option_map (λ v. lines_view v.items) switches.entry) (front_of (codes "event") (lines text.now))) }
+    ensures { GivesCertificate result (ended bound (stated_switches switches.entry) (front_of (codes "event") (lines text.now))) }
 {
     let (events, rest) = front(alloc, text, EVENT)?;
     if !rest.is_empty() {
@@ -96,7 +96,7 @@ fn read_events<'a>(
 
 /// The number of the line where the events begin.
 fn first_event(switches: &Option<Vec<Line<'_>>>) -> usize
-    ensures { result ≡ first_event_of (option_map (λ v. lines_view v.items) switches.now) }
+    ensures { result ≡ first_event_of (stated_switches switches.now) }
 {
     match switches {
         None => BODY,
@@ -110,7 +110,7 @@ fn front<'a>(
     text: &'a [u8],
     word: &[u8],
 ) -> Result<(Vec<Line<'a>>, &'a [u8]), AllocError>
-    ensures lines { IfOk result (λ x. front_of word.now (lines text.now) ≡ (lines_view x.0.items, lines x.1.now)) }
+    ensures lines { IfOk result (IsFront word.now text.now) }
     ensures shorter { IfOk result (λ x. length x.0.items + length x.1.now ≤ length text.now) }
 {
     let mut found = Vec::new(alloc);
@@ -124,7 +124,7 @@ fn front<'a>(
 
 /// Whether a certificate with this first line states switches, and the text after that line.
 fn after_heading(text: &[u8]) -> Option<(bool, &[u8])>
-    ensures { MatchOption result (certificate_at text.now ≡ Err 1) (λ x. certificate_at text.now ≡ bound_at x.0 (lines x.1.now)) }
+    ensures { ReadsHeading text.now result }
 {
     let (line, rest) = first_line(text)?;
     let switched = has_switches(line)?;
@@ -146,7 +146,7 @@ fn has_switches(line: &[u8]) -> Option<bool>
 
 /// The bound that the first line states, and the text after that line.
 fn next_bound(text: &[u8]) -> Option<(u32, &[u8])>
-    ensures { (switched : Bool) → MatchOption result (bound_at switched (lines text.now) ≡ Err 2) (λ x. bound_at switched (lines text.now) ≡ body_at switched x.0 (lines x.1.now)) }
+    ensures { ReadsBound text.now result }
 {
     let (line, rest) = first_line(text)?;
     let bound = read_bound(line)?;
@@ -155,8 +155,7 @@ fn next_bound(text: &[u8]) -> Option<(u32, &[u8])>
 
 /// The first line, if it is `WORD NAME NUMBER` with this word, and the text after it.
 fn next_line<'a>(text: &'a [u8], word: &[u8]) -> Option<(Line<'a>, &'a [u8])>
-    ensures line { MatchOption result (front_of word.now (lines text.now) ≡ ([], lines text.now))
-        (λ x. front_of word.now (lines text.now) ≡ with_line (Some (line_view x.0)) [] (front_of word.now (lines x.1.now))) }
+    ensures line { MatchOption result (HasNoFront word.now text.now) (FrontBeginsWith word.now text.now) }
     ensures shorter { IfSome result (λ x. length x.1.now < length text.now) }
 {
     let (line, rest) = first_line(text)?;
@@ -178,7 +177,7 @@ fn read_bound(line: &[u8]) -> Option<u32>
 
 /// The number that a line states for a name by this word: `WORD NAME NUMBER`.
 fn read_line<'a>(line: &'a [u8], word: &[u8]) -> Option<Line<'a>>
-    ensures { option_map line_view result ≡ numbered_in word.now line.now }
+    ensures { States result (numbered_in word.now line.now) }
 {
     let (first, rest) = first_word(line)?;
     let (name, number) = first_word(rest)?;

@@ -1,15 +1,13 @@
 //! A certificate, judged for a plan.
 
-ghost use Rattle.std.specs.Prelude.{◌≡◌, None, IfOk, IfSome, length, option_map};
+ghost use Rattle.std.specs.Prelude.{◌≡◌, None, IfOk, IfSome, length};
 ghost use Rattle.plan_tables.specs.declared.table.Table.TheVariants.{Switches};
 ghost use Rattle.plan_tables.specs.Limits.{entry_names};
-ghost use Rattle.cascade_rank.specs.Events.{weight_of};
-ghost use Rattle.cascade_rank.specs.Weights.{IsWithinLimit, switch_costs};
-ghost use Rattle.config_checker.specs.CertificateRead.{lines_view, certificate_lines_view};
-ghost use Rattle.config_checker.specs.Certified.{as_checked, judged as judged_of};
-ghost use Rattle.config_checker.specs.Checking.{same_names, names_of, numbers_of, wrong_names as wrong_names_of, wrong_cost as wrong_cost_of, first_other as first_other_of, certified_plan, reported_alone};
-ghost use Rattle.config_checker.specs.View.{GivesChecked, ReportsFault, certificate_fault_view};
-ghost use Rattle.config_checker.specs.FaultView.{certificate};
+ghost use Rattle.cascade_rank.specs.Weights.{IsWithinLimit};
+ghost use Rattle.config_checker.specs.CertificateRead.{stated_names, stated_numbers, stated_switches, wrong_stated_names, wrong_stated_cost, IsCost, judged_lines};
+ghost use Rattle.config_checker.specs.Certified.{as_checked};
+ghost use Rattle.config_checker.specs.Checking.{same_names, wrong_cost as wrong_cost_of, certified_plan, reported_alone};
+ghost use Rattle.config_checker.specs.View.{GivesChecked, ReportsAlone, FindsWrong};
 
 use crate::certificate_reader::{CertificateLines, Line, ReadFault, read_certificate};
 use crate::report::{CertificateFault, Fault, Report};
@@ -40,8 +38,8 @@ fn judged(
     plan: &Plan,
     lines: &CertificateLines<'_>,
 ) -> Result<(Weights, Bound), Report>
-    requires { wrong_names_of plan.now (certificate_lines_view lines.now) ≡ None }
-    ensures { GivesChecked (as_checked plan.now result) (reported_alone (judged_of plan.now (certificate_lines_view lines.now))) }
+    requires { wrong_stated_names plan.now lines.now ≡ None }
+    ensures { GivesChecked (as_checked plan.now result) (reported_alone (judged_lines plan.now lines.now)) }
 {
     let weights = weights_of(alloc, &lines.events)?;
     let bound = match verify(plan, &weights) {
@@ -62,7 +60,7 @@ fn judged(
 
 /// The report of what is wrong with a certificate.
 fn refusal(alloc: Global, fault: CertificateFault) -> Report
-    ensures { ReportsFault result (certificate (certificate_fault_view fault)) }
+    ensures { ReportsAlone result (Fault.Certificate fault) }
 {
     report_of(alloc, Fault::Certificate(fault))
 }
@@ -70,7 +68,7 @@ fn refusal(alloc: Global, fault: CertificateFault) -> Report
 /// What is wrong with the names of a certificate: other events than those of the plan, or else
 /// other switches.
 fn wrong_names(plan: &Plan, lines: &CertificateLines<'_>) -> Option<CertificateFault>
-    ensures { option_map certificate_fault_view result ≡ wrong_names_of plan.now (certificate_lines_view lines.now) }
+    ensures { FindsWrong result (wrong_stated_names plan.now lines.now) }
 {
     if !are_events(plan, &lines.events) {
         return Some(CertificateFault::Events);
@@ -87,7 +85,7 @@ fn wrong_names(plan: &Plan, lines: &CertificateLines<'_>) -> Option<CertificateF
 
 /// Whether these are the plan's events, in the order of their numbers.
 fn are_events(plan: &Plan, lines: &[Line<'_>]) -> bool
-    ensures { result ≡ same_names plan.now.events (names_of (lines_view lines.now)) }
+    ensures { result ≡ same_names plan.now.events (stated_names lines.now) }
 {
     if lines.len() != plan.event_count() {
         return false;
@@ -102,7 +100,7 @@ fn are_events(plan: &Plan, lines: &[Line<'_>]) -> bool
 
 /// Whether these are the plan's switches, in the order of their numbers.
 fn are_switches(plan: &Plan, lines: &[Line<'_>]) -> bool
-    ensures { result ≡ same_names (entry_names plan.now Switches) (names_of (lines_view lines.now)) }
+    ensures { result ≡ same_names (entry_names plan.now Switches) (stated_names lines.now) }
 {
     if lines.len() != plan.switch_count() {
         return false;
@@ -117,7 +115,7 @@ fn are_switches(plan: &Plan, lines: &[Line<'_>]) -> bool
 
 /// The numbers of the lines, as weights.
 fn weights_of(alloc: Global, lines: &[Line<'_>]) -> Result<Weights, AllocError>
-    ensures { IfOk result (λ weights. weights ≡ numbers_of (lines_view lines.now)) }
+    ensures { IfOk result (λ weights. weights ≡ stated_numbers lines.now) }
 {
     let mut weights = Vec::with_capacity(alloc, lines.len())?;
     for line in lines {
@@ -135,7 +133,7 @@ fn wrong_cost<'a>(
     requires weights { length weights.now ≡ length plan.now.events }
     requires limit { IsWithinLimit plan.now weights.now }
     requires switches { IfSome switches.now (λ lines. length lines.items ≡ length plan.now.switches) }
-    ensures { option_map (λ s. (s.0.now, s.1)) result ≡ wrong_cost_of plan.now weights.now (option_map (λ lines. lines_view lines.items) switches.now) }
+    ensures { IsCost result (wrong_cost_of plan.now weights.now (stated_switches switches.now)) }
 {
     match switches {
         None => None,
@@ -149,7 +147,7 @@ fn first_other<'a>(plan: &Plan, weights: &Weights, switches: &[Line<'a>]) -> Opt
     requires weights { length weights.now ≡ length plan.now.events }
     requires limit { IsWithinLimit plan.now weights.now }
     requires switches { length switches.now ≡ length plan.now.switches }
-    ensures { option_map (λ s. (s.0.now, s.1)) result ≡ first_other_of (lines_view switches.now) (switch_costs plan.now (weight_of weights.now)) }
+    ensures { IsCost result (wrong_stated_cost plan.now weights.now switches.now) }
 {
     for number in 0..plan.switch_count() {
         let line = switches[number];

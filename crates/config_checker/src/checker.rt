@@ -1,17 +1,15 @@
 //! The checker.
 
-ghost use Rattle.std.specs.Prelude.{◌≡◌, [], Ok, IfOk, OnOk, IfErr, map};
-ghost use Rattle.mpf_config.specs.View.{rows_view};
+ghost use Rattle.std.specs.Prelude.{◌≡◌, [], Ok, IfOk, OnOk, IfErr};
 ghost use Rattle.mpf_plan.specs.PlanOf.{plan_at};
 ghost use Rattle.cascade_rank.specs.Weights.{IsLeastFitting};
 ghost use Rattle.written_machine.specs.Accepted.{IsAccepted};
 ghost use Rattle.written_machine.specs.GoodRun.{IsGood};
 ghost use Rattle.config_checker.specs.CertificateText.{IsCertificateText};
-ghost use Rattle.row_faults.specs.View.{row_faults_view};
-ghost use Rattle.config_checker.specs.FaultView.{row};
-ghost use Rattle.config_checker.specs.View.{GivesChecked, faults_view};
-ghost use Rattle.config_checker.specs.Checking.{faults_of_rows, checked_at, checked_with_at};
-ghost use Rattle.config_checker.specs.Refused.{IsLimitFault, IsFaultOf, IsFaultWith, Reports, ReportsNoPlan, ReportsOne, ReportsOwn};
+ghost use Rattle.config_checker.specs.View.{AreOfRows};
+ghost use Rattle.config_checker.specs.Checking.{faults_of_rows};
+ghost use Rattle.config_checker.specs.Refused.{IsLimitFault, ReportsNoPlan, ReportsOne, ReportsOwn};
+ghost use Rattle.config_checker.specs.OfConfig.{ChecksConfig, ChecksConfigWith, IsPlanOf, HasNoFaults, ReportsFaultsOf, ReportsFaultsWith, ReportsWithoutPlan};
 
 use crate::certified::certified;
 use crate::checked::Checked;
@@ -43,12 +41,12 @@ use std::alloc::{AllocError, Global};
 ///
 /// `NoMemory`: memory ran out.
 pub fn check(alloc: Global, config: &Config) -> Result<Checked, Report>
-    ensures exact { GivesChecked result (checked_at (rows_view config.now)) }
-    ensures plan { IfOk result (λ c. plan_at (rows_view config.now) ≡ Ok c.plan) }
+    ensures exact { ChecksConfig config.now result }
+    ensures plan { IfOk result (λ c. IsPlanOf config.now c.plan) }
     ensures accepted { IfOk result (λ c. IsAccepted c) }
     ensures least { IfOk result (λ c. IsLeastFitting c.plan c.weights) }
     ensures good { IfOk result (λ c. IsGood c) }
-    ensures refused { IfErr result (λ report. Reports (IsFaultOf (rows_view config.now)) (rows_view config.now) report) }
+    ensures refused { IfErr result (ReportsFaultsOf config.now) }
 {
     let plan = plan_of(alloc, config)?;
     let weights = match find(alloc, &plan) {
@@ -86,12 +84,12 @@ pub fn check(alloc: Global, config: &Config) -> Result<Checked, Report>
 ///
 /// `NoMemory`: memory ran out.
 pub fn check_with(alloc: Global, config: &Config, certificate: &[u8]) -> Result<Checked, Report>
-    ensures exact { GivesChecked result (checked_with_at (rows_view config.now) certificate.now) }
-    ensures plan { IfOk result (λ c. plan_at (rows_view config.now) ≡ Ok c.plan) }
+    ensures exact { ChecksConfigWith certificate.now config.now result }
+    ensures plan { IfOk result (λ c. IsPlanOf config.now c.plan) }
     ensures accepted { IfOk result (λ c. IsAccepted c) }
     ensures text { IfOk result (λ c. IsCertificateText c certificate.now) }
     ensures good { IfOk result (λ c. IsGood c) }
-    ensures refused { IfErr result (λ report. Reports (IsFaultWith (rows_view config.now) certificate.now) (rows_view config.now) report) }
+    ensures refused { IfErr result (ReportsFaultsWith certificate.now config.now) }
 {
     let plan = plan_of(alloc, config)?;
     let (weights, bound) = certified(alloc, &plan, certificate)?;
@@ -100,9 +98,9 @@ pub fn check_with(alloc: Global, config: &Config, certificate: &[u8]) -> Result<
 
 /// The plan of a configuration, or the report of why it has none.
 fn plan_of(alloc: Global, config: &Config) -> Result<Plan, Report>
-    ensures none { OnOk result (faults_of_rows (rows_view config.now) ≡ []) }
-    ensures plan { IfOk result (λ plan. plan_at (rows_view config.now) ≡ Ok plan) }
-    ensures refused { IfErr result (λ report. ReportsNoPlan (rows_view config.now) report) }
+    ensures none { OnOk result (HasNoFaults config.now) }
+    ensures plan { IfOk result (IsPlanOf config.now) }
+    ensures refused { IfErr result (ReportsWithoutPlan config.now) }
 {
     let definitions = Definitions::new(alloc, config)?;
     plan_of_definitions(alloc, &definitions)
@@ -133,7 +131,7 @@ fn refuse_own(alloc: Global, definitions: &Definitions<'_>) -> Result<(), Report
 
 /// Faults of rows as faults of a configuration.
 fn faults_of(alloc: Global, own: Vec<RowFault>) -> Result<Vec<Fault>, AllocError>
-    ensures { IfOk result (λ faults. faults_view faults.items ≡ map row (row_faults_view own.items)) }
+    ensures { IfOk result (λ faults. AreOfRows own.items faults.items) }
 {
     let mut faults = Vec::new(alloc);
     for fault in own {

@@ -1,10 +1,10 @@
 //! The report of a refused configuration, as a text.
 
-ghost use Rattle.std.specs.Prelude.{◌≡◌, OnOk, map};
+ghost use Rattle.std.specs.Prelude.{OnOk, map};
 ghost use Rattle.std.specs.Io.KnownBytes.{Appends};
-ghost use Rattle.config_checker.specs.View.{certificate_fault_view, fault_view};
+ghost use Rattle.config_checker.specs.View.{text_of_faults, text_of_fault, text_of_certificate_fault};
 ghost use Rattle.config_checker.specs.FaultView.{cycle};
-ghost use Rattle.config_checker.specs.ReportText.{certificate_fault_text, report_line, report_text};
+ghost use Rattle.config_checker.specs.ReportText.{report_line};
 
 use crate::report::{CertificateFault, Fault};
 use row_faults::write_row_fault;
@@ -16,7 +16,7 @@ use std::io::{self, Write};
 ///
 /// The writer's error. Any part of the text may have been written then.
 pub fn write_report<W: Write>(faults: &[Fault], writer: &mut W) -> io::Result<()>
-    ensures { OnOk result (Appends (W.contents writer.old) (W.contents writer.new) (report_text (map fault_view faults.now))) }
+    ensures { OnOk result (Appends (W.contents writer.old) (W.contents writer.new) (text_of_faults faults.now)) }
 {
     for fault in faults {
         write_fault(fault, writer)?;
@@ -30,7 +30,7 @@ pub fn write_report<W: Write>(faults: &[Fault], writer: &mut W) -> io::Result<()
 ///
 /// The writer's error. Any part of the line may have been written then.
 pub(crate) fn write_fault<W: Write>(fault: &Fault, writer: &mut W) -> io::Result<()>
-    ensures { OnOk result (Appends (W.contents writer.old) (W.contents writer.new) (report_line (fault_view fault.now))) }
+    ensures { OnOk result (Appends (W.contents writer.old) (W.contents writer.new) (text_of_fault fault.now)) }
 {
     match fault {
         Fault::Row(fault) => write_row_fault(fault, writer),
@@ -57,7 +57,7 @@ fn write_cycle<W: Write>(events: &[Vec<u8>], writer: &mut W) -> io::Result<()>
 }
 
 fn write_certificate_fault<W: Write>(fault: &CertificateFault, writer: &mut W) -> io::Result<()>
-    ensures { OnOk result (Appends (W.contents writer.old) (W.contents writer.new) (certificate_fault_text (certificate_fault_view fault.now))) }
+    ensures { OnOk result (Appends (W.contents writer.old) (W.contents writer.new) (text_of_certificate_fault fault.now)) }
 {
     match fault {
         CertificateFault::Line(number) => write!(writer, "Line {number}"),

@@ -1,12 +1,11 @@
 //! What a report lists.
 
-ghost use Rattle.std.specs.Prelude.{◌≡◌, Some, IfOk, map, option_map, length};
+ghost use Rattle.std.specs.Prelude.{◌≡◌, IfOk, map, length};
 ghost use Rattle.std.specs.List.{All};
 ghost use Rattle.plan_tables.specs.PlanView.{name_of_event};
 ghost use Rattle.plan_tables.specs.Valid.{IsEventWithin};
-ghost use Rattle.cascade_rank.specs.View.{rank_view, IfRank};
-ghost use Rattle.config_checker.specs.Checking.{named_fault};
-ghost use Rattle.config_checker.specs.View.{HasEvents, ReportsFault, fault_view};
+ghost use Rattle.cascade_rank.specs.View.{IfRank};
+ghost use Rattle.config_checker.specs.View.{HasEvents, ReportsAlone, NamesFault};
 
 use crate::report::{CertificateFault, Fault, Report};
 use cascade_rank::RankFault;
@@ -15,7 +14,7 @@ use std::alloc::{AllocError, Global};
 
 /// The report of one fault.
 pub(crate) fn report_of(alloc: Global, fault: Fault) -> Report
-    ensures { ReportsFault result (fault_view fault) }
+    ensures { ReportsAlone result fault }
 {
     let mut faults = Vec::new(alloc);
     match faults.push(fault) {
@@ -27,7 +26,7 @@ pub(crate) fn report_of(alloc: Global, fault: Fault) -> Report
 /// What is wrong with weights, by the names of the events.
 pub(crate) fn named_fault(alloc: Global, plan: &Plan, fault: RankFault) -> Result<Fault, AllocError>
     requires { IfRank fault (HasEvents plan.now) }
-    ensures { IfOk result (λ named. option_map (named_fault plan.now) (rank_view fault) ≡ Some (fault_view named)) }
+    ensures { IfOk result (NamesFault plan.now fault) }
 {
     match fault {
         RankFault::NoMemory => Err(AllocError),

@@ -1,6 +1,6 @@
 -- The names of a table in the order of their first uses.
 use Rattle.std.specs.Prelude.{◌≡◌, ℕ, ◌<◌, ◌≤◌, ◌⊎◌, true, false, List, [], ◌∷◌, ◌++◌, if◌then◌else◌, length}
-use Rattle.std.specs.List.{list_any}
+use Rattle.std.specs.List.{list_any, position_or_len}
 use Rattle.std.specs.Str.{bytes_eq}
 use Rattle.plan_tables.specs.declared.names.NameTable.{NameTable}
 use Rattle.plan_tables.specs.NamesKept.{names_of}
@@ -14,3 +14,9 @@ abbrev pub IsNameTableOf : List (List ℕ) → NameTable → Type 0
 IsNameTableOf all t =
     ((t.above ≡ true) × (t.limit < length all))
     ⊎ ((t.above ≡ false) × (names_of t.set.keys ≡ all) × (length all ≤ t.limit))
+
+-- it is the name's place among all names after this use, where the table keeps them all
+abbrev pub IsNumberIn : NameTable → (name : List ℕ) → ℕ → Type 0
+IsNumberIn table name number =
+    (all : List (List ℕ)) → IsNameTableOf all table → length (with_name all name) ≤ table.limit
+    → number ≡ position_or_len (bytes_eq name) (with_name all name)

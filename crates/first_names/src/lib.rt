@@ -1,17 +1,15 @@
 //! The names of a table in the order of their first uses, as far as the table keeps them.
 #![tactic(auto)]
 
-ghost use Rattle.std.specs.Prelude.{◌≡◌, ◌≤◌, ℕ, List, length, IfOk, OnOk};
-ghost use Rattle.std.specs.List.{position_or_len};
-ghost use Rattle.std.specs.Str.{bytes_eq};
-ghost use Rattle.first_names.specs.FirstNames.{with_name, IsNameTableOf};
+ghost use Rattle.std.specs.Prelude.{◌≡◌, ℕ, List, IfOk, OnOk};
+ghost use Rattle.first_names.specs.FirstNames.{with_name, IsNameTableOf, IsNumberIn};
 
 use plan_tables::names::NameTable;
 use std::alloc::{AllocError, Global};
 
 /// One more use of a name, and the name's number. A name that is new goes last. Only then it is
 /// copied, and only up to the limit of the table: a name above it is left out, and the table says so
-/// from then on. Then the number says nothing.
+/// from then on. Then the number has no meaning.
 ///
 /// # Errors
 ///
@@ -19,7 +17,7 @@ use std::alloc::{AllocError, Global};
 pub fn note_name(alloc: Global, table: &mut NameTable, name: &[u8]) -> Result<usize, AllocError>
     ensures limit { OnOk result (table.new.limit ≡ table.old.limit) }
     ensures names { OnOk result ((all : List (List ℕ)) → IsNameTableOf all table.old → IsNameTableOf (with_name all name.now) table.new) }
-    ensures number { IfOk result (λ n. (all : List (List ℕ)) → IsNameTableOf all table.old → length (with_name all name.now) ≤ table.old.limit → n ≡ position_or_len (bytes_eq name.now) (with_name all name.now)) }
+    ensures number { IfOk result (IsNumberIn table.old name.now) }
 {
     if table.above {
         return Ok(0);

@@ -1,8 +1,8 @@
 -- What the pass that numbers the names has found.
-use Rattle.std.specs.Prelude.{◌≡◌, ℕ, ◌<◌, ◌≤◌, ◌⊎◌, true, false, List, [], Option, None, Some, Result, Ok, Err, length, map, slice_get, fold, Vec}
+use Rattle.std.specs.Prelude.{◌≡◌, ℕ, ◌<◌, ◌≤◌, ◌⊎◌, true, false, List, [], ◌∷◌, ◌++◌, ◌+◌, Bool, Option, None, Some, Result, Ok, Err, length, map, slice_get, fold, Vec}
 use Rattle.std.specs.Global.{Global}
 use Rattle.indexmap.specs.IndexSet.{IndexSet}
-use Rattle.std.specs.List.{sum_by}
+use Rattle.std.specs.List.{sum_by, list_any}
 use Rattle.plan_tables.specs.declared.names.NameTable.{NameTable}
 use Rattle.mpf_plan.specs.declared.fault.PlanFault.{PlanFault}
 use Rattle.mpf_plan.specs.declared.fault.PlanFault.TheVariants as faults
@@ -10,9 +10,11 @@ use Rattle.plan_tables.specs.Devices.{list_count}
 use Rattle.plan_tables.specs.declared.table.Table.{Table}
 use Rattle.mpf_plan.specs.declared.first_uses.Found.{Found}
 use Rattle.mpf_plan.specs.declared.first_uses.NumberedNames.{NumberedNames}
+use Rattle.plan_contributions.specs.declared.contribution.Contribution as held
+use Rattle.plan_contributions.specs.View.{contribution_view, contributions_view}
 use Rattle.plan_contributions.specs.Contributions.{Contribution, mode, binds, device}
 use Rattle.plan_contributions.specs.UsedNames.{used, given_names}
-use Rattle.mpf_plan.specs.Uses.{Names, names_from, number_among, lacks_name}
+use Rattle.mpf_plan.specs.Uses.{Names, names_from, number_among, is_unknown, lacks, lacks_name}
 use Rattle.plan_tables.specs.Limits.{limit_of, order_of, tables_in_order, first_above}
 use Rattle.mpf_plan.specs.PlanOf.{plan_from}
 use Rattle.plan_tables.specs.NamesKept.{names_of}
@@ -66,6 +68,17 @@ numbers_of names cs = map (number_of names) cs
 abbrev pub IsCount : ℕ → ℕ → ℕ → Type 0
 IsCount limit all count = ((limit < all) × (limit < count)) ⊎ ((count ≡ all) × (all ≤ limit))
 
+-- so many more are counted
+abbrev pub CountsMore : (limit more before after : ℕ) → Type 0
+CountsMore limit more before after = (all : ℕ) → IsCount limit all before → IsCount limit (all + more) after
+
+-- how many bindings the program's contribution gives, and how many rows of devices
+abbrev pub bindings_of : held.Contribution → ℕ
+bindings_of contribution = bindings_given (contribution_view contribution)
+
+abbrev pub rows_of_devices : held.Contribution → ℕ
+rows_of_devices contribution = rows_given (contribution_view contribution)
+
 -- the tables have the names of contributions, each at its place
 pub record AreNameTablesOf (cs : List Contribution) (tables : List NameTable) : Type 0 where
   pub count : length tables ≡ length tables_in_order
@@ -80,12 +93,41 @@ module _ {S : Type 0} where
     pub names : (t : Table) (set : IndexSet (Vec ℕ Global) S) → slice_get sets (order_of t) ≡ Some set
         → names_of set.keys ≡ fold with_name [] (given_names t cs)
 
+  -- the sets gain the names under which these contributions give something
+  abbrev pub GainGivenNames : (old new : Vec (IndexSet (Vec ℕ Global) S) Global) → List held.Contribution → Type 0
+  GainGivenNames old new contributions =
+      (before : List Contribution) → HoldGivenNames before old.items → HoldGivenNames (before ++ contributions_view contributions) new.items
+
+  -- It says whether the contribution names what nothing has, or uses a name that is not in these sets.
+  abbrev pub TellsOther : List (IndexSet (Vec ℕ Global) S) → held.Contribution → Bool → Type 0
+  TellsOther sets contribution other =
+      (cs : List Contribution) → HoldGivenNames cs sets → other ≡ lacks (λ t. given_names t cs) (contribution_view contribution)
+
+  -- so it says of some of these contributions
+  abbrev pub TellsAnyOther : List (IndexSet (Vec ℕ Global) S) → List held.Contribution → Bool → Type 0
+  TellsAnyOther sets contributions other =
+      (cs : List Contribution) → HoldGivenNames cs sets → other ≡ list_any (lacks (λ t. given_names t cs)) (contributions_view contributions)
+
+-- the contribution names what nothing has
+abbrev pub names_nothing : held.Contribution → Bool
+names_nothing contribution = is_unknown (contribution_view contribution)
+
 -- what is found in contributions
 pub record HasFound (cs : List Contribution) (found : Found) : Type 0 where
   pub tables : AreNameTablesOf cs found.tables.items
   pub bindings : IsCount 16384 (binding_count cs) found.bindings
   pub rows : IsCount 1024 (row_count cs) found.rows
   pub numbers : ((t : Table) → length (names_from cs t) ≤ limit_of t) → found.numbers.items ≡ numbers_of (names_from cs) cs
+
+-- what is found in these contributions is added to what was found before
+abbrev pub FindsMore : (old new : Found) → List held.Contribution → Type 0
+FindsMore old new contributions =
+    (before : List Contribution) → HasFound before old → HasFound (before ++ contributions_view contributions) new
+
+-- and so it is of one
+abbrev pub FindsOneMore : (old new : Found) → held.Contribution → Type 0
+FindsOneMore old new contribution =
+    (before : List Contribution) → HasFound before old → HasFound (before ++ contribution_view contribution ∷ []) new
 
 -- what the pass answers: what it found, or the first table that is above its limit
 abbrev pub HasNames : List Contribution → Result Found PlanFault → Type 0

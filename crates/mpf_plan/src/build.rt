@@ -3,13 +3,13 @@
 ghost use Rattle.std.specs.Prelude.{◌≡◌, ◌≤◌, false, IfOk};
 ghost use Rattle.mpf_config.specs.FewModes.{AreFewModes};
 ghost use Rattle.mpf_config.specs.Short.{AreListsShort};
-ghost use Rattle.mpf_config.specs.View.{rows_view};
 ghost use Rattle.plan_contributions.specs.Contributions.{contributions_of};
 ghost use Rattle.plan_rows.specs.Rows.{rows_of};
 ghost use Rattle.plan_rows.specs.View.{row_list_view};
 ghost use Rattle.plan_tables.specs.declared.table.Table.{Table as TableValue};
 ghost use Rattle.plan_tables.specs.Limits.{entry_count, limit_of};
 ghost use Rattle.mpf_plan.specs.PlanOf.{plan_at, plan_of, GivesPlan, IsExceeded};
+ghost use Rattle.mpf_plan.specs.OfConfig.{PlansConfig, plan_of_config, IsExceededBy};
 ghost use Rattle.mpf_plan.specs.Uses.{lacks_name};
 
 use crate::fault::PlanFault;
@@ -98,10 +98,10 @@ use std::alloc::Global;
 /// - `Limit`: a table is above its limit; the first such table in the order of `Table` is reported.
 /// - `NoMemory`: memory ran out.
 pub fn plan(alloc: Global, config: &Config) -> Result<Plan, PlanFault>
-    ensures exact { GivesPlan result (plan_at (rows_view config.now)) }
-    ensures plan { IfOk result (λ p. p ≡ plan_of (rows_view config.now)) }
-    ensures within { IfOk result (λ _. (t : TableValue) → entry_count (plan_of (rows_view config.now)) t ≤ limit_of t) }
-    ensures limit { (t : TableValue) → result ≡ Err (PlanFault.Limit t) → IsExceeded (rows_view config.now) t }
+    ensures exact { PlansConfig config.now result }
+    ensures plan { IfOk result (λ p. p ≡ plan_of_config config.now) }
+    ensures within { IfOk result (λ _. (t : TableValue) → entry_count (plan_of_config config.now) t ≤ limit_of t) }
+    ensures limit { (t : TableValue) → result ≡ Err (PlanFault.Limit t) → IsExceededBy config.now t }
 {
     let definitions = Definitions::new(alloc, config)?;
     plan_of_definitions(alloc, &definitions)

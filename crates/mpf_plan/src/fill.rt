@@ -1,19 +1,15 @@
 //! The plan of contributions: each adds its own to what is there.
 
-ghost use Rattle.std.specs.Prelude.{◌≡◌, ◌<◌, ◌≤◌, ◌+◌, ◌*◌, ◌++◌, List, [], ℕ, false, length, map, fold, replicate, slice_index_or, slice_set, IfOk, OnOk};
+ghost use Rattle.std.specs.Prelude.{◌≡◌, ◌<◌, ◌≤◌, ◌+◌, ◌*◌, ◌++◌, List, [], ℕ, false, length, map, replicate, slice_index_or, IfOk, OnOk};
 ghost use Rattle.std.specs.List.{All};
-ghost use Rattle.plan_tables.specs.declared.names.NameSets.{NameSets as NameSetsValue};
-ghost use Rattle.plan_tables.specs.declared.table.Table.TheVariants.{Events};
 ghost use Rattle.machine_definitions.specs.GameEvents.{game_event_names};
-ghost use Rattle.plan_contributions.specs.Contributions.{mode, does, does_in, coil, plays, given_by};
-ghost use Rattle.mpf_plan.specs.PlanOf.{event_of, last_conditioned, action_with, action_of, owner_at, priority_at, with_switch, with_kind, with_active, with_inactive, first_event, with_event, last_with_event, last_mode, last_row, next_binding, last_priority, lists_for, with_one_more, last_with, next_row, with_device, first_of_last, with_contribution, next_listener, with_listener, limited_to, named_switch, named_coil, blank, drafted, with_given, with_mode, with_list_for, with_binding};
-ghost use Rattle.plan_tables.specs.Inside.{name_sets_view, mode_entry_view, action_lists, switches_view};
-ghost use Rattle.plan_contributions.specs.View.{parts_text, deed_view, effect_view, contribution_view, contributions_view};
-ghost use Rattle.plan_rows.specs.View.{row_list_view};
-ghost use Rattle.mpf_plan.specs.Inside.{limited_coils, IsRowNumbered, IsActNumbered, draft_view};
-ghost use Rattle.mpf_plan.specs.Numbering.{binding_count, lists_count, mode_count, row_count, number_in, number_of, numbers_of};
-ghost use Rattle.plan_contributions.specs.UsedNames.{used_by};
-ghost use Rattle.plan_tables.specs.PlanView.{no_coil};
+ghost use Rattle.plan_contributions.specs.Contributions.{plays};
+ghost use Rattle.mpf_plan.specs.PlanOf.{last_conditioned, owner_at, priority_at, with_switch, with_kind, with_active, with_inactive, first_event, with_event, last_with_event, last_mode, last_row, next_binding, lists_for, with_one_more, last_with, next_row, with_device, first_of_last, next_listener, with_listener, with_given, with_mode, with_list_for, with_binding};
+ghost use Rattle.plan_tables.specs.Inside.{name_sets_view, action_lists};
+ghost use Rattle.plan_contributions.specs.View.{contribution_view, contributions_view};
+ghost use Rattle.mpf_plan.specs.Inside.{IsRowNumbered, IsActNumbered};
+ghost use Rattle.mpf_plan.specs.Numbering.{binding_count, lists_count, mode_count, row_count, numbers_of};
+ghost use Rattle.mpf_plan.specs.Drafting.{given_by_rows, event_called, game_events_in, action_by, action_on, number_used, numbers_used, number_used_by, IsBlankOf, IsDraftOf, ChangesDraft, IsOfDraft, Adds, AddsOne, AddsAll, AddsEffect, AddsEffectIn, ChangesModes, priority_of_last, LimitsCoil, AreBlankSwitches, AreBlankCoils};
 
 use crate::draft::Draft;
 use crate::numbering::number_among;
@@ -40,13 +36,13 @@ pub(crate) fn fill(
     definitions: &Definitions,
     rows: &[Row],
 ) -> Result<Draft, AllocError>
-    requires numbers { numbers.now ≡ numbers_of (name_sets_view names.now) (given_by definitions.now.machine (row_list_view rows.now)) }
-    requires bindings { binding_count (given_by definitions.now.machine (row_list_view rows.now)) ≤ 16384 }
-    requires lists { lists_count (given_by definitions.now.machine (row_list_view rows.now)) ≤ 294912 }
-    requires rows { row_count (given_by definitions.now.machine (row_list_view rows.now)) ≤ 1024 }
-    requires modes { mode_count (given_by definitions.now.machine (row_list_view rows.now)) ≤ 64 }
-    requires acts { All IsActNumbered (given_by definitions.now.machine (row_list_view rows.now)) }
-    ensures { IfOk result (λ d. draft_view names.now d ≡ drafted (name_sets_view names.now) (given_by definitions.now.machine (row_list_view rows.now))) }
+    requires numbers { numbers.now ≡ numbers_of (name_sets_view names.now) (given_by_rows definitions.now rows.now) }
+    requires bindings { binding_count (given_by_rows definitions.now rows.now) ≤ 16384 }
+    requires lists { lists_count (given_by_rows definitions.now rows.now) ≤ 294912 }
+    requires rows { row_count (given_by_rows definitions.now rows.now) ≤ 1024 }
+    requires modes { mode_count (given_by_rows definitions.now rows.now) ≤ 64 }
+    requires acts { All IsActNumbered (given_by_rows definitions.now rows.now) }
+    ensures { IfOk result (IsDraftOf names.now (given_by_rows definitions.now rows.now)) }
 {
     let mut draft = blank(alloc, names)?;
     let mut text = Vec::new(alloc);
@@ -76,12 +72,12 @@ fn add_all(
     draft: &mut Draft,
     contributions: &[Contribution],
 ) -> Result<(), AllocError>
-    requires numbers { numbers.now ≡ numbers_of (name_sets_view names.now) (contributions_view contributions.now) }
+    requires numbers { numbers.now ≡ numbers_used names.now contributions.now }
     requires lists { length draft.old.lists.items + binding_count (contributions_view contributions.now) + lists_count (contributions_view contributions.now) ≤ 311296 }
     requires rows { length draft.old.rows.items + row_count (contributions_view contributions.now) ≤ 1024 }
     requires modes { length draft.old.modes.items + mode_count (contributions_view contributions.now) ≤ 64 }
     requires acts { All IsActNumbered (contributions_view contributions.now) }
-    ensures { OnOk result (draft_view names.now draft.new ≡ fold (with_contribution (name_sets_view names.now)) (draft_view names.now draft.old) (contributions_view contributions.now)) }
+    ensures { OnOk result (AddsAll names.now draft.old draft.new contributions.now) }
 {
     for (place, contribution) in contributions.iter().enumerate() {
         add(alloc, names, numbers[place], text, draft, contribution)?;
@@ -98,12 +94,12 @@ fn add(
     draft: &mut Draft,
     contribution: &Contribution,
 ) -> Result<(), AllocError>
-    requires number { number ≡ number_of (name_sets_view names.now) (contribution_view contribution.now) }
+    requires number { number ≡ number_used names.now contribution.now }
     requires lists { length draft.old.lists.items ≤ 311296 }
     requires rows { length draft.old.rows.items ≤ 1024 }
     requires modes { length draft.old.modes.items ≤ 64 }
     requires acts { IsActNumbered (contribution_view contribution.now) }
-    ensures { OnOk result (draft_view names.now draft.new ≡ with_contribution (name_sets_view names.now) (draft_view names.now draft.old) (contribution_view contribution.now)) }
+    ensures { OnOk result (AddsOne names.now draft.old draft.new contribution.now) }
 {
     let event = EventId(number);
     match *contribution {
@@ -165,7 +161,7 @@ fn add(
 }
 
 fn event_of(names: &NameSets, text: &mut Vec<u8>, name: Parts) -> Result<EventId, AllocError>
-    ensures { IfOk result (λ e. e ≡ event_of (name_sets_view names.now Events) (parts_text name.entry)) }
+    ensures { IfOk result (λ e. e ≡ event_called names.now name.entry) }
 {
     let number = number_among(names.of(Table::Events), text, name)?;
     Ok(EventId(number as u16))
@@ -175,7 +171,7 @@ fn event_of(names: &NameSets, text: &mut Vec<u8>, name: Parts) -> Result<EventId
 
 /// The switch of this number comes last, where one is given, and nothing has defined it.
 fn add_given(draft: &mut Draft, table: Table, n: usize)
-    ensures { (names : NameSetsValue) → draft_view names draft.new ≡ with_given table n (draft_view names draft.old) }
+    ensures { ChangesDraft draft.old draft.new (with_given table n) }
 {
     if let Table::Switches = table {
         define_switch(draft, n);
@@ -184,7 +180,7 @@ fn add_given(draft: &mut Draft, table: Table, n: usize)
 
 /// The switch comes last, where nothing has defined it.
 fn define_switch(draft: &mut Draft, n: usize)
-    ensures { (names : NameSetsValue) → draft_view names draft.new ≡ with_switch n (draft_view names draft.old) }
+    ensures { ChangesDraft draft.old draft.new (with_switch n) }
 {
     if n >= draft.defined.len() || draft.defined[n] {
         draft.last = draft.defined.len();
@@ -196,7 +192,7 @@ fn define_switch(draft: &mut Draft, n: usize)
 
 /// The switch that came last is read so, and this says whether a ball that presses it is on the playfield.
 fn read_switch(draft: &mut Draft, kind: SwitchKind, confirms: bool)
-    ensures { (names : NameSetsValue) → draft_view names draft.new ≡ with_kind kind confirms (draft_view names draft.old) }
+    ensures { ChangesDraft draft.old draft.new (with_kind kind confirms) }
 {
     let last = draft.last;
     if last < draft.switches.len() {
@@ -208,7 +204,7 @@ fn read_switch(draft: &mut Draft, kind: SwitchKind, confirms: bool)
 
 /// The switch that came last posts the event when it becomes active.
 fn post_active(draft: &mut Draft, event: EventId) -> Result<(), AllocError>
-    ensures { OnOk result ((names : NameSetsValue) → draft_view names draft.new ≡ with_active event (draft_view names draft.old)) }
+    ensures { OnOk result (ChangesDraft draft.old draft.new (with_active event)) }
 {
     let last = draft.last;
     if last < draft.switches.len() {
@@ -219,7 +215,7 @@ fn post_active(draft: &mut Draft, event: EventId) -> Result<(), AllocError>
 
 /// It posts the event when it becomes inactive.
 fn post_inactive(draft: &mut Draft, event: EventId) -> Result<(), AllocError>
-    ensures { OnOk result ((names : NameSetsValue) → draft_view names draft.new ≡ with_inactive event (draft_view names draft.old)) }
+    ensures { OnOk result (ChangesDraft draft.old draft.new (with_inactive event)) }
 {
     let last = draft.last;
     if last < draft.switches.len() {
@@ -232,7 +228,7 @@ fn post_inactive(draft: &mut Draft, event: EventId) -> Result<(), AllocError>
 
 /// A mode.
 fn add_mode(alloc: Global, draft: &mut Draft, name: &[u8], mode: Mode) -> Result<(), AllocError>
-    ensures { OnOk result ((names : NameSetsValue) → draft_view names draft.new ≡ with_mode (record { name = name.now; mode = mode }) (draft_view names draft.old)) }
+    ensures { OnOk result (ChangesDraft draft.old draft.new (with_mode (record { name = name.now; mode = mode }))) }
 {
     let name = Vec::from_slice(alloc, name)?;
     draft.modes.push(ModeEntry { name, mode })?;
@@ -254,7 +250,7 @@ fn first_event(will_start: EventId) -> ModeEvents
 
 /// The mode that came last has this event.
 fn set_event(modes: &mut Vec<ModeEntry>, which: ModeEvent, event: EventId)
-    ensures { map mode_entry_view modes.new.items ≡ last_with_event which event (map mode_entry_view modes.old.items) }
+    ensures { ChangesModes modes.old modes.new (last_with_event which event) }
 {
     let count = modes.len();
     if count > 0 {
@@ -305,7 +301,7 @@ fn add_binding(
     requires rows { length draft.old.rows.items ≤ 1024 }
     requires modes { length draft.old.modes.items ≤ 64 }
     requires acts { IsRowNumbered aim }
-    ensures { OnOk result ((names : NameSetsValue) → draft_view names draft.new ≡ with_list_for aim (with_binding (next_binding (draft_view names draft.old).plan event place aim) (draft_view names draft.old))) }
+    ensures { OnOk result (ChangesDraft draft.old draft.new (λ d. with_list_for aim (with_binding (next_binding d.plan event place aim) d))) }
 {
     let binding = next_binding(draft, event, place, aim);
     draft.bindings.push(binding)?;
@@ -318,7 +314,7 @@ fn next_binding(draft: &Draft, event: EventId, place: Place, aim: Aim) -> Bindin
     requires rows { length draft.now.rows.items ≤ 1024 }
     requires modes { length draft.now.modes.items ≤ 64 }
     requires acts { IsRowNumbered aim }
-    ensures { (names : NameSetsValue) → result ≡ next_binding (draft_view names draft.now).plan event place aim }
+    ensures { IsOfDraft draft.now (λ plan. next_binding plan event place aim) result }
 {
     let last = last_mode(draft);
     let priority = last_priority(&draft.modes);
@@ -363,7 +359,7 @@ fn priority_at(of_last: u32, place: Place) -> u32
 /// The mode that came last.
 fn last_mode(draft: &Draft) -> ModeId
     requires modes { length draft.now.modes.items ≤ 64 }
-    ensures { (names : NameSetsValue) → result ≡ last_mode (draft_view names draft.now).plan }
+    ensures { IsOfDraft draft.now last_mode result }
 {
     ModeId(draft.modes.len().saturating_sub(1) as u16)
 }
@@ -371,14 +367,14 @@ fn last_mode(draft: &Draft) -> ModeId
 /// The row of a device that came last.
 fn last_row(draft: &Draft) -> RowId
     requires rows { length draft.now.rows.items ≤ 1024 }
-    ensures { (names : NameSetsValue) → result ≡ last_row (draft_view names draft.now).plan }
+    ensures { IsOfDraft draft.now last_row result }
 {
     RowId(draft.rows.len().saturating_sub(1) as u16)
 }
 
 /// The priority of the mode that came last; 0 where there is none.
 fn last_priority(modes: &[ModeEntry]) -> u32
-    ensures { result ≡ last_priority (map mode_entry_view modes.now) }
+    ensures { result ≡ priority_of_last modes.now }
 {
     match modes.last() {
         Some(entry) => entry.mode.priority,
@@ -415,9 +411,9 @@ fn add_effect(
     draft: &mut Draft,
     effect: Effect,
 ) -> Result<(), AllocError>
-    requires number { number ≡ number_in (name_sets_view names.now) (used_by (effect_view effect)) }
+    requires number { number ≡ number_used_by names.now effect }
     requires rows { length draft.old.rows.items ≤ 1024 }
-    ensures { OnOk result (draft_view names.now draft.new ≡ with_contribution (name_sets_view names.now) (draft_view names.now draft.old) (does (effect_view effect.entry))) }
+    ensures { OnOk result (AddsEffect names.now draft.old draft.new effect.entry) }
 {
     let action = action_of(names, number, text, last_row(draft), effect)?;
     push_action(&mut draft.lists, action)?;
@@ -432,8 +428,8 @@ fn action_of(
     row: RowId,
     effect: Effect,
 ) -> Result<Action, AllocError>
-    requires { number ≡ number_in (name_sets_view names.now) (used_by (effect_view effect)) }
-    ensures { IfOk result (λ a. a ≡ action_of (name_sets_view names.now) row (effect_view effect.entry)) }
+    requires { number ≡ number_used_by names.now effect }
+    ensures { IfOk result (λ a. a ≡ action_by names.now row effect.entry) }
 {
     match effect {
         Effect::Post(_) => Ok(Action::Post(EventId(number))),
@@ -462,7 +458,7 @@ fn action_of(
 
 /// What is done with this coil.
 fn action_with(coil: CoilId, deed: Deed) -> Action
-    ensures { result ≡ action_with coil (deed_view deed) }
+    ensures { result ≡ action_on coil deed }
 {
     match deed {
         Deed::Pulse { ms, power } => Action::Pulse { coil, ms, power },
@@ -494,7 +490,7 @@ fn add_device(
     requires lists { length draft.old.lists.items ≤ 311296 }
     requires rows { length draft.old.rows.items ≤ 1024 }
     requires modes { length draft.old.modes.items ≤ 64 }
-    ensures { OnOk result ((names : NameSetsValue) → draft_view names draft.new ≡ with_device place settings (draft_view names draft.old)) }
+    ensures { OnOk result (ChangesDraft draft.old draft.new (with_device place settings)) }
 {
     let row = next_row(draft, place, settings);
     let first = ListId(draft.lists.len() as u32);
@@ -508,7 +504,7 @@ fn add_device(
 fn next_row(draft: &Draft, place: Place, settings: Settings) -> DeviceRow
     requires rows { length draft.now.rows.items ≤ 1024 }
     requires modes { length draft.now.modes.items ≤ 64 }
-    ensures { (names : NameSetsValue) → result ≡ next_row (draft_view names draft.now).plan place settings }
+    ensures { IsOfDraft draft.now (λ plan. next_row plan place settings) result }
 {
     DeviceRow {
         number: RowId(draft.rows.len() as u16),
@@ -536,9 +532,9 @@ fn add_effect_in(
     in_row: u16,
     effect: Effect,
 ) -> Result<(), AllocError>
-    requires number { number ≡ number_in (name_sets_view names.now) (used_by (effect_view effect)) }
+    requires number { number ≡ number_used_by names.now effect }
     requires rows { length draft.old.rows.items ≤ 1024 }
-    ensures { OnOk result (draft_view names.now draft.new ≡ with_contribution (name_sets_view names.now) (draft_view names.now draft.old) (does_in in_row (effect_view effect.entry))) }
+    ensures { OnOk result (AddsEffectIn names.now draft.old draft.new in_row effect.entry) }
 {
     let action = action_of(names, number, text, last_row(draft), effect)?;
     let place = first_of_last(&draft.row_lists).0 as usize + in_row as usize;
@@ -573,7 +569,7 @@ fn push_action_at(
 /// The row that came last listens to the switch of this number.
 fn add_listener(draft: &mut Draft, n: usize, in_row: usize) -> Result<(), AllocError>
     requires rows { length draft.old.rows.items ≤ 1024 }
-    ensures { OnOk result ((names : NameSetsValue) → draft_view names draft.new ≡ with_listener n (next_listener (draft_view names draft.old).plan in_row) (draft_view names draft.old)) }
+    ensures { OnOk result (ChangesDraft draft.old draft.new (λ d. with_listener n (next_listener d.plan in_row) d)) }
 {
     let listener = next_listener(draft, in_row);
     push_listener(draft, n, listener)
@@ -582,7 +578,7 @@ fn add_listener(draft: &mut Draft, n: usize, in_row: usize) -> Result<(), AllocE
 /// The row that came last listens to its switch of this number.
 fn next_listener(draft: &Draft, number: usize) -> Listener
     requires rows { length draft.now.rows.items ≤ 1024 }
-    ensures { (names : NameSetsValue) → result ≡ next_listener (draft_view names draft.now).plan number }
+    ensures { IsOfDraft draft.now (λ plan. next_listener plan number) result }
 {
     Listener {
         row: last_row(draft),
@@ -592,7 +588,7 @@ fn next_listener(draft: &Draft, number: usize) -> Listener
 
 /// One more listens to the switch of this number.
 fn push_listener(draft: &mut Draft, n: usize, listener: Listener) -> Result<(), AllocError>
-    ensures { OnOk result ((names : NameSetsValue) → draft_view names draft.new ≡ with_listener n listener (draft_view names draft.old)) }
+    ensures { OnOk result (ChangesDraft draft.old draft.new (with_listener n listener)) }
 {
     if n < draft.switches.len() {
         draft.switches[n].listeners.push(listener)?;
@@ -604,7 +600,7 @@ fn push_listener(draft: &mut Draft, n: usize, listener: Listener) -> Result<(), 
 
 /// The coil of this number may be sent this.
 fn limit_coil(coils: &mut Vec<CoilLimits>, n: usize, limits: CoilLimits)
-    ensures { (names : List (List ℕ)) → limited_coils names coils.new.items ≡ slice_set (limited_coils names coils.old.items) n (limited_to limits (slice_index_or (limited_coils names coils.old.items) n no_coil)) }
+    ensures { LimitsCoil coils.old coils.new n limits }
 {
     if n < coils.len() {
         coils[n] = limits;
@@ -622,7 +618,7 @@ fn add_game(
     balls_per_game: u32,
     max_players: u32,
 ) -> Result<(), AllocError>
-    ensures { OnOk result (draft_view names.now draft.new ≡ with_contribution (name_sets_view names.now) (draft_view names.now draft.old) (plays min_balls balls_per_game max_players)) }
+    ensures { OnOk result (Adds names.now draft.old draft.new (plays min_balls balls_per_game max_players)) }
 {
     let events = game_events(names, text)?;
     draft.game = Some(GameRules {
@@ -636,7 +632,7 @@ fn add_game(
 
 /// The events of the game, in their order.
 fn game_events(names: &NameSets, text: &mut Vec<u8>) -> Result<[EventId; 21], AllocError>
-    ensures { IfOk result (λ events. events ≡ map (event_of (name_sets_view names.now Events)) game_event_names) }
+    ensures { IfOk result (λ events. events ≡ game_events_in names.now) }
 {
     let mut events = [EventId(0); 21];
     for place in 0..GAME_EVENT_NAMES.len() {
@@ -657,7 +653,7 @@ fn game_event_name(place: usize) -> &'static [u8]
 
 /// The names alone.
 fn blank(alloc: Global, names: &NameSets) -> Result<Draft, AllocError>
-    ensures { IfOk result (λ d. draft_view names.now d ≡ blank (name_sets_view names.now)) }
+    ensures { IfOk result (IsBlankOf names.now) }
 {
     let count = names.of(Table::Switches).len();
     let switches = blank_switches(alloc, count)?;
@@ -680,7 +676,7 @@ fn blank(alloc: Global, names: &NameSets) -> Result<Draft, AllocError>
 /// So many switches.
 fn blank_switches(alloc: Global, count: usize) -> Result<Vec<SwitchEntry>, AllocError>
     ensures count { IfOk result (λ v. length v.items ≡ count) }
-    ensures switches { IfOk result (λ v. (names : List (List ℕ)) → length names ≡ count → switches_view names v.items ≡ map named_switch names) }
+    ensures switches { IfOk result (AreBlankSwitches count) }
 {
     let mut switches = Vec::new(alloc);
     for _ in 0..count {
@@ -700,7 +696,7 @@ fn blank_switches(alloc: Global, count: usize) -> Result<Vec<SwitchEntry>, Alloc
 
 /// So many coils.
 fn blank_coils(alloc: Global, count: usize) -> Result<Vec<CoilLimits>, AllocError>
-    ensures { IfOk result (λ v. (names : List (List ℕ)) → length names ≡ count → limited_coils names v.items ≡ map named_coil names) }
+    ensures { IfOk result (AreBlankCoils count) }
 {
     let mut coils = Vec::new(alloc);
     for _ in 0..count {

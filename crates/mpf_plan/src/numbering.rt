@@ -1,16 +1,14 @@
 //! Names by number, in the order of their first uses.
 
-ghost use Rattle.std.specs.Prelude.{◌≡◌, ◌≤◌, ◌<◌, ◌+◌, ◌++◌, ℕ, List, [], ◌∷◌, false, length, nat_lt, IfOk, OnOk};
-ghost use Rattle.std.specs.List.{list_any};
-ghost use Rattle.plan_contributions.specs.Contributions.{Contribution as ContributionValue, given_by};
+ghost use Rattle.std.specs.Prelude.{◌≡◌, ◌≤◌, ◌<◌, List, [], false, length, nat_lt, IfOk, OnOk};
+ghost use Rattle.plan_contributions.specs.Contributions.{Contribution as ContributionValue};
 ghost use Rattle.plan_tables.specs.Limits.{entry_count, limit_of, tables_in_order, first_above};
-ghost use Rattle.plan_contributions.specs.UsedNames.{given_names};
-ghost use Rattle.mpf_plan.specs.Uses.{number_among, is_to_be_given, is_unknown, lacks, lacks_name};
+ghost use Rattle.mpf_plan.specs.Uses.{number_among, is_to_be_given, lacks_name};
 ghost use Rattle.mpf_plan.specs.PlanOf.{plan_from};
 ghost use Rattle.plan_tables.specs.NamesKept.{names_of};
-ghost use Rattle.plan_contributions.specs.View.{parts_text, contribution_view, contributions_view};
-ghost use Rattle.plan_rows.specs.View.{row_list_view};
-ghost use Rattle.mpf_plan.specs.Numbering.{AreNameTablesOf, bindings_given, rows_given, IsCount, HoldGivenNames, HasFound, HasNames, Numbered};
+ghost use Rattle.plan_contributions.specs.View.{parts_text};
+ghost use Rattle.mpf_plan.specs.Drafting.{given_by_rows};
+ghost use Rattle.mpf_plan.specs.Numbering.{AreNameTablesOf, CountsMore, bindings_of, rows_of_devices, HoldGivenNames, GainGivenNames, TellsOther, TellsAnyOther, names_nothing, HasFound, FindsMore, FindsOneMore, HasNames, Numbered};
 
 use crate::fault::PlanFault;
 use crate::first_uses::{Found, NumberedNames};
@@ -28,8 +26,8 @@ pub(crate) fn number(
     definitions: &Definitions,
     rows: &[Row],
 ) -> Result<NumberedNames, PlanFault>
-    requires { lacks_name (given_by definitions.now.machine (row_list_view rows.now)) ≡ false }
-    ensures { Numbered (given_by definitions.now.machine (row_list_view rows.now)) result }
+    requires { lacks_name (given_by_rows definitions.now rows.now) ≡ false }
+    ensures { Numbered (given_by_rows definitions.now rows.now) result }
 {
     let found = find_names(alloc, definitions, rows)?;
     if let Some(table) = first_above(&found) {
@@ -87,7 +85,7 @@ fn is_above(found: &Found, table: Table) -> bool
 /// bindings and rows of devices they give. Events are the first table that is judged: where there are
 /// too many, no more rows are looked at.
 fn find_names(alloc: Global, definitions: &Definitions, rows: &[Row]) -> Result<Found, PlanFault>
-    ensures { HasNames (given_by definitions.now.machine (row_list_view rows.now)) result }
+    ensures { HasNames (given_by_rows definitions.now rows.now) result }
 {
     let mut found = Found {
         tables: no_names(alloc, definitions.config().hashing)?,
@@ -128,7 +126,7 @@ fn note_all(
     text: &mut Vec<u8>,
     contributions: &[Contribution],
 ) -> Result<(), AllocError>
-    ensures { OnOk result ((before : List ContributionValue) → HasFound before found.old → HasFound (before ++ contributions_view contributions.now) found.new) }
+    ensures { OnOk result (FindsMore found.old found.new contributions.now) }
 {
     for contribution in contributions {
         note_one(alloc, found, text, contribution)?;
@@ -143,7 +141,7 @@ fn note_one(
     text: &mut Vec<u8>,
     contribution: &Contribution,
 ) -> Result<(), AllocError>
-    ensures { OnOk result ((before : List ContributionValue) → HasFound before found.old → HasFound (before ++ contribution_view contribution.now ∷ []) found.new) }
+    ensures { OnOk result (FindsOneMore found.old found.new contribution.now) }
 {
     found.bindings = count_binding(found.bindings, contribution);
     found.rows = count_row(found.rows, contribution);
@@ -169,7 +167,7 @@ fn as_kept(number: usize) -> u16
 
 /// How many bindings there are with that of the contribution, or more than a plan may have.
 fn count_binding(before: usize, contribution: &Contribution) -> usize
-    ensures { (all : ℕ) → IsCount 16384 all before → IsCount 16384 (all + bindings_given (contribution_view contribution.now)) result }
+    ensures { CountsMore 16384 (bindings_of contribution.now) before result }
 {
     match *contribution {
         Contribution::Binds(_, _, _) => {
@@ -185,7 +183,7 @@ fn count_binding(before: usize, contribution: &Contribution) -> usize
 
 /// So it is with rows of devices.
 fn count_row(before: usize, contribution: &Contribution) -> usize
-    ensures { (all : ℕ) → IsCount 1024 all before → IsCount 1024 (all + rows_given (contribution_view contribution.now)) result }
+    ensures { CountsMore 1024 (rows_of_devices contribution.now) before result }
 {
     match *contribution {
         Contribution::Device(_, _) => {
@@ -207,7 +205,7 @@ pub(crate) fn lacks_name(
     definitions: &Definitions,
     rows: &[Row],
 ) -> Result<bool, AllocError>
-    ensures { IfOk result (λ b. b ≡ lacks_name (given_by definitions.now.machine (row_list_view rows.now))) }
+    ensures { IfOk result (λ b. b ≡ lacks_name (given_by_rows definitions.now rows.now)) }
 {
     let hashing = definitions.config().hashing;
     let sets = given_names(alloc, definitions, hashing, rows)?;
@@ -230,7 +228,7 @@ fn given_names(
     hashing: NameHashing,
     rows: &[Row],
 ) -> Result<Vec<NameSet>, AllocError>
-    ensures { IfOk result (λ sets. HoldGivenNames (given_by definitions.now.machine (row_list_view rows.now)) sets.items) }
+    ensures { IfOk result (λ sets. HoldGivenNames (given_by_rows definitions.now rows.now) sets.items) }
 {
     let mut sets = no_sets(alloc, hashing)?;
     let mut contributions = Vec::new(alloc);
@@ -258,7 +256,7 @@ fn note_given(
 ) -> Result<(), AllocError>
     requires { length sets.old.items ≡ length tables_in_order }
     ensures count { length sets.new.items ≡ length tables_in_order }
-    ensures names { OnOk result ((before : List ContributionValue) → HoldGivenNames before sets.old.items → HoldGivenNames (before ++ contributions_view contributions.now) sets.new.items) }
+    ensures names { OnOk result (GainGivenNames sets.old sets.new contributions.now) }
 {
     for contribution in contributions {
         if let Some((table, name)) = given(contribution) {
@@ -277,7 +275,7 @@ fn use_other(
     contributions: &[Contribution],
 ) -> Result<bool, AllocError>
     requires { length sets.now ≡ length tables_in_order }
-    ensures { IfOk result (λ b. (cs : List ContributionValue) → HoldGivenNames cs sets.now → b ≡ list_any (lacks (λ t. given_names t cs)) (contributions_view contributions.now)) }
+    ensures { IfOk result (TellsAnyOther sets.now contributions.now) }
 {
     for contribution in contributions {
         let lacking = is_other(sets, text, contribution)?;
@@ -295,7 +293,7 @@ fn is_other(
     contribution: &Contribution,
 ) -> Result<bool, AllocError>
     requires { length sets.now ≡ length tables_in_order }
-    ensures { IfOk result (λ b. (cs : List ContributionValue) → HoldGivenNames cs sets.now → b ≡ lacks (λ t. given_names t cs) (contribution_view contribution.now)) }
+    ensures { IfOk result (TellsOther sets.now contribution.now) }
 {
     if is_unknown(contribution) {
         return Ok(true);
@@ -313,7 +311,7 @@ fn is_other(
 
 /// Whether the contribution names what nothing has.
 fn is_unknown(contribution: &Contribution) -> bool
-    ensures { result ≡ is_unknown (contribution_view contribution.now) }
+    ensures { result ≡ names_nothing contribution.now }
 {
     match *contribution {
         Contribution::Unknown => true,

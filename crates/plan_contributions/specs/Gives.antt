@@ -97,13 +97,15 @@ kind_of_switch machine s = kind_of machine (switch_view s)
 abbrev pub handled_binds : HandledAt → Place → Aim → List Contribution
 handled_binds h place aim = bound (handled_at_view h).event place aim
 
--- and each of these; then it does this with the row that came last, or with one of this number
+-- each of these events is bound, under its condition
 abbrev pub handlers_bind : List Handler → Place → Aim → List Contribution
 handlers_bind hs place aim = flat_map (λ e. bound e place aim) (events (map handler_view hs))
 
+-- each of these events does this with the row that came last
 abbrev pub handlers_act : Place → Act → List Handler → List Contribution
 handlers_act place act hs = flat_map (act_binding place) (acts act (map handler_view hs))
 
+-- each of these events does this with the row of this number
 abbrev pub handlers_act_at : Place → Option ℕ → Act → List Handler → List Contribution
 handlers_act_at place row act hs = flat_map (act_at place row) (acts act (map handler_view hs))
 
@@ -112,15 +114,15 @@ abbrev pub names_mention : List Name → List Contribution
 names_mention ns = map (mentions Events) (texts (map name_view ns))
 
 -- an effect list posts the events of these names, or its own where there are none
-abbrev pub names_post : ℕ → List Name → List Contribution
-names_post k ns = map (does_in k) (map posts (texts (map name_view ns)))
+abbrev pub names_post_in : ℕ → List Name → List Contribution
+names_post_in k ns = map (does_in k) (map posts (texts (map name_view ns)))
 
 abbrev pub names_or_own_post : ℕ → List Name → Parts → List Contribution
 names_or_own_post k ns own = map (does_in k) (map posts (or_own (map name_view ns) (parts_text own)))
 
 -- an effect list does this
-abbrev pub effect_gives : ℕ → effects.Effect → List Contribution
-effect_gives k e = does_in k (effect_view e) ∷ []
+abbrev pub effect_done_in : ℕ → effects.Effect → List Contribution
+effect_done_in k e = does_in k (effect_view e) ∷ []
 
 -- ---- entries, by the names of their sections
 
@@ -163,8 +165,8 @@ abbrev pub event_player_gives : Place → typed_players.EventPlayer → List Con
 event_player_gives place p = player_contributions place (event_player_view p)
 
 -- the list that began last posts the events of these names
-abbrev pub names_do_post : List Name → List Contribution
-names_do_post ns = map (λ e. does (posts e)) (texts (map name_view ns))
+abbrev pub names_post : List Name → List Contribution
+names_post ns = map (λ e. does (posts e)) (texts (map name_view ns))
 
 abbrev pub coil_player_gives : List SectionRows → Place → typed_coil_players.CoilPlayer → List Contribution
 coil_player_gives machine place p = coil_player_contributions machine place (coil_player_view p)

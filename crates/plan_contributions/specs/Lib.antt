@@ -12,4 +12,5 @@ pub mod View
 pub mod Facts
 pub mod BallFacts
 pub mod Doing
+-- what contracts of the functions inside this crate see
 pub mod Gives

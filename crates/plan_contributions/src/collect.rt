@@ -5,7 +5,7 @@ ghost use Rattle.mpf_sections.specs.View.{mode_settings_view, name_view};
 ghost use Rattle.plan_contributions.specs.Contributions.{contact_of, is_quick, confirms, stopper_where, stops_at_ball_end, stops_at_game_end, later_events, row_contributions};
 ghost use Rattle.plan_contributions.specs.View.{contributions_view};
 ghost use Rattle.plan_rows.specs.View.{row_view};
-ghost use Rattle.plan_contributions.specs.Gives.{Gains, alone_gives, controls_give, entry_gives, event_player_gives, kind_of_switch, machine_entry_gives, mode_gives, names_do_post, player_entry_gives, switch_gives, switch_posts_active, switch_posts_inactive, tags_post_active};
+ghost use Rattle.plan_contributions.specs.Gives.{Gains, alone_gives, controls_give, entry_gives, event_player_gives, kind_of_switch, machine_entry_gives, mode_gives, names_post, player_entry_gives, switch_gives, switch_posts_active, switch_posts_inactive, tags_post_active};
 
 use crate::collect_balls::collect_ball_device;
 use crate::collect_bound::{collect_bound, collect_each};
@@ -281,7 +281,7 @@ fn collect_posts<'a>(
     contributions: &mut Vec<Contribution<'a>>,
     names: &'a [Name],
 ) -> Result<(), AllocError>
-    ensures { OnOk result (Gains contributions.old contributions.new (names_do_post names.now)) }
+    ensures { OnOk result (Gains contributions.old contributions.new (names_post names.now)) }
 {
     for name in names {
         add(

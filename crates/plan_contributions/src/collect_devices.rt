@@ -4,7 +4,7 @@ ghost use Rattle.std.specs.Prelude.{◌≡◌, OnOk};
 ghost use Rattle.plan_contributions.specs.DeviceEntries.{direction_in_plan, block_event, control_act, timer_event, timer_lists};
 ghost use Rattle.plan_contributions.specs.Contributions.{effects_from};
 ghost use Rattle.plan_contributions.specs.View.{parts_text};
-ghost use Rattle.plan_contributions.specs.Gives.{Gains, block_binds, block_mentions_and_posts, block_posts, control_binds, controls_bind, counter_gives, device_entry_gives, names_mention, names_or_own_post, names_post, settings_of_block, settings_of_counter, settings_of_steps, settings_of_timer, step_block_gives, steps_bind, timer_gives};
+ghost use Rattle.plan_contributions.specs.Gives.{Gains, block_binds, block_mentions_and_posts, block_posts, control_binds, controls_bind, counter_gives, device_entry_gives, names_mention, names_or_own_post, names_post_in, settings_of_block, settings_of_counter, settings_of_steps, settings_of_timer, step_block_gives, steps_bind, timer_gives};
 
 use crate::collect_bound::{collect_acts, collect_bound};
 use crate::collect_effects::{collect_event, collect_post};
@@ -169,7 +169,7 @@ fn collect_written<'a>(
     number: u16,
     names: &'a [Name],
 ) -> Result<(), AllocError>
-    ensures { OnOk result (Gains contributions.old contributions.new (names_post number names.now)) }
+    ensures { OnOk result (Gains contributions.old contributions.new (names_post_in number names.now)) }
 {
     for name in names {
         collect_post(contributions, number, whole(&name.text))?;

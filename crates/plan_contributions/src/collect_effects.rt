@@ -4,7 +4,7 @@ ghost use Rattle.std.specs.Prelude.{[], ◌∷◌, OnOk};
 ghost use Rattle.plan_contributions.specs.Contributions.{does_in, mentions, posts};
 ghost use Rattle.plan_tables.specs.declared.table.Table.TheVariants.{Events};
 ghost use Rattle.plan_contributions.specs.View.{parts_text};
-ghost use Rattle.plan_contributions.specs.Gives.{Gains, effect_gives};
+ghost use Rattle.plan_contributions.specs.Gives.{Gains, effect_done_in};
 
 use crate::contribution::{Contribution, Effect, Parts, add};
 use plan_tables::table::Table;
@@ -16,7 +16,7 @@ pub(crate) fn collect_effect<'a>(
     number: u16,
     effect: Effect<'a>,
 ) -> Result<(), AllocError>
-    ensures { OnOk result (Gains contributions.old contributions.new (effect_gives number effect.entry)) }
+    ensures { OnOk result (Gains contributions.old contributions.new (effect_done_in number effect.entry)) }
 {
     add(contributions, Contribution::DoesIn(number, effect))
 }

@@ -35,8 +35,9 @@ Gains old new more = row_list_view new.items ≡ row_list_view old.items ++ more
 abbrev pub GainsSeats : {S : Type 0} → (old new : HashMap (Bor (List ℕ)) seats.Seat S) → List (List ℕ × Seat) → Type 0
 GainsSeats old new more = (name : List ℕ) → found_seat new name ≡ fold (latest name) (found_seat old name) more
 
-abbrev pub GainsDevices : {S : Type 0} → (old new : HashMap (Bor (List ℕ)) ℕ S) → List (List ℕ × ℕ) → Type 0
-GainsDevices old new more = (name : List ℕ) → found_row new name ≡ fold (latest name) (found_row old name) more
+-- the same of the rows of ball devices
+abbrev pub GainsDeviceRows : {S : Type 0} → (old new : HashMap (Bor (List ℕ)) ℕ S) → List (List ℕ × ℕ) → Type 0
+GainsDeviceRows old new more = (name : List ℕ) → found_row new name ≡ fold (latest name) (found_row old name) more
 
 -- ---- entries and names of the program
 
@@ -50,19 +51,19 @@ named_entries s = section_entries (section_view s)
 abbrev pub all_entries : List Section → List (List ℕ × Entry)
 all_entries sections = text_entries (section_rows sections)
 
-abbrev pub as_written : List Name → List Written
-as_written names = map name_view names
+abbrev pub written_names : List Name → List Written
+written_names names = map name_view names
 
 -- the seats of the shots that a group lists, whose row has this number
 abbrev pub seats_of_names : ℕ → List Name → List (List ℕ × Seat)
-seats_of_names row names = seats_at row 0 (as_written names)
+seats_of_names row names = seats_at row 0 (written_names names)
 
 -- whether one of these groups lists a shot of this name, and whether one of the names is this one
-abbrev pub is_one_listed : List written_entries.Entry → List ℕ → Bool
-is_one_listed groups name = list_any (lists_shot name) (map shot_group_of (map entry_view groups))
+abbrev pub lists_shot_in : List written_entries.Entry → List ℕ → Bool
+lists_shot_in groups name = list_any (lists_shot name) (map shot_group_of (map entry_view groups))
 
-abbrev pub is_one_named : List Name → List ℕ → Bool
-is_one_named names name = list_any (λ w. bytes_eq name w.text) (as_written names)
+abbrev pub is_named_in : List Name → List ℕ → Bool
+is_named_in names name = list_any (λ w. bytes_eq name w.text) (written_names names)
 
 -- ---- the seats of a text, before which come so many rows
 
@@ -70,9 +71,11 @@ is_one_named names name = list_any (λ w. bytes_eq name w.text) (as_written name
 abbrev pub HasGrouped : {S : Type 0} → List Section → HashSet (Bor (List ℕ)) S → Type 0
 HasGrouped sections names = (name : List ℕ) → is_found names name ≡ is_grouped (section_rows sections) name
 
+-- by each name the seat of the shot that has it is found, if a group lists it
 abbrev pub HasSeats : Place → ℕ → List Section → Seats → Type 0
 HasSeats place before sections found = (name : List ℕ) → found_seat found.shots name ≡ seat_of place before (section_rows sections) name
 
+-- by each name is found where balls go that are ejected to it
 abbrev pub HasDestinations : Place → ℕ → List Section → Seats → Type 0
 HasDestinations place before sections found = (name : List ℕ) → found_destination found.devices name ≡ destination_of place before (section_rows sections) name
 
@@ -90,45 +93,46 @@ all_seats_given place grouped before sections = given_from entry_seats place (is
 abbrev pub all_devices_given : {S : Type 0} → Place → HashSet (Bor (List ℕ)) S → ℕ → List Section → List (List ℕ × ℕ)
 all_devices_given place grouped before sections = given_from entry_ball_row place (is_found grouped) before (all_entries sections)
 
--- how many rows come before the next text, after that of a place, and after that of a mode
-abbrev pub rows_until : Place → ℕ → List Section → ℕ
-rows_until place before sections = rows_after_text place before (section_rows sections)
+-- how many rows come before the text after these sections
+abbrev pub rows_after_sections : Place → ℕ → List Section → ℕ
+rows_after_sections place before sections = rows_after_text place before (section_rows sections)
 
-abbrev pub rows_until_mode : ℕ → ModeText → ℕ
-rows_until_mode before mode = rows_after_text Mode before (mode_view mode).sections
+-- how many rows come before the text after this mode
+abbrev pub rows_after_mode : ℕ → ModeText → ℕ
+rows_after_mode before mode = rows_after_text Mode before (mode_view mode).sections
 
 -- ---- the rows that the program's entries give, where these are the seats of their text
 
 module _ (defined : Rows) (place : Place) (found : Seats) where
-  abbrev pub entry_gives : List ℕ → written_entries.Entry → Row
-  entry_gives section e = entry_row defined place (found_seat found.shots) (found_destination found.devices) section (entry_view e)
+  abbrev pub row_of_entry : List ℕ → written_entries.Entry → Row
+  row_of_entry section e = entry_row defined place (found_seat found.shots) (found_destination found.devices) section (entry_view e)
 
-  abbrev pub entries_give : List ℕ → List written_entries.Entry → List Row
-  entries_give section es = map (entry_row defined place (found_seat found.shots) (found_destination found.devices) section) (map entry_view es)
+  abbrev pub rows_of_entries : List ℕ → List written_entries.Entry → List Row
+  rows_of_entries section es = map (entry_row defined place (found_seat found.shots) (found_destination found.devices) section) (map entry_view es)
 
-  abbrev pub section_gives : Section → List Row
-  section_gives s = rows_from defined place (found_seat found.shots) (found_destination found.devices) (section_view s).name (section_view s).content
+  abbrev pub rows_of_section : Section → List Row
+  rows_of_section s = rows_from defined place (found_seat found.shots) (found_destination found.devices) (section_view s).name (section_view s).content
 
-  abbrev pub sections_give : List Section → List Row
-  sections_give sections = rows_in defined place (found_seat found.shots) (found_destination found.devices) (section_rows sections)
+  abbrev pub rows_of_sections : List Section → List Row
+  rows_of_sections sections = rows_in defined place (found_seat found.shots) (found_destination found.devices) (section_rows sections)
 
-  abbrev pub shot_gives : written_entries.Entry → Row
-  shot_gives e = shot_row defined place (found_seat found.shots) (shot_of (entry_view e))
+  abbrev pub row_of_shot : written_entries.Entry → Row
+  row_of_shot e = shot_row defined place (found_seat found.shots) (shot_of (entry_view e))
 
 -- an entry that is neither a shot nor a group
-abbrev pub other_gives : Place → Seats → List ℕ → written_entries.Entry → Row
-other_gives place found section e = other_row (found_destination found.devices) place section (entry_view e)
+abbrev pub row_of_other : Place → Seats → List ℕ → written_entries.Entry → Row
+row_of_other place found section e = other_row (found_destination found.devices) place section (entry_view e)
 
-abbrev pub ball_device_gives : Seats → written_entries.Entry → Row
-ball_device_gives found e = ball_device_row (found_destination found.devices) (ball_device_of (entry_view e))
+abbrev pub row_of_ball_device : Seats → written_entries.Entry → Row
+row_of_ball_device found e = ball_device_row (found_destination found.devices) (ball_device_of (entry_view e))
 
 -- the entries of a player
-abbrev pub players_give : Place → List ℕ → List written_players.Player → List Row
-players_give place section ps = map (player place section) (map player_view ps)
+abbrev pub rows_of_players : Place → List ℕ → List written_players.Player → List Row
+rows_of_players place section ps = map (player place section) (map player_view ps)
 
 -- a text, and a mode with its text, before which come so many rows of devices
-abbrev pub text_gives : Rows → Place → ℕ → List Section → List Row
-text_gives defined place before sections = text_rows defined place before (section_rows sections)
+abbrev pub rows_of_text : Rows → Place → ℕ → List Section → List Row
+rows_of_text defined place before sections = text_rows defined place before (section_rows sections)
 
-abbrev pub mode_gives : Rows → ℕ → ModeText → List Row
-mode_gives defined before mode = mode_rows defined before (mode_view mode)
+abbrev pub rows_of_mode : Rows → ℕ → ModeText → List Row
+rows_of_mode defined before mode = mode_rows defined before (mode_view mode)

@@ -7,7 +7,7 @@ ghost use Rattle.machine_definitions.specs.Found.{profile_view};
 ghost use Rattle.machine_definitions.specs.Shots.{shot_called};
 ghost use Rattle.plan_rows.specs.Members.{is_none, flags, is_enabled, is_enabled_if, profile_if, first_profile, members_of};
 ghost use Rattle.plan_rows.specs.View.{members_view};
-ghost use Rattle.plan_rows.specs.Gained.{as_written};
+ghost use Rattle.plan_rows.specs.Gained.{written_names};
 
 use machine_definitions::{Definitions, Profile};
 use mpf_config::{Name, Shot, ShotGroup};
@@ -41,7 +41,7 @@ pub(crate) fn members_of<'d, 'a>(
 
 /// A flag for each of 16 shots, of which these are the first: whether it is enabled at first.
 fn enabled_of(definitions: &Definitions<'_>, shots: &[Name]) -> [bool; 16]
-    ensures { result ≡ flags (map (λ w. is_enabled_if (shot_called definitions.now w.text)) (as_written shots.now)) }
+    ensures { result ≡ flags (map (λ w. is_enabled_if (shot_called definitions.now w.text)) (written_names shots.now)) }
 {
     let mut enabled = [false; 16];
     for number in 0..shots.len().min(16) {
@@ -68,7 +68,7 @@ fn is_enabled_if(shot: Option<Shot<'_>>) -> bool
 
 /// Whether all these shots are defined.
 fn are_known(definitions: &Definitions<'_>, shots: &[Name]) -> bool
-    ensures { result ≡ list_all (λ w. is_some (shot_called definitions.now w.text)) (as_written shots.now) }
+    ensures { result ≡ list_all (λ w. is_some (shot_called definitions.now w.text)) (written_names shots.now) }
 {
     for shot in shots {
         if definitions.shot(&shot.text).is_none() {
@@ -80,7 +80,7 @@ fn are_known(definitions: &Definitions<'_>, shots: &[Name]) -> bool
 
 /// The profile of the first of these shots.
 fn first_profile<'d, 'a>(definitions: &'d Definitions<'a>, shots: &[Name]) -> &'d Profile<'a>
-    ensures { profile_view result.now ≡ first_profile definitions.now (as_written shots.now) }
+    ensures { profile_view result.now ≡ first_profile definitions.now (written_names shots.now) }
 {
     match shots.first() {
         Some(name) => profile_if(definitions, definitions.shot(&name.text)),

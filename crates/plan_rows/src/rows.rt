@@ -3,7 +3,7 @@
 ghost use Rattle.std.specs.Prelude.{◌≡◌, IfOk, OnOk};
 ghost use Rattle.plan_rows.specs.Rows.{rows_of};
 ghost use Rattle.plan_rows.specs.View.{row_view, row_list_view};
-ghost use Rattle.plan_rows.specs.Gained.{Gains, ball_device_gives, mode_gives, players_give, rows_until, rows_until_mode, text_gives, entries_give, entry_gives, other_gives, section_gives, sections_give, shot_gives};
+ghost use Rattle.plan_rows.specs.Gained.{Gains, row_of_ball_device, rows_of_mode, rows_of_players, rows_after_sections, rows_after_mode, rows_of_text, rows_of_entries, row_of_entry, row_of_other, rows_of_section, rows_of_sections, row_of_shot};
 
 use crate::destination::Destination;
 use crate::members::{Members, members_of};
@@ -75,8 +75,8 @@ fn add_mode<'d, 'a>(
     before: usize,
     mode: &'a ModeText,
 ) -> Result<usize, AllocError>
-    ensures rows { OnOk result (Gains rows.old rows.new (mode_gives definitions.now before mode.now)) }
-    ensures after { IfOk result (λ after. after ≡ rows_until_mode before mode.now) }
+    ensures rows { OnOk result (Gains rows.old rows.new (rows_of_mode definitions.now before mode.now)) }
+    ensures after { IfOk result (λ after. after ≡ rows_after_mode before mode.now) }
 {
     let sections = mode.sections.as_slice();
     rows.push(Row::Mode(&mode.name, mode_settings(sections)))?;
@@ -93,8 +93,8 @@ fn add_text<'d, 'a>(
     before: usize,
     sections: &'a [Section],
 ) -> Result<usize, AllocError>
-    ensures rows { OnOk result (Gains rows.old rows.new (text_gives definitions.now place before sections.now)) }
-    ensures after { IfOk result (λ after. after ≡ rows_until place before sections.now) }
+    ensures rows { OnOk result (Gains rows.old rows.new (rows_of_text definitions.now place before sections.now)) }
+    ensures after { IfOk result (λ after. after ≡ rows_after_sections place before sections.now) }
 {
     let (seats, after) = seats_of(alloc, definitions.config().hashing, place, before, sections)?;
     add_sections(rows, definitions, place, &seats, sections)?;
@@ -109,7 +109,7 @@ fn add_sections<'d, 'a>(
     seats: &Seats<'a>,
     sections: &'a [Section],
 ) -> Result<(), AllocError>
-    ensures { OnOk result (Gains rows.old rows.new (sections_give definitions.now place seats.now sections.now)) }
+    ensures { OnOk result (Gains rows.old rows.new (rows_of_sections definitions.now place seats.now sections.now)) }
 {
     for section in sections {
         add_rows(rows, definitions, place, seats, section)?;
@@ -124,7 +124,7 @@ fn add_rows<'d, 'a>(
     seats: &Seats<'a>,
     section: &'a Section,
 ) -> Result<(), AllocError>
-    ensures { OnOk result (Gains rows.old rows.new (section_gives definitions.now place seats.now section.now)) }
+    ensures { OnOk result (Gains rows.old rows.new (rows_of_section definitions.now place seats.now section.now)) }
 {
     match &section.content {
         Content::Entries(entries) => {
@@ -147,7 +147,7 @@ fn add_entries<'d, 'a>(
     section: &'a [u8],
     entries: &'a [Entry],
 ) -> Result<(), AllocError>
-    ensures { OnOk result (Gains rows.old rows.new (entries_give definitions.now place seats.now section.now entries.now)) }
+    ensures { OnOk result (Gains rows.old rows.new (rows_of_entries definitions.now place seats.now section.now entries.now)) }
 {
     rows.reserve(entries.len())?;
     for entry in entries {
@@ -162,7 +162,7 @@ fn add_players<'d, 'a>(
     section: &'a [u8],
     players: &'a [Player],
 ) -> Result<(), AllocError>
-    ensures { OnOk result (Gains rows.old rows.new (players_give place section.now players.now)) }
+    ensures { OnOk result (Gains rows.old rows.new (rows_of_players place section.now players.now)) }
 {
     rows.reserve(players.len())?;
     for player in players {
@@ -179,7 +179,7 @@ fn entry_row<'d, 'a>(
     section: &'a [u8],
     entry: &'a Entry,
 ) -> Row<'d, 'a>
-    ensures { row_view result ≡ entry_gives definitions.now place seats.now section.now entry.now }
+    ensures { row_view result ≡ row_of_entry definitions.now place seats.now section.now entry.now }
 {
     if section == SHOTS_NAME {
         return shot_row(definitions, place, seats, entry);
@@ -197,7 +197,7 @@ fn shot_row<'d, 'a>(
     seats: &Seats<'a>,
     entry: &'a Entry,
 ) -> Row<'d, 'a>
-    ensures { row_view result ≡ shot_gives definitions.now place seats.now entry.now }
+    ensures { row_view result ≡ row_of_shot definitions.now place seats.now entry.now }
 {
     let shot = as_shot(entry);
     let profile = shot.profile.text;
@@ -217,7 +217,7 @@ fn other_row<'d, 'a>(
     section: &'a [u8],
     entry: &'a Entry,
 ) -> Row<'d, 'a>
-    ensures { row_view result ≡ other_gives place seats.now section.now entry.now }
+    ensures { row_view result ≡ row_of_other place seats.now section.now entry.now }
 {
     match place {
         Place::Machine if section == BALL_DEVICES_NAME => ball_device_row(seats, entry),
@@ -227,7 +227,7 @@ fn other_row<'d, 'a>(
 
 /// That of a ball device.
 fn ball_device_row<'d, 'a>(seats: &Seats<'a>, entry: &'a Entry) -> Row<'d, 'a>
-    ensures { row_view result ≡ ball_device_gives seats.now entry.now }
+    ensures { row_view result ≡ row_of_ball_device seats.now entry.now }
 {
     Row::BallDevice(entry, seats.destination(as_ball_device(entry).target.text))
 }

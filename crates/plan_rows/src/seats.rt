@@ -7,7 +7,7 @@ ghost use Rattle.std.specs.Prelude.{◌≡◌, IfOk, OnOk};
 ghost use Rattle.machine_definitions.specs.Found.{is_found, GainsNames};
 ghost use Rattle.plan_rows.specs.Seats.{has_row, rows_after, rows_after_all, entry_seats, entry_ball_row, row_or_unknown};
 ghost use Rattle.plan_rows.specs.View.{found_row, found_destination};
-ghost use Rattle.plan_rows.specs.Gained.{all_devices_given, all_entries, all_seats_given, GainsDevices, GainsSeats, HasDestinations, HasGrouped, HasSeats, is_one_listed, is_one_named, named_entries, named_entry, rows_until, seats_of_names, devices_given, seats_given};
+ghost use Rattle.plan_rows.specs.Gained.{all_devices_given, all_entries, all_seats_given, GainsDeviceRows, GainsSeats, HasDestinations, HasGrouped, HasSeats, lists_shot_in, is_named_in, named_entries, named_entry, rows_after_sections, seats_of_names, devices_given, seats_given};
 
 use crate::destination::Destination;
 use crate::place::Place;
@@ -94,7 +94,7 @@ pub(crate) fn seats_of<'a>(
 ) -> Result<(Seats<'a>, usize), AllocError>
     ensures seats { IfOk result (λ r. HasSeats place before sections.now r.0) }
     ensures destinations { IfOk result (λ r. HasDestinations place before sections.now r.0) }
-    ensures rows { IfOk result (λ r. r.1 ≡ rows_until place before sections.now) }
+    ensures rows { IfOk result (λ r. r.1 ≡ rows_after_sections place before sections.now) }
 {
     let grouped = grouped_shots(alloc, hashing, sections)?;
     let shots: ByName<'a, Seat> = IndexMap::with_hasher(alloc, hashing);
@@ -114,7 +114,7 @@ fn add_sections<'a>(
     sections: &'a [Section],
 ) -> Result<usize, AllocError>
     ensures shots { OnOk result (GainsSeats seats.old.shots seats.new.shots (all_seats_given place grouped.now before sections.now)) }
-    ensures devices { OnOk result (GainsDevices seats.old.devices seats.new.devices (all_devices_given place grouped.now before sections.now)) }
+    ensures devices { OnOk result (GainsDeviceRows seats.old.devices seats.new.devices (all_devices_given place grouped.now before sections.now)) }
     ensures rows { IfOk result (λ rows. rows ≡ rows_after_all place (is_found grouped.now) before (all_entries sections.now)) }
 {
     let mut rows = before;
@@ -134,7 +134,7 @@ fn add_section<'a>(
     section: &'a Section,
 ) -> Result<usize, AllocError>
     ensures shots { OnOk result (GainsSeats seats.old.shots seats.new.shots (seats_given place grouped.now before section.now)) }
-    ensures devices { OnOk result (GainsDevices seats.old.devices seats.new.devices (devices_given place grouped.now before section.now)) }
+    ensures devices { OnOk result (GainsDeviceRows seats.old.devices seats.new.devices (devices_given place grouped.now before section.now)) }
     ensures rows { IfOk result (λ rows. rows ≡ rows_after_all place (is_found grouped.now) before (named_entries section.now)) }
 {
     let mut rows = before;
@@ -153,7 +153,7 @@ fn add_entry<'a>(
     entry: &'a Entry,
 ) -> Result<(), AllocError>
     ensures shots { OnOk result (GainsSeats seats.old.shots seats.new.shots (entry_seats before (named_entry section.now entry.now))) }
-    ensures devices { OnOk result (GainsDevices seats.old.devices seats.new.devices (entry_ball_row before (named_entry section.now entry.now))) }
+    ensures devices { OnOk result (GainsDeviceRows seats.old.devices seats.new.devices (entry_ball_row before (named_entry section.now entry.now))) }
 {
     add_group(&mut seats.shots, before, section, entry)?;
     add_ball_device(&mut seats.devices, before, section, entry)
@@ -181,7 +181,7 @@ fn add_ball_device<'a>(
     section: &[u8],
     entry: &'a Entry,
 ) -> Result<(), AllocError>
-    ensures { OnOk result (GainsDevices rows.old rows.new (entry_ball_row before (named_entry section.now entry.now))) }
+    ensures { OnOk result (GainsDeviceRows rows.old rows.new (entry_ball_row before (named_entry section.now entry.now))) }
 {
     if section == BALL_DEVICES_NAME {
         rows.insert(&as_ball_device(entry).name.text, before)?;
@@ -252,7 +252,7 @@ fn grouped_shots<'a>(
 }
 
 fn take_groups<'a>(names: &mut Names<'a>, groups: &'a [Entry]) -> Result<(), AllocError>
-    ensures { OnOk result (GainsNames names.old names.new (is_one_listed groups.now)) }
+    ensures { OnOk result (GainsNames names.old names.new (lists_shot_in groups.now)) }
 {
     for group in groups {
         take_shots(names, as_shot_group(group).shots)?;
@@ -261,7 +261,7 @@ fn take_groups<'a>(names: &mut Names<'a>, groups: &'a [Entry]) -> Result<(), All
 }
 
 fn take_shots<'a>(names: &mut Names<'a>, shots: &'a [Name]) -> Result<(), AllocError>
-    ensures { OnOk result (GainsNames names.old names.new (is_one_named shots.now)) }
+    ensures { OnOk result (GainsNames names.old names.new (is_named_in shots.now)) }
 {
     for shot in shots {
         names.insert(&shot.text)?;

@@ -8,7 +8,7 @@ ghost use Rattle.plan_tables.specs.NamesKept.{names_kept};
 use crate::table::Table;
 use indexmap::IndexSet;
 
-/// Makes the hashers of names, by all names of the rows.
+/// Makes the hashers of names, by the bundle that they are parts of.
 pub use yaml_bytes::SeededHashing as NameHashing;
 
 /// Names at their numbers.

@@ -3,11 +3,11 @@ use Rattle.std.specs.Prelude.{◌≡◌, ◌||◌, ℕ, Bool, List, ◌++◌, le
 use Rattle.std.specs.List.{flat_map, list_any}
 use Rattle.std.specs.Str.{bytes_eq}
 use Rattle.std.specs.Borrow.{Bor}
-use Rattle.std.specs.Global.{Vec}
+use Rattle.std.specs.Global.{Vec, Global}
 use Rattle.std.specs.HashMap.{HashMap}
 use Rattle.std.specs.HashSet.{HashSet}
 use Rattle.std.specs.BTreeSet.{BTreeSet}
-use Rattle.std.specs.HashSet.{HashSet}
+use Rattle.std.specs.declared.borrow.CowSlice.{CowSlice}
 use Rattle.yaml_subset.specs.Keys.{is_among, copies_view}
 use Rattle.section_tables.specs.declared.rows.Name.{Name}
 use Rattle.section_tables.specs.declared.rows.Entry as entry_rows
@@ -54,8 +54,8 @@ use Rattle.row_faults.specs.View.{row_fault_view, row_faults_view, keys_view, de
 -- ---- coils
 
 -- all that a section says of coils
-abbrev pub faults_of_coils_in : FaultsView → Section → List RowFaultView
-faults_of_coils_in f s = coil_faults_in f.rows.machine f.text (section_view s)
+abbrev pub faults_about_coils : FaultsView → Section → List RowFaultView
+faults_about_coils f s = coil_faults_in f.rows.machine f.text (section_view s)
 
 abbrev pub faults_of_coil_name : FaultsView → NameAt → List RowFaultView
 faults_of_coil_name f name = coil_name_faults f.rows.machine f.text (name_at_view name)
@@ -92,8 +92,8 @@ faults_of_flipper f flipper = flipper_faults f.rows.machine f.text (flipper_view
 abbrev pub faults_of_hold_coil : FaultsView → typed_flippers.Flipper → List RowFaultView
 faults_of_hold_coil f flipper = hold_faults f.rows.machine f.text (flipper_view flipper) (flipper_view flipper).hold_coil
 
-abbrev pub faults_of_hold : FaultsView → typed_flippers.Flipper → NameAt → Option typed_coils.Coil → List RowFaultView
-faults_of_hold f flipper hold c = hold_faults_by f.text (flipper_view flipper) (name_at_view hold) (option_map coil_view c)
+abbrev pub faults_by_hold_limits : FaultsView → typed_flippers.Flipper → NameAt → Option typed_coils.Coil → List RowFaultView
+faults_by_hold_limits f flipper hold c = hold_faults_by f.text (flipper_view flipper) (name_at_view hold) (option_map coil_view c)
 
 abbrev pub faults_of_autofires : FaultsView → Section → List RowFaultView
 faults_of_autofires f s = flat_map (autofire_faults f.rows.machine f.text) (autofires_in (section_view s))
@@ -109,8 +109,8 @@ faults_of_ball_devices f s = flat_map (ball_device_faults f.rows.machine f.text)
 abbrev pub faults_of_ball_device : FaultsView → typed_balls.BallDevice → List RowFaultView
 faults_of_ball_device f b = ball_device_faults f.rows.machine f.text (ball_device_view b)
 
-abbrev pub faults_of_switches : FaultsView → List Name → List RowFaultView
-faults_of_switches f ns = flat_map (switch_name_faults f.rows.machine f.text) (map name_view ns)
+abbrev pub faults_of_switch_names : FaultsView → List Name → List RowFaultView
+faults_of_switch_names f ns = flat_map (switch_name_faults f.rows.machine f.text) (map name_view ns)
 
 abbrev pub faults_of_eject_coil : FaultsView → Option NameAt → List RowFaultView
 faults_of_eject_coil f coil = eject_coil_faults f.rows.machine f.text (option_map name_at_view coil)
@@ -127,8 +127,8 @@ abbrev pub texts_of : List Name → List (List ℕ)
 texts_of ns = map (λ w. w.text) (map name_view ns)
 
 -- a list of ball devices has grown by these
-abbrev pub GainsDevices : Vec typed_balls.BallDevice → Vec typed_balls.BallDevice → List BallDevice → Type 0
-GainsDevices old new more = devices_view new.items ≡ devices_view old.items ++ more
+abbrev pub GainsDeviceList : Vec typed_balls.BallDevice → Vec typed_balls.BallDevice → List BallDevice → Type 0
+GainsDeviceList old new more = devices_view new.items ≡ devices_view old.items ++ more
 
 -- the numbers of their targets
 abbrev pub numbers_of_targets : {S : Type 0} → HashMap (Bor (List ℕ)) ℕ S → List typed_balls.BallDevice → List ℕ
@@ -160,14 +160,14 @@ abbrev pub faults_of_shot_switch : FaultsView → Option NameAt → List RowFaul
 faults_of_shot_switch f switch = shot_switch_faults f.rows.machine f.text (option_map name_at_view switch)
 
 -- what the groups of sections list, of one section, and one group; and these names, where a group lists this shot first
-abbrev pub sections_list : Rows → List Section → List Listed
-sections_list rows sections = listed_of rows (section_rows sections)
+abbrev pub listed_by_sections : Rows → List Section → List Listed
+listed_by_sections rows sections = listed_of rows (section_rows sections)
 
-abbrev pub section_lists : Rows → Section → List Listed
-section_lists rows s = listed_in rows (section_view s)
+abbrev pub listed_by_section : Rows → Section → List Listed
+listed_by_section rows s = listed_in rows (section_view s)
 
-abbrev pub group_lists : Rows → typed_groups.ShotGroup → List Listed
-group_lists rows g = listed_by rows (shot_group_view g)
+abbrev pub listed_by_group : Rows → typed_groups.ShotGroup → List Listed
+listed_by_group rows g = listed_by rows (shot_group_view g)
 
 abbrev pub names_listed : Option typed_shots.Shot → List Name → List Listed
 names_listed first ns = listed_with (option_map shot_view first) (map name_view ns)
@@ -181,15 +181,15 @@ abbrev pub Takes : {S : Type 0} → HashSet (Bor (List ℕ)) S → HashSet (Bor 
 Takes old new listed = is_found new ≡ taken_after (is_found old) listed
 
 -- whether a group may not list the shot of this name
-abbrev pub may_not_list : {S : Type 0} → FaultsView → HashSet (Bor (List ℕ)) S → HashSet (Bor (List ℕ)) S → Option typed_shots.Shot → ℕ → List ℕ → Bool
-may_not_list f own taken first line name = is_misplaced f.rows (is_found own) (is_found taken) (record { first = option_map shot_view first; shot = record { line = line; text = name } })
+abbrev pub is_misplaced_name : {S : Type 0} → FaultsView → HashSet (Bor (List ℕ)) S → HashSet (Bor (List ℕ)) S → Option typed_shots.Shot → ℕ → List ℕ → Bool
+is_misplaced_name f own taken first line name = is_misplaced f.rows (is_found own) (is_found taken) (record { first = option_map shot_view first; shot = record { line = line; text = name } })
 
 -- by each name is found whether the sections define a shot of this name; whether one of these entries does
 abbrev pub HasOwnShots : {S : Type 0} → List Section → HashSet (Bor (List ℕ)) S → Type 0
 HasOwnShots sections shots = (name : List ℕ) → is_found shots name ≡ is_own_shot (section_rows sections) name
 
-abbrev pub is_one_shot : List entry_rows.Entry → List ℕ → Bool
-is_one_shot entries name = list_any (λ s. bytes_eq name s.name.text) (map shot_of (map entry_view entries))
+abbrev pub defines_shot : List entry_rows.Entry → List ℕ → Bool
+defines_shot entries name = list_any (λ s. bytes_eq name s.name.text) (map shot_of (map entry_view entries))
 
 -- ---- posts of reserved events
 
@@ -219,10 +219,11 @@ posts_of_parts parts = flat_map (λ part. map name_view part.1.now) parts
 abbrev pub posts_of_names : List Name → List Written
 posts_of_names ns = map name_view ns
 
--- a set has these events; it has gained these
+-- a set has these events
 abbrev pub HasEvents : BTreeSet (Vec ℕ) → List (List ℕ) → Type 0
 HasEvents set events = (q : List ℕ) → is_among (keys_view set) q ≡ is_among events q
 
+-- a set has gained these events
 abbrev pub GainsEvents : BTreeSet (Vec ℕ) → BTreeSet (Vec ℕ) → List (List ℕ) → Type 0
 GainsEvents old new more = HasEvents new (more ++ keys_view old)
 
@@ -261,16 +262,18 @@ faults_of_text modes rows taken text sections = text_faults (keys_view modes) ro
 abbrev pub faults_of_modes : {S : Type 0} → BTreeSet (Vec ℕ) → Rows → HashSet (Bor (List ℕ)) S → List ModeText → List RowFaultView
 faults_of_modes modes rows taken texts = mode_faults (keys_view modes) rows (is_found taken) (map mode_view texts)
 
--- a list of faults has grown by these; it is sorted by this number of each
+-- a list of faults has grown by these
 abbrev pub GainsFaults : Vec RowFault → Vec RowFault → List RowFaultView → Type 0
 GainsFaults old new more = row_faults_view new.items ≡ row_faults_view old.items ++ more
 
+-- a list of faults has been sorted by this number of each
 abbrev pub Sorts : (RowFaultView → ℕ) → Vec RowFault → Vec RowFault → Type 0
 Sorts number old new = row_faults_view new.items ≡ ordered_by number (row_faults_view old.items)
 
--- the line of a fault in the report; a set of lines has gained this one
-abbrev pub line_of_fault : RowFault → List ℕ
-line_of_fault fault = row_fault_line (row_fault_view fault)
+-- the line of a fault in the report
+abbrev pub printed_line : RowFault → List ℕ
+printed_line fault = row_fault_line (row_fault_view fault)
 
-abbrev pub GainsLine : {S : Type 0} → HashSet (Vec ℕ) S → HashSet (Vec ℕ) S → List ℕ → Type 0
+-- a set of lines has gained this one
+abbrev pub GainsLine : {S : Type 0} → HashSet (CowSlice ℕ Global) S → HashSet (CowSlice ℕ Global) S → List ℕ → Type 0
 GainsLine old new line = (q : List ℕ) → is_among (copies_view new) q ≡ (bytes_eq line q || is_among (copies_view old) q)

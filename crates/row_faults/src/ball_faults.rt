@@ -3,7 +3,7 @@
 ghost use Rattle.std.specs.Prelude.{◌≡◌, OnOk};
 ghost use Rattle.row_faults.specs.BallFaults.{is_place};
 ghost use Rattle.row_faults.specs.Collected.{Gains};
-ghost use Rattle.row_faults.specs.FaultsOf.{faults_of_ball_device, faults_of_ball_devices, faults_of_eject_coil, faults_of_switches, faults_of_target};
+ghost use Rattle.row_faults.specs.FaultsOf.{faults_of_ball_device, faults_of_ball_devices, faults_of_eject_coil, faults_of_switch_names, faults_of_target};
 
 use crate::as_written::{Named, add_as_written};
 use crate::coil_faults::{add_coil_name, add_switch_name};
@@ -45,7 +45,7 @@ fn add_ball_device(faults: &mut Faults<'_, '_>, device: BallDevice<'_>) -> Resul
 
 /// Adds a fault for each of these switches that no entry defines.
 pub(crate) fn add_switches(faults: &mut Faults<'_, '_>, switches: &[Name]) -> Result<(), AllocError>
-    ensures { OnOk result (Gains faults.old faults.new (faults_of_switches faults.old switches.now)) }
+    ensures { OnOk result (Gains faults.old faults.new (faults_of_switch_names faults.old switches.now)) }
 {
     for switch in switches {
         add_switch_name(faults, at(switch))?;

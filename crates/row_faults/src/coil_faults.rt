@@ -3,7 +3,7 @@
 ghost use Rattle.std.specs.Prelude.{◌≡◌, ◌||◌, ◌&&◌, not, nat_lt, OnOk};
 ghost use Rattle.row_faults.specs.CoilFaults.{is_above, is_enable};
 ghost use Rattle.row_faults.specs.Collected.{Gains};
-ghost use Rattle.row_faults.specs.FaultsOf.{faults_by_limits, faults_of_autofire, faults_of_autofires, faults_of_coil, faults_of_coil_item, faults_of_coil_items, faults_of_coil_name, faults_of_coil_players, faults_of_coils, faults_of_coils_in, faults_of_flipper, faults_of_flippers, faults_of_hold, faults_of_hold_coil, faults_of_switch_name};
+ghost use Rattle.row_faults.specs.FaultsOf.{faults_by_limits, faults_of_autofire, faults_of_autofires, faults_of_coil, faults_of_coil_item, faults_of_coil_items, faults_of_coil_name, faults_of_coil_players, faults_of_coils, faults_about_coils, faults_of_flipper, faults_of_flippers, faults_by_hold_limits, faults_of_hold_coil, faults_of_switch_name};
 
 use crate::as_written::{Named, add_as_written};
 use crate::collector::{Faults, add_if, at};
@@ -21,7 +21,7 @@ pub(crate) fn add_coil_faults(
     faults: &mut Faults<'_, '_>,
     section: &Section,
 ) -> Result<(), AllocError>
-    ensures { OnOk result (Gains faults.old faults.new (faults_of_coils_in faults.old section.now)) }
+    ensures { OnOk result (Gains faults.old faults.new (faults_about_coils faults.old section.now)) }
 {
     add_coils(faults, section)?;
     add_coil_players(faults, section)?;
@@ -224,7 +224,7 @@ fn add_hold(
     hold: NameAt<'_>,
     coil: Option<Coil<'_>>,
 ) -> Result<(), AllocError>
-    ensures { OnOk result (Gains faults.old faults.new (faults_of_hold faults.old flipper.entry hold.entry coil.entry)) }
+    ensures { OnOk result (Gains faults.old faults.new (faults_by_hold_limits faults.old flipper.entry hold.entry coil.entry)) }
 {
     match coil {
         Some(coil) => {

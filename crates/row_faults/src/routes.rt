@@ -8,7 +8,7 @@ ghost use Rattle.row_faults.specs.Collected.{Gains};
 ghost use Rattle.row_faults.specs.Routes.{leads_to_playfield, lacks_coil, all_taken, is_one_taken};
 ghost use Rattle.row_faults.specs.BallFaults.{route_faults};
 ghost use Rattle.row_faults.specs.View.{devices_view};
-ghost use Rattle.row_faults.specs.FaultsOf.{GainsDevices, faults_of_routes, texts_of};
+ghost use Rattle.row_faults.specs.FaultsOf.{GainsDeviceList, faults_of_routes, texts_of};
 
 use crate::collector::{Faults, add_if, at};
 use crate::fault::RowFaultKind;
@@ -53,7 +53,7 @@ fn add_entries<'a>(
     devices: &mut Vec<BallDevice<'a>>,
     entries: &'a [Entry],
 ) -> Result<(), AllocError>
-    ensures { OnOk result (GainsDevices devices.old devices.new (as_ball_devices entries.now)) }
+    ensures { OnOk result (GainsDeviceList devices.old devices.new (as_ball_devices entries.now)) }
 {
     for entry in entries {
         devices.push(as_ball_device(entry))?;

@@ -7,7 +7,7 @@ ghost use Rattle.row_faults.specs.Collected.{Gains};
 ghost use Rattle.row_faults.specs.RowFaults.{has_reached, starts_at_end, fault_line, fault_number, faults_by, row_faults};
 ghost use Rattle.row_faults.specs.Sound.{IsSound};
 ghost use Rattle.row_faults.specs.View.{keys_view, row_faults_view};
-ghost use Rattle.row_faults.specs.FaultsOf.{GainsFaults, Sorts, Takes, faults_of_modes, faults_of_section, faults_of_sections, faults_of_text, faults_of_timers, section_lists, sections_list};
+ghost use Rattle.row_faults.specs.FaultsOf.{GainsFaults, Sorts, Takes, faults_of_modes, faults_of_section, faults_of_sections, faults_of_text, faults_of_timers, listed_by_section, listed_by_sections};
 
 use crate::ball_faults::add_ball_devices;
 use crate::coil_faults::add_coil_faults;
@@ -109,7 +109,7 @@ fn faults_of_text<'a>(
     sections: &'a [Section],
 ) -> Result<Vec<RowFault>, AllocError>
     ensures faults { IfOk result (λ faults. row_faults_view faults.items ≡ faults_of_text modes.now definitions.now taken.old text.now sections.now) }
-    ensures taken { IfOk result (λ _. Takes taken.old taken.new (sections_list definitions.now sections.now)) }
+    ensures taken { IfOk result (λ _. Takes taken.old taken.new (listed_by_sections definitions.now sections.now)) }
 {
     let own = shots_of(alloc, definitions.config().hashing, sections)?;
     let mut faults = Faults {
@@ -151,7 +151,7 @@ fn add_sections<'a>(
     sections: &'a [Section],
 ) -> Result<(), AllocError>
     ensures faults { OnOk result (Gains faults.old faults.new (faults_of_sections faults.old own.now taken.old sections.now)) }
-    ensures taken { OnOk result (Takes taken.old taken.new (sections_list faults.old.rows sections.now)) }
+    ensures taken { OnOk result (Takes taken.old taken.new (listed_by_sections faults.old.rows sections.now)) }
 {
     for section in sections {
         add_section(faults, taken, own, section)?;
@@ -167,7 +167,7 @@ fn add_section<'a>(
     section: &'a Section,
 ) -> Result<(), AllocError>
     ensures faults { OnOk result (Gains faults.old faults.new (faults_of_section faults.old own.now taken.old section.now)) }
-    ensures taken { OnOk result (Takes taken.old taken.new (section_lists faults.old.rows section.now)) }
+    ensures taken { OnOk result (Takes taken.old taken.new (listed_by_section faults.old.rows section.now)) }
 {
     add_posts(faults, section)?;
     add_variable_players(faults, section)?;

@@ -5,7 +5,7 @@ ghost use Rattle.mpf_sections.specs.View.{name_view, shot_view};
 ghost use Rattle.machine_definitions.specs.Found.{is_found, GainsNames};
 ghost use Rattle.row_faults.specs.Collected.{Gains};
 ghost use Rattle.row_faults.specs.ShotFaults.{first_shot, are_of_two_profiles};
-ghost use Rattle.row_faults.specs.FaultsOf.{HasOwnShots, Takes, faults_of_listed, faults_of_profile, faults_of_shot, faults_of_shot_switch, faults_of_shots, group_lists, is_one_shot, may_not_list, names_listed, section_lists};
+ghost use Rattle.row_faults.specs.FaultsOf.{HasOwnShots, Takes, faults_of_listed, faults_of_profile, faults_of_shot, faults_of_shot_switch, faults_of_shots, listed_by_group, defines_shot, is_misplaced_name, names_listed, listed_by_section};
 
 use crate::as_written::{Named, add_as_written};
 use crate::coil_faults::add_switch_name;
@@ -83,8 +83,8 @@ pub(crate) fn add_groups<'a>(
     own: &Shots<'_>,
     section: &'a Section,
 ) -> Result<(), AllocError>
-    ensures faults { OnOk result (Gains faults.old faults.new (faults_of_listed faults.old own.now taken.old (section_lists faults.old.rows section.now))) }
-    ensures taken { OnOk result (Takes taken.old taken.new (section_lists faults.old.rows section.now)) }
+    ensures faults { OnOk result (Gains faults.old faults.new (faults_of_listed faults.old own.now taken.old (listed_by_section faults.old.rows section.now))) }
+    ensures taken { OnOk result (Takes taken.old taken.new (listed_by_section faults.old.rows section.now)) }
 {
     let groups: &'a [Entry] = section.entries_of(SHOT_GROUPS_NAME);
     for group in groups {
@@ -100,8 +100,8 @@ fn add_group<'a>(
     own: &Shots<'_>,
     group: ShotGroup<'a>,
 ) -> Result<(), AllocError>
-    ensures faults { OnOk result (Gains faults.old faults.new (faults_of_listed faults.old own.now taken.old (group_lists faults.old.rows group.entry))) }
-    ensures taken { OnOk result (Takes taken.old taken.new (group_lists faults.old.rows group.entry)) }
+    ensures faults { OnOk result (Gains faults.old faults.new (faults_of_listed faults.old own.now taken.old (listed_by_group faults.old.rows group.entry))) }
+    ensures taken { OnOk result (Takes taken.old taken.new (listed_by_group faults.old.rows group.entry)) }
 {
     let first = first_shot(faults.definitions, group.shots);
     add_listed(faults, taken, own, first, group.shots)
@@ -144,7 +144,7 @@ fn is_misplaced(
     first: Option<Shot<'_>>,
     name: &[u8],
 ) -> bool
-    ensures { (line : ℕ) → result ≡ may_not_list faults.now own.now taken.now first.entry line name.now }
+    ensures { (line : ℕ) → result ≡ is_misplaced_name faults.now own.now taken.now first.entry line name.now }
 {
     !has_name(own, name)
         || has_name(taken, name)
@@ -187,7 +187,7 @@ pub(crate) fn shots_of<'a>(
 }
 
 fn take_shots<'a>(shots: &mut Shots<'a>, entries: &'a [Entry]) -> Result<(), AllocError>
-    ensures { OnOk result (GainsNames shots.old shots.new (is_one_shot entries.now)) }
+    ensures { OnOk result (GainsNames shots.old shots.new (defines_shot entries.now)) }
 {
     for entry in entries {
         shots.insert(&as_shot(entry).name.text)?;

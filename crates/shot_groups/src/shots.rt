@@ -1,10 +1,11 @@
 //! The states of a bank's shots, and what moves them.
 
-ghost use Rattle.std.specs.Prelude.{◌≡◌, ◌<◌, ◌-◌, ◌==◌, ◌++◌, if◌then◌else◌};
+ghost use Rattle.std.specs.Prelude.{◌≡◌, ◌<◌, ◌-◌, ◌==◌};
 ghost use Rattle.std.specs.List.{list_all};
 ghost use Rattle.plan_tables.specs.Devices.{IsWithinLimits};
 ghost use Rattle.plan_tables.specs.declared.devices.Settings.TheVariants as kinds;
-ghost use Rattle.device_objects.specs.Bank.{are_all_in, complete_lists, gone_on, hit_lists, is_complete, turned};
+ghost use Rattle.device_objects.specs.Bank.{are_all_in, gone_on, is_complete, turned};
+ghost use Rattle.shot_groups.specs.Hit.{states_after_hit, lists_of_hit};
 
 use device_objects::Outcome;
 use device_objects::bank::{group_complete, hit_lists, next_state};
@@ -46,8 +47,8 @@ fn is_complete(settings: &BankSettings, state: u8, states: &[u8; 16]) -> bool
 pub(crate) fn hit(settings: &BankSettings, states: &mut [u8; 16], shot: usize, state: u8) -> Outcome
     requires limits { IsWithinLimits (kinds.Bank settings.now) }
     requires shot { shot < settings.now.shots }
-    ensures states { states.new ≡ if settings.now.advance_on_hit then gone_on settings.now shot state states.old else states.old }
-    ensures outcome { result.items ≡ if settings.now.advance_on_hit then hit_lists settings.now shot state ++ complete_lists settings.now state (gone_on settings.now shot state states.old) else hit_lists settings.now shot state }
+    ensures states { states.new ≡ states_after_hit settings.now shot state states.old }
+    ensures outcome { result.items ≡ lists_of_hit settings.now shot state states.old }
 {
     let mut lists = hit_lists(settings, shot, state);
     if settings.advance_on_hit {
