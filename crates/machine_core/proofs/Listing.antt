@@ -17,7 +17,7 @@ use Rattle.device_objects.proofs.Answered.{answers_are_outcomes}
 use Rattle.device_objects.proofs.Lists.{outcomes_of_row}
 use Rattle.cascade_rank.proofs.Rows.{length-rows, row_of}
 use Rattle.written_machine.specs.Devices.{HasDevices}
-use Rattle.written_machine.specs.Machine.{Machine, all_do, world_of, device_at, called, call_device}
+use Rattle.written_machine.specs.Machine.{Machine, world_of, device_at, called, call_device}
 use Rattle.machine_core.specs.Core.{CoreView, CanCall, after}
 use Rattle.machine_core.proofs.Room.{Grows}
 use Rattle.machine_core.specs.Goes.{Goes}

@@ -31,7 +31,7 @@ use Rattle.machine_core.specs.Balls.{told_by, wanted}
 use Rattle.machine_core.specs.Core.{CoreView, CanCall, HasRoom, after}
 use Rattle.machine_core.specs.Goes.{Goes}
 use Rattle.machine_core.proofs.Going.{goes-none, goes-can, goes-tell_first, goes-action_by, goes-tell_nobody}
-use Rattle.machine_core.proofs.Listing.{grown, first_from}
+use Rattle.machine_core.proofs.Listing.{grown}
 use Rattle.machine_core.proofs.Room.{room-before}
 
 -- ---- who is told last
@@ -154,13 +154,6 @@ none-away plan target s none = find-nothing (λ r. is_device_away (device_at s r
 
 -- ---- the first device that is Away to a target
 
-module _ (plan : PlanView) (target : BallTarget) (s : Machine) where
-  abbrev pub feeds_it : RowId → Bool
-  feeds_it r = feeds target (row_at plan r).settings
-
-  abbrev pub away : RowId → Bool
-  away r = is_device_away (device_at s r)
-
-  -- the first of those from a row on
-  abbrev pub away_from : ℕ → Option RowId
-  away_from i = first_from plan feeds_it away i
+-- whether the ball of a device is on its way
+abbrev pub away : Machine → RowId → Bool
+away s r = is_device_away (device_at s r)

@@ -28,6 +28,11 @@ IsThere rows (Leave r target) = (r.0 < rows) × IsTargetThere rows target
 IsThere rows (Lose r) = r.0 < rows
 IsThere rows (Arrive target) = IsTargetThere rows target
 
+-- what is told is of a target among so many rows, if it is of one
+abbrev pub IsTellingThere : ℕ → Telling → Type 0
+IsTellingThere rows (Arrived target) = IsTargetThere rows target
+IsTellingThere rows (Wanted n) = Unit {0}
+
 -- so many more balls are wanted, if any
 abbrev pub wanted : ℕ → Option Telling
 wanted zero = None

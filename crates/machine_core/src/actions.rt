@@ -1,10 +1,10 @@
 //! The actions of effect lists, before another device is told of one.
 
-ghost use Rattle.std.specs.Prelude.{◌≡◌, ◌<◌, true, length};
+ghost use Rattle.std.specs.Prelude.{◌≡◌, ◌<◌, true, length, IfSome};
 ghost use Rattle.plan_tables.specs.Valid.{HasGame, IsActionWithin, IsTargetThere};
 ghost use Rattle.plan_tables.specs.PlanView.{target_of};
 ghost use Rattle.written_machine.specs.Machine.{do_action_by, drain_if, enter_ball, tell_nobody};
-ghost use Rattle.machine_core.specs.Balls.{told_by, wanted};
+ghost use Rattle.machine_core.specs.Balls.{IsTellingThere, told_by, wanted};
 ghost use Rattle.machine_core.specs.Core.{CanCall, HasRoom, after};
 
 use crate::balls::BallCall;
@@ -87,7 +87,8 @@ fn post_drain<D: Device>(core: &mut Core<'_, D>, owner: Owner, drain: bool)
 /// What another device is to be told of the action, if anything. The action is not done yet.
 pub(crate) fn told_by<D: Device>(core: &Core<'_, D>, action: Action) -> Option<Telling>
     requires { IsActionWithin core.now.plan action }
-    ensures { result ≡ told_by action core.now.machine }
+    ensures told { result ≡ told_by action core.now.machine }
+    ensures there { IfSome result (λ telling. IsTellingThere (length core.now.plan.rows) telling) }
 {
     match action {
         Action::Enter { device, .. } => {

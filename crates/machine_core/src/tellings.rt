@@ -1,9 +1,10 @@
 //! What ball devices are told of what happens elsewhere in the machine.
 
-ghost use Rattle.std.specs.Prelude.{◌≡◌, ◌<◌, ◌&&◌, IfSome, length};
-ghost use Rattle.plan_tables.specs.PlanView.{feeds, row_at};
+ghost use Rattle.std.specs.Prelude.{◌≡◌, ◌<◌, IfSome, length};
+ghost use Rattle.plan_tables.specs.Valid.{IsTargetThere};
 ghost use Rattle.written_machine.specs.Machine.{device_at, first_away, is_device_away, tell_first, told_device};
 ghost use Rattle.written_machine.specs.Devices.{HasDevices};
+ghost use Rattle.machine_core.specs.Balls.{IsTellingThere};
 ghost use Rattle.machine_core.specs.Core.{CanCall, HasRoom, after};
 
 use crate::actions::run_alone;
@@ -14,6 +15,7 @@ use plan_tables::{Action, BallTarget, Owner, RowId, Telling};
 
 /// The ball device that is to know it is told, if there is one.
 pub(crate) fn tell<D: Device>(core: &mut Core<'_, D>, telling: Telling)
+    requires there { IsTellingThere (length core.old.plan.rows) telling }
     requires calls { CanCall core.old }
     requires room { HasRoom core.old.room (tell_first core.old.plan telling core.old.machine) }
     ensures { core.new ≡ after (tell_first core.old.plan telling) core.old }
@@ -26,7 +28,8 @@ pub(crate) fn tell<D: Device>(core: &mut Core<'_, D>, telling: Telling)
 /// Which ball device is to know it: of a ball that has arrived the first whose ball is on its way
 /// there, and of balls that are wanted the first trough.
 fn told_device<D: Device>(core: &Core<'_, D>, telling: Telling) -> Option<RowId>
-    requires { HasDevices core.now.plan core.now.machine.devices }
+    requires telling { IsTellingThere (length core.now.plan.rows) telling }
+    requires devices { HasDevices core.now.plan core.now.machine.devices }
     ensures told { result ≡ told_device core.now.plan telling core.now.machine }
     ensures there { IfSome result (λ row. row.0 < length core.now.plan.rows) }
 {
@@ -39,31 +42,31 @@ fn told_device<D: Device>(core: &Core<'_, D>, telling: Telling) -> Option<RowId>
 /// The first device whose ball is on its way to the target. It waits for the ball until its timeout,
 /// and so it is due: where no device is, none is looked at.
 fn first_away<D: Device>(core: &Core<'_, D>, target: BallTarget) -> Option<RowId>
-    requires { HasDevices core.now.plan core.now.machine.devices }
+    requires target { IsTargetThere (length core.now.plan.rows) target }
+    requires devices { HasDevices core.now.plan core.now.machine.devices }
     ensures first { result ≡ first_away core.now.plan target core.now.machine }
     ensures there { IfSome result (λ row. row.0 < length core.now.plan.rows) }
 {
     if core.device_due().is_none() {
         return None;
     }
-    let plan = core.plan();
-    for number in 0..plan.rows().len() {
-        let row = RowId(number as u16);
-        if is_away_to(core, row, target) {
-            return Some(row);
+    let feeders = core.plan().feeders(target);
+    for row in feeders {
+        if has_ball_away(core, *row) {
+            return Some(*row);
         }
     }
     None
 }
 
-/// Whether the device's ball is on its way to the target. A state is large: only that of a device that
-/// is due is looked at.
-fn is_away_to<D: Device>(core: &Core<'_, D>, row: RowId, target: BallTarget) -> bool
+/// Whether the device's ball is on its way. A state is large: only that of a device that is due is
+/// looked at.
+fn has_ball_away<D: Device>(core: &Core<'_, D>, row: RowId) -> bool
     requires row { row.0 < length core.now.plan.rows }
     requires devices { HasDevices core.now.plan core.now.machine.devices }
-    ensures { result ≡ (feeds target (row_at core.now.plan row).settings && is_device_away (device_at core.now.machine row)) }
+    ensures { result ≡ is_device_away (device_at core.now.machine row) }
 {
-    core.plan().row(row).settings.feeds(target) && core.is_due(row) && is_away(&core.state(row))
+    core.is_due(row) && is_away(&core.state(row))
 }
 
 /// Whether the ball that a device has ejected is on its way.

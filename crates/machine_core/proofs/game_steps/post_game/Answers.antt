@@ -1,4 +1,4 @@
-use Rattle.std.proofs.Common.{◌≡◌, ◌+◌, drop, get_or, ap, sym, ◌∙◌}
+use Rattle.std.proofs.Common.{◌+◌, drop, get_or, ap, sym, ◌∙◌}
 use Rattle.std.proofs.lemmas.List.{drop_more}
 use Rattle.plan_tables.specs.PlanView.{PlanView, game_event}
 use Rattle.plan_tables.specs.declared.entries.EventId.{EventId}
