@@ -3,6 +3,7 @@ pub mod Fronts
 pub mod TextLines
 pub mod LineWords
 pub mod Alarms
+pub mod LineTails
 pub mod LineMoments
 pub mod Serving
 pub mod Stimuli

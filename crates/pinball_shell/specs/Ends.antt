@@ -1,5 +1,5 @@
 -- How the play of a log on a board ends.
-use Rattle.std.specs.Prelude.{◌≡◌, ◌⊎◌, ℕ, ◌-◌, Option, None, Some, List, [], ◌∷◌, ◌++◌, map, take}
+use Rattle.std.specs.Prelude.{◌≡◌, ◌⊎◌, ℕ, ◌-◌, Option, None, Some, List, [], ◌∷◌, ◌++◌, map, take, IfSome}
 use Rattle.std.specs.Io.KnownBytes.{Appends}
 use Rattle.std.specs.Str.Lines.{lines}
 use Rattle.plan_tables.specs.PlanView.{PlanView}
@@ -103,3 +103,7 @@ pub record IsPlayOn (c : CheckedView) (log : List ℕ) (board last : BoardView) 
   pub told : TellsMore (commands_of (traced printed) ++ map Disable off) board.told last.told
   pub text : Appends before after (printed_texts c.plan printed ++ off_texts c.plan rig.machine.moment off)
   pub verdict_is : verdict ≡ log_verdict printed
+
+-- A text, where its reader tells it, was played as a log on a new rig with this board, whatever that leaves of the board.
+abbrev pub IsTextPlayedOn : CheckedView → (text : Option (List ℕ)) → (board : BoardView) → (before after : Option (List ℕ)) → Verdict → Type 0
+IsTextPlayedOn c text board before after verdict = IfSome text (λ log. (last : BoardView) × IsPlayOn c log board last before after verdict)

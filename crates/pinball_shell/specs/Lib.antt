@@ -1,6 +1,7 @@
 pub mod Status
 pub mod Reply
 pub mod CheckOutput
+pub mod TextRead
 pub mod CheckVerified
 pub mod Joined
 pub mod LogText
@@ -12,5 +13,6 @@ pub mod Ends
 pub mod FixedPlay
 -- what the contracts of private functions cite, and no public one
 pub mod ReplyView
+pub mod LineTails
 pub mod LogView
 pub mod Played

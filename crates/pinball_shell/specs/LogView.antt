@@ -1,5 +1,10 @@
 -- What contracts see of a line of a log.
+use Rattle.std.specs.Prelude.{◌≡◌, ℕ, Option, Result}
+use Rattle.plan_tables.specs.PlanView.{PlanView}
+use Rattle.written_machine.specs.Run.{Stimulus}
 use Rattle.pinball_shell.specs.LogText.{Said, Nothing, Wait, Change, Unreadable}
+use Rattle.pinball_shell.specs.RunOfLog.{given_by_line}
+use Rattle.pinball_shell.specs.declared.refusal.Refusal.{Refusal}
 use Rattle.pinball_shell.specs.declared.log_line.Said.{Said as SaidLine}
 use Rattle.pinball_shell.specs.declared.log_line.Said.TheVariants as lines
 
@@ -8,3 +13,11 @@ said_view lines.Nothing = Nothing
 said_view (lines.Wait at) = Wait at
 said_view (lines.Change at name level) = Change at name.now level
 said_view lines.Unreadable = Unreadable
+
+-- the line says this
+abbrev pub Says : SaidLine → Said → Type 0
+Says line what = said_view line ≡ what
+
+-- what the line gives where the latest stimulus came at `now`
+abbrev pub given_by_said : PlanView → (now : ℕ) → SaidLine → Result (Option Stimulus) Refusal
+given_by_said plan now line = given_by_line plan now (said_view line)

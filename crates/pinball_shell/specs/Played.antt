@@ -6,6 +6,7 @@ use Rattle.plan_tables.specs.declared.entries.CoilId.{CoilId}
 use Rattle.coil_guard.specs.declared.command.Command.{Command}
 use Rattle.written_machine.specs.declared.line.Line.{Line}
 use Rattle.written_machine.specs.declared.line.Happening.TheVariants as happenings
+use Rattle.written_machine.specs.CheckedView.{CheckedView}
 use Rattle.written_machine.specs.Accepted.{IsAccepted}
 use Rattle.written_machine.specs.Run.{Stimulus, SwitchChange, Alarm, Wait, moment_of}
 use Rattle.written_machine.specs.NextAlarm.{is_due_by}
@@ -24,7 +25,7 @@ use Rattle.pinball_shell.specs.declared.play.Stop.TheVariants as stops
 use Rattle.pinball_shell.specs.LogText.{said}
 use Rattle.pinball_shell.specs.RunOfLog.{given_by_line, trace_of, all_alarms_by, Printed, Traced, printed_for_line, after_line}
 use Rattle.pinball_shell.specs.TraceText.{printed_texts, off_texts, log_verdict}
-use Rattle.pinball_shell.specs.Ends.{IsServed, IsHalted, IsEnd}
+use Rattle.pinball_shell.specs.Ends.{IsServed, IsHalted, IsEnd, IsPlayOn}
 
 -- what a rig is given for a stimulus: which alarm comes, it says itself
 abbrev pub input_of : Stimulus → Input
@@ -92,6 +93,11 @@ pub record IsInputPlayedToFault (plan : PlanView) (input : Input) (old new : Rig
   pub stimulus_is : stimulus_at old input ≡ Ok stimulus
   pub played : IsPlayedToFault plan old.checked.bound (stimulus ∷ []) old new before after
 
+-- the input was played, or played up to a fault of the board
+abbrev pub PlaysInput : {T : Type 0} → PlanView → Input → (old new : RigView) → (before after : Option (List ℕ)) → Result T Stop → Type 0
+PlaysInput plan input old new before after result =
+    GoesOrHalts result (λ _. IsInputPlayed plan input old new before after) (IsInputPlayedToFault plan input old new before after)
+
 -- the alarms that come by the moment were played, and no more is due by it
 pub record AreAlarmsPlayed (plan : PlanView) (until : ℕ) (old new : RigView) (before after : Option (List ℕ)) : Type 0 where
   pub played : IsPlayed plan old.checked.bound (all_alarms_by plan old.checked.bound until old.machine) old new before after
@@ -100,6 +106,11 @@ pub record AreAlarmsPlayed (plan : PlanView) (until : ℕ) (old new : RigView) (
 
 abbrev pub AreAlarmsPlayedToFault : PlanView → ℕ → RigView → RigView → Option (List ℕ) → Option (List ℕ) → Type 0
 AreAlarmsPlayedToFault plan until old new = IsPlayedToFault plan old.checked.bound (all_alarms_by plan old.checked.bound until old.machine) old new
+
+-- the alarms that come by the moment were played, or played up to a fault of the board
+abbrev pub PlaysAlarms : {T : Type 0} → PlanView → (until : ℕ) → (old new : RigView) → (before after : Option (List ℕ)) → Result T Stop → Type 0
+PlaysAlarms plan until old new before after result =
+    GoesOrHalts result (λ _. AreAlarmsPlayed plan until old new before after) (AreAlarmsPlayedToFault plan until old new before after)
 
 -- ---- lines of a log
 
@@ -118,6 +129,12 @@ abbrev pub IsLinePlayedToFault : PlanView → ℕ → ℕ → List ℕ → RigVi
 IsLinePlayedToFault plan bound number line old new =
     IsPrintedToFault plan (printed_for_line plan bound number old.machine (given_by_line plan old.machine.moment (said line))) old new
 
+-- the line of this number was played, or refused, with this verdict; or it was played up to a fault of the board
+abbrev pub PlaysLine : PlanView → (number : ℕ) → (line : List ℕ) → (old new : RigView) → (before after : Option (List ℕ)) → Result Verdict Stop → Type 0
+PlaysLine plan number line old new before after result =
+    GoesOrHalts result (λ verdict. IsLinePlayed plan old.checked.bound number line old new before after verdict)
+    (IsLinePlayedToFault plan old.checked.bound number line old new before after)
+
 -- the lines of a log were played on a rig at rest, up to one of the ends
 pub record IsLogPlayed (plan : PlanView) (bound : ℕ) (log : List ℕ) (old new : RigView) (before after : Option (List ℕ)) (verdict : Verdict) : Type 0 where
   pub printed : List Printed
@@ -133,3 +150,7 @@ pub record IsShutDown (plan : PlanView) (rig : RigView) (last : BoardView) (befo
   pub faults : ℕ
   pub put_off : ArePutOff (coils_to_put_off rig) rig.board off faults last
   pub text : Appends before after (off_texts plan rig.machine.moment off)
+
+-- A log was played on a new rig with this board, which came back with the verdict. `view` is what is seen of a board.
+abbrev pub GivesBack : {B : Type 0} → (view : B → BoardView) → CheckedView → (log : List ℕ) → (board : B) → (before after : Option (List ℕ)) → Verdict × B → Type 0
+GivesBack view c log board before after end = IsPlayOn c log (view board) (view end.1) before after end.0

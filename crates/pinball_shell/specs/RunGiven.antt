@@ -5,12 +5,13 @@ use Rattle.std.specs.Str.Lines.{lines}
 use Rattle.plan_tables.specs.PlanView.{PlanView}
 use Rattle.plan_tables.specs.Valid.{IsValid}
 use Rattle.written_machine.specs.declared.line.Line.{Line}
+use Rattle.written_machine.specs.CheckedView.{CheckedView}
 use Rattle.written_machine.specs.Machine.{Machine, initial}
 use Rattle.written_machine.specs.PlanOrder.{plan_steps}
 use Rattle.written_machine.specs.Run.{Source, Stimulus, SwitchChange, Alarm, Wait, moment_of, IsAllowed, begin, IsReached}
 use Rattle.pinball_shell.specs.declared.refusal.Refusal.{Refusal}
 use Rattle.pinball_shell.specs.LogText.{said}
-use Rattle.pinball_shell.specs.RunOfLog.{given_by_line}
+use Rattle.pinball_shell.specs.RunOfLog.{given_by_line, printed_for_log, traced}
 
 -- the stimulus that a line gives, if it gives one
 abbrev pub given_of : Result (Option Stimulus) Refusal → Option Stimulus
@@ -60,6 +61,10 @@ IsRunInOrder plan (stimulus ∷ more) old trace new =
 pub record IsPlayOfLog (plan : PlanView) (log : List ℕ) (trace : List Line) : Type 0 where
   pub run : IsRunOfLog plan log trace
   pub order : IsRunInOrder plan (stimuli_of run.reached.stimuli) (initial plan) trace run.end
+
+-- the trace that is printed for a log is the play that the log gives
+abbrev pub PrintsPlayOf : CheckedView → (log : List ℕ) → Type 0
+PrintsPlayOf c log = IsPlayOfLog c.plan log (traced (printed_for_log c.plan c.bound log))
 
 -- Every run of a log has the same changes and waits. Which alarms come may depend on the order of handlers of equal priority.
 abbrev pub GivesChangesAndWaits : Type 0

@@ -1,12 +1,11 @@
 //! A bundle is read and checked, and the reply to it is written.
 
-ghost use Rattle.std.specs.Prelude.{◌≡◌, ◌≢◌, ◌^◌, ◌<◌, ◌≤◌, IfOk, OnOk, IfErr, IfSome, IsSome, IsErrOf, length, map, option_map, ◌⊎◌};
+ghost use Rattle.std.specs.Prelude.{◌≡◌, ◌≢◌, ◌^◌, IfOk, OnOk, IfErr, IfSome, IsSome, IsErrOf, ◌⊎◌};
 ghost use Rattle.std.specs.Io.KnownBytes.{Appends, IsAtEnd, Keeps};
-ghost use Rattle.mpf_config.specs.View.{rows_view, note_view};
-ghost use Rattle.mpf_config.specs.Reading.{rows_at};
-ghost use Rattle.pinball_shell.specs.Reply.{replied, reply_to, reply_with, checked_by, answer_of, verdict_of, accepted_of};
-ghost use Rattle.pinball_shell.specs.ReplyView.{refusal_view, answer_view, reply_view};
-ghost use Rattle.pinball_shell.specs.CheckOutput.{notes_text, refusal_lines, refusal_text, acceptance_text, verification_text, reply_text, check_output, verify_output, load_output};
+ghost use Rattle.pinball_shell.specs.Reply.{reply_to, reply_with, verdict_of, accepted_of};
+ghost use Rattle.pinball_shell.specs.ReplyView.{IsReplyBy, IsReplyWith, IsAnswerBy, text_of_checked, text_of_verified, text_of_notes, text_of_refusal, lines_of_refusal};
+ghost use Rattle.pinball_shell.specs.CheckOutput.{acceptance_text, verification_text, check_output, verify_output, load_output};
+ghost use Rattle.pinball_shell.specs.TextRead.{HasAtMost, HasMoreThan, IfBoth, AppendsFor, AppendsForBoth};
 
 use crate::fault::{ShellFault, Verdict};
 use crate::reply::{BundleRefusal, Reply};
@@ -43,11 +42,10 @@ pub fn check_text<R: Read, W: Write>(
     writer: &mut W,
 ) -> Result<Verdict, ShellFault>
     ensures verdict { IfOk result (λ v. IfSome (R.remaining reader.old) (λ bundle. v ≡ verdict_of (reply_to bundle))) }
-    ensures written { OnOk result (IfSome (R.remaining reader.old)
-        (λ bundle. Appends (W.contents writer.old) (W.contents writer.new) (check_output bundle))) }
+    ensures written { OnOk result (AppendsFor (R.remaining reader.old) (W.contents writer.old) (W.contents writer.new) check_output) }
     ensures silent { IfErr result (λ e. e ≢ ShellFault.Write → Keeps (W.contents writer.old) (W.contents writer.new)) }
-    ensures within { OnOk result (IfSome (R.remaining reader.old) (λ bundle. length bundle ≤ 2 ^ 23)) }
-    ensures too_long { IsErrOf result ShellFault.TooLong → IfSome (R.remaining reader.old) (λ bundle. 2 ^ 23 < length bundle) }
+    ensures within { OnOk result (HasAtMost (2 ^ 23) (R.remaining reader.old)) }
+    ensures too_long { IsErrOf result ShellFault.TooLong → HasMoreThan (2 ^ 23) (R.remaining reader.old) }
 {
     let bundle = read_all(alloc, reader, BUNDLE_LIMIT)?;
     check_bundle(alloc, &bundle, writer)
@@ -86,14 +84,12 @@ pub fn verify_text<R: Read, Q: Read, W: Write>(
     certificate: &mut Q,
     writer: &mut W,
 ) -> Result<Verdict, ShellFault>
-    ensures verdict { IfOk result (λ v. IfSome (R.remaining bundle.old) (λ text. IfSome (Q.remaining certificate.old) (λ stated. v ≡ verdict_of (reply_with stated text)))) }
-    ensures written { OnOk result (IfSome (R.remaining bundle.old) (λ text. IfSome (Q.remaining certificate.old)
-        (λ stated. Appends (W.contents writer.old) (W.contents writer.new) (verify_output stated text)))) }
+    ensures verdict { IfOk result (λ v. IfBoth (Q.remaining certificate.old) (R.remaining bundle.old) (λ stated text. v ≡ verdict_of (reply_with stated text))) }
+    ensures written { OnOk result (AppendsForBoth (Q.remaining certificate.old) (R.remaining bundle.old) (W.contents writer.old) (W.contents writer.new) verify_output) }
     ensures silent { IfErr result (λ e. e ≢ ShellFault.Write → Keeps (W.contents writer.old) (W.contents writer.new)) }
-    ensures within { OnOk result (IfSome (R.remaining bundle.old) (λ text. length text ≤ 2 ^ 23) × IfSome (Q.remaining certificate.old) (λ stated. length stated ≤ 2 ^ 20)) }
-    ensures too_long { IsErrOf result ShellFault.TooLong →
-        IfSome (R.remaining bundle.old) (λ text. 2 ^ 23 < length text) ⊎ IfSome (Q.remaining certificate.old) (λ stated. 2 ^ 20 < length stated) }
-    ensures bundle_first { (IsAtEnd (R.remaining bundle.new) × IfSome (R.remaining bundle.old) (λ text. length text ≤ 2 ^ 23)) ⊎ (certificate.new ≡ certificate.old) }
+    ensures within { OnOk result (HasAtMost (2 ^ 23) (R.remaining bundle.old) × HasAtMost (2 ^ 20) (Q.remaining certificate.old)) }
+    ensures too_long { IsErrOf result ShellFault.TooLong → HasMoreThan (2 ^ 23) (R.remaining bundle.old) ⊎ HasMoreThan (2 ^ 20) (Q.remaining certificate.old) }
+    ensures bundle_first { (IsAtEnd (R.remaining bundle.new) × HasAtMost (2 ^ 23) (R.remaining bundle.old)) ⊎ (certificate.new ≡ certificate.old) }
 {
     let text = read_all(alloc, bundle, BUNDLE_LIMIT)?;
     verify_bundle(alloc, &text, certificate, writer)
@@ -108,11 +104,11 @@ pub fn verify_bundle<Q: Read, W: Write>(
     writer: &mut W,
 ) -> Result<Verdict, ShellFault>
     ensures verdict { IfOk result (λ v. IfSome (Q.remaining certificate.old) (λ stated. v ≡ verdict_of (reply_with stated bundle.now))) }
-    ensures written { OnOk result (IfSome (Q.remaining certificate.old)
-        (λ stated. Appends (W.contents writer.old) (W.contents writer.new) (verify_output stated bundle.now))) }
+    ensures written { OnOk result (AppendsFor (Q.remaining certificate.old) (W.contents writer.old) (W.contents writer.new)
+        (λ stated. verify_output stated bundle.now)) }
     ensures silent { IfErr result (λ e. e ≢ ShellFault.Write → Keeps (W.contents writer.old) (W.contents writer.new)) }
-    ensures within { OnOk result (IfSome (Q.remaining certificate.old) (λ stated. length stated ≤ 2 ^ 20)) }
-    ensures too_long { IsErrOf result ShellFault.TooLong → IfSome (Q.remaining certificate.old) (λ stated. 2 ^ 20 < length stated) }
+    ensures within { OnOk result (HasAtMost (2 ^ 20) (Q.remaining certificate.old)) }
+    ensures too_long { IsErrOf result ShellFault.TooLong → HasMoreThan (2 ^ 20) (Q.remaining certificate.old) }
 {
     let reply = reply_with_certificate(alloc, bundle, certificate)?;
     match write_verified(&reply, writer) {
@@ -130,12 +126,11 @@ pub fn load_text<R: Read, W: Write>(
     writer: &mut W,
 ) -> Result<Option<Checked>, ShellFault>
     ensures loaded { IfOk result (λ loaded. IfSome (R.remaining reader.old) (λ bundle. loaded ≡ accepted_of (reply_to bundle))) }
-    ensures written { OnOk result (IfSome (R.remaining reader.old)
-        (λ bundle. Appends (W.contents writer.old) (W.contents writer.new) (load_output bundle))) }
+    ensures written { OnOk result (AppendsFor (R.remaining reader.old) (W.contents writer.old) (W.contents writer.new) load_output) }
     ensures quiet { IfOk result (λ loaded. IsSome loaded → Keeps (W.contents writer.old) (W.contents writer.new)) }
     ensures silent { IfErr result (λ e. e ≢ ShellFault.Write → Keeps (W.contents writer.old) (W.contents writer.new)) }
-    ensures within { OnOk result (IfSome (R.remaining reader.old) (λ bundle. length bundle ≤ 2 ^ 23)) }
-    ensures too_long { IsErrOf result ShellFault.TooLong → IfSome (R.remaining reader.old) (λ bundle. 2 ^ 23 < length bundle) }
+    ensures within { OnOk result (HasAtMost (2 ^ 23) (R.remaining reader.old)) }
+    ensures too_long { IsErrOf result ShellFault.TooLong → HasMoreThan (2 ^ 23) (R.remaining reader.old) }
 {
     let bundle = read_all(alloc, reader, BUNDLE_LIMIT)?;
     load_bundle(alloc, &bundle, writer)
@@ -168,9 +163,9 @@ fn reply_with_certificate<Q: Read>(
     bundle: &[u8],
     certificate: &mut Q,
 ) -> Result<Reply, ShellFault>
-    ensures exact { IfOk result (λ reply. IfSome (Q.remaining certificate.old) (λ stated. reply_with stated bundle.now ≡ reply_view reply)) }
-    ensures within { OnOk result (IfSome (Q.remaining certificate.old) (λ stated. length stated ≤ 2 ^ 20)) }
-    ensures too_long { IsErrOf result ShellFault.TooLong → IfSome (Q.remaining certificate.old) (λ stated. 2 ^ 20 < length stated) }
+    ensures exact { IfOk result (λ reply. IfSome (Q.remaining certificate.old) (λ stated. IsReplyWith stated bundle.now reply)) }
+    ensures within { OnOk result (HasAtMost (2 ^ 20) (Q.remaining certificate.old)) }
+    ensures too_long { IsErrOf result ShellFault.TooLong → HasMoreThan (2 ^ 20) (Q.remaining certificate.old) }
     ensures reads_only { IfErr result (λ e. e ≢ ShellFault.Write) }
 {
     let stated = read_all(alloc, certificate, CERTIFICATE_LIMIT)?;
@@ -184,7 +179,7 @@ fn reply_to_text(
     bundle: &[u8],
     certificate: Option<&[u8]>,
 ) -> Result<Reply, ShellFault>
-    ensures exact { IfOk result (λ reply. replied (option_map (λ c. c.now) certificate.entry) (rows_at bundle.now) ≡ reply_view reply) }
+    ensures exact { IfOk result (IsReplyBy certificate.entry bundle.now) }
     ensures only { IfErr result (λ e. e ≡ ShellFault.NoMemory) }
 {
     let config = match read_bundle(alloc, bundle) {
@@ -210,7 +205,7 @@ fn check_rows(
     config: &Config,
     certificate: Option<&[u8]>,
 ) -> Result<Result<Checked, BundleRefusal>, ShellFault>
-    ensures exact { IfOk result (λ answer. answer_of (checked_by (option_map (λ c. c.now) certificate.entry) (rows_view config.now)) ≡ answer_view answer) }
+    ensures exact { IfOk result (IsAnswerBy certificate.entry config.now) }
     ensures only { IfErr result (λ e. e ≡ ShellFault.NoMemory) }
 {
     let answer = match certificate {
@@ -226,7 +221,7 @@ fn check_rows(
 
 /// Writes what `check` prints for a bundle: the notes before the answer.
 fn write_checked<W: Write>(reply: &Reply, writer: &mut W) -> io::Result<()>
-    ensures { OnOk result (Appends (W.contents writer.old) (W.contents writer.new) (reply_text acceptance_text (reply_view reply.now))) }
+    ensures { OnOk result (Appends (W.contents writer.old) (W.contents writer.new) (text_of_checked reply.now)) }
 {
     write_notes(&reply.notes, writer)?;
     match &reply.answer {
@@ -237,7 +232,7 @@ fn write_checked<W: Write>(reply: &Reply, writer: &mut W) -> io::Result<()>
 
 /// Writes what `verify` prints for a bundle and a certificate: the notes before the answer.
 fn write_verified<W: Write>(reply: &Reply, writer: &mut W) -> io::Result<()>
-    ensures { OnOk result (Appends (W.contents writer.old) (W.contents writer.new) (reply_text verification_text (reply_view reply.now))) }
+    ensures { OnOk result (Appends (W.contents writer.old) (W.contents writer.new) (text_of_verified reply.now)) }
 {
     write_notes(&reply.notes, writer)?;
     match &reply.answer {
@@ -247,7 +242,7 @@ fn write_verified<W: Write>(reply: &Reply, writer: &mut W) -> io::Result<()>
 }
 
 fn write_notes<W: Write>(notes: &[Note], writer: &mut W) -> io::Result<()>
-    ensures { OnOk result (Appends (W.contents writer.old) (W.contents writer.new) (notes_text (map note_view notes.now))) }
+    ensures { OnOk result (Appends (W.contents writer.old) (W.contents writer.new) (text_of_notes notes.now)) }
 {
     for note in notes {
         write_note(note, writer)?;
@@ -256,14 +251,14 @@ fn write_notes<W: Write>(notes: &[Note], writer: &mut W) -> io::Result<()>
 }
 
 fn write_refusal<W: Write>(refusal: &BundleRefusal, writer: &mut W) -> io::Result<()>
-    ensures { OnOk result (Appends (W.contents writer.old) (W.contents writer.new) (refusal_text (refusal_view refusal.now))) }
+    ensures { OnOk result (Appends (W.contents writer.old) (W.contents writer.new) (text_of_refusal refusal.now)) }
 {
     write_faults(refusal, writer)?;
     writer.write_all(b"no\n")
 }
 
 fn write_faults<W: Write>(refusal: &BundleRefusal, writer: &mut W) -> io::Result<()>
-    ensures { OnOk result (Appends (W.contents writer.old) (W.contents writer.new) (refusal_lines (refusal_view refusal.now))) }
+    ensures { OnOk result (Appends (W.contents writer.old) (W.contents writer.new) (lines_of_refusal refusal.now)) }
 {
     match refusal {
         BundleRefusal::Unread(fault) => write_fault(fault, writer),

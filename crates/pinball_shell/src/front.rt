@@ -10,16 +10,14 @@ use std::marker::Model;
 const DIGITS: usize = 20;
 /// Where the blank after the digits ends.
 const BLANK_END: usize = 21;
-/// Where ` machine` ends.
-const MACHINE_END: usize = 28;
 
 /// A moment in milliseconds, as the lines of a trace begin with it: its digits, and what follows
 /// them in most lines. They are written once for all lines of the moment.
 #[derive(Drop)]
 pub struct Front {
     moment: u64,
-    /// It ends with the digits and ` machine event `.
-    room: [u8; 35],
+    /// It ends with the digits and ` machine`.
+    room: [u8; 28],
     /// Where the digits begin.
     start: usize,
 }
@@ -32,7 +30,7 @@ impl Model for Front {
 
     ghost view = { λ f. f.moment };
 
-    ghost invariant = { λ f. (drop f.start f.room ≡ decimal f.moment ++ codes " machine event ") × (f.start + length (decimal f.moment) ≡ 20) };
+    ghost invariant = { λ f. (drop f.start f.room ≡ decimal f.moment ++ codes " machine") × (f.start + length (decimal f.moment) ≡ 20) };
 }
 
 impl Front {
@@ -40,7 +38,7 @@ impl Front {
     pub fn new(moment: u64) -> Front
         ensures { result ≡ moment }
     {
-        let mut room = *b"                     machine event ";
+        let mut room = *b"                     machine";
         let start = write_digits(moment, &mut room, DIGITS);
         Front {
             moment,
@@ -59,22 +57,15 @@ impl Front {
     }
 
     /// The digits of the moment, and a blank.
-    pub fn of_moment(&self) -> &[u8]
+    pub fn up_to_moment(&self) -> &[u8]
         ensures { result.now ≡ decimal self.now ++ codes " " }
     {
         &self.room[self.start..BLANK_END]
     }
 
     /// The digits of the moment, and ` machine`.
-    pub fn of_machine(&self) -> &[u8]
+    pub fn up_to_machine(&self) -> &[u8]
         ensures { result.now ≡ decimal self.now ++ codes " machine" }
-    {
-        &self.room[self.start..MACHINE_END]
-    }
-
-    /// The digits of the moment, and ` machine event `.
-    pub fn of_machine_event(&self) -> &[u8]
-        ensures { result.now ≡ decimal self.now ++ codes " machine event " }
     {
         &self.room[self.start..]
     }

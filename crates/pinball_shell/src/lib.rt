@@ -7,6 +7,7 @@ mod front;
 pub mod law;
 mod log_line;
 pub mod play;
+mod printed_plan;
 mod refusal;
 mod reply;
 pub mod text;

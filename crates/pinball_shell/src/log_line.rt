@@ -5,7 +5,7 @@ ghost use Rattle.std.specs.List.{position_or_len};
 ghost use Rattle.std.specs.Str.Lines.{lines};
 ghost use Rattle.yaml_bytes.specs.Bytes.{is_blank as blank};
 ghost use Rattle.pinball_shell.specs.LogText.{words, moment_in, level_in, wait as wait_at, change as change_at, said_in, said};
-ghost use Rattle.pinball_shell.specs.LogView.{said_view};
+ghost use Rattle.pinball_shell.specs.LogView.{Says};
 
 use yaml_bytes::{is_blank, number, split_line};
 
@@ -38,7 +38,7 @@ pub fn first_line(text: &[u8]) -> (&[u8], &[u8])
 
 /// What a line says.
 pub fn read_line(line: &[u8]) -> Said<'_>
-    ensures { said_view result ≡ said line.now }
+    ensures { Says result (said line.now) }
 {
     if line.is_empty() || line[0] == b'#' {
         Said::Nothing
@@ -51,7 +51,7 @@ pub fn read_line(line: &[u8]) -> Said<'_>
 
 /// What the words of a line say: `MOMENT`, or `MOMENT SWITCH LEVEL`.
 fn read_words(line: &[u8]) -> Said<'_>
-    ensures { said_view result ≡ said_in (words line.now) }
+    ensures { Says result (said_in (words line.now)) }
 {
     let Some((moment, rest)) = first_word(line) else {
         return Said::Unreadable;
@@ -103,7 +103,7 @@ fn first_blank(text: &[u8]) -> Option<usize>
 }
 
 fn wait(moment: &[u8]) -> Said<'_>
-    ensures { said_view result ≡ wait_at (moment_in moment.now) }
+    ensures { Says result (wait_at (moment_in moment.now)) }
 {
     match read_moment(moment) {
         None => Said::Unreadable,
@@ -112,7 +112,7 @@ fn wait(moment: &[u8]) -> Said<'_>
 }
 
 fn change<'a>(moment: &[u8], name: &'a [u8], level: &[u8]) -> Said<'a>
-    ensures { said_view result ≡ change_at (moment_in moment.now) name.now (level_in level.now) }
+    ensures { Says result (change_at (moment_in moment.now) name.now (level_in level.now)) }
 {
     match (read_moment(moment), read_level(level)) {
         (Some(at), Some(level)) => Said::Change(at, name, level),

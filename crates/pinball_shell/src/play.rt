@@ -4,19 +4,21 @@ ghost use Rattle.std.specs.Prelude.{◌≡◌, ◌≢◌, ◌^◌, ◌<◌, ◌�
 ghost use Rattle.std.specs.Io.KnownBytes.{Appends, IsAtEnd, Keeps};
 ghost use Rattle.written_machine.specs.Machine.{initial};
 ghost use Rattle.written_machine.specs.NextAlarm.{is_due_by};
-ghost use Rattle.coil_driver.specs.Board.{BoardView, board_view};
+ghost use Rattle.coil_driver.specs.Board.{board_view};
 ghost use Rattle.machine_core.specs.Fit.{IsFit};
 ghost use Rattle.pin_rig.specs.Refused.{admitted};
 ghost use Rattle.pin_rig.specs.Rig.{stimulus_at, IsOfRun, RigStep, RigHalt};
-ghost use Rattle.pinball_shell.specs.LogView.{said_view};
-ghost use Rattle.pinball_shell.specs.RunOfLog.{if_admitted, given_by_line, printed_for_log, traced};
-ghost use Rattle.pinball_shell.specs.RunGiven.{IsPlayOfLog};
-ghost use Rattle.pinball_shell.specs.Ends.{IsPlayOn};
+ghost use Rattle.pinball_shell.specs.LogView.{given_by_said};
+ghost use Rattle.pinball_shell.specs.RunOfLog.{if_admitted};
+ghost use Rattle.pinball_shell.specs.RunGiven.{PrintsPlayOf};
+ghost use Rattle.pinball_shell.specs.Ends.{IsTextPlayedOn};
+ghost use Rattle.pinball_shell.specs.TextRead.{HasAtMost, HasMoreThan};
 ghost use Rattle.pinball_shell.specs.TraceText.{refused_text};
-ghost use Rattle.pinball_shell.specs.Played.{worse_of, GivesInput, GoesOrHalts, IsRigOf, IsInputPlayed, IsInputPlayedToFault, AreAlarmsPlayed, AreAlarmsPlayedToFault, IsLinePlayed, IsLinePlayedToFault, IsLogPlayed, IsShutDown};
+ghost use Rattle.pinball_shell.specs.Played.{worse_of, GivesInput, IsRigOf, PlaysInput, PlaysAlarms, PlaysLine, IsLogPlayed, IsShutDown, GivesBack};
 
 use crate::fault::{ShellFault, Verdict};
 use crate::log_line::{Said, first_line, read_line};
+use crate::printed_plan::PrintedPlan;
 use crate::refusal::Refusal;
 use crate::text::read_all;
 use crate::trace::{write_lines, write_off, write_refused};
@@ -79,16 +81,14 @@ pub fn play_text<D: Device, B: Board, R: Read, W: Write>(
     reader: &mut R,
     writer: &mut W,
 ) -> Result<Verdict, ShellFault>
-    ensures played { IfOk result (λ v. IfSome (R.remaining reader.old)
-        (λ log. (last : BoardView) × IsPlayOn checked.now log (board_view B.told B.fault_count B.answers board) last (W.contents writer.old) (W.contents writer.new) v)) }
-    ensures run { OnOk result (IfSome (R.remaining reader.old)
-        (λ log. IsPlayOfLog checked.now.plan log (traced (printed_for_log checked.now.plan checked.now.bound log)))) }
+    ensures played { IfOk result (IsTextPlayedOn checked.now (R.remaining reader.old) (board_view B.told B.fault_count B.answers board) (W.contents writer.old) (W.contents writer.new)) }
+    ensures run { OnOk result (IfSome (R.remaining reader.old) (PrintsPlayOf checked.now)) }
     ensures silent { IfErr result (λ e. e ≢ ShellFault.Write → Keeps (W.contents writer.old) (W.contents writer.new)) }
-    ensures within { OnOk result (IfSome (R.remaining reader.old) (λ log. length log ≤ 2 ^ 24)) }
-    ensures too_long { IsErrOf result ShellFault.TooLong → IfSome (R.remaining reader.old) (λ log. 2 ^ 24 < length log) }
+    ensures within { OnOk result (HasAtMost (2 ^ 24) (R.remaining reader.old)) }
+    ensures too_long { IsErrOf result ShellFault.TooLong → HasMoreThan (2 ^ 24) (R.remaining reader.old) }
     ensures fit { OnOk result (IsFit checked.now.plan (map D.row_of devices.items) (map D.state_of devices.items)) }
     ensures wrong { IsErrOf result ShellFault.WrongDevice → ¬ (IsFit checked.now.plan (map D.row_of devices.items) (map D.state_of devices.items)) }
-    ensures log_first { IsErrOf result ShellFault.WrongDevice → IsAtEnd (R.remaining reader.new) × IfSome (R.remaining reader.old) (λ log. length log ≤ 2 ^ 24) }
+    ensures log_first { IsErrOf result ShellFault.WrongDevice → IsAtEnd (R.remaining reader.new) × HasAtMost (2 ^ 24) (R.remaining reader.old) }
 {
     let log = read_all(alloc, reader, LOG_LIMIT)?;
     let (verdict, _board) = play_log(alloc, checked, devices, board, &log, writer)?;
@@ -106,24 +106,25 @@ fn play_log<D: Device, B: Board, W: Write>(
     writer: &mut W,
 ) -> Result<(Verdict, B), ShellFault>
     requires { length log.now ≤ 2 ^ 24 }
-    ensures played { IfOk result (λ end. IsPlayOn checked.now log.now (board_view B.told B.fault_count B.answers board) (board_view B.told B.fault_count B.answers end.1) (W.contents writer.old) (W.contents writer.new) end.0) }
-    ensures run { IsPlayOfLog checked.now.plan log.now (traced (printed_for_log checked.now.plan checked.now.bound log.now)) }
+    ensures played { IfOk result (GivesBack (board_view B.told B.fault_count B.answers) checked.now log.now board (W.contents writer.old) (W.contents writer.new)) }
+    ensures run { PrintsPlayOf checked.now log.now }
     ensures silent { IfErr result (λ e. e ≢ ShellFault.Write → Keeps (W.contents writer.old) (W.contents writer.new)) }
     ensures failed { IfErr result (λ e. (e ≡ ShellFault.NoMemory) ⊎ (e ≡ ShellFault.WrongDevice) ⊎ (e ≡ ShellFault.Write)) }
     ensures fit { OnOk result (IsFit checked.now.plan (map D.row_of devices.items) (map D.state_of devices.items)) }
     ensures wrong { IsErrOf result ShellFault.WrongDevice → ¬ (IsFit checked.now.plan (map D.row_of devices.items) (map D.state_of devices.items)) }
 {
     let plan = checked.plan();
+    let printed = PrintedPlan::new(alloc, plan)?;
     let mut rig = Rig::new(alloc, checked, devices, board)?;
-    let verdict = play_lines(plan, &mut rig, log, writer)?;
-    let board = shut_down(plan, rig, writer)?;
+    let verdict = play_lines(&printed, &mut rig, log, writer)?;
+    let board = shut_down(&printed, rig, writer)?;
     Ok((verdict, board))
 }
 
 /// Shuts the rig of a plan down, and writes which coils were put off. Gives the board back. Fails
 /// only by the writer.
 fn shut_down<D: Device, B: Board, W: Write>(
-    plan: &Plan,
+    plan: &PrintedPlan<'_>,
     rig: Rig<'_, D, B>,
     writer: &mut W,
 ) -> Result<B, ShellFault>
@@ -132,7 +133,7 @@ fn shut_down<D: Device, B: Board, W: Write>(
 {
     let now = rig.now();
     let (board, report) = rig.shut_down();
-    match write_off(plan, now, &report.off, writer) {
+    match write_off(plan.tables(), now, &report.off, writer) {
         Ok(()) => Ok(board),
         Err(_) => Err(ShellFault::Write),
     }
@@ -141,7 +142,7 @@ fn shut_down<D: Device, B: Board, W: Write>(
 /// Plays the lines of a log on a rig at rest of a plan, until the board has not taken a command.
 /// Fails only by the writer.
 fn play_lines<D: Device, B: Board, W: Write>(
-    plan: &Plan,
+    plan: &PrintedPlan<'_>,
     rig: &mut Rig<'_, D, B>,
     log: &[u8],
     writer: &mut W,
@@ -193,15 +194,14 @@ fn worse(before: Verdict, line: Verdict) -> Verdict
 
 /// Plays a line that has this number, unless it is refused.
 fn play_line<D: Device, B: Board, W: Write>(
-    plan: &Plan,
+    plan: &PrintedPlan<'_>,
     rig: &mut Rig<'_, D, B>,
     number: usize,
     line: &[u8],
     writer: &mut W,
 ) -> Result<Verdict, Stop>
     requires { IsRigOf plan.now rig.old }
-    ensures { GoesOrHalts result (λ v. IsLinePlayed plan.now rig.old.checked.bound number line.now rig.old rig.new (W.contents writer.old) (W.contents writer.new) v)
-        (IsLinePlayedToFault plan.now rig.old.checked.bound number line.now rig.old rig.new (W.contents writer.old) (W.contents writer.new)) }
+    ensures { PlaysLine plan.now number line.now rig.old rig.new (W.contents writer.old) (W.contents writer.new) result }
 {
     match given_by(plan, rig.now(), read_line(line)) {
         Ok(None) => Ok(Verdict::Yes),
@@ -219,14 +219,18 @@ fn play_line<D: Device, B: Board, W: Write>(
 
 /// What a line gives where the latest stimulus came at `now`: nothing, an input and its moment, or
 /// why it is refused.
-fn given_by(plan: &Plan, now: u64, line: Said<'_>) -> Result<Option<(u64, Input)>, Refusal>
-    ensures { GivesInput result (given_by_line plan.now now (said_view line.entry)) }
+fn given_by(
+    plan: &PrintedPlan<'_>,
+    now: u64,
+    line: Said<'_>,
+) -> Result<Option<(u64, Input)>, Refusal>
+    ensures { GivesInput result (given_by_said plan.now now line.entry) }
 {
     match line {
         Said::Nothing => Ok(None),
         Said::Unreadable => Err(Refusal::BadLine),
         Said::Wait(at) => given_at(now, at, Input::Wait { at }),
-        Said::Change(at, name, level) => match plan.find_switch(name) {
+        Said::Change(at, name, level) => match plan.tables().find_switch(name) {
             None => Err(Refusal::Step(StepFault::NoSuchSwitch)),
             Some(switch) => given_at(now, at, Input::Change { at, switch, level }),
         },
@@ -243,7 +247,7 @@ fn given_at(now: u64, at: u64, input: Input) -> Result<Option<(u64, Input)>, Ref
 
 /// Plays the alarms that come by a moment, until the board has not taken a command.
 fn play_alarms<D: Device, B: Board, W: Write>(
-    plan: &Plan,
+    plan: &PrintedPlan<'_>,
     rig: &mut Rig<'_, D, B>,
     until: u64,
     writer: &mut W,
@@ -251,8 +255,7 @@ fn play_alarms<D: Device, B: Board, W: Write>(
     requires until { until < 2 ^ 40 }
     requires forward { rig.old.machine.moment ≤ until }
     requires rig { IsRigOf plan.now rig.old }
-    ensures { GoesOrHalts result (λ _. AreAlarmsPlayed plan.now until rig.old rig.new (W.contents writer.old) (W.contents writer.new))
-        (AreAlarmsPlayedToFault plan.now until rig.old rig.new (W.contents writer.old) (W.contents writer.new)) }
+    ensures { PlaysAlarms plan.now until rig.old rig.new (W.contents writer.old) (W.contents writer.new) result }
 {
     while has_alarm_by(rig, until) {
         play_input(plan, rig, Input::Alarm, writer)?;
@@ -274,15 +277,14 @@ fn has_alarm_by<D: Device, B: Board>(rig: &Rig<'_, D, B>, until: u64) -> bool
 /// Plays an input that the rig takes, and writes its lines. Where the board has not taken a command,
 /// these are the lines before the line of this command.
 fn play_input<D: Device, B: Board, W: Write>(
-    plan: &Plan,
+    plan: &PrintedPlan<'_>,
     rig: &mut Rig<'_, D, B>,
     input: Input,
     writer: &mut W,
 ) -> Result<(), Stop>
     requires taken { IsOk (stimulus_at rig.old input) }
     requires plan { rig.old.checked.plan ≡ plan.now }
-    ensures { GoesOrHalts result (λ _. IsInputPlayed plan.now input rig.old rig.new (W.contents writer.old) (W.contents writer.new))
-        (IsInputPlayedToFault plan.now input rig.old rig.new (W.contents writer.old) (W.contents writer.new)) }
+    ensures { PlaysInput plan.now input rig.old rig.new (W.contents writer.old) (W.contents writer.new) result }
 {
     let is_served = step(rig, input);
     match write_lines(plan, rig.trace(), writer) {

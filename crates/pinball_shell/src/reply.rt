@@ -1,8 +1,7 @@
 //! The reply to a bundle.
 
 ghost use Rattle.std.specs.Prelude.{◌≡◌};
-ghost use Rattle.pinball_shell.specs.Reply.{verdict_of};
-ghost use Rattle.pinball_shell.specs.ReplyView.{reply_view};
+ghost use Rattle.pinball_shell.specs.ReplyView.{verdict_of_reply};
 
 use crate::fault::Verdict;
 use config_checker::{Checked, Fault};
@@ -29,7 +28,7 @@ pub struct Reply {
 impl Reply {
     /// Whether the bundle is accepted.
     pub fn verdict(&self) -> Verdict
-        ensures { result ≡ verdict_of (reply_view self.now) }
+        ensures { result ≡ verdict_of_reply self.now }
     {
         match self.answer {
             Ok(_) => Verdict::Yes,

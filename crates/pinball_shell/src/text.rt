@@ -3,6 +3,7 @@
 ghost use Rattle.std.specs.Prelude.{◌≡◌, ◌≢◌, ◌^◌, ◌<◌, ◌≤◌, IfOk, OnOk, IfErr, IfSome, IsErrOf, IsTrue, false, vec_len, length, ◌⊎◌};
 ghost use Rattle.std.specs.Io.KnownBytes.{IsAtEnd};
 ghost use Rattle.pinball_shell.specs.Joined.{joined, line_end};
+ghost use Rattle.pinball_shell.specs.TextRead.{HasMoreThan};
 
 use crate::check::BUNDLE_LIMIT;
 use crate::fault::ShellFault;
@@ -27,7 +28,7 @@ pub fn read_all<R: Read>(alloc: Global, reader: &mut R, limit: usize) -> Result<
     ensures all { IfOk result (λ all. IfSome (R.remaining reader.old) (λ input. all.items ≡ input)) }
     ensures end { OnOk result (IsAtEnd (R.remaining reader.new)) }
     ensures within { IfOk result (λ all. vec_len all ≤ limit) }
-    ensures too_long { IsErrOf result ShellFault.TooLong → IfSome (R.remaining reader.old) (λ input. limit < length input) }
+    ensures too_long { IsErrOf result ShellFault.TooLong → HasMoreThan limit (R.remaining reader.old) }
     ensures reads_only { IfErr result (λ e. e ≢ ShellFault.Write) }
     ensures no_devices { IfErr result (λ e. e ≢ ShellFault.WrongDevice) }
 {

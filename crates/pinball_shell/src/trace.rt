@@ -4,21 +4,26 @@ ghost use Rattle.std.specs.Prelude.{◌≡◌, OnOk, [], ◌∷◌, ◌++◌, co
 ghost use Rattle.std.specs.List.{flat_map};
 ghost use Rattle.std.specs.Fmt.{decimal, signed_decimal};
 ghost use Rattle.std.specs.Io.KnownBytes.{Appends};
-ghost use Rattle.plan_tables.specs.PlanView.{mode_at, name_of_event, name_of_variable, switch_at, coil_at};
+ghost use Rattle.plan_tables.specs.PlanView.{mode_at, name_of_variable, coil_at};
 ghost use Rattle.coil_guard.specs.SentCommands.{coil_of};
-ghost use Rattle.pinball_shell.specs.TraceText.{level_text, word_text, switch_text, event_text, sent_text, action_name, skip_text, player_text, balls_text, rest_text, start_text, line_text, off_text, off_texts, refused_text};
+ghost use Rattle.pinball_shell.specs.TraceText.{word_text, sent_text, action_name, skip_text, player_text, balls_text, rest_text, owner_text, line_text, off_text, off_texts, refused_text};
 
 use crate::front::Front;
+use crate::printed_plan::PrintedPlan;
 use crate::refusal::Refusal;
 use coil_guard::Command;
 use itoa::{Buffer, Integer};
-use plan_tables::{CoilId, EventId, ModeId, Owner, Plan, SwitchId, VariableId};
+use plan_tables::{CoilId, ModeId, Owner, Plan, VariableId};
 use std::io::{self, Write};
 use written_machine::line::BallCounts;
 use written_machine::{Happening, Line};
 
 /// Writes the lines of a stimulus.
-pub fn write_lines<W: Write>(plan: &Plan, lines: &[Line], writer: &mut W) -> io::Result<()>
+pub fn write_lines<W: Write>(
+    plan: &PrintedPlan<'_>,
+    lines: &[Line],
+    writer: &mut W,
+) -> io::Result<()>
     ensures { OnOk result (Appends (W.contents writer.old) (W.contents writer.new) (flat_map (line_text plan.now) lines.now)) }
 {
     match lines.first() {
@@ -30,7 +35,7 @@ pub fn write_lines<W: Write>(plan: &Plan, lines: &[Line], writer: &mut W) -> io:
 /// Writes lines, whatever moment the front is of. It is made anew only where a line is of another
 /// moment than the one before.
 fn write_from<W: Write>(
-    plan: &Plan,
+    plan: &PrintedPlan<'_>,
     mut front: Front,
     lines: &[Line],
     writer: &mut W,
@@ -39,7 +44,8 @@ fn write_from<W: Write>(
 {
     for line in lines {
         front.turn_to(line.moment);
-        write_line(plan, *line, &front, writer)?;
+        write_owner(plan.tables(), line.owner, &front, writer)?;
+        write_tail(plan, line.happening, writer)?;
     }
     Ok(())
 }
@@ -84,82 +90,57 @@ pub fn write_refused<W: Write>(line: usize, refusal: Refusal, writer: &mut W) ->
     )
 }
 
-fn write_line<W: Write>(plan: &Plan, line: Line, front: &Front, writer: &mut W) -> io::Result<()>
-    requires { front.now ≡ line.moment }
-    ensures { OnOk result (Appends (W.contents writer.old) (W.contents writer.new) (line_text plan.now line)) }
+/// Writes the moment and the owner.
+fn write_owner<W: Write>(plan: &Plan, owner: Owner, front: &Front, writer: &mut W) -> io::Result<()>
+    ensures { OnOk result (Appends (W.contents writer.old) (W.contents writer.new) (decimal front.now ++ codes " " ++ owner_text plan.now owner)) }
 {
-    write_start(plan, line, front, writer)?;
-    write_rest(plan, line.happening, writer)
-}
-
-/// Writes the moment, the owner, and the word that says what happened.
-fn write_start<W: Write>(plan: &Plan, line: Line, front: &Front, writer: &mut W) -> io::Result<()>
-    requires { front.now ≡ line.moment }
-    ensures { OnOk result (Appends (W.contents writer.old) (W.contents writer.new) (start_text plan.now line)) }
-{
-    match (line.owner, line.happening) {
-        (Owner::Machine, Happening::Event(_)) => writer.write_all(front.of_machine_event()),
-        (Owner::Machine, _) => {
-            writer.write_all(front.of_machine())?;
-            writer.write_all(word(line.happening))
-        }
-        (Owner::Mode(mode), _) => {
-            writer.write_all(front.of_moment())?;
-            writer.write_all(mode_name(plan, mode))?;
-            writer.write_all(word(line.happening))
+    match owner {
+        Owner::Machine => writer.write_all(front.up_to_machine()),
+        Owner::Mode(mode) => {
+            writer.write_all(front.up_to_moment())?;
+            writer.write_all(mode_name(plan, mode))
         }
     }
 }
 
-/// A blank, the word that says what happened, and a blank.
-fn word(happening: Happening) -> &'static [u8]
-    ensures { result.now ≡ codes " " ++ word_text happening }
+/// Writes what comes after the owner: the word that says what happened, and what follows it.
+fn write_tail<W: Write>(
+    plan: &PrintedPlan<'_>,
+    happening: Happening,
+    writer: &mut W,
+) -> io::Result<()>
+    ensures { OnOk result (Appends (W.contents writer.old) (W.contents writer.new) (codes " " ++ word_text happening ++ rest_text plan.now happening)) }
 {
     match happening {
-        Happening::Switch(..) => b" switch ",
-        Happening::Event(_) => b" event ",
-        Happening::Coil(_) => b" coil ",
-        Happening::Skip(_) => b" skip ",
-        Happening::Player(..) => b" player ",
-        Happening::Balls(..) => b" balls ",
-        Happening::Final(..) => b" final ",
-    }
-}
-
-/// Writes what follows the word.
-fn write_rest<W: Write>(plan: &Plan, happening: Happening, writer: &mut W) -> io::Result<()>
-    ensures { OnOk result (Appends (W.contents writer.old) (W.contents writer.new) (rest_text plan.now happening)) }
-{
-    match happening {
-        Happening::Switch(switch, active) => {
-            write_switch(switch_name(plan, switch), active, writer)
+        Happening::Event(event) => writer.write_all(plan.event_tail(event)),
+        Happening::Switch(switch, active) => writer.write_all(plan.switch_tail(switch, active)),
+        Happening::Coil(command) => {
+            writer.write_all(b" coil ")?;
+            write_sent(command_name(plan.tables(), command), command, writer)
         }
-        Happening::Event(event) => write_event(event_name(plan, event), writer),
-        Happening::Coil(command) => write_sent(command_name(plan, command), command, writer),
-        Happening::Skip(command) => write_skip(command_name(plan, command), command, writer),
+        Happening::Skip(command) => {
+            writer.write_all(b" skip ")?;
+            write_skip(command_name(plan.tables(), command), command, writer)
+        }
         Happening::Player(player, variable, value) => {
-            write_player(player, variable_name(plan, variable), value, writer)
+            writer.write_all(b" player ")?;
+            write_player(
+                player,
+                variable_name(plan.tables(), variable),
+                value,
+                writer,
+            )
         }
-        Happening::Balls(_, counts) => write_balls(counts, writer),
+        Happening::Balls(_, counts) => {
+            writer.write_all(b" balls ")?;
+            write_balls(counts, writer)
+        }
         Happening::Final(player, score) => {
+            writer.write_all(b" final ")?;
             write_player_number(player, writer)?;
             write_value(score, writer)
         }
     }
-}
-
-fn write_switch<W: Write>(name: &[u8], active: bool, writer: &mut W) -> io::Result<()>
-    ensures { OnOk result (Appends (W.contents writer.old) (W.contents writer.new) (switch_text name.now active)) }
-{
-    writer.write_all(name)?;
-    writer.write_all(level_end(active))
-}
-
-fn write_event<W: Write>(name: &[u8], writer: &mut W) -> io::Result<()>
-    ensures { OnOk result (Appends (W.contents writer.old) (W.contents writer.new) (event_text name.now)) }
-{
-    writer.write_all(name)?;
-    writer.write_all(b"\n")
 }
 
 fn write_sent<W: Write>(name: &[u8], command: Command, writer: &mut W) -> io::Result<()>
@@ -257,35 +238,6 @@ fn mode_name(plan: &Plan, mode: ModeId) -> &[u8]
 {
     if (mode.0 as usize) < plan.mode_count() {
         plan.mode_name(mode)
-    } else {
-        &[]
-    }
-}
-
-/// A blank, the level, and the end of the line.
-fn level_end(active: bool) -> &'static [u8]
-    ensures { result.now ≡ codes " " ++ level_text active ++ 10 ∷ [] }
-{
-    if active { b" active\n" } else { b" inactive\n" }
-}
-
-/// The name of an event: nothing where the plan lacks it.
-fn event_name(plan: &Plan, event: EventId) -> &[u8]
-    ensures { result.now ≡ name_of_event plan.now event }
-{
-    if (event.0 as usize) < plan.event_count() {
-        plan.event_name(event)
-    } else {
-        &[]
-    }
-}
-
-/// The name of a switch: nothing where the plan lacks it.
-fn switch_name(plan: &Plan, switch: SwitchId) -> &[u8]
-    ensures { result.now ≡ (switch_at plan.now switch).name }
-{
-    if (switch.0 as usize) < plan.switch_count() {
-        plan.switch_name(switch)
     } else {
         &[]
     }

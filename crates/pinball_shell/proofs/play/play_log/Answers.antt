@@ -7,6 +7,9 @@ use Rattle.pinball_shell.proofs.LogRuns.{log_is_run}
 use Rattle.pinball_shell.proofs.Taking.{log-played, wrong-unfit}
 use Rattle.pinball_shell.proofs.play.play_log.Goals as goal
 
+pub returns-in_err-printed-clause-run : goal.returns-in_err-printed-clause-run
+returns-in_err-printed-clause-run g c = log_is_run c.args.checked.now c.plan-plan.ensures.accepted c.args.log.now
+
 pub returns-in_err-rig-clause-run : goal.returns-in_err-rig-clause-run
 returns-in_err-rig-clause-run g c = log_is_run c.args.checked.now c.plan-plan.ensures.accepted c.args.log.now
 
@@ -23,13 +26,13 @@ pub returns-in_err-rig-clause-wrong : goal.returns-in_err-rig-clause-wrong
 returns-in_err-rig-clause-wrong g c =
     let unfit = wrong-unfit c.args.checked.now.plan (map g.D.Device.row_of c.args.devices.items) (map g.D.Device.state_of c.args.devices.items) c.in_err-rig.field-0.0
     (λ row is. c.in_err-rig.ensures.wrong row (ap Err is)) in
-    let p = err_from_is_err_and c.from_residual.result c.from_residual.ensures.1 in
+    let p = err_from_is_err_and c.from_residual-in_err-rig.result c.from_residual-in_err-rig.ensures.1 in
     subst (λ r. IsErrOf r faults.WrongDevice → IsFit c.args.checked.now.plan (map g.D.Device.row_of c.args.devices.items) (map g.D.Device.state_of c.args.devices.items) → ⊥) (sym (p.1 ∙ ap Err p.2)) unfit
 
 pub returns-clause-played : goal.returns-clause-played
 returns-clause-played g c =
     let first : BoardView = board_view g.B.Board.told g.B.Board.fault_count g.B.Board.answers c.args.board in
     let last : BoardView = board_view g.B.Board.told g.B.Board.fault_count g.B.Board.answers c.in_ok-board.board in
-    log-played c.plan-plan.result.now c.args.checked.now c.in_ok-rig.rig c.play_lines.new.rig first last c.args.log.now
+    log-played c.in_ok-printed.printed c.args.checked.now c.in_ok-rig.rig c.play_lines.new.rig first last c.args.log.now
     (g.W.Write.contents c.args.writer.now) (g.W.Write.contents c.play_lines.new.writer) (g.W.Write.contents c.shut_down.new.writer) c.in_ok-verdict.verdict
-    c.plan-plan.ensures.plan c.in_ok-rig.ensures.rest c.in_ok-verdict.ensures.played c.in_ok-board.ensures.done
+    (c.in_ok-printed.ensures ∙ c.plan-plan.ensures.plan) c.in_ok-rig.ensures.rest c.in_ok-verdict.ensures.played c.in_ok-board.ensures.done
