@@ -3,4 +3,5 @@ pub mod NextDue
 pub mod DueMoments
 pub mod Following
 pub mod Lists
+pub mod Waiting
 pub mod Reading

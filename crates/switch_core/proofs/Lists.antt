@@ -1,5 +1,5 @@
 -- The fields of `Switches`, and the switches that they are.
-use Rattle.std.proofs.Common.{◌≡◌, ℕ, ◌+◌, ◌<◌, ◌≤◌, Bool, true, false, not, if◌then◌else◌, Option, Some, None, option_map, IfSome, List, length, map, drop, nat_eq, slice_index_or, slice_set, refl, ap, ap₂, sym, ◌∙◌, inl, inr, arith}
+use Rattle.std.proofs.Common.{◌≡◌, ℕ, ◌<◌, ◌≤◌, Bool, true, false, not, if◌then◌else◌, Option, Some, None, option_map, IfSome, List, [], length, map, nat_eq, slice_index_or, slice_set, Vec, Global, vec_capacity, refl, ap, ap₂, sym, ◌∙◌, inl, inr, arith}
 use Rattle.std.specs.Bool.{then_some}
 use Rattle.std.specs.Option.{option_eq}
 use Rattle.std.proofs.lemmas.Bool.{cases_lt}
@@ -12,10 +12,11 @@ use Rattle.switch_core.specs.declared.change.Change.{Change}
 use Rattle.switch_core.specs.declared.state.State.{State}
 use Rattle.switch_core.specs.SwitchStep.{SwitchState, idle, changed, is_taken, fired}
 use Rattle.switch_core.specs.StateView.{state_view}
-use Rattle.switch_core.specs.Switches.{SwitchesView, IsComplete, no_kind, kind_at, state_at, set_state, due_of, reported, after_change, reported_by_change, IsNextDue, due_as, sooner, next_due_from, next_due, accept, accept_due, after_fire, reported_by_fire}
-use Rattle.switch_core.specs.Inside.{IsKept}
-use Rattle.switch_core.proofs.NextDue.{next_due-more, next_due-all, next_due-least, nothing_due-is, next_due-same}
+use Rattle.switch_core.specs.Switches.{SwitchesView, IsComplete, no_kind, kind_at, state_at, set_state, due_of, reported, after_change, reported_by_change, IsNextDue, next_due_from, next_due, accept, accept_due, after_fire, reported_by_fire}
+use Rattle.switch_core.specs.Inside.{waiting_from, soonest, IsWaiting, IsKept}
+use Rattle.switch_core.proofs.NextDue.{next_due-least, nothing_due-is, next_due-same}
 use Rattle.switch_core.proofs.DueMoments.{idle_list-nothing_due, due-kept}
+use Rattle.switch_core.proofs.Waiting.{idle-waiting, soonest-is, waiting-set, waiting-was}
 
 -- the switches of which these are the kinds and the states
 abbrev pub lists_view : List SwitchKind → List State → SwitchesView
@@ -34,7 +35,7 @@ pub answer-within : (s : SwitchesView) (o : Option (ℕ × SwitchId)) → IsComp
 answer-within s None complete is = tt
 answer-within s (Some d) complete is = let within = due-within s d.1 d.0 is.due in let same = complete.states in omega arith
 
-module _ (kinds : List SwitchKind) (states : List State) (next : Option (ℕ × SwitchId)) (kept : IsKept next (lists_view kinds states)) (at : ℕ) (switch : SwitchId) (is : next ≡ Some (at, switch)) where
+module _ (kinds : List SwitchKind) (states : List State) (next : Option (ℕ × SwitchId)) (waiting : Vec (ℕ × SwitchId) Global) (kept : IsKept next waiting (lists_view kinds states)) (at : ℕ) (switch : SwitchId) (is : next ≡ Some (at, switch)) where
   pub kept-next : next_due (lists_view kinds states) ≡ Some (at, switch)
   kept-next = sym kept.next_is ∙ is
 
@@ -50,6 +51,9 @@ module _ (kinds : List SwitchKind) (states : List State) (next : Option (ℕ × 
 pub idle-next : (kinds : List SwitchKind) (switches : List PlanSwitch) (states : List State) → map state_view states ≡ map (λ (s : PlanSwitch). idle s.kind) switches → next_due (lists_view kinds states) ≡ None
 idle-next kinds switches states is = ap (λ (xs : List SwitchState). next_due_from 0 xs) is ∙ nothing_due-is (record { kinds = kinds; states = map (λ (s : PlanSwitch). idle s.kind) switches }) (idle_list-nothing_due kinds switches)
 
+pub idle-none_wait : (switches : List PlanSwitch) (states : List State) → map state_view states ≡ map (λ (s : PlanSwitch). idle s.kind) switches → waiting_from 0 (map state_view states) ≡ []
+idle-none_wait switches states is = ap (waiting_from 0) is ∙ idle-waiting 0 switches
+
 -- a switch of the view has its place in both lists
 module _ (kinds : List SwitchKind) (states : List State) (s : SwitchesView) (is : lists_view kinds states ≡ s) (switch : SwitchId) (within : switch.0 < length s.kinds) where
   pub view-in_kinds : switch.0 < length kinds
@@ -57,28 +61,6 @@ module _ (kinds : List SwitchKind) (states : List State) (s : SwitchesView) (is 
 
   pub view-in_states : IsComplete (lists_view kinds states) → switch.0 < length states
   view-in_states complete = let same = complete.states in omega (arith, same, view-in_kinds, length-map states state_view)
-
--- a loop over the states that looks for what is due next, one step on and at the end
-module _ (states items : List State) (next : Option (ℕ × SwitchId)) (i : ℕ) (items_are : items ≡ states)
-    (found : sooner next (next_due_from i (drop i (map state_view states))) ≡ next_due_from 0 (map state_view states)) where
-  views_are : map state_view states ≡ map state_view items
-  views_are = ap (map state_view) (sym items_are)
-
-  pub found-more : (due after : Option (ℕ × SwitchId)) (d : State) → i < length items → due ≡ due_as i (state_view (slice_index_or items i d)) → after ≡ sooner next due
-      → sooner after (next_due_from (i + 1) (drop (i + 1) (map state_view states))) ≡ next_due_from 0 (map state_view states)
-  found-more due after d within due_is after_is =
-      let views = map state_view states in
-      let count = length-map items state_view in
-      let long = ap (λ (xs : List SwitchState). length xs) views_are in
-      let read : slice_index_or views i (idle no_kind) ≡ state_view (slice_index_or items i d) = ap (λ (xs : List SwitchState). slice_index_or xs i (idle no_kind)) views_are ∙ get_or-map state_view items i d (idle no_kind) within in
-      let rest = next_due_from (i + 1) (drop (i + 1) views) in
-      ap (λ o. sooner o rest) (after_is ∙ ap (sooner next) (due_is ∙ ap (due_as i) (sym read))) ∙ sym (next_due-more next views i (idle no_kind) (omega arith)) ∙ found
-
-  pub found-all : length items ≤ i → next ≡ next_due_from 0 (map state_view states)
-  found-all past =
-      let count = length-map items state_view in
-      let long = ap (λ (xs : List SwitchState). length xs) views_are in
-      sym (next_due-all next (map state_view states) i (omega arith)) ∙ found
 
 -- ---- one state is set
 
@@ -140,6 +122,51 @@ module _ (kinds : List SwitchKind) (states : List State) (switch : SwitchId) (ki
       let s = lists_view kinds states in
       let kept = due-kept s switch (state_view new) (same ∙ sym (ap (λ (x : SwitchState). x.due) read-state)) in
       ap next_due (set-made (λ k x. state_view new) refl) ∙ next_due-same s (set_state switch (state_view new) s) kept
+
+  -- the switch waits as the old state says
+  module _ (next : Option (ℕ × SwitchId)) (waiting : Vec (ℕ × SwitchId) Global) (kept : IsKept next waiting (lists_view kinds states)) where
+    pub kept-waits : IsWaiting switch old.due (map state_view states) waiting.items
+    kept-waits = record {
+      within = omega (arith, in_states, length-map states state_view);
+      due_is = ap (λ (x : SwitchState). x.due) read-state;
+      waiting_is = kept.waiting_is;
+    }
+
+    set_views : slice_set (map state_view states) switch.0 (state_view new) ≡ map state_view (slice_set states switch.0 new)
+    set_views = sym (map-set state_view states switch.0 new)
+
+    set_room : length (map state_view (slice_set states switch.0 new)) ≤ vec_capacity waiting
+    set_room =
+        let count = length-map states state_view in
+        let long = length-map (slice_set states switch.0 new) state_view in
+        let set = length-set states switch.0 new in
+        let room = kept.room in
+        omega arith
+
+    -- the due moment is set
+    pub kept-set : (new_next : Option (ℕ × SwitchId)) (after : Vec (ℕ × SwitchId) Global)
+        → ((xs : List SwitchState) (x : SwitchState) → IsWaiting switch old.due xs waiting.items → x.due ≡ new.due → after.items ≡ waiting_from 0 (slice_set xs switch.0 x))
+        → vec_capacity waiting ≤ vec_capacity after → new_next ≡ soonest after.items → IsKept new_next after (lists_view kinds (slice_set states switch.0 new))
+    kept-set new_next after set grown is =
+        let waits : after.items ≡ waiting_from 0 (map state_view (slice_set states switch.0 new)) = set (map state_view states) (state_view new) kept-waits refl ∙ ap (waiting_from 0) set_views in
+        record {
+          complete = complete-set kinds states switch.0 new kept.complete;
+          next_is = is ∙ ap soonest waits ∙ soonest-is 0 (map state_view (slice_set states switch.0 new));
+          waiting_is = waits;
+          room = let fits = set_room in omega arith;
+        }
+
+    -- or stays the same
+    pub kept-same : new.due ≡ old.due → IsKept next waiting (lists_view kinds (slice_set states switch.0 new))
+    kept-same same = record {
+      complete = complete-set kinds states switch.0 new kept.complete;
+      next_is = kept.next_is ∙ sym (set-next same);
+      waiting_is =
+          waiting-was switch old.due (map state_view states) waiting.items kept-waits
+          ∙ sym (waiting-set switch (map state_view states) (state_view new) old.due kept-waits.within same)
+          ∙ ap (waiting_from 0) set_views;
+      room = set_room;
+    }
 
   -- a change
   pub change-set : (level : Bool) (now : ℕ) → state_view new ≡ changed kind now level (state_view old) → lists_view kinds (slice_set states switch.0 new) ≡ after_change switch level now (lists_view kinds states)

@@ -1,56 +1,11 @@
 -- What is due next is what has the least moment, and of equal moments the least number.
-use Rattle.std.proofs.Common.{◌≡◌, ℕ, zero, suc, ◌+◌, ◌<◌, ◌≤◌, ◌⊎◌, false, cond, Option, Some, None, option_map, MatchOption, IfSome, IfNone, List, [], ◌∷◌, length, drop, nat_le, slice_index_or, refl, ap, ap₂, sym, subst, ◌∙◌, inl, inr, arith}
+use Rattle.std.proofs.Common.{◌≡◌, ℕ, zero, suc, ◌+◌, ◌<◌, ◌≤◌, ◌⊎◌, false, Option, Some, None, option_map, MatchOption, IfSome, IfNone, List, [], ◌∷◌, nat_le, slice_index_or, refl, ap, ap₂, sym, subst, ◌∙◌, inl, inr, arith}
 use Rattle.std.specs.Option.{option_map_or}
-use Rattle.std.proofs.lemmas.Bool.{cases_Bool, cases_lt, cond_both, leb-true, leb-false, lt-leb}
+use Rattle.std.proofs.lemmas.Bool.{cases_lt, cond_both, leb-true, leb-false, lt-leb}
 use Rattle.std.proofs.lemmas.Option.{none-some, same_Some}
-use Rattle.std.proofs.lemmas.List.{drop_more, drop_all}
 use Rattle.plan_tables.specs.declared.entries.SwitchId.{SwitchId}
 use Rattle.switch_core.specs.SwitchStep.{SwitchState, idle}
-use Rattle.switch_core.specs.Switches.{SwitchesView, no_kind, due_of, IsNextDue, IsNothingDue, IsNothingDueBy, sooner, due_as, next_due_from, next_due}
-
--- ---- the sooner of three
-
-pub sooner-none : (a : Option (ℕ × SwitchId)) → sooner a None ≡ a
-sooner-none None = refl
-sooner-none (Some a) = refl
-
-chosen-assoc : (a b c : ℕ × SwitchId) → sooner (Some a) (cond (nat_le b.0 c.0) (Some b) (Some c)) ≡ sooner (cond (nat_le a.0 b.0) (Some a) (Some b)) (Some c)
-chosen-assoc a b c =
-    elim (cases_Bool (nat_le a.0 b.0)) [
-      | inl ab ↦
-          elim (cases_Bool (nat_le b.0 c.0)) [
-            | inl bc ↦
-                elim (cases_Bool (nat_le a.0 c.0)) [
-                  | inl ac ↦ simp (ab, bc, ac) refl
-                  | inr ca ↦ let x = leb-true a.0 b.0 ab in let y = leb-true b.0 c.0 bc in let z = leb-false a.0 c.0 ca in absurd (omega arith)
-                ]
-            | inr cb ↦ simp (ab, cb) refl
-          ]
-      | inr ba ↦
-          elim (cases_Bool (nat_le b.0 c.0)) [
-            | inl bc ↦ simp (ba, bc) refl
-            | inr cb ↦
-                elim (cases_Bool (nat_le a.0 c.0)) [
-                  | inl ac ↦ let x = leb-false a.0 b.0 ba in let y = leb-false b.0 c.0 cb in let z = leb-true a.0 c.0 ac in absurd (omega arith)
-                  | inr ca ↦ simp (ba, cb, ca) refl
-                ]
-          ]
-    ]
-
-pub sooner-assoc : (a b c : Option (ℕ × SwitchId)) → sooner a (sooner b c) ≡ sooner (sooner a b) c
-sooner-assoc None b c = refl
-sooner-assoc (Some a) None c = refl
-sooner-assoc (Some a) (Some b) None = sym (sooner-none (cond (nat_le a.0 b.0) (Some a) (Some b)))
-sooner-assoc (Some a) (Some b) (Some c) = chosen-assoc a b c
-
--- a loop over the states, one step on and at the end
-pub next_due-more : (next : Option (ℕ × SwitchId)) (states : List SwitchState) (i : ℕ) (d : SwitchState) → i < length states → sooner next (next_due_from i (drop i states)) ≡ sooner (sooner next (due_as i (slice_index_or states i d))) (next_due_from (i + 1) (drop (i + 1) states))
-next_due-more next states i d within =
-    let x = slice_index_or states i d in
-    ap (λ xs. sooner next (next_due_from i xs)) (drop_more states i d within) ∙ sooner-assoc next (due_as i x) (next_due_from (i + 1) (drop (i + 1) states))
-
-pub next_due-all : (next : Option (ℕ × SwitchId)) (states : List SwitchState) (i : ℕ) → length states ≤ i → sooner next (next_due_from i (drop i states)) ≡ next
-next_due-all next states i past = ap (λ xs. sooner next (next_due_from i xs)) (drop_all i states past) ∙ sooner-none next
+use Rattle.switch_core.specs.Switches.{SwitchesView, no_kind, due_of, IsNextDue, IsNothingDue, IsNothingDueBy, sooner, next_due_from, next_due}
 
 -- ---- it is the least
 

@@ -1,8 +1,9 @@
 //! The accepted level of every switch.
 
-ghost use Rattle.std.specs.Prelude.{◌≡◌, ◌≤◌, length, map};
-ghost use Rattle.switch_core.specs.StateView.{state_view};
-ghost use Rattle.switch_core.specs.Switches.{due_as, sooner, next_due_from};
+ghost use Rattle.std.specs.Prelude.{◌≡◌, ◌<◌, ◌≤◌, true, if◌then◌else◌, is_some, MatchOption, List, length, take, slice_set, vec_capacity};
+ghost use Rattle.std.specs.List.{insert, remove};
+ghost use Rattle.switch_core.specs.SwitchStep.{SwitchState};
+ghost use Rattle.switch_core.specs.Inside.{waiting_from, soonest, IsWaiting};
 
 use crate::change::Change;
 use crate::state::State;
@@ -19,6 +20,10 @@ use std::marker::Model;
 pub struct Switches {
     kinds: Vec<SwitchKind>,
     states: Vec<State>,
+    /// Every switch that is due, with its moment: lower numbers first. There is room for all
+    /// switches. Mostly there are few, so that what is due next is found without a look at the
+    /// states of all switches.
+    waiting: Vec<(u64, SwitchId)>,
     /// What is due next. It is looked for only where a due moment changes.
     next: Option<(u64, SwitchId)>,
 }
@@ -33,7 +38,7 @@ impl Model for Switches {
 
     ghost view = { λ s. record { kinds = s.kinds.items; states = map state_view s.states.items } };
 
-    ghost invariant = { λ s. IsKept s.next (record { kinds = s.kinds.items; states = map state_view s.states.items }) };
+    ghost invariant = { λ s. IsKept s.next s.waiting (record { kinds = s.kinds.items; states = map state_view s.states.items }) };
 }
 
 impl Switches {
@@ -54,6 +59,7 @@ impl Switches {
         let count = plan.switch_count();
         let mut kinds = Vec::with_capacity(alloc, count)?;
         let mut states = Vec::with_capacity(alloc, count)?;
+        let waiting = Vec::with_capacity(alloc, count)?;
         for number in 0..count {
             let kind = plan.switch_kind(SwitchId(number as u16));
             kinds.push_reserved(kind);
@@ -62,6 +68,7 @@ impl Switches {
         Ok(Switches {
             kinds,
             states,
+            waiting,
             next: None,
         })
     }
@@ -84,7 +91,8 @@ impl Switches {
         let new = old.changed(kind, level, now);
         self.states[number] = new;
         if new.due != old.due {
-            self.next = find_next(&self.states);
+            set_due(&mut self.waiting, switch, old.due, new.due);
+            self.next = soonest(&self.waiting);
         }
         let active = new.active;
         old.takes(kind, level).then_some(Change { switch, active })
@@ -115,9 +123,11 @@ impl Switches {
             unreachable!()
         };
         let number = switch.0 as usize;
-        let accepted = self.states[number].fired(self.kinds[number]);
+        let old = self.states[number];
+        let accepted = old.fired(self.kinds[number]);
         self.states[number] = accepted;
-        self.next = find_next(&self.states);
+        set_due(&mut self.waiting, switch, old.due, accepted.due);
+        self.next = soonest(&self.waiting);
         let active = accepted.active;
         Change { switch, active }
     }
@@ -132,34 +142,62 @@ impl Switches {
     }
 }
 
-/// The moment and the switch that are due next by these states, if something is due.
-fn find_next(states: &[State]) -> Option<(u64, SwitchId)>
-    requires { length states.now ≤ 256 }
-    ensures { result ≡ next_due_from 0 (map state_view states.now) }
+/// From now on a switch that was due at the one moment is due at the other one. None stands for
+/// not due. All others that wait stay.
+fn set_due(waiting: &mut Vec<(u64, SwitchId)>, switch: SwitchId, was: Option<u64>, due: Option<u64>)
+    requires { (states : List SwitchState) × IsWaiting switch was states waiting.old.items × (length states ≤ vec_capacity waiting.old) }
+    ensures items { (states : List SwitchState) (new : SwitchState) → IsWaiting switch was states waiting.old.items → new.due ≡ due → waiting.new.items ≡ waiting_from 0 (slice_set states switch.0 new) }
+    ensures capacity { vec_capacity waiting.old ≤ vec_capacity waiting.new }
 {
-    let mut next = None;
-    for (number, state) in states.iter().enumerate() {
-        let due = due_as(number as u16, *state);
-        next = sooner(next, due);
-    }
-    next
+    let at = place_of(waiting, switch);
+    take_out(waiting, at, was);
+    put_in(waiting, at, switch, due);
 }
 
-/// A state's due moment, with the number of its switch.
-fn due_as(number: u16, state: State) -> Option<(u64, SwitchId)>
-    ensures { result ≡ due_as number (state_view state) }
+/// Takes out the switch at a place, where it was due.
+fn take_out(waiting: &mut Vec<(u64, SwitchId)>, at: usize, was: Option<u64>)
+    requires { is_some was ≡ true → at < length waiting.old.items }
+    ensures items { waiting.new.items ≡ (if is_some was then remove waiting.old.items at else waiting.old.items) }
+    ensures capacity { vec_capacity waiting.new ≡ vec_capacity waiting.old }
 {
-    let at = state.due?;
-    Some((at, SwitchId(number)))
+    if was.is_some() {
+        let _was = waiting.remove(at);
+    }
 }
 
-/// Of two that may be due, the one of the lesser moment, and of equal moments the first.
-fn sooner(a: Option<(u64, SwitchId)>, b: Option<(u64, SwitchId)>) -> Option<(u64, SwitchId)>
-    ensures { result ≡ sooner a b }
+/// Puts in a switch at a place, where it is due. There has to be room for it.
+fn put_in(waiting: &mut Vec<(u64, SwitchId)>, at: usize, switch: SwitchId, due: Option<u64>)
+    requires place { at ≤ length waiting.old.items }
+    requires room { length waiting.old.items < vec_capacity waiting.old }
+    ensures items { MatchOption due (waiting.new.items ≡ waiting.old.items) (λ moment. waiting.new.items ≡ insert waiting.old.items at (moment, switch)) }
+    ensures capacity { vec_capacity waiting.old ≤ vec_capacity waiting.new }
 {
-    match (a, b) {
-        (None, _) => b,
-        (_, None) => a,
-        (Some(first), Some(second)) => if first.0 <= second.0 { a } else { b },
+    let Some(moment) = due else {
+        return;
+    };
+    match waiting.insert(at, (moment, switch)) {
+        Ok(()) => {}
+        Err(_) => unreachable!(),
     }
+}
+
+/// How many of those that wait have a lower number, found by halving.
+fn place_of(waiting: &[(u64, SwitchId)], switch: SwitchId) -> usize
+    ensures { (states : List SwitchState) → waiting.now ≡ waiting_from 0 states → result ≡ length (waiting_from 0 (take switch.0 states)) }
+{
+    waiting.partition_point(|other| other.1.0 < switch.0)
+}
+
+/// Of those that wait the one of the least moment, and of equal moments the lowest number.
+fn soonest(waiting: &[(u64, SwitchId)]) -> Option<(u64, SwitchId)>
+    ensures { result ≡ soonest waiting.now }
+{
+    let (first, rest) = waiting.split_first()?;
+    let mut next = *first;
+    for due in rest {
+        if due.0 < next.0 {
+            next = *due;
+        }
+    }
+    Some(next)
 }
