@@ -46,9 +46,13 @@ ordered_alarms dues = ordered_from 0 dues
 
 -- ---- the orders of handlers
 
+-- whether a binding of the priority n at p runs before one of the priority m at q
+abbrev pub ranks_before : ℕ → BindingId → ℕ → BindingId → Bool
+ranks_before n p m q = nat_lt m n || ((n == m) && nat_lt p.0 q.0)
+
 -- whether the binding at p runs before the one at q
 abbrev pub runs_before : PlanView → BindingId → BindingId → Bool
-runs_before plan p q = nat_lt (priority_at plan q) (priority_at plan p) || ((priority_at plan p == priority_at plan q) && nat_lt p.0 q.0)
+runs_before plan p q = ranks_before (priority_at plan p) p (priority_at plan q) q
 
 -- the order of those places of an event that take part, with room for all that is bound to it
 pub record IsOrderOf (plan : PlanView) (takes : BindingId → Bool) (e : EventId) (order : Vec BindingId Global) : Type 0 where

@@ -37,7 +37,7 @@ impl Model for Alarms {
 
 impl Alarms {
     ghost use Rattle.std.specs.Prelude.{◌≡◌, ◌<◌, length, replicate, slice_set, None, IfOk, IfSome};
-    ghost use Rattle.event_queue.specs.Alarms.{least_of};
+    ghost use Rattle.event_queue.specs.Alarms.{due_of, least_of};
 
     /// So many rows, none of which is due. Only this call takes memory. Fails only by memory.
     pub fn new(alloc: Global, rows: u16) -> Result<Alarms, AllocError>
@@ -60,6 +60,14 @@ impl Alarms {
         dues[row.0 as usize] = due;
         take_out(ordered, alarm_of(row, was));
         put_in(ordered, alarm_of(row, due));
+    }
+
+    /// The moment at which a row is due, if it is.
+    pub fn due(&self, row: RowId) -> Option<u64>
+        requires { row.0 < length self.now }
+        ensures { result ≡ due_of self.now row }
+    {
+        self.dues[row.0 as usize]
     }
 
     /// The least moment at which a row is due, and of the rows that are due then the lowest. None

@@ -1,12 +1,13 @@
 //! What takes part in the handling of each event, by priority.
 
-ghost use Rattle.std.specs.Prelude.{◌≡◌, ◌<◌, ◌≤◌, true, false, Bool, List, [], length, vec_capacity, IfOk};
+ghost use Rattle.std.specs.Prelude.{◌≡◌, ◌<◌, ◌≤◌, true, false, Bool, List, [], length, slice_index_or, vec_capacity, IfOk};
 ghost use Rattle.std.specs.List.{All};
 ghost use Rattle.plan_tables.specs.declared.entries.BindingId.{BindingId as Place};
-ghost use Rattle.event_queue.specs.Handlers.{priority_at, runs_at, takes_part};
-ghost use Rattle.event_queue.specs.Inside.{put, IsOrdered, IsPlaceOf, runs_before, HasOrders, HasOwned, also, without};
+ghost use Rattle.plan_tables.specs.PlanView.{no_binding};
+ghost use Rattle.event_queue.specs.Handlers.{runs_at, takes_part};
+ghost use Rattle.event_queue.specs.Inside.{put, IsOrdered, IsPlaceOf, ranks_before, runs_before, HasOrders, HasOwned, also, without};
 
-use plan_tables::{BindingId, EventId, Owner, Plan};
+use plan_tables::{Binding, BindingId, EventId, Owner, Plan};
 use std::alloc::{AllocError, Global};
 
 /// For each mode of a plan the places of its bindings.
@@ -113,23 +114,24 @@ fn index_of(order: &[BindingId], plan: &Plan, place: BindingId) -> usize
     requires { IsOrdered (runs_before plan.now) order.now }
     ensures { IsPlaceOf (runs_before plan.now) place order.now result }
 {
-    order.partition_point(|other| runs_before(plan, *other, place))
+    let bindings = plan.bindings();
+    let own = priority(bindings, place);
+    order.partition_point(|other| runs_before(priority(bindings, *other), *other, own, place))
 }
 
-/// Whether the binding at the first place runs before the one at the second: it has the higher
-/// priority, or the same priority and the lower place.
-fn runs_before(plan: &Plan, first: BindingId, second: BindingId) -> bool
-    ensures { result ≡ runs_before plan.now first second }
+/// Whether a binding of the priority `one` at the first place runs before one of the priority
+/// `other` at the second: it has the higher priority, or the same priority and the lower place.
+fn runs_before(one: u32, first: BindingId, other: u32, second: BindingId) -> bool
+    ensures { result ≡ ranks_before one first other second }
 {
-    let (one, other) = (priority(plan, first), priority(plan, second));
     other < one || one == other && first.0 < second.0
 }
 
 /// The priority of the binding at a place, 0 where there is none.
-fn priority(plan: &Plan, place: BindingId) -> u32
-    ensures { result ≡ priority_at plan.now place }
+fn priority(bindings: &[Binding], place: BindingId) -> u32
+    ensures { result ≡ (slice_index_or bindings.now place.0 no_binding).priority }
 {
-    match plan.bindings().get(place.0 as usize) {
+    match bindings.get(place.0 as usize) {
         Some(binding) => binding.priority,
         None => 0,
     }

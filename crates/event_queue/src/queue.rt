@@ -60,11 +60,7 @@ impl Queue {
     pub fn push(&mut self, event: Posted) -> Result<(), Full>
         ensures { IsPushed event result self.old self.new }
     {
-        if self.waiting.is_full() {
-            return Err(Full);
-        }
-        self.waiting.push_back(event);
-        Ok(())
+        self.waiting.try_push_back(event).map_err(|_| Full)
     }
 
     /// Takes the event that waits first, or none where none waits.
