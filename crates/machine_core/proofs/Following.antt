@@ -33,6 +33,10 @@ use Rattle.machine_core.specs.Core.{CoreView, HasHandlers, after, follow}
 pub follow-still : (does : Machine → Machine) (c : CoreView) → HasHandlers c → running_of (does c.machine).modes ≡ running_of c.machine.modes → after does c ≡ follow does c
 follow-still does c was still = λ i. record { plan = c.plan; running = (was ∙ sym still) i; machine = does c.machine; room = c.room }
 
+-- where nothing is done, the core stays as it is
+pub follow-nothing : (c : CoreView) → HasHandlers c → c ≡ follow (λ s. s) c
+follow-nothing c was = λ i. record { plan = c.plan; running = was i; machine = c.machine; room = c.room }
+
 -- a mode that is told to stop goes on running, if it ran
 pub stop-still : (plan : PlanView) (m : ModeId) (s : Machine) → running_of (stop_mode plan m s).modes ≡ running_of s.modes
 stop-still plan m s =

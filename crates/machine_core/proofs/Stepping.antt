@@ -1,9 +1,10 @@
 -- What is done at an event that was taken: the machine's work before its handlers, they, and the work after them.
-use Rattle.std.proofs.Common.{◌≡◌, Bool, List, refl, ap, sym, ◌∙◌, subst}
+use Rattle.std.proofs.Common.{◌≡◌, Bool, Some, None, List, refl, ap, sym, ◌∙◌, subst}
 use Rattle.plan_tables.specs.declared.entries.BindingId.{BindingId}
 use Rattle.plan_tables.specs.PlanView.{PlanView, work_of}
 use Rattle.plan_tables.specs.declared.entries.EventId.{EventId}
 use Rattle.plan_tables.specs.declared.entries.Work.{Work}
+use Rattle.plan_tables.specs.declared.entries.Work.TheVariants.{Nothing, Mode, Game}
 use Rattle.mode_stack.specs.Modes.{running_of}
 use Rattle.event_queue.specs.PlanOrder.{in_order}
 use Rattle.written_machine.specs.Machine.{Machine, all_do, do_handler}
@@ -13,13 +14,27 @@ use Rattle.written_machine.proofs.Does.{grows-does}
 use Rattle.written_machine.proofs.Growth.{all_do-grows, handler-grows}
 use Rattle.written_machine.proofs.Parts.{does-handlers, does-before, does-after}
 use Rattle.written_machine.proofs.Silence.{handlers-still}
-use Rattle.machine_core.specs.Core.{CoreView, CanCall, HasHandlers, HasRoom, IsWorkOf, after, follow, after_taken}
+use Rattle.machine_core.specs.Core.{CoreView, CanCall, HasHandlers, HasRoom, after, follow, after_taken}
+use Rattle.machine_core.specs.Kept.{kept_at}
+use Rattle.machine_core.proofs.Following.{follow-nothing}
 use Rattle.machine_core.proofs.Room.{room-before}
 use Rattle.machine_core.proofs.Callable.{can-does}
 
 -- what is done to one machine alike leaves one core alike
 follow-same : (f g : Machine → Machine) (c : CoreView) → f c.machine ≡ g c.machine → follow f c ≡ follow g c
 follow-same f g c same = λ i. record { plan = c.plan; running = running_of (same i).modes; machine = same i; room = c.room }
+
+-- ---- whether the machine has work at an event
+
+pub kept-some : (work : Work) (s : Machine) (kept : Bool) → kept_at work s ≡ Some kept → kept ≡ is_kept work s
+kept-some Nothing s kept is = cc
+kept-some (Mode m which) s kept is = cc
+kept-some (Game which) s kept is = cc
+
+pub kept-none : (work : Work) (s : Machine) → kept_at work s ≡ None → work ≡ Nothing
+kept-none Nothing s is = refl
+kept-none (Mode m which) s is = cc
+kept-none (Game which) s is = cc
 
 -- ---- devices can still be called
 
@@ -90,19 +105,28 @@ module _ (event : EventId) where
         pub then-handles : HasHandlers then
         then-handles = subst HasHandlers (sym then_is) (ready-handles ∙ sym (handlers-still ready.plan ready.machine event))
 
-        pub then-work : IsWorkOf old.plan work → IsWorkOf then.plan work
-        then-work of =
-            subst (λ (c : CoreView). IsWorkOf c.plan work) (sym then_is)
-            (subst (λ (c : CoreView). IsWorkOf c.plan work) (sym ready_is) of)
+        then-plan : then.plan ≡ old.plan
+        then-plan = ap (λ (c : CoreView). c.plan) then_is ∙ ap (λ (c : CoreView). c.plan) ready_is
 
-        pub then-room : HasRoom then.room (do_after then.plan kept work then.machine)
+        then-work : work ≡ work_of then.plan event
+        then-work = work_is ∙ ap (λ (p : PlanView). work_of p event) (sym then-plan)
+
+        pub then-room : HasRoom then.room (do_after then.plan kept (work_of then.plan event) then.machine)
         then-room =
-            subst (λ (c : CoreView). HasRoom c.room (do_after c.plan kept work c.machine)) (sym then_is)
-            (subst (λ (c : CoreView). HasRoom c.room (do_after c.plan kept work (handled c.plan c.machine))) (sym ready_is) room-whole)
+            subst (λ (w : Work). HasRoom then.room (do_after then.plan kept w then.machine)) then-work
+            (subst (λ (c : CoreView). HasRoom c.room (do_after c.plan kept work c.machine)) (sym then_is)
+            (subst (λ (c : CoreView). HasRoom c.room (do_after c.plan kept work (handled c.plan c.machine))) (sym ready_is) room-whole))
 
-        pub last-is : (last : CoreView) → last ≡ follow (do_after then.plan kept work) then → last ≡ follow (after_taken old.plan event) old
-        last-is last is =
+        work-is : (last : CoreView) → last ≡ follow (do_after then.plan kept work) then → last ≡ follow (after_taken old.plan event) old
+        work-is last is =
             is
             ∙ ap (λ (c : CoreView). follow (do_after c.plan kept work) c) then_is
             ∙ ap (λ (c : CoreView). follow (do_after c.plan kept work) (after (all_do (do_handler c.plan) (in_order c.plan (running_of c.machine.modes) event)) c)) ready_is
             ∙ follow-same (whole old.plan work kept) (after_taken old.plan event) old whole-is
+
+        pub last-is : (last : CoreView) → last ≡ follow (do_after then.plan kept (work_of then.plan event)) then → last ≡ follow (after_taken old.plan event) old
+        last-is last is = work-is last (is ∙ ap (λ (w : Work). follow (do_after then.plan kept w) then) (sym then-work))
+
+        -- where the machine has no work, the handlers were the last
+        pub none-is : work ≡ Nothing → then ≡ follow (after_taken old.plan event) old
+        none-is none = work-is then (follow-nothing then then-handles ∙ ap (λ (w : Work). follow (do_after then.plan kept w) then) (sym none))

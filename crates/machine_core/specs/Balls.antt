@@ -1,15 +1,10 @@
--- What the ledger of balls is told, what another device is told of an action, and what is done when a ball drains.
-use Rattle.std.specs.Prelude.{ℕ, zero, suc, ◌<◌, if◌then◌else◌, Option, None, Some}
+-- What the ledger of balls is told, what another device may be told, and what is done when a ball drains.
+use Rattle.std.specs.Prelude.{ℕ, ◌<◌}
 use Rattle.plan_tables.specs.PlanView.{PlanView}
 use Rattle.plan_tables.specs.Valid.{IsTargetThere}
-use Rattle.plan_tables.specs.declared.devices.BallTarget.TheVariants.{Device}
 use Rattle.plan_tables.specs.declared.devices.Telling.{Telling}
 use Rattle.plan_tables.specs.declared.devices.Telling.TheVariants.{Arrived, Wanted}
-use Rattle.plan_tables.specs.declared.entries.Action.{Action}
-use Rattle.plan_tables.specs.declared.entries.Action.TheVariants as actions
-use Rattle.ball_devices.specs.Ledger.{origin_of}
-use Rattle.ball_devices.specs.Bookings.{LedgerCall, Enter, Leave, Lose, Arrive, is_awaited}
-use Rattle.player_game.specs.GameStep.{missing}
+use Rattle.ball_devices.specs.Bookings.{LedgerCall, Enter, Leave, Lose, Arrive}
 use Rattle.written_machine.specs.Machine.{Machine, drain_ball, first_active_save}
 use Rattle.machine_core.specs.declared.balls.BallCall.{BallCall}
 use Rattle.machine_core.specs.declared.balls.BallCall.TheVariants as told
@@ -32,18 +27,6 @@ IsThere rows (Arrive target) = IsTargetThere rows target
 abbrev pub IsTellingThere : ℕ → Telling → Type 0
 IsTellingThere rows (Arrived target) = IsTargetThere rows target
 IsTellingThere rows (Wanted n) = Unit {0}
-
--- so many more balls are wanted, if any
-abbrev pub wanted : ℕ → Option Telling
-wanted zero = None
-wanted (suc n) = Some (Wanted (suc n))
-
--- what another device is told of an action, if anything, by the state before it
-abbrev pub told_by : Action → Machine → Option Telling
-told_by (actions.Enter r e drain) s = if is_awaited (origin_of r s.ledger) then Some (Arrived (Device r)) else None
-told_by (actions.Request n) s = Some (Wanted n)
-told_by (actions.AddBalls n) s = wanted (missing n s.game)
-told_by _ s = None
 
 -- a ball has drained: the first ball save that is active saves it, if there is one
 abbrev pub drain_now : PlanView → Machine → Machine

@@ -1,11 +1,12 @@
-//! The actions of effect lists, before another device is told of one.
+//! The actions of effect lists, where another device is told of them, or not.
 
-ghost use Rattle.std.specs.Prelude.{◌≡◌, ◌<◌, true, length, IfSome};
+ghost use Rattle.std.specs.Prelude.{◌≡◌, ◌<◌, true, length};
 ghost use Rattle.plan_tables.specs.Valid.{HasGame, IsActionWithin, IsTargetThere};
 ghost use Rattle.plan_tables.specs.PlanView.{target_of};
-ghost use Rattle.written_machine.specs.Machine.{do_action_by, drain_if, enter_ball, tell_nobody};
-ghost use Rattle.machine_core.specs.Balls.{IsTellingThere, told_by, wanted};
+ghost use Rattle.written_machine.specs.Machine.{add_balls, do_action_by, drain_if, enter_ball};
+ghost use Rattle.machine_core.specs.Balls.{IsTellingThere};
 ghost use Rattle.machine_core.specs.Core.{CanCall, HasRoom, after};
+ghost use Rattle.machine_core.specs.Goes.{AlwaysGoes, Tell};
 
 use crate::balls::BallCall;
 use crate::core_state::Core;
@@ -13,14 +14,27 @@ use coil_guard::Command;
 use device_objects::Device;
 use plan_tables::{Action, BallTarget, EventId, GameEvent, Owner, Plan, RowId, Telling};
 
-/// An action. No other device is told of it yet.
-pub(crate) fn run_alone<D: Device>(core: &mut Core<'_, D>, owner: Owner, action: Action)
-    requires action { IsActionWithin core.old.plan action }
+/// How another device is told of an action.
+pub(crate) trait Tells {
+    ghost tell: { Tell };
+
+    /// Tells it to the device that is to know it.
+    fn tell<D: Device>(core: &mut Core<'_, D>, telling: Telling)
+        requires there { IsTellingThere (length core.old.plan.rows) telling }
+        requires calls { CanCall core.old }
+        requires room { HasRoom core.old.room (tell core.old.plan telling core.old.machine) }
+        ensures { core.new ≡ after (tell core.old.plan telling) core.old };
+}
+
+/// An action. Where another device is to know of it, that one is told last.
+pub(crate) fn run_by<D: Device, T: Tells>(core: &mut Core<'_, D>, owner: Owner, action: &Action)
+    requires action { IsActionWithin core.old.plan action.now }
+    requires goes { AlwaysGoes T.tell }
     requires calls { CanCall core.old }
-    requires room { HasRoom core.old.room (do_action_by core.old.plan tell_nobody owner action core.old.machine) }
-    ensures { core.new ≡ after (do_action_by core.old.plan tell_nobody owner action) core.old }
+    requires room { HasRoom core.old.room (do_action_by core.old.plan (T.tell core.old.plan) owner action.now core.old.machine) }
+    ensures { core.new ≡ after (do_action_by core.old.plan (T.tell core.old.plan) owner action.now) core.old }
 {
-    match action {
+    match *action {
         Action::Post(event) => core.post(owner, event),
         Action::Pulse { coil, ms, power } => core.ask(owner, Command::Pulse { coil, ms, power }),
         Action::Enable { coil, power } => core.ask(owner, Command::Enable { coil, power }),
@@ -35,7 +49,7 @@ pub(crate) fn run_alone<D: Device>(core: &mut Core<'_, D>, owner: Owner, action:
             device,
             event,
             drain,
-        } => enter(core, owner, device, event, drain),
+        } => enter::<D, T>(core, owner, device, event, drain),
         Action::Leave { device } => {
             let target = target_of(core.plan(), device);
             core.book(owner, BallCall::Leave(device, target));
@@ -45,14 +59,14 @@ pub(crate) fn run_alone<D: Device>(core: &mut Core<'_, D>, owner: Owner, action:
             let target = target_of(core.plan(), device);
             core.book(owner, BallCall::Arrive(target));
         }
-        Action::Request { .. } => {}
-        Action::AddBalls { balls } => core.add_balls(balls),
+        Action::Request { balls } => T::tell(core, Telling::Wanted(usize::from(balls))),
+        Action::AddBalls { balls } => add_balls::<D, T>(core, balls),
     }
 }
 
-/// A ball enters a device: that is booked, and its event posted. Where the ball was not on its way
-/// there, it may have drained.
-fn enter<D: Device>(
+/// A ball enters a device: that is booked, and its event posted. Where the ball was on its way
+/// there, the device that ejected it is told; else it may have drained.
+fn enter<D: Device, T: Tells>(
     core: &mut Core<'_, D>,
     owner: Owner,
     device: RowId,
@@ -61,13 +75,17 @@ fn enter<D: Device>(
 )
     requires device { device.0 < length core.old.plan.rows }
     requires game { drain ≡ true → HasGame core.old.plan }
-    requires room { HasRoom core.old.room (enter_ball core.old.plan tell_nobody owner device event drain core.old.machine) }
-    ensures { core.new ≡ after (enter_ball core.old.plan tell_nobody owner device event drain) core.old }
+    requires goes { AlwaysGoes T.tell }
+    requires calls { CanCall core.old }
+    requires room { HasRoom core.old.room (enter_ball core.old.plan (T.tell core.old.plan) owner device event drain core.old.machine) }
+    ensures { core.new ≡ after (enter_ball core.old.plan (T.tell core.old.plan) owner device event drain) core.old }
 {
     let awaited = core.awaits(device);
     core.book(owner, BallCall::Enter(device));
     core.post(owner, event);
-    if !awaited {
+    if awaited {
+        T::tell(core, Telling::Arrived(BallTarget::Device(device)));
+    } else {
         post_drain(core, owner, drain);
     }
 }
@@ -84,34 +102,17 @@ fn post_drain<D: Device>(core: &mut Core<'_, D>, owner: Owner, drain: bool)
     }
 }
 
-/// What another device is to be told of the action, if anything. The action is not done yet.
-pub(crate) fn told_by<D: Device>(core: &Core<'_, D>, action: Action) -> Option<Telling>
-    requires { IsActionWithin core.now.plan action }
-    ensures told { result ≡ told_by action core.now.machine }
-    ensures there { IfSome result (λ telling. IsTellingThere (length core.now.plan.rows) telling) }
+/// At least so many balls are in play from now on, while a ball is on. Those that were missing are
+/// wanted.
+fn add_balls<D: Device, T: Tells>(core: &mut Core<'_, D>, balls: u8)
+    requires calls { CanCall core.old }
+    requires room { HasRoom core.old.room (add_balls (T.tell core.old.plan) balls core.old.machine) }
+    ensures { core.new ≡ after (add_balls (T.tell core.old.plan) balls) core.old }
 {
-    match action {
-        Action::Enter { device, .. } => {
-            if core.awaits(device) {
-                Some(Telling::Arrived(BallTarget::Device(device)))
-            } else {
-                None
-            }
-        }
-        Action::Request { balls } => Some(Telling::Wanted(usize::from(balls))),
-        Action::AddBalls { balls } => wanted(core.missing(balls)),
-        _ => None,
-    }
-}
-
-/// So many more balls are wanted, if any.
-fn wanted(balls: usize) -> Option<Telling>
-    ensures { result ≡ wanted balls }
-{
-    if balls == 0 {
-        None
-    } else {
-        Some(Telling::Wanted(balls))
+    let missing = core.missing(balls);
+    core.add_balls(balls);
+    if missing > 0 {
+        T::tell(core, Telling::Wanted(missing));
     }
 }
 

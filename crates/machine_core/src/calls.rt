@@ -8,26 +8,24 @@ ghost use Rattle.device_objects.specs.Laws.{MayCome};
 ghost use Rattle.written_machine.specs.Machine.{all_do, device_at, do_action, call_device, call_devices};
 ghost use Rattle.machine_core.specs.Core.{CanCall, HasRoom, after};
 
-use crate::actions::{run_alone, told_by};
+use crate::actions::Tells;
 use crate::core_state::Core;
-use crate::lists::{Tells, actions_by, call_by};
+use crate::lists::{actions_by, call_by};
 use crate::tellings::tell;
 use device_objects::{Call, Device};
-use plan_tables::{Action, ModeId, Owner, Plan, RowId};
+use plan_tables::{Action, ModeId, Owner, RowId, Telling};
 
 /// The devices of a mode are called, in the order of their rows.
 pub(crate) fn call_devices<D: Device>(core: &mut Core<'_, D>, mode: ModeId, call: Call)
+    requires mode { mode.0 < length core.old.plan.modes }
     requires call { (state : DeviceStateValue) → MayCome call state }
     requires calls { CanCall core.old }
     requires room { HasRoom core.old.room (call_devices core.old.plan call mode core.old.machine) }
     ensures { core.new ≡ after (call_devices core.old.plan call mode) core.old }
 {
-    let plan = core.plan();
-    for number in 0..plan.rows().len() {
-        let row = RowId(number as u16);
-        if Owner::Mode(mode).is(plan.row(row).owner) {
-            call_device(core, row, call);
-        }
+    let rows = core.plan().rows_of_mode(mode);
+    for row in rows {
+        call_device(core, *row, call);
     }
 }
 
@@ -50,8 +48,8 @@ impl Tells for TellsFirst {
 
     ghost tell = { tell_first };
 
-    fn run<D: Device>(core: &mut Core<'_, D>, owner: Owner, action: Action) {
-        run_action(core, owner, action);
+    fn tell<D: Device>(core: &mut Core<'_, D>, telling: Telling) {
+        tell(core, telling);
     }
 }
 
@@ -63,18 +61,4 @@ pub(crate) fn run_actions<D: Device>(core: &mut Core<'_, D>, owner: Owner, actio
     ensures { core.new ≡ after (all_do (do_action core.old.plan owner) actions.now) core.old }
 {
     actions_by::<D, TellsFirst>(core, owner, actions);
-}
-
-/// An action. If a ball device is to know of it, that one is told.
-fn run_action<D: Device>(core: &mut Core<'_, D>, owner: Owner, action: Action)
-    requires action { IsActionWithin core.old.plan action }
-    requires calls { CanCall core.old }
-    requires room { HasRoom core.old.room (do_action core.old.plan owner action core.old.machine) }
-    ensures { core.new ≡ after (do_action core.old.plan owner action) core.old }
-{
-    let told = told_by(core, action);
-    run_alone(core, owner, action);
-    if let Some(telling) = told {
-        tell(core, telling);
-    }
 }

@@ -263,6 +263,7 @@ impl<'p, D: Device> Core<'p, D> {
     }
 
     /// A line is written.
+    #[inline(always)]
     pub(crate) fn write(&mut self, owner: Owner, happening: Happening)
         requires { length self.old.machine.lines < self.old.room }
         ensures { self.new ≡ after (write owner happening) self.old }
@@ -276,6 +277,7 @@ impl<'p, D: Device> Core<'p, D> {
     }
 
     /// An event is posted.
+    #[inline(always)]
     pub(crate) fn post(&mut self, owner: Owner, event: EventId)
         requires { length self.old.machine.waiting < self.old.room }
         ensures { self.new ≡ after (post owner event) self.old }
@@ -418,11 +420,12 @@ impl<'p, D: Device> Core<'p, D> {
         requires { row.0 < length self.now.machine.devices }
         ensures { result ≡ is_some (due_of (device_at self.now.machine row)) }
     {
-        self.devices[row.0 as usize].due().is_some()
+        self.alarms.due(row).is_some()
     }
 
     /// A device that there is is called, and goes on to its next state. Reports the effect lists
     /// that it answers.
+    #[inline(always)]
     pub(crate) fn call(&mut self, row: RowId, call: Call) -> Outcome
         requires row { row.0 < length self.old.machine.devices }
         requires moment { self.old.machine.moment < 2 ^ 40 }
@@ -448,6 +451,7 @@ impl<'p, D: Device> Core<'p, D> {
 
     /// An action on a variable of the current player. Where the variable changes, its line is
     /// written, and its event posted.
+    #[inline(always)]
     pub(crate) fn change_variable(
         &mut self,
         owner: Owner,
@@ -592,6 +596,7 @@ impl<'p, D: Device> Core<'p, D> {
 }
 
 /// One call of one device.
+#[inline(always)]
 fn call_one<D: Device>(device: &mut D, call: Call, now: u64, world: World) -> Outcome
     requires moment { now < 2 ^ 40 }
     requires may { MayCome call (D.state_of device.old) }

@@ -8,23 +8,12 @@ ghost use Rattle.plan_tables.specs.Valid.{IsActionWithin};
 ghost use Rattle.device_objects.specs.Laws.{MayCome};
 ghost use Rattle.written_machine.specs.Machine.{all_do, call_device_by, device_at, do_action_by, do_answer_by};
 ghost use Rattle.machine_core.specs.Core.{CanCall, HasRoom, after};
-ghost use Rattle.machine_core.specs.Goes.{AlwaysGoes, Tell};
+ghost use Rattle.machine_core.specs.Goes.{AlwaysGoes};
 
+use crate::actions::{Tells, run_by};
 use crate::core_state::Core;
 use device_objects::{Call, Device};
 use plan_tables::{Action, Owner, RowId};
-
-/// How another device is told of an action.
-pub(crate) trait Tells {
-    ghost tell: { Tell };
-
-    /// Does an action.
-    fn run<D: Device>(core: &mut Core<'_, D>, owner: Owner, action: Action)
-        requires action { IsActionWithin core.old.plan action }
-        requires calls { CanCall core.old }
-        requires room { HasRoom core.old.room (do_action_by core.old.plan (tell core.old.plan) owner action core.old.machine) }
-        ensures { core.new ≡ after (do_action_by core.old.plan (tell core.old.plan) owner action) core.old };
-}
 
 /// A device is called, and the effect lists that it answers are run for its owner.
 pub(crate) fn call_by<D: Device, T: Tells>(core: &mut Core<'_, D>, row: RowId, call: Call)
@@ -68,6 +57,6 @@ pub(crate) fn actions_by<D: Device, T: Tells>(
     ensures { core.new ≡ after (all_do (do_action_by core.old.plan (T.tell core.old.plan) owner) actions.now) core.old }
 {
     for action in actions {
-        T::run(core, owner, *action);
+        run_by::<D, T>(core, owner, action);
     }
 }

@@ -13,6 +13,7 @@ ghost use Rattle.written_machine.specs.EventStep.{is_kept, do_before, do_after};
 ghost use Rattle.written_machine.specs.Run.{begin as begun, fire as fired};
 ghost use Rattle.written_machine.specs.NextAlarm.{next_alarm};
 ghost use Rattle.machine_core.specs.Core.{IsWhole, CanCall, HasHandlers, IsWorkOf, IsPlayable, HasRoom, StaysWithin, HasSettled, after, follow, after_taken};
+ghost use Rattle.machine_core.specs.Kept.{kept_at};
 ghost use Rattle.machine_core.specs.Stimuli.{source_view, stimulus_view};
 
 use crate::calls::{call_device, call_devices, run_actions};
@@ -151,17 +152,19 @@ pub fn settle<D: Device>(core: &mut Core<'_, D>)
 }
 
 /// What is done at an event that was taken: the machine's work before its handlers, its handlers,
-/// and the work after them.
+/// and the work after them. At most events the machine has none: then little is kept while the
+/// handlers run.
 fn take_step<D: Device>(core: &mut Core<'_, D>, event: EventId)
     requires handlers { HasHandlers core.old }
     requires calls { CanCall core.old }
     requires room { HasRoom core.old.room (after_taken core.old.plan event core.old.machine) }
     ensures { core.new ≡ follow (after_taken core.old.plan event) core.old }
 {
-    let work = work_of(core.plan(), event);
-    let kept = work_before(core, work);
+    let kept = work_before(core, event);
     handle(core, event);
-    work_after(core, kept, work);
+    if let Some(kept) = kept {
+        work_after(core, kept, event);
+    }
 }
 
 /// The machine's work at an event: none where the plan has no such event.
@@ -175,19 +178,32 @@ fn work_of(plan: &Plan, event: EventId) -> Work
     plan.work(event)
 }
 
-/// The machine's work before the handlers of an event. Reports whether a stop was kept for the mode
-/// that is active from now on.
-fn work_before<D: Device>(core: &mut Core<'_, D>, work: Work) -> bool
-    requires work { IsWorkOf core.old.plan work }
+/// The machine's work before the handlers of an event. Where it has work at the event, reports
+/// whether a stop was kept for the mode that is active from now on.
+fn work_before<D: Device>(core: &mut Core<'_, D>, event: EventId) -> Option<bool>
     requires handlers { HasHandlers core.old }
     requires calls { CanCall core.old }
-    requires room { HasRoom core.old.room (do_before core.old.plan work core.old.machine) }
-    ensures done { core.new ≡ follow (do_before core.old.plan work) core.old }
-    ensures kept { result ≡ is_kept work core.old.machine }
+    requires room { HasRoom core.old.room (do_before core.old.plan (work_of core.old.plan event) core.old.machine) }
+    ensures done { core.new ≡ follow (do_before core.old.plan (work_of core.old.plan event)) core.old }
+    ensures kept { result ≡ kept_at (work_of core.old.plan event) core.old.machine }
 {
-    let Work::Mode(mode, which) = work else {
-        return false;
-    };
+    match work_of(core.plan(), event) {
+        Work::Nothing => None,
+        Work::Mode(mode, which) => Some(mode_before(core, mode, which)),
+        Work::Game(_) => Some(false),
+    }
+}
+
+/// The machine's work before the handlers of an event of a mode. Reports whether a stop was kept for
+/// the mode that is active from now on.
+fn mode_before<D: Device>(core: &mut Core<'_, D>, mode: ModeId, which: ModeEvent) -> bool
+    requires mode { mode.0 < length core.old.plan.modes }
+    requires handlers { HasHandlers core.old }
+    requires calls { CanCall core.old }
+    requires room { HasRoom core.old.room (do_before core.old.plan (works.Mode mode which) core.old.machine) }
+    ensures done { core.new ≡ follow (do_before core.old.plan (works.Mode mode which)) core.old }
+    ensures kept { result ≡ is_kept (works.Mode mode which) core.old.machine }
+{
     match which {
         ModeEvent::Started => {
             let kept = core.enter(mode);
@@ -199,17 +215,16 @@ fn work_before<D: Device>(core: &mut Core<'_, D>, work: Work) -> bool
 }
 
 /// The machine's work after them.
-fn work_after<D: Device>(core: &mut Core<'_, D>, kept: bool, work: Work)
-    requires work { IsWorkOf core.old.plan work }
+fn work_after<D: Device>(core: &mut Core<'_, D>, kept: bool, event: EventId)
     requires handlers { HasHandlers core.old }
     requires calls { CanCall core.old }
-    requires room { HasRoom core.old.room (do_after core.old.plan kept work core.old.machine) }
-    ensures { core.new ≡ follow (do_after core.old.plan kept work) core.old }
+    requires room { HasRoom core.old.room (do_after core.old.plan kept (work_of core.old.plan event) core.old.machine) }
+    ensures { core.new ≡ follow (do_after core.old.plan kept (work_of core.old.plan event)) core.old }
 {
-    match work {
+    match work_of(core.plan(), event) {
         Work::Nothing => {}
         Work::Mode(mode, which) => mode_after(core, kept, mode, which),
-        Work::Game(event) => play(core, event),
+        Work::Game(which) => play(core, which),
     }
 }
 

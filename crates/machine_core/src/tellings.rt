@@ -7,11 +7,11 @@ ghost use Rattle.written_machine.specs.Devices.{HasDevices};
 ghost use Rattle.machine_core.specs.Balls.{IsTellingThere};
 ghost use Rattle.machine_core.specs.Core.{CanCall, HasRoom, after};
 
-use crate::actions::run_alone;
+use crate::actions::Tells;
 use crate::core_state::Core;
-use crate::lists::{Tells, call_by};
+use crate::lists::call_by;
 use device_objects::{Call, Device, DeviceState, Eject};
-use plan_tables::{Action, BallTarget, Owner, RowId, Telling};
+use plan_tables::{BallTarget, RowId, Telling};
 
 /// The ball device that is to know it is told, if there is one.
 pub(crate) fn tell<D: Device>(core: &mut Core<'_, D>, telling: Telling)
@@ -90,7 +90,5 @@ impl Tells for TellsNobody {
 
     ghost tell = { λ plan. tell_nobody };
 
-    fn run<D: Device>(core: &mut Core<'_, D>, owner: Owner, action: Action) {
-        run_alone(core, owner, action);
-    }
+    fn tell<D: Device>(_core: &mut Core<'_, D>, _telling: Telling) {}
 }

@@ -15,17 +15,17 @@ use Rattle.machine_core.proofs.lists.actions_by.Goals as goal
 none : Action
 none = Post (record { 0 = 0 })
 
-pub run-requires-clause-action : goal.run-requires-clause-action
+pub run_by-requires-clause-action : goal.run_by-requires-clause-action
 unfolding none
-run-requires-clause-action g c =
+run_by-requires-clause-action g c =
     let actions = c.args.actions.now in
     let i = c.loop-action.action-index in
     subst (λ (v : CoreView). IsActionWithin v.plan (get_or actions i none)) (sym c.loop-action.invariant.0)
     (All-get_or (IsActionWithin c.args.core.now.plan) actions i none c.loop-action-test.true c.requires.actions)
 
-pub run-requires-clause-room : goal.run-requires-clause-room
+pub run_by-requires-clause-room : goal.run_by-requires-clause-room
 unfolding none
-run-requires-clause-room g c =
+run_by-requires-clause-room g c =
     let owner = c.args.owner in
     let actions = c.args.actions.now in
     let i = c.loop-action.action-index in
@@ -41,7 +41,7 @@ loop-action-preserved g c =
     let actions = c.args.actions.now in
     let i = c.loop-action.action-index in
     let a = get_or actions i none in (
-      all_do-first (λ (p : PlanView). do_action_by p (g.T.Tells.tell p) owner) core c.run.new.core (after (all_do (do_action_by c.args.core.now.plan (g.T.Tells.tell c.args.core.now.plan) owner) actions) c.args.core.now) a (drop (i + 1) actions) (drop i actions)
-          (drop_more actions i none c.loop-action-test.true) c.loop-action.invariant.0 c.run.ensures,
-      subst CanCall (sym c.run.ensures) (goes-can core (do_action_by core.plan (g.T.Tells.tell core.plan) owner a) (goes-action_by core.plan (g.T.Tells.tell core.plan) (c.requires.goes core.plan) owner a core.machine) c.loop-action.invariant.1),
+      all_do-first (λ (p : PlanView). do_action_by p (g.T.Tells.tell p) owner) core c.run_by.new.core (after (all_do (do_action_by c.args.core.now.plan (g.T.Tells.tell c.args.core.now.plan) owner) actions) c.args.core.now) a (drop (i + 1) actions) (drop i actions)
+          (drop_more actions i none c.loop-action-test.true) c.loop-action.invariant.0 c.run_by.ensures,
+      subst CanCall (sym c.run_by.ensures) (goes-can core (do_action_by core.plan (g.T.Tells.tell core.plan) owner a) (goes-action_by core.plan (g.T.Tells.tell core.plan) (c.requires.goes core.plan) owner a core.machine) c.loop-action.invariant.1),
     )

@@ -3,10 +3,9 @@ use Rattle.std.proofs.lemmas.Int.{to_z-of_z}
 use Rattle.plan_tables.specs.Valid.{IsActionWithin}
 use Rattle.plan_tables.specs.declared.entries.Action.{Action}
 use Rattle.plan_tables.specs.declared.entries.Action.TheVariants.{Change as ChangeVariable}
-use Rattle.written_machine.specs.Machine.{Machine, change_variable, do_action_by, tell_nobody}
+use Rattle.written_machine.specs.Machine.{change_variable, do_action_by}
 use Rattle.machine_core.specs.Core.{HasRoom, after}
-use Rattle.machine_core.proofs.Telling.{add-nobody}
-use Rattle.machine_core.proofs.actions.run_alone.Goals as goal
+use Rattle.machine_core.proofs.actions.run_by.Goals as goal
 
 pub change_variable-requires-clause-variable : goal.change_variable-requires-clause-variable
 change_variable-requires-clause-variable g c =
@@ -21,7 +20,7 @@ change_variable-requires-clause-room g c =
     let x = c.in-Change in
     let fits : FitsSigned w64 x.number = search rules in
     let same : to_z w64 (of_z w64 x.number) ≡ x.number = to_z-of_z w64 x.number fits in
-    let whole : HasRoom core.room (change_variable core.plan owner x.variable x.action x.number x.event core.machine) = subst (λ (a : Action). HasRoom core.room (do_action_by core.plan tell_nobody owner a core.machine)) x.is c.requires.room in
+    let whole : HasRoom core.room (change_variable core.plan owner x.variable x.action x.number x.event core.machine) = subst (λ (a : Action). HasRoom core.room (do_action_by core.plan (g.T.Tells.tell core.plan) owner a core.machine)) x.is c.requires.room in
     subst (λ (n : ℤ). HasRoom core.room (change_variable core.plan owner x.variable x.action n x.event core.machine)) (sym same) whole
 
 pub returns-in-Change : goal.returns-in-Change
@@ -33,12 +32,4 @@ returns-in-Change g c =
     let same : to_z w64 (of_z w64 x.number) ≡ x.number = to_z-of_z w64 x.number fits in
     c.change_variable.ensures
     ∙ (λ i. after (change_variable core.plan owner x.variable x.action (same i) x.event) core)
-    ∙ ap (λ (a : Action). after (do_action_by core.plan tell_nobody owner a) core) (sym x.is)
-
-pub returns-in-AddBalls : goal.returns-in-AddBalls
-returns-in-AddBalls g c =
-    let core = c.args.core.now in
-    let x = c.in-AddBalls in
-    c.add_balls.ensures
-    ∙ ap (λ (s : Machine). after (λ t. s) core) (add-nobody x.balls core.machine)
-    ∙ ap (λ (a : Action). after (do_action_by core.plan tell_nobody c.args.owner a) core) (sym x.is)
+    ∙ ap (λ (a : Action). after (do_action_by core.plan (g.T.Tells.tell core.plan) owner a) core) (sym x.is)
