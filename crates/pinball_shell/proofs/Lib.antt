@@ -1,9 +1,10 @@
 pub mod FirstPlace
+pub mod ShortNumbers
 pub mod Fronts
+pub mod Pages
 pub mod TextLines
 pub mod LineWords
 pub mod Alarms
-pub mod LineTails
 pub mod LineMoments
 pub mod Serving
 pub mod Stimuli

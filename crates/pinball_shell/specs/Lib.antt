@@ -16,3 +16,4 @@ pub mod ReplyView
 pub mod LineTails
 pub mod LogView
 pub mod Played
+pub mod Pages

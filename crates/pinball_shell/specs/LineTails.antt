@@ -1,9 +1,9 @@
--- What the lines of events and switches say after their owner.
-use Rattle.std.specs.Prelude.{ℕ, Bool, true, false, List, ◌++◌, codes, map}
-use Rattle.std.specs.Global.{Vec}
-use Rattle.plan_tables.specs.PlanView.{PlanView, PlanSwitch, name_of_event, switch_at}
+-- What the lines of events and switches say after their owner, and those of variables before their value.
+use Rattle.std.specs.Prelude.{ℕ, Bool, true, false, List, ◌++◌, codes}
+use Rattle.plan_tables.specs.PlanView.{PlanView, PlanSwitch, name_of_event, name_of_variable, switch_at}
 use Rattle.plan_tables.specs.declared.entries.EventId.{EventId}
 use Rattle.plan_tables.specs.declared.entries.SwitchId.{SwitchId}
+use Rattle.plan_tables.specs.declared.entries.VariableId.{VariableId}
 use Rattle.pinball_shell.specs.declared.printed_plan.SwitchTails.{SwitchTails}
 use Rattle.pinball_shell.specs.TraceText.{event_text, switch_text}
 
@@ -22,12 +22,12 @@ abbrev pub switch_tail : PlanView → SwitchId → Bool → List ℕ
 switch_tail plan s active = switch_tail_named (switch_at plan s).name active
 
 -- both of a switch: where it is inactive, and active
-abbrev pub switch_tails_of : PlanSwitch → List ℕ × List ℕ
-switch_tails_of s = (switch_tail_named s.name false, switch_tail_named s.name true)
+abbrev pub switch_tails_of : PlanSwitch → SwitchTails
+switch_tails_of s = record { inactive = switch_tail_named s.name false; active = switch_tail_named s.name true }
 
--- texts, and both texts of switches
-abbrev pub tails_view : List (Vec ℕ) → List (List ℕ)
-tails_view = map (λ tail. tail.items)
+-- `NAME `
+abbrev pub variable_word_named : List ℕ → List ℕ
+variable_word_named name = name ++ codes " "
 
-abbrev pub both_tails_view : List SwitchTails → List (List ℕ × List ℕ)
-both_tails_view = map (λ tails. (tails.inactive.items, tails.active.items))
+abbrev pub variable_word : PlanView → VariableId → List ℕ
+variable_word plan v = variable_word_named (name_of_variable plan v)

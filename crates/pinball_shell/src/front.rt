@@ -1,36 +1,35 @@
 //! What the lines of a moment begin with.
 
-ghost use Rattle.std.specs.Prelude.{◌≡◌, ◌++◌, codes};
+ghost use Rattle.std.specs.Prelude.{◌≡◌, ◌+◌, ◌≤◌, ◌++◌, codes, length, take};
 ghost use Rattle.std.specs.Fmt.{decimal};
 
+use crate::phrase::START;
 use itoa::write_digits;
 use std::marker::Model;
 
 /// The most digits of a moment.
-const DIGITS: usize = 20;
-/// Where the blank after the digits ends.
-const BLANK_END: usize = 21;
+pub const DIGITS: usize = 20;
 
 /// A moment in milliseconds, as the lines of a trace begin with it: its digits, and what follows
 /// them in most lines. They are written once for all lines of the moment.
 #[derive(Drop)]
 pub struct Front {
     moment: u64,
-    /// It ends with the digits and ` machine`.
-    room: [u8; 28],
-    /// Where the digits begin.
-    start: usize,
+    /// The digits and ` machine`, and blanks after them.
+    text: [u8; START],
+    /// How many digits there are.
+    digits: usize,
 }
 
 impl Model for Front {
-    ghost use Rattle.std.specs.Prelude.{◌≡◌, ◌+◌, ℕ, ◌++◌, codes, drop, length};
+    ghost use Rattle.std.specs.Prelude.{◌≡◌, ◌+◌, ◌≤◌, ℕ, ◌++◌, codes, length, take};
     ghost use Rattle.std.specs.Fmt.{decimal};
 
     ghost Value = { ℕ };
 
     ghost view = { λ f. f.moment };
 
-    ghost invariant = { λ f. (drop f.start f.room ≡ decimal f.moment ++ codes " machine") × (f.start + length (decimal f.moment) ≡ 20) };
+    ghost invariant = { λ f. (f.digits ≡ length (decimal f.moment)) × (f.digits ≤ 20) × (take (f.digits + 8) f.text ≡ decimal f.moment ++ codes " machine") };
 }
 
 impl Front {
@@ -38,12 +37,14 @@ impl Front {
     pub fn new(moment: u64) -> Front
         ensures { result ≡ moment }
     {
-        let mut room = *b"                     machine";
+        let mut room = *b"                     machine                        ";
         let start = write_digits(moment, &mut room, DIGITS);
+        let mut text = [b' '; START];
+        text.copy_from_slice(&room[start..start + START]);
         Front {
             moment,
-            room,
-            start,
+            text,
+            digits: DIGITS - start,
         }
     }
 
@@ -56,17 +57,18 @@ impl Front {
         }
     }
 
-    /// The digits of the moment, and a blank.
-    pub fn up_to_moment(&self) -> &[u8]
-        ensures { result.now ≡ decimal self.now ++ codes " " }
+    /// The digits of the moment and ` machine` are in front of it.
+    pub fn text(&self) -> &[u8; START]
+        ensures { take (length (decimal self.now) + 8) result.now ≡ decimal self.now ++ codes " machine" }
     {
-        &self.room[self.start..BLANK_END]
+        &self.text
     }
 
-    /// The digits of the moment, and ` machine`.
-    pub fn up_to_machine(&self) -> &[u8]
-        ensures { result.now ≡ decimal self.now ++ codes " machine" }
+    /// How many digits the moment has, at most 20.
+    pub fn digits(&self) -> usize
+        ensures count { result ≡ length (decimal self.now) }
+        ensures within { result ≤ 20 }
     {
-        &self.room[self.start..]
+        self.digits
     }
 }

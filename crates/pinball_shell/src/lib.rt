@@ -6,6 +6,8 @@ pub mod fault;
 mod front;
 pub mod law;
 mod log_line;
+mod page;
+mod phrase;
 pub mod play;
 mod printed_plan;
 mod refusal;

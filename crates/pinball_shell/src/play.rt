@@ -18,6 +18,7 @@ ghost use Rattle.pinball_shell.specs.Played.{worse_of, GivesInput, IsRigOf, Play
 
 use crate::fault::{ShellFault, Verdict};
 use crate::log_line::{Said, first_line, read_line};
+use crate::page::Page;
 use crate::printed_plan::PrintedPlan;
 use crate::refusal::Refusal;
 use crate::text::read_all;
@@ -115,8 +116,9 @@ fn play_log<D: Device, B: Board, W: Write>(
 {
     let plan = checked.plan();
     let printed = PrintedPlan::new(alloc, plan)?;
+    let mut page = Page::new(alloc)?;
     let mut rig = Rig::new(alloc, checked, devices, board)?;
-    let verdict = play_lines(&printed, &mut rig, log, writer)?;
+    let verdict = play_lines(&printed, &mut rig, log, &mut page, writer)?;
     let board = shut_down(&printed, rig, writer)?;
     Ok((verdict, board))
 }
@@ -145,6 +147,7 @@ fn play_lines<D: Device, B: Board, W: Write>(
     plan: &PrintedPlan<'_>,
     rig: &mut Rig<'_, D, B>,
     log: &[u8],
+    page: &mut Page,
     writer: &mut W,
 ) -> Result<Verdict, ShellFault>
     requires log { length log.now ≤ 2 ^ 24 }
@@ -158,7 +161,7 @@ fn play_lines<D: Device, B: Board, W: Write>(
     let mut rest = log;
     while !rest.is_empty() {
         let (line, after) = first_line(rest);
-        match play_line(plan, rig, number, line, writer) {
+        match play_line(plan, rig, number, line, page, writer) {
             Ok(found) => verdict = worse(verdict, found),
             Err(Stop::Board) => return refuse_for_board(number, writer),
             Err(Stop::Write) => return Err(ShellFault::Write),
@@ -198,6 +201,7 @@ fn play_line<D: Device, B: Board, W: Write>(
     rig: &mut Rig<'_, D, B>,
     number: usize,
     line: &[u8],
+    page: &mut Page,
     writer: &mut W,
 ) -> Result<Verdict, Stop>
     requires { IsRigOf plan.now rig.old }
@@ -206,8 +210,8 @@ fn play_line<D: Device, B: Board, W: Write>(
     match given_by(plan, rig.now(), read_line(line)) {
         Ok(None) => Ok(Verdict::Yes),
         Ok(Some((at, input))) => {
-            play_alarms(plan, rig, at, writer)?;
-            play_input(plan, rig, input, writer)?;
+            play_alarms(plan, rig, at, page, writer)?;
+            play_input(plan, rig, input, page, writer)?;
             Ok(Verdict::Yes)
         }
         Err(refusal) => match write_refused(number, refusal, writer) {
@@ -250,6 +254,7 @@ fn play_alarms<D: Device, B: Board, W: Write>(
     plan: &PrintedPlan<'_>,
     rig: &mut Rig<'_, D, B>,
     until: u64,
+    page: &mut Page,
     writer: &mut W,
 ) -> Result<(), Stop>
     requires until { until < 2 ^ 40 }
@@ -258,7 +263,7 @@ fn play_alarms<D: Device, B: Board, W: Write>(
     ensures { PlaysAlarms plan.now until rig.old rig.new (W.contents writer.old) (W.contents writer.new) result }
 {
     while has_alarm_by(rig, until) {
-        play_input(plan, rig, Input::Alarm, writer)?;
+        play_input(plan, rig, Input::Alarm, page, writer)?;
     }
     Ok(())
 }
@@ -280,6 +285,7 @@ fn play_input<D: Device, B: Board, W: Write>(
     plan: &PrintedPlan<'_>,
     rig: &mut Rig<'_, D, B>,
     input: Input,
+    page: &mut Page,
     writer: &mut W,
 ) -> Result<(), Stop>
     requires taken { IsOk (stimulus_at rig.old input) }
@@ -287,7 +293,7 @@ fn play_input<D: Device, B: Board, W: Write>(
     ensures { PlaysInput plan.now input rig.old rig.new (W.contents writer.old) (W.contents writer.new) result }
 {
     let is_served = step(rig, input);
-    match write_lines(plan, rig.trace(), writer) {
+    match write_lines(plan, rig.trace(), page, writer) {
         Ok(()) if is_served => Ok(()),
         Ok(()) => Err(Stop::Board),
         Err(_) => Err(Stop::Write),

@@ -1,9 +1,10 @@
-//! A plan, with what the lines of its events and switches say after their owner.
+//! A plan, with what lines say of its events, switches and variables.
 
-ghost use Rattle.std.specs.Prelude.{◌≡◌, ◌++◌, map, IfOk};
-ghost use Rattle.pinball_shell.specs.LineTails.{event_tail, switch_tail, event_tail_named, switch_tails_of, tails_view, both_tails_view};
+ghost use Rattle.std.specs.Prelude.{◌≡◌, ◌++◌, [], map, IfOk, MatchOption};
+ghost use Rattle.pinball_shell.specs.LineTails.{event_tail, switch_tail, variable_word, event_tail_named, switch_tail_named, switch_tails_of, variable_word_named};
 
-use plan_tables::{EventId, Plan, SwitchId};
+use crate::phrase::Phrase;
+use plan_tables::{EventId, Plan, SwitchId, VariableId};
 use std::alloc::{AllocError, Global};
 use std::marker::Model;
 
@@ -11,31 +12,34 @@ use std::marker::Model;
 #[derive(Drop)]
 pub struct SwitchTails {
     /// ` switch NAME inactive`, and LF.
-    pub inactive: Vec<u8>,
+    pub inactive: Phrase,
     /// ` switch NAME active`, and LF.
-    pub active: Vec<u8>,
+    pub active: Phrase,
 }
 
-/// A plan whose lines are printed. What the lines of an event or a switch say after their owner is made
-/// once, so that such a line takes few writes.
+/// A plan whose lines are printed. What the lines of an event, a switch or a variable say of it is made
+/// once.
 #[derive(Drop)]
 pub struct PrintedPlan<'p> {
     plan: &'p Plan,
     /// Of each event ` event NAME`, and LF.
-    event_tails: Vec<Vec<u8>>,
+    event_tails: Vec<Phrase>,
     switch_tails: Vec<SwitchTails>,
+    /// Of each variable `NAME `.
+    variable_words: Vec<Phrase>,
 }
 
 impl<'p> Model for PrintedPlan<'p> {
     ghost use Rattle.std.specs.Prelude.{◌≡◌, map};
     ghost use Rattle.plan_tables.specs.PlanView.{PlanView};
-    ghost use Rattle.pinball_shell.specs.LineTails.{event_tail_named, switch_tails_of, tails_view, both_tails_view};
+    ghost use Rattle.pinball_shell.specs.LineTails.{event_tail_named, switch_tails_of, variable_word_named};
 
     ghost Value = { PlanView };
 
     ghost view = { λ t. t.plan.now };
 
-    ghost invariant = { λ t. (tails_view t.event_tails.items ≡ map event_tail_named t.plan.now.events) × (both_tails_view t.switch_tails.items ≡ map switch_tails_of t.plan.now.switches) };
+    ghost invariant = { λ t. (t.event_tails.items ≡ map event_tail_named t.plan.now.events) × (t.switch_tails.items ≡ map switch_tails_of t.plan.now.switches)
+        × (t.variable_words.items ≡ map variable_word_named t.plan.now.variables) };
 }
 
 impl<'p> PrintedPlan<'p> {
@@ -49,10 +53,12 @@ impl<'p> PrintedPlan<'p> {
     {
         let event_tails = event_tails(alloc, plan)?;
         let switch_tails = switch_tails(alloc, plan)?;
+        let variable_words = variable_words(alloc, plan)?;
         Ok(PrintedPlan {
             plan,
             event_tails,
             switch_tails,
+            variable_words,
         })
     }
 
@@ -63,42 +69,36 @@ impl<'p> PrintedPlan<'p> {
         self.plan
     }
 
-    /// ` event NAME`, and LF. The name is empty if the plan lacks the event.
-    pub fn event_tail(&self, event: EventId) -> &[u8]
-        ensures { result.now ≡ event_tail self.now event }
+    /// ` event NAME`, and LF: none where the plan lacks the event.
+    pub fn event_tail(&self, event: EventId) -> Option<&Phrase>
+        ensures { MatchOption result (event_tail self.now event ≡ event_tail_named []) (λ tail. tail.now ≡ event_tail self.now event) }
     {
-        let place = event.0 as usize;
-        if place < self.event_tails.len() {
-            &self.event_tails[place]
+        self.event_tails.get(event.0 as usize)
+    }
+
+    /// ` switch NAME active`, or `inactive`, and LF: none where the plan lacks the switch.
+    pub fn switch_tail(&self, switch: SwitchId, active: bool) -> Option<&Phrase>
+        ensures { MatchOption result (switch_tail self.now switch active ≡ switch_tail_named [] active) (λ tail. tail.now ≡ switch_tail self.now switch active) }
+    {
+        let tails = self.switch_tails.get(switch.0 as usize)?;
+        if active {
+            Some(&tails.active)
         } else {
-            b" event \n"
+            Some(&tails.inactive)
         }
     }
 
-    /// ` switch NAME active`, or `inactive`, and LF. The name is empty if the plan lacks the switch.
-    pub fn switch_tail(&self, switch: SwitchId, active: bool) -> &[u8]
-        ensures { result.now ≡ switch_tail self.now switch active }
+    /// `NAME `: none where the plan lacks the variable.
+    pub fn variable_word(&self, variable: VariableId) -> Option<&Phrase>
+        ensures { MatchOption result (variable_word self.now variable ≡ variable_word_named []) (λ word. word.now ≡ variable_word self.now variable) }
     {
-        let place = switch.0 as usize;
-        if place >= self.switch_tails.len() {
-            return if active {
-                b" switch  active\n"
-            } else {
-                b" switch  inactive\n"
-            };
-        }
-        let tails = &self.switch_tails[place];
-        if active {
-            &tails.active
-        } else {
-            &tails.inactive
-        }
+        self.variable_words.get(variable.0 as usize)
     }
 }
 
 /// What the lines of each event say after their owner.
-fn event_tails(alloc: Global, plan: &Plan) -> Result<Vec<Vec<u8>>, AllocError>
-    ensures { IfOk result (λ tails. tails_view tails.items ≡ map event_tail_named plan.now.events) }
+fn event_tails(alloc: Global, plan: &Plan) -> Result<Vec<Phrase>, AllocError>
+    ensures { IfOk result (λ tails. tails.items ≡ map event_tail_named plan.now.events) }
 {
     let mut tails = Vec::with_capacity(alloc, plan.event_count())?;
     for number in 0..plan.event_count() {
@@ -111,7 +111,7 @@ fn event_tails(alloc: Global, plan: &Plan) -> Result<Vec<Vec<u8>>, AllocError>
 
 /// What the lines of each switch say after their owner.
 fn switch_tails(alloc: Global, plan: &Plan) -> Result<Vec<SwitchTails>, AllocError>
-    ensures { IfOk result (λ tails. both_tails_view tails.items ≡ map switch_tails_of plan.now.switches) }
+    ensures { IfOk result (λ tails. tails.items ≡ map switch_tails_of plan.now.switches) }
 {
     let mut tails = Vec::with_capacity(alloc, plan.switch_count())?;
     for number in 0..plan.switch_count() {
@@ -123,13 +123,25 @@ fn switch_tails(alloc: Global, plan: &Plan) -> Result<Vec<SwitchTails>, AllocErr
     Ok(tails)
 }
 
+/// The name of each variable, and a blank.
+fn variable_words(alloc: Global, plan: &Plan) -> Result<Vec<Phrase>, AllocError>
+    ensures { IfOk result (λ words. words.items ≡ map variable_word_named plan.now.variables) }
+{
+    let mut words = Vec::with_capacity(alloc, plan.variable_count())?;
+    for number in 0..plan.variable_count() {
+        let name = plan.variable_name(VariableId(number as u16));
+        let word = joined(alloc, b"", name, b" ")?;
+        words.push(word)?;
+    }
+    Ok(words)
+}
+
 /// Three texts, one after the other.
-fn joined(alloc: Global, word: &[u8], name: &[u8], end: &[u8]) -> Result<Vec<u8>, AllocError>
-    ensures { IfOk result (λ text. text.items ≡ word.now ++ name.now ++ end.now) }
+fn joined(alloc: Global, word: &[u8], name: &[u8], end: &[u8]) -> Result<Phrase, AllocError>
+    ensures { IfOk result (λ phrase. phrase ≡ word.now ++ name.now ++ end.now) }
 {
     let mut text = Vec::from_slice(alloc, word)?;
     text.extend_from_slice(name)?;
     text.extend_from_slice(end)?;
-    text.shrink_to_fit();
-    Ok(text)
+    Phrase::new(alloc, &text)
 }

@@ -6,46 +6,54 @@ ghost use Rattle.std.specs.Fmt.{decimal, signed_decimal};
 ghost use Rattle.std.specs.Io.KnownBytes.{Appends};
 ghost use Rattle.plan_tables.specs.PlanView.{mode_at, name_of_variable, coil_at};
 ghost use Rattle.coil_guard.specs.SentCommands.{coil_of};
-ghost use Rattle.pinball_shell.specs.TraceText.{word_text, sent_text, action_name, skip_text, player_text, balls_text, rest_text, owner_text, line_text, off_text, off_texts, refused_text};
+ghost use Rattle.pinball_shell.specs.TraceText.{word_text, sent_text, skip_text, player_text, balls_text, rest_text, owner_text, line_text, off_text, off_texts, refused_text};
+ghost use Rattle.pinball_shell.specs.LineTails.{variable_word};
+ghost use Rattle.pinball_shell.specs.Pages.{Puts};
 
-use crate::front::Front;
+use crate::front::{DIGITS, Front};
+use crate::page::{Page, WriteFailed};
+use crate::phrase::START;
 use crate::printed_plan::PrintedPlan;
 use crate::refusal::Refusal;
 use coil_guard::Command;
-use itoa::{Buffer, Integer};
+use itoa::write_digits;
 use plan_tables::{CoilId, ModeId, Owner, Plan, VariableId};
 use std::io::{self, Write};
 use written_machine::line::BallCounts;
 use written_machine::{Happening, Line};
 
-/// Writes the lines of a stimulus.
+/// Writes the lines of a stimulus, which are put together on the page.
 pub fn write_lines<W: Write>(
     plan: &PrintedPlan<'_>,
     lines: &[Line],
+    page: &mut Page,
     writer: &mut W,
-) -> io::Result<()>
+) -> Result<(), WriteFailed>
     ensures { OnOk result (Appends (W.contents writer.old) (W.contents writer.new) (flat_map (line_text plan.now) lines.now)) }
 {
-    match lines.first() {
-        None => Ok(()),
-        Some(first) => write_from(plan, Front::new(first.moment), lines, writer),
-    }
+    let Some(first) = lines.first() else {
+        return Ok(());
+    };
+    page.clear();
+    put_lines(plan, Front::new(first.moment), lines, page, writer)?;
+    page.write_out(writer)
 }
 
-/// Writes lines, whatever moment the front is of. It is made anew only where a line is of another
-/// moment than the one before.
-fn write_from<W: Write>(
+/// Puts lines on the page, whatever moment the front is of. It is made anew only where a line is of
+/// another moment than the one before.
+fn put_lines<W: Write>(
     plan: &PrintedPlan<'_>,
     mut front: Front,
     lines: &[Line],
+    page: &mut Page,
     writer: &mut W,
-) -> io::Result<()>
-    ensures { OnOk result (Appends (W.contents writer.old) (W.contents writer.new) (flat_map (line_text plan.now) lines.now)) }
+) -> Result<(), WriteFailed>
+    ensures { OnOk result (Puts (W.contents writer.old) page.old (W.contents writer.new) page.new (flat_map (line_text plan.now) lines.now)) }
 {
     for line in lines {
         front.turn_to(line.moment);
-        write_owner(plan.tables(), line.owner, &front, writer)?;
-        write_tail(plan, line.happening, writer)?;
+        put_owner(plan.tables(), line.owner, &front, page, writer)?;
+        put_tail(plan, &line.happening, page, writer)?;
     }
     Ok(())
 }
@@ -90,146 +98,192 @@ pub fn write_refused<W: Write>(line: usize, refusal: Refusal, writer: &mut W) ->
     )
 }
 
-/// Writes the moment and the owner.
-fn write_owner<W: Write>(plan: &Plan, owner: Owner, front: &Front, writer: &mut W) -> io::Result<()>
-    ensures { OnOk result (Appends (W.contents writer.old) (W.contents writer.new) (decimal front.now ++ codes " " ++ owner_text plan.now owner)) }
+/// Puts the moment and the owner on the page.
+fn put_owner<W: Write>(
+    plan: &Plan,
+    owner: Owner,
+    front: &Front,
+    page: &mut Page,
+    writer: &mut W,
+) -> Result<(), WriteFailed>
+    ensures { OnOk result (Puts (W.contents writer.old) page.old (W.contents writer.new) page.new (decimal front.now ++ codes " " ++ owner_text plan.now owner)) }
 {
     match owner {
-        Owner::Machine => writer.write_all(front.up_to_machine()),
+        Owner::Machine => page.put_start(front.text(), front.digits() + 8, writer),
         Owner::Mode(mode) => {
-            writer.write_all(front.up_to_moment())?;
-            writer.write_all(mode_name(plan, mode))
+            page.put_start(front.text(), front.digits() + 1, writer)?;
+            page.put(mode_name(plan, mode), writer)
         }
     }
 }
 
-/// Writes what comes after the owner: the word that says what happened, and what follows it.
-fn write_tail<W: Write>(
+/// Puts what comes after the owner on the page: the word that says what happened, and what follows
+/// it.
+fn put_tail<W: Write>(
     plan: &PrintedPlan<'_>,
-    happening: Happening,
+    happening: &Happening,
+    page: &mut Page,
     writer: &mut W,
-) -> io::Result<()>
-    ensures { OnOk result (Appends (W.contents writer.old) (W.contents writer.new) (codes " " ++ word_text happening ++ rest_text plan.now happening)) }
+) -> Result<(), WriteFailed>
+    ensures { OnOk result (Puts (W.contents writer.old) page.old (W.contents writer.new) page.new (codes " " ++ word_text happening.now ++ rest_text plan.now happening.now)) }
 {
-    match happening {
-        Happening::Event(event) => writer.write_all(plan.event_tail(event)),
-        Happening::Switch(switch, active) => writer.write_all(plan.switch_tail(switch, active)),
+    match *happening {
+        Happening::Event(event) => match plan.event_tail(event) {
+            Some(tail) => page.put_phrase(tail, writer),
+            None => page.put(b" event \n", writer),
+        },
+        Happening::Switch(switch, active) => match plan.switch_tail(switch, active) {
+            Some(tail) => page.put_phrase(tail, writer),
+            None if active => page.put(b" switch  active\n", writer),
+            None => page.put(b" switch  inactive\n", writer),
+        },
         Happening::Coil(command) => {
-            writer.write_all(b" coil ")?;
-            write_sent(command_name(plan.tables(), command), command, writer)
+            page.put(b" coil ", writer)?;
+            put_sent(command_name(plan.tables(), command), command, page, writer)
         }
         Happening::Skip(command) => {
-            writer.write_all(b" skip ")?;
-            write_skip(command_name(plan.tables(), command), command, writer)
+            page.put(b" skip ", writer)?;
+            put_skip(command_name(plan.tables(), command), command, page, writer)
         }
         Happening::Player(player, variable, value) => {
-            writer.write_all(b" player ")?;
-            write_player(
-                player,
-                variable_name(plan.tables(), variable),
-                value,
-                writer,
-            )
+            put_player(plan, player, variable, value, page, writer)
         }
         Happening::Balls(_, counts) => {
-            writer.write_all(b" balls ")?;
-            write_balls(counts, writer)
+            page.put(b" balls ", writer)?;
+            put_balls(counts, page, writer)
         }
         Happening::Final(player, score) => {
-            writer.write_all(b" final ")?;
-            write_player_number(player, writer)?;
-            write_value(score, writer)
+            page.put(b" final ", writer)?;
+            put_number(player as u64, b' ', page, writer)?;
+            put_value(score, page, writer)
         }
     }
 }
 
-fn write_sent<W: Write>(name: &[u8], command: Command, writer: &mut W) -> io::Result<()>
-    ensures { OnOk result (Appends (W.contents writer.old) (W.contents writer.new) (sent_text name.now command)) }
+fn put_sent<W: Write>(
+    name: &[u8],
+    command: Command,
+    page: &mut Page,
+    writer: &mut W,
+) -> Result<(), WriteFailed>
+    ensures { OnOk result (Puts (W.contents writer.old) page.old (W.contents writer.new) page.new (sent_text name.now command)) }
 {
-    writer.write_all(name)?;
+    page.put(name, writer)?;
     match command {
         Command::Pulse { ms, power, .. } => {
-            writer.write_all(b" pulse ")?;
-            write_number(ms, writer)?;
-            writer.write_all(b" ")?;
-            write_number(power, writer)?;
-            writer.write_all(b"\n")
+            page.put(b" pulse ", writer)?;
+            put_number(u64::from(ms), b' ', page, writer)?;
+            put_number(u64::from(power), b'\n', page, writer)
         }
         Command::Enable { power, .. } => {
-            writer.write_all(b" enable ")?;
-            write_number(power, writer)?;
-            writer.write_all(b"\n")
+            page.put(b" enable ", writer)?;
+            put_number(u64::from(power), b'\n', page, writer)
         }
-        Command::Disable { .. } => writer.write_all(b" disable\n"),
+        Command::Disable { .. } => page.put(b" disable\n", writer),
     }
 }
 
-fn write_skip<W: Write>(name: &[u8], command: Command, writer: &mut W) -> io::Result<()>
-    ensures { OnOk result (Appends (W.contents writer.old) (W.contents writer.new) (skip_text name.now command)) }
+fn put_skip<W: Write>(
+    name: &[u8],
+    command: Command,
+    page: &mut Page,
+    writer: &mut W,
+) -> Result<(), WriteFailed>
+    ensures { OnOk result (Puts (W.contents writer.old) page.old (W.contents writer.new) page.new (skip_text name.now command)) }
 {
-    writer.write_all(name)?;
-    writer.write_all(b" ")?;
-    writer.write_all(action_word(command))?;
-    writer.write_all(b"\n")
-}
-
-fn write_player<W: Write>(player: usize, name: &[u8], value: i64, writer: &mut W) -> io::Result<()>
-    ensures { OnOk result (Appends (W.contents writer.old) (W.contents writer.new) (player_text player name.now value)) }
-{
-    write_player_number(player, writer)?;
-    writer.write_all(name)?;
-    writer.write_all(b" ")?;
-    write_value(value, writer)
-}
-
-fn write_player_number<W: Write>(player: usize, writer: &mut W) -> io::Result<()>
-    ensures { OnOk result (Appends (W.contents writer.old) (W.contents writer.new) (decimal player ++ codes " ")) }
-{
-    write_number(player, writer)?;
-    writer.write_all(b" ")
-}
-
-fn write_value<W: Write>(value: i64, writer: &mut W) -> io::Result<()>
-    ensures { OnOk result (Appends (W.contents writer.old) (W.contents writer.new) (signed_decimal value ++ 10 ∷ [])) }
-{
-    write_number(value, writer)?;
-    writer.write_all(b"\n")
-}
-
-/// Writes a number without the machinery of `write!`, which takes several times as long.
-fn write_number<N: Integer, W: Write>(number: N, writer: &mut W) -> io::Result<()>
-    ensures { OnOk result (Appends (W.contents writer.old) (W.contents writer.new) (N.text number)) }
-{
-    let mut buffer = Buffer::new();
-    writer.write_all(buffer.format(number).as_bytes())
-}
-
-fn write_balls<W: Write>(counts: BallCounts, writer: &mut W) -> io::Result<()>
-    ensures { OnOk result (Appends (W.contents writer.old) (W.contents writer.new) (balls_text counts)) }
-{
-    write_number(counts.known, writer)?;
-    write_next_count(counts.counted, writer)?;
-    write_next_count(counts.transit, writer)?;
-    write_next_count(counts.playfield, writer)?;
-    writer.write_all(b"\n")
-}
-
-fn write_next_count<W: Write>(count: u64, writer: &mut W) -> io::Result<()>
-    ensures { OnOk result (Appends (W.contents writer.old) (W.contents writer.new) (codes " " ++ decimal count)) }
-{
-    writer.write_all(b" ")?;
-    write_number(count, writer)
-}
-
-/// The action that was asked for.
-fn action_word(command: Command) -> &'static [u8]
-    ensures { result.now ≡ action_name command }
-{
+    page.put(name, writer)?;
     match command {
-        Command::Pulse { .. } => b"pulse",
-        Command::Enable { .. } => b"enable",
-        Command::Disable { .. } => b"disable",
+        Command::Pulse { .. } => page.put(b" pulse\n", writer),
+        Command::Enable { .. } => page.put(b" enable\n", writer),
+        Command::Disable { .. } => page.put(b" disable\n", writer),
     }
+}
+
+fn put_player<W: Write>(
+    plan: &PrintedPlan<'_>,
+    player: usize,
+    variable: VariableId,
+    value: i64,
+    page: &mut Page,
+    writer: &mut W,
+) -> Result<(), WriteFailed>
+    ensures { OnOk result (Puts (W.contents writer.old) page.old (W.contents writer.new) page.new (codes " player " ++ player_text player (name_of_variable plan.now variable) value)) }
+{
+    put_player_number(player, page, writer)?;
+    put_variable(plan, variable, page, writer)?;
+    put_value(value, page, writer)
+}
+
+/// Puts ` player `, the number of a player, and a blank on the page.
+fn put_player_number<W: Write>(
+    player: usize,
+    page: &mut Page,
+    writer: &mut W,
+) -> Result<(), WriteFailed>
+    ensures { OnOk result (Puts (W.contents writer.old) page.old (W.contents writer.new) page.new (codes " player " ++ decimal player ++ codes " ")) }
+{
+    if player < 10 {
+        let mut text = *b" player 0                       ";
+        text[8] += player as u8;
+        return page.put_start(&text, 10, writer);
+    }
+    page.put(b" player ", writer)?;
+    put_number(player as u64, b' ', page, writer)
+}
+
+/// Puts the name of a variable on the page, and a blank.
+fn put_variable<W: Write>(
+    plan: &PrintedPlan<'_>,
+    variable: VariableId,
+    page: &mut Page,
+    writer: &mut W,
+) -> Result<(), WriteFailed>
+    ensures { OnOk result (Puts (W.contents writer.old) page.old (W.contents writer.new) page.new (variable_word plan.now variable)) }
+{
+    match plan.variable_word(variable) {
+        Some(word) => page.put_phrase(word, writer),
+        None => page.put(b" ", writer),
+    }
+}
+
+fn put_balls<W: Write>(
+    counts: BallCounts,
+    page: &mut Page,
+    writer: &mut W,
+) -> Result<(), WriteFailed>
+    ensures { OnOk result (Puts (W.contents writer.old) page.old (W.contents writer.new) page.new (balls_text counts)) }
+{
+    put_number(counts.known, b' ', page, writer)?;
+    put_number(counts.counted, b' ', page, writer)?;
+    put_number(counts.transit, b' ', page, writer)?;
+    put_number(counts.playfield, b'\n', page, writer)
+}
+
+/// Puts a value on the page, and LF.
+fn put_value<W: Write>(value: i64, page: &mut Page, writer: &mut W) -> Result<(), WriteFailed>
+    ensures { OnOk result (Puts (W.contents writer.old) page.old (W.contents writer.new) page.new (signed_decimal value ++ 10 ∷ [])) }
+{
+    if value < 0 {
+        page.put(b"-", writer)?;
+    }
+    put_number(value.unsigned_abs(), b'\n', page, writer)
+}
+
+/// Puts a number on the page, and the byte that ends it.
+fn put_number<W: Write>(
+    number: u64,
+    end: u8,
+    page: &mut Page,
+    writer: &mut W,
+) -> Result<(), WriteFailed>
+    ensures { OnOk result (Puts (W.contents writer.old) page.old (W.contents writer.new) page.new (decimal number ++ end ∷ [])) }
+{
+    if number < 10 {
+        return page.put(&[b'0' + number as u8, end], writer);
+    }
+    let mut room = [end; DIGITS + START];
+    let start = write_digits(number, &mut room, DIGITS);
+    page.put_start(&room[start..], DIGITS + 1 - start, writer)
 }
 
 /// The name of a mode: nothing where the plan lacks it.
@@ -260,17 +314,6 @@ fn coil_name(plan: &Plan, coil: CoilId) -> &[u8]
 {
     if (coil.0 as usize) < plan.coil_count() {
         plan.coil_name(coil)
-    } else {
-        &[]
-    }
-}
-
-/// The name of a variable: nothing where the plan lacks it.
-fn variable_name(plan: &Plan, variable: VariableId) -> &[u8]
-    ensures { result.now ≡ name_of_variable plan.now variable }
-{
-    if (variable.0 as usize) < plan.variable_count() {
-        plan.variable_name(variable)
     } else {
         &[]
     }

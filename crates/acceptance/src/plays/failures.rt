@@ -16,7 +16,8 @@ const FAILING: &str = "
 (one switch)
 --- log
 100 s_left 1
-200
+200 s_left 0
+300
 --- writer
 (fails at its second write)
 => Write 2

@@ -10,6 +10,9 @@ use Rattle.pinball_shell.proofs.play.play_log.Goals as goal
 pub returns-in_err-printed-clause-run : goal.returns-in_err-printed-clause-run
 returns-in_err-printed-clause-run g c = log_is_run c.args.checked.now c.plan-plan.ensures.accepted c.args.log.now
 
+pub returns-in_err-page-clause-run : goal.returns-in_err-page-clause-run
+returns-in_err-page-clause-run g c = log_is_run c.args.checked.now c.plan-plan.ensures.accepted c.args.log.now
+
 pub returns-in_err-rig-clause-run : goal.returns-in_err-rig-clause-run
 returns-in_err-rig-clause-run g c = log_is_run c.args.checked.now c.plan-plan.ensures.accepted c.args.log.now
 
