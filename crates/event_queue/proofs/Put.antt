@@ -1,9 +1,10 @@
 -- An item put into a list in order, and taken out of it.
-use Rattle.std.proofs.Common.{◌≡◌, ℕ, zero, suc, ◌<◌, ◌≤◌, Bool, true, false, true≢false, Option, Some, None, is_some, OnSome, List, [], ◌∷◌, length, refl, ap, sym, ◌∙◌, inl, inr, arith}
+use Rattle.std.proofs.Common.{◌≡◌, ℕ, zero, suc, ◌-◌, ◌<◌, ◌≤◌, Bool, true, false, true≢false, Option, Some, None, is_some, OnSome, List, [], ◌∷◌, length, get_or, refl, ap, sym, ◌∙◌, inl, inr, arith}
 use Rattle.std.specs.List.{All, AllPairs, AllWithin, insert, remove}
 use Rattle.std.specs.List.Sorted.{IsPartitionedBy}
 use Rattle.std.specs.Cmp.{IsStrictWeakOrder}
 use Rattle.std.proofs.lemmas.Bool.{cases_Bool, cases_lt, cond_both, cond-true, cond-false, true_from_ne_false, false_from_ne_true}
+use Rattle.std.proofs.lemmas.List.{get_or_default}
 use Rattle.std.proofs.lemmas.List.Elements.{All-cons}
 use Rattle.std.proofs.lemmas.List.Kept.{AllPairs-cons}
 use Rattle.event_queue.specs.Inside.{put, IsOrdered, IsPlaceOf}
@@ -94,6 +95,33 @@ module _ {X : Type 0} (before : X → X → Bool) where
           | inl low ↦ true_from_ne_false _ (λ not. true≢false (sym is ∙ order.chain _ _ _ (ordered i j d low within) not))
           | inr high ↦ let same : i ≡ j = omega arith in rw same is
         ]
+
+    -- ---- where the place is seen at an end
+
+    -- the first item does not come before x, so none does
+    pub place-front : (x first : X) (ys : List X) → IsOrdered before ys → 0 < length ys → first ≡ get_or ys 0 first → before first x ≡ false → IsPlaceOf before x ys 0
+    place-front x first ys ordered some is not = (
+      omega arith,
+      (
+        (λ k d low high. absurd (omega arith)),
+        λ k d low high.
+            false_from_ne_true (before (get_or ys k d) x) (λ comes.
+            let here : first ≡ get_or ys 0 d = is ∙ get_or_default ys 0 first d some in
+            true≢false (sym (ap (λ y. before y x) here ∙ ordered-parted x ys ordered 0 k d (omega arith) high comes) ∙ not)),
+      ),
+    )
+
+    -- the last item comes before x, so all do
+    pub place-back : (x last : X) (ys : List X) → IsOrdered before ys → 0 < length ys → last ≡ get_or ys (length ys - 1) last → before last x ≡ true → IsPlaceOf before x ys (length ys)
+    place-back x last ys ordered some is comes = (
+      omega arith,
+      (
+        (λ k d low high.
+            let here : last ≡ get_or ys (length ys - 1) d = is ∙ get_or_default ys (length ys - 1) last d (omega arith) in
+            ordered-parted x ys ordered k (length ys - 1) d (omega arith) (omega arith) (sym (ap (λ y. before y x) here) ∙ comes)),
+        λ k d low high. absurd (omega arith),
+      ),
+    )
 
     -- ---- two items may be put in either order
 

@@ -49,9 +49,23 @@ impl Alarms {
         })
     }
 
-    /// From now on a row is due at this moment, or not at all. Nothing else changes. The place of
-    /// an alarm is found by halving. Only the alarms on the shorter side of it move.
+    /// From now on a row is due at this moment, or not at all. Nothing else changes.
+    #[inline(always)]
     pub fn set(&mut self, row: RowId, due: Option<u64>)
+        requires { row.0 < length self.old }
+        ensures { self.new ≡ slice_set self.old row.0 due }
+    {
+        // Most calls of a device leave its moment as it was.
+        if self.dues[row.0 as usize] != due {
+            self.move_alarm(row, due);
+        }
+    }
+
+    /// As `set`, and slower where nothing changes. Takes the row's alarm out, and puts the new one
+    /// in: each time only the alarms on the shorter side of its place move. It is never inlined, so
+    /// that `set` stays small.
+    #[inline(never)]
+    fn move_alarm(&mut self, row: RowId, due: Option<u64>)
         requires { row.0 < length self.old }
         ensures { self.new ≡ slice_set self.old row.0 due }
     {
@@ -62,12 +76,11 @@ impl Alarms {
         put_in(ordered, alarm_of(row, due));
     }
 
-    /// The moment at which a row is due, if it is.
+    /// The moment at which a row is due, if there is such a row and it is due.
     pub fn due(&self, row: RowId) -> Option<u64>
-        requires { row.0 < length self.now }
         ensures { result ≡ due_of self.now row }
     {
-        self.dues[row.0 as usize]
+        self.dues.get(row.0 as usize).copied().flatten()
     }
 
     /// The least moment at which a row is due, and of the rows that are due then the lowest. None
@@ -110,11 +123,21 @@ fn take_out(ordered: &mut VecDeque<(u64, RowId)>, alarm: Option<(u64, RowId)>)
     let _taken = ordered.remove(place);
 }
 
-/// How many alarms come before this one, found by halving.
+/// How many alarms come before this one. It looks at the front and at the back first, and then
+/// halves: most alarms are taken out in front, and many are put in at the end.
 fn place_of(ordered: &VecDeque<(u64, RowId)>, alarm: (u64, RowId)) -> usize
     requires { IsOrdered comes_before ordered.now.items }
     ensures { IsPlaceOf comes_before alarm ordered.now.items result }
 {
+    let (Some(first), Some(last)) = (ordered.front(), ordered.back()) else {
+        return 0;
+    };
+    if !comes_before(*first, alarm) {
+        return 0;
+    }
+    if comes_before(*last, alarm) {
+        return ordered.len();
+    }
     ordered.partition_point(|other| comes_before(*other, alarm))
 }
 

@@ -28,10 +28,11 @@ impl<'p> Model for Handlers<'p> {
     ghost view = { λ h. record { plan = h.plan.now; running = h.running.items } };
 
     ghost use Rattle.std.specs.Prelude.{◌≡◌, length};
+    ghost use Rattle.plan_tables.specs.Valid.{IsValid};
     ghost use Rattle.event_queue.specs.Handlers.{runs_at};
     ghost use Rattle.event_queue.specs.Inside.{HasOrders, HasOwned};
 
-    ghost invariant = { λ h. (length h.running.items ≡ length h.plan.now.modes) × HasOwned h.plan.now h.owned.items × HasOrders h.plan.now (runs_at h.plan.now h.running.items) h.orders.items };
+    ghost invariant = { λ h. (length h.running.items ≡ length h.plan.now.modes) × HasOwned h.plan.now h.owned.items × HasOrders h.plan.now (runs_at h.plan.now h.running.items) h.orders.items × IsValid h.plan.now };
 }
 
 impl<'p> Handlers<'p> {
@@ -113,10 +114,9 @@ impl<'p> Handlers<'p> {
         ensures places { result.now ≡ in_order self.now.plan self.now.running event }
         ensures within { All (λ p. p.0 < length self.now.plan.bindings) result.now }
     {
-        if (event.0 as usize) < self.plan.event_count() {
-            &self.orders[event.0 as usize]
-        } else {
-            &[]
+        match self.orders.get(event.0 as usize) {
+            Some(order) => order,
+            None => &[],
         }
     }
 }

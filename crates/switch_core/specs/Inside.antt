@@ -22,7 +22,7 @@ abbrev pub soonest : List (ℕ × SwitchId) → Option (ℕ × SwitchId)
 soonest [] = None
 soonest (d ∷ others) = sooner (Some d) (soonest others)
 
--- These wait by these states, of which one is the switch's, and is due at the moment, if at any.
+-- The list has the switches that are due by these states. Among the states is that of the switch, which is due at this moment, or not at all.
 pub record IsWaiting (switch : SwitchId) (due : Option ℕ) (states : List SwitchState) (waiting : List (ℕ × SwitchId)) : Type 0 where
   pub within : switch.0 < length states
   pub due_is : (slice_index_or states switch.0 (idle no_kind)).due ≡ due

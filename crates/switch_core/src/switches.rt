@@ -142,8 +142,8 @@ impl Switches {
     }
 }
 
-/// From now on a switch that was due at the one moment is due at the other one. None stands for
-/// not due. All others that wait stay.
+/// A switch that was due at the moment `was` is due at `due` from now on; `None` means that it is not
+/// due. The other switches in the list stay.
 fn set_due(waiting: &mut Vec<(u64, SwitchId)>, switch: SwitchId, was: Option<u64>, due: Option<u64>)
     requires { (states : List SwitchState) × IsWaiting switch was states waiting.old.items × (length states ≤ vec_capacity waiting.old) }
     ensures items { (states : List SwitchState) (new : SwitchState) → IsWaiting switch was states waiting.old.items → new.due ≡ due → waiting.new.items ≡ waiting_from 0 (slice_set states switch.0 new) }

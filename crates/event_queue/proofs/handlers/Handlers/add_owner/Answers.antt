@@ -62,4 +62,5 @@ invariant_of-self-2 c =
       length-set running c.args.mode.0 true ∙ c.self.invariant.0,
       c.self.invariant.1,
       orders-agree plan (joining plan running c.args.mode k) c.loop-place.orders.items c.loop-place.invariant (runs_at plan (slice_set running c.args.mode.0 true)) (λ p known. joining-all plan running c.args.mode k all inside p known),
+      c.self.invariant.3,
     )

@@ -62,4 +62,5 @@ invariant_of-self-2 c =
       length-set running c.args.mode.0 false ∙ c.self.invariant.0,
       c.self.invariant.1,
       orders-agree plan (leaving plan running c.args.mode k) c.loop-place.orders.items c.loop-place.invariant (runs_at plan (slice_set running c.args.mode.0 false)) (λ p known. leaving-all plan running c.args.mode k all inside p known),
+      c.self.invariant.3,
     )

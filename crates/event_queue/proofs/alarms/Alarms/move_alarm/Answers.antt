@@ -3,7 +3,7 @@ use Rattle.std.proofs.lemmas.List.{length-set}
 use Rattle.event_queue.specs.Alarms.{comes_before}
 use Rattle.event_queue.specs.Inside.{IsOrdered, put_alarm}
 use Rattle.event_queue.proofs.InOrder.{others, others-ordered, others-put, others-was, others-room}
-use Rattle.event_queue.proofs.alarms.Alarms.set.Goals as goal
+use Rattle.event_queue.proofs.alarms.Alarms.move_alarm.Goals as goal
 
 pub take_out-requires : goal.take_out-requires
 take_out-requires c =
