@@ -15,7 +15,7 @@ use Rattle.written_machine.proofs.Growth.{all_do-grows, handler-grows}
 use Rattle.written_machine.proofs.Parts.{does-handlers, does-before, does-after}
 use Rattle.written_machine.proofs.Silence.{handlers-still}
 use Rattle.machine_core.specs.Core.{CoreView, CanCall, HasHandlers, HasRoom, after, follow, after_taken}
-use Rattle.machine_core.specs.Kept.{kept_at}
+use Rattle.machine_core.specs.Inside.{kept_at}
 use Rattle.machine_core.proofs.Following.{follow-nothing}
 use Rattle.machine_core.proofs.Room.{room-before}
 use Rattle.machine_core.proofs.Callable.{can-does}

@@ -7,6 +7,7 @@ ghost use Rattle.written_machine.specs.Machine.{add_balls, do_action_by, drain_i
 ghost use Rattle.machine_core.specs.Balls.{IsTellingThere};
 ghost use Rattle.machine_core.specs.Core.{CanCall, HasRoom, after};
 ghost use Rattle.machine_core.specs.Goes.{AlwaysGoes, Tell};
+ghost use Rattle.machine_core.specs.Inside.{IsRare};
 
 use crate::balls::BallCall;
 use crate::core_state::Core;
@@ -27,6 +28,7 @@ pub(crate) trait Tells {
 }
 
 /// An action. Where another device is to know of it, that one is told last.
+#[inline]
 pub(crate) fn run_by<D: Device, T: Tells>(core: &mut Core<'_, D>, owner: Owner, action: &Action)
     requires action { IsActionWithin core.old.plan action.now }
     requires goes { AlwaysGoes T.tell }
@@ -36,15 +38,33 @@ pub(crate) fn run_by<D: Device, T: Tells>(core: &mut Core<'_, D>, owner: Owner, 
 {
     match *action {
         Action::Post(event) => core.post(owner, event),
-        Action::Pulse { coil, ms, power } => core.ask(owner, Command::Pulse { coil, ms, power }),
-        Action::Enable { coil, power } => core.ask(owner, Command::Enable { coil, power }),
-        Action::Disable { coil } => core.ask(owner, Command::Disable { coil }),
         Action::Change {
             variable,
             action,
             number,
             event,
         } => core.change_variable(owner, variable, action, number, event),
+        // A command or a booking needs room that is cleared first. Another function makes them, so
+        // that the room is not cleared at each action.
+        _ => run_rare_by::<D, T>(core, owner, action),
+    }
+}
+
+/// The same, of an action that neither posts an event nor changes a variable.
+#[inline(never)]
+fn run_rare_by<D: Device, T: Tells>(core: &mut Core<'_, D>, owner: Owner, action: &Action)
+    requires rare { IsRare action.now }
+    requires action { IsActionWithin core.old.plan action.now }
+    requires goes { AlwaysGoes T.tell }
+    requires calls { CanCall core.old }
+    requires room { HasRoom core.old.room (do_action_by core.old.plan (T.tell core.old.plan) owner action.now core.old.machine) }
+    ensures { core.new ≡ after (do_action_by core.old.plan (T.tell core.old.plan) owner action.now) core.old }
+{
+    match *action {
+        Action::Post(_) | Action::Change { .. } => unreachable!(),
+        Action::Pulse { coil, ms, power } => core.ask(owner, Command::Pulse { coil, ms, power }),
+        Action::Enable { coil, power } => core.ask(owner, Command::Enable { coil, power }),
+        Action::Disable { coil } => core.ask(owner, Command::Disable { coil }),
         Action::Enter {
             device,
             event,

@@ -263,6 +263,7 @@ impl<'p, D: Device> Core<'p, D> {
     }
 
     /// A line is written.
+    // Inlined: it is done for each line of a trace, and a call would take longer than the work.
     #[inline(always)]
     pub(crate) fn write(&mut self, owner: Owner, happening: Happening)
         requires { length self.old.machine.lines < self.old.room }
@@ -277,6 +278,7 @@ impl<'p, D: Device> Core<'p, D> {
     }
 
     /// An event is posted.
+    // Inlined like `write`: it is done for each event that is posted.
     #[inline(always)]
     pub(crate) fn post(&mut self, owner: Owner, event: EventId)
         requires { length self.old.machine.waiting < self.old.room }
@@ -425,6 +427,7 @@ impl<'p, D: Device> Core<'p, D> {
 
     /// A device that there is is called, and goes on to its next state. Reports the effect lists
     /// that it answers.
+    // Inlined like `write`: it is done for each call of a device.
     #[inline(always)]
     pub(crate) fn call(&mut self, row: RowId, call: Call) -> Outcome
         requires row { row.0 < length self.old.machine.devices }
@@ -451,6 +454,7 @@ impl<'p, D: Device> Core<'p, D> {
 
     /// An action on a variable of the current player. Where the variable changes, its line is
     /// written, and its event posted.
+    // Inlined like `write`: it is done for each action on a variable.
     #[inline(always)]
     pub(crate) fn change_variable(
         &mut self,
@@ -596,6 +600,7 @@ impl<'p, D: Device> Core<'p, D> {
 }
 
 /// One call of one device.
+// Inlined like `Core::write`: it is done for each call of a device.
 #[inline(always)]
 fn call_one<D: Device>(device: &mut D, call: Call, now: u64, world: World) -> Outcome
     requires moment { now < 2 ^ 40 }

@@ -13,7 +13,7 @@ ghost use Rattle.written_machine.specs.EventStep.{is_kept, do_before, do_after};
 ghost use Rattle.written_machine.specs.Run.{begin as begun, fire as fired};
 ghost use Rattle.written_machine.specs.NextAlarm.{next_alarm};
 ghost use Rattle.machine_core.specs.Core.{IsWhole, CanCall, HasHandlers, IsWorkOf, IsPlayable, HasRoom, StaysWithin, HasSettled, after, follow, after_taken};
-ghost use Rattle.machine_core.specs.Kept.{kept_at};
+ghost use Rattle.machine_core.specs.Inside.{kept_at};
 ghost use Rattle.machine_core.specs.Stimuli.{source_view, stimulus_view};
 
 use crate::calls::{call_device, call_devices, run_actions};
