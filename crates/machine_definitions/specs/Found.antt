@@ -6,15 +6,9 @@ use Rattle.std.specs.Borrow.{Bor}
 use Rattle.std.specs.HashMap.{HashMap}
 use Rattle.std.specs.HashSet.{HashSet}
 use Rattle.std.specs.Map.{lookup}
-use Rattle.mpf_sections.specs.declared.coils.Coil as coil_rows
 use Rattle.mpf_sections.specs.Rows.{Coil, SectionRows}
-use Rattle.mpf_sections.specs.View.{coil_view}
-use Rattle.mpf_sections.specs.declared.shots.Shot as shot_rows
 use Rattle.mpf_sections.specs.Rows.{Shot}
-use Rattle.mpf_sections.specs.View.{shot_view}
-use Rattle.mpf_sections.specs.declared.balls.BallDevice as ball_rows
 use Rattle.mpf_sections.specs.Rows.{BallDevice}
-use Rattle.mpf_sections.specs.View.{ball_device_view}
 use Rattle.section_tables.specs.declared.rows.Entry as entry_rows
 use Rattle.section_tables.specs.declared.rows.Fields as field_rows
 use Rattle.mpf_sections.specs.declared.section.Section.{Section}
@@ -39,24 +33,34 @@ profile_view p = record { name = p.name.now; states = names_view p.states.items;
 abbrev pub has_bytes : List ℕ → Bor (List ℕ) → Bool
 has_bytes name key = bytes_eq name key.now
 
+-- entries, as what they are read
+abbrev pub as_coil : Bor entry_rows.Entry → Coil
+as_coil e = coil_of (entry_view e.now)
+
+abbrev pub as_ball_device : Bor entry_rows.Entry → BallDevice
+as_ball_device e = ball_device_of (entry_view e.now)
+
+abbrev pub as_shot : Bor entry_rows.Entry → Shot
+as_shot e = shot_of (entry_view e.now)
+
 -- the coil that is found by a name, and whether a name is found
-abbrev pub found_coil : {S : Type 0} → HashMap (Bor (List ℕ)) coil_rows.Coil S → List ℕ → Option Coil
-found_coil coils name = option_map coil_view (lookup (has_bytes name) coils.entries)
+abbrev pub found_coil : {S : Type 0} → HashMap (Bor (List ℕ)) (Bor entry_rows.Entry) S → List ℕ → Option Coil
+found_coil coils name = option_map as_coil (lookup (has_bytes name) coils.entries)
 
 abbrev pub is_found : {S : Type 0} → HashSet (Bor (List ℕ)) S → List ℕ → Bool
 is_found names name = list_any (has_bytes name) names.keys
 
-abbrev pub found_ball_device : {S : Type 0} → HashMap (Bor (List ℕ)) ball_rows.BallDevice S → List ℕ → Option BallDevice
-found_ball_device devices name = option_map ball_device_view (lookup (has_bytes name) devices.entries)
+abbrev pub found_ball_device : {S : Type 0} → HashMap (Bor (List ℕ)) (Bor entry_rows.Entry) S → List ℕ → Option BallDevice
+found_ball_device devices name = option_map as_ball_device (lookup (has_bytes name) devices.entries)
 
-abbrev pub found_shot : {S : Type 0} → HashMap (Bor (List ℕ)) shot_rows.Shot S → List ℕ → Option Shot
-found_shot shots name = option_map shot_view (lookup (has_bytes name) shots.entries)
+abbrev pub found_shot : {S : Type 0} → HashMap (Bor (List ℕ)) (Bor entry_rows.Entry) S → List ℕ → Option Shot
+found_shot shots name = option_map as_shot (lookup (has_bytes name) shots.entries)
 
 abbrev pub found_profile : {S : Type 0} → HashMap (Bor (List ℕ)) profiles.Profile S → List ℕ → Option Profile
 found_profile found name = option_map profile_view (lookup (has_bytes name) found.entries)
 
 -- by each name the coil that has it is found
-abbrev pub HasCoils : {S : Type 0} → List SectionRows → HashMap (Bor (List ℕ)) coil_rows.Coil S → Type 0
+abbrev pub HasCoils : {S : Type 0} → List SectionRows → HashMap (Bor (List ℕ)) (Bor entry_rows.Entry) S → Type 0
 HasCoils machine coils = (name : List ℕ) → found_coil coils name ≡ coil_called machine name
 
 -- the names of switches are found, and those of switches that are made quick
@@ -67,11 +71,11 @@ abbrev pub HasQuick : {S : Type 0} → List SectionRows → HashSet (Bor (List �
 HasQuick machine names = (name : List ℕ) → is_found names name ≡ makes_quick machine name
 
 -- by each name the ball device that has it is found
-abbrev pub HasBallDevices : {S : Type 0} → List SectionRows → HashMap (Bor (List ℕ)) ball_rows.BallDevice S → Type 0
+abbrev pub HasBallDevices : {S : Type 0} → List SectionRows → HashMap (Bor (List ℕ)) (Bor entry_rows.Entry) S → Type 0
 HasBallDevices machine devices = (name : List ℕ) → found_ball_device devices name ≡ ball_device_called machine name
 
 -- the shots and the profiles of all texts
-abbrev pub HasShots : {S : Type 0} → Rows → HashMap (Bor (List ℕ)) shot_rows.Shot S → Type 0
+abbrev pub HasShots : {S : Type 0} → Rows → HashMap (Bor (List ℕ)) (Bor entry_rows.Entry) S → Type 0
 HasShots rows shots = (name : List ℕ) → found_shot shots name ≡ shot_called rows name
 
 abbrev pub HasProfiles : {S : Type 0} → Rows → HashMap (Bor (List ℕ)) profiles.Profile S → Type 0
@@ -80,13 +84,13 @@ HasProfiles rows found = (name : List ℕ) → found_profile found name ≡ prof
 -- ---- what a map gains
 
 -- Under each name is found what was, or the last of these that has the name.
-abbrev pub GainsCoils : {S : Type 0} → (old new : HashMap (Bor (List ℕ)) coil_rows.Coil S) → List Coil → Type 0
+abbrev pub GainsCoils : {S : Type 0} → (old new : HashMap (Bor (List ℕ)) (Bor entry_rows.Entry) S) → List Coil → Type 0
 GainsCoils old new more = (name : List ℕ) → found_coil new name ≡ fold (latest_coil name) (found_coil old name) more
 
-abbrev pub GainsBallDevices : {S : Type 0} → (old new : HashMap (Bor (List ℕ)) ball_rows.BallDevice S) → List BallDevice → Type 0
+abbrev pub GainsBallDevices : {S : Type 0} → (old new : HashMap (Bor (List ℕ)) (Bor entry_rows.Entry) S) → List BallDevice → Type 0
 GainsBallDevices old new more = (name : List ℕ) → found_ball_device new name ≡ fold (latest_ball_device name) (found_ball_device old name) more
 
-abbrev pub GainsShots : {S : Type 0} → (old new : HashMap (Bor (List ℕ)) shot_rows.Shot S) → List Shot → Type 0
+abbrev pub GainsShots : {S : Type 0} → (old new : HashMap (Bor (List ℕ)) (Bor entry_rows.Entry) S) → List Shot → Type 0
 GainsShots old new more = (name : List ℕ) → found_shot new name ≡ fold (latest_shot name) (found_shot old name) more
 
 abbrev pub GainsProfiles : {S : Type 0} → (old new : HashMap (Bor (List ℕ)) profiles.Profile S) → List Profile → Type 0
@@ -96,7 +100,7 @@ GainsProfiles old new more = (name : List ℕ) → found_profile new name ≡ fo
 abbrev pub GainsNames : {S : Type 0} → (old new : HashSet (Bor (List ℕ)) S) → (is_one : List ℕ → Bool) → Type 0
 GainsNames old new is_one = (name : List ℕ) → is_found new name ≡ (is_found old name || is_one name)
 
--- ---- entries, as what they are read
+-- ---- entries of a list, as what they are read
 
 abbrev pub as_coils : List entry_rows.Entry → List Coil
 as_coils entries = map coil_of (map entry_view entries)
@@ -141,7 +145,7 @@ abbrev pub profiles_among : List Section → List Profile
 profiles_among sections = map profile_of (flat_map shot_profiles_in (section_rows sections))
 
 -- what all fields of `Definitions` hold, where it is of these rows
-pub record IsDefined {S : Type 0} (rows : Rows) (coils : HashMap (Bor (List ℕ)) coil_rows.Coil S) (switches quick : HashSet (Bor (List ℕ)) S) (devices : HashMap (Bor (List ℕ)) ball_rows.BallDevice S) (shots : HashMap (Bor (List ℕ)) shot_rows.Shot S)
+pub record IsDefined {S : Type 0} (rows : Rows) (coils : HashMap (Bor (List ℕ)) (Bor entry_rows.Entry) S) (switches quick : HashSet (Bor (List ℕ)) S) (devices : HashMap (Bor (List ℕ)) (Bor entry_rows.Entry) S) (shots : HashMap (Bor (List ℕ)) (Bor entry_rows.Entry) S)
     (found : HashMap (Bor (List ℕ)) profiles.Profile S) (standard : profiles.Profile) : Type 0 where
   pub coils_found : HasCoils rows.machine coils
   pub switches_found : HasSwitches rows.machine switches

@@ -14,7 +14,7 @@ use crate::shots::{profiles_of, shots_of, standard_profile};
 use indexmap::{IndexMap, IndexSet};
 use mpf_config::config::Config;
 use mpf_config::{
-    Coil, Entry, Section, Shot, as_autofire, as_coil, as_flipper, as_switch, min_balls,
+    Coil, Entry, Section, Shot, as_autofire, as_coil, as_flipper, as_shot, as_switch, min_balls,
 };
 use mpf_sections::{BallDevice, as_ball_device};
 use mpf_tables::tables::{
@@ -31,11 +31,11 @@ use yaml_subset::keys::KeyHashing;
 #[derive(Drop)]
 pub struct Definitions<'a> {
     config: &'a Config,
-    coils: ByName<'a, Coil<'a>>,
+    coils: ByName<'a, &'a Entry>,
     switches: Names<'a>,
     quick: Names<'a>,
-    ball_devices: ByName<'a, BallDevice<'a>>,
-    shots: ByName<'a, Shot<'a>>,
+    ball_devices: ByName<'a, &'a Entry>,
+    shots: ByName<'a, &'a Entry>,
     profiles: ByName<'a, Profile<'a>>,
     standard: Profile<'a>,
 }
@@ -93,7 +93,10 @@ impl<'a> Definitions<'a> {
     pub fn coil(&self, name: &[u8]) -> Option<Coil<'a>>
         ensures { option_map coil_view result ≡ coil_called self.now.machine name.now }
     {
-        self.coils.get(name).copied()
+        match self.coils.get(name) {
+            Some(entry) => Some(as_coil(entry)),
+            None => None,
+        }
     }
 
     /// Whether an entry defines a switch of this name.
@@ -122,14 +125,20 @@ impl<'a> Definitions<'a> {
     pub fn ball_device(&self, name: &[u8]) -> Option<BallDevice<'a>>
         ensures { option_map ball_device_view result ≡ ball_device_called self.now.machine name.now }
     {
-        self.ball_devices.get(name).copied()
+        match self.ball_devices.get(name) {
+            Some(entry) => Some(as_ball_device(entry)),
+            None => None,
+        }
     }
 
     /// The shot of this name, if there is one, in whichever text.
     pub fn shot(&self, name: &[u8]) -> Option<Shot<'a>>
         ensures { option_map shot_view result ≡ shot_called self.now name.now }
     {
-        self.shots.get(name).copied()
+        match self.shots.get(name) {
+            Some(entry) => Some(as_shot(entry)),
+            None => None,
+        }
     }
 
     /// Whether there is a profile of this name: `default`, or one that an entry defines.
@@ -153,7 +162,7 @@ fn coils_of<'a>(
     alloc: Global,
     hashing: KeyHashing,
     sections: &'a [Section],
-) -> Result<ByName<'a, Coil<'a>>, AllocError>
+) -> Result<ByName<'a, &'a Entry>, AllocError>
     ensures { IfOk result (λ coils. HasCoils (section_rows sections.now) coils) }
 {
     let mut coils = IndexMap::with_hasher(alloc, hashing);
@@ -163,12 +172,11 @@ fn coils_of<'a>(
     Ok(coils)
 }
 
-fn add_coils<'a>(coils: &mut ByName<'a, Coil<'a>>, entries: &'a [Entry]) -> Result<(), AllocError>
+fn add_coils<'a>(coils: &mut ByName<'a, &'a Entry>, entries: &'a [Entry]) -> Result<(), AllocError>
     ensures { OnOk result (GainsCoils coils.old coils.new (as_coils entries.now)) }
 {
     for entry in entries {
-        let coil = as_coil(entry);
-        coils.insert(&coil.name.text, coil)?;
+        coils.insert(&entry.name.text, entry)?;
     }
     Ok(())
 }
@@ -178,7 +186,7 @@ fn ball_devices_of<'a>(
     alloc: Global,
     hashing: KeyHashing,
     sections: &'a [Section],
-) -> Result<ByName<'a, BallDevice<'a>>, AllocError>
+) -> Result<ByName<'a, &'a Entry>, AllocError>
     ensures { IfOk result (λ devices. HasBallDevices (section_rows sections.now) devices) }
 {
     let mut devices = IndexMap::with_hasher(alloc, hashing);
@@ -189,14 +197,13 @@ fn ball_devices_of<'a>(
 }
 
 fn add_ball_devices<'a>(
-    devices: &mut ByName<'a, BallDevice<'a>>,
+    devices: &mut ByName<'a, &'a Entry>,
     entries: &'a [Entry],
 ) -> Result<(), AllocError>
     ensures { OnOk result (GainsBallDevices devices.old devices.new (as_ball_devices entries.now)) }
 {
     for entry in entries {
-        let device = as_ball_device(entry);
-        devices.insert(&device.name.text, device)?;
+        devices.insert(&entry.name.text, entry)?;
     }
     Ok(())
 }

@@ -9,7 +9,7 @@ use crate::by_name::ByName;
 use crate::profile::Profile;
 use indexmap::IndexMap;
 use mpf_config::config::{Config, ModeText};
-use mpf_config::{Entry, Fields, Section, Shot, as_shot, as_shot_profile, as_state};
+use mpf_config::{Entry, Fields, Section, as_shot_profile, as_state};
 use mpf_tables::tables::{DEFAULT_PROFILE, SHOT_PROFILES_NAME, SHOTS_NAME};
 use std::alloc::{AllocError, Global};
 
@@ -19,12 +19,12 @@ use std::alloc::{AllocError, Global};
 pub(crate) fn shots_of<'a>(
     alloc: Global,
     config: &'a Config,
-) -> Result<ByName<'a, Shot<'a>>, AllocError>
+) -> Result<ByName<'a, &'a Entry>, AllocError>
     ensures { IfOk result (λ shots. HasShots (rows_view config.now) shots) }
 {
     let machine: &'a [Section] = config.machine.sections.as_slice();
     let modes: &'a [ModeText] = config.modes.as_slice();
-    let mut shots: ByName<'a, Shot<'a>> = IndexMap::with_hasher(alloc, config.hashing);
+    let mut shots: ByName<'a, &'a Entry> = IndexMap::with_hasher(alloc, config.hashing);
     add_text_shots(&mut shots, machine)?;
     for mode in modes {
         add_text_shots(&mut shots, &mode.sections)?;
@@ -35,7 +35,7 @@ pub(crate) fn shots_of<'a>(
 /// Adds those of a text.
 #[tactic(auto, unfolding(mpf_sections::specs::TypedShots::shots_in))]
 fn add_text_shots<'a>(
-    shots: &mut ByName<'a, Shot<'a>>,
+    shots: &mut ByName<'a, &'a Entry>,
     sections: &'a [Section],
 ) -> Result<(), AllocError>
     ensures { OnOk result (GainsShots shots.old shots.new (shots_among sections.now)) }
@@ -46,12 +46,11 @@ fn add_text_shots<'a>(
     Ok(())
 }
 
-fn add_shots<'a>(shots: &mut ByName<'a, Shot<'a>>, entries: &'a [Entry]) -> Result<(), AllocError>
+fn add_shots<'a>(shots: &mut ByName<'a, &'a Entry>, entries: &'a [Entry]) -> Result<(), AllocError>
     ensures { OnOk result (GainsShots shots.old shots.new (as_shots entries.now)) }
 {
     for entry in entries {
-        let shot = as_shot(entry);
-        shots.insert(&shot.name.text, shot)?;
+        shots.insert(&entry.name.text, entry)?;
     }
     Ok(())
 }

@@ -39,7 +39,7 @@ differ_by e f other section name = other (λ i. joined (section i) (name i))
 
 -- ---- what lists contain
 
-in_append : {A : Type 0} (xs ys : List A) (z : A) → Contains (xs ++ ys) z → Contains xs z ⊎ Contains ys z
+pub in_append : {A : Type 0} (xs ys : List A) (z : A) → Contains (xs ++ ys) z → Contains xs z ⊎ Contains ys z
 in_append [] ys z c = inr c
 in_append (x ∷ xs) ys z (zero, lt, at) = inl (zero, omega arith, at)
 in_append (x ∷ xs) ys z (suc k, lt, at) =
@@ -53,7 +53,7 @@ in_front [] ys z c = absurd (nothing_in z c)
 in_front (x ∷ xs) ys z (zero, lt, at) = (zero, omega arith, at)
 in_front (x ∷ xs) ys z (suc k, lt, at) = there x z (xs ++ ys) (in_front xs ys z (k, omega (arith, lt), at))
 
-in_behind : {A : Type 0} (xs ys : List A) (z : A) → Contains ys z → Contains (xs ++ ys) z
+pub in_behind : {A : Type 0} (xs ys : List A) (z : A) → Contains ys z → Contains (xs ++ ys) z
 in_behind [] ys z c = c
 in_behind (x ∷ xs) ys z c = there x z (xs ++ ys) (in_behind xs ys z c)
 

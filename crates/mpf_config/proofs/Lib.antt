@@ -28,3 +28,4 @@ pub mod NoteLoops
 pub mod SameModes
 pub mod RowNames
 pub mod ShortRows
+pub mod OwnKeys

@@ -1,7 +1,9 @@
 -- Texts that are read as they are reached, where the names of those before are kept in a set.
-use Rattle.std.proofs.Common.{◌≡◌, ℕ, ◌+◌, ◌<◌, Bool, true, false, not, ◌||◌, if◌then◌else◌, List, [], ◌∷◌, length, drop, get_or, set, add-one, Option, Some, None, Result, Ok, Err, refl, sym, ap, subst, ◌∙◌}
+use Rattle.std.proofs.Common.{◌≡◌, ◌==◌, ℕ, ◌+◌, ◌<◌, Bool, true, false, not, ◌||◌, if◌then◌else◌, List, [], ◌∷◌, length, drop, get_or, set, add-one, Option, Some, None, Result, Ok, Err, refl, sym, ap, subst, ◌∙◌}
 use Rattle.std.specs.List.{flat_map}
 use Rattle.std.specs.Str.{bytes_eq}
+use Rattle.std.proofs.lemmas.Bool.{eqb-true}
+use Rattle.std.proofs.lemmas.List.{nil_from_length}
 use Rattle.std.proofs.Math.Seq.{drop-cons}
 use Rattle.yaml_subset.specs.Keys.{is_among}
 use Rattle.section_tables.specs.declared.fault.FaultKind.TheVariants.{Duplicate}
@@ -15,11 +17,14 @@ use Rattle.mpf_config.specs.Rows.{RowsFault}
 use Rattle.mpf_config.specs.BundleText.{Text, machine_name}
 use Rattle.mpf_config.specs.ModeReads.{ModeRead}
 use Rattle.mpf_config.specs.Unread.{mode_text_of}
-use Rattle.mpf_config.specs.Apart.{entry_names, entry_keys}
+use Rattle.mpf_config.specs.Apart.{AreDistinct, entry_names, entry_key, entry_keys}
+use Rattle.mpf_config.proofs.NewNames.{nothing_in}
+use Rattle.mpf_config.proofs.EntryKeys.{new_complete}
 use Rattle.mpf_config.specs.Reading.{line_spot, mode_read_at, entries_new_at, new_mode_at, placed_at, modes_from, modes_in_texts, none_found, found_of, taken_by}
 use Rattle.mpf_config.specs.View.{FailsRows}
 use Rattle.mpf_config.proofs.TakenEntries.{SameKeys, HasTaken, entries_same, among_append}
-use Rattle.mpf_config.specs.Inside.{text_view, texts_view}
+use Rattle.mpf_config.specs.declared.listed_mode.ListedMode.{ListedMode}
+use Rattle.mpf_config.specs.Inside.{modes_view, text_view, texts_view}
 
 -- which names were taken matters, and not in which order
 same_step : (names others : List (List ℕ)) (k : List ℕ) → SameKeys names others → SameKeys (k ∷ names) (k ∷ others)
@@ -130,3 +135,20 @@ after_machine machine ws ts taken known u none new k =
     let first : entries_new_at machine_name [] (entry_names machine) ≡ Ok u = subst (λ (keys : List (List ℕ)). entries_new_at machine_name keys (entry_names machine) ≡ Ok u) none new in
     let has : HasTaken known (entry_names machine) [] = subst (HasTaken known (entry_names machine)) none k in
     rw first (same_machine ws (entry_keys machine) known (none_found ws) ts (λ q. sym (has q ∙ or_none (is_among (entry_keys machine) q))))
+
+-- ---- where no mode is listed
+
+none_placed : (machine also names : List (List ℕ)) (found : Found) (ts : List Text) → modes_from machine [] names found ts ≡ modes_from also [] names found ts
+none_placed machine also names found [] = refl
+none_placed machine also names found (t ∷ ts) =
+    after [] t ts names names machine also (λ next. none_placed machine also (t.name ∷ names) next ts) (is_among names t.name) (Ok found)
+
+-- no text is read then, so it does not matter which entries are taken
+pub nothing_listed : (machine : List SectionRows) (ws : List Written) (ts : List Text) (taken : List (List ℕ)) → AreDistinct (entry_names machine) → ws ≡ []
+    → modes_in_texts machine ws ts ≡ modes_from taken ws [] (none_found ws) ts
+unfolding modes_in_texts
+nothing_listed machine ws ts taken distinct none =
+    rw (none, new_complete machine_name [] (entry_names machine) distinct (λ e c old. nothing_in (entry_key e) old)) (none_placed (entry_keys machine) taken [] [] ts)
+
+pub none_viewed : (listed : List ListedMode) → (length listed == 0) ≡ true → modes_view listed ≡ []
+none_viewed listed e = ap modes_view (nil_from_length listed (eqb-true (length listed) 0 e))

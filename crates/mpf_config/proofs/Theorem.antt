@@ -22,6 +22,7 @@ use Rattle.mpf_config.proofs.ListedModes.{modes_listed}
 use Rattle.mpf_config.proofs.EntryKeys.{new_sound, new_complete}
 use Rattle.mpf_config.proofs.EntriesApart.{rows_apart, modes_apart}
 use Rattle.mpf_config.proofs.NewNames.{nothing_in}
+use Rattle.mpf_config.proofs.OwnKeys.{rows_distinct}
 use Rattle.mpf_config.proofs.ModesFound.{modes_found, modes_found_or}
 
 -- ---- the machine text
@@ -43,6 +44,13 @@ was_machine texts m e =
     let a = bind_ok (machine_at texts) (λ text. text_rows_at Machine machine_name text >>= λ r. Ok (machine_of texts r)) m e in
     let b = bind_ok (text_rows_at Machine machine_name a.0) (λ r. Ok (machine_of texts r)) m a.2 in
     record { text = a.0; text_is = a.1; read = b.0; is_read = b.1; same = ok_is (machine_of texts b.0) m b.2 }
+
+-- no two of its entries are the same
+pub machine_distinct : (texts : List Text) (m : MachineRead) → machine_read_at texts ≡ Ok m → AreDistinct (entry_names m.rows)
+machine_distinct texts m e =
+    let w = was_machine texts m e in
+    subst (λ (n : MachineRead). AreDistinct (entry_names n.rows)) w.same
+    (rows_distinct within_limits Machine w.text w.read.sections w.read.rows (text_rows_sound Machine machine_name w.text w.read w.is_read))
 
 machine_or : (sizes : Sizes) (texts : List Text) (text : List ℕ) (r : TextRows) → machine_at texts ≡ Ok text → AreRowsOf sizes Machine text r.sections r.rows
     → IsReadOr (IsTextOver sizes text) (machine_read_at texts) (machine_of texts r)

@@ -1,13 +1,13 @@
 -- The line of a fault, as it is written piece by piece.
-use Rattle.std.proofs.Common.{◌≡◌, ℕ, ◌+◌, ◌<◌, ◌≤◌, List, [], ◌∷◌, ◌++◌, length, take, get_or, Option, Some, None, Result, Ok, Err, OnOk, sym, ap, subst, ◌∙◌, append_assoc, append-nil, codes}
-use Rattle.std.specs.List.{flat_map}
+use Rattle.std.proofs.Common.{◌≡◌, ℕ, ◌+◌, ◌<◌, ◌≤◌, Bool, true, false, ◌||◌, List, [], ◌∷◌, ◌++◌, length, take, get_or, Option, Some, None, Result, Ok, Err, OnOk, refl, sym, ap, subst, ◌∙◌, append_assoc, append-nil, codes}
+use Rattle.std.specs.List.{flat_map, list_any}
 use Rattle.std.proofs.lemmas.List.{take_more, take_all}
 use Rattle.std.proofs.lemmas.Grind.{flat_map-append}
 use Rattle.std.specs.Fmt.{decimal}
 use Rattle.std.specs.Io.KnownBytes.{Appends}
 use Rattle.mpf_config.specs.Rows.{RowsFault}
 use Rattle.section_tables.specs.FaultNames.{number_of, kind_name}
-use Rattle.mpf_config.specs.Escaped.{escaped_byte, escaped}
+use Rattle.mpf_config.specs.Escaped.{is_control, escaped_byte, escaped}
 use Rattle.mpf_config.specs.FaultLine.{spaced, fault_line}
 
 -- x and then y
@@ -64,3 +64,17 @@ escaped_more text i a b c within h k =
 pub escaped_all : (text : List ℕ) (i : ℕ) (a b : Option (List ℕ)) → length text ≤ i → Appends a b (flat_map escaped_byte (take i text)) → Appends a b (escaped text)
 unfolding escaped
 escaped_all text i a b whole h = subst (λ (bs : List ℕ). Appends a b (flat_map escaped_byte bs)) (take_all i text whole) h
+
+-- ---- a text that nothing is escaped in
+
+neither : (a b : Bool) → (a || b) ≡ false → (a ≡ false) × (b ≡ false)
+neither true b e = absurd cc
+neither false b e = (refl, e)
+
+same_text : (text : List ℕ) → list_any is_control text ≡ false → text ≡ escaped text
+unfolding escaped
+same_text [] e = refl
+same_text (b ∷ bs) e = let p = neither (is_control b) (list_any is_control bs) e in rw p.0 (ap (λ (rest : List ℕ). b ∷ rest) (same_text bs p.1))
+
+pub as_it_is : {T E : Type 0} (text : List ℕ) (r : Result T E) (a b : Option (List ℕ)) → list_any is_control text ≡ false → OnOk r (Appends a b text) → OnOk r (Appends a b (escaped text))
+as_it_is text r a b none h = subst (λ (bs : List ℕ). OnOk r (Appends a b bs)) (same_text text none) h

@@ -1,6 +1,8 @@
 //! A bundle of texts.
 
-ghost use Rattle.std.specs.Prelude.{◌≡◌, ◌≢◌, ℕ, List, IfOk, IfErr};
+ghost use Rattle.std.specs.Prelude.{◌≡◌, ◌≢◌, ℕ, List, map, IfOk, IfErr};
+ghost use Rattle.mpf_sections.specs.View.{section_view};
+ghost use Rattle.mpf_config.specs.Apart.{AreDistinct, entry_names};
 ghost use Rattle.mpf_config.specs.Reading.{rows_at, mode_names_at};
 ghost use Rattle.mpf_config.specs.Rows.{Rows};
 ghost use Rattle.mpf_config.specs.RowsOf.{Sizes, within_limits, IsRowsOf, IsAbove, AreModesOf, IsTextOver};
@@ -57,7 +59,7 @@ fn read_machine(
 
 // The modes of a machine text with these sections, which lists these modes; or the first fault.
 #[tactic(auto, unfolding(crate::specs::Reading::modes_in_texts))]
-fn read_modes(
+fn read_listed(
     alloc: Global,
     hashing: KeyHashing,
     sections: &[Section],
@@ -68,6 +70,26 @@ fn read_modes(
 {
     let mut taken = no_keys(alloc, hashing);
     take_entries(alloc, MACHINE_NAME, sections, &mut taken)?;
+    let found = find_modes(alloc, hashing, listed, texts, &mut taken)?;
+    Ok(found)
+}
+
+// The same, where no two entries of the sections are the same. Where no mode is listed they are not
+// taken, for no text is read that may have one of them.
+fn read_modes(
+    alloc: Global,
+    hashing: KeyHashing,
+    sections: &[Section],
+    listed: &[ListedMode<'_>],
+    texts: &[Text<'_>],
+) -> Result<Vec<Option<ModeRead>>, ConfigFault>
+    requires { AreDistinct (entry_names (map section_view sections.now)) }
+    ensures { GivesModes result (modes_of_machine sections.now listed.now texts.now) }
+{
+    if !listed.is_empty() {
+        return read_listed(alloc, hashing, sections, listed, texts);
+    }
+    let mut taken = no_keys(alloc, hashing);
     let found = find_modes(alloc, hashing, listed, texts, &mut taken)?;
     Ok(found)
 }

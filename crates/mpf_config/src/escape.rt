@@ -1,7 +1,7 @@
 //! How names and keys are printed: no byte of theirs makes a line of the output.
 
 ghost use Rattle.std.specs.Prelude.{◌≡◌, ◌<◌, ℕ, List, false, OnOk};
-ghost use Rattle.std.specs.List.{All};
+ghost use Rattle.std.specs.List.{All, list_any};
 ghost use Rattle.std.specs.Io.KnownBytes.{Appends};
 ghost use Rattle.mpf_config.specs.Escaped.{is_control, hex_digit, escaped_byte, escaped};
 
@@ -16,10 +16,11 @@ use std::io::{self, Write};
 pub fn write_escaped<W: Write>(text: &[u8], writer: &mut W) -> io::Result<()>
     ensures { OnOk result (Appends (W.contents writer.old) (W.contents writer.new) (escaped text.now)) }
 {
-    for byte in text {
-        write_byte(*byte, writer)?;
+    if has_control(text) {
+        return write_bytes(text, writer);
     }
-    Ok(())
+    // Nothing is to be escaped.
+    writer.write_all(text)
 }
 
 /// The law of what is written: none of its bytes is below 32, and none is 127. So no text of a
@@ -29,6 +30,23 @@ pub fn write_escaped<W: Write>(text: &[u8], writer: &mut W) -> io::Result<()>
 pub fn escaped_makes_no_line()
     ensures { (text : List ℕ) → All (λ b. is_control b ≡ false) (escaped text) }
 {}
+
+// Whether a byte of a text is to be escaped.
+fn has_control(text: &[u8]) -> bool
+    ensures { result ≡ list_any is_control text.now }
+{
+    text.iter().any(|byte| is_control(*byte))
+}
+
+// Writes a text, byte by byte.
+fn write_bytes<W: Write>(text: &[u8], writer: &mut W) -> io::Result<()>
+    ensures { OnOk result (Appends (W.contents writer.old) (W.contents writer.new) (escaped text.now)) }
+{
+    for byte in text {
+        write_byte(*byte, writer)?;
+    }
+    Ok(())
+}
 
 fn write_byte<W: Write>(byte: u8, writer: &mut W) -> io::Result<()>
     ensures { OnOk result (Appends (W.contents writer.old) (W.contents writer.new) (escaped_byte byte)) }

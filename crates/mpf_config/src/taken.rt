@@ -31,7 +31,8 @@ fn front_of(alloc: Global, section: &[u8]) -> Result<Vec<u8>, AllocError>
 fn key_of(alloc: Global, front: &[u8], name: &[u8]) -> Result<Vec<u8>, AllocError>
     ensures { IfOk result (λ key. key.items ≡ front.now ++ name.now) }
 {
-    let mut key = Vec::from_slice(alloc, front)?;
+    let mut key = Vec::with_capacity(alloc, front.len().saturating_add(name.len()))?;
+    key.extend_from_slice(front)?;
     key.extend_from_slice(name)?;
     Ok(key)
 }

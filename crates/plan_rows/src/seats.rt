@@ -16,7 +16,7 @@ use machine_definitions::by_name::{ByName, Names};
 use mpf_config::{
     ACCRUALS_NAME, AUTOFIRE_COILS_NAME, BALL_DEVICES_NAME, BALL_SAVES_NAME, COUNTERS_NAME, Entry,
     FLIPPERS_NAME, MULTIBALLS_NAME, Name, PLAYFIELD, SEQUENCES_NAME, SHOT_GROUPS_NAME, SHOTS_NAME,
-    Section, TIMERS_NAME, as_ball_device, as_shot_group,
+    Section, TIMERS_NAME, as_shot_group,
 };
 use section_tables::is_one_of;
 use std::alloc::{AllocError, Global};
@@ -184,7 +184,7 @@ fn add_ball_device<'a>(
     ensures { OnOk result (GainsDeviceRows rows.old rows.new (entry_ball_row before (named_entry section.now entry.now))) }
 {
     if section == BALL_DEVICES_NAME {
-        rows.insert(&as_ball_device(entry).name.text, before)?;
+        rows.insert(&entry.name.text, before)?;
     }
     Ok(())
 }

@@ -53,11 +53,14 @@ fn is_new(alloc: Global, lines: &mut KeySet, fault: &RowFault) -> Result<bool, A
     Ok(fresh)
 }
 
+/// About how many bytes the line of a fault has.
+const LINE_LEN: usize = 64;
+
 /// The line that a report has for a fault.
 fn line_of(alloc: Global, fault: &RowFault) -> Result<Vec<u8>, AllocError>
     ensures { IfOk result (λ line. line.items ≡ printed_line fault.now) }
 {
-    let mut line = Vec::new(alloc);
+    let mut line = Vec::with_capacity(alloc, LINE_LEN)?;
     match write_row_fault(fault, &mut line) {
         Ok(()) => Ok(line),
         Err(_) => Err(AllocError),

@@ -190,7 +190,7 @@ fn take_shots<'a>(shots: &mut Shots<'a>, entries: &'a [Entry]) -> Result<(), All
     ensures { OnOk result (GainsNames shots.old shots.new (defines_shot entries.now)) }
 {
     for entry in entries {
-        shots.insert(&as_shot(entry).name.text)?;
+        shots.insert(&entry.name.text)?;
     }
     Ok(())
 }

@@ -1,17 +1,18 @@
 use Rattle.std.proofs.Common.{List, fold, map, drop, ◌+◌, Option, ap, ◌∙◌}
 use Rattle.mpf_sections.specs.Rows.{Coil}
 use Rattle.mpf_sections.specs.TypedCoils.{coil_of}
-use Rattle.mpf_sections.specs.View.{entry_view, coil_view}
+use Rattle.mpf_sections.specs.View.{entry_view}
 use Rattle.machine_definitions.specs.Definitions.{latest_coil}
-use Rattle.machine_definitions.specs.Found.{found_coil}
+use Rattle.machine_definitions.specs.Found.{as_coil, found_coil}
 use Rattle.machine_definitions.proofs.Finding.{took-value, next-is}
 use Rattle.machine_definitions.proofs.definitions.add_coils.Goals as goal
 
 pub loop-entry-preserved : goal.loop-entry-preserved
+unfolding coil_of
 loop-entry-preserved c = λ name.
     let l = c.loop-entry in
     let seen = λ (o : Option Coil) (entries : List _). fold (latest_coil name) o (map coil_of (map entry_view entries)) in
-    let took = took-value coil_view l.coils c.insert.new.self c.deref.result c.as_coil-coil.result (coil_view c.as_coil-coil.result).name.text c.deref.ensures.value c.in_ok-insert.ensures.updates name in
-    ap (λ (o : Option Coil). seen o (drop (l.entry-index + 1) c.args.entries.now)) (took ∙ ap (latest_coil name (found_coil l.coils name)) c.as_coil-coil.ensures)
+    let took = took-value as_coil l.coils c.insert.new.self c.deref.result _ (coil_of (entry_view c.entry-item.result)).name.text c.deref.ensures.value c.in_ok-insert.ensures.updates name in
+    ap (λ (o : Option Coil). seen o (drop (l.entry-index + 1) c.args.entries.now)) took
     ∙ next-is (seen (found_coil l.coils name)) c.args.entries.now l.entry-index c.entry-item.result c.loop-entry-test.true c.entry-item.is
     ∙ l.invariant name

@@ -9,7 +9,8 @@ use Rattle.mpf_config.specs.FewModes.{AreFewModes}
 use Rattle.mpf_config.specs.Reading.{modes_in_texts, found_of, rows_from}
 use Rattle.mpf_sections.specs.Typed.{listed_modes}
 use Rattle.mpf_config.specs.Inside.{texts_view, modes_view, machine_read_view, found_modes_view}
-use Rattle.mpf_config.proofs.Theorem.{rows_again}
+use Rattle.mpf_config.specs.Apart.{AreDistinct, entry_names}
+use Rattle.mpf_config.proofs.Theorem.{machine_distinct, rows_again}
 use Rattle.mpf_config.proofs.RowNames.{rows_are_named, modes_are_named}
 use Rattle.mpf_config.proofs.ShortRows.{rows_are_short, rows_are_few}
 use Rattle.mpf_config.proofs.bundle.read_exactly.Goals as goal
@@ -31,3 +32,8 @@ invariant_of-result c =
       few_modes = subst AreFewModes same (rows_are_few bundle rows is);
       all_named = ∣ (rows_are_named bundle rows is, subst (All IsNamedMode) same (modes_are_named bundle rows is)) ∣₁;
     }
+
+pub read_modes-requires : goal.read_modes-requires
+read_modes-requires c =
+    let distinct = machine_distinct (texts_view c.in_ok-texts.texts.items) (machine_read_view c.in_ok-sections.field-0) (rw c.deref.ensures.value at c.in_ok-sections.ensures) in
+    subst (λ (s : List Section). AreDistinct (entry_names (map section_view s))) (sym c.deref-3.ensures.value) distinct

@@ -2,7 +2,7 @@ use Rattle.std.proofs.Common.{take}
 use Rattle.std.specs.List.{flat_map}
 use Rattle.std.specs.Io.KnownBytes.{Appends}
 use Rattle.mpf_config.specs.Escaped.{escaped_byte}
-use Rattle.mpf_config.proofs.escape.write_escaped.Given as goal
+use Rattle.mpf_config.proofs.escape.write_bytes.Given as goal
 
 -- the bytes so far are written
 abbrev pub invariant-loop-byte : goal.invariant-loop-byte
