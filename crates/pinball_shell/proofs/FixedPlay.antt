@@ -26,7 +26,8 @@ use Rattle.pin_rig.specs.Steps.{at_rest}
 use Rattle.pinball_shell.specs.declared.refusal.Refusal.TheVariants.{Step}
 use Rattle.pinball_shell.specs.LogText.{said}
 use Rattle.pinball_shell.specs.RunOfLog.{given_by_line, Printed, Traced, Refused, printed_for_line, printed_for_lines, printed_for_log, after_line, traced}
-use Rattle.pinball_shell.specs.TraceText.{printed_texts, off_texts, log_verdict}
+use Rattle.trace_lines.specs.LineText.{off_texts}
+use Rattle.pinball_shell.specs.TraceText.{printed_texts, log_verdict}
 use Rattle.pinball_shell.specs.Ends.{printed_for_first, IsBefore, IsPlayedOut, IsCutOff, IsEnd}
 use Rattle.pinball_shell.specs.FixedPlay.{TellsAll, TakenIsPlayedOut, AnswersFixThePlay}
 use Rattle.pinball_shell.proofs.Serving.{traced-append}

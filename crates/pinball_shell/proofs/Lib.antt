@@ -1,9 +1,8 @@
 pub mod FirstPlace
 pub mod ShortNumbers
-pub mod Fronts
-pub mod Pages
 pub mod TextLines
 pub mod LineWords
+pub mod UsualLines
 pub mod Alarms
 pub mod LineMoments
 pub mod Serving

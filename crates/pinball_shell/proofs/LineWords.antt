@@ -10,7 +10,7 @@ use Rattle.pinball_shell.specs.LogText.{words}
 use Rattle.pinball_shell.proofs.FirstPlace.{place_some, place_none}
 use Rattle.pinball_shell.proofs.TextLines.{none_passes}
 
-abbrev is_filled : List ℕ → Bool
+abbrev pub is_filled : List ℕ → Bool
 is_filled w = nat_lt 0 (length w)
 
 -- a blank at the front parts nothing
@@ -32,7 +32,7 @@ words-skip (b ∷ bs) = skip-cons b bs (is_blank b) refl (words-skip bs)
 pub words-none : (text : List ℕ) → position is_word_byte text ≡ None → words text ≡ []
 words-none text h = words-skip text ∙ ap words (drop_all (position_or_len is_word_byte text) text (place_none is_word_byte text h))
 
-filter-word : (w : List ℕ) (parts : List (List ℕ)) → 0 < length w → filter is_filled (w ∷ parts) ≡ w ∷ filter is_filled parts
+pub filter-word : (w : List ℕ) (parts : List (List ℕ)) → 0 < length w → filter is_filled (w ∷ parts) ≡ w ∷ filter is_filled parts
 filter-word w parts h = cond-true (is_filled w) (w ∷ filter is_filled parts) (filter is_filled parts) (lt-ltb 0 (length w) h)
 
 -- a text that begins with a word

@@ -1,7 +1,7 @@
 -- Alarms and lines of a log that are played one after another.
 use Rattle.std.proofs.Common.{◌≡◌, ℕ, ◌+◌, ◌-◌, ◌<◌, ◌≤◌, Bool, true, false, ◌||◌, cond, Option, Some, None, Result, Ok, Err, List, [], ◌∷◌, ◌++◌, length, map, take, inl, inr, refl, ap, sym, ◌∙◌, subst, arith, append_assoc, append-nil, length-append}
 use Rattle.std.specs.List.{list_any}
-use Rattle.std.specs.Io.KnownBytes.{Appends}
+use Rattle.std.specs.Io.KnownBytes.{Appends, append_known}
 use Rattle.std.specs.Str.Lines.{lines}
 use Rattle.std.proofs.Math.Seq.{take-append_seam}
 use Rattle.plan_tables.specs.PlanView.{PlanView}
@@ -26,6 +26,7 @@ use Rattle.pinball_shell.specs.TraceText.{refused_text, is_refused, log_verdict}
 use Rattle.pinball_shell.specs.Ends.{after_log_lines}
 use Rattle.pinball_shell.specs.Played.{worse_of, IsPrinted, IsPrintedToFault, IsPlayed, IsPlayedToFault, IsLinePlayed, IsLinePlayedToFault, IsLogPlayed}
 use Rattle.pinball_shell.proofs.Alarms.{ComesBy, all-first, all-fewer}
+use Rattle.trace_lines.proofs.Pages.{written-out}
 use Rattle.pinball_shell.proofs.Serving.{served-none}
 use Rattle.pinball_shell.proofs.Printing.{printed-none, printed-then, texts-append, played-none, played-then, played-fault, fault-first}
 
@@ -268,3 +269,13 @@ module _ (plan : PlanView) (bound : ℕ) where
       empty : (xs : List ℕ) → length xs ≡ 0 → xs ≡ []
       empty [] e = refl
       empty (x ∷ xs) e = absurd (omega arith)
+
+  -- what is left on the page is written
+  pub log-written : (log : List ℕ) (old s : RigView) (first grown last : Option (List ℕ)) (empty page : List ℕ) (v : Verdict) → empty ≡ [] → Appends grown last page
+      → IsLogPlayed plan bound log old s (append_known first empty) (append_known grown page) v → IsLogPlayed plan bound log old s first last v
+  log-written log old s first grown last empty page v nothing out h = record {
+    printed = h.printed;
+    end = h.end;
+    text = written-out first grown last empty page _ nothing out h.text;
+    verdict_is = h.verdict_is;
+  }

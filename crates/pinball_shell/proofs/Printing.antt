@@ -16,7 +16,8 @@ use Rattle.config_checker.proofs.Writing.{written-nil, written-then}
 use Rattle.pin_rig.specs.declared.input.Input.{Input}
 use Rattle.pin_rig.specs.Rig.{RigView, RigStep, RigHalt}
 use Rattle.pinball_shell.specs.RunOfLog.{trace_of, Printed, Traced}
-use Rattle.pinball_shell.specs.TraceText.{line_text, printed_text, printed_texts}
+use Rattle.trace_lines.specs.LineText.{line_text}
+use Rattle.pinball_shell.specs.TraceText.{printed_text, printed_texts}
 use Rattle.pinball_shell.specs.Played.{IsPrinted, IsPrintedToFault, IsPlayed, IsPlayedToFault, IsInputPlayed, IsInputPlayedToFault}
 use Rattle.pinball_shell.proofs.LineMoments.{line-moment}
 use Rattle.pinball_shell.proofs.Serving.{served-none, served-then, traced-lines}

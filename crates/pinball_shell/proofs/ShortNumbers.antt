@@ -1,13 +1,15 @@
 -- Numbers of few digits, read digit by digit.
-use Rattle.std.proofs.Common.{◌≡◌, ℕ, suc, ◌+◌, ◌-◌, ◌*◌, ◌^◌, ◌<◌, ◌≤◌, true, false, Some, None, List, [], ◌∷◌, ◌++◌, length, take, get_or, refl, sym, ap, ◌∙◌, arith, length-append, length-take-le}
+use Rattle.std.proofs.Common.{◌≡◌, ℕ, suc, ◌+◌, ◌-◌, ◌*◌, ◌^◌, ◌<◌, ◌≤◌, nat_le, true, Some, None, List, [], ◌∷◌, ◌++◌, length, take, get_or, refl, sym, ap, ◌∙◌, arith, length-append, length-take-le}
 use Rattle.std.specs.List.{list_all}
 use Rattle.std.specs.Char.{is_ascii_digit}
 use Rattle.std.proofs.lemmas.List.{take_more, take_all}
-use Rattle.std.proofs.lemmas.List.Folds.{list_all_at, list_all-append}
+use Rattle.std.proofs.lemmas.Bool.{cond-true, le-leb}
+use Rattle.std.proofs.lemmas.List.Folds.{list_all-append}
 use Rattle.std.proofs.lemmas.Str.Parse.{digits_value_short}
 use Rattle.yaml_bytes.specs.Numbers.{value_of_digits, number_at}
 use Rattle.yaml_bytes.proofs.AllBytes.{Are-from_list_all}
-use Rattle.yaml_bytes.proofs.WrittenNumbers.{own, number_complete, not_digits}
+use Rattle.yaml_bytes.proofs.WrittenNumbers.{own, number_complete}
+use Rattle.pinball_shell.specs.LogText.{moment_in}
 use native.Mathlib.Nat.{pow-zero, pow-suc, mul_assoc}
 
 -- one digit more
@@ -18,9 +20,9 @@ value-more (c ∷ cs) d =
     let weight : 10 ^ length (cs ++ d ∷ []) ≡ 10 ^ length cs * 10 = ap (λ n. 10 ^ n) more ∙ pow-suc 10 (length cs) in
     omega (arith, value-more cs d, ap (λ x. (c - 48) * x) weight, mul_assoc (c - 48) (10 ^ length cs) 10)
 
--- digits in front of another one, where there are 19 at most
-pub number-small : (word : List ℕ) (i : ℕ) → i < length word → length word ≤ 19 → list_all is_ascii_digit (take i word) ≡ true → value_of_digits (take i word) < 10 ^ 18
-number-small word i within short digits = digits_value_short own (take i word) 18 digits (omega (arith, length-take-le i word (omega arith)))
+-- digits of which there are 18 at most
+pub number-small : (text : List ℕ) (i : ℕ) → i ≤ 18 → i ≤ length text → list_all is_ascii_digit (take i text) ≡ true → value_of_digits (take i text) < 10 ^ 18
+number-small text i few within digits = digits_value_short own (take i text) 18 digits (omega (arith, length-take-le i text within))
 
 -- the byte after digits is one as well
 pub digits-more : (word : List ℕ) (i d : ℕ) → i < length word → list_all is_ascii_digit (take i word) ≡ true → is_ascii_digit (get_or word i d) ≡ true
@@ -31,24 +33,21 @@ digits-more word i d within digits digit =
 pub number-more : (word : List ℕ) (i d : ℕ) → i < length word → value_of_digits (take (i + 1) word) ≡ value_of_digits (take i word) * 10 + (get_or word i d - 48)
 number-more word i d within = ap value_of_digits (take_more word i d within) ∙ value-more (take i word) (get_or word i d)
 
--- where there is no byte, or one that is no digit
-pub no-byte : (word : List ℕ) → length word ≡ 0 → number_at word ≡ None
-unfolding number_at
-no-byte [] none = refl
-no-byte (c ∷ cs) none = absurd (omega arith)
-
-pub no-digit : (word : List ℕ) (i d : ℕ) → i < length word → is_ascii_digit (get_or word i d) ≡ false → number_at word ≡ None
-no-digit word i d within not = not_digits word (list_all_at is_ascii_digit word i d within not)
-
--- where all are
-pub all-digits : (word : List ℕ) (i n : ℕ) → 0 < length word → length word ≤ 19 → length word ≤ i → list_all is_ascii_digit (take i word) ≡ true
-    → n ≡ value_of_digits (take i word) → number_at word ≡ Some n
-all-digits word i n some short whole digits value =
-    let all = take_all i word whole in
-    let are : list_all is_ascii_digit word ≡ true = ap (list_all is_ascii_digit) (sym all) ∙ digits in
-    let is : value_of_digits word ≡ n = ap value_of_digits (sym all) ∙ sym value in
-    number_complete word n (record {
-      digits = record { some = some; each = Are-from_list_all is_ascii_digit word are };
-      value = is;
-      fits = omega (arith, is, digits_value_short own word 19 are short);
+-- 1 to 18 digits are a number
+number-few : (digits : List ℕ) (n : ℕ) → 0 < length digits → length digits ≤ 18 → list_all is_ascii_digit digits ≡ true → n ≡ value_of_digits digits → number_at digits ≡ Some n
+number-few digits n some few are value =
+    number_complete digits n (record {
+      digits = record { some = some; each = Are-from_list_all is_ascii_digit digits are };
+      value = sym value;
+      fits = omega (arith, value, digits_value_short own digits 18 are few);
     })
+
+-- and a moment
+pub moment-few : (digits : List ℕ) (n : ℕ) → 0 < length digits → length digits ≤ 18 → list_all is_ascii_digit digits ≡ true → n ≡ value_of_digits digits → moment_in digits ≡ Some n
+moment-few digits n some few are value = cond-true (nat_le (length digits) 20) (number_at digits) None (le-leb (length digits) 20 (omega arith)) ∙ number-few digits n some few are value
+
+-- the same, for a text that is all digits
+pub moment-all : (text : List ℕ) (i n : ℕ) → 0 < i → i ≤ 18 → i ≡ length text → list_all is_ascii_digit (take i text) ≡ true → n ≡ value_of_digits (take i text) → moment_in text ≡ Some n
+moment-all text i n some few whole digits value =
+    let all : take i text ≡ text = take_all i text (omega arith) in
+    moment-few text n (omega arith) (omega arith) (ap (list_all is_ascii_digit) (sym all) ∙ digits) (value ∙ ap value_of_digits all)

@@ -21,7 +21,8 @@ use Rattle.pinball_shell.specs.declared.fault.Verdict.{Verdict}
 use Rattle.pinball_shell.specs.declared.refusal.Refusal.TheVariants.{Step}
 use Rattle.pinball_shell.specs.LogText.{said}
 use Rattle.pinball_shell.specs.RunOfLog.{given_by_line, Printed, Traced, Refused, after_line, printed_for_lines, printed_for_log, traced}
-use Rattle.pinball_shell.specs.TraceText.{printed_texts, off_texts, log_verdict}
+use Rattle.trace_lines.specs.LineText.{off_texts}
+use Rattle.pinball_shell.specs.TraceText.{printed_texts, log_verdict}
 
 -- ---- a log up to some line
 

@@ -13,7 +13,5 @@ pub mod Ends
 pub mod FixedPlay
 -- what the contracts of private functions cite, and no public one
 pub mod ReplyView
-pub mod LineTails
 pub mod LogView
 pub mod Played
-pub mod Pages

@@ -1,5 +1,9 @@
 -- What contracts see of a line of a log.
-use Rattle.std.specs.Prelude.{◌≡◌, ℕ, Option, Result}
+use Rattle.std.specs.Prelude.{◌≡◌, ℕ, ◌<◌, ◌≤◌, true, Option, Result, List, ◌∷◌, ◌++◌, length}
+use Rattle.std.specs.List.{list_all}
+use Rattle.std.specs.Char.{is_ascii_digit}
+use Rattle.yaml_bytes.specs.Bytes.{is_blank}
+use Rattle.yaml_bytes.specs.Numbers.{value_of_digits}
 use Rattle.plan_tables.specs.PlanView.{PlanView}
 use Rattle.written_machine.specs.Run.{Stimulus}
 use Rattle.pinball_shell.specs.LogText.{Said, Nothing, Wait, Change, Unreadable}
@@ -17,6 +21,17 @@ said_view lines.Unreadable = Unreadable
 -- the line says this
 abbrev pub Says : SaidLine → Said → Type 0
 Says line what = said_view line ≡ what
+
+-- A text begins with 1 to 18 digits, whose number is this moment. Behind them come a blank and this rest.
+pub record IsFront (text : List ℕ) (moment : ℕ) (rest : List ℕ) : Type 0 where
+  pub digits : List ℕ
+  pub blank : ℕ
+  pub parts : text ≡ digits ++ blank ∷ rest
+  pub are_digits : list_all is_ascii_digit digits ≡ true
+  pub some : 0 < length digits
+  pub few : length digits ≤ 18
+  pub value : moment ≡ value_of_digits digits
+  pub parted : is_blank blank ≡ true
 
 -- what the line gives where the latest stimulus came at `now`
 abbrev pub given_by_said : PlanView → (now : ℕ) → SaidLine → Result (Option Stimulus) Refusal

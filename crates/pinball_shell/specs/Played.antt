@@ -24,7 +24,8 @@ use Rattle.pinball_shell.specs.declared.play.Stop.{Stop}
 use Rattle.pinball_shell.specs.declared.play.Stop.TheVariants as stops
 use Rattle.pinball_shell.specs.LogText.{said}
 use Rattle.pinball_shell.specs.RunOfLog.{given_by_line, trace_of, all_alarms_by, Printed, Traced, printed_for_line, after_line}
-use Rattle.pinball_shell.specs.TraceText.{printed_texts, off_texts, log_verdict}
+use Rattle.trace_lines.specs.LineText.{off_texts}
+use Rattle.pinball_shell.specs.TraceText.{printed_texts, log_verdict}
 use Rattle.pinball_shell.specs.Ends.{IsServed, IsHalted, IsEnd, IsPlayOn}
 
 -- what a rig is given for a stimulus: which alarm comes, it says itself

@@ -3,12 +3,13 @@
 ghost use Rattle.std.specs.Prelude.{◌≡◌, None, OnOk, option_map, string_bytes};
 ghost use Rattle.std.specs.Io.KnownBytes.{Appends};
 ghost use Rattle.pinball_shell.specs.Status.{status_of, fault_name, fault_of_rig, file_at_fault, failure_text};
-ghost use Rattle.pinball_shell.specs.declared.fault.ShellFault.TheVariants.{NoMemory};
+ghost use Rattle.pinball_shell.specs.declared.fault.ShellFault.TheVariants.{NoMemory, Write};
 
 use pin_rig::RigFault;
 use std::alloc::{AllocError, AllocFailed};
 use std::io::{self, Write};
 use thiserror::Error;
+use trace_lines::WriteFailed;
 
 /// Why there is no verdict.
 #[derive(Clone, Copy, Debug, PartialEq, Eq, Error)]
@@ -132,6 +133,14 @@ impl From<RigFault> for ShellFault {
             RigFault::NoMemory => ShellFault::NoMemory,
             RigFault::WrongDevice(_row) => ShellFault::WrongDevice,
         }
+    }
+}
+
+impl From<WriteFailed> for ShellFault {
+    ghost from_gives = { λ _ e. e ≡ Write };
+
+    fn from(_e: WriteFailed) -> ShellFault {
+        ShellFault::Write
     }
 }
 

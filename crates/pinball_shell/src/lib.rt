@@ -3,17 +3,12 @@
 
 pub mod check;
 pub mod fault;
-mod front;
 pub mod law;
 mod log_line;
-mod page;
-mod phrase;
 pub mod play;
-mod printed_plan;
 mod refusal;
 mod reply;
 pub mod text;
-mod trace;
 
 pub use check::{
     BUNDLE_LIMIT, check_bundle, check_text, load_bundle, load_text, verify_bundle, verify_text,

@@ -1,12 +1,13 @@
 //! What the lines of a log say.
 
-ghost use Rattle.std.specs.Prelude.{◌≡◌, ◌<◌, ◌≤◌, not, [], ◌∷◌, MatchOption, length, position};
-ghost use Rattle.std.specs.List.{position_or_len};
+ghost use Rattle.std.specs.Prelude.{◌≡◌, ◌<◌, ◌≤◌, nat_lt, true, not, [], ◌∷◌, IfSome, MatchOption, length, take, position};
+ghost use Rattle.std.specs.List.{list_all, position_or_len};
+ghost use Rattle.std.specs.Char.{is_ascii_digit};
 ghost use Rattle.std.specs.Str.Lines.{lines};
 ghost use Rattle.yaml_bytes.specs.Bytes.{is_blank as blank};
-ghost use Rattle.yaml_bytes.specs.Numbers.{number_at};
+ghost use Rattle.yaml_bytes.specs.Numbers.{value_of_digits};
 ghost use Rattle.pinball_shell.specs.LogText.{words, moment_in, level_in, wait as wait_at, change as change_at, said_in, said};
-ghost use Rattle.pinball_shell.specs.LogView.{Says};
+ghost use Rattle.pinball_shell.specs.LogView.{Says, IsFront};
 
 use yaml_bytes::{is_blank, number, split_line};
 
@@ -39,6 +40,84 @@ pub fn first_line(text: &[u8]) -> (&[u8], &[u8])
 
 /// What a line says.
 pub fn read_line(line: &[u8]) -> Said<'_>
+    ensures { Says result (said line.now) }
+{
+    match read_usual(line) {
+        Some(said) => said,
+        None => read_any(line),
+    }
+}
+
+/// What a line of the usual form says: a moment of at most 18 digits, one blank, a name, one blank
+/// and a level. `None` for a line of any other form. Nearly all lines are usual, and `read_any` takes
+/// more than twice as long: here the digits are read in the pass that finds their end, and the level
+/// at the end of the line.
+fn read_usual(line: &[u8]) -> Option<Said<'_>>
+    ensures { IfSome result (λ s. Says s (said line.now)) }
+{
+    let [front @ .., blank, digit] = line else {
+        return None;
+    };
+    let level = read_digit(*digit)?;
+    let (at, name) = read_front(front)?;
+    if is_blank(*blank) && !name.is_empty() && is_plain(name) {
+        Some(Said::Change(at, name, level))
+    } else {
+        None
+    }
+}
+
+/// The level that a digit says.
+fn read_digit(digit: u8) -> Option<bool>
+    ensures { result ≡ level_in (digit ∷ []) }
+{
+    match digit {
+        b'0' => Some(false),
+        b'1' => Some(true),
+        _ => None,
+    }
+}
+
+/// The moment that 1 to 18 digits at the front of a text say, and what comes after the blank behind
+/// them.
+fn read_front(text: &[u8]) -> Option<(u64, &[u8])>
+    ensures { IfSome result (λ x. IsFront text.now x.0 x.1.now) }
+{
+    let (len, moment) = first_digits(text);
+    match text.split_at(len).1 {
+        [blank, rest @ ..] if 0 < len && is_blank(*blank) => Some((moment, rest)),
+        _ => None,
+    }
+}
+
+/// How many digits a text begins with, 18 at most, and their number.
+fn first_digits(text: &[u8]) -> (usize, u64)
+    ensures few { result.0 ≤ 18 }
+    ensures within { result.0 ≤ length text.now }
+    ensures digits { list_all is_ascii_digit (take result.0 text.now) ≡ true }
+    ensures number { result.1 ≡ value_of_digits (take result.0 text.now) }
+{
+    let most = text.len().min(18);
+    let mut number = 0;
+    for len in 0..most {
+        let digit = text[len];
+        if !digit.is_ascii_digit() {
+            return (len, number);
+        }
+        number = number * 10 + u64::from(digit - b'0');
+    }
+    (most, number)
+}
+
+/// Whether all bytes of a text are above that of a space, so that none is a blank.
+fn is_plain(text: &[u8]) -> bool
+    ensures { result ≡ list_all (λ b. nat_lt 32 b) text.now }
+{
+    text.iter().all(|b| b' ' < *b)
+}
+
+/// What a line of any form says.
+fn read_any(line: &[u8]) -> Said<'_>
     ensures { Says result (said line.now) }
 {
     if line.is_empty() || line[0] == b'#' {
@@ -126,38 +205,22 @@ fn read_level(word: &[u8]) -> Option<bool>
     ensures { result ≡ level_in word.now }
 {
     match word {
-        b"0" => Some(false),
-        b"1" => Some(true),
+        [digit] => read_digit(*digit),
         _ => None,
     }
 }
 
-/// The moment that a word says: 1 to 20 digits, below 2^64.
+/// The moment that a word says: 1 to 20 digits, below 2^64. `number` takes several times as long as
+/// `first_digits`, since it makes a `str` of its text first.
 fn read_moment(word: &[u8]) -> Option<u64>
     ensures { result ≡ moment_in word.now }
 {
-    match word.len() {
-        0..=19 => short_number(word),
-        20 => number(word),
-        _ => None,
+    let (len, moment) = first_digits(word);
+    if 0 < len && len == word.len() {
+        Some(moment)
+    } else if word.len() <= 20 {
+        number(word)
+    } else {
+        None
     }
-}
-
-/// The number that a word of at most 19 bytes writes in digits. `number` takes several times as long,
-/// since it makes a `str` of its text first.
-fn short_number(word: &[u8]) -> Option<u64>
-    requires { length word.now ≤ 19 }
-    ensures { result ≡ number_at word.now }
-{
-    if word.is_empty() {
-        return None;
-    }
-    let mut number = 0;
-    for digit in word {
-        if !digit.is_ascii_digit() {
-            return None;
-        }
-        number = number * 10 + u64::from(*digit - b'0');
-    }
-    Some(number)
 }

@@ -1,13 +1,14 @@
 //! A log is read and played.
 
 ghost use Rattle.std.specs.Prelude.{◌≡◌, ◌≢◌, ◌^◌, ◌<◌, ◌≤◌, ◌⊎◌, false, IfOk, IfErr, IsTrue, IsOk, OnOk, IfSome, IsErrOf, length, map};
-ghost use Rattle.std.specs.Io.KnownBytes.{Appends, IsAtEnd, Keeps};
+ghost use Rattle.std.specs.Io.KnownBytes.{IsAtEnd, Keeps, append_known};
 ghost use Rattle.written_machine.specs.Machine.{initial};
 ghost use Rattle.written_machine.specs.NextAlarm.{is_due_by};
 ghost use Rattle.coil_driver.specs.Board.{board_view};
 ghost use Rattle.machine_core.specs.Fit.{IsFit};
 ghost use Rattle.pin_rig.specs.Refused.{admitted};
 ghost use Rattle.pin_rig.specs.Rig.{stimulus_at, IsOfRun, RigStep, RigHalt};
+ghost use Rattle.trace_lines.specs.Pages.{Puts};
 ghost use Rattle.pinball_shell.specs.LogView.{given_by_said};
 ghost use Rattle.pinball_shell.specs.RunOfLog.{if_admitted};
 ghost use Rattle.pinball_shell.specs.RunGiven.{PrintsPlayOf};
@@ -18,11 +19,8 @@ ghost use Rattle.pinball_shell.specs.Played.{worse_of, GivesInput, IsRigOf, Play
 
 use crate::fault::{ShellFault, Verdict};
 use crate::log_line::{Said, first_line, read_line};
-use crate::page::Page;
-use crate::printed_plan::PrintedPlan;
-use crate::refusal::Refusal;
+use crate::refusal::{Refusal, put_refused};
 use crate::text::read_all;
-use crate::trace::{write_lines, write_off, write_refused};
 use coil_guard::Board;
 use config_checker::Checked;
 use device_objects::Device;
@@ -30,6 +28,7 @@ use pin_rig::{Input, Rig, StepFault, check_moment};
 use plan_tables::Plan;
 use std::alloc::Global;
 use std::io::{Read, Write};
+use trace_lines::{Page, PrintedPlan, WriteFailed, put_trace, write_off};
 
 /// The most bytes that a log may have: 16 MiB.
 pub const LOG_LIMIT: usize = 16_777_216;
@@ -43,9 +42,19 @@ pub(crate) enum Stop {
     Board,
 }
 
+impl From<WriteFailed> for Stop {
+    ghost use Rattle.pinball_shell.specs.declared.play.Stop.TheVariants.{Write};
+
+    ghost from_gives = { λ _ e. e ≡ Write };
+
+    fn from(_e: WriteFailed) -> Stop {
+        Stop::Write
+    }
+}
+
 /// Reads a log and plays it on a machine with this board and these devices, one for each row of the
-/// plan, in the order of the rows. Writes the lines of the trace as they come, and a line for each
-/// line of the log that is refused. At the end the machine is shut down, and a line is written for
+/// plan, in the order of the rows. Writes the lines of the trace in their order, some at once, and a
+/// line for each line of the log that is refused. At the end the machine is shut down, and a line is written for
 /// each coil that is put off then, at the moment of the latest stimulus. The verdict is `Yes` if no
 /// line of the log is refused.
 ///
@@ -119,6 +128,7 @@ fn play_log<D: Device, B: Board, W: Write>(
     let mut page = Page::new(alloc)?;
     let mut rig = Rig::new(alloc, checked, devices, board)?;
     let verdict = play_lines(&printed, &mut rig, log, &mut page, writer)?;
+    page.write_out(writer)?;
     let board = shut_down(&printed, rig, writer)?;
     Ok((verdict, board))
 }
@@ -141,8 +151,8 @@ fn shut_down<D: Device, B: Board, W: Write>(
     }
 }
 
-/// Plays the lines of a log on a rig at rest of a plan, until the board has not taken a command.
-/// Fails only by the writer.
+/// Plays the lines of a log on a rig at rest of a plan, until the board has not taken a command. What
+/// is on the page at the end is still to be written. Fails only by the writer.
 fn play_lines<D: Device, B: Board, W: Write>(
     plan: &PrintedPlan<'_>,
     rig: &mut Rig<'_, D, B>,
@@ -153,7 +163,7 @@ fn play_lines<D: Device, B: Board, W: Write>(
     requires log { length log.now ≤ 2 ^ 24 }
     requires rig { IsRigOf plan.now rig.old }
     requires rest { rig.old.machine ≡ initial plan.now }
-    ensures played { IfOk result (λ v. IsLogPlayed plan.now rig.old.checked.bound log.now rig.old rig.new (W.contents writer.old) (W.contents writer.new) v) }
+    ensures played { IfOk result (λ v. IsLogPlayed plan.now rig.old.checked.bound log.now rig.old rig.new (append_known (W.contents writer.old) page.old) (append_known (W.contents writer.new) page.new) v) }
     ensures failed { IfErr result (λ e. e ≡ ShellFault.Write) }
 {
     let mut verdict = Verdict::Yes;
@@ -163,7 +173,7 @@ fn play_lines<D: Device, B: Board, W: Write>(
         let (line, after) = first_line(rest);
         match play_line(plan, rig, number, line, page, writer) {
             Ok(found) => verdict = worse(verdict, found),
-            Err(Stop::Board) => return refuse_for_board(number, writer),
+            Err(Stop::Board) => return refuse_for_board(number, page, writer),
             Err(Stop::Write) => return Err(ShellFault::Write),
         }
         number += 1;
@@ -172,17 +182,19 @@ fn play_lines<D: Device, B: Board, W: Write>(
     Ok(verdict)
 }
 
-/// Writes that the line of this number is refused, since the board has not taken a command. Fails
-/// only by the writer.
-fn refuse_for_board<W: Write>(number: usize, writer: &mut W) -> Result<Verdict, ShellFault>
-    ensures written { OnOk result (Appends (W.contents writer.old) (W.contents writer.new) (refused_text number (Refusal.Step StepFault.BoardFault))) }
+/// Puts on the page that the line of this number is refused, since the board has not taken a command.
+/// Fails only by the writer.
+fn refuse_for_board<W: Write>(
+    number: usize,
+    page: &mut Page,
+    writer: &mut W,
+) -> Result<Verdict, ShellFault>
+    ensures written { OnOk result (Puts (W.contents writer.old) page.old (W.contents writer.new) page.new (refused_text number (Refusal.Step StepFault.BoardFault))) }
     ensures verdict { IfOk result (λ v. v ≡ Verdict.Refused) }
     ensures failed { IfErr result (λ e. e ≡ ShellFault.Write) }
 {
-    match write_refused(number, Refusal::Step(StepFault::BoardFault), writer) {
-        Ok(()) => Ok(Verdict::Refused),
-        Err(_) => Err(ShellFault::Write),
-    }
+    put_refused(number, Refusal::Step(StepFault::BoardFault), page, writer)?;
+    Ok(Verdict::Refused)
 }
 
 /// Refused where either is.
@@ -205,7 +217,7 @@ fn play_line<D: Device, B: Board, W: Write>(
     writer: &mut W,
 ) -> Result<Verdict, Stop>
     requires { IsRigOf plan.now rig.old }
-    ensures { PlaysLine plan.now number line.now rig.old rig.new (W.contents writer.old) (W.contents writer.new) result }
+    ensures { PlaysLine plan.now number line.now rig.old rig.new (append_known (W.contents writer.old) page.old) (append_known (W.contents writer.new) page.new) result }
 {
     match given_by(plan, rig.now(), read_line(line)) {
         Ok(None) => Ok(Verdict::Yes),
@@ -214,10 +226,10 @@ fn play_line<D: Device, B: Board, W: Write>(
             play_input(plan, rig, input, page, writer)?;
             Ok(Verdict::Yes)
         }
-        Err(refusal) => match write_refused(number, refusal, writer) {
-            Ok(()) => Ok(Verdict::Refused),
-            Err(_) => Err(Stop::Write),
-        },
+        Err(refusal) => {
+            put_refused(number, refusal, page, writer)?;
+            Ok(Verdict::Refused)
+        }
     }
 }
 
@@ -260,7 +272,7 @@ fn play_alarms<D: Device, B: Board, W: Write>(
     requires until { until < 2 ^ 40 }
     requires forward { rig.old.machine.moment ≤ until }
     requires rig { IsRigOf plan.now rig.old }
-    ensures { PlaysAlarms plan.now until rig.old rig.new (W.contents writer.old) (W.contents writer.new) result }
+    ensures { PlaysAlarms plan.now until rig.old rig.new (append_known (W.contents writer.old) page.old) (append_known (W.contents writer.new) page.new) result }
 {
     while has_alarm_by(rig, until) {
         play_input(plan, rig, Input::Alarm, page, writer)?;
@@ -279,7 +291,7 @@ fn has_alarm_by<D: Device, B: Board>(rig: &Rig<'_, D, B>, until: u64) -> bool
     }
 }
 
-/// Plays an input that the rig takes, and writes its lines. Where the board has not taken a command,
+/// Plays an input that the rig takes, and puts its lines on the page. Where the board has not taken a command,
 /// these are the lines before the line of this command.
 fn play_input<D: Device, B: Board, W: Write>(
     plan: &PrintedPlan<'_>,
@@ -290,14 +302,11 @@ fn play_input<D: Device, B: Board, W: Write>(
 ) -> Result<(), Stop>
     requires taken { IsOk (stimulus_at rig.old input) }
     requires plan { rig.old.checked.plan ≡ plan.now }
-    ensures { PlaysInput plan.now input rig.old rig.new (W.contents writer.old) (W.contents writer.new) result }
+    ensures { PlaysInput plan.now input rig.old rig.new (append_known (W.contents writer.old) page.old) (append_known (W.contents writer.new) page.new) result }
 {
     let is_served = step(rig, input);
-    match write_lines(plan, rig.trace(), page, writer) {
-        Ok(()) if is_served => Ok(()),
-        Ok(()) => Err(Stop::Board),
-        Err(_) => Err(Stop::Write),
-    }
+    put_trace(plan, rig.trace(), page, writer)?;
+    if is_served { Ok(()) } else { Err(Stop::Board) }
 }
 
 /// One step of an input that the rig takes. Whether the board has taken all commands.

@@ -1,10 +1,14 @@
-//! Why a line of a log is not played.
+//! Why a line of a log is not played, and the line that says so.
 
-ghost use Rattle.std.specs.Prelude.{◌≡◌};
-ghost use Rattle.pinball_shell.specs.TraceText.{refusal_number, refusal_name};
+ghost use Rattle.std.specs.Prelude.{◌≡◌, OnOk};
+ghost use Rattle.std.specs.Io.KnownBytes.{Appends};
+ghost use Rattle.trace_lines.specs.Pages.{Puts};
+ghost use Rattle.pinball_shell.specs.TraceText.{refusal_number, refusal_name, refused_text};
 ghost use Rattle.pinball_shell.specs.declared.refusal.Refusal.TheVariants as refusals;
 
 use pin_rig::StepFault;
+use std::io::{self, Write};
+use trace_lines::{Page, WriteFailed};
 
 /// Why a line of a log is not played.
 #[derive(Clone, Copy)]
@@ -43,4 +47,29 @@ impl From<StepFault> for Refusal {
     fn from(fault: StepFault) -> Refusal {
         Refusal::Step(fault)
     }
+}
+
+/// Writes what is on the page, and then that the line of this number is refused.
+pub fn put_refused<W: Write>(
+    line: usize,
+    refusal: Refusal,
+    page: &mut Page,
+    writer: &mut W,
+) -> Result<(), WriteFailed>
+    ensures { OnOk result (Puts (W.contents writer.old) page.old (W.contents writer.new) page.new (refused_text line refusal)) }
+{
+    page.write_out(writer)?;
+    write_refused(line, refusal, writer).map_err(|_| WriteFailed)
+}
+
+/// Writes that the line of this number is refused.
+fn write_refused<W: Write>(line: usize, refusal: Refusal, writer: &mut W) -> io::Result<()>
+    ensures { OnOk result (Appends (W.contents writer.old) (W.contents writer.new) (refused_text line refusal)) }
+{
+    writeln!(
+        writer,
+        "refused {line} {} {}",
+        refusal.number(),
+        refusal.name()
+    )
 }

@@ -16,8 +16,7 @@ const FAILING: &str = "
 (one switch)
 --- log
 100 s_left 1
-200 s_left 0
-300
+200 s_right 0
 --- writer
 (fails at its second write)
 => Write 2

@@ -1,4 +1,5 @@
 use Rattle.std.proofs.Common.{length}
+use Rattle.std.specs.Io.KnownBytes.{append_known}
 use Rattle.pinball_shell.specs.RunOfLog.{all_alarms_by}
 use Rattle.pinball_shell.proofs.Playing.{AreAlarmsGoing}
 use Rattle.pinball_shell.proofs.play.play_alarms.Given as goal
@@ -6,7 +7,7 @@ use Rattle.pinball_shell.proofs.play.play_alarms.Given as goal
 -- the alarms that are left complete those that were played
 abbrev pub invariant-loop-rig : goal.invariant-loop-rig
 invariant-loop-rig g l =
-    AreAlarmsGoing l.plan l.fn.rig.checked.bound l.until l.fn.rig l.rig (g.W.Write.contents l.fn.writer) (g.W.Write.contents l.writer)
+    AreAlarmsGoing l.plan l.fn.rig.checked.bound l.until l.fn.rig l.rig (append_known (g.W.Write.contents l.fn.writer) l.fn.page) (append_known (g.W.Write.contents l.writer) l.page)
     (all_alarms_by l.plan l.fn.rig.checked.bound l.until l.fn.rig.machine)
 
 -- how many are left

@@ -1,5 +1,6 @@
 use Rattle.std.proofs.Common.{Err, Ok, ap, ◌∙◌}
 use Rattle.std.proofs.lemmas.Result.{err_from_is_err_and}
+use Rattle.std.specs.Io.KnownBytes.{append_known}
 use Rattle.pinball_shell.proofs.Taking.{ok_where, halts-on, input-given, given-early, given-forward, given-taken, given-plan, given-played, given-fault, given-alarm_fault}
 use Rattle.pinball_shell.proofs.play.play_line.Goals as goal
 
@@ -35,7 +36,7 @@ returns-in_err-play_alarms-in-Ok-Some g c =
     let p = err_from_is_err_and c.from_residual.result c.from_residual.ensures.1 in
     halts-on c.in_err-play_alarms-in-Ok-Some.field-0.0 c.from_residual.result _ _ _ _ (p.1 ∙ ap Err p.2)
     (given-alarm_fault c.args.plan.now c.args.rig.now c.requires c.args.line.now c.in-Ok-Some.at c.in-Ok-Some.input given
-    c.args.number c.play_alarms.new.rig (g.W.Write.contents c.args.writer.now) (g.W.Write.contents c.play_alarms.new.writer))
+    c.args.number c.play_alarms.new.rig (append_known (g.W.Write.contents c.args.writer.now) c.args.page.now) (append_known (g.W.Write.contents c.play_alarms.new.writer) c.play_alarms.new.page))
     c.in_err-play_alarms-in-Ok-Some.ensures
 
 pub returns-in_err-play_input-in-Ok-Some : goal.returns-in_err-play_input-in-Ok-Some
@@ -45,8 +46,8 @@ returns-in_err-play_input-in-Ok-Some g c =
     let p = err_from_is_err_and c.from_residual-in_err-play_input-in-Ok-Some.result c.from_residual-in_err-play_input-in-Ok-Some.ensures.1 in
     halts-on c.in_err-play_input-in-Ok-Some.field-0.0 c.from_residual-in_err-play_input-in-Ok-Some.result _ _ _ _ (p.1 ∙ ap Err p.2)
     (given-fault c.args.plan.now c.args.rig.now c.requires c.args.line.now c.in-Ok-Some.at c.in-Ok-Some.input given c.play_alarms.new.rig
-    (g.W.Write.contents c.args.writer.now) (g.W.Write.contents c.play_alarms.new.writer) c.in_ok-play_alarms-in-Ok-Some.ensures
-    c.args.number c.play_input.new.rig (g.W.Write.contents c.play_input.new.writer))
+    (append_known (g.W.Write.contents c.args.writer.now) c.args.page.now) (append_known (g.W.Write.contents c.play_alarms.new.writer) c.play_alarms.new.page) c.in_ok-play_alarms-in-Ok-Some.ensures
+    c.args.number c.play_input.new.rig (append_known (g.W.Write.contents c.play_input.new.writer) c.play_input.new.page))
     c.in_err-play_input-in-Ok-Some.ensures
 
 pub returns-in_ok-play_input-in-Ok-Some : goal.returns-in_ok-play_input-in-Ok-Some
@@ -54,5 +55,5 @@ returns-in_ok-play_input-in-Ok-Some g c =
     let given = input-given c.args.plan.now c.given_by.result c.in-Ok-Some.at c.in-Ok-Some.input c.args.rig.now.machine c.args.line.now c.now.result _ c.now.ensures.now c.read_line.ensures
     (c.in-Ok-Some.is ∙ ap Ok c.in-Ok-Some.field-0-is) c.given_by.ensures in
     given-played c.args.plan.now c.args.rig.now c.requires c.args.line.now c.in-Ok-Some.at c.in-Ok-Some.input given c.play_alarms.new.rig
-    (g.W.Write.contents c.args.writer.now) (g.W.Write.contents c.play_alarms.new.writer) c.in_ok-play_alarms-in-Ok-Some.ensures
-    c.args.number c.play_input.new.rig (g.W.Write.contents c.play_input.new.writer) c.in_ok-play_input-in-Ok-Some.ensures
+    (append_known (g.W.Write.contents c.args.writer.now) c.args.page.now) (append_known (g.W.Write.contents c.play_alarms.new.writer) c.play_alarms.new.page) c.in_ok-play_alarms-in-Ok-Some.ensures
+    c.args.number c.play_input.new.rig (append_known (g.W.Write.contents c.play_input.new.writer) c.play_input.new.page) c.in_ok-play_input-in-Ok-Some.ensures
