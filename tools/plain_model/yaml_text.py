@@ -226,8 +226,9 @@ class Blocks:
     def __init__(self, text: str):
         self.lines: list[Line] = []
         self.at = 0
-        for number, line in enumerate(text.split("\n"), 1):
-            line = line.removesuffix("\r")
+        *whole, last = text.split("\n")
+        # (no LF ends the last line, so a CR at its end is a part of it)
+        for number, line in enumerate([*(line.removesuffix("\r") for line in whole), last], 1):
             content = line.lstrip(BLANKS)
             if content and content[0] != "#":
                 self.lines.append(Line(number, len(line) - len(content), line))
