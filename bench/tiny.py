@@ -95,6 +95,8 @@ def texts(size: int, of_seven: int) -> dict[str, bytes]:
     made["texts without a name"] = bundle(VERSION) + b"@ \n" * (size // 3)
     made["texts with a name"] = bundle(VERSION) + "".join(f"@ {name}\n" for name in some(3, size // 6)).encode()
     made["timers of a mode"] = of_modes("timers:\n", 3, 1, size)
+    beside = entries("modes: m_0\nshots:\n", names(3), ":", size)
+    made["shots beside a mode"] = stacked.bundle(beside, {"m_0": VERSION})
     made[f"shots of {MODES} modes"] = of_modes("shots:\n", 4, MODES, of_seven)
     return made
 
