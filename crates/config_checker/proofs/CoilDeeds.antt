@@ -7,8 +7,8 @@ use Rattle.mpf_sections.specs.declared.words.CoilAction.{CoilAction}
 use Rattle.mpf_sections.specs.declared.words.CoilAction.TheVariants.{Pulse, Enable, Disable}
 use Rattle.mpf_sections.specs.Rows.{Written, Coil, CoilItem, Flipper, Autofire, SectionRows}
 use Rattle.machine_definitions.specs.Definitions.{coil_called, no_coil}
-use Rattle.plan_contributions.specs.DeviceEntries.{Deed, pulse, enable, disable, Effect, works}
-use Rattle.plan_contributions.specs.CoilEntries.{Defaults, defaults_of_coil, defaults_called, own_pulse, own_hold, deed_by, flipper_on, flipper_off}
+use Rattle.plan_contributions.specs.Effects.{Deed, pulse, enable, disable, Effect, works}
+use Rattle.row_contributions.specs.CoilEntries.{Defaults, defaults_of_coil, defaults_called, own_pulse, own_hold, deed_by, flipper_on, flipper_off}
 use Rattle.row_faults.specs.Sound.{IsPulseWithin, IsHoldWithin, IsCoilSound, IsCoilSuch, IsActionWithin, IsItemSound, IsFlipperSound, IsAutofireSound}
 
 -- what is done with a coil is within its limits

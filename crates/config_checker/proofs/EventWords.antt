@@ -14,10 +14,10 @@ use Rattle.plan_tables.specs.declared.entries.ModeEvent.TheVariants.{WillStart, 
 use Rattle.machine_definitions.specs.GameEvents.{game_event_names}
 use Rattle.machine_definitions.specs.Players.{player_event}
 use Rattle.plan_contributions.specs.Contributions.{event_ending, mode_event_name}
-use Rattle.plan_contributions.specs.DeviceEntries.{block_event, block_endings, timer_event, timer_endings}
-use Rattle.plan_contributions.specs.BallEntries.{ball_event, ball_endings}
-use Rattle.plan_contributions.specs.SaveEntries.{save_event, save_endings, multiball_event, multiball_endings}
-use Rattle.plan_contributions.specs.ShotEntries.{shot_events, group_events}
+use Rattle.row_contributions.specs.DeviceEntries.{block_event, block_endings, timer_event, timer_endings}
+use Rattle.row_contributions.specs.BallEntries.{ball_event, ball_endings}
+use Rattle.row_contributions.specs.SaveEntries.{save_event, save_endings, multiball_event, multiball_endings}
+use Rattle.row_contributions.specs.ShotEntries.{shot_events, group_events}
 use Rattle.mpf_plan.specs.PlanOf.{plan_of}
 use Rattle.mpf_plan.proofs.EventNames.{event_names}
 use Rattle.config_checker.specs.CertificateOf.{is_in_word, IsWord}

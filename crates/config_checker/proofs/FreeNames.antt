@@ -8,10 +8,10 @@ use Rattle.std.proofs.lemmas.List.Elements.{All-from_recursion}
 use Rattle.std.proofs.lemmas.Slice.Eq.{bytes_eq-Decides}
 use Rattle.yaml_subset.specs.Keys.{is_among}
 use Rattle.mpf_config.specs.Rows.{Rows}
-use Rattle.plan_contributions.specs.DeviceEntries.{block_event, timer_event}
-use Rattle.plan_contributions.specs.BallEntries.{ball_event}
-use Rattle.plan_contributions.specs.SaveEntries.{save_event, multiball_event}
-use Rattle.plan_contributions.specs.ShotEntries.{shot_events, group_events}
+use Rattle.row_contributions.specs.DeviceEntries.{block_event, timer_event}
+use Rattle.row_contributions.specs.BallEntries.{ball_event}
+use Rattle.row_contributions.specs.SaveEntries.{save_event, multiball_event}
+use Rattle.row_contributions.specs.ShotEntries.{shot_events, group_events}
 use Rattle.machine_definitions.specs.GameEvents.{reserved_game_events}
 use Rattle.row_faults.specs.Reserved.{events_of_modes, mode_names, is_reserved}
 

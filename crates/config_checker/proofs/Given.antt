@@ -15,15 +15,16 @@ use Rattle.plan_tables.specs.declared.table.Table.{Table}
 use Rattle.plan_tables.specs.declared.table.Table.TheVariants.{Events, Switches, Coils, Variables}
 use Rattle.plan_tables.specs.Limits.{order_of}
 use Rattle.machine_definitions.specs.Definitions.{latest_coil, coil_called}
-use Rattle.plan_contributions.specs.DeviceEntries.{Effect, posts, works, changes, enters, leaves, loses, arrives, requests, adds_balls}
-use Rattle.plan_contributions.specs.CoilEntries.{limits_of_coil}
-use Rattle.plan_contributions.specs.Contributions.{Contribution, gives, reads, active, inactive, mode, mode_event, mode_event_name, binds, does, device, does_in, listens, mentions, unknown, coil, under, plays, contributions_of}
-use Rattle.plan_contributions.specs.Doing.{IsMention, Does}
-use Rattle.plan_contributions.specs.Facts.{given_coil}
+use Rattle.plan_contributions.specs.Effects.{Effect, posts, works, changes, enters, leaves, loses, arrives, requests, adds_balls}
+use Rattle.row_contributions.specs.CoilEntries.{limits_of_coil}
+use Rattle.plan_contributions.specs.Contributions.{Contribution, gives, reads, active, inactive, mode, mode_event, mode_event_name, binds, does, device, does_in, listens, mentions, unknown, coil, under, plays}
+use Rattle.row_contributions.specs.Contributions.{contributions_of}
+use Rattle.row_contributions.specs.Doing.{IsMention, Does}
+use Rattle.row_contributions.specs.Facts.{given_coil}
 use Rattle.plan_contributions.specs.UsedNames.{used, given, name_in_table, given_names}
-use Rattle.plan_contributions.proofs.CoilsGiven.{coils_given}
-use Rattle.plan_contributions.proofs.SwitchesGiven.{switches_given}
-use Rattle.plan_contributions.proofs.RowEffects.{all_do}
+use Rattle.row_contributions.proofs.CoilsGiven.{coils_given}
+use Rattle.row_contributions.proofs.SwitchesGiven.{switches_given}
+use Rattle.row_contributions.proofs.RowEffects.{all_do}
 use Rattle.mpf_plan.specs.Uses.{is_unknown, lacks_name}
 use Rattle.mpf_plan.specs.ByName.{IsGiven, AreGiven}
 use Rattle.mpf_plan.proofs.Judged.{nothing_lacks}

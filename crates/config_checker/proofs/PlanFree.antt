@@ -34,11 +34,12 @@ use Rattle.cascade_rank.specs.Verified.{IsVerified}
 use Rattle.coil_guard.specs.Asked.{limits_of}
 use Rattle.coil_guard.specs.Limits.{no_limits, limits_at}
 use Rattle.machine_definitions.specs.Definitions.{latest_coil, coil_called}
-use Rattle.plan_contributions.specs.CoilEntries.{limits_of_coil}
-use Rattle.plan_contributions.specs.Contributions.{mode_event_name, contributions_of}
-use Rattle.plan_contributions.proofs.BallRows.{doing_heard_once}
-use Rattle.plan_contributions.proofs.CoilsGiven.{coils_given}
-use Rattle.plan_contributions.proofs.RowEffects.{all_do}
+use Rattle.row_contributions.specs.CoilEntries.{limits_of_coil}
+use Rattle.plan_contributions.specs.Contributions.{mode_event_name}
+use Rattle.row_contributions.specs.Contributions.{contributions_of}
+use Rattle.row_contributions.proofs.BallRows.{doing_heard_once}
+use Rattle.row_contributions.proofs.CoilsGiven.{coils_given}
+use Rattle.row_contributions.proofs.RowEffects.{all_do}
 use Rattle.mpf_plan.specs.PlanOf.{plan_at}
 use Rattle.mpf_plan.specs.ByName.{IsByVariable, IsDone, effect_of, latest_limits, limits_called}
 use Rattle.mpf_plan.proofs.DoneNames.{by_variable, done-named}

@@ -10,7 +10,7 @@ use Rattle.std.proofs.lemmas.List.Elements.{All-nil, All-cons, All-head, All-tai
 use Rattle.mpf_sections.specs.Rows.{Written, Entry, Switch, CoilPlayer, VariablePlayer, Block, Flipper, Autofire, Shot, ShotGroup, BallDevice, SectionRows}
 use Rattle.mpf_sections.specs.TypedGame.{variable_players_in}
 use Rattle.machine_definitions.specs.Players.{player_event, is_set_by_game}
-use Rattle.plan_contributions.specs.VariableEntries.{item_change}
+use Rattle.row_contributions.specs.VariableEntries.{item_change}
 use Rattle.mpf_config.specs.Rows.{Rows}
 use Rattle.mpf_sections.specs.Typed.{counters_name, accruals_name, sequences_name, timers_name, counter_of, step_block_of, timer_of, entries_in, switches_in, event_players_in, counters_in, accruals_in, sequences_in}
 use Rattle.mpf_sections.specs.TypedCoils.{coil_players_in, flippers_in, autofires_in}
@@ -22,16 +22,17 @@ use Rattle.plan_tables.specs.declared.devices.Settings.{Settings}
 use Rattle.plan_tables.specs.declared.devices.Settings.TheVariants as kinds
 use Rattle.machine_definitions.specs.Definitions.{has_switch, ball_devices_of, latest_ball_device}
 use Rattle.machine_definitions.specs.Shots.{Profile, profile_of_name}
-use Rattle.plan_contributions.specs.DeviceEntries.{Effect, posts, works, changes, enters, leaves, loses, arrives, requests, adds_balls, Device, counter_device, step_device, step_settings, timer_device, device_of, block_event, or_own, block_lists, timer_event, timer_endings, timer_lists}
-use Rattle.plan_contributions.specs.CoilEntries.{defaults_called, own_pulse, item_effect, flipper_device, autofire_device}
-use Rattle.plan_contributions.specs.BallEntries.{drains, ball_event, eject_pulse, ball_lists}
-use Rattle.plan_contributions.specs.SaveEntries.{save_device, multiball_device, save_device_of}
-use Rattle.plan_contributions.specs.ShotEntries.{shot_events, group_events, shot_lists, state_lists, group_lists}
+use Rattle.plan_contributions.specs.Effects.{Effect, posts, works, changes, enters, leaves, loses, arrives, requests, adds_balls}
+use Rattle.row_contributions.specs.DeviceEntries.{Device, counter_device, step_device, step_settings, timer_device, device_of, block_event, or_own, block_lists, timer_event, timer_endings, timer_lists}
+use Rattle.row_contributions.specs.CoilEntries.{defaults_called, own_pulse, item_effect, flipper_device, autofire_device}
+use Rattle.row_contributions.specs.BallEntries.{drains, ball_event, eject_pulse, ball_lists}
+use Rattle.row_contributions.specs.SaveEntries.{save_device, multiball_device, save_device_of}
+use Rattle.row_contributions.specs.ShotEntries.{shot_events, group_events, shot_lists, state_lists, group_lists}
 use Rattle.plan_rows.specs.Members.{members_of}
-use Rattle.plan_contributions.specs.Contributions.{texts, tag_event}
-use Rattle.plan_contributions.specs.Doing.{IsSwitchDoing, IsPlayerDoing, IsDeviceDoing, IsEntryDoing, IsCoilPlayerDoing, IsVariablePlayerDoing, IsShotDoing, IsShotGroupDoing, has_target, IsBallDeviceDoing, IsDoing, IsMachineDoing, AreDoing}
-use Rattle.plan_contributions.proofs.Before.{All-flat_map}
-use Rattle.plan_contributions.proofs.SaveFacts.{all_save, all_multiball}
+use Rattle.row_contributions.specs.Contributions.{texts, tag_event}
+use Rattle.row_contributions.specs.Doing.{IsSwitchDoing, IsPlayerDoing, IsDeviceDoing, IsEntryDoing, IsCoilPlayerDoing, IsVariablePlayerDoing, IsShotDoing, IsShotGroupDoing, has_target, IsBallDeviceDoing, IsDoing, IsMachineDoing, AreDoing}
+use Rattle.row_contributions.proofs.Before.{All-flat_map}
+use Rattle.row_contributions.proofs.SaveFacts.{all_save, all_multiball}
 use Rattle.row_faults.specs.Reserved.{is_reserved, switch_posts, player_posts, counter_posts, step_posts, posts_in, posts_of}
 use Rattle.row_faults.specs.Sound.{ChangesNothingBarred, IsChangeFree, IsItemSound, IsCoilSound, IsCoilSuch, IsCoilPlayerSound, IsFlipperSound, IsAutofireSound, IsShotSound, IsShotGroupSound, IsBallDeviceSound, IsSectionSound, IsSound}
 use Rattle.row_faults.specs.Routes.{switch_names}

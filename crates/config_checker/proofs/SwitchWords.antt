@@ -7,12 +7,12 @@ use Rattle.mpf_config.specs.Named.{IsNamedMode}
 use Rattle.mpf_sections.specs.Named.{IsName, IsNamed}
 use Rattle.plan_tables.specs.declared.table.Table.TheVariants.{Switches}
 use Rattle.plan_tables.specs.Limits.{entry_names}
-use Rattle.plan_contributions.specs.Contributions.{contributions_of}
+use Rattle.row_contributions.specs.Contributions.{contributions_of}
 use Rattle.plan_contributions.specs.UsedNames.{uses}
-use Rattle.plan_contributions.proofs.EventNames.{used_switches}
+use Rattle.row_contributions.proofs.EventNames.{used_switches}
 use Rattle.mpf_plan.specs.PlanOf.{plan_of}
 use Rattle.mpf_plan.proofs.Apart.{All-first_by}
-use Rattle.mpf_plan.proofs.Drafted.{names-from}
+use Rattle.mpf_plan.proofs.Tables.{plan-names}
 use Rattle.config_checker.specs.CertificateOf.{IsWord}
 use Rattle.config_checker.proofs.EventWords.{name-in_word}
 
@@ -21,10 +21,9 @@ name-word name h = let some = h.some in record { some = λ none. omega (arith, s
 
 module _ (rows : Rows) (machine : All IsNamed rows.machine) (modes : All IsNamedMode rows.modes) where
   switches_are_named : All IsName (entry_names (plan_of rows) Switches)
-  unfolding plan_of
   switches_are_named =
       let cs = contributions_of rows in
-      subst (All IsName) (sym (names-from cs Switches)) (All-first_by IsName (λ name. name) (uses Switches cs) (used_switches rows machine modes))
+      subst (All IsName) (sym (plan-names rows Switches)) (All-first_by IsName (λ name. name) (uses Switches cs) (used_switches rows machine modes))
 
   pub switches_are_words : All IsWord (entry_names (plan_of rows) Switches)
   switches_are_words = All-weaker IsName IsWord name-word (entry_names (plan_of rows) Switches) switches_are_named

@@ -48,16 +48,16 @@ abbrev pub States : Option Line → Option (List ℕ × ℕ) → Type 0
 States line stated = option_map line_view line ≡ stated
 
 -- the text has no such line with this word at its front
-abbrev pub HasNoFront : (word text : List ℕ) → Type 0
-HasNoFront word text = front word (lines text) ≡ ([], lines text)
+abbrev pub HasNoLeadingLine : (word text : List ℕ) → Type 0
+HasNoLeadingLine word text = front word (lines text) ≡ ([], lines text)
 
 -- at the front of the text is this line with the word, and then the text after it
-abbrev pub FrontBeginsWith : (word text : List ℕ) → Line × Bor (List ℕ) → Type 0
-FrontBeginsWith word text begun = front word (lines text) ≡ with_line (Some (line_view begun.0)) [] (front word (lines begun.1.now))
+abbrev pub HasLeadingLine : (word text : List ℕ) → Line × Bor (List ℕ) → Type 0
+HasLeadingLine word text begun = front word (lines text) ≡ with_line (Some (line_view begun.0)) [] (front word (lines begun.1.now))
 
 -- at the front of the text are just these lines with the word, and then the text after them
-abbrev pub IsFront : (word text : List ℕ) → Vec Line × Bor (List ℕ) → Type 0
-IsFront word text found = front word (lines text) ≡ (lines_view found.0.items, lines found.1.now)
+abbrev pub AreLeadingLines : (word text : List ℕ) → Vec Line × Bor (List ℕ) → Type 0
+AreLeadingLines word text found = front word (lines text) ≡ (lines_view found.0.items, lines found.1.now)
 
 -- ---- what the lines state
 
@@ -81,8 +81,8 @@ abbrev pub wrong_stated_cost : PlanView → (weights : List ℕ) → List Line �
 wrong_stated_cost plan weights switches = first_other (lines_view switches) (switch_costs plan (weight_of weights))
 
 -- this name with this cost, if there is one, is that
-abbrev pub IsCost : Option (Bor (List ℕ) × ℕ) → Option (List ℕ × ℕ) → Type 0
-IsCost found cost = option_map (λ s. (s.0.now, s.1)) found ≡ cost
+abbrev pub FindsNamedCost : Option (Bor (List ℕ) × ℕ) → Option (List ℕ × ℕ) → Type 0
+FindsNamedCost found cost = option_map (λ s. (s.0.now, s.1)) found ≡ cost
 
 -- a certificate, whose names are those of the plan, as it is judged
 abbrev pub judged_lines : PlanView → CertificateLines → Result CheckedView FaultView

@@ -63,8 +63,8 @@ abbrev pub AreOfRows : List RowFault → List Fault → Type 0
 AreOfRows own faults = faults_view faults ≡ map row (row_faults_view own)
 
 -- the fault is the one that is wrong with the weights, by the names of the plan's events
-abbrev pub NamesFault : PlanView → RankFault → Fault → Type 0
-NamesFault plan fault named = option_map (named_fault plan) (rank_view fault) ≡ Some (fault_view named)
+abbrev pub IsWeightsFault : PlanView → RankFault → Fault → Type 0
+IsWeightsFault plan fault named = option_map (named_fault plan) (rank_view fault) ≡ Some (fault_view named)
 
 -- the fault of the certificate, if there is one, is this
 abbrev pub FindsWrong : Option CertificateFault → Option CertificateFaultView → Type 0

@@ -3,7 +3,7 @@
 ghost use Rattle.std.specs.Prelude.{◌≡◌, ◌<◌, ◌≤◌, ◌+◌, ◌==◌, ◌&&◌, ◌^◌, not, [], ◌∷◌, IfOk, IfSome, MatchOption, length, nat_lt, position, codes};
 ghost use Rattle.std.specs.List.{list_all};
 ghost use Rattle.config_checker.specs.CertificateOf.{is_in_word as in_word, is_plain, number_in, parts, lines, certificate_words, has_switches as has_switches_of, bound_in, numbered_in, front as front_of, first_event as first_event_of, ended, certificate_at};
-ghost use Rattle.config_checker.specs.CertificateRead.{GivesCertificate, ReadsHeading, ReadsBound, States, HasNoFront, FrontBeginsWith, IsFront, stated_switches};
+ghost use Rattle.config_checker.specs.CertificateRead.{GivesCertificate, ReadsHeading, ReadsBound, States, HasNoLeadingLine, HasLeadingLine, AreLeadingLines, stated_switches};
 ghost use Rattle.config_checker.specs.declared.certificate_reader.ReadFault.TheVariants.{NoMemory};
 
 use std::alloc::{AllocError, Global};
@@ -110,7 +110,7 @@ fn front<'a>(
     text: &'a [u8],
     word: &[u8],
 ) -> Result<(Vec<Line<'a>>, &'a [u8]), AllocError>
-    ensures lines { IfOk result (IsFront word.now text.now) }
+    ensures lines { IfOk result (AreLeadingLines word.now text.now) }
     ensures shorter { IfOk result (λ x. length x.0.items + length x.1.now ≤ length text.now) }
 {
     let mut found = Vec::new(alloc);
@@ -155,7 +155,7 @@ fn next_bound(text: &[u8]) -> Option<(u32, &[u8])>
 
 /// The first line, if it is `WORD NAME NUMBER` with this word, and the text after it.
 fn next_line<'a>(text: &'a [u8], word: &[u8]) -> Option<(Line<'a>, &'a [u8])>
-    ensures line { MatchOption result (HasNoFront word.now text.now) (FrontBeginsWith word.now text.now) }
+    ensures line { MatchOption result (HasNoLeadingLine word.now text.now) (HasLeadingLine word.now text.now) }
     ensures shorter { IfSome result (λ x. length x.1.now < length text.now) }
 {
     let (line, rest) = first_line(text)?;

@@ -4,7 +4,7 @@ ghost use Rattle.std.specs.Prelude.{◌≡◌, None, IfOk, IfSome, length};
 ghost use Rattle.plan_tables.specs.declared.table.Table.TheVariants.{Switches};
 ghost use Rattle.plan_tables.specs.Limits.{entry_names};
 ghost use Rattle.cascade_rank.specs.Weights.{IsWithinLimit};
-ghost use Rattle.config_checker.specs.CertificateRead.{stated_names, stated_numbers, stated_switches, wrong_stated_names, wrong_stated_cost, IsCost, judged_lines};
+ghost use Rattle.config_checker.specs.CertificateRead.{stated_names, stated_numbers, stated_switches, wrong_stated_names, wrong_stated_cost, FindsNamedCost, judged_lines};
 ghost use Rattle.config_checker.specs.Certified.{as_checked};
 ghost use Rattle.config_checker.specs.Checking.{same_names, wrong_cost as wrong_cost_of, certified_plan, reported_alone};
 ghost use Rattle.config_checker.specs.View.{GivesChecked, ReportsAlone, FindsWrong};
@@ -133,7 +133,7 @@ fn wrong_cost<'a>(
     requires weights { length weights.now ≡ length plan.now.events }
     requires limit { IsWithinLimit plan.now weights.now }
     requires switches { IfSome switches.now (λ lines. length lines.items ≡ length plan.now.switches) }
-    ensures { IsCost result (wrong_cost_of plan.now weights.now (stated_switches switches.now)) }
+    ensures { FindsNamedCost result (wrong_cost_of plan.now weights.now (stated_switches switches.now)) }
 {
     match switches {
         None => None,
@@ -147,7 +147,7 @@ fn first_other<'a>(plan: &Plan, weights: &Weights, switches: &[Line<'a>]) -> Opt
     requires weights { length weights.now ≡ length plan.now.events }
     requires limit { IsWithinLimit plan.now weights.now }
     requires switches { length switches.now ≡ length plan.now.switches }
-    ensures { IsCost result (wrong_stated_cost plan.now weights.now switches.now) }
+    ensures { FindsNamedCost result (wrong_stated_cost plan.now weights.now switches.now) }
 {
     for number in 0..plan.switch_count() {
         let line = switches[number];

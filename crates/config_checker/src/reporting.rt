@@ -5,7 +5,7 @@ ghost use Rattle.std.specs.List.{All};
 ghost use Rattle.plan_tables.specs.PlanView.{name_of_event};
 ghost use Rattle.plan_tables.specs.Valid.{IsEventWithin};
 ghost use Rattle.cascade_rank.specs.View.{IfRank};
-ghost use Rattle.config_checker.specs.View.{HasEvents, ReportsAlone, NamesFault};
+ghost use Rattle.config_checker.specs.View.{HasEvents, ReportsAlone, IsWeightsFault};
 
 use crate::report::{CertificateFault, Fault, Report};
 use cascade_rank::RankFault;
@@ -26,7 +26,7 @@ pub(crate) fn report_of(alloc: Global, fault: Fault) -> Report
 /// What is wrong with weights, by the names of the events.
 pub(crate) fn named_fault(alloc: Global, plan: &Plan, fault: RankFault) -> Result<Fault, AllocError>
     requires { IfRank fault (HasEvents plan.now) }
-    ensures { IfOk result (NamesFault plan.now fault) }
+    ensures { IfOk result (IsWeightsFault plan.now fault) }
 {
     match fault {
         RankFault::NoMemory => Err(AllocError),

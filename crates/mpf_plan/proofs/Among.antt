@@ -7,7 +7,7 @@ use Rattle.std.proofs.lemmas.List.Folds.{list_any-append}
 use Rattle.std.proofs.lemmas.Slice.Eq.{bytes_eq-Decides}
 use Rattle.plan_tables.specs.declared.table.Table.{Table}
 use Rattle.plan_tables.specs.declared.table.Table.TheVariants.{Events}
-use Rattle.plan_contributions.specs.DeviceEntries.{posts}
+use Rattle.plan_contributions.specs.Effects.{posts}
 use Rattle.plan_contributions.specs.Contributions.{Contribution, does}
 use Rattle.mpf_plan.specs.Uses.{Names, names_from, number_among}
 use Rattle.plan_contributions.specs.UsedNames.{used, uses, name_in_table}

@@ -12,11 +12,12 @@ use Rattle.plan_tables.specs.PlanView.{PlanView}
 use Rattle.plan_tables.specs.Valid.{HasGame}
 use Rattle.plan_contributions.specs.declared.contribution.Aim.{Aim}
 use Rattle.plan_contributions.specs.declared.contribution.Aim.TheVariants.{Run}
-use Rattle.plan_contributions.specs.DeviceEntries.{pulse, enable, disable, Effect, posts, works, changes, enters, requests, adds_balls}
+use Rattle.plan_contributions.specs.Effects.{pulse, enable, disable, Effect, posts, works, changes, enters, requests, adds_balls}
 use Rattle.plan_contributions.specs.Contributions.{Contribution, gives, binds, does, device, does_in, listens}
-use Rattle.plan_contributions.specs.BallFacts.{IsOfNoBall, LastRow, last_after, IsFitting, AreFitting, is_plays, DrainsIn, DrainsInGame, AllDrainInGame}
+use Rattle.row_contributions.specs.BallFacts.{IsOfNoBall, LastRow, last_after, IsFitting, AreFitting, is_plays, DrainsIn, DrainsInGame, AllDrainInGame}
 use Rattle.mpf_plan.specs.Uses.{Names, number_among}
-use Rattle.mpf_plan.specs.PlanOf.{DraftView, action_of, last_row, lists_for, with_one_more, next_row, first_of_last, with_contribution, blank, drafted}
+use Rattle.mpf_plan.specs.Filling.{DraftView, last_row, lists_for, with_one_more, next_row, with_contribution, blank, drafted}
+use Rattle.mpf_plan.specs.ByNumber.{action_of, first_of_last}
 use Rattle.mpf_plan.proofs.Drafted.{given_plan}
 use Rattle.mpf_plan.proofs.Steps.{All-changed}
 

@@ -13,7 +13,8 @@ use Rattle.plan_tables.specs.Devices.{list_count}
 use Rattle.plan_tables.specs.PlanView.{PlanSwitch, no_switch, PlanView}
 use Rattle.plan_contributions.specs.Contributions.{Contribution, gives, reads, active, inactive, mode, mode_event, binds, does, device, does_in, listens, mentions, unknown, coil, under, plays}
 use Rattle.mpf_plan.specs.Uses.{Names, number_among}
-use Rattle.mpf_plan.specs.PlanOf.{DraftView, event_of, action_of, last_row, last_switch, lists_for, with_one_more, next_listener, heard_by, first_of_last, with_contribution, named_switch, blank, drafted}
+use Rattle.mpf_plan.specs.Filling.{DraftView, last_row, last_switch, lists_for, with_one_more, next_listener, heard_by, with_contribution, named_switch, blank, drafted}
+use Rattle.mpf_plan.specs.ByNumber.{event_of, action_of, first_of_last}
 use Rattle.mpf_plan.proofs.Drafted.{given_plan}
 use Rattle.mpf_plan.proofs.Steps.{All-changed}
 

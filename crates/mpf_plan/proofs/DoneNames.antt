@@ -13,14 +13,18 @@ use Rattle.plan_tables.specs.declared.entries.Action.{Action}
 use Rattle.plan_tables.specs.declared.entries.Action.TheVariants.{Post, Pulse, Enable, Disable, Change, Enter, Leave, Lose, Arrive, Request, AddBalls}
 use Rattle.plan_tables.specs.declared.table.Table.TheVariants.{Events, Coils, Variables}
 use Rattle.plan_tables.specs.PlanView.{PlanCoil, no_coil, PlanView, coil_at, name_of_event, name_of_variable}
-use Rattle.plan_contributions.specs.DeviceEntries.{pulse, enable, disable, Effect, works, posts, changes, enters, leaves, loses, arrives, requests, adds_balls}
-use Rattle.plan_contributions.specs.Contributions.{Contribution, active, inactive, does, does_in, contributions_of}
-use Rattle.plan_contributions.specs.Doing.{Does}
+use Rattle.plan_contributions.specs.Effects.{pulse, enable, disable, Effect, works, posts, changes, enters, leaves, loses, arrives, requests, adds_balls}
+use Rattle.plan_contributions.specs.Contributions.{Contribution, active, inactive, does, does_in}
+use Rattle.row_contributions.specs.Contributions.{contributions_of}
+use Rattle.row_contributions.specs.Doing.{Does}
 use Rattle.plan_contributions.specs.UsedNames.{used_by}
 use Rattle.machine_definitions.specs.Players.{player_event}
 use Rattle.mpf_plan.specs.Uses.{names_from}
-use Rattle.mpf_plan.specs.PlanOf.{action_of, plan_from, plan_of, plan_at}
+use Rattle.mpf_plan.specs.Filling.{plan_from}
+use Rattle.mpf_plan.specs.ByNumber.{action_of}
+use Rattle.mpf_plan.specs.PlanOf.{plan_of, plan_at}
 use Rattle.mpf_plan.specs.ByName.{effect_of, IsDone, IsByVariable, AreByVariable}
+use Rattle.mpf_plan.proofs.Tables.{computed-plan}
 use Rattle.mpf_plan.proofs.Among.{IsAmong, IsKnown, all_known}
 use Rattle.mpf_plan.proofs.Drafted.{names-from}
 use Rattle.mpf_plan.proofs.Judged.{plan_at-Ok}
@@ -92,8 +96,7 @@ module _ (P : Effect → Type 0) (S L : List ℕ → Type 0) where
         }
 
   done_of_plan : (rows : Rows) → All (Does P S L) (contributions_of rows) → IsDone P S (plan_of rows)
-  unfolding plan_of
-  done_of_plan rows h = done_from (contributions_of rows) h
+  done_of_plan rows h = subst (IsDone P S) (computed-plan rows) (done_from (contributions_of rows) h)
 
   -- P holds of all that the plan does, by names
   pub done-named : (rows : Rows) (plan : PlanView) → plan_at rows ≡ Ok plan → All (Does P S L) (contributions_of rows) → IsDone P S plan
@@ -136,8 +139,7 @@ module _ (cs : List Contribution) where
       All-weaker (All AtVariable) (All (IsByVariable (plan_from cs))) (All-weaker AtVariable (IsByVariable (plan_from cs)) action_by_variable) (plan_from cs).lists meet.lists
 
 by_variable_of_plan : (rows : Rows) → AreByVariable (plan_of rows)
-unfolding plan_of
-by_variable_of_plan rows = by_variable_from (contributions_of rows) (rows_are_ready rows)
+by_variable_of_plan rows = subst AreByVariable (computed-plan rows) (by_variable_from (contributions_of rows) (rows_are_ready rows))
 
 -- the event of each change in the plan is that of its variable
 pub by_variable : (rows : Rows) (plan : PlanView) → plan_at rows ≡ Ok plan → AreByVariable plan

@@ -28,16 +28,19 @@ use Rattle.plan_tables.specs.declared.table.Table.TheVariants.{Events, Bindings,
 use Rattle.plan_tables.specs.declared.entries.ModeEvent.TheVariants.{WillStart}
 use Rattle.plan_tables.specs.PlanView.{PlanSwitch, no_switch, PlanCoil, no_coil, PlanMode, no_mode, no_binding, PlanView}
 use Rattle.plan_tables.specs.Limits.{entry_count, entry_names}
-use Rattle.plan_contributions.specs.Contributions.{Contribution, gives, reads, active, inactive, mode, mode_event, mode_event_name, binds, does, device, does_in, listens, mentions, unknown, coil, under, plays, row_contributions, given_by}
+use Rattle.plan_contributions.specs.Contributions.{Contribution, gives, reads, active, inactive, mode, mode_event, mode_event_name, binds, does, device, does_in, listens, mentions, unknown, coil, under, plays}
+use Rattle.row_contributions.specs.Contributions.{row_contributions, given_by}
 use Rattle.mpf_plan.specs.Uses.{Names, names_from, number_among}
-use Rattle.mpf_plan.specs.PlanOf.{DraftView, event_of, action_of, last_row, last_switch, with_given, new_mode, with_event_in, next_binding, lists_for, with_binding, with_list_for, with_one_more, next_row, next_list, with_device, next_listener, heard_by, with_listener, first_of_last, limited_to, with_coil, condition_of, conditioned, last_conditioned, with_condition, rules_of, with_game, with_contribution, named_switch, named_coil, blank, drafted, plan_from}
+use Rattle.mpf_plan.specs.Filling.{DraftView, last_row, last_switch, with_given, new_mode, with_event_in, next_binding, lists_for, with_binding, with_list_for, with_one_more, next_row, next_list, with_device, next_listener, heard_by, with_listener, limited_to, with_coil, conditioned, last_conditioned, with_condition, with_game, with_contribution, named_switch, named_coil, blank, drafted, plan_from}
+use Rattle.mpf_plan.specs.ByNumber.{event_of, action_of, first_of_last, condition_of, rules_of}
 use Rattle.plan_tables.specs.Inside.{name_sets_view, mode_entry_view}
 use Rattle.mpf_plan.specs.Inside.{limited_coils, draft_view}
 use Rattle.plan_contributions.specs.View.{contribution_view, contributions_view}
 use Rattle.plan_rows.specs.View.{row_view, row_list_view}
-use Rattle.mpf_plan.specs.Numbering.{bindings_given, binding_count, rows_given, row_count, modes_given, mode_count, lists_given, lists_count}
+use Rattle.mpf_plan.specs.PlanOf.{rows_given, row_count, modes_given, mode_count}
+use Rattle.mpf_plan.specs.Numbering.{bindings_given, binding_count, lists_given, lists_count}
 use Rattle.plan_tables.proofs.RowLists.{few_lists}
-use Rattle.plan_contributions.specs.Facts.{IsLimited}
+use Rattle.row_contributions.specs.Facts.{IsLimited}
 use Rattle.mpf_plan.proofs.Counts.{named_of, count_of}
 use Rattle.mpf_plan.proofs.Steps.{length-limited}
 use Rattle.mpf_plan.proofs.Taken.{part_count, part_rows, part_lists, part_modes}
@@ -63,7 +66,7 @@ given_plan Switches n d = by (slice_index_or d.defined n true)
     by false = refl
 given_plan _ n d = refl
 
-given_defined : (t : Table) (n : ℕ) (d : DraftView) → length (with_given t n d).defined ≡ length d.defined
+pub given_defined : (t : Table) (n : ℕ) (d : DraftView) → length (with_given t n d).defined ≡ length d.defined
 given_defined Switches n d = by (slice_index_or d.defined n true)
   where
     by : (b : Bool) → length (cond b (record d { last = length d.defined }) (record d { defined = slice_set d.defined n true; last = n })).defined ≡ length d.defined

@@ -7,11 +7,12 @@ use Rattle.std.proofs.lemmas.List.{map-append, take-append-drop}
 use Rattle.mpf_sections.specs.Rows.{SectionRows}
 use Rattle.plan_rows.specs.declared.rows.Row as rows
 use Rattle.plan_tables.specs.declared.table.Table.TheVariants.{Events, Bindings, Switches, Coils, Variables, Rows}
-use Rattle.plan_contributions.specs.Contributions.{Contribution, row_contributions, given_by}
+use Rattle.plan_contributions.specs.Contributions.{Contribution}
+use Rattle.row_contributions.specs.Contributions.{row_contributions, given_by}
 use Rattle.plan_rows.specs.View.{row_view, row_list_view}
 use Rattle.plan_tables.specs.Limits.{entry_count, limit_of, first_above}
 use Rattle.mpf_plan.specs.Uses.{names_from}
-use Rattle.mpf_plan.specs.PlanOf.{plan_from}
+use Rattle.mpf_plan.specs.Filling.{plan_from}
 use Rattle.mpf_plan.proofs.Drafted.{count-from}
 use Rattle.mpf_plan.proofs.UseNumbers.{count-more}
 

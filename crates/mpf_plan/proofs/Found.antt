@@ -13,22 +13,24 @@ use Rattle.plan_tables.specs.declared.table.Table.{Table}
 use Rattle.plan_tables.specs.declared.table.Table.TheVariants.{Events, Bindings, Rows}
 use Rattle.plan_tables.specs.declared.names.NameTable.{NameTable}
 use Rattle.mpf_plan.specs.declared.first_uses.Found.{Found}
-use Rattle.plan_contributions.specs.Contributions.{Contribution, given_by}
+use Rattle.plan_contributions.specs.Contributions.{Contribution}
+use Rattle.row_contributions.specs.Contributions.{given_by}
 use Rattle.plan_rows.specs.Rows.{Row}
 use Rattle.plan_contributions.specs.UsedNames.{used, name_in_table, uses}
 use Rattle.mpf_plan.specs.Uses.{first_uses, names_from, number_among}
 use Rattle.plan_tables.specs.Limits.{entry_count, limit_of, order_of, tables_in_order, first_above}
-use Rattle.mpf_plan.specs.PlanOf.{plan_from}
+use Rattle.mpf_plan.specs.Filling.{plan_from}
 use Rattle.plan_tables.specs.NamesKept.{names_of, names_kept}
 use Rattle.first_names.specs.FirstNames.{with_name, IsNameTableOf}
-use Rattle.mpf_plan.specs.Numbering.{AreNameTablesOf, bindings_given, binding_count, rows_given, row_count, number_in, IsCount, HasFound}
+use Rattle.mpf_plan.specs.PlanOf.{rows_given, row_count}
+use Rattle.mpf_plan.specs.Numbering.{AreNameTablesOf, bindings_given, binding_count, number_in, IsCount, HasFound}
 use Rattle.mpf_plan.proofs.Firsts.{with_names-all}
 use Rattle.mpf_plan.proofs.Counts.{count_of}
 use Rattle.mpf_plan.proofs.Drafted.{count-from}
 use Rattle.mpf_plan.proofs.UseNumbers.{AllFit, numbers_more}
 use Rattle.mpf_plan.proofs.ByTable.{place_within, each_changed}
 use Rattle.mpf_plan.proofs.Judged.{all_within}
-use Rattle.plan_contributions.proofs.Unnamed.{bindings_unnamed, rows_unnamed}
+use Rattle.row_contributions.proofs.Unnamed.{bindings_unnamed, rows_unnamed}
 
 -- ---- one contribution more
 

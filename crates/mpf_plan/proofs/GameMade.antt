@@ -13,9 +13,10 @@ use Rattle.plan_tables.specs.GameEvents.{order_of}
 use Rattle.plan_tables.specs.PlanView.{PlanView, no_event, name_of_event, event_of_game, game_event}
 use Rattle.plan_tables.specs.Valid.{HasGame, IsEventWithin, IsGameWithin}
 use Rattle.plan_contributions.specs.Contributions.{Contribution, gives, plays}
-use Rattle.plan_contributions.specs.Facts.{AreRules}
+use Rattle.row_contributions.specs.Facts.{AreRules}
 use Rattle.mpf_plan.specs.Uses.{Names, names_from, number_among}
-use Rattle.mpf_plan.specs.PlanOf.{DraftView, event_of, with_contribution, blank, drafted, plan_from}
+use Rattle.mpf_plan.specs.Filling.{DraftView, with_contribution, blank, drafted, plan_from}
+use Rattle.mpf_plan.specs.ByNumber.{event_of}
 use Rattle.mpf_plan.proofs.Drafted.{given_plan, names-from}
 use Rattle.mpf_plan.proofs.GameNames.{game_name, order_within}
 use Rattle.mpf_plan.proofs.Numbers.{at_number}

@@ -18,9 +18,10 @@ use Rattle.plan_tables.specs.declared.table.Table.TheVariants.{Events}
 use Rattle.plan_tables.specs.GameEvents.{game_events, order_of}
 use Rattle.plan_tables.specs.PlanView.{PlanView, no_event, name_of_event, mode_at, work_from, work_in_game, placed_in_game, game_work, or_work, work_of, event_of_game, game_event}
 use Rattle.plan_tables.specs.Valid.{HasGame, IsWorkAt}
-use Rattle.plan_contributions.specs.Contributions.{contributions_of}
+use Rattle.row_contributions.specs.Contributions.{contributions_of}
 use Rattle.mpf_plan.specs.Uses.{Names, names_from}
-use Rattle.mpf_plan.specs.PlanOf.{event_of, plan_from}
+use Rattle.mpf_plan.specs.Filling.{plan_from}
+use Rattle.mpf_plan.specs.ByNumber.{event_of}
 use Rattle.mpf_plan.proofs.Among.{place_within}
 use Rattle.mpf_plan.proofs.GameMade.{IsGameOf, game_made, game_event_is}
 use Rattle.mpf_plan.proofs.GameNames.{game_name, order_within, same_game, not_of_mode}

@@ -12,7 +12,7 @@ use Rattle.mpf_sections.specs.TypedCoils.{coils_name, coil_player_name, coil_of,
 use Rattle.mpf_sections.specs.TypedGame.{variable_player_name, game_name, variable_player_of, game_of, min_balls_of}
 use Rattle.machine_definitions.specs.GameEvents.{game_event_names}
 use Rattle.machine_definitions.specs.Players.{player_event}
-use Rattle.plan_contributions.specs.VariableEntries.{item_change}
+use Rattle.row_contributions.specs.VariableEntries.{item_change}
 use Rattle.plan_rows.specs.declared.place.Place.{Place}
 use Rattle.plan_rows.specs.declared.place.Place.TheVariants.{Machine, Control, Mode}
 use Rattle.plan_contributions.specs.declared.contribution.Aim.TheVariants.{Run}
@@ -20,17 +20,18 @@ use Rattle.plan_tables.specs.declared.table.Table.TheVariants.{Events, Switches}
 use Rattle.mpf_values.specs.Events.{Event}
 use Rattle.machine_definitions.specs.Shots.{Profile}
 use Rattle.plan_tables.specs.declared.devices.Act.{Act}
-use Rattle.plan_contributions.specs.DeviceEntries.{Device, device_of}
-use Rattle.plan_contributions.specs.ShotEntries.{shot_acts, lone_device, group_device}
-use Rattle.plan_contributions.specs.SaveEntries.{save_device_of}
-use Rattle.plan_contributions.specs.BallEntries.{is_known, ball_device_from}
+use Rattle.row_contributions.specs.DeviceEntries.{Device, device_of}
+use Rattle.row_contributions.specs.ShotEntries.{shot_acts, lone_device, group_device}
+use Rattle.row_contributions.specs.SaveEntries.{save_device_of}
+use Rattle.row_contributions.specs.BallEntries.{is_known, ball_device_from}
 use Rattle.plan_rows.specs.declared.destination.Destination.{Destination}
 use Rattle.plan_rows.specs.Seats.{Seat}
 use Rattle.plan_rows.specs.Members.{Members}
-use Rattle.plan_contributions.specs.Contributions.{Contribution, gives, reads, active, inactive, mode, mode_event, binds, does, device, does_in, listens, mentions, unknown, coil, under, plays, bound, switch_contributions, player_contributions, coil_contributions, coil_player_contributions, item_contributions, variable_player_contributions, game_contributions, controls, mode_contributions, act_binding, effects_from, listens_from, device_contributions, where_device, unknown_unless, shot_switch, act_at, seated, shot_contributions, group_contributions, ball_device_contributions, machine_device, machine_entry_contributions, entry_contributions, alone_contributions, player_entry_contributions, row_contributions, given_by, contributions_of}
+use Rattle.plan_contributions.specs.Contributions.{Contribution, gives, reads, active, inactive, mode, mode_event, binds, does, device, does_in, listens, mentions, unknown, coil, under, plays}
+use Rattle.row_contributions.specs.Contributions.{bound, switch_contributions, player_contributions, coil_contributions, coil_player_contributions, item_contributions, variable_player_contributions, game_contributions, controls, mode_contributions, act_binding, effects_from, listens_from, device_contributions, where_device, unknown_unless, shot_switch, act_at, seated, shot_contributions, group_contributions, ball_device_contributions, machine_device, machine_entry_contributions, entry_contributions, alone_contributions, player_entry_contributions, row_contributions, given_by, contributions_of}
 use Rattle.plan_rows.specs.Rows.{Row, entry, alone, shot, group, ball_device, player, of_mode, rows_of}
-use Rattle.plan_contributions.specs.Facts.{row_after}
-use Rattle.plan_contributions.proofs.RowFacts.{All-each, All-made}
+use Rattle.row_contributions.specs.Facts.{row_after}
+use Rattle.row_contributions.proofs.RowFacts.{All-each, All-made}
 use Rattle.mpf_plan.proofs.Usual.{IsUsual, of_switch, of_bound, of_player, of_coil_player, of_device, of_unknown, of_shot_switch, of_acts_at, of_controls}
 
 -- a switch that is given by its name alone, or a switch to which a row of the machine listens that came last

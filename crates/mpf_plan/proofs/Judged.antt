@@ -9,7 +9,8 @@ use Rattle.std.proofs.lemmas.List.Folds.{list_any_none}
 use Rattle.mpf_config.specs.Rows.{Rows}
 use Rattle.plan_tables.specs.declared.table.Table.{Table}
 use Rattle.plan_tables.specs.PlanView.{PlanView}
-use Rattle.plan_contributions.specs.Contributions.{Contribution, contributions_of}
+use Rattle.plan_contributions.specs.Contributions.{Contribution}
+use Rattle.row_contributions.specs.Contributions.{contributions_of}
 use Rattle.plan_contributions.specs.UsedNames.{used, given_names}
 use Rattle.mpf_plan.specs.Uses.{Names, is_to_be_given, is_lacking, is_unknown, lacks, lacks_name}
 use Rattle.plan_tables.specs.Limits.{entry_count, limit_of, order_of, tables_in_order, first_above, IsFirstAbove}

@@ -14,7 +14,8 @@ use Rattle.indexmap.specs.IndexSet.{IndexSet}
 use Rattle.mpf_sections.specs.Rows.{SectionRows}
 use Rattle.plan_rows.specs.declared.rows.Row as rows
 use Rattle.plan_tables.specs.declared.table.Table.{Table}
-use Rattle.plan_contributions.specs.Contributions.{Contribution, row_contributions, given_by}
+use Rattle.plan_contributions.specs.Contributions.{Contribution}
+use Rattle.row_contributions.specs.Contributions.{row_contributions, given_by}
 use Rattle.mpf_plan.specs.Uses.{first_uses, is_to_be_given, is_lacking}
 use Rattle.plan_contributions.specs.UsedNames.{given, name_in_table, given_names}
 use Rattle.plan_tables.specs.Limits.{order_of, tables_in_order}

@@ -29,6 +29,10 @@ pub mod GameWorks
 pub mod Apart
 pub mod DoneNames
 pub mod Limited
+pub mod CoilsCalled
+pub mod Stands
+pub mod SwitchesCalled
+pub mod Tables
 pub mod ValidPlan
 pub mod Planned
 pub mod UseNumbers

@@ -13,8 +13,10 @@ use Rattle.plan_tables.specs.PlanView.{PlanView, name_of_event, mode_at, mode_ev
 use Rattle.plan_tables.specs.GameEvents.{order_of}
 use Rattle.plan_tables.specs.Valid.{HasGame, IsWorkAt}
 use Rattle.machine_definitions.specs.GameEvents.{reserved_game_events}
-use Rattle.plan_contributions.specs.Contributions.{mode_event_name, contributions_of}
+use Rattle.plan_contributions.specs.Contributions.{mode_event_name}
+use Rattle.row_contributions.specs.Contributions.{contributions_of}
 use Rattle.mpf_plan.specs.PlanOf.{plan_of, plan_at}
+use Rattle.mpf_plan.proofs.Tables.{computed-plan}
 use Rattle.mpf_plan.proofs.GameMade.{game_event_is}
 use Rattle.mpf_plan.proofs.GameNames.{game_name}
 use Rattle.mpf_plan.proofs.Judged.{plan_at-Ok}
@@ -32,12 +34,10 @@ abbrev pub HasGameNames : PlanView → Type 0
 HasGameNames plan = HasGame plan → (which : GameEvent) → name_of_event plan (game_event plan which) ≡ game_name which
 
 events_of_plan : (rows : Rows) → HasEventNames (plan_of rows)
-unfolding plan_of
-events_of_plan rows m within which = event_name_is rows m within which
+events_of_plan rows = subst HasEventNames (computed-plan rows) (event_name_is rows)
 
 modes_of_plan : (rows : Rows) → HasModesOf rows (plan_of rows)
-unfolding plan_of
-modes_of_plan rows m within = name_there rows m within
+modes_of_plan rows = subst (HasModesOf rows) (computed-plan rows) (name_there rows)
 
 module _ (rows : Rows) (plan : PlanView) (is : plan_at rows ≡ Ok plan) (m : ModeId) (within : m.0 < length plan.modes) where
   -- an event of a mode has the name that the mode gives it
@@ -49,8 +49,7 @@ module _ (rows : Rows) (plan : PlanView) (is : plan_at rows ≡ Ok plan) (m : Mo
   mode-named = subst (HasModesOf rows) (sym (plan_at-Ok rows plan is).0) (modes_of_plan rows) m within
 
 events_of_game : (rows : Rows) → HasGameNames (plan_of rows)
-unfolding plan_of
-events_of_game rows has which = game_event_is (contributions_of rows) (rows_are_ready rows) has which
+events_of_game rows = subst HasGameNames (computed-plan rows) (game_event_is (contributions_of rows) (rows_are_ready rows))
 
 -- an event of the game has its name
 pub game_event-named : (rows : Rows) (plan : PlanView) → plan_at rows ≡ Ok plan → HasGameNames plan

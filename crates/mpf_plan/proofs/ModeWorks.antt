@@ -16,21 +16,23 @@ use Rattle.plan_tables.specs.declared.entries.Work.TheVariants as works
 use Rattle.plan_tables.specs.declared.table.Table.TheVariants.{Events}
 use Rattle.plan_tables.specs.PlanView.{PlanMode, PlanView, no_mode, name_of_event, event_among, mode_at, mode_event, which_event, work_or, work_from, game_work, or_work, work_of}
 use Rattle.plan_tables.specs.Valid.{IsModeWithin, IsWorkAt}
-use Rattle.plan_contributions.specs.Contributions.{mode_event_name, contributions_of}
+use Rattle.plan_contributions.specs.Contributions.{mode_event_name}
+use Rattle.row_contributions.specs.Contributions.{contributions_of}
 use Rattle.mpf_plan.specs.Uses.{Names, names_from, number_among}
-use Rattle.mpf_plan.specs.PlanOf.{plan_from}
+use Rattle.mpf_plan.specs.Filling.{plan_from}
 use Rattle.mpf_plan.proofs.Drafted.{names-from}
 use Rattle.mpf_plan.proofs.GameMade.{game_event_is}
 use Rattle.mpf_plan.proofs.GameNames.{not_of_mode}
 use Rattle.mpf_plan.proofs.Heard.{rows_are_heard}
 use Rattle.mpf_plan.proofs.Numbers.{at_number}
-use Rattle.plan_contributions.proofs.Aimed.{rows_are_aimed}
-use Rattle.plan_contributions.proofs.BallRows.{rows_are_fitting, targets_are_rows, drains_are_in_games}
-use Rattle.plan_contributions.proofs.RowFacts.{rows_are_open, rows_are_placed}
+use Rattle.row_contributions.proofs.Aimed.{rows_are_aimed}
+use Rattle.row_contributions.proofs.BallRows.{rows_are_fitting, targets_are_rows, drains_are_in_games}
+use Rattle.row_contributions.proofs.RowFacts.{rows_are_open, rows_are_placed}
 use Rattle.mpf_plan.proofs.Ready.{rows_are_ready}
 use Rattle.mpf_plan.proofs.SoundDraft.{has_entries}
-use Rattle.plan_contributions.proofs.ModeNames.{same_which, same_mode}
-use Rattle.mpf_plan.proofs.ModesMade.{made, made-event, modes-made}
+use Rattle.row_contributions.proofs.ModeNames.{same_which, same_mode}
+use Rattle.mpf_plan.specs.PlanOf.{mode_of}
+use Rattle.mpf_plan.proofs.ModesMade.{made-event, modes-made}
 use Rattle.plan_tables.proofs.Worked.{work_found}
 
 -- ---- an event of a mode has work
@@ -96,7 +98,7 @@ module _ (rows : Rows) where
 
   -- there are as many as in the rows
   pub modes-count : length plan.modes ≡ length rows.modes
-  modes-count = ap length (modes-made rows) ∙ length-map rows.modes (made names)
+  modes-count = ap length (modes-made rows) ∙ length-map rows.modes (mode_of names)
 
   module _ (m : ModeId) (within : m.0 < length plan.modes) where
     abbrev row : ModeRows
@@ -105,8 +107,8 @@ module _ (rows : Rows) where
     inside : m.0 < length rows.modes
     inside = omega (arith, within, modes-count)
 
-    made_at : mode_at plan m ≡ made names row
-    made_at = ap (λ ms. get_or ms m.0 no_mode) (modes-made rows) ∙ get_or-map (made names) rows.modes m.0 no_rows no_mode inside
+    made_at : mode_at plan m ≡ mode_of names row
+    made_at = ap (λ ms. get_or ms m.0 no_mode) (modes-made rows) ∙ get_or-map (mode_of names) rows.modes m.0 no_rows no_mode inside
 
     name_at : (d : List ℕ) → get_or (names_in rows.modes) m.0 d ≡ (mode_at plan m).name
     name_at d = get_or-map (λ (x : ModeRows). x.name) rows.modes m.0 no_rows d inside ∙ ap (λ (x : PlanMode). x.name) (sym made_at)
@@ -121,7 +123,7 @@ module _ (rows : Rows) where
         let at = subst (IsModeWithin (length plan.events)) made_at (All-get_or (IsModeWithin (length plan.events)) plan.modes m.0 no_mode within entries.modes) in
         subst (λ es. number_among (names Events) (mode_event_name which row.name) < length es) (names-from (contributions_of rows) Events) (by which at)
       where
-        by : (which : ModeEvent) → IsModeWithin (length plan.events) (made names row) → number_among (names Events) (mode_event_name which row.name) < length plan.events
+        by : (which : ModeEvent) → IsModeWithin (length plan.events) (mode_of names row) → number_among (names Events) (mode_event_name which row.name) < length plan.events
         by WillStart at = at.will_start
         by Starting at = at.starting
         by Started at = at.started

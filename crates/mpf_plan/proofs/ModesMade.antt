@@ -7,10 +7,10 @@ use Rattle.std.proofs.lemmas.Grind.{flat_map-append}
 use Rattle.std.proofs.lemmas.List.{append-nil, append_assoc, set_at, get_or_push, length_push}
 use Rattle.std.proofs.lemmas.List.Elements.{All-head, All-tail}
 use Rattle.std.proofs.lemmas.List.Sums.{fold-append}
-use Rattle.mpf_sections.specs.Rows.{Entry, Player, Switch, EventPlayer, ModeSettings, Content, entries, players, SectionRows}
+use Rattle.mpf_sections.specs.Rows.{Entry, Player, ModeSettings, Content, entries, players, SectionRows}
 use Rattle.mpf_config.specs.Rows.{ModeRows, Rows}
 use Rattle.mpf_sections.specs.Rows as sections
-use Rattle.mpf_sections.specs.Typed.{switches_name, switch_of, mode_settings}
+use Rattle.mpf_sections.specs.Typed.{switches_name, switch_of}
 use Rattle.mpf_sections.specs.TypedCoils.{coils_name, coil_of}
 use Rattle.plan_rows.specs.declared.place.Place.{Place}
 use Rattle.plan_rows.specs.declared.place.Place.TheVariants.{Machine, Control, Mode}
@@ -22,41 +22,24 @@ use Rattle.plan_tables.specs.PlanView.{PlanMode, no_mode, event_among}
 use Rattle.mpf_sections.specs.Rows.{Shot, ShotGroup, BallDevice}
 use Rattle.mpf_sections.specs.TypedShots.{shots_name, shot_groups_name, shot_of, shot_group_of}
 use Rattle.machine_definitions.specs.Shots.{Profile}
-use Rattle.plan_contributions.specs.DeviceEntries.{Device, device_of}
-use Rattle.plan_contributions.specs.ShotEntries.{shot_acts, lone_device, group_device}
+use Rattle.row_contributions.specs.DeviceEntries.{Device, device_of}
+use Rattle.row_contributions.specs.ShotEntries.{shot_acts, lone_device, group_device}
 use Rattle.mpf_sections.specs.TypedBalls.{ball_devices_name, ball_device_of}
-use Rattle.plan_contributions.specs.BallEntries.{is_known, ball_device_from}
+use Rattle.row_contributions.specs.BallEntries.{is_known, ball_device_from}
 use Rattle.plan_rows.specs.declared.destination.Destination.{Destination}
 use Rattle.plan_rows.specs.Seats.{Seat, seat_of, destination_of, rows_after_text}
 use Rattle.plan_rows.specs.Members.{Members}
-use Rattle.plan_contributions.specs.Contributions.{Contribution, gives, mode, mode_event, mode_event_name, mentions, switch_contributions, coil_contributions, later_events, controls, mode_contributions, act_binding, effects_from, listens_from, device_contributions, where_device, unknown_unless, shot_switch, act_at, seated, shot_contributions, group_contributions, ball_device_contributions, machine_device, machine_entry_contributions, entry_contributions, alone_contributions, player_entry_contributions, row_contributions, given_by, contributions_of}
+use Rattle.plan_contributions.specs.Contributions.{Contribution, gives, mode, mode_event, mentions}
+use Rattle.row_contributions.specs.Contributions.{switch_contributions, coil_contributions, later_events, controls, mode_contributions, act_binding, effects_from, listens_from, device_contributions, where_device, unknown_unless, shot_switch, act_at, seated, shot_contributions, group_contributions, ball_device_contributions, machine_device, machine_entry_contributions, entry_contributions, alone_contributions, player_entry_contributions, row_contributions, given_by, contributions_of}
 use Rattle.plan_rows.specs.Rows.{Row, entry, alone, shot, group, ball_device, player, of_mode, shot_row, group_row, ball_device_row, other_row, entry_row, rows_from, rows_in, text_rows, mode_rows, modes_rows, rows_of}
 use Rattle.mpf_plan.specs.Uses.{Names, names_from, number_among}
-use Rattle.mpf_plan.specs.PlanOf.{DraftView, event_of, new_mode, with_event_in, last_with_event, with_contribution, blank, drafted, plan_from}
+use Rattle.mpf_plan.specs.PlanOf.{event_for, mode_called, mode_of}
+use Rattle.mpf_plan.specs.Filling.{DraftView, new_mode, with_event_in, last_with_event, with_contribution, blank, drafted, plan_from}
 use Rattle.mpf_plan.proofs.Drafted.{given_plan}
 use Rattle.mpf_plan.proofs.Heard.{IsQuiet, AreQuiet, quiet_unknown, quiet_shot_switch, quiet_acts_at, quiet_switch, quiet_player_entry, quiet_device, quiet_alone, quiet_controls}
 
 module _ (names : Names) where
-  -- the event of this name of a mode
-  abbrev pub event_for : ModeEvent → List ℕ → EventId
-  event_for which name = event_of (names Events) (mode_event_name which name)
-
-  -- what a mode of the rows makes
-  abbrev pub made_by : List ℕ → ModeSettings → PlanMode
-  made_by name s = record {
-    name = name;
-    mode = record {
-      priority = s.priority;
-      game = s.game;
-      holds_ball_end = s.holds_ball_end;
-      events = record { will_start = event_for WillStart name; starting = event_for Starting name; started = event_for Started name; stopping = event_for Stopping name; stopped = event_for Stopped name };
-    };
-  }
-
-  abbrev pub made : ModeRows → PlanMode
-  made m = made_by m.name (mode_settings m.sections)
-
-  pub made-event : (which : ModeEvent) (m : ModeRows) → event_among (made m).mode.events which ≡ event_for which m.name
+  pub made-event : (which : ModeEvent) (m : ModeRows) → event_among (mode_of names m).mode.events which ≡ event_for names which m.name
   made-event WillStart m = refl
   made-event Starting m = refl
   made-event Started m = refl
@@ -66,8 +49,8 @@ module _ (names : Names) where
   -- ---- one contribution
 
   abbrev modes_with : List PlanMode → Contribution → List PlanMode
-  modes_with ms (mode n priority game holds) = ms ++ new_mode n priority game holds (event_for WillStart n) ∷ []
-  modes_with ms (mode_event which n) = last_with_event which (event_for which n) ms
+  modes_with ms (mode n priority game holds) = ms ++ new_mode n priority game holds (event_for names WillStart n) ∷ []
+  modes_with ms (mode_event which n) = last_with_event which (event_for names which n) ms
   modes_with ms _ = ms
 
   modes_one : (d : DraftView) (c : Contribution) → (with_contribution names d c).plan.modes ≡ modes_with d.plan.modes c
@@ -161,23 +144,23 @@ module _ (names : Names) where
       ∙ set_at ms m [] (with_event_in which e m) at here
 
   -- its contributions add it
-  mode_adds : (name : List ℕ) (s : ModeSettings) (ms : List PlanMode) → fold modes_with ms (mode_contributions name s) ≡ ms ++ made_by name s ∷ []
+  mode_adds : (name : List ℕ) (s : ModeSettings) (ms : List PlanMode) → fold modes_with ms (mode_contributions name s) ≡ ms ++ mode_called names name s ∷ []
   unfolding mode_contributions
   mode_adds name s ms =
-      let m0 = new_mode name s.priority s.game s.holds_ball_end (event_for WillStart name) in
-      let m1 = with_event_in Starting (event_for Starting name) m0 in
-      let m2 = with_event_in Started (event_for Started name) m1 in
-      let m3 = with_event_in Stopping (event_for Stopping name) m2 in
+      let m0 = new_mode name s.priority s.game s.holds_ball_end (event_for names WillStart name) in
+      let m1 = with_event_in Starting (event_for names Starting name) m0 in
+      let m2 = with_event_in Started (event_for names Started name) m1 in
+      let m3 = with_event_in Stopping (event_for names Stopping name) m2 in
       in_controls s (fold modes_with ms (mode name s.priority s.game s.holds_ball_end ∷ later_events name))
-      ∙ ap (λ x. last_with_event Stopped (event_for Stopped name) (last_with_event Stopping (event_for Stopping name) (last_with_event Started (event_for Started name) x))) (event_set Starting (event_for Starting name) ms m0)
-      ∙ ap (λ x. last_with_event Stopped (event_for Stopped name) (last_with_event Stopping (event_for Stopping name) x)) (event_set Started (event_for Started name) ms m1)
-      ∙ ap (λ x. last_with_event Stopped (event_for Stopped name) x) (event_set Stopping (event_for Stopping name) ms m2)
-      ∙ event_set Stopped (event_for Stopped name) ms m3
+      ∙ ap (λ x. last_with_event Stopped (event_for names Stopped name) (last_with_event Stopping (event_for names Stopping name) (last_with_event Started (event_for names Started name) x))) (event_set Starting (event_for names Starting name) ms m0)
+      ∙ ap (λ x. last_with_event Stopped (event_for names Stopped name) (last_with_event Stopping (event_for names Stopping name) x)) (event_set Started (event_for names Started name) ms m1)
+      ∙ ap (λ x. last_with_event Stopped (event_for names Stopped name) x) (event_set Stopping (event_for names Stopping name) ms m2)
+      ∙ event_set Stopped (event_for names Stopped name) ms m3
 
   -- ---- all rows
 
   abbrev modes_of : Row → List PlanMode
-  modes_of (of_mode name s) = made_by name s ∷ []
+  modes_of (of_mode name s) = mode_called names name s ∷ []
   modes_of _ = []
 
   row_adds : (machine : List SectionRows) (r : Row) (ms : List PlanMode) → fold modes_with ms (row_contributions machine r) ≡ ms ++ modes_of r
@@ -234,13 +217,13 @@ module _ (names : Names) where
   none_of_text : (rows : Rows) (place : Place) (n : ℕ) (ss : List SectionRows) → flat_map modes_of (text_rows rows place n ss) ≡ []
   none_of_text rows place n ss = none_in rows place (seat_of place n ss) (destination_of place n ss) ss
 
-  of_modes : (rows : Rows) (n : ℕ) (ms : List ModeRows) → flat_map modes_of (modes_rows rows n ms) ≡ map made ms
+  of_modes : (rows : Rows) (n : ℕ) (ms : List ModeRows) → flat_map modes_of (modes_rows rows n ms) ≡ map (mode_of names) ms
   of_modes rows n [] = refl
   of_modes rows n (m ∷ ms) =
       let later = rows_after_text Mode n m.sections in
-      flat_map-append modes_of (mode_rows rows n m) (modes_rows rows later ms) ∙ (λ i. made m ∷ none_of_text rows Mode n m.sections i ++ of_modes rows later ms i)
+      flat_map-append modes_of (mode_rows rows n m) (modes_rows rows later ms) ∙ (λ i. mode_of names m ∷ none_of_text rows Mode n m.sections i ++ of_modes rows later ms i)
 
-  pub modes_drafted : (rows : Rows) → (drafted names (contributions_of rows)).plan.modes ≡ map made rows.modes
+  pub modes_drafted : (rows : Rows) → (drafted names (contributions_of rows)).plan.modes ≡ map (mode_of names) rows.modes
   modes_drafted rows =
       let later = rows_after_text Machine 0 rows.machine in
       modes_fold (contributions_of rows) (blank names)
@@ -249,5 +232,5 @@ module _ (names : Names) where
       ∙ (λ i. none_of_text rows Machine 0 rows.machine i ++ of_modes rows later rows.modes i)
 
 -- the modes of the plan of contributions
-pub modes-made : (rows : Rows) → (plan_from (contributions_of rows)).modes ≡ map (made (names_from (contributions_of rows))) rows.modes
+pub modes-made : (rows : Rows) → (plan_from (contributions_of rows)).modes ≡ map (mode_of (names_from (contributions_of rows))) rows.modes
 modes-made rows = modes_drafted (names_from (contributions_of rows)) rows

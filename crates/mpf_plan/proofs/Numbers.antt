@@ -1,17 +1,20 @@
 -- Names stand at their numbers.
-use Rattle.std.proofs.Common.{◌≡◌, ℕ, suc, ◌+◌, ◌<◌, Bool, true, false, cond, not, List, [], ◌∷◌, length, get_or, slice_index_or, refl, sym, ◌∙◌, ap, arith}
+use Rattle.std.proofs.Common.{◌≡◌, ℕ, suc, ◌+◌, ◌<◌, ◌≤◌, ◌⊎◌, inl, inr, Bool, true, false, cond, not, List, [], ◌∷◌, length, get_or, slice_index_or, refl, sym, ◌∙◌, ap, arith}
 use Rattle.std.specs.Str.{bytes_eq}
-use Rattle.std.specs.List.{position_or_len}
+use Rattle.std.specs.List.{list_any, position_or_len}
+use Rattle.std.proofs.lemmas.Bool.{cases_lt}
+use Rattle.std.proofs.lemmas.List.Folds.{list_any_at}
 use Rattle.std.proofs.lemmas.Slice.Eq.{bytes_eq-Decides}
 use Rattle.plan_tables.specs.declared.entries.Action.{Action}
 use Rattle.plan_tables.specs.declared.entries.Action.TheVariants.{Post, Pulse, Enable, Disable, Change, Enter, Leave, Lose, Arrive, Request, AddBalls}
 use Rattle.plan_tables.specs.declared.devices.RowId.{RowId}
 use Rattle.plan_tables.specs.declared.table.Table.TheVariants.{Events, Coils, Variables}
-use Rattle.plan_contributions.specs.DeviceEntries.{pulse, enable, disable, Effect, posts, works, changes, enters, leaves, loses, arrives, requests, adds_balls}
+use Rattle.plan_contributions.specs.Effects.{pulse, enable, disable, Effect, posts, works, changes, enters, leaves, loses, arrives, requests, adds_balls}
 use Rattle.plan_contributions.specs.UsedNames.{used_by}
 use Rattle.mpf_plan.specs.Uses.{Names, number_among}
-use Rattle.mpf_plan.specs.PlanOf.{action_of}
-use Rattle.mpf_plan.proofs.Among.{IsAmong}
+use Rattle.mpf_plan.specs.ByNumber.{action_of}
+use Rattle.mpf_plan.proofs.Among.{IsAmong, place_within}
+use Rattle.mpf_plan.proofs.Apart.{AreApart, all_apart}
 
 -- a name stands at its number
 pub at_number : (names : List (List ℕ)) (n : List ℕ) → number_among names n < length names → get_or names (number_among names n) [] ≡ n
@@ -23,6 +26,30 @@ at_number (x ∷ xs) n within = by (at_number xs n) (bytes_eq n x) refl within
     by rest false other inside =
         let next : 1 + position_or_len (bytes_eq n) xs ≡ suc (position_or_len (bytes_eq n) xs) = omega arith in
         ap (λ k. get_or (x ∷ xs) k []) next ∙ rest (omega (arith, inside))
+
+-- the name at a number is among the names
+pub name_at : (names : List (List ℕ)) (k : ℕ) → k < length names → list_any (bytes_eq (get_or names k [])) names ≡ true
+name_at names k inside =
+    let n = get_or names k [] in
+    list_any_at (bytes_eq n) names k [] inside ((bytes_eq-Decides n n).1 refl)
+
+-- and this is its number, where no two names are the same
+pub number_at : (names : List (List ℕ)) → AreApart names → (k : ℕ) → k < length names → number_among names (get_or names k []) ≡ k
+number_at names apart k inside = by (cases_lt at k) (cases_lt k at)
+  where
+    at : ℕ
+    at = number_among names (get_or names k [])
+
+    known : at < length names
+    known = place_within (bytes_eq (get_or names k [])) names (name_at names k inside)
+
+    same : get_or names at [] ≡ get_or names k []
+    same = at_number names (get_or names k []) known
+
+    by : (at < k) ⊎ (k ≤ at) → (k < at) ⊎ (at ≤ k) → at ≡ k
+    by (inl before) _ = absurd (all_apart names apart at k [] before inside same)
+    by (inr from) (inl after) = absurd (all_apart names apart k at [] after known (sym same))
+    by (inr from) (inr to) = omega (arith, from, to)
 
 -- an action, by the names at its numbers
 abbrev pub named_effect : Names → Action → Effect

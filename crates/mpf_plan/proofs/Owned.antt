@@ -21,12 +21,13 @@ use Rattle.plan_tables.specs.declared.table.Table.TheVariants.{Events, Switches}
 use Rattle.plan_tables.specs.PlanView.{PlanSwitch, no_switch, PlanView, no_binding, no_mode, no_row}
 use Rattle.plan_contributions.specs.Contributions.{Contribution, gives, reads, active, inactive, mode, mode_event, mode_event_name, binds, does, device, does_in, listens, mentions, unknown, coil, under, plays}
 use Rattle.mpf_plan.specs.Uses.{Names, number_among}
-use Rattle.mpf_plan.specs.PlanOf.{DraftView, event_of, with_event_in, last_mode, last_row, owner_at, target_at, next_binding, next_row, next_listener, heard_by, condition_of, conditioned, with_contribution, named_switch, blank, drafted}
+use Rattle.mpf_plan.specs.Filling.{DraftView, with_event_in, last_mode, last_row, target_at, next_binding, next_row, next_listener, heard_by, conditioned, with_contribution, named_switch, blank, drafted}
+use Rattle.mpf_plan.specs.ByNumber.{event_of, owner_at, condition_of}
 use Rattle.mpf_plan.proofs.Drafted.{given_plan}
 use Rattle.mpf_plan.proofs.Steps.{All-changed}
 use Rattle.mpf_plan.proofs.Heard.{IsHeard, AreHeard}
 use Rattle.mpf_plan.proofs.RowOwners.{owner_by, owners_of, modes_come, owners_fold, rows_kept, IsOnRow, IsBoundOn, bound_on}
-use Rattle.plan_contributions.specs.Facts.{modes_after, row_after, IsPlacedAim, IsPlaced, ArePlaced, row_places, IsAimed, AreAimed}
+use Rattle.row_contributions.specs.Facts.{modes_after, row_after, IsPlacedAim, IsPlaced, ArePlaced, row_places, IsAimed, AreAimed}
 
 -- an act is on a row that is there, and of this owner
 abbrev pub IsOwnTarget : List DeviceRow → Owner → Target → Type 0

@@ -17,21 +17,25 @@ use Rattle.mpf_plan.specs.declared.fault.PlanFault.{PlanFault}
 use Rattle.mpf_plan.specs.declared.fault.PlanFault.TheVariants as faults
 use Rattle.plan_tables.specs.PlanView.{PlanView}
 use Rattle.plan_tables.specs.Valid.{IsBindingWithin, IsValid}
-use Rattle.plan_contributions.specs.Contributions.{Contribution, given_by, contributions_of}
+use Rattle.plan_contributions.specs.Contributions.{Contribution}
+use Rattle.row_contributions.specs.Contributions.{given_by, contributions_of}
 use Rattle.plan_rows.specs.Rows.{rows_of}
 use Rattle.mpf_plan.specs.Uses.{lacks_name}
 use Rattle.plan_tables.specs.Limits.{entry_count, limit_of, first_above}
-use Rattle.mpf_plan.specs.PlanOf.{drafted, plan_from, plan_of, plan_at, GivesPlan, IsExceeded}
+use Rattle.mpf_plan.specs.Filling.{drafted, plan_from}
+use Rattle.mpf_plan.specs.PlanOf.{plan_of, plan_at, GivesPlan, IsExceeded}
 use Rattle.plan_tables.specs.Inside.{name_sets_view, tables_view}
 use Rattle.plan_rows.specs.View.{row_list_view}
-use Rattle.plan_contributions.specs.Facts.{row_places, AreAimed}
-use Rattle.plan_contributions.proofs.Aimed.{rows_are_aimed}
+use Rattle.row_contributions.specs.Facts.{row_places, AreAimed}
+use Rattle.row_contributions.proofs.Aimed.{rows_are_aimed}
 use Rattle.mpf_plan.specs.Inside.{IsActNumbered, draft_view}
-use Rattle.mpf_plan.specs.Numbering.{mode_count, row_count, lists_count, Numbered}
+use Rattle.mpf_plan.specs.PlanOf.{mode_count, row_count}
+use Rattle.mpf_plan.specs.Numbering.{lists_count, Numbered}
+use Rattle.mpf_plan.proofs.Tables.{computed-plan}
 use Rattle.mpf_plan.proofs.Judged.{all_within, is_first, plan_at-lacking, plan_at-within, plan_at-exceeded, plan_at-Err}
 use Rattle.mpf_plan.proofs.ValidPlan.{IsValid-plan_of}
 use Rattle.mpf_plan.proofs.Drafted.{modes-from, coils_count, lists_few}
-use Rattle.plan_contributions.proofs.RowFacts.{rows_are_limited}
+use Rattle.row_contributions.proofs.RowFacts.{rows_are_limited}
 use Rattle.mpf_plan.proofs.Steps.{coils_seen}
 use Rattle.mpf_plan.proofs.ModeWorks.{modes-count}
 use Rattle.mpf_plan.proofs.RowOwners.{acts_numbered}
@@ -44,8 +48,7 @@ module _ (rows : Rows) (machine : List SectionRows) (text : machine ≡ rows.mac
   same = λ i. given_by (text i) ((ap row_list_view first ∙ are) i)
 
   from_rows : plan_from cs ≡ plan_of rows
-  unfolding plan_of
-  from_rows = ap plan_from same
+  from_rows = ap plan_from same ∙ computed-plan rows
 
   -- ---- no plan
 

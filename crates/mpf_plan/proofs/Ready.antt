@@ -23,21 +23,23 @@ use Rattle.plan_rows.specs.declared.place.Place.{Place}
 use Rattle.plan_rows.specs.declared.place.Place.TheVariants.{Machine, Control, Mode}
 use Rattle.plan_contributions.specs.declared.contribution.Aim.TheVariants.{Run}
 use Rattle.plan_tables.specs.declared.table.Table.TheVariants.{Events}
-use Rattle.plan_contributions.specs.VariableEntries.{item_change}
-use Rattle.plan_contributions.specs.DeviceEntries.{texts, disable, Effect, posts, works, changes, enters, leaves, loses, arrives, requests, adds_balls, Device, device_of, block_event, block_lists, or_own, timer_event, timer_endings}
+use Rattle.row_contributions.specs.VariableEntries.{item_change}
+use Rattle.row_contributions.specs.DeviceEntries.{texts, Device, device_of, block_event, block_lists, or_own, timer_event, timer_endings}
+use Rattle.plan_contributions.specs.Effects.{disable, Effect, posts, works, changes, enters, leaves, loses, arrives, requests, adds_balls}
 use Rattle.machine_definitions.specs.Shots.{Profile}
-use Rattle.plan_contributions.specs.ShotEntries.{shot_events, shot_lists, group_events, state_lists, group_lists, shot_acts, lone_device, group_device}
-use Rattle.plan_contributions.specs.BallEntries.{eject_pulse, ball_lists, is_known, ball_device_from}
+use Rattle.row_contributions.specs.ShotEntries.{shot_events, shot_lists, group_events, state_lists, group_lists, shot_acts, lone_device, group_device}
+use Rattle.row_contributions.specs.BallEntries.{eject_pulse, ball_lists, is_known, ball_device_from}
 use Rattle.plan_rows.specs.declared.destination.Destination.{Destination}
 use Rattle.plan_rows.specs.Seats.{Seat}
 use Rattle.plan_rows.specs.Members.{Members}
-use Rattle.plan_contributions.specs.CoilEntries.{flipper_on, flipper_off, flipper_device}
-use Rattle.plan_contributions.specs.SaveEntries.{save_event, save_lists, multiball_event, multiball_lists, save_device_of}
-use Rattle.plan_contributions.specs.Contributions.{Contribution, device, does, does_in, mentions, coil, plays, bound, switch_contributions, player_contributions, coil_contributions, coil_player_contributions, item_contributions, variable_player_contributions, game_contributions, mode, later_events, controls, mode_contributions, act_binding, effects_from, listens_from, device_contributions, where_device, unknown_unless, shot_switch, act_at, seated, shot_contributions, group_contributions, ball_device_contributions, machine_device, machine_entry_contributions, entry_contributions, alone_contributions, player_entry_contributions, row_contributions, given_by, contributions_of}
+use Rattle.row_contributions.specs.CoilEntries.{flipper_on, flipper_off, flipper_device}
+use Rattle.row_contributions.specs.SaveEntries.{save_event, save_lists, multiball_event, multiball_lists, save_device_of}
+use Rattle.plan_contributions.specs.Contributions.{Contribution, device, does, does_in, mentions, coil, plays, mode}
+use Rattle.row_contributions.specs.Contributions.{bound, switch_contributions, player_contributions, coil_contributions, coil_player_contributions, item_contributions, variable_player_contributions, game_contributions, later_events, controls, mode_contributions, act_binding, effects_from, listens_from, device_contributions, where_device, unknown_unless, shot_switch, act_at, seated, shot_contributions, group_contributions, ball_device_contributions, machine_device, machine_entry_contributions, entry_contributions, alone_contributions, player_entry_contributions, row_contributions, given_by, contributions_of}
 use Rattle.plan_rows.specs.Rows.{Row, entry, alone, shot, group, ball_device, player, of_mode, rows_of}
 use Rattle.plan_contributions.specs.UsedNames.{used, name_in_table, uses}
-use Rattle.plan_contributions.specs.Facts.{AreRules}
-use Rattle.plan_contributions.proofs.RowFacts.{All-listens, All-made}
+use Rattle.row_contributions.specs.Facts.{AreRules}
+use Rattle.row_contributions.proofs.RowFacts.{All-listens, All-made}
 use Rattle.mpf_plan.specs.Uses.{names_from, number_among}
 use Rattle.mpf_plan.proofs.Among.{place_within}
 use Rattle.mpf_plan.proofs.Lacking.{any_first}

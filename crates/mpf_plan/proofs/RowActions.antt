@@ -18,12 +18,13 @@ use Rattle.plan_tables.specs.declared.entries.Target.{Target}
 use Rattle.plan_tables.specs.declared.entries.Target.TheVariants.{Run, Start, Stop, Act}
 use Rattle.plan_tables.specs.declared.table.Table.TheVariants.{Events}
 use Rattle.plan_tables.specs.PlanView.{no_row}
-use Rattle.plan_contributions.specs.DeviceEntries.{pulse, enable, disable, Effect, posts, works, changes, requests, adds_balls}
-use Rattle.plan_contributions.specs.BallFacts.{IsOfNoBall, IsBallFree, IsRightRow, LastRow, first_row, with_switch, with_effect, IsRight}
+use Rattle.plan_contributions.specs.Effects.{pulse, enable, disable, Effect, posts, works, changes, requests, adds_balls}
+use Rattle.row_contributions.specs.BallFacts.{IsOfNoBall, IsBallFree, IsRightRow, LastRow, first_row, with_switch, with_effect, IsRight}
 use Rattle.plan_rows.specs.declared.place.Place.{Place}
 use Rattle.plan_tables.specs.BallRows.{BooksNothing, IsPlain, BooksRightly}
 use Rattle.mpf_plan.specs.Uses.{Names}
-use Rattle.mpf_plan.specs.PlanOf.{event_of, action_of, first_of_last, with_one_more}
+use Rattle.mpf_plan.specs.Filling.{with_one_more}
+use Rattle.mpf_plan.specs.ByNumber.{event_of, action_of, first_of_last}
 use Rattle.mpf_plan.proofs.Steps.{All-changed, blank_end}
 use Rattle.mpf_plan.proofs.Drafted.{lists_begun}
 

@@ -15,11 +15,12 @@ use Rattle.plan_contributions.specs.declared.contribution.Aim.{Aim}
 use Rattle.plan_contributions.specs.declared.contribution.Aim.TheVariants.{On}
 use Rattle.plan_rows.specs.declared.place.Place.{Place}
 use Rattle.plan_contributions.specs.Contributions.{Contribution, gives, mode, mode_event, binds, device}
-use Rattle.plan_contributions.specs.BallFacts.{settings_given, row_settings}
-use Rattle.plan_contributions.specs.Facts.{modes_after, row_place, row_places, IsAimed, AreAimed}
+use Rattle.row_contributions.specs.BallFacts.{settings_given, row_settings}
+use Rattle.row_contributions.specs.Facts.{modes_after, row_place, row_places, IsAimed, AreAimed}
 use Rattle.mpf_plan.specs.Uses.{Names, number_among}
-use Rattle.mpf_plan.specs.Numbering.{rows_given, row_count}
-use Rattle.mpf_plan.specs.PlanOf.{DraftView, last_mode, owner_at, next_row, with_contribution}
+use Rattle.mpf_plan.specs.PlanOf.{rows_given, row_count}
+use Rattle.mpf_plan.specs.Filling.{DraftView, last_mode, next_row, with_contribution}
+use Rattle.mpf_plan.specs.ByNumber.{owner_at}
 use Rattle.mpf_plan.specs.Inside.{IsActNumbered}
 use Rattle.mpf_plan.proofs.Drafted.{given_plan, modes_one}
 

@@ -32,18 +32,19 @@ use Rattle.plan_tables.specs.declared.devices.Settings.TheVariants as kinds
 use Rattle.plan_tables.specs.Devices.{list_count}
 use Rattle.plan_tables.specs.PlanView.{PlanSwitch, PlanCoil, PlanMode, no_binding, no_mode, no_row, row_at, list_of_row, target_in, target_of, PlanView}
 use Rattle.plan_tables.specs.Valid.{IsEventWithin, IsSwitchWithin, IsListenerWithin, IsModeWithin, IsActionWithin, IsOwnerWithin, IsTargetWithin, IsConditionWithin, IsBindingWithin, IsGameWithin, IsTargetThere, IsRowWithin, HasGame, HasEntries}
-use Rattle.plan_contributions.specs.DeviceEntries.{pulse, enable, disable, Effect, posts, works, changes, enters, leaves, loses, arrives, requests, adds_balls}
+use Rattle.plan_contributions.specs.Effects.{pulse, enable, disable, Effect, posts, works, changes, enters, leaves, loses, arrives, requests, adds_balls}
 use Rattle.plan_contributions.specs.UsedNames.{used_by}
 use Rattle.plan_contributions.specs.Contributions.{Contribution, gives, reads, active, inactive, mode, mode_event, mode_event_name, binds, does, device, does_in, listens, mentions, unknown, coil, under, plays}
 use Rattle.mpf_plan.specs.Uses.{Names, names_from, number_among}
-use Rattle.mpf_plan.specs.PlanOf.{DraftView, event_of, action_of, last_row, new_mode, with_event_in, with_mode, with_mode_event, last_mode, owner_at, target_at, next_binding, lists_for, with_list_for, with_binding, next_row, next_list, with_device, first_of_last, with_one_more, condition_of, conditioned, last_conditioned, with_condition, rules_of, with_game, with_contribution, blank, drafted}
+use Rattle.mpf_plan.specs.Filling.{DraftView, last_row, new_mode, with_event_in, with_mode, with_mode_event, last_mode, target_at, next_binding, lists_for, with_list_for, with_binding, next_row, next_list, with_device, with_one_more, conditioned, last_conditioned, with_condition, with_game, with_contribution, blank, drafted}
+use Rattle.mpf_plan.specs.ByNumber.{event_of, action_of, owner_at, first_of_last, condition_of, rules_of}
 use Rattle.mpf_plan.proofs.Among.{IsAmong, IsKnown, all_known}
 use Rattle.mpf_plan.proofs.Drafted.{given_plan, names-from, lists_begun}
 use Rattle.mpf_plan.proofs.Heard.{AreHeard}
-use Rattle.plan_contributions.specs.Facts.{row_after, IsPlaced, ArePlaced, IsOpenPlace, IsOpenAim, IsOpen, modes_after, AreOpened, row_places, IsAimed, AreAimed}
+use Rattle.row_contributions.specs.Facts.{row_after, IsPlaced, ArePlaced, IsOpenPlace, IsOpenAim, IsOpen, modes_after, AreOpened, row_places, IsAimed, AreAimed}
 use Rattle.mpf_plan.proofs.RowOwners.{owner_by, owners_of, settings_of, settings_fold, modes_come, owners_fold, rows_kept, bound_on}
 use Rattle.mpf_plan.proofs.Owned.{IsOwnTarget, IsOwn, IsOwnListener, IsOwnSwitch, own_aim, own_then, own_blank, own_drafted}
-use Rattle.plan_contributions.specs.BallFacts.{AreFitting, row_settings, IsTargetAmong, HasTarget, is_plays, DrainsIn, AllDrainInGame}
+use Rattle.row_contributions.specs.BallFacts.{AreFitting, row_settings, IsTargetAmong, HasTarget, is_plays, DrainsIn, AllDrainInGame}
 use Rattle.mpf_plan.proofs.BallActions.{IsOfRows, DrainsWell, drains_well, of_rows_drafted, game_played}
 use Rattle.mpf_plan.proofs.Done.{IsMet, meet_drafted}
 use Rattle.mpf_plan.proofs.GameMade.{game_made, game_within}

@@ -11,7 +11,7 @@ use Rattle.plan_tables.specs.declared.entries.SwitchEntry.{SwitchEntry}
 use Rattle.plan_tables.specs.declared.entries.CoilLimits.{CoilLimits}
 use Rattle.plan_tables.specs.declared.entries.ModeEntry.{ModeEntry}
 use Rattle.plan_tables.specs.PlanView.{PlanSwitch, no_switch, no_coil, no_binding, PlanMode, no_mode}
-use Rattle.mpf_plan.specs.PlanOf.{with_one_more, last_with, conditioned, last_conditioned, limited_to, named_switch, named_coil}
+use Rattle.mpf_plan.specs.Filling.{with_one_more, last_with, conditioned, last_conditioned, limited_to, named_switch, named_coil}
 use Rattle.mpf_plan.specs.Inside.{limited_coils}
 use Rattle.plan_tables.specs.Inside.{mode_entry_view, switch_entry_view, switches_view, coils_view, action_lists}
 

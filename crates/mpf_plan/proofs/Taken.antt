@@ -8,10 +8,12 @@ use Rattle.std.proofs.lemmas.List.Sums.{fold-append, sum_by-append}
 use Rattle.mpf_sections.specs.Rows.{SectionRows}
 use Rattle.plan_rows.specs.declared.rows.Row as rows
 use Rattle.plan_contributions.specs.declared.contribution.Contribution as contributions
-use Rattle.plan_contributions.specs.Contributions.{Contribution, row_contributions, given_by}
+use Rattle.plan_contributions.specs.Contributions.{Contribution}
+use Rattle.row_contributions.specs.Contributions.{row_contributions, given_by}
 use Rattle.plan_contributions.specs.View.{contribution_view, contributions_view}
 use Rattle.plan_rows.specs.View.{row_view, row_list_view}
-use Rattle.mpf_plan.specs.Numbering.{bindings_given, binding_count, rows_given, row_count, modes_given, mode_count, lists_given, lists_count}
+use Rattle.mpf_plan.specs.PlanOf.{rows_given, row_count, modes_given, mode_count}
+use Rattle.mpf_plan.specs.Numbering.{bindings_given, binding_count, lists_given, lists_count}
 
 module _ (cs : List contributions.Contribution) (i : ℕ) (d : contributions.Contribution) (within : i < length cs) where
   pub contributions_more : contributions_view (take (i + 1) cs) ≡ contributions_view (take i cs) ++ contribution_view (get_or cs i d) ∷ []

@@ -13,7 +13,8 @@ use Rattle.plan_rows.specs.declared.rows.Row as rows
 use Rattle.plan_rows.specs.View.{row_view, row_list_view}
 use Rattle.plan_contributions.specs.declared.contribution.Contribution as contributions
 use Rattle.plan_contributions.specs.View.{contribution_view, contributions_view}
-use Rattle.plan_contributions.specs.Contributions.{Contribution, row_contributions, given_by}
+use Rattle.plan_contributions.specs.Contributions.{Contribution}
+use Rattle.row_contributions.specs.Contributions.{row_contributions, given_by}
 use Rattle.plan_contributions.specs.UsedNames.{used, name_in_table, uses}
 use Rattle.mpf_plan.specs.Uses.{Names, first_uses, names_from, number_among}
 use Rattle.mpf_plan.specs.Numbering.{number_in, number_of, numbers_of}

@@ -13,10 +13,12 @@ use Rattle.plan_tables.specs.declared.devices.Act.{Act}
 use Rattle.plan_tables.specs.declared.entries.SwitchKind.{SwitchKind}
 use Rattle.plan_tables.specs.declared.table.Table.{Table}
 use Rattle.plan_tables.specs.declared.table.Table.TheVariants.{Events, Switches}
-use Rattle.plan_contributions.specs.DeviceEntries.{texts, events, Deed, Effect, posts, works, Device}
-use Rattle.plan_contributions.specs.CoilEntries.{item_effect}
-use Rattle.plan_contributions.specs.Contributions.{Contribution, gives, reads, active, inactive, binds, does, does_in, mentions, unknown, under, under_where, bound, always, active_posts, inactive_posts, kind_of, confirms, switch_contributions, player_contributions, coil_player_contributions, starter, stopper, stopper_where, stops_at_ball_end, stops_at_game_end, controls, act_binding, effects_from, unknown_unless, shot_switch, aim_at, act_at}
-use Rattle.plan_contributions.proofs.RowFacts.{All-each, All-made, All-lists}
+use Rattle.row_contributions.specs.DeviceEntries.{texts, events, Device}
+use Rattle.plan_contributions.specs.Effects.{Deed, Effect, posts, works}
+use Rattle.row_contributions.specs.CoilEntries.{item_effect}
+use Rattle.plan_contributions.specs.Contributions.{Contribution, gives, reads, active, inactive, binds, does, does_in, mentions, unknown, under}
+use Rattle.row_contributions.specs.Contributions.{under_where, bound, always, active_posts, inactive_posts, kind_of, confirms, switch_contributions, player_contributions, coil_player_contributions, starter, stopper, stopper_where, stops_at_ball_end, stops_at_game_end, controls, act_binding, effects_from, unknown_unless, shot_switch, aim_at, act_at}
+use Rattle.row_contributions.proofs.RowFacts.{All-each, All-made, All-lists}
 
 -- P holds of contributions that are usual, and of those that do such an effect as devices do and players of events and coils
 pub record IsUsual (P : Contribution → Type 0) (R : Effect → Type 0) : Type 0 where

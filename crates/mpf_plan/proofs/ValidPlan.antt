@@ -25,18 +25,22 @@ use Rattle.plan_tables.specs.declared.table.Table.TheVariants as tables
 use Rattle.plan_tables.specs.PlanView.{no_coil, PlanView, coil_at, row_at}
 use Rattle.plan_tables.specs.Devices.{IsWithinLimits, list_count}
 use Rattle.plan_tables.specs.Valid.{IsCoilWithin, IsValid, HasEntries}
-use Rattle.plan_contributions.specs.Contributions.{Contribution, gives, reads, active, inactive, mode, mode_event, binds, does, device, does_in, listens, mentions, unknown, coil, under, plays, contributions_of}
+use Rattle.plan_contributions.specs.Contributions.{Contribution, gives, reads, active, inactive, mode, mode_event, binds, does, device, does_in, listens, mentions, unknown, coil, under, plays}
+use Rattle.row_contributions.specs.Contributions.{contributions_of}
 use Rattle.mpf_plan.specs.Uses.{Names, names_from, number_among, lacks_name}
 use Rattle.mpf_plan.specs.ByName.{latest_limits, AreLimitsByName, ListenersAreOwn}
 use Rattle.plan_tables.specs.Limits.{entry_count, limit_of}
-use Rattle.mpf_plan.specs.PlanOf.{DraftView, action_of, last_row, first_of_last, next_row, next_list, with_one_more, with_contribution, blank, plan_from, plan_of, plan_at}
+use Rattle.mpf_plan.specs.Filling.{DraftView, last_row, next_row, next_list, with_one_more, with_contribution, blank, plan_from}
+use Rattle.mpf_plan.specs.ByNumber.{action_of, first_of_last}
+use Rattle.mpf_plan.specs.PlanOf.{plan_of, plan_at}
+use Rattle.mpf_plan.proofs.Tables.{computed-plan}
 use Rattle.mpf_plan.proofs.Counts.{named_of}
 use Rattle.mpf_plan.proofs.Drafted.{given_plan, names-from, count-bindings, count-rows, count-row_lists, count-lists, lists_few}
 use Rattle.mpf_plan.proofs.Judged.{plan_at-Ok, plan_at-complete}
-use Rattle.plan_contributions.specs.Facts.{AreShort, IsRoomy, effects_after, effects_in_after, full, AreLimits, IsLimited, given_coil}
-use Rattle.plan_contributions.proofs.Aimed.{rows_are_aimed}
-use Rattle.plan_contributions.proofs.BallRows.{rows_are_fitting, targets_are_rows, drains_are_in_games}
-use Rattle.plan_contributions.proofs.RowFacts.{rows_are_short, rows_are_open, rows_are_limited, rows_are_placed}
+use Rattle.row_contributions.specs.Facts.{AreShort, IsRoomy, effects_after, effects_in_after, full, AreLimits, IsLimited, given_coil}
+use Rattle.row_contributions.proofs.Aimed.{rows_are_aimed}
+use Rattle.row_contributions.proofs.BallRows.{rows_are_fitting, targets_are_rows, drains_are_in_games}
+use Rattle.row_contributions.proofs.RowFacts.{rows_are_short, rows_are_open, rows_are_limited, rows_are_placed}
 use Rattle.mpf_plan.proofs.Apart.{all_apart, named_apart}
 use Rattle.mpf_plan.proofs.Heard.{rows_are_heard, plain_of_heard}
 use Rattle.mpf_plan.proofs.Limited.{limits_by_name}
@@ -266,14 +270,16 @@ valid_from rows short few_modes none_lacks within =
     }
 
 pub IsValid-plan_of : (rows : Rows) → AreListsShort rows → AreFewModes rows.modes → lacks_name (contributions_of rows) ≡ false → ((t : Table) → entry_count (plan_of rows) t ≤ limit_of t) → IsValid (plan_of rows)
-unfolding plan_of
-IsValid-plan_of rows short few none within = valid_from rows short few none within
+IsValid-plan_of rows short few none within =
+    let same = computed-plan rows in
+    subst IsValid same (valid_from rows short few none (subst (λ p. (t : Table) → entry_count p t ≤ limit_of t) (sym same) within))
 
 -- ---- whatever the rows are
 
 HasEntries-plan_of : (rows : Rows) → HasEntries (plan_of rows)
-unfolding plan_of
-HasEntries-plan_of rows = has_entries (contributions_of rows) (rows_are_open rows) (rows_are_placed rows) (rows_are_aimed rows) (rows_are_heard rows) (targets_are_rows rows) (rows_are_ready rows) (rows_are_fitting rows) (drains_are_in_games rows)
+HasEntries-plan_of rows =
+    subst HasEntries (computed-plan rows)
+    (has_entries (contributions_of rows) (rows_are_open rows) (rows_are_placed rows) (rows_are_aimed rows) (rows_are_heard rows) (targets_are_rows rows) (rows_are_ready rows) (rows_are_fitting rows) (drains_are_in_games rows))
 
 pub HasEntries-plan_at : (rows : Rows) (plan : PlanView) → plan_at rows ≡ Ok plan → HasEntries plan
 HasEntries-plan_at rows plan is = subst HasEntries (sym (plan_at-Ok rows plan is).0) (HasEntries-plan_of rows)
@@ -283,8 +289,9 @@ abbrev AreOwn : PlanView → Type 0
 AreOwn plan = All (IsOwnBinding plan.rows) plan.bindings × All (IsOwnSwitch plan.rows) plan.switches
 
 own-plan_of : (rows : Rows) → AreOwn (plan_of rows)
-unfolding plan_of
-own-plan_of rows = own_drafted (names_from (contributions_of rows)) (contributions_of rows) (rows_are_placed rows) (rows_are_aimed rows) (rows_are_heard rows)
+own-plan_of rows =
+    let cs = contributions_of rows in
+    subst AreOwn (computed-plan rows) (own_drafted (names_from cs) cs (rows_are_placed rows) (rows_are_aimed rows) (rows_are_heard rows))
 
 pub own-plan_at : (rows : Rows) (plan : PlanView) → plan_at rows ≡ Ok plan → All (λ b. (r : RowId) (act : Act) → b.target ≡ targets.Act r act → (row_at plan r).owner ≡ b.owner) plan.bindings
 own-plan_at rows plan is =
@@ -299,8 +306,9 @@ listeners-plan_at rows plan is =
     (λ s. All-weaker (IsOwnListener plan.rows) (λ l. (row_at plan l.row).owner ≡ owners.Machine) (λ l h. h.1) s.listeners) plan.switches own.1
 
 limits-plan_of : (rows : Rows) → lacks_name (contributions_of rows) ≡ false → AreLimitsByName (contributions_of rows) (plan_of rows)
-unfolding plan_of
-limits-plan_of rows none = limits_by_name (contributions_of rows) (plain_of_heard None (contributions_of rows) (rows_are_heard rows)) none
+limits-plan_of rows none =
+    let cs = contributions_of rows in
+    subst (AreLimitsByName cs) (computed-plan rows) (limits_by_name cs (plain_of_heard None cs (rows_are_heard rows)) none)
 
 -- each coil may be sent what the rows say of its name
 pub limits-plan_at : (rows : Rows) (plan : PlanView) → plan_at rows ≡ Ok plan → AreLimitsByName (contributions_of rows) plan

@@ -22,15 +22,19 @@ use Rattle.plan_tables.specs.declared.entries.Listener.{Listener}
 use Rattle.plan_tables.specs.declared.entries.Target.{Target}
 use Rattle.plan_tables.specs.declared.entries.Target.TheVariants.{Run, Start, Stop, Act}
 use Rattle.plan_tables.specs.declared.table.Table.TheVariants.{Events, Switches}
-use Rattle.plan_contributions.specs.DeviceEntries.{Effect, posts, works, changes, enters, leaves, loses, arrives, requests, adds_balls}
-use Rattle.plan_contributions.specs.Contributions.{Contribution, gives, reads, active, inactive, mode, mode_event, binds, does, device, does_in, listens, mentions, unknown, coil, under, plays, contributions_of}
-use Rattle.plan_contributions.specs.BallFacts.{IsOfNoBall, IsRightRow, LastRow, with_switch, with_effect, last_after, IsRight, IfRow, IsOffBallsAt, IsFitting, AreFitting, row_settings, ActsOffBalls, heard_after, IsHeardOnce, AreHeardOnce}
-use Rattle.plan_contributions.specs.Facts.{effects_after, effects_in_after, full, IsRoomy, AreShort, IsPlaceOf, IsOfMachine}
-use Rattle.plan_contributions.proofs.RowFacts.{rows_are_short, rows_are_of_machine}
-use Rattle.plan_contributions.proofs.BallRows.{rows_are_fitting, acts_are_off_balls}
+use Rattle.plan_contributions.specs.Effects.{Effect, posts, works, changes, enters, leaves, loses, arrives, requests, adds_balls}
+use Rattle.plan_contributions.specs.Contributions.{Contribution, gives, reads, active, inactive, mode, mode_event, binds, does, device, does_in, listens, mentions, unknown, coil, under, plays}
+use Rattle.row_contributions.specs.Contributions.{contributions_of}
+use Rattle.row_contributions.specs.BallFacts.{IsOfNoBall, IsRightRow, LastRow, with_switch, with_effect, last_after, IsRight, IfRow, IsOffBallsAt, IsFitting, AreFitting, row_settings, ActsOffBalls, heard_after, IsHeardOnce, AreHeardOnce}
+use Rattle.row_contributions.specs.Facts.{effects_after, effects_in_after, full, IsRoomy, AreShort, IsPlaceOf, IsOfMachine}
+use Rattle.row_contributions.proofs.RowFacts.{rows_are_short, rows_are_of_machine}
+use Rattle.row_contributions.proofs.BallRows.{rows_are_fitting, acts_are_off_balls}
 use Rattle.plan_tables.specs.BallRows.{IsNoBallDevice, IsSwitchOf, BooksNothing, IsOffBalls, AreOfTwoRows, AreApart, IsOwnBallDevice, BallDevicesAreOwn, BookingsAreRight}
 use Rattle.mpf_plan.specs.Uses.{Names, names_from, number_among}
-use Rattle.mpf_plan.specs.PlanOf.{DraftView, event_of, action_of, last_row, target_at, next_binding, next_row, next_listener, heard_by, first_of_last, lists_for, with_one_more, condition_of, conditioned, with_contribution, named_switch, blank, drafted, plan_of, plan_at, owner_at, last_mode}
+use Rattle.mpf_plan.specs.Filling.{DraftView, last_row, target_at, next_binding, next_row, next_listener, heard_by, lists_for, with_one_more, conditioned, with_contribution, named_switch, blank, drafted, last_mode}
+use Rattle.mpf_plan.specs.ByNumber.{event_of, action_of, first_of_last, condition_of, owner_at}
+use Rattle.mpf_plan.specs.PlanOf.{plan_of, plan_at}
+use Rattle.mpf_plan.proofs.Tables.{computed-plan}
 use Rattle.mpf_plan.proofs.Among.{IsKnown, all_known}
 use Rattle.mpf_plan.proofs.Drafted.{given_plan}
 use Rattle.mpf_plan.proofs.Listening.{all_of_first, all_of_second, heard_all, with_one, AreListening, listening_device, listening_more, listening_none}
@@ -337,18 +341,20 @@ module _ (names : Names) where
 -- ---- the plan of rows
 
 own-plan_of : (rows : Rows) → AreListsShort rows → BallDevicesAreOwn (plan_of rows)
-unfolding plan_of
-own-plan_of rows short = own_fold (names_from (contributions_of rows)) (contributions_of rows) (blank (names_from (contributions_of rows))) (rows_are_of_machine rows short) (All-nil IsOwnRow)
+own-plan_of rows short =
+    let cs = contributions_of rows in
+    let names = names_from cs in
+    subst BallDevicesAreOwn (computed-plan rows) (own_fold names cs (blank names) (rows_are_of_machine rows short) (All-nil IsOwnRow))
 
 -- ball devices are the machine's
 pub ball_devices_own-plan_at : (rows : Rows) → AreListsShort rows → (plan : PlanView) → plan_at rows ≡ Ok plan → BallDevicesAreOwn plan
 ball_devices_own-plan_at rows short plan is = subst BallDevicesAreOwn (sym (plan_at-Ok rows plan is).0) (own-plan_of rows short)
 
 right-plan_of : (rows : Rows) → AreListsShort rows → AreHeardOnce [] (contributions_of rows) → BookingsAreRight (plan_of rows)
-unfolding plan_of
 right-plan_of rows short once =
     let cs = contributions_of rows in
-    right_drafted (IsNumberedIn (names_from cs Events)) (names_from cs) cs (rows_are_short rows short) (rows_are_fitting rows) once (acts_are_off_balls rows) (all_known cs) (rows_are_ready rows)
+    subst BookingsAreRight (computed-plan rows)
+    (right_drafted (IsNumberedIn (names_from cs Events)) (names_from cs) cs (rows_are_short rows short) (rows_are_fitting rows) once (acts_are_off_balls rows) (all_known cs) (rows_are_ready rows))
 
 -- what the plan does with balls is right, where no row listens twice to one switch
 pub right_with_balls-plan_at : (rows : Rows) → AreListsShort rows → AreHeardOnce [] (contributions_of rows) → (plan : PlanView) → plan_at rows ≡ Ok plan → BookingsAreRight plan

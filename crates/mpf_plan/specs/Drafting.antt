@@ -20,13 +20,15 @@ use Rattle.plan_contributions.specs.declared.contribution.Parts.{Parts}
 use Rattle.plan_contributions.specs.declared.contribution.Deed.{Deed}
 use Rattle.plan_contributions.specs.declared.contribution.Effect.{Effect}
 use Rattle.plan_contributions.specs.declared.contribution.Contribution as held
-use Rattle.plan_contributions.specs.Contributions.{Contribution, does, does_in, given_by}
+use Rattle.plan_contributions.specs.Contributions.{Contribution, does, does_in}
+use Rattle.row_contributions.specs.Contributions.{given_by}
 use Rattle.plan_contributions.specs.UsedNames.{used_by}
 use Rattle.plan_contributions.specs.View.{parts_text, deed_view, effect_view, contribution_view, contributions_view}
 use Rattle.mpf_plan.specs.declared.draft.Draft.{Draft}
 use Rattle.mpf_plan.specs.Inside.{limited_coils, draft_view}
 use Rattle.mpf_plan.specs.Numbering.{number_in, number_of, numbers_of}
-use Rattle.mpf_plan.specs.PlanOf.{DraftView, event_of, action_with, action_of, last_priority, limited_to, named_switch, named_coil, blank, drafted, with_contribution}
+use Rattle.mpf_plan.specs.Filling.{DraftView, last_priority, limited_to, named_switch, named_coil, blank, drafted, with_contribution}
+use Rattle.mpf_plan.specs.ByNumber.{event_of, action_with, action_of}
 
 -- the contributions that these rows give
 abbrev pub given_by_rows : Rows → List written.Row → List Contribution
@@ -76,8 +78,8 @@ abbrev pub ChangesDraft : (old new : Draft) → (DraftView → DraftView) → Ty
 ChangesDraft old new change = (names : NameSets) → draft_view names new ≡ change (draft_view names old)
 
 -- whatever the names are, this is what the plan so far has
-abbrev pub IsOfDraft : {T : Type 0} → Draft → (PlanView → T) → T → Type 0
-IsOfDraft d found it = (names : NameSets) → it ≡ found (draft_view names d).plan
+abbrev pub IsInDraftPlan : {T : Type 0} → Draft → (PlanView → T) → T → Type 0
+IsInDraftPlan d found it = (names : NameSets) → it ≡ found (draft_view names d).plan
 
 -- the draft has what a contribution adds
 abbrev pub Adds : NameSets → (old new : Draft) → Contribution → Type 0

@@ -9,7 +9,7 @@ use Rattle.plan_contributions.specs.declared.contribution.Aim.{Aim}
 use Rattle.plan_contributions.specs.declared.contribution.Aim.TheVariants.{On}
 use Rattle.plan_contributions.specs.Contributions.{Contribution, binds}
 use Rattle.mpf_plan.specs.declared.draft.Draft.{Draft}
-use Rattle.mpf_plan.specs.PlanOf.{DraftView}
+use Rattle.mpf_plan.specs.Filling.{DraftView}
 
 -- a coil for each limits, with the name of its place, if there is one
 abbrev pub limited_coils : List (List ℕ) → List CoilLimits → List PlanCoil

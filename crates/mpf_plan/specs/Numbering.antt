@@ -12,11 +12,12 @@ use Rattle.mpf_plan.specs.declared.first_uses.Found.{Found}
 use Rattle.mpf_plan.specs.declared.first_uses.NumberedNames.{NumberedNames}
 use Rattle.plan_contributions.specs.declared.contribution.Contribution as held
 use Rattle.plan_contributions.specs.View.{contribution_view, contributions_view}
-use Rattle.plan_contributions.specs.Contributions.{Contribution, mode, binds, device}
+use Rattle.plan_contributions.specs.Contributions.{Contribution, binds, device}
 use Rattle.plan_contributions.specs.UsedNames.{used, given_names}
 use Rattle.mpf_plan.specs.Uses.{Names, names_from, number_among, is_unknown, lacks, lacks_name}
 use Rattle.plan_tables.specs.Limits.{limit_of, order_of, tables_in_order, first_above}
-use Rattle.mpf_plan.specs.PlanOf.{plan_from}
+use Rattle.mpf_plan.specs.Filling.{plan_from}
+use Rattle.mpf_plan.specs.PlanOf.{rows_given, row_count}
 use Rattle.plan_tables.specs.NamesKept.{names_of}
 use Rattle.first_names.specs.FirstNames.{with_name, IsNameTableOf}
 use Rattle.plan_tables.specs.Inside.{name_sets_view}
@@ -28,22 +29,6 @@ bindings_given _ = 0
 
 abbrev pub binding_count : List Contribution → ℕ
 binding_count cs = sum_by bindings_given cs
-
--- how many modes, as well
-abbrev pub modes_given : Contribution → ℕ
-modes_given (mode n priority game holds) = 1
-modes_given _ = 0
-
-abbrev pub mode_count : List Contribution → ℕ
-mode_count cs = sum_by modes_given cs
-
--- and how many rows of devices
-abbrev pub rows_given : Contribution → ℕ
-rows_given (device place settings) = 1
-rows_given _ = 0
-
-abbrev pub row_count : List Contribution → ℕ
-row_count cs = sum_by rows_given cs
 
 -- and how many effect lists of rows
 abbrev pub lists_given : Contribution → ℕ
@@ -73,11 +58,11 @@ abbrev pub CountsMore : (limit more before after : ℕ) → Type 0
 CountsMore limit more before after = (all : ℕ) → IsCount limit all before → IsCount limit (all + more) after
 
 -- how many bindings the program's contribution gives, and how many rows of devices
-abbrev pub bindings_of : held.Contribution → ℕ
-bindings_of contribution = bindings_given (contribution_view contribution)
+abbrev pub binding_count_of : held.Contribution → ℕ
+binding_count_of contribution = bindings_given (contribution_view contribution)
 
-abbrev pub rows_of_devices : held.Contribution → ℕ
-rows_of_devices contribution = rows_given (contribution_view contribution)
+abbrev pub device_row_count_of : held.Contribution → ℕ
+device_row_count_of contribution = rows_given (contribution_view contribution)
 
 -- the tables have the names of contributions, each at its place
 pub record AreNameTablesOf (cs : List Contribution) (tables : List NameTable) : Type 0 where
@@ -99,13 +84,13 @@ module _ {S : Type 0} where
       (before : List Contribution) → HoldGivenNames before old.items → HoldGivenNames (before ++ contributions_view contributions) new.items
 
   -- It says whether the contribution names what nothing has, or uses a name that is not in these sets.
-  abbrev pub TellsOther : List (IndexSet (Vec ℕ Global) S) → held.Contribution → Bool → Type 0
-  TellsOther sets contribution other =
+  abbrev pub TellsUnknownName : List (IndexSet (Vec ℕ Global) S) → held.Contribution → Bool → Type 0
+  TellsUnknownName sets contribution other =
       (cs : List Contribution) → HoldGivenNames cs sets → other ≡ lacks (λ t. given_names t cs) (contribution_view contribution)
 
   -- so it says of some of these contributions
-  abbrev pub TellsAnyOther : List (IndexSet (Vec ℕ Global) S) → List held.Contribution → Bool → Type 0
-  TellsAnyOther sets contributions other =
+  abbrev pub TellsAnyUnknownName : List (IndexSet (Vec ℕ Global) S) → List held.Contribution → Bool → Type 0
+  TellsAnyUnknownName sets contributions other =
       (cs : List Contribution) → HoldGivenNames cs sets → other ≡ list_any (lacks (λ t. given_names t cs)) (contributions_view contributions)
 
 -- the contribution names what nothing has

@@ -1,369 +1,269 @@
--- The plan of the rows: each contribution adds its own to what is there.
-use Rattle.std.specs.Prelude.{◌≡◌, ℕ, ◌+◌, ◌-◌, Bool, true, false, cond, List, [], ◌∷◌, ◌++◌, Option, None, Some, Result, Ok, Err, map, fold, length, replicate, slice_set, slice_index_or}
-use Rattle.mpf_config.specs.Rows.{Rows}
+-- The plan of the rows. Owners, sections and entries give contributions, one after the other: `contributions_of`. Names
+-- are numbered in the order of their first uses: `names_from`. Each table has what the contributions give to it, in
+-- their order: `tables_of`. What one gives may depend on the mode, row, list or switch that came last, and so on those
+-- before it.
+use Rattle.std.specs.Prelude.{◌≡◌, ℕ, ◌+◌, ◌-◌, ◌==◌, if◌then◌else◌, cond, Bool, false, List, [], ◌∷◌, ◌++◌, Option, None, Some, Result, Ok, Err, map, length, unwrap_or}
+use Rattle.std.specs.List.{flat_map, sum_by, last_or, range_with_len}
+use Rattle.std.specs.Str.{bytes_eq}
+use Rattle.mpf_config.specs.Rows.{ModeRows, Rows}
+use Rattle.mpf_sections.specs.Rows.{ModeSettings}
+use Rattle.mpf_sections.specs.Typed.{mode_settings}
 use Rattle.plan_tables.specs.declared.entries.EventId.{EventId}
 use Rattle.plan_tables.specs.declared.entries.SwitchKind.{SwitchKind}
 use Rattle.plan_tables.specs.declared.entries.Listener.{Listener}
-use Rattle.plan_tables.specs.declared.entries.CoilId.{CoilId}
-use Rattle.plan_tables.specs.declared.entries.CoilLimits.{CoilLimits}
 use Rattle.plan_tables.specs.declared.entries.ModeId.{ModeId}
 use Rattle.plan_tables.specs.declared.entries.ModeEvent.{ModeEvent}
 use Rattle.plan_tables.specs.declared.entries.ModeEvent.TheVariants.{WillStart, Starting, Started, Stopping, Stopped}
-use Rattle.plan_tables.specs.declared.entries.ModeEvents.{ModeEvents}
-use Rattle.plan_tables.specs.declared.entries.Owner.{Owner}
-use Rattle.plan_tables.specs.declared.entries.Owner.TheVariants as owners
 use Rattle.plan_tables.specs.declared.entries.Action.{Action}
-use Rattle.plan_tables.specs.declared.entries.Action.TheVariants.{Post, Pulse, Enable, Disable, Change, Enter, Leave, Lose, Arrive, Request, AddBalls}
-use Rattle.mpf_values.specs.Events.{Condition}
 use Rattle.plan_tables.specs.declared.entries.Condition as numbered
-use Rattle.plan_tables.specs.declared.entries.VariableId.{VariableId}
 use Rattle.plan_tables.specs.declared.entries.GameRules.{GameRules}
-use Rattle.machine_definitions.specs.GameEvents.{game_event_names}
-use Rattle.machine_definitions.specs.Players.{player_event}
 use Rattle.plan_tables.specs.declared.entries.Target.{Target}
 use Rattle.plan_tables.specs.declared.entries.Target.TheVariants as targets
 use Rattle.plan_tables.specs.declared.entries.Binding.{Binding}
 use Rattle.plan_tables.specs.declared.entries.ListId.{ListId}
 use Rattle.plan_tables.specs.declared.devices.DeviceRow.{DeviceRow}
 use Rattle.plan_tables.specs.declared.devices.RowId.{RowId}
-use Rattle.plan_tables.specs.declared.devices.Settings.{Settings}
 use Rattle.plan_tables.specs.Devices.{list_count}
-use Rattle.plan_rows.specs.declared.place.Place.{Place}
-use Rattle.plan_rows.specs.declared.place.Place.TheVariants.{Machine, Control, Mode}
 use Rattle.plan_contributions.specs.declared.contribution.Aim.{Aim}
 use Rattle.plan_contributions.specs.declared.contribution.Aim.TheVariants.{Run, Start, Stop, Do, On}
 use Rattle.plan_tables.specs.declared.table.Table.{Table}
 use Rattle.plan_tables.specs.declared.table.Table.TheVariants.{Events, Switches, Coils, Variables}
 use Rattle.mpf_plan.specs.declared.fault.PlanFault.{PlanFault}
 use Rattle.mpf_plan.specs.declared.fault.PlanFault.TheVariants as faults
-use Rattle.plan_tables.specs.PlanView.{PlanSwitch, no_switch, PlanCoil, no_binding, no_coil, PlanMode, no_event, no_mode, PlanView}
-use Rattle.plan_contributions.specs.DeviceEntries.{Deed, pulse, enable, disable, Effect, posts, works, changes, enters, leaves, loses, arrives, requests, adds_balls}
-use Rattle.plan_contributions.specs.Contributions.{Contribution, gives, reads, active, inactive, mode, mode_event, mode_event_name, binds, does, device, does_in, listens, mentions, unknown, coil, under, plays, contributions_of}
+use Rattle.plan_tables.specs.PlanView.{PlanSwitch, no_switch, PlanCoil, no_coil, PlanMode, PlanView}
+use Rattle.plan_contributions.specs.Contributions.{Contribution, reads, active, inactive, mode, mode_event_name, binds, does, device, does_in, listens, under, plays}
+use Rattle.row_contributions.specs.Contributions.{contributions_of}
+use Rattle.plan_contributions.specs.UsedNames.{given_names}
 use Rattle.mpf_plan.specs.Uses.{Names, names_from, number_among, lacks_name}
+use Rattle.mpf_plan.specs.ByNumber.{event_of, action_of, condition_of, owner_at, priority_at, rules_of, first_of_last}
+use Rattle.mpf_plan.specs.ByName.{limits_called}
 use Rattle.plan_tables.specs.Limits.{first_above, IsFirstAbove}
 
--- an event is its name's place among the names
-abbrev pub event_of : List (List ℕ) → List ℕ → EventId
-event_of names name = record { 0 = number_among names name }
+-- ---- how many there are
 
--- and so is a coil
-abbrev pub coil_of : List (List ℕ) → List ℕ → CoilId
-coil_of names name = record { 0 = number_among names name }
+-- how many modes a contribution gives, and how many all do
+abbrev pub modes_given : Contribution → ℕ
+modes_given (mode n priority game holds) = 1
+modes_given _ = 0
 
--- and a variable
-abbrev pub variable_of : List (List ℕ) → List ℕ → VariableId
-variable_of names name = record { 0 = number_among names name }
+abbrev pub mode_count : List Contribution → ℕ
+mode_count cs = sum_by modes_given cs
 
--- what is done with this coil, by number
-abbrev pub action_with : CoilId → Deed → Action
-action_with c (pulse ms power) = Pulse c ms power
-action_with c (enable power) = Enable c power
-action_with c disable = Disable c
+-- how many rows of devices
+abbrev pub rows_given : Contribution → ℕ
+rows_given (device place settings) = 1
+rows_given _ = 0
 
--- what an effect list does, by number; what happens with the balls of a device is of this row
-abbrev pub action_of : Names → RowId → Effect → Action
-action_of names r (posts n) = Post (event_of (names Events) n)
-action_of names r (works n deed) = action_with (coil_of (names Coils) n) deed
-action_of names r (changes v action n) = Change (variable_of (names Variables) v) action n (event_of (names Events) (player_event v))
-action_of names r (enters n drain) = Enter r (event_of (names Events) n) drain
-action_of names r leaves = Leave r
-action_of names r loses = Lose r
-action_of names r arrives = Arrive r
-action_of names r (requests n) = Request n
-action_of names r (adds_balls n) = AddBalls n
+abbrev pub row_count : List Contribution → ℕ
+row_count cs = sum_by rows_given cs
 
--- a condition, by number
-abbrev pub condition_of : Names → Condition → numbered.Condition
-condition_of names c = record { variable = variable_of (names Variables) c.variable; comparison = c.comparison; number = c.number }
+-- how many effect lists begin: one with a binding that is to run one, and with a row all that it has
+abbrev pub lists_begun : Contribution → ℕ
+lists_begun (binds n place Run) = 1
+lists_begun (device place settings) = list_count settings
+lists_begun _ = 0
 
--- ---- a plan that is being made
+abbrev pub list_total : List Contribution → ℕ
+list_total cs = sum_by lists_begun cs
 
--- the plan so far; which switches are defined; and the number of the last switch, or past the end where that came second
--- by its name
-pub record DraftView : Type 0 where
-  pub plan : PlanView
-  pub defined : List Bool
-  pub last : ℕ
+-- ---- in turn
 
--- the last switch is changed so
-abbrev pub last_switch : (PlanSwitch → PlanSwitch) → DraftView → DraftView
-last_switch change d = record d {
-  plan = record d.plan {
-    switches = slice_set d.plan.switches d.last (change (slice_index_or d.plan.switches d.last no_switch));
+-- what each contribution gives, one after the other, by what stands before it and after it
+abbrev pub in_turn : {X : Type 0} → (List Contribution → Contribution → List Contribution → List X)
+    → (before after : List Contribution) → List X
+in_turn give before [] = []
+in_turn give before (c ∷ after) = give before c after ++ in_turn give (before ++ c ∷ []) after
+
+-- ---- modes
+
+-- an event of the mode of this name
+abbrev pub event_for : Names → ModeEvent → List ℕ → EventId
+event_for names which name = event_of (names Events) (mode_event_name which name)
+
+-- the mode of this name, with these settings
+abbrev pub mode_called : Names → List ℕ → ModeSettings → PlanMode
+mode_called names name s = record {
+  name = name;
+  mode = record {
+    priority = s.priority;
+    game = s.game;
+    holds_ball_end = s.holds_ball_end;
+    events = record {
+      will_start = event_for names WillStart name;
+      starting = event_for names Starting name;
+      started = event_for names Started name;
+      stopping = event_for names Stopping name;
+      stopped = event_for names Stopped name;
+    };
   };
 }
 
--- The switch of this number becomes the last one, unless an entry has defined it already: of two entries of one name
--- the first counts.
-abbrev pub with_switch : ℕ → DraftView → DraftView
-with_switch n d =
-    cond (slice_index_or d.defined n true)
-    (record d { last = length d.defined })
-    (record d { defined = slice_set d.defined n true; last = n })
-
--- What is given under this number of a table. Only of switches does a plan hold more than their names here; what it holds
--- of coils comes with their limits.
-abbrev pub with_given : Table → ℕ → DraftView → DraftView
-with_given Switches n d = with_switch n d
-with_given _ n d = d
-
--- the last switch is read so, and this says whether a ball that presses it is on the playfield
-abbrev pub with_kind : SwitchKind → Bool → DraftView → DraftView
-with_kind kind confirms d = last_switch (λ s. record s { kind = kind; confirms_playfield = confirms }) d
-
-abbrev pub with_active : EventId → DraftView → DraftView
-with_active e d = last_switch (λ s. record s { active = s.active ++ e ∷ [] }) d
-
-abbrev pub with_inactive : EventId → DraftView → DraftView
-with_inactive e d = last_switch (λ s. record s { inactive = s.inactive ++ e ∷ [] }) d
-
--- the events of a mode, and a mode, of which the first event alone is known
-abbrev pub first_event : EventId → ModeEvents
-first_event e = record {
-  will_start = e;
-  starting = no_event;
-  started = no_event;
-  stopping = no_event;
-  stopped = no_event;
-}
-
-abbrev pub new_mode : List ℕ → (priority : ℕ) → (game holds_ball_end : Bool) → EventId → PlanMode
-new_mode name priority game holds_ball_end e = record {
-  name = name;
-  mode = record { priority = priority; game = game; holds_ball_end = holds_ball_end; events = first_event e };
-}
-
-abbrev pub with_mode : PlanMode → DraftView → DraftView
-with_mode m d = record d { plan = record d.plan { modes = d.plan.modes ++ m ∷ [] } }
-
--- one event of a mode is this
-abbrev pub with_event : ModeEvent → EventId → ModeEvents → ModeEvents
-with_event WillStart e events = record events { will_start = e }
-with_event Starting e events = record events { starting = e }
-with_event Started e events = record events { started = e }
-with_event Stopping e events = record events { stopping = e }
-with_event Stopped e events = record events { stopped = e }
-
-abbrev pub with_event_in : ModeEvent → EventId → PlanMode → PlanMode
-with_event_in which e m = record m { mode = record m.mode { events = with_event which e m.mode.events } }
-
--- the last of the modes has this event
-abbrev pub last_with_event : ModeEvent → EventId → List PlanMode → List PlanMode
-last_with_event which e modes =
-    slice_set modes (length modes - 1) (with_event_in which e (slice_index_or modes (length modes - 1) no_mode))
-
-abbrev pub with_mode_event : ModeEvent → EventId → DraftView → DraftView
-with_mode_event which e d = record d { plan = record d.plan { modes = last_with_event which e d.plan.modes } }
+-- the mode of which these are the rows
+abbrev pub mode_of : Names → ModeRows → PlanMode
+mode_of names m = mode_called names m.name (mode_settings m.sections)
 
 -- the mode that came last, and its priority
-abbrev pub last_mode : PlanView → ModeId
-last_mode plan = record { 0 = length plan.modes - 1 }
+abbrev pub mode_before : List Contribution → ModeId
+mode_before before = record { 0 = mode_count before - 1 }
 
-abbrev pub last_priority : List PlanMode → ℕ
-last_priority modes = (slice_index_or modes (length modes - 1) no_mode).mode.priority
+abbrev pub priority_given : Contribution → List ℕ
+priority_given (mode n priority game holds) = priority ∷ []
+priority_given _ = []
 
--- who owns a binding that has this place, where this mode came last; and its priority, where this is that of the mode
-abbrev pub owner_at : ModeId → Place → Owner
-owner_at last Machine = owners.Machine
-owner_at last Control = owners.Machine
-owner_at last Mode = owners.Mode last
+abbrev pub priority_before : List Contribution → ℕ
+priority_before before = unwrap_or (last_or None (flat_map priority_given before)) 0
 
-abbrev pub priority_at : ℕ → Place → ℕ
-priority_at of_last Machine = 0
-priority_at of_last Control = of_last
-priority_at of_last Mode = of_last
+-- ---- rows of devices
 
--- the row of a device that came last
-abbrev pub last_row : PlanView → RowId
-last_row plan = record { 0 = length plan.rows - 1 }
+-- a row of a device: its number is how many rows stand before it
+abbrev pub row_here : List Contribution → Contribution → List DeviceRow
+row_here before (device place settings) =
+    record {
+      number = record { 0 = row_count before };
+      owner = owner_at (mode_before before) place;
+      settings = settings;
+    } ∷ []
+row_here before _ = []
 
--- what a binding does that is next: it runs the next effect list, starts or stops the mode that came last, or acts on
--- the row that came last, or on the row of this number, which may come later
-abbrev pub target_at : PlanView → Aim → Target
-target_at plan Run = targets.Run (record { 0 = length plan.lists })
-target_at plan Start = targets.Start (last_mode plan)
-target_at plan Stop = targets.Stop (last_mode plan)
-target_at plan (Do act) = targets.Act (last_row plan) act
-target_at plan (On r act) = targets.Act (record { 0 = r }) act
+-- the first effect list of a row: its number is how many lists stand before it
+abbrev pub first_list_here : List Contribution → Contribution → List ListId
+first_list_here before (device place settings) = record { 0 = list_total before } ∷ []
+first_list_here before _ = []
 
-abbrev pub next_binding : PlanView → EventId → Place → Aim → Binding
-next_binding plan event place aim = record {
-  event = event;
-  owner = owner_at (last_mode plan) place;
-  priority = priority_at (last_priority plan.modes) place;
-  condition = None;
-  target = target_at plan aim;
+abbrev pub first_lists : List Contribution → List ListId
+first_lists cs = in_turn (λ before c after. first_list_here before c) [] cs
+
+-- the row that came last
+abbrev pub row_before : List Contribution → RowId
+row_before before = record { 0 = row_count before - 1 }
+
+-- ---- effect lists
+
+-- what the effect list of this number is told here: one effect is of the list that began last, and another of a list of the
+-- row that came last, by its number in the row
+abbrev pub done_here : Names → ℕ → List Contribution → Contribution → List Action
+done_here names l before (does e) =
+    if l == list_total before - 1 then action_of names (row_before before) e ∷ [] else []
+done_here names l before (does_in k e) =
+    if l == (first_of_last (first_lists before)).0 + k then action_of names (row_before before) e ∷ [] else []
+done_here names l before _ = []
+
+-- the effect list of this number: what it is told after it has begun
+abbrev pub list_after : Names → (before after : List Contribution) → ℕ → List Action
+list_after names before after l = in_turn (λ before c after. done_here names l before c) before after
+
+-- the effect lists that begin here
+abbrev pub lists_here : Names → List Contribution → Contribution → List Contribution → List (List Action)
+lists_here names before c after =
+    map (list_after names (before ++ c ∷ []) after) (range_with_len (list_total before) (lists_begun c))
+
+-- ---- bindings
+
+-- what a binding does: it runs the list that begins with it, starts or stops the mode that came last, or acts on the row
+-- that came last, or on the row of this number, which may come later
+abbrev pub target_of : List Contribution → Aim → Target
+target_of before Run = targets.Run (record { 0 = list_total before })
+target_of before Start = targets.Start (mode_before before)
+target_of before Stop = targets.Stop (mode_before before)
+target_of before (Do act) = targets.Act (row_before before) act
+target_of before (On r act) = targets.Act (record { 0 = r }) act
+
+-- the condition that comes last before the next binding, if there is one
+abbrev pub condition_after : Names → List Contribution → Option numbered.Condition
+condition_after names [] = None
+condition_after names (under c ∷ after) = Some (unwrap_or (condition_after names after) (condition_of names c))
+condition_after names (binds n place aim ∷ after) = None
+condition_after names (c ∷ after) = condition_after names after
+
+-- a binding
+abbrev pub binding_here : Names → List Contribution → Contribution → List Contribution → List Binding
+binding_here names before (binds n place aim) after = record {
+  event = event_of (names Events) n;
+  owner = owner_at (mode_before before) place;
+  priority = priority_at (priority_before before) place;
+  condition = condition_after names after;
+  target = target_of before aim;
+} ∷ []
+binding_here names before _ after = []
+
+-- ---- switches
+
+-- whether the switch entry that came last is that of this name: of two entries of one name the first counts
+abbrev pub is_entry_of : List ℕ → List Contribution → Bool
+is_entry_of name before = number_among (given_names Switches before) name + 1 == length (given_names Switches before)
+
+-- how the switch of this name is read, and whether a ball that presses it is on the playfield, where its entry says it
+abbrev pub reading_here : List ℕ → List Contribution → Contribution → List (SwitchKind × Bool)
+reading_here name before (reads kind confirms) = if is_entry_of name before then (kind, confirms) ∷ [] else []
+reading_here name before _ = []
+
+-- the row that listens to it, and by which number of its own
+abbrev pub listener_here : List ℕ → List Contribution → Contribution → List Listener
+listener_here name before (listens k n) =
+    if bytes_eq name n then record { row = row_before before; switch = k } ∷ [] else []
+listener_here name before _ = []
+
+-- the event that it posts when it becomes active, or inactive
+abbrev pub active_here : Names → List ℕ → List Contribution → Contribution → List EventId
+active_here names name before (active e) = if is_entry_of name before then event_of (names Events) e ∷ [] else []
+active_here names name before _ = []
+
+abbrev pub inactive_here : Names → List ℕ → List Contribution → Contribution → List EventId
+inactive_here names name before (inactive e) = if is_entry_of name before then event_of (names Events) e ∷ [] else []
+inactive_here names name before _ = []
+
+-- a switch that is read as the last of these says, has these listeners, and posts these events
+abbrev pub switch_read : List ℕ → List (SwitchKind × Bool) → List Listener → (on off : List EventId) → PlanSwitch
+switch_read name readings listeners on off = record {
+  name = name;
+  kind = (unwrap_or (last_or None readings) (no_switch.kind, false)).0;
+  listeners = listeners;
+  confirms_playfield = (unwrap_or (last_or None readings) (no_switch.kind, false)).1;
+  active = on;
+  inactive = off;
 }
 
-abbrev pub with_binding : Binding → DraftView → DraftView
-with_binding b d = record d { plan = record d.plan { bindings = d.plan.bindings ++ b ∷ [] } }
+-- the switch of this name
+abbrev pub switch_called : Names → List Contribution → List ℕ → PlanSwitch
+switch_called names cs name =
+    switch_read name
+    (in_turn (λ before c after. reading_here name before c) [] cs)
+    (in_turn (λ before c after. listener_here name before c) [] cs)
+    (in_turn (λ before c after. active_here names name before c) [] cs)
+    (in_turn (λ before c after. inactive_here names name before c) [] cs)
 
--- the binding that came last has this condition
-abbrev pub conditioned : numbered.Condition → Binding → Binding
-conditioned c b = record b { condition = Some c }
+-- ---- coils and the game
 
-abbrev pub last_conditioned : numbered.Condition → List Binding → List Binding
-last_conditioned c bindings =
-    slice_set bindings (length bindings - 1) (conditioned c (slice_index_or bindings (length bindings - 1) no_binding))
+-- the coil of this name, with the limits that are given for it last
+abbrev pub coil_called : List Contribution → List ℕ → PlanCoil
+coil_called cs n = record { name = n; limits = unwrap_or (limits_called cs n) no_coil.limits }
 
-abbrev pub with_condition : numbered.Condition → DraftView → DraftView
-with_condition c d = record d { plan = record d.plan { bindings = last_conditioned c d.plan.bindings } }
+-- the rules of the game
+abbrev pub rules_here : Names → Contribution → List GameRules
+rules_here names (plays min_balls balls_per_game max_players) =
+    rules_of (names Events) min_balls balls_per_game max_players ∷ []
+rules_here names _ = []
 
--- the next effect list begins, where a binding is to run it
-abbrev pub lists_for : Aim → List (List Action) → List (List Action)
-lists_for Run lists = lists ++ [] ∷ []
-lists_for _ lists = lists
+-- ---- the plan
 
-abbrev pub with_list_for : Aim → DraftView → DraftView
-with_list_for aim d = record d { plan = record d.plan { lists = lists_for aim d.plan.lists } }
-
--- the effect list of this number has one action more
-abbrev pub with_one_more : ℕ → Action → List (List Action) → List (List Action)
-with_one_more n a lists = slice_set lists n (slice_index_or lists n [] ++ a ∷ [])
-
--- so has the last of the lists
-abbrev pub last_with : Action → List (List Action) → List (List Action)
-last_with a lists = with_one_more (length lists - 1) a lists
-
-abbrev pub with_action : Action → DraftView → DraftView
-with_action a d = record d { plan = record d.plan { lists = last_with a d.plan.lists } }
-
--- the next row of a device
-abbrev pub next_row : PlanView → Place → Settings → DeviceRow
-next_row plan place settings = record {
-  number = record { 0 = length plan.rows };
-  owner = owner_at (last_mode plan) place;
-  settings = settings;
+-- its tables: of names at these numbers, of the modes' rows, and of the contributions
+abbrev pub tables_of : Names → List ModeRows → List Contribution → PlanView
+tables_of names modes cs = record {
+  modes = map (mode_of names) modes;
+  events = names Events;
+  switches = map (switch_called names cs) (names Switches);
+  coils = map (coil_called cs) (names Coils);
+  lists = in_turn (lists_here names) [] cs;
+  bindings = in_turn (binding_here names) [] cs;
+  rows = in_turn (λ before c after. row_here before c) [] cs;
+  row_lists = first_lists cs;
+  variables = names Variables;
+  game = last_or None (flat_map (rules_here names) cs);
 }
 
--- the number of the next effect list
-abbrev pub next_list : PlanView → ListId
-next_list plan = record { 0 = length plan.lists }
-
--- a row, and all its effect lists, which begin with it
-abbrev pub with_device : Place → Settings → DraftView → DraftView
-with_device place settings d = record d {
-  plan = record d.plan {
-    rows = d.plan.rows ++ next_row d.plan place settings ∷ [];
-    row_lists = d.plan.row_lists ++ next_list d.plan ∷ [];
-    lists = d.plan.lists ++ replicate (list_count settings) [];
-  };
-}
-
--- the row that came last listens to a switch, by the switch's number in the row
-abbrev pub next_listener : PlanView → ℕ → Listener
-next_listener plan k = record { row = last_row plan; switch = k }
-
--- this one more listens
-abbrev pub heard_by : Listener → PlanSwitch → PlanSwitch
-heard_by l s = record s { listeners = s.listeners ++ l ∷ [] }
-
--- to the switch of this number
-abbrev pub with_listener : ℕ → Listener → DraftView → DraftView
-with_listener n l d = record d {
-  plan = record d.plan { switches = slice_set d.plan.switches n (heard_by l (slice_index_or d.plan.switches n no_switch)) };
-}
-
--- the first effect list of the row that came last
-abbrev pub first_of_last : List ListId → ListId
-first_of_last firsts = slice_index_or firsts (length firsts - 1) (record { 0 = 0 })
-
--- a list of the row that came last has one action more, by its number in the row
-abbrev pub with_action_in : ℕ → Action → DraftView → DraftView
-with_action_in k a d = record d {
-  plan = record d.plan { lists = with_one_more ((first_of_last d.plan.row_lists).0 + k) a d.plan.lists };
-}
-
--- ---- coils
-
--- the coil may be sent this
-abbrev pub limited_to : CoilLimits → PlanCoil → PlanCoil
-limited_to limits c = record c { limits = limits }
-
--- so may the coil of this number
-abbrev pub with_coil : ℕ → CoilLimits → DraftView → DraftView
-with_coil n limits d = record d {
-  plan = record d.plan { coils = slice_set d.plan.coils n (limited_to limits (slice_index_or d.plan.coils n no_coil)) };
-}
-
--- ---- the game
-
--- its rules, with its events by number
-abbrev pub rules_of : List (List ℕ) → ℕ → ℕ → ℕ → GameRules
-rules_of names min_balls balls_per_game max_players = record {
-  min_balls = min_balls;
-  balls_per_game = balls_per_game;
-  max_players = max_players;
-  events = map (event_of names) game_event_names;
-}
-
-abbrev pub with_game : GameRules → DraftView → DraftView
-with_game rules d = record d { plan = record d.plan { game = Some rules } }
-
--- ---- contributions
-
--- what one contribution adds, where names have these numbers
-abbrev pub with_contribution : Names → DraftView → Contribution → DraftView
-with_contribution names d (gives table n) = with_given table (number_among (names table) n) d
-with_contribution names d (reads kind confirms) = with_kind kind confirms d
-with_contribution names d (active n) = with_active (event_of (names Events) n) d
-with_contribution names d (inactive n) = with_inactive (event_of (names Events) n) d
-with_contribution names d (mode n priority game holds_ball_end) =
-    with_mode (new_mode n priority game holds_ball_end (event_of (names Events) (mode_event_name WillStart n))) d
-with_contribution names d (mode_event which n) =
-    with_mode_event which (event_of (names Events) (mode_event_name which n)) d
-with_contribution names d (binds n place aim) =
-    with_list_for aim (with_binding (next_binding d.plan (event_of (names Events) n) place aim) d)
-with_contribution names d (does e) = with_action (action_of names (last_row d.plan) e) d
-with_contribution names d (device place settings) = with_device place settings d
-with_contribution names d (does_in k e) = with_action_in k (action_of names (last_row d.plan) e) d
-with_contribution names d (listens k n) = with_listener (number_among (names Switches) n) (next_listener d.plan k) d
-with_contribution names d (mentions table n) = d
-with_contribution names d unknown = d
-with_contribution names d (coil n limits) = with_coil (number_among (names Coils) n) limits d
-with_contribution names d (under c) = with_condition (condition_of names c) d
-with_contribution names d (plays min_balls balls_per_game max_players) =
-    with_game (rules_of (names Events) min_balls balls_per_game max_players) d
-
--- a switch of which the name alone is known
-abbrev pub named_switch : List ℕ → PlanSwitch
-named_switch n = record no_switch { name = n }
-
--- and such a coil
-abbrev pub named_coil : List ℕ → PlanCoil
-named_coil n = record no_coil { name = n }
-
--- before anything is added, names are there alone
-abbrev pub blank : Names → DraftView
-blank names = record {
-  plan = record {
-    modes = [];
-    events = names Events;
-    switches = map named_switch (names Switches);
-    coils = map named_coil (names Coils);
-    lists = [];
-    bindings = [];
-    rows = [];
-    row_lists = [];
-    variables = names Variables;
-    game = None;
-  };
-  defined = map (λ n. false) (names Switches);
-  last = length (names Switches);
-}
-
--- all contributions, in turn
-abbrev pub drafted : Names → List Contribution → DraftView
-drafted names cs = fold (with_contribution names) (blank names) cs
-
--- all names are numbered in the order of their first uses, and then each contribution adds its own
-abbrev pub plan_from : List Contribution → PlanView
-plan_from cs = (drafted (names_from cs) cs).plan
-
--- ---- the plan of rows
-
+-- the plan of the rows
 unfoldable pub plan_of : Rows → PlanView
-plan_of rows = plan_from (contributions_of rows)
+plan_of rows = tables_of (names_from (contributions_of rows)) rows.modes (contributions_of rows)
 
 -- why rows have no plan: they use a name that nothing has, or a table is above its limit
 pub data PlanRefusal : Type 0 where

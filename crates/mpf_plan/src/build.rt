@@ -3,7 +3,7 @@
 ghost use Rattle.std.specs.Prelude.{◌≡◌, ◌≤◌, false, IfOk};
 ghost use Rattle.mpf_config.specs.FewModes.{AreFewModes};
 ghost use Rattle.mpf_config.specs.Short.{AreListsShort};
-ghost use Rattle.plan_contributions.specs.Contributions.{contributions_of};
+ghost use Rattle.row_contributions.specs.Contributions.{contributions_of};
 ghost use Rattle.plan_rows.specs.Rows.{rows_of};
 ghost use Rattle.plan_rows.specs.View.{row_list_view};
 ghost use Rattle.plan_tables.specs.declared.table.Table.{Table as TableValue};

@@ -4,19 +4,19 @@ ghost use Rattle.std.specs.Prelude.{◌≡◌, ◌<◌, ◌≤◌, ◌+◌, ◌*
 ghost use Rattle.std.specs.List.{All};
 ghost use Rattle.machine_definitions.specs.GameEvents.{game_event_names};
 ghost use Rattle.plan_contributions.specs.Contributions.{plays};
-ghost use Rattle.mpf_plan.specs.PlanOf.{last_conditioned, owner_at, priority_at, with_switch, with_kind, with_active, with_inactive, first_event, with_event, last_with_event, last_mode, last_row, next_binding, lists_for, with_one_more, last_with, next_row, with_device, first_of_last, next_listener, with_listener, with_given, with_mode, with_list_for, with_binding};
+ghost use Rattle.mpf_plan.specs.Filling.{last_conditioned, with_switch, with_kind, with_active, with_inactive, first_event, with_event, last_with_event, last_mode, last_row, next_binding, lists_for, with_one_more, last_with, next_row, with_device, next_listener, with_listener, with_given, with_mode, with_list_for, with_binding};
+ghost use Rattle.mpf_plan.specs.ByNumber.{owner_at, priority_at, first_of_last};
 ghost use Rattle.plan_tables.specs.Inside.{name_sets_view, action_lists};
 ghost use Rattle.plan_contributions.specs.View.{contribution_view, contributions_view};
 ghost use Rattle.mpf_plan.specs.Inside.{IsRowNumbered, IsActNumbered};
-ghost use Rattle.mpf_plan.specs.Numbering.{binding_count, lists_count, mode_count, row_count, numbers_of};
-ghost use Rattle.mpf_plan.specs.Drafting.{given_by_rows, event_called, game_events_in, action_by, action_on, number_used, numbers_used, number_used_by, IsBlankOf, IsDraftOf, ChangesDraft, IsOfDraft, Adds, AddsOne, AddsAll, AddsEffect, AddsEffectIn, ChangesModes, priority_of_last, LimitsCoil, AreBlankSwitches, AreBlankCoils};
+ghost use Rattle.mpf_plan.specs.PlanOf.{mode_count, row_count};
+ghost use Rattle.mpf_plan.specs.Numbering.{binding_count, lists_count, numbers_of};
+ghost use Rattle.mpf_plan.specs.Drafting.{given_by_rows, event_called, game_events_in, action_by, action_on, number_used, numbers_used, number_used_by, IsBlankOf, IsDraftOf, ChangesDraft, IsInDraftPlan, Adds, AddsOne, AddsAll, AddsEffect, AddsEffectIn, ChangesModes, priority_of_last, LimitsCoil, AreBlankSwitches, AreBlankCoils};
 
 use crate::draft::Draft;
 use crate::numbering::number_among;
 use machine_definitions::{Definitions, GAME_EVENT_NAMES};
-use plan_contributions::{
-    Aim, Contribution, Deed, Effect, Parts, collect_row, player_event, whole,
-};
+use plan_contributions::{Aim, Contribution, Deed, Effect, Parts, player_event, whole};
 use plan_rows::{Place, Row};
 use plan_tables::devices::{DeviceRow, RowId, Settings};
 use plan_tables::entries::{
@@ -26,6 +26,7 @@ use plan_tables::entries::{
 };
 use plan_tables::names::NameSets;
 use plan_tables::table::Table;
+use row_contributions::collect_row;
 use std::alloc::{AllocError, Global};
 
 /// What the rows make. `numbers` are those of the names that the contributions use, in their order.
@@ -314,7 +315,7 @@ fn next_binding(draft: &Draft, event: EventId, place: Place, aim: Aim) -> Bindin
     requires rows { length draft.now.rows.items ≤ 1024 }
     requires modes { length draft.now.modes.items ≤ 64 }
     requires acts { IsRowNumbered aim }
-    ensures { IsOfDraft draft.now (λ plan. next_binding plan event place aim) result }
+    ensures { IsInDraftPlan draft.now (λ plan. next_binding plan event place aim) result }
 {
     let last = last_mode(draft);
     let priority = last_priority(&draft.modes);
@@ -359,7 +360,7 @@ fn priority_at(of_last: u32, place: Place) -> u32
 /// The mode that came last.
 fn last_mode(draft: &Draft) -> ModeId
     requires modes { length draft.now.modes.items ≤ 64 }
-    ensures { IsOfDraft draft.now last_mode result }
+    ensures { IsInDraftPlan draft.now last_mode result }
 {
     ModeId(draft.modes.len().saturating_sub(1) as u16)
 }
@@ -367,7 +368,7 @@ fn last_mode(draft: &Draft) -> ModeId
 /// The row of a device that came last.
 fn last_row(draft: &Draft) -> RowId
     requires rows { length draft.now.rows.items ≤ 1024 }
-    ensures { IsOfDraft draft.now last_row result }
+    ensures { IsInDraftPlan draft.now last_row result }
 {
     RowId(draft.rows.len().saturating_sub(1) as u16)
 }
@@ -504,7 +505,7 @@ fn add_device(
 fn next_row(draft: &Draft, place: Place, settings: Settings) -> DeviceRow
     requires rows { length draft.now.rows.items ≤ 1024 }
     requires modes { length draft.now.modes.items ≤ 64 }
-    ensures { IsOfDraft draft.now (λ plan. next_row plan place settings) result }
+    ensures { IsInDraftPlan draft.now (λ plan. next_row plan place settings) result }
 {
     DeviceRow {
         number: RowId(draft.rows.len() as u16),
@@ -578,7 +579,7 @@ fn add_listener(draft: &mut Draft, n: usize, in_row: usize) -> Result<(), AllocE
 /// The row that came last listens to its switch of this number.
 fn next_listener(draft: &Draft, number: usize) -> Listener
     requires rows { length draft.now.rows.items ≤ 1024 }
-    ensures { IsOfDraft draft.now (λ plan. next_listener plan number) result }
+    ensures { IsInDraftPlan draft.now (λ plan. next_listener plan number) result }
 {
     Listener {
         row: last_row(draft),

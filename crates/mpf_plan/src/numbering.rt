@@ -4,20 +4,21 @@ ghost use Rattle.std.specs.Prelude.{◌≡◌, ◌≤◌, ◌<◌, List, [], fal
 ghost use Rattle.plan_contributions.specs.Contributions.{Contribution as ContributionValue};
 ghost use Rattle.plan_tables.specs.Limits.{entry_count, limit_of, tables_in_order, first_above};
 ghost use Rattle.mpf_plan.specs.Uses.{number_among, is_to_be_given, lacks_name};
-ghost use Rattle.mpf_plan.specs.PlanOf.{plan_from};
+ghost use Rattle.mpf_plan.specs.Filling.{plan_from};
 ghost use Rattle.plan_tables.specs.NamesKept.{names_of};
 ghost use Rattle.plan_contributions.specs.View.{parts_text};
 ghost use Rattle.mpf_plan.specs.Drafting.{given_by_rows};
-ghost use Rattle.mpf_plan.specs.Numbering.{AreNameTablesOf, CountsMore, bindings_of, rows_of_devices, HoldGivenNames, GainGivenNames, TellsOther, TellsAnyOther, names_nothing, HasFound, FindsMore, FindsOneMore, HasNames, Numbered};
+ghost use Rattle.mpf_plan.specs.Numbering.{AreNameTablesOf, CountsMore, binding_count_of, device_row_count_of, HoldGivenNames, GainGivenNames, TellsUnknownName, TellsAnyUnknownName, names_nothing, HasFound, FindsMore, FindsOneMore, HasNames, Numbered};
 
 use crate::fault::PlanFault;
 use crate::first_uses::{Found, NumberedNames};
 use first_names::note_name;
 use machine_definitions::Definitions;
-use plan_contributions::{Contribution, Parts, collect_row, given, used, write_name};
+use plan_contributions::{Contribution, Parts, given, used, write_name};
 use plan_rows::Row;
 use plan_tables::names::{NameHashing, NameSet, NameSets, NameTable};
 use plan_tables::table::{TABLES, Table};
+use row_contributions::collect_row;
 use std::alloc::{AllocError, Global};
 
 /// The names of the rows, by number, where the plan is within its limits, and the number of each use.
@@ -167,7 +168,7 @@ fn as_kept(number: usize) -> u16
 
 /// How many bindings there are with that of the contribution, or more than a plan may have.
 fn count_binding(before: usize, contribution: &Contribution) -> usize
-    ensures { CountsMore 16384 (bindings_of contribution.now) before result }
+    ensures { CountsMore 16384 (binding_count_of contribution.now) before result }
 {
     match *contribution {
         Contribution::Binds(_, _, _) => {
@@ -183,7 +184,7 @@ fn count_binding(before: usize, contribution: &Contribution) -> usize
 
 /// So it is with rows of devices.
 fn count_row(before: usize, contribution: &Contribution) -> usize
-    ensures { CountsMore 1024 (rows_of_devices contribution.now) before result }
+    ensures { CountsMore 1024 (device_row_count_of contribution.now) before result }
 {
     match *contribution {
         Contribution::Device(_, _) => {
@@ -275,7 +276,7 @@ fn use_other(
     contributions: &[Contribution],
 ) -> Result<bool, AllocError>
     requires { length sets.now ≡ length tables_in_order }
-    ensures { IfOk result (TellsAnyOther sets.now contributions.now) }
+    ensures { IfOk result (TellsAnyUnknownName sets.now contributions.now) }
 {
     for contribution in contributions {
         let lacking = is_other(sets, text, contribution)?;
@@ -293,7 +294,7 @@ fn is_other(
     contribution: &Contribution,
 ) -> Result<bool, AllocError>
     requires { length sets.now ≡ length tables_in_order }
-    ensures { IfOk result (TellsOther sets.now contribution.now) }
+    ensures { IfOk result (TellsUnknownName sets.now contribution.now) }
 {
     if is_unknown(contribution) {
         return Ok(true);

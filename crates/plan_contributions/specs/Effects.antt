@@ -1,17 +1,6 @@
--- What effect lists do, and what the entry of a device says.
-use Rattle.std.specs.Prelude.{ℕ, ℤ, Bool, List, map, None}
-use Rattle.mpf_values.specs.Events.{Event}
-use Rattle.section_tables.specs.Rows.{Handled}
-use Rattle.mpf_sections.specs.Rows.{Written}
+-- What effect lists do.
+use Rattle.std.specs.Prelude.{ℕ, ℤ, Bool, List}
 use Rattle.plan_tables.specs.declared.entries.VariableAction.{VariableAction}
-use Rattle.plan_tables.specs.declared.devices.Settings.{Settings}
-use Rattle.plan_tables.specs.declared.devices.Act.{Act}
-
-abbrev pub texts : List Written → List (List ℕ)
-texts ws = map (λ w. w.text) ws
-
-abbrev pub events : List Handled → List Event
-events hs = map (λ h. h.event) hs
 
 -- What is done with a coil: it is pulsed, for so many milliseconds and with this power in thousandths; or enabled with
 -- this power; or disabled.
@@ -35,20 +24,3 @@ pub data Effect : Type 0 where
   arrives : Effect
   requests : (balls : ℕ) → Effect
   adds_balls : (balls : ℕ) → Effect
-
--- What the entry of a device says: its settings; the switches to which it listens, by name; each event that it handles,
--- and what the event does; other events that its settings name; and what each of its effect lists does.
-pub record Device : Type 0 where
-  pub settings : Settings
-  pub listens : List (List ℕ)
-  pub handled : List (Event × Act)
-  pub mentioned : List (List ℕ)
-  pub lists : List (List Effect)
-
--- an event of this name, which is handled always
-abbrev pub always : List ℕ → Event
-always name = record { name = name; condition = None }
-
--- each of the events does this
-abbrev pub acts : Act → List Handled → List (Event × Act)
-acts act hs = map (λ h. (h.event, act)) hs

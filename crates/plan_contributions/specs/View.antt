@@ -1,4 +1,4 @@
--- What rows and contributions hold.
+-- What contributions hold.
 use Rattle.std.specs.Prelude.{ℕ, ◌++◌, List, map}
 use Rattle.plan_tables.specs.declared.table.Table.{Table}
 use Rattle.plan_contributions.specs.declared.contribution.Parts.{Parts}
@@ -6,9 +6,7 @@ use Rattle.plan_contributions.specs.declared.contribution.Deed as deeds
 use Rattle.plan_contributions.specs.declared.contribution.Deed.TheVariants as deed
 use Rattle.plan_contributions.specs.declared.contribution.Effect as effects
 use Rattle.plan_contributions.specs.declared.contribution.Effect.TheVariants as effect
-use Rattle.plan_contributions.specs.declared.collect_coils.Defaults as defaults
-use Rattle.plan_contributions.specs.CoilEntries.{Defaults}
-use Rattle.plan_contributions.specs.DeviceEntries.{Deed, pulse, enable, disable, Effect, posts, works, changes, enters, leaves, loses, arrives, requests, adds_balls}
+use Rattle.plan_contributions.specs.Effects.{Deed, pulse, enable, disable, Effect, posts, works, changes, enters, leaves, loses, arrives, requests, adds_balls}
 use Rattle.plan_contributions.specs.declared.contribution.Contribution as contributions
 use Rattle.plan_contributions.specs.declared.contribution.Contribution.TheVariants as contribution
 use Rattle.plan_contributions.specs.Contributions.{Contribution, gives, reads, active, inactive, mode, mode_event, binds, does, device, does_in, listens, mentions, unknown, coil, under, plays}
@@ -16,9 +14,6 @@ use Rattle.plan_contributions.specs.Contributions.{Contribution, gives, reads, a
 -- the name that the parts make: their pieces, one after the other
 abbrev pub parts_text : Parts → List ℕ
 parts_text p = p.first.now ++ p.second.now ++ p.third.now ++ p.fourth.now ++ p.fifth.now ++ p.sixth.now
-
-abbrev pub defaults_view : defaults.Defaults → Defaults
-defaults_view d = record { pulse_ms = d.pulse_ms; pulse_power = d.pulse_power; hold_power = d.hold_power; may_hold = d.may_hold }
 
 abbrev pub deed_view : deeds.Deed → Deed
 deed_view (deed.Pulse ms power) = pulse ms power

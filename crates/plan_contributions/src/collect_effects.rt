@@ -1,17 +1,18 @@
 //! What the effect lists of a row do, and the events that its settings name.
 
 ghost use Rattle.std.specs.Prelude.{[], ◌∷◌, OnOk};
-ghost use Rattle.plan_contributions.specs.Contributions.{does_in, mentions, posts};
+ghost use Rattle.plan_contributions.specs.Contributions.{does_in, mentions};
+ghost use Rattle.plan_contributions.specs.Effects.{posts};
 ghost use Rattle.plan_tables.specs.declared.table.Table.TheVariants.{Events};
 ghost use Rattle.plan_contributions.specs.View.{parts_text};
-ghost use Rattle.plan_contributions.specs.Gives.{Gains, effect_done_in};
+ghost use Rattle.plan_contributions.specs.Gains.{Gains, effect_done_in};
 
 use crate::contribution::{Contribution, Effect, Parts, add};
 use plan_tables::table::Table;
 use std::alloc::AllocError;
 
 /// An effect list of the row that came last does this.
-pub(crate) fn collect_effect<'a>(
+pub fn collect_effect<'a>(
     contributions: &mut Vec<Contribution<'a>>,
     number: u16,
     effect: Effect<'a>,
@@ -22,7 +23,7 @@ pub(crate) fn collect_effect<'a>(
 }
 
 /// An effect list of the row that came last posts the event.
-pub(crate) fn collect_post<'a>(
+pub fn collect_post<'a>(
     contributions: &mut Vec<Contribution<'a>>,
     number: u16,
     event: Parts<'a>,
@@ -33,7 +34,7 @@ pub(crate) fn collect_post<'a>(
 }
 
 /// A setting names the event.
-pub(crate) fn collect_event<'a>(
+pub fn collect_event<'a>(
     contributions: &mut Vec<Contribution<'a>>,
     event: Parts<'a>,
 ) -> Result<(), AllocError>

@@ -1,4 +1,4 @@
-//! What rows give to a plan, by names.
+//! What can be given to a plan, by names.
 
 ghost use Rattle.std.specs.Prelude.{◌≡◌, option_map, OnOk, ◌++◌, [], ◌∷◌};
 ghost use Rattle.plan_contributions.specs.UsedNames.{used_by, used, given};
@@ -125,9 +125,9 @@ pub enum Contribution<'a> {
     },
 }
 
-/// Adds one more. Everything in this crate adds by this call: where memory is out, `push` hands back what it was given,
-/// and each `?` after a `push` would have to drop it, which is slow to prove.
-pub(crate) fn add<'a>(
+/// Adds one more. Everything adds by this call: where memory is out, `push` hands back what it was given, and each `?`
+/// after a `push` would have to drop it, which is slow to prove.
+pub fn add<'a>(
     contributions: &mut Vec<Contribution<'a>>,
     more: Contribution<'a>,
 ) -> Result<(), AllocError>
@@ -138,7 +138,7 @@ pub(crate) fn add<'a>(
 }
 
 /// A name in three pieces.
-pub(crate) fn joined<'a>(front: &'a [u8], middle: &'a [u8], end: &'a [u8]) -> Parts<'a>
+pub fn joined<'a>(front: &'a [u8], middle: &'a [u8], end: &'a [u8]) -> Parts<'a>
     ensures { parts_text result ≡ front.now ++ middle.now ++ end.now }
 {
     Parts {

@@ -1,25 +1,14 @@
-//! What a configuration gives to a plan: what each of its rows contributes, by names.
+//! What can be given to a plan: contributions, and the names that they use and give.
 //!
-//! This layer stands between the rows of texts and the tables of a plan. Each section says here what
-//! its entries give. Whoever makes a plan goes over contributions alone, whatever section they come
-//! from.
+//! A contribution says what it says by names, whatever section it comes from. How the bytes of a name
+//! lie in a configuration is said here too, so that whoever numbers names need not know.
 #![tactic(auto)]
 
-pub mod collect;
-mod collect_balls;
-mod collect_bound;
-mod collect_coils;
-mod collect_devices;
-mod collect_effects;
-mod collect_game;
-mod collect_saves;
-mod collect_shots;
-mod collect_variables;
+pub mod collect_effects;
 pub mod contribution;
 
-pub use collect::collect_row;
-pub use collect_devices::direction_in_plan;
+pub use collect_effects::{collect_effect, collect_event, collect_post};
 pub use contribution::{
-    Aim, Contribution, Deed, Effect, Parts, given, mode_event_name, player_event, used, whole,
-    write_name,
+    Aim, Contribution, Deed, Effect, Parts, add, given, joined, mode_event_name, player_event,
+    used, whole, write_name,
 };

@@ -1,7 +1,7 @@
 use Rattle.std.proofs.Common.{refl, ap, sym, ◌∙◌}
 use Rattle.std.specs.Prelude.{Ok, Err}
 use Rattle.std.proofs.lemmas.Result.{err_from_is_err_and}
-use Rattle.plan_contributions.specs.Contributions.{given_by}
+use Rattle.row_contributions.specs.Contributions.{given_by}
 use Rattle.plan_rows.specs.View.{row_list_view}
 use Rattle.mpf_plan.specs.Uses.{lacks_name}
 use Rattle.mpf_plan.specs.Numbering.{numbers_of}

@@ -1,4 +1,4 @@
-use Rattle.mpf_plan.specs.PlanOf.{with_contribution}
+use Rattle.mpf_plan.specs.Filling.{with_contribution}
 use Rattle.plan_tables.specs.Inside.{name_sets_view}
 use Rattle.mpf_plan.specs.Inside.{IsActNumbered, draft_view}
 use Rattle.mpf_plan.proofs.Drafted.{lists_fit, device_rows_fit, modes_fit}

@@ -1,5 +1,5 @@
 use Rattle.std.proofs.Common.{◌≡◌, fold, take}
-use Rattle.mpf_plan.specs.PlanOf.{with_contribution}
+use Rattle.mpf_plan.specs.Filling.{with_contribution}
 use Rattle.plan_tables.specs.Inside.{name_sets_view}
 use Rattle.plan_contributions.specs.View.{contributions_view}
 use Rattle.mpf_plan.specs.Inside.{draft_view}

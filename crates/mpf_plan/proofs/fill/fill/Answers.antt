@@ -2,11 +2,11 @@ use Rattle.std.proofs.Common.{◌≡◌, refl, fold, length, take, drop, sym, �
 use Rattle.std.specs.List.{All}
 use Rattle.std.proofs.lemmas.List.{take_all}
 use Rattle.std.proofs.lemmas.List.Sums.{fold-append}
-use Rattle.plan_contributions.specs.Contributions.{given_by}
+use Rattle.row_contributions.specs.Contributions.{given_by}
 use Rattle.plan_contributions.specs.View.{contributions_view}
 use Rattle.plan_rows.specs.View.{row_list_view}
 use Rattle.plan_tables.specs.Inside.{name_sets_view}
-use Rattle.mpf_plan.specs.PlanOf.{with_contribution, blank, drafted}
+use Rattle.mpf_plan.specs.Filling.{with_contribution, blank, drafted}
 use Rattle.mpf_plan.specs.Inside.{IsActNumbered}
 use Rattle.mpf_plan.proofs.Taken.{all_of_row}
 use Rattle.mpf_plan.proofs.Collected.{row_is, row_more}

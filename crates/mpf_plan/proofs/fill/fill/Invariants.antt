@@ -1,6 +1,6 @@
 use Rattle.std.proofs.Common.{◌≡◌, take, drop}
-use Rattle.plan_contributions.specs.Contributions.{given_by}
-use Rattle.mpf_plan.specs.PlanOf.{drafted}
+use Rattle.row_contributions.specs.Contributions.{given_by}
+use Rattle.mpf_plan.specs.Filling.{drafted}
 use Rattle.plan_tables.specs.Inside.{name_sets_view}
 use Rattle.mpf_plan.specs.Inside.{draft_view}
 use Rattle.mpf_plan.specs.Numbering.{numbers_of}

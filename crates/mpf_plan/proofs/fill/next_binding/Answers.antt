@@ -3,7 +3,8 @@ use Rattle.std.proofs.lemmas.List.{length-map}
 use Rattle.plan_tables.specs.declared.entries.Action.{Action}
 use Rattle.plan_tables.specs.declared.entries.Target.TheVariants as targets
 use Rattle.plan_tables.specs.Inside.{mode_entry_view}
-use Rattle.mpf_plan.specs.PlanOf.{last_priority, owner_at, priority_at, target_at}
+use Rattle.mpf_plan.specs.Filling.{last_priority, target_at}
+use Rattle.mpf_plan.specs.ByNumber.{owner_at, priority_at}
 use Rattle.mpf_plan.specs.Inside.{draft_view}
 use Rattle.mpf_plan.proofs.fill.next_binding.Goals as goal
 use Rattle.mpf_plan.proofs.fill.next_binding.Goals.{in-Run, in-Start, in-Stop, in-Do, in-On}

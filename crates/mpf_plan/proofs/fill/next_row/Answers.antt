@@ -1,5 +1,5 @@
 use Rattle.std.proofs.Common.{◌≡◌, length, ◌∙◌, ap, arith}
-use Rattle.mpf_plan.specs.PlanOf.{owner_at}
+use Rattle.mpf_plan.specs.ByNumber.{owner_at}
 use Rattle.mpf_plan.proofs.fill.next_row.Goals as goal
 
 pub returns : goal.returns

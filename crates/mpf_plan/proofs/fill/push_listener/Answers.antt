@@ -1,7 +1,7 @@
 use Rattle.std.proofs.Common.{ap, arith}
 use Rattle.plan_tables.specs.declared.table.Table.TheVariants.{Switches}
 use Rattle.plan_tables.specs.Inside.{name_sets_view, switch_entry_view}
-use Rattle.mpf_plan.specs.PlanOf.{heard_by}
+use Rattle.mpf_plan.specs.Filling.{heard_by}
 use Rattle.mpf_plan.specs.Inside.{draft_view}
 use Rattle.mpf_plan.proofs.Steps.{switch_changed, switch_unchanged}
 use Rattle.mpf_plan.proofs.fill.push_listener.Goals as goal

@@ -1,5 +1,5 @@
 use Rattle.std.proofs.Common.{◌≡◌, length, ap, arith}
-use Rattle.mpf_plan.specs.PlanOf.{with_event_in}
+use Rattle.mpf_plan.specs.Filling.{with_event_in}
 use Rattle.plan_tables.specs.Inside.{mode_entry_view}
 use Rattle.mpf_plan.proofs.Steps.{last_mode_changed}
 use Rattle.mpf_plan.proofs.fill.set_event.Goals as goal

@@ -1,5 +1,5 @@
 use Rattle.std.proofs.Common.{take}
-use Rattle.plan_contributions.specs.Contributions.{given_by}
+use Rattle.row_contributions.specs.Contributions.{given_by}
 use Rattle.plan_rows.specs.View.{row_list_view}
 use Rattle.mpf_plan.specs.Numbering.{HasFound}
 use Rattle.mpf_plan.proofs.numbering.find_names.Given as goal

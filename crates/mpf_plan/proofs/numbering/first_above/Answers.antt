@@ -2,7 +2,7 @@ use Rattle.std.proofs.Common.{nat_lt, refl, sym, ◌∙◌, ap}
 use Rattle.std.specs.Prelude.{find}
 use Rattle.std.proofs.lemmas.List.{drop_all}
 use Rattle.plan_tables.specs.Limits.{entry_count, limit_of, tables_in_order}
-use Rattle.mpf_plan.specs.PlanOf.{plan_from}
+use Rattle.mpf_plan.specs.Filling.{plan_from}
 use Rattle.mpf_plan.proofs.Collected.{find_next, find_here}
 use Rattle.mpf_plan.proofs.numbering.first_above.Goals as goal
 

@@ -3,7 +3,8 @@ use Rattle.std.specs.List.{list_any}
 use Rattle.std.proofs.lemmas.Bool.{or_from}
 use Rattle.std.proofs.lemmas.List.{take_all}
 use Rattle.std.proofs.lemmas.List.Folds.{list_any-append}
-use Rattle.plan_contributions.specs.Contributions.{Contribution, given_by}
+use Rattle.plan_contributions.specs.Contributions.{Contribution}
+use Rattle.row_contributions.specs.Contributions.{given_by}
 use Rattle.plan_contributions.specs.UsedNames.{given_names}
 use Rattle.mpf_plan.specs.Uses.{lacks}
 use Rattle.plan_contributions.specs.View.{contributions_view}

@@ -1,6 +1,6 @@
 use Rattle.std.proofs.Common.{◌≡◌, false, take}
 use Rattle.std.specs.List.{list_any}
-use Rattle.plan_contributions.specs.Contributions.{given_by}
+use Rattle.row_contributions.specs.Contributions.{given_by}
 use Rattle.plan_contributions.specs.UsedNames.{given_names}
 use Rattle.mpf_plan.specs.Uses.{lacks}
 use Rattle.plan_rows.specs.View.{row_list_view}

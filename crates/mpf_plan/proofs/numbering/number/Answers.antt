@@ -1,5 +1,5 @@
 use Rattle.std.proofs.Common.{sym, ◌∙◌}
-use Rattle.plan_contributions.specs.Contributions.{given_by}
+use Rattle.row_contributions.specs.Contributions.{given_by}
 use Rattle.plan_rows.specs.View.{row_list_view}
 use Rattle.mpf_plan.proofs.Found.{nameless, bindings_fit, device_rows_fit, names_fit, names_are_kept, kept_fit}
 use Rattle.mpf_plan.proofs.numbering.number.Goals as goal

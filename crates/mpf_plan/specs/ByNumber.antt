@@ -1,0 +1,80 @@
+-- What a contribution says by names, by number; and what its place in the rows says.
+use Rattle.std.specs.Prelude.{ℕ, ◌-◌, List, map, length, slice_index_or}
+use Rattle.plan_tables.specs.declared.entries.EventId.{EventId}
+use Rattle.plan_tables.specs.declared.entries.CoilId.{CoilId}
+use Rattle.plan_tables.specs.declared.entries.ModeId.{ModeId}
+use Rattle.plan_tables.specs.declared.entries.Owner.{Owner}
+use Rattle.plan_tables.specs.declared.entries.Owner.TheVariants as owners
+use Rattle.plan_tables.specs.declared.entries.Action.{Action}
+use Rattle.plan_tables.specs.declared.entries.Action.TheVariants.{Post, Pulse, Enable, Disable, Change, Enter, Leave, Lose, Arrive, Request, AddBalls}
+use Rattle.mpf_values.specs.Events.{Condition}
+use Rattle.plan_tables.specs.declared.entries.Condition as numbered
+use Rattle.plan_tables.specs.declared.entries.VariableId.{VariableId}
+use Rattle.plan_tables.specs.declared.entries.GameRules.{GameRules}
+use Rattle.machine_definitions.specs.GameEvents.{game_event_names}
+use Rattle.machine_definitions.specs.Players.{player_event}
+use Rattle.plan_tables.specs.declared.entries.ListId.{ListId}
+use Rattle.plan_tables.specs.declared.devices.RowId.{RowId}
+use Rattle.plan_rows.specs.declared.place.Place.{Place}
+use Rattle.plan_rows.specs.declared.place.Place.TheVariants.{Machine, Control, Mode}
+use Rattle.plan_tables.specs.declared.table.Table.TheVariants.{Events, Coils, Variables}
+use Rattle.plan_contributions.specs.Effects.{Deed, pulse, enable, disable, Effect, posts, works, changes, enters, leaves, loses, arrives, requests, adds_balls}
+use Rattle.mpf_plan.specs.Uses.{Names, number_among}
+
+-- an event is its name's place among the names
+abbrev pub event_of : List (List ℕ) → List ℕ → EventId
+event_of names name = record { 0 = number_among names name }
+
+-- and so is a coil
+abbrev pub coil_of : List (List ℕ) → List ℕ → CoilId
+coil_of names name = record { 0 = number_among names name }
+
+-- and a variable
+abbrev pub variable_of : List (List ℕ) → List ℕ → VariableId
+variable_of names name = record { 0 = number_among names name }
+
+-- what is done with this coil, by number
+abbrev pub action_with : CoilId → Deed → Action
+action_with c (pulse ms power) = Pulse c ms power
+action_with c (enable power) = Enable c power
+action_with c disable = Disable c
+
+-- what an effect list does, by number; what happens with the balls of a device is of this row
+abbrev pub action_of : Names → RowId → Effect → Action
+action_of names r (posts n) = Post (event_of (names Events) n)
+action_of names r (works n deed) = action_with (coil_of (names Coils) n) deed
+action_of names r (changes v action n) = Change (variable_of (names Variables) v) action n (event_of (names Events) (player_event v))
+action_of names r (enters n drain) = Enter r (event_of (names Events) n) drain
+action_of names r leaves = Leave r
+action_of names r loses = Lose r
+action_of names r arrives = Arrive r
+action_of names r (requests n) = Request n
+action_of names r (adds_balls n) = AddBalls n
+
+-- a condition, by number
+abbrev pub condition_of : Names → Condition → numbered.Condition
+condition_of names c = record { variable = variable_of (names Variables) c.variable; comparison = c.comparison; number = c.number }
+
+-- who owns a binding that has this place, where this mode came last; and its priority, where this is that of the mode
+abbrev pub owner_at : ModeId → Place → Owner
+owner_at last Machine = owners.Machine
+owner_at last Control = owners.Machine
+owner_at last Mode = owners.Mode last
+
+abbrev pub priority_at : ℕ → Place → ℕ
+priority_at of_last Machine = 0
+priority_at of_last Control = of_last
+priority_at of_last Mode = of_last
+
+-- the first effect list of the row that came last
+abbrev pub first_of_last : List ListId → ListId
+first_of_last firsts = slice_index_or firsts (length firsts - 1) (record { 0 = 0 })
+
+-- its rules, with its events by number
+abbrev pub rules_of : List (List ℕ) → ℕ → ℕ → ℕ → GameRules
+rules_of names min_balls balls_per_game max_players = record {
+  min_balls = min_balls;
+  balls_per_game = balls_per_game;
+  max_players = max_players;
+  events = map (event_of names) game_event_names;
+}

@@ -1,0 +1,66 @@
+-- What holds of contributions, and still where others come before them.
+use Rattle.std.proofs.Common.{List, [], ◌∷◌, ◌++◌, map, get_or, sym, subst}
+use Rattle.std.specs.Prelude.{Option, None, Some, IfSome, unwrap_or}
+use Rattle.std.specs.List.{All, flat_map}
+use Rattle.std.proofs.lemmas.List.{append_assoc}
+use Rattle.std.proofs.lemmas.List.Elements.{All-nil, All-cons, All-head, All-tail, All-append}
+use Rattle.mpf_values.specs.Events.{Condition, Event}
+use Rattle.plan_contributions.specs.declared.contribution.Aim.{Aim}
+use Rattle.plan_rows.specs.declared.place.Place.{Place}
+use Rattle.plan_contributions.specs.Contributions.{Contribution, binds, under}
+use Rattle.row_contributions.specs.Contributions.{under_where, bound}
+
+module _ (Q : List Contribution → Type 0) where
+  -- what is made of each thing
+  module _ {X : Type 0} (make : X → Contribution) (more : (x : X) (cs : List Contribution) → Q cs → Q (make x ∷ cs)) where
+    pub each_before : (xs : List X) (rest : List Contribution) → Q rest → Q (map make xs ++ rest)
+    each_before [] rest h = h
+    each_before (x ∷ xs) rest h = more x (map make xs ++ rest) (each_before xs rest h)
+
+    -- where nothing comes after it
+    pub each_alone : (xs : List X) → Q [] → Q (map make xs)
+    each_alone [] h = h
+    each_alone (x ∷ xs) h = more x (map make xs) (each_alone xs h)
+
+  -- all that is made of each thing
+  module _ {X : Type 0} (make : X → List Contribution) (more : (x : X) (cs : List Contribution) → Q cs → Q (make x ++ cs)) where
+    pub all_before : (xs : List X) (rest : List Contribution) → Q rest → Q (flat_map make xs ++ rest)
+    all_before [] rest h = h
+    all_before (x ∷ xs) rest h = subst Q (sym (append_assoc (make x) (flat_map make xs) rest)) (more x (flat_map make xs ++ rest) (all_before xs rest h))
+
+    pub all_alone : (xs : List X) → Q [] → Q (flat_map make xs)
+    all_alone [] h = h
+    all_alone (x ∷ xs) h = more x (flat_map make xs) (all_alone xs h)
+
+  -- a condition, if there is one
+  pub under_before : ((c : Condition) (cs : List Contribution) → Q cs → Q (under c ∷ cs)) → (o : Option Condition) (cs : List Contribution) → Q cs → Q (under_where o ++ cs)
+  under_before more None cs h = h
+  under_before more (Some c) cs h = more c cs h
+
+-- what holds of a binding and of its condition holds of all that a handled event gives
+pub All-bound : (Q : Contribution → Type 0) (e : Event) (place : Place) (aim : Aim) → Q (binds e.name place aim) → IfSome e.condition (λ c. Q (under c)) → All Q (bound e place aim)
+All-bound Q e place aim binding condition = All-cons Q (binds e.name place aim) (under_where e.condition) binding (by e.condition condition)
+  where
+    by : (o : Option Condition) → IfSome o (λ c. Q (under c)) → All Q (under_where o)
+    by None h = All-nil Q
+    by (Some c) h = All-cons Q (under c) [] h (All-nil Q)
+
+-- where it holds of every condition, it does of one if there is one
+pub each_some : (R : Condition → Type 0) → ((c : Condition) → R c) → (o : Option Condition) → IfSome o R
+each_some R each None = tt
+each_some R each (Some c) = each c
+
+-- what is written, or else another
+pub or_else : {A : Type 0} (Q : A → Type 0) (o : Option A) (other : A) → IfSome o Q → Q other → Q (unwrap_or o other)
+or_else Q None other h is = is
+or_else Q (Some x) other h is = h
+
+-- what holds of everything holds of each item
+pub All-every : {X : Type 0} (P : X → Type 0) → ((x : X) → P x) → (xs : List X) → All P xs
+All-every P every xs = λ i d within. every (get_or xs i d)
+
+-- what holds of all that each item gives
+pub All-flat_map : {X Y : Type 0} (P : Y → Type 0) (f : X → List Y) (xs : List X) → All (λ x. All P (f x)) xs → All P (flat_map f xs)
+All-flat_map P f [] all = All-nil P
+All-flat_map P f (x ∷ xs) all =
+    All-append P (f x) (flat_map f xs) (All-head (λ z. All P (f z)) x xs all) (All-flat_map P f xs (All-tail (λ z. All P (f z)) x xs all))

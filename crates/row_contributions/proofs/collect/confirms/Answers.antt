@@ -1,0 +1,16 @@
+use Rattle.std.proofs.Common.{sym, ◌∙◌, rules, tests}
+use Rattle.std.specs.Prelude.{codes}
+use Rattle.std.specs.Str.{bytes_eq}
+use Rattle.std.proofs.lemmas.Iterator.{YieldsList-from_slice}
+use Rattle.std.proofs.lemmas.Iterator.Search.{any_from_yields_List}
+use Rattle.section_tables.specs.declared.rows.Name.{Name}
+use Rattle.mpf_sections.specs.View.{name_view}
+use Rattle.mpf_sections.proofs.Each.{any_mapped}
+use Rattle.row_contributions.proofs.collect.confirms.Goals as goal
+
+pub returns : goal.returns
+returns c =
+    let tags = c.args.tags.now in
+    let own = codes "playfield_active" in
+    any_from_yields_List (λ (n : Name). bytes_eq n.text.items own) _ _ c.any.result c.any.ensures.ran (YieldsList-from_slice tags cc) (λ x b q k. search (rules, tests))
+    ∙ sym (any_mapped (λ w. bytes_eq w.text own) name_view tags)

@@ -1,0 +1,12 @@
+use Rattle.std.proofs.Common.{◌≡◌, ◌++◌, map, drop}
+use Rattle.mpf_sections.specs.View.{name_view}
+use Rattle.plan_contributions.specs.Contributions.{does_in}
+use Rattle.plan_contributions.specs.Effects.{posts}
+use Rattle.row_contributions.specs.Contributions.{texts}
+use Rattle.plan_contributions.specs.View.{contributions_view}
+use Rattle.row_contributions.proofs.collect_devices.collect_written.Given as goal
+
+abbrev pub invariant-loop-name : goal.invariant-loop-name
+invariant-loop-name l =
+    contributions_view l.contributions.items ++ map (does_in l.number) (map posts (texts (map name_view (drop l.name-index l.names))))
+    ≡ contributions_view l.initial.contributions.items ++ map (does_in l.number) (map posts (texts (map name_view l.names)))

@@ -1,0 +1,17 @@
+use Rattle.std.proofs.Common.{◌++◌, refl, ap, ◌∙◌}
+use Rattle.mpf_sections.specs.View.{multiball_view}
+use Rattle.row_contributions.specs.SaveEntries.{multiball_lists, multiball_settings, multiball_device}
+use Rattle.row_contributions.specs.Contributions.{effects_from}
+use Rattle.plan_contributions.specs.View.{contributions_view}
+use Rattle.row_contributions.proofs.DeviceParts.{row_first, device_collected}
+use Rattle.row_contributions.proofs.collect_saves.collect_multiball.Goals as goal
+
+pub returns : goal.returns
+returns c =
+    let place = c.args.place in
+    let row = multiball_view c.args.row in
+    let old = c.args.contributions.now.items in
+    let first = row_first old c.add.new.contributions.items place c.multiball_settings.result (multiball_settings row) c.in_ok-add.ensures c.multiball_settings.ensures in
+    let acted = contributions_view c.collect_acts.new.contributions.items in
+    let doing = c.in_ok-collect_multiball_lists.ensures ∙ ap (λ n. acted ++ effects_from 0 (multiball_lists n row.balls)) c.deref.ensures.value in
+    device_collected place (multiball_device row) (contributions_view old) (contributions_view c.add.new.contributions.items) acted (contributions_view c.collect_multiball_lists.new.contributions.items) refl first c.in_ok-collect_acts.ensures doing

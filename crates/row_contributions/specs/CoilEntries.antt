@@ -1,0 +1,88 @@
+-- What the entries of coils, coil players, flippers and autofire coils say. Here `machine` is the sections of the machine
+-- text, which have the coils.
+use Rattle.std.specs.Prelude.{ℕ, Bool, if◌then◌else◌, List, [], ◌∷◌, ◌++◌, Option, None, Some, unwrap_or}
+use Rattle.mpf_sections.specs.declared.words.CoilAction.{CoilAction}
+use Rattle.mpf_sections.specs.declared.words.CoilAction.TheVariants as actions
+use Rattle.mpf_sections.specs.Rows.{Written, Coil, CoilItem, Flipper, Autofire, SectionRows}
+use Rattle.plan_tables.specs.declared.entries.CoilLimits.{CoilLimits}
+use Rattle.plan_tables.specs.declared.devices.Settings.TheVariants as kinds
+use Rattle.plan_tables.specs.declared.devices.Act.TheVariants.{Enable, Disable}
+use Rattle.machine_definitions.specs.Definitions.{coil_of_name}
+use Rattle.plan_contributions.specs.Effects.{Deed, pulse, enable, disable, Effect, works}
+use Rattle.row_contributions.specs.DeviceEntries.{Device, acts}
+
+-- ---- coils
+
+-- what a coil may be sent
+abbrev pub limits_of_coil : Coil → CoilLimits
+limits_of_coil c = record {
+  max_pulse_ms = c.max_pulse_ms;
+  max_pulse_power = c.max_pulse_power;
+  max_hold_power = c.max_hold_power;
+  may_hold = c.may_hold;
+}
+
+-- what of a coil is said by its entry where nothing else says it, and whether the coil may be held
+pub record Defaults : Type 0 where
+  pub pulse_ms : ℕ
+  pub pulse_power : ℕ
+  pub hold_power : ℕ
+  pub may_hold : Bool
+
+abbrev pub defaults_of_coil : Coil → Defaults
+defaults_of_coil c = record { pulse_ms = c.pulse_ms; pulse_power = c.pulse_power; hold_power = c.hold_power; may_hold = c.may_hold }
+
+abbrev pub defaults_called : List SectionRows → List ℕ → Defaults
+defaults_called machine name = defaults_of_coil (coil_of_name machine name)
+
+-- a pulse, and a hold, of which nothing else is said
+abbrev pub own_pulse : Defaults → Deed
+own_pulse c = pulse c.pulse_ms c.pulse_power
+
+abbrev pub own_hold : Defaults → Deed
+own_hold c = enable c.hold_power
+
+-- ---- coil players
+
+-- what is done with a coil: what the item does not say is by the coil's entry
+abbrev pub deed_by : Defaults → CoilItem → CoilAction → Deed
+deed_by c item actions.Pulse = pulse (unwrap_or item.pulse_ms c.pulse_ms) (unwrap_or item.pulse_power c.pulse_power)
+deed_by c item actions.Enable = enable (unwrap_or item.hold_power c.hold_power)
+deed_by c item actions.Disable = disable
+
+abbrev pub item_effect : List SectionRows → CoilItem → Effect
+item_effect machine item = works item.coil.text (deed_by (defaults_called machine item.coil.text) item item.action)
+
+-- ---- flippers and autofire coils
+
+-- where there is a coil that holds a flipper up, the main coil is pulsed and that one enabled; where there is none, the
+-- main coil is enabled if it may be held, and else pulsed
+abbrev pub flipper_on : List SectionRows → Written → Option Written → List Effect
+flipper_on machine main (Some hold) =
+    works main.text (own_pulse (defaults_called machine main.text)) ∷ works hold.text (own_hold (defaults_called machine hold.text)) ∷ []
+flipper_on machine main None =
+    let c = defaults_called machine main.text in
+    works main.text (if c.may_hold then own_hold c else own_pulse c) ∷ []
+
+-- what has been enabled is disabled
+abbrev pub flipper_off : List SectionRows → Written → Option Written → List Effect
+flipper_off machine main (Some hold) = works hold.text disable ∷ []
+flipper_off machine main None = if (defaults_called machine main.text).may_hold then works main.text disable ∷ [] else []
+
+abbrev pub flipper_device : List SectionRows → Flipper → Device
+flipper_device machine f = record {
+  settings = kinds.Flipper;
+  listens = f.switch.text ∷ [];
+  handled = acts Enable f.enables ++ acts Disable f.disables;
+  mentioned = [];
+  lists = flipper_on machine f.main_coil f.hold_coil ∷ flipper_off machine f.main_coil f.hold_coil ∷ [];
+}
+
+abbrev pub autofire_device : List SectionRows → Autofire → Device
+autofire_device machine a = record {
+  settings = kinds.Autofire;
+  listens = a.switch.text ∷ [];
+  handled = acts Enable a.enables ++ acts Disable a.disables;
+  mentioned = [];
+  lists = (works a.coil.text (own_pulse (defaults_called machine a.coil.text)) ∷ []) ∷ [];
+}

@@ -1,0 +1,19 @@
+//! What a configuration gives to a plan: what each of its rows contributes, by names.
+//!
+//! This layer stands between the rows of texts and the tables of a plan. Each section says here what
+//! its entries give. Whoever makes a plan goes over contributions alone, whatever section they come
+//! from.
+#![tactic(auto)]
+
+pub mod collect;
+mod collect_balls;
+mod collect_bound;
+mod collect_coils;
+mod collect_devices;
+mod collect_game;
+mod collect_saves;
+mod collect_shots;
+mod collect_variables;
+
+pub use collect::collect_row;
+pub use collect_devices::direction_in_plan;
