@@ -14,7 +14,7 @@ use crate::shots::{profiles_of, shots_of, standard_profile};
 use indexmap::{IndexMap, IndexSet};
 use mpf_config::config::Config;
 use mpf_config::{
-    Coil, Entry, Section, Shot, as_autofire, as_coil, as_flipper, as_shot, as_switch, min_balls,
+    Coil, Entry, Section, Shot, as_autofire, as_coil, as_flipper, as_shot, min_balls,
 };
 use mpf_sections::{BallDevice, as_ball_device};
 use mpf_tables::tables::{
@@ -93,10 +93,7 @@ impl<'a> Definitions<'a> {
     pub fn coil(&self, name: &[u8]) -> Option<Coil<'a>>
         ensures { option_map coil_view result ≡ coil_called self.now.machine name.now }
     {
-        match self.coils.get(name) {
-            Some(entry) => Some(as_coil(entry)),
-            None => None,
-        }
+        Some(as_coil(self.coils.get(name)?))
     }
 
     /// Whether an entry defines a switch of this name.
@@ -125,20 +122,14 @@ impl<'a> Definitions<'a> {
     pub fn ball_device(&self, name: &[u8]) -> Option<BallDevice<'a>>
         ensures { option_map ball_device_view result ≡ ball_device_called self.now.machine name.now }
     {
-        match self.ball_devices.get(name) {
-            Some(entry) => Some(as_ball_device(entry)),
-            None => None,
-        }
+        Some(as_ball_device(self.ball_devices.get(name)?))
     }
 
     /// The shot of this name, if there is one, in whichever text.
     pub fn shot(&self, name: &[u8]) -> Option<Shot<'a>>
         ensures { option_map shot_view result ≡ shot_called self.now name.now }
     {
-        match self.shots.get(name) {
-            Some(entry) => Some(as_shot(entry)),
-            None => None,
-        }
+        Some(as_shot(self.shots.get(name)?))
     }
 
     /// Whether there is a profile of this name: `default`, or one that an entry defines.
@@ -228,7 +219,7 @@ fn add_switches<'a>(names: &mut Names<'a>, entries: &'a [Entry]) -> Result<(), A
     ensures { OnOk result (GainsNames names.old names.new (defines_switch entries.now)) }
 {
     for entry in entries {
-        names.insert(&as_switch(entry).name.text)?;
+        names.insert(&entry.name.text)?;
     }
     Ok(())
 }

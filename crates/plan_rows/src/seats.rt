@@ -5,7 +5,9 @@
 
 ghost use Rattle.std.specs.Prelude.{◌≡◌, IfOk, OnOk};
 ghost use Rattle.machine_definitions.specs.Found.{is_found, GainsNames};
-ghost use Rattle.plan_rows.specs.Seats.{has_row, rows_after, rows_after_all, entry_seats, entry_ball_row, row_or_unknown};
+ghost use Rattle.yaml_subset.specs.Keys.{is_among};
+ghost use Rattle.plan_rows.specs.declared.place.Place.{Place};
+ghost use Rattle.plan_rows.specs.Seats.{row_sections, has_row, rows_after, rows_after_all, entry_seats, entry_ball_row, row_or_unknown};
 ghost use Rattle.plan_rows.specs.View.{found_row, found_destination};
 ghost use Rattle.plan_rows.specs.Gained.{all_devices_given, all_entries, all_seats_given, GainsDeviceRows, GainsSeats, HasDestinations, HasGrouped, HasSeats, lists_shot_in, is_named_in, named_entries, named_entry, rows_after_sections, seats_of_names, devices_given, seats_given};
 
@@ -137,10 +139,11 @@ fn add_section<'a>(
     ensures devices { OnOk result (GainsDeviceRows seats.old.devices seats.new.devices (devices_given place grouped.now before section.now)) }
     ensures rows { IfOk result (λ rows. rows ≡ rows_after_all place (is_found grouped.now) before (named_entries section.now)) }
 {
+    let rowed = is_rowed(place, &section.name);
     let mut rows = before;
     for entry in section.content.entries() {
         add_entry(seats, rows, &section.name, entry)?;
-        rows = rows_after(place, grouped, rows, &section.name, entry)?;
+        rows = rows_after(rowed, grouped, rows, &section.name, entry)?;
     }
     Ok(rows)
 }
@@ -203,30 +206,38 @@ fn add_seats<'a>(
     Ok(())
 }
 
-/// How many rows come before what comes after this entry, where so many come before it. No memory
-/// holds so many entries that they cannot be counted.
+/// How many rows come before what comes after this entry, where so many come before it, and `rowed` says whether
+/// other entries than shots have rows in its section. No memory holds so many entries that they cannot be counted.
 fn rows_after(
-    place: Place,
+    rowed: bool,
     grouped: &Names<'_>,
     before: usize,
     section: &[u8],
     entry: &Entry,
 ) -> Result<usize, AllocError>
-    ensures { IfOk result (λ rows. rows ≡ rows_after place (is_found grouped.now) before (named_entry section.now entry.now)) }
+    ensures { IfOk result (λ rows. (place : Place) → rowed ≡ is_among (row_sections place) section.now → rows ≡ rows_after place (is_found grouped.now) before (named_entry section.now entry.now)) }
 {
-    if has_row(place, grouped, section, entry) {
+    if has_row(rowed, grouped, section, entry) {
         return before.checked_add(1).ok_or(AllocError);
     }
     Ok(before)
 }
 
-/// Whether an entry has a row, where these shots are in groups of its text.
-fn has_row(place: Place, grouped: &Names<'_>, section: &[u8], entry: &Entry) -> bool
-    ensures { result ≡ has_row place (is_found grouped.now) (named_entry section.now entry.now) }
+/// Whether an entry has a row, where these shots are in groups of its text, and `rowed` says whether other entries
+/// than shots have rows in its section.
+fn has_row(rowed: bool, grouped: &Names<'_>, section: &[u8], entry: &Entry) -> bool
+    ensures { (place : Place) → rowed ≡ is_among (row_sections place) section.now → result ≡ has_row place (is_found grouped.now) (named_entry section.now entry.now) }
 {
     if section == SHOTS_NAME {
         return !grouped.contains(entry.name.text.as_slice());
     }
+    rowed
+}
+
+/// Whether the entries of a section of this name have rows, if it is not that of shots.
+fn is_rowed(place: Place, section: &[u8]) -> bool
+    ensures { result ≡ is_among (row_sections place) section.now }
+{
     match place {
         Place::Machine => is_one_of(&ROW_SECTIONS, section),
         Place::Control | Place::Mode => is_one_of(&ROW_SECTIONS[3..], section),

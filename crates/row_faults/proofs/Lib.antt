@@ -9,4 +9,5 @@ pub mod Sound
 pub mod Numbers
 pub mod Leads
 pub mod Routed
+pub mod Rising
 mod Short

@@ -12,6 +12,7 @@ pub mod Sound
 pub mod View
 -- what contracts of the functions inside this crate see
 pub mod Named
+pub mod Rising
 pub mod Numbers
 pub mod Collected
 pub mod FaultsOf

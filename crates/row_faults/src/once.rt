@@ -1,23 +1,70 @@
 //! Faults that print the same line are listed once.
 
-ghost use Rattle.std.specs.Prelude.{◌≡◌, [], not, IfOk};
+ghost use Rattle.std.specs.Prelude.{◌≡◌, ◌<◌, ◌^◌, [], true, not, IfOk};
 ghost use Rattle.yaml_subset.specs.Keys.{is_among, copies_view};
 ghost use Rattle.row_faults.specs.RowFaults.{listed_once};
-ghost use Rattle.row_faults.specs.View.{row_faults_view};
+ghost use Rattle.row_faults.specs.Rising.{HaveLines, are_rising, is_before_next};
+ghost use Rattle.row_faults.specs.View.{row_fault_view, row_faults_view};
 ghost use Rattle.row_faults.specs.FaultsOf.{GainsLine, printed_line};
 
 use crate::fault::RowFault;
 use crate::fault_text::write_row_fault;
 use std::alloc::{AllocError, Global};
 use std::borrow::CowSlice;
-use std::hash::{DefaultHasher, FoldHasher, Hasher};
 use yaml_subset::keys::{KeyHashing, KeySet, no_keys, take_key};
 
 /// The faults, without those that print the line of a fault before them.
-pub(crate) fn listed_once(alloc: Global, faults: Vec<RowFault>) -> Result<Vec<RowFault>, AllocError>
+pub(crate) fn listed_once(
+    alloc: Global,
+    hashing: KeyHashing,
+    faults: Vec<RowFault>,
+) -> Result<Vec<RowFault>, AllocError>
     ensures { IfOk result (λ listed. row_faults_view listed.items ≡ listed_once [] (row_faults_view faults.items)) }
 {
-    let mut lines = no_keys(alloc, hashing_of(&faults));
+    if are_rising(&faults) {
+        return Ok(faults);
+    }
+    first_of_each_line(alloc, hashing, faults)
+}
+
+/// Whether the faults are of one text, and each is on a later line than the one before it. No two of
+/// these print the same line.
+fn are_rising(faults: &[RowFault]) -> bool
+    ensures value { result ≡ are_rising (row_faults_view faults.now) }
+    ensures lines { result ≡ true → HaveLines (row_faults_view faults.now) }
+{
+    let mut rest = faults;
+    while let [fault, after @ ..] = rest {
+        if !is_before_next(fault, after) {
+            return false;
+        }
+        rest = after;
+    }
+    true
+}
+
+/// Whether a fault is of the text of the next one, and on an earlier line, if there is a next one.
+fn is_before_next(fault: &RowFault, after: &[RowFault]) -> bool
+    ensures value { result ≡ is_before_next (row_fault_view fault.now) (row_faults_view after.now) }
+    ensures line { fault.now.line < 2 ^ 64 }
+{
+    let line = fault.line;
+    match after {
+        [] => true,
+        [next, ..] => line < next.line && fault.text == next.text,
+    }
+}
+
+/// The same as [`listed_once`], by the lines of all faults. They are hashed as the bundle says, whose
+/// parts they are.
+fn first_of_each_line(
+    alloc: Global,
+    hashing: KeyHashing,
+    faults: Vec<RowFault>,
+) -> Result<Vec<RowFault>, AllocError>
+    ensures { IfOk result (λ listed. row_faults_view listed.items ≡ listed_once [] (row_faults_view faults.items)) }
+{
+    let mut lines = no_keys(alloc, hashing);
     let mut listed = Vec::new(alloc);
     for fault in faults {
         let fresh = is_new(alloc, &mut lines, &fault)?;
@@ -28,18 +75,6 @@ pub(crate) fn listed_once(alloc: Global, faults: Vec<RowFault>) -> Result<Vec<Ro
         }
     }
     Ok(listed)
-}
-
-/// Hashing by the names and the lines of all faults. Another name or line changes every hash.
-fn hashing_of(faults: &[RowFault]) -> KeyHashing {
-    let mut all = DefaultHasher::new();
-    for fault in faults {
-        all.write(&fault.name);
-        all.write_u32(fault.line);
-    }
-    let mut start = FoldHasher::default();
-    start.write_u64(all.finish());
-    KeyHashing { start }
 }
 
 /// Takes the line of a fault, and says whether it is new. Where memory runs out it may be taken or

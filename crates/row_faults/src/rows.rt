@@ -47,7 +47,7 @@ pub fn faults_of_rows(
     let mut modes = events_of_modes(alloc, listed_modes(&config.machine.sections))?;
     add_texts(alloc, &mut modes, &config.modes)?;
     let faults = faults_of_texts(alloc, &modes, definitions, config)?;
-    listed_once(alloc, faults)
+    listed_once(alloc, config.hashing, faults)
 }
 
 /// The faults of all texts: of the machine text, then of the modes' in their order. The definitions

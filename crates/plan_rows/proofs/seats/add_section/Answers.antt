@@ -1,7 +1,8 @@
-use Rattle.std.proofs.Common.{◌+◌, ℕ, drop, Option, ap, ◌∙◌}
+use Rattle.std.proofs.Common.{◌≡◌, ◌+◌, ℕ, drop, Option, sym, ap, ◌∙◌}
+use Rattle.yaml_subset.specs.Keys.{is_among}
 use Rattle.mpf_sections.specs.View.{entry_view, section_view}
 use Rattle.machine_definitions.specs.Found.{is_found}
-use Rattle.plan_rows.specs.Seats.{rows_after, rows_after_all, given_from, entry_seats, entry_ball_row}
+use Rattle.plan_rows.specs.Seats.{row_sections, rows_after, rows_after_all, given_from, entry_seats, entry_ball_row}
 use Rattle.plan_rows.specs.View.{found_seat, found_row}
 use Rattle.plan_rows.proofs.SeatParts.{found_after, entries_of, entry_next, entry_rows_next}
 use Rattle.plan_rows.proofs.seats.add_section.Goals as goal
@@ -15,18 +16,19 @@ loop-entry-preserved c =
     let es = c.entries-entry-items.result.now in
     let e = c.entry-item.result in
     let later = entries_of section (drop (l.entry-index + 1) es) in
-    let rows = c.in_ok-rows.ensures ∙ ap (λ s. rows_after place grouped l.rows (s, entry_view e)) c.deref-in-loop-entry.ensures.value in
+    let rowed : c.is_rowed-rowed.result ≡ is_among (row_sections place) c.deref-in-loop-entry-2.result.now = c.is_rowed-rowed.ensures ∙ ap (is_among (row_sections place)) (c.deref.ensures.value ∙ sym c.deref-in-loop-entry-2.ensures.value) in
+    let rows = c.in_ok-rows.ensures place rowed ∙ ap (λ s. rows_after place grouped l.rows (s, entry_view e)) c.deref-in-loop-entry-2.ensures.value in
     record {
       shots = λ name.
           let found = found_seat l.seats.shots name in
-          let here = c.in_ok-add_entry.ensures.shots name ∙ ap (λ s. found_after name found (entry_seats l.rows (s, entry_view e))) c.deref.ensures.value in
+          let here = c.in_ok-add_entry.ensures.shots name ∙ ap (λ s. found_after name found (entry_seats l.rows (s, entry_view e))) c.deref-in-loop-entry.ensures.value in
           ap (λ (o : Option _). found_after name o (given_from entry_seats place grouped c.in_ok-rows.rows later)) here
           ∙ ap (λ (n : ℕ). found_after name (found_after name found (entry_seats l.rows (section, entry_view e))) (given_from entry_seats place grouped n later)) rows
           ∙ entry_next place grouped entry_seats name section found l.rows es l.entry-index e c.loop-entry-test.true c.entry-item.is
           ∙ l.invariant.shots name;
       devices = λ name.
           let found = found_row l.seats.devices name in
-          let here = c.in_ok-add_entry.ensures.devices name ∙ ap (λ s. found_after name found (entry_ball_row l.rows (s, entry_view e))) c.deref.ensures.value in
+          let here = c.in_ok-add_entry.ensures.devices name ∙ ap (λ s. found_after name found (entry_ball_row l.rows (s, entry_view e))) c.deref-in-loop-entry.ensures.value in
           ap (λ (o : Option _). found_after name o (given_from entry_ball_row place grouped c.in_ok-rows.rows later)) here
           ∙ ap (λ (n : ℕ). found_after name (found_after name found (entry_ball_row l.rows (section, entry_view e))) (given_from entry_ball_row place grouped n later)) rows
           ∙ entry_next place grouped entry_ball_row name section found l.rows es l.entry-index e c.loop-entry-test.true c.entry-item.is

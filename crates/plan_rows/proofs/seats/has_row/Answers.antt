@@ -7,7 +7,7 @@ use Rattle.plan_rows.proofs.SeatParts.{shot_has_row}
 use Rattle.plan_rows.proofs.seats.has_row.Goals as goal
 
 pub returns-then-eq : goal.returns-then-eq
-returns-then-eq c =
+returns-then-eq c = λ place h.
     let grouped = c.args.grouped.now in
     ap not (c.contains.ensures ∙ name-found grouped c.as_slice.result.now ∙ ap (is_found grouped) c.as_slice.ensures.value)
-    ∙ shot_has_row c.args.place (is_found grouped) c.args.section.now (entry_view c.args.entry.now) (sym c.eq.ensures ∙ c.if-eq.true)
+    ∙ shot_has_row place (is_found grouped) c.args.section.now (entry_view c.args.entry.now) (sym c.eq.ensures ∙ c.if-eq.true)

@@ -1,16 +1,11 @@
-use Rattle.std.proofs.Common.{◌∙◌}
-use Rattle.yaml_subset.specs.Keys.{copies_view}
-use Rattle.row_faults.proofs.RowFaults.{lists-new, lists-again}
+use Rattle.std.proofs.Common.{sym, ap, ◌∙◌, subst}
+use Rattle.row_faults.specs.Rising.{HaveLines, are_rising}
+use Rattle.row_faults.specs.View.{row_faults_view}
+use Rattle.row_faults.proofs.Rising.{once-rising}
 use Rattle.row_faults.proofs.once.listed_once.Goals as goal
 
-pub loop-fault-preserved-in-Continue-branch-2 : goal.loop-fault-preserved-in-Continue-branch-2
-loop-fault-preserved-in-Continue-branch-2 c =
-    lists-new (copies_view c.loop-fault.lines) (copies_view c.is_new.new.lines) c.in-Some.fault c.loop-fault.fault-iterator.rest.items c.next.new.self.rest.items c.loop-fault.listed.items c.in_ok-fresh.fresh c.in-Some.ensures.steps.0
-    c.in_ok-fresh.ensures.fresh c.in_ok-fresh.ensures.known c.push.new.self.items c.in_ok-push.ensures.items c.if-fresh.true
-    ∙ c.loop-fault.invariant
-
-pub loop-fault-preserved : goal.loop-fault-preserved
-loop-fault-preserved c =
-    lists-again (copies_view c.loop-fault.lines) (copies_view c.is_new.new.lines) c.in-Some.fault c.loop-fault.fault-iterator.rest.items c.next.new.self.rest.items c.loop-fault.listed.items c.in_ok-fresh.fresh c.in-Some.ensures.steps.0
-    c.in_ok-fresh.ensures.fresh c.in_ok-fresh.ensures.known c.if-fresh.false
-    ∙ c.loop-fault.invariant
+pub returns-then-are_rising : goal.returns-then-are_rising
+returns-then-are_rising c =
+    let is = ap row_faults_view c.deref.ensures.value in
+    let lines = subst HaveLines is (c.are_rising.ensures.lines c.if-are_rising.true) in
+    sym (once-rising (row_faults_view c.args.faults.items) lines (sym (ap are_rising is) ∙ sym c.are_rising.ensures.value ∙ c.if-are_rising.true))
