@@ -119,7 +119,7 @@ module _ (l : Ledger) (is : IsLedger l) where
 -- ---- all calls
 
 pub call-is : (c : LedgerCall) (l : Ledger) → IsLedger l → MayBook c l → IsLedger (after_call c l)
-call-is (Enter d) l is may = entered-is l is d may.0 may.1
+call-is (Enter d) l is may = entered-is l is d may.0 (omega (arith, may.1))
 call-is (Leave d target) l is may = left-is l is d target may.0 may.1 may.2
 call-is (Lose d) l is may = lost-is l is d may.0 may.1
 call-is (Arrive target) l is may = arrived-is l is target may.0 may.1

@@ -1,5 +1,5 @@
 -- What a core holds.
-use Rattle.std.specs.Prelude.{◌≡◌, ℕ, ◌≤◌, Option, List, length, map}
+use Rattle.std.specs.Prelude.{◌≡◌, ℕ, ◌<◌, ◌≤◌, ◌^◌, Option, List, length, map}
 use Rattle.plan_tables.specs.PlanView.{PlanView}
 use Rattle.plan_tables.specs.declared.devices.DeviceRow.{DeviceRow}
 use Rattle.device_objects.specs.declared.state.DeviceState.{DeviceState}
@@ -22,6 +22,8 @@ pub record FitTogether (plan : PlanView) (modes : ModesView) (handlers : Handler
   -- Each row of the plan has its device, and the ledger counts the balls in it.
   pub rows_are : rows ≡ plan.rows
   pub counted_are : length ledger.counted ≡ length plan.rows
+  -- Fewer than 2^32 balls are known.
+  pub balls_few : ledger.known < 2 ^ 32
   -- The alarm of a row is the moment at which its device is due.
   pub alarms_are : alarms ≡ map due_of states
   -- There is room for as many lines as for events that wait.

@@ -1,6 +1,6 @@
 //! What the ledger of balls is told, and what it says.
 
-ghost use Rattle.std.specs.Prelude.{◌≡◌, map, true, length};
+ghost use Rattle.std.specs.Prelude.{◌≡◌, ◌<◌, ◌^◌, map, true, length};
 ghost use Rattle.plan_tables.specs.PlanView.{home_rows};
 ghost use Rattle.ball_devices.specs.Ledger.{counted_in, total};
 ghost use Rattle.ball_devices.specs.Bookings.{after_call, booked, can_book};
@@ -12,7 +12,7 @@ use plan_tables::{BallTarget, Plan, RowId};
 use written_machine::line::BallCounts;
 
 /// No more balls become known.
-const MOST_BALLS: u64 = 1 << 32;
+const MOST_BALLS: u64 = (1 << 32) - 1;
 
 /// What the ledger is told.
 #[derive(Clone, Copy)]
@@ -64,13 +64,14 @@ pub(crate) fn book(ledger: &mut BallLedger, call: BallCall) -> Booking
 
 /// How many balls are known, and where they are.
 pub(crate) fn counts_of(ledger: &BallLedger) -> BallCounts
+    requires { ledger.now.known < 2 ^ 32 }
     ensures { result ≡ counts_of ledger.now }
 {
     BallCounts {
-        known: ledger.known(),
-        counted: ledger.all_counted(),
-        transit: ledger.all_in_transit(),
-        playfield: ledger.playfield(),
+        known: ledger.known() as u32,
+        counted: ledger.all_counted() as u32,
+        transit: ledger.all_in_transit() as u32,
+        playfield: ledger.playfield() as u32,
     }
 }
 

@@ -22,7 +22,7 @@ said_view lines.Unreadable = Unreadable
 abbrev pub Says : SaidLine → Said → Type 0
 Says line what = said_view line ≡ what
 
--- A text begins with 1 to 18 digits, whose number is this moment. Behind them come a blank and this rest.
+-- A text begins with 1 to 18 digits, whose number is this moment. After them come a blank and this rest.
 pub record IsFront (text : List ℕ) (moment : ℕ) (rest : List ℕ) : Type 0 where
   pub digits : List ℕ
   pub blank : ℕ

@@ -78,8 +78,7 @@ fn read_digit(digit: u8) -> Option<bool>
     }
 }
 
-/// The moment that 1 to 18 digits at the front of a text say, and what comes after the blank behind
-/// them.
+/// The moment that 1 to 18 digits at the front of a text say, and what follows the blank after them.
 fn read_front(text: &[u8]) -> Option<(u64, &[u8])>
     ensures { IfSome result (λ x. IsFront text.now x.0 x.1.now) }
 {

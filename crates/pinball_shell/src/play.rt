@@ -53,7 +53,7 @@ impl From<WriteFailed> for Stop {
 }
 
 /// Reads a log and plays it on a machine with this board and these devices, one for each row of the
-/// plan, in the order of the rows. Writes the lines of the trace in their order, some at once, and a
+/// plan, in the order of the rows. Writes the lines of the trace in their order, several at a time, and a
 /// line for each line of the log that is refused. At the end the machine is shut down, and a line is written for
 /// each coil that is put off then, at the moment of the latest stimulus. The verdict is `Yes` if no
 /// line of the log is refused.

@@ -12,6 +12,9 @@ use std::simd::Simd;
 /// How many bytes a page has.
 const PAGE: usize = 4096;
 
+/// How many bytes of a phrase are copied where it has no more, as most have.
+const SHORT: usize = 32;
+
 /// The writer failed.
 #[derive(Clone, Copy)]
 pub struct WriteFailed;
@@ -77,6 +80,9 @@ impl Page {
         ensures { OnOk result (Puts (W.contents writer.old) self.old (W.contents writer.new) self.new phrase.now) }
     {
         let (start, len, rest) = phrase.parts();
+        if len <= SHORT {
+            return self.put_start::<SHORT, W>(start, len, writer);
+        }
         self.put_start::<PHRASE, W>(start, len, writer)?;
         if rest.is_empty() {
             return Ok(());

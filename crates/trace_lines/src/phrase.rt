@@ -3,7 +3,7 @@
 use std::alloc::{AllocError, Global};
 use std::marker::Model;
 
-/// How many bytes of a phrase are copied at once: most phrases have no more.
+/// How many bytes of a phrase its start has. Few phrases have more.
 pub const PHRASE: usize = 64;
 
 /// A text, made to be put on a page: its start is copied at once, whatever its length.
@@ -24,13 +24,13 @@ impl Model for Phrase {
 
     ghost view = { λ p. take p.len p.start ++ p.rest.items };
 
-    ghost use Rattle.std.specs.Prelude.{◌≤◌};
+    ghost use Rattle.std.specs.Prelude.{◌≡◌, ◌<◌, ◌≤◌, []};
 
-    ghost invariant = { λ p. p.len ≤ 64 };
+    ghost invariant = { λ p. (p.len ≤ 64) × (p.len < 64 → p.rest.items ≡ []) };
 }
 
 impl Phrase {
-    ghost use Rattle.std.specs.Prelude.{◌≡◌, ◌≤◌, ◌++◌, IfOk, length, take};
+    ghost use Rattle.std.specs.Prelude.{◌≡◌, ◌<◌, ◌≤◌, ◌++◌, [], IfOk, length, take};
 
     /// This text. Fails only by memory.
     pub fn new(alloc: Global, text: &[u8]) -> Result<Phrase, AllocError>
@@ -44,10 +44,12 @@ impl Phrase {
         Ok(Phrase { start, len, rest })
     }
 
-    /// The start, how many of its bytes are of the text, and the text after them.
+    /// The start, how many of its bytes are of the text, and the text after them: none where the
+    /// start is not full.
     pub fn parts(&self) -> (&[u8; PHRASE], usize, &[u8])
         ensures text { self.now ≡ take result.1 result.0.now ++ result.2.now }
         ensures within { result.1 ≤ 64 }
+        ensures whole { result.1 < 64 → result.2.now ≡ [] }
     {
         (&self.start, self.len, &self.rest)
     }

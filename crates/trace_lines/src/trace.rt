@@ -240,10 +240,10 @@ fn put_balls<W: Write>(
 ) -> Result<(), WriteFailed>
     ensures { OnOk result (Puts (W.contents writer.old) page.old (W.contents writer.new) page.new (balls_text counts)) }
 {
-    put_number(counts.known, b' ', page, writer)?;
-    put_number(counts.counted, b' ', page, writer)?;
-    put_number(counts.transit, b' ', page, writer)?;
-    put_number(counts.playfield, b'\n', page, writer)
+    put_number(u64::from(counts.known), b' ', page, writer)?;
+    put_number(u64::from(counts.counted), b' ', page, writer)?;
+    put_number(u64::from(counts.transit), b' ', page, writer)?;
+    put_number(u64::from(counts.playfield), b'\n', page, writer)
 }
 
 /// Puts a value on the page, and LF.

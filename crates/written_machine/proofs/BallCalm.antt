@@ -114,7 +114,7 @@ can-there n (Device r) there = lt-ltb r.0 n there
 
 can : (c : LedgerCall) (l : Ledger) → MayBook c l → can_book c l ≡ true
 can (ledger_calls.Enter r) l may =
-    and_from (nat_lt r.0 (length l.counted)) (nat_lt l.known (2 ^ 32)) (lt-ltb r.0 (length l.counted) may.0) (lt-ltb l.known (2 ^ 32) may.1)
+    and_from (nat_lt r.0 (length l.counted)) (nat_lt (l.known + 1) (2 ^ 32)) (lt-ltb r.0 (length l.counted) may.0) (lt-ltb (l.known + 1) (2 ^ 32) may.1)
 can (ledger_calls.Leave r target) l may =
     and_from (nat_lt r.0 (length l.counted)) (is_target_there (length l.counted) target && nat_lt 0 (counted_in l r))
     (lt-ltb r.0 (length l.counted) may.0)

@@ -55,8 +55,8 @@ there-can n (Device r) is = ltb-true r.0 n is
 
 may-can : (c : LedgerCall) (l : Ledger) → can_book c l ≡ true → MayBook c l
 may-can (Enter r) l is =
-    let parts = and_parts (nat_lt r.0 (length l.counted)) (nat_lt l.known (2 ^ 32)) is in
-    (ltb-true r.0 (length l.counted) parts.0, ltb-true l.known (2 ^ 32) parts.1)
+    let parts = and_parts (nat_lt r.0 (length l.counted)) (nat_lt (l.known + 1) (2 ^ 32)) is in
+    (ltb-true r.0 (length l.counted) parts.0, ltb-true (l.known + 1) (2 ^ 32) parts.1)
 may-can (Leave r target) l is =
     let parts = and_parts (nat_lt r.0 (length l.counted)) (is_target_there (length l.counted) target && nat_lt 0 (counted_in l r)) is in
     let rest = and_parts (is_target_there (length l.counted) target) (nat_lt 0 (counted_in l r)) parts.1 in

@@ -3,17 +3,18 @@
 use ball_devices::Booking;
 use coil_guard::Command;
 use plan_tables::entries::{EventId, Owner, SwitchId, VariableId};
+use std::mem::size_of;
 
 /// How many balls are known, and where they are.
 #[derive(Clone, Copy, Debug)]
 pub struct BallCounts {
-    pub known: u64,
+    pub known: u32,
     /// How many lie in devices.
-    pub counted: u64,
+    pub counted: u32,
     /// How many are on their way from a device to its target.
-    pub transit: u64,
+    pub transit: u32,
     /// How many are on the playfield.
-    pub playfield: u64,
+    pub playfield: u32,
 }
 
 /// What a line says.
@@ -42,3 +43,5 @@ pub struct Line {
     pub owner: Owner,
     pub happening: Happening,
 }
+
+const _: () = prove!(size_of::<Line>() <= 48);

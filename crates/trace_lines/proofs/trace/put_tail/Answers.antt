@@ -1,9 +1,9 @@
 use Rattle.std.proofs.Common.{codes, refl}
-use Rattle.config_checker.proofs.Writing.{written-last}
+use Rattle.trace_lines.proofs.Writing.{last-piece}
 use Rattle.trace_lines.specs.LineText.{balls_text}
 use Rattle.trace_lines.proofs.trace.put_tail.Goals as goal
 
 pub returns-in_ok-put-in-Balls : goal.returns-in_ok-put-in-Balls
 returns-in_ok-put-in-Balls g c =
     rw c.in-Balls.is
-    (written-last c.put_balls.result _ _ _ (codes " balls ") (balls_text c.in-Balls.counts) _ refl c.in_ok-put-in-Balls.ensures c.put_balls.ensures)
+    (last-piece c.put_balls.result _ _ _ (codes " balls ") (balls_text c.in-Balls.counts) _ refl c.in_ok-put-in-Balls.ensures c.put_balls.ensures)

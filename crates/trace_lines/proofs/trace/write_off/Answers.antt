@@ -1,7 +1,7 @@
-use Rattle.config_checker.proofs.Writing.{written-more}
+use Rattle.trace_lines.proofs.Writing.{one-more-piece}
 use Rattle.trace_lines.specs.LineText.{off_text}
 use Rattle.trace_lines.proofs.trace.write_off.Goals as goal
 
 pub loop-coil-preserved : goal.loop-coil-preserved
 loop-coil-preserved g c =
-    written-more (off_text c.args.plan.now c.args.moment) c.args.coils.now c.loop-coil.coil-index _ _ _ _ c.loop-coil-test.true c.loop-coil.invariant c.in_ok-write_coil_off.ensures
+    one-more-piece (off_text c.args.plan.now c.args.moment) c.args.coils.now c.loop-coil.coil-index _ _ _ _ c.loop-coil-test.true c.loop-coil.invariant c.in_ok-write_coil_off.ensures

@@ -23,6 +23,7 @@ invariant_of-self g c =
       game_is = was.game_is;
       rows_are = rows-kept row state c.self.inside.plan.now items r c.index_mut-device.result.now device was.rows_are c.index_mut-device.ensures.value within c.call_one-lists.ensures.row;
       counted_are = was.counted_are;
+      balls_few = was.balls_few;
       alarms_are =
           c.set.ensures ∙ (λ i. slice_set (was.alarms_are i) r.0 (c.due-due.ensures i))
           ∙ sym (ap (map due_of) (map-set state items r.0 device) ∙ map-set due_of (map state items) r.0 (state device));

@@ -29,6 +29,7 @@ invariant_of-self g c =
       game_is = was.game_is;
       rows_are = rows_stay;
       counted_are = was.counted_are;
+      balls_few = was.balls_few;
       alarms_are = was.alarms_are ∙ sym (ap (map due_of) states_stay);
       lines_fit = was.lines_fit;
     }

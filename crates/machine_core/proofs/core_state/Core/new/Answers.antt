@@ -1,4 +1,4 @@
-use Rattle.std.proofs.Common.{map, length, ap, sym, subst, ◌∙◌}
+use Rattle.std.proofs.Common.{map, length, ap, sym, subst, ◌∙◌, arith}
 use Rattle.written_machine.specs.Devices.{HasDevices}
 use Rattle.written_machine.proofs.Alarms.{initial-devices}
 use Rattle.std.proofs.lemmas.List.{length-replicate}
@@ -36,6 +36,7 @@ invariant_of-result g c =
       game_is = ap (λ g. g.rules) c.new.ensures;
       rows_are = ap (map g.D.Device.row_of) items_are ∙ c.in_default.ensures.fit.rows_are;
       counted_are = ap (λ l. length l.counted) first.ledger ∙ length-replicate (length plan.rows) 0;
+      balls_few = rw (ap (λ l. l.known) first.ledger) (omega arith);
       alarms_are = waiting.alarms ∙ sym (ap (map due_of) (ap (map g.D.Device.state_of) items_are ∙ c.in_default.ensures.fit.states_are) ∙ first-dues plan.rows);
       lines_fit = rw (ap (λ q. q.size) waiting.queue) waiting.room;
     }

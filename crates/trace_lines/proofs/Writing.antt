@@ -1,0 +1,21 @@
+-- A text that is written piece by piece.
+use Rattle.std.proofs.Common.{◌≡◌, ℕ, ◌+◌, ◌<◌, List, [], ◌∷◌, ◌++◌, length, take, get_or, Option, Result, Ok, Err, OnOk, sym, ap, subst, ◌∙◌, append-nil}
+use Rattle.std.specs.List.{flat_map}
+use Rattle.std.specs.Io.KnownBytes.{Appends}
+use Rattle.std.proofs.KnownBytes.{Appends-trans}
+use Rattle.std.proofs.lemmas.List.{take_more}
+use Rattle.std.proofs.lemmas.Grind.{flat_map-append}
+
+-- a last piece, which may fail
+pub last-piece : {T E : Type 0} (r : Result T E) (a b c : Option (List ℕ)) (x y z : List ℕ) → x ++ y ≡ z → Appends a b x → OnOk r (Appends b c y) → OnOk r (Appends a c z)
+last-piece (Ok u) a b c x y z e h k = subst (Appends a c) e (Appends-trans a b c x y h k)
+last-piece (Err f) a b c x y z e h k = tt
+
+-- the pieces of a list, one more
+pub one-more-piece : {X : Type 0} (piece : X → List ℕ) (xs : List X) (i : ℕ) (d : X) (a b c : Option (List ℕ)) → i < length xs
+    → Appends a b (flat_map piece (take i xs)) → Appends b c (piece (get_or xs i d)) → Appends a c (flat_map piece (take (i + 1) xs))
+one-more-piece piece xs i d a b c within h k =
+    let more : flat_map piece (take (i + 1) xs) ≡ flat_map piece (take i xs) ++ piece (get_or xs i d) =
+    ap (flat_map piece) (take_more xs i d within) ∙ flat_map-append piece (take i xs) (get_or xs i d ∷ [])
+    ∙ ap (λ (last : List ℕ). flat_map piece (take i xs) ++ last) (append-nil (piece (get_or xs i d))) in
+    subst (Appends a c) (sym more) (Appends-trans a b c _ _ h k)
