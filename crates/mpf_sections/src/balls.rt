@@ -88,7 +88,7 @@ fn attempts(row: &[Value], at: usize) -> u16
 pub fn as_ball_device(entry: &Entry) -> BallDevice<'_>
     ensures { IsBallDeviceOf entry.now result }
 {
-    let row = entry.values.as_slice();
+    let row = entry.values();
     BallDevice {
         name: &entry.name,
         switches: few_names(row, BALL_SWITCHES),
@@ -100,7 +100,7 @@ pub fn as_ball_device(entry: &Entry) -> BallDevice<'_>
         mechanical: flag(row, MECHANICAL_EJECT),
         max_attempts: attempts(row, MAX_EJECT_ATTEMPTS),
         tags: names(row, TAGS),
-        order: entry.order.as_slice(),
+        order: entry.order(),
     }
 }
 

@@ -120,7 +120,7 @@ fn as_block(row: &[Value], first: usize) -> Block<'_>
 pub fn as_counter(entry: &Entry) -> Counter<'_>
     ensures { IsCounterOf entry.now result }
 {
-    let row = entry.values.as_slice();
+    let row = entry.values();
     Counter {
         name: &entry.name,
         counts: handlers(row, COUNT_EVENTS),
@@ -130,7 +130,7 @@ pub fn as_counter(entry: &Entry) -> Counter<'_>
         direction: direction(row, DIRECTION),
         window: milliseconds(row, MULTIPLE_HIT_WINDOW),
         block: as_block(row, BLOCK_OF_COUNTER),
-        order: entry.order.as_slice(),
+        order: entry.order(),
     }
 }
 
@@ -139,11 +139,11 @@ pub fn as_counter(entry: &Entry) -> Counter<'_>
 pub fn as_step_block(entry: &Entry) -> StepBlock<'_>
     ensures { IsStepBlockOf entry.now result }
 {
-    let row = entry.values.as_slice();
+    let row = entry.values();
     StepBlock {
         name: &entry.name,
         steps: steps(row, EVENTS),
         block: as_block(row, BLOCK_OF_STEPS),
-        order: entry.order.as_slice(),
+        order: entry.order(),
     }
 }

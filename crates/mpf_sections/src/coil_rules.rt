@@ -71,7 +71,7 @@ const AUTOFIRE_DISABLES: usize = 3;
 fn needed_name(entry: &Entry, at: usize) -> NameAt<'_>
     ensures { IsNeededAt at entry.now result }
 {
-    let row = entry.values.as_slice();
+    let row = entry.values();
     match name(text(row, at)) {
         Some(name) => name,
         None => NameAt {
@@ -86,7 +86,7 @@ fn needed_name(entry: &Entry, at: usize) -> NameAt<'_>
 pub fn as_flipper(entry: &Entry) -> Flipper<'_>
     ensures { IsFlipperOf entry.now result }
 {
-    let row = entry.values.as_slice();
+    let row = entry.values();
     Flipper {
         name: &entry.name,
         main_coil: needed_name(entry, MAIN_COIL),
@@ -94,7 +94,7 @@ pub fn as_flipper(entry: &Entry) -> Flipper<'_>
         switch: needed_name(entry, ACTIVATION_SWITCH),
         enables: handlers(row, FLIPPER_ENABLES),
         disables: handlers(row, FLIPPER_DISABLES),
-        order: entry.order.as_slice(),
+        order: entry.order(),
     }
 }
 
@@ -103,13 +103,13 @@ pub fn as_flipper(entry: &Entry) -> Flipper<'_>
 pub fn as_autofire(entry: &Entry) -> Autofire<'_>
     ensures { IsAutofireOf entry.now result }
 {
-    let row = entry.values.as_slice();
+    let row = entry.values();
     Autofire {
         name: &entry.name,
         coil: needed_name(entry, COIL),
         switch: needed_name(entry, SWITCH),
         enables: handlers(row, AUTOFIRE_ENABLES),
         disables: handlers(row, AUTOFIRE_DISABLES),
-        order: entry.order.as_slice(),
+        order: entry.order(),
     }
 }

@@ -116,7 +116,7 @@ fn max_hold_power(written: Option<u16>, allowed: bool, power: Option<u16>) -> u1
 pub fn as_coil(entry: &Entry) -> Coil<'_>
     ensures { IsCoilOf entry.now result }
 {
-    let row = entry.values.as_slice();
+    let row = entry.values();
     let pulse_ms = pulse(text(row, DEFAULT_PULSE_MS)).unwrap_or(10);
     let allowed = flag(row, ALLOW_ENABLE);
     let hold_power = power(text(row, DEFAULT_HOLD_POWER));

@@ -66,7 +66,7 @@ fn balls(row: &[Value], at: usize, least: u8) -> u8
 pub fn as_ball_save(entry: &Entry) -> BallSave<'_>
     ensures { IsBallSaveOf entry.now result }
 {
-    let row = entry.values.as_slice();
+    let row = entry.values();
     BallSave {
         name: &entry.name,
         active_time: milliseconds(row, ACTIVE_TIME),
@@ -81,7 +81,7 @@ pub fn as_ball_save(entry: &Entry) -> BallSave<'_>
 pub fn as_multiball(entry: &Entry) -> Multiball<'_>
     ensures { IsMultiballOf entry.now result }
 {
-    let row = entry.values.as_slice();
+    let row = entry.values();
     Multiball {
         name: &entry.name,
         balls: balls(row, BALL_COUNT, 2),

@@ -113,7 +113,7 @@ fn few_maps(row: &[Value], at: usize) -> &[Fields]
 pub fn as_shot(entry: &Entry) -> Shot<'_>
     ensures { IsShotOf entry.now result }
 {
-    let row = entry.values.as_slice();
+    let row = entry.values();
     Shot {
         name: &entry.name,
         switch: name(text(row, SWITCH)),
@@ -123,7 +123,7 @@ pub fn as_shot(entry: &Entry) -> Shot<'_>
         resets: handlers(row, SHOT_RESETS),
         enables: handlers(row, ENABLES),
         disables: handlers(row, DISABLES),
-        order: entry.order.as_slice(),
+        order: entry.order(),
     }
 }
 
@@ -132,7 +132,7 @@ pub fn as_shot(entry: &Entry) -> Shot<'_>
 pub fn as_shot_group(entry: &Entry) -> ShotGroup<'_>
     ensures { IsShotGroupOf entry.now result }
 {
-    let row = entry.values.as_slice();
+    let row = entry.values();
     ShotGroup {
         name: &entry.name,
         shots: few_names(row, SHOTS),
@@ -156,7 +156,7 @@ pub fn as_state(map: &Fields) -> Option<NameAt<'_>>
 pub fn as_shot_profile(entry: &Entry) -> ShotProfile<'_>
     ensures { IsShotProfileOf entry.now result }
 {
-    let row = entry.values.as_slice();
+    let row = entry.values();
     ShotProfile {
         name: &entry.name,
         states: few_maps(row, STATES),

@@ -146,7 +146,7 @@ pub fn as_control(map: &Fields) -> Option<Control<'_>>
 pub fn as_timer(entry: &Entry) -> Timer<'_>
     ensures { IsTimerOf entry.now result }
 {
-    let row = entry.values.as_slice();
+    let row = entry.values();
     let direction = direction(row, DIRECTION);
     Timer {
         name: &entry.name,

@@ -132,7 +132,7 @@ fn debounce_of(word: &[u8]) -> Debounce
 pub fn as_switch(entry: &Entry) -> Switch<'_>
     ensures { IsSwitchOf entry.now result }
 {
-    let row = entry.values.as_slice();
+    let row = entry.values();
     Switch {
         name: &entry.name,
         contact: contact_of(word(row, TYPE)),
@@ -140,7 +140,7 @@ pub fn as_switch(entry: &Entry) -> Switch<'_>
         tags: names(row, TAGS),
         activated: posts_at(row, ACTIVATED),
         deactivated: posts_at(row, DEACTIVATED),
-        order: entry.order.as_slice(),
+        order: entry.order(),
     }
 }
 
@@ -230,7 +230,7 @@ pub fn mode_settings(sections: &[Section]) -> ModeSettings<'_>
     ensures { AreModeSettingsIn sections.now result }
 {
     match section_named(sections, MODE_NAME) {
-        Some(Content::Entry(entry)) => as_mode_settings(&entry.values),
+        Some(Content::Entry(entry)) => as_mode_settings(entry.values()),
         _ => default_settings(),
     }
 }

@@ -530,7 +530,7 @@ fn show_value(pen: &mut Pen, value: &Value) {
 fn show_entry(pen: &mut Pen, row: &Entry) {
     pen.name(&row.name);
     let mut between = ": ";
-    for value in &row.values {
+    for value in row.values() {
         pen.put(between);
         show_value(pen, value);
         between = " | ";

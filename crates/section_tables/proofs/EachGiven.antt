@@ -1,10 +1,11 @@
 -- What a call for each element gave, and what reading each element gives.
-use Rattle.std.proofs.Common.{◌≡◌, ℕ, zero, suc, ◌+◌, ◌<◌, List, [], ◌∷◌, ◌++◌, length, take, drop, get_or, map, Result, Ok, Err, refl, sym, ap, subst, ◌∙◌, inl, inr, arith}
+use Rattle.std.proofs.Common.{◌≡◌, ℕ, zero, suc, ◌+◌, ◌<◌, Bool, true, false, cond, List, [], ◌∷◌, ◌++◌, length, take, drop, get_or, map, filter, Result, Ok, Err, refl, sym, ap, subst, ◌∙◌, inl, inr, arith, append-nil}
 use Rattle.std.specs.List.{AllZip}
 use Rattle.std.specs.Borrow.{Bor}
 use Rattle.std.specs.Fn.{Shared, FnReturnsAt}
 use Rattle.std.specs.Global.{Vec}
 use Rattle.std.proofs.lemmas.List.{take_more}
+use Rattle.std.proofs.lemmas.List.Elements.{filter-append}
 use Rattle.section_tables.specs.declared.fault.ConfigFault.{ConfigFault}
 use Rattle.section_tables.specs.declared.fault.ConfigFault.TheVariants as faults
 use Rattle.section_tables.specs.Rows.{RowsFault}
@@ -43,6 +44,30 @@ module _ {A B : Type 0} (gave : A → Result B ConfigFault → Type 0) where
   more xs i x ys y lt is h g =
       let e : take (i + 1) xs ≡ take i xs ++ x ∷ [] = take_more xs i x lt ∙ ap (λ z. take i xs ++ z ∷ []) (sym is) in
       subst (λ zs. AllZip (λ a b. gave a (Ok b)) zs (ys ++ y ∷ [])) (sym e) (zip_push (λ a b. gave a (Ok b)) (take i xs) ys x y h g)
+
+module _ {A B : Type 0} (gave : A → Result B ConfigFault → Type 0) (p : A → Bool) where
+  passing : (xs : List A) (i : ℕ) (x : A) (b : Bool) → p x ≡ b → i < length xs → x ≡ get_or xs i x → filter p (take (i + 1) xs) ≡ filter p (take i xs) ++ cond b (x ∷ []) []
+  passing xs i x b is_b lt is =
+      let one : filter p (x ∷ []) ≡ cond b (x ∷ []) [] = rw is_b refl in
+      ap (filter p) (take_more xs i x lt ∙ ap (λ z. take i xs ++ z ∷ []) (sym is)) ∙ filter-append p (take i xs) (x ∷ []) ∙ ap (λ zs. filter p (take i xs) ++ zs) one
+
+  -- a call that failed for one that passes the test, after those that did not
+  pub passing_fails : (e : ConfigFault) (xs : List A) (i : ℕ) (x : A) (ys : List B) → p x ≡ true → i < length xs → x ≡ get_or xs i x → AllZip (λ a b. gave a (Ok b)) (filter p (take i xs)) ys → gave x (Err e) → FailsFirst gave e (filter p xs)
+  passing_fails e xs i x ys so lt is h f =
+      let rest = drop (i + 1) xs in
+      let first : filter p (x ∷ rest) ≡ x ∷ filter p rest = rw so refl in
+      let split = ap (filter p) (parts xs i x lt is) ∙ filter-append p (take i xs) (x ∷ rest) ∙ ap (λ zs. filter p (take i xs) ++ zs) first in
+      subst (FailsFirst gave e) (sym split) (after gave e (filter p (take i xs)) (filter p rest) x ys h f)
+
+  -- one more call that did not fail
+  pub passing_more : (xs : List A) (i : ℕ) (x : A) (ys : List B) (y : B) → p x ≡ true → i < length xs → x ≡ get_or xs i x → AllZip (λ a b. gave a (Ok b)) (filter p (take i xs)) ys → gave x (Ok y) → AllZip (λ a b. gave a (Ok b)) (filter p (take (i + 1) xs)) (ys ++ y ∷ [])
+  passing_more xs i x ys y so lt is h g =
+      subst (λ zs. AllZip (λ a b. gave a (Ok b)) zs (ys ++ y ∷ [])) (sym (passing xs i x true so lt is)) (zip_push (λ a b. gave a (Ok b)) (filter p (take i xs)) ys x y h g)
+
+  -- no call for one that does not pass
+  pub passed_over : (xs : List A) (i : ℕ) (x : A) (ys : List B) → p x ≡ false → i < length xs → x ≡ get_or xs i x → AllZip (λ a b. gave a (Ok b)) (filter p (take i xs)) ys → AllZip (λ a b. gave a (Ok b)) (filter p (take (i + 1) xs)) ys
+  passed_over xs i x ys other lt is h =
+      subst (λ zs. AllZip (λ a b. gave a (Ok b)) zs ys) (sym (passing xs i x false other lt is ∙ append-nil (filter p (take i xs)))) h
 
 module _ {A B X Y : Type 0} (gave : A → Result B ConfigFault → Type 0) (seen : A → X) (view : B → Y) (f : X → Result Y RowsFault) (one : (x : A) (r : Result B ConfigFault) → gave x r → GivesRows view r (f (seen x))) where
   all_gave : (xs : List A) (ys : List B) → AllZip (λ a b. gave a (Ok b)) xs ys → each_read f (map seen xs) ≡ Ok (map view ys)

@@ -6,6 +6,8 @@ pub mod Options
 pub mod ScalarTexts
 pub mod Counting
 pub mod ListValues
+pub mod NameLists
+pub mod NodeLists
 pub mod RowsRead
 pub mod Apart
 pub mod ValuesRead

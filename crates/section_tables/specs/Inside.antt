@@ -1,14 +1,14 @@
 -- What contracts of the functions inside this crate see.
-use Rattle.std.specs.Prelude.{◌≡◌, ℕ, List, ◌++◌, map, set, Option, Some, None, Result, if◌then◌else◌}
+use Rattle.std.specs.Prelude.{◌≡◌, ℕ, Bool, List, [], ◌∷◌, ◌++◌, length, map, filter, set, Option, Some, None, Result, Ok, if◌then◌else◌}
 use Rattle.std.specs.Borrow.{Bor}
 use Rattle.std.specs.Global.{Vec}
 use Rattle.yaml_subset.specs.declared.tree.Key.{Key}
 use Rattle.yaml_subset.specs.declared.tree.Tree.{Tree}
 use Rattle.yaml_subset.specs.Node.{Node, Pair}
-use Rattle.yaml_subset.specs.View.{node_view, pair_view, text_in}
+use Rattle.yaml_subset.specs.View.{node_view, pair_view, text_in, option_slice}
 use Rattle.mpf_values.specs.declared.items.Item as items
 use Rattle.mpf_values.specs.Lists.{Item}
-use Rattle.mpf_values.specs.Reading.{is_name, event_at}
+use Rattle.mpf_values.specs.Reading.{is_name, event_at, scalar_at}
 use Rattle.mpf_values.specs.View.{item_view, items_view}
 use Rattle.section_tables.specs.declared.nodes.MapPairs.{MapPairs}
 use Rattle.section_tables.specs.declared.nodes.ListNodes.{ListNodes}
@@ -18,6 +18,7 @@ use Rattle.section_tables.specs.declared.rows.Plain as plains
 use Rattle.section_tables.specs.declared.rows.Fields as maps
 use Rattle.section_tables.specs.declared.rows.Keyed as keyed_rows
 use Rattle.section_tables.specs.declared.rows.Value as values
+use Rattle.section_tables.specs.declared.rows.EntryRow.{EntryRow}
 use Rattle.section_tables.specs.declared.rows.Player as players
 use Rattle.section_tables.specs.declared.table.Scalar.{Scalar}
 use Rattle.section_tables.specs.declared.table.Bounds.{Bounds}
@@ -31,10 +32,12 @@ use Rattle.section_tables.specs.declared.spot.Spot.{Spot}
 use Rattle.section_tables.specs.declared.fault.ConfigFault.{ConfigFault}
 use Rattle.section_tables.specs.Rows.{Written, Handled, Plain, name, event, Fields, Keyed, Value, Entry, Player, RowsFault}
 use Rattle.section_tables.specs.Kinds.{at_least}
+use Rattle.section_tables.specs.Kinds as kinds
 use Rattle.section_tables.specs.Entries.{pairs_below, is_ignored, written_at, handled_at}
 use Rattle.section_tables.specs.EntryOf.{pass, own_name, place_found, places_written}
 use Rattle.section_tables.specs.Tables.{found_in, field_key, field_default, field_lacks, setting_key, setting_default, setting_lacks}
-use Rattle.section_tables.specs.Reading.{expect, give, scalar_of, plain_at, most_items, count_at, written_in, handled_in, list_items_at, listed_at, list_nodes_at, nodes_at, put_at, overwritten_at, lacking, field_at, fields_row_at, fields_at, named_maps_at, keyed_row_at, keyed_at, few_pairs_at, keyed_list_at, value_at, setting_at, values_at, other_entry_at, player_at}
+use Rattle.section_tables.specs.Reading as readings
+use Rattle.section_tables.specs.Reading.{◌>>=◌, expect, give, counts, each_read, scalar_of, plain_at, most_items, count_at, written_in, handled_in, list_items_at, listed_at, list_nodes_at, nodes_at, put_at, overwritten_at, lacking, field_at, fields_row_at, fields_at, named_maps_at, keyed_row_at, keyed_at, few_pairs_at, keyed_list_at, value_at, setting_at, values_at, other_entry_at, player_at}
 use Rattle.section_tables.specs.TableView.{scalar_view, bounds_view, others_view, field_view, kind_view, setting_view, table_view, player_kinds_view, barred_view}
 use Rattle.section_tables.specs.View.{name_view, handler_view, handlers_view, steps_view, plain_view, plains_view, fields_view, maps_view, keyed_view, keyed_list_view, value_view, values_view, player_view, spot_view, pairs_view, pairs_in_view, nodes_in_view, found_view, GivesRows}
 
@@ -51,6 +54,10 @@ GivesPairs answer read = GivesRows pairs_in_view answer read
 -- the answer is the nodes of a YAML list
 abbrev pub GivesNodes : Result ListNodes ConfigFault → Result (List Node) RowsFault → Type 0
 GivesNodes answer read = GivesRows nodes_in_view answer read
+
+-- the answer is the item that is read
+abbrev pub GivesItem : Result items.Item ConfigFault → Result Item RowsFault → Type 0
+GivesItem answer read = GivesRows item_view answer read
 
 -- the answer is the items of a list
 abbrev pub GivesItems : Result (Vec items.Item) ConfigFault → Result (List Item) RowsFault → Type 0
@@ -104,6 +111,10 @@ GivesValue answer read = GivesRows value_view answer read
 abbrev pub GivesValues : Result (Vec values.Value) ConfigFault → Result (List Value) RowsFault → Type 0
 GivesValues answer read = GivesRows (λ row. values_view row.items) answer read
 
+-- the answer leads to the row of an entry that is read, apart from its order
+abbrev pub GivesRow : {R : Type 0} → (R → EntryRow) → Result R ConfigFault → Result (List Value) RowsFault → Type 0
+GivesRow row_at answer read = GivesRows (λ shared. values_view (row_at shared).values.items) answer read
+
 -- the answer is the entry of a player that is read
 abbrev pub GivesPlayer : Result players.Player ConfigFault → Result Player RowsFault → Type 0
 GivesPlayer answer read = GivesRows player_view answer read
@@ -145,6 +156,46 @@ read_item_name spot item = written_in (spot_view spot) (item_view item)
 -- the handled event that an item is
 abbrev pub read_item_handler : Spot → items.Item → Result Handled RowsFault
 read_item_handler spot item = handled_in (spot_view spot) (item_view item)
+
+-- whether a node of a YAML list counts as an item, good or bad
+abbrev pub is_counted : Tree → Bool
+is_counted node = counts (node_view node)
+
+-- what f gives for the item that a node of a YAML list is
+abbrev pub node_item_at : {B : Type 0} → (readings.Spot → Item → Result B RowsFault) → readings.Spot → Node → Result B RowsFault
+node_item_at f spot node = expect spot (scalar_at node) >>= λ item. f spot item
+
+-- what f gives for each item of a YAML list with these nodes, which are counted before it
+abbrev pub counted_at : {B : Type 0} → (readings.Spot → Item → Result B RowsFault) → ℕ → kinds.Bounds → readings.Spot → List Node → Result (List B) RowsFault
+counted_at f most bounds spot nodes = count_at most bounds spot (length (filter counts nodes)) >>= λ _. each_read (node_item_at f spot) (filter counts nodes)
+
+-- the item that a node of a YAML list is
+abbrev pub read_node_item : Spot → Tree → Result Item RowsFault
+read_node_item spot node = expect (spot_view spot) (scalar_at (node_view node))
+
+-- the name that a node of a YAML list is
+abbrev pub read_node_name : Spot → Tree → Result Written RowsFault
+read_node_name spot node = node_item_at written_in (spot_view spot) (node_view node)
+
+-- the handled event that a node of a YAML list is
+abbrev pub read_node_handler : Spot → Tree → Result Handled RowsFault
+read_node_handler spot node = node_item_at handled_in (spot_view spot) (node_view node)
+
+-- the names in a YAML list with these nodes
+abbrev pub read_node_names : Spot → ℕ → Bounds → List Tree → Result (List Written) RowsFault
+read_node_names spot most bounds nodes = counted_at written_in most (bounds_view bounds) (spot_view spot) (map node_view nodes)
+
+-- the handled events in a YAML list with these nodes
+abbrev pub read_node_handlers : Spot → Bounds → List Tree → Result (List Handled) RowsFault
+read_node_handlers spot bounds nodes = counted_at handled_in most_items (bounds_view bounds) (spot_view spot) (map node_view nodes)
+
+-- the list of one name at a line, which is one item
+abbrev pub read_one_name : Spot → ℕ → Bounds → ℕ → List ℕ → Result (List Written) RowsFault
+read_one_name spot most bounds line text = check_of_count spot most bounds 1 >>= λ _. Ok (written_at line text ∷ [])
+
+-- the list of one event of this name at a line, handled always
+abbrev pub read_one_handler : Spot → Bounds → ℕ → List ℕ → Result (List Handled) RowsFault
+read_one_handler spot bounds line text = check_of_count spot most_items bounds 1 >>= λ _. Ok (handled_at line (record { name = text; condition = None }) ∷ [])
 
 -- the names in a list
 abbrev pub read_listed_names : Spot → ℕ → Bounds → Tree → Result (List Written) RowsFault
@@ -263,6 +314,11 @@ lacking_setting table row = lacking setting_key setting_lacks (table_view table)
 -- a row has for each setting what holds where nothing is written
 abbrev pub AreSettingDefaults : List Setting → List values.Value → Type 0
 AreSettingDefaults table row = values_view row ≡ map setting_default (table_view table)
+
+-- a row has in it what holds where nothing is written, in no order, and it lacks this key first, or none
+abbrev pub IsBareRow : List Setting → EntryRow → Option (Bor (List ℕ)) → Type 0
+IsBareRow table row lacks =
+    AreSettingDefaults table row.values.items × (row.order.items ≡ []) × (option_slice (λ key. key) lacks ≡ lacking_setting table row.values.items)
 
 -- the value of a setting of this kind
 abbrev pub read_value : Spot → Kind → Tree → Result Value RowsFault

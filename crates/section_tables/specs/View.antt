@@ -93,7 +93,7 @@ values_view = map value_view
 -- ---- entries
 
 abbrev pub entry_view : entries.Entry → Entry
-entry_view e = record { name = name_view e.name; values = values_view e.values.items; order = e.order.items }
+entry_view e = record { name = name_view e.name; values = values_view e.row.value.values.items; order = e.row.value.order.items }
 
 abbrev pub entries_view : Vec entries.Entry → List Entry
 entries_view xs = map entry_view xs.items

@@ -6,6 +6,7 @@
 //! [`name_list`] for a section that is a list of names. A [`table::Shape`] says which it is.
 #![tactic(auto)]
 
+mod bare;
 mod each;
 pub mod fault;
 mod fields;

@@ -1,7 +1,10 @@
 //! The rows of sections.
 
+ghost use Rattle.std.specs.Prelude.{◌≡◌};
+
 use mpf_values::Comparison;
 use std::mem::size_of;
+use std::rc::Rc;
 
 /// A name of 1 to 64 letters, digits, `_`, `-` and `.`, with the line where it is written,
 /// counted from 1; line 0 if it is not written and holds by default.
@@ -82,14 +85,37 @@ const _: () = prove!(size_of::<Value>() <= 32);
 
 const _: () = prove!(size_of::<Handler>() <= 48);
 
-/// An entry of a section: its values in the order of the section's table.
+/// The values of an entry, in the order of its section's table.
 #[derive(Drop)]
-pub struct Entry {
-    pub name: Name,
+pub struct EntryRow {
     pub values: Vec<Value>,
     /// The settings that are written, by their places in the table, in the order in which they are
     /// written. A key that the table does not have is not among them.
     pub order: Vec<usize>,
+}
+
+/// An entry of a section. The entries of a section in which nothing is written share one row.
+#[derive(Drop)]
+pub struct Entry {
+    pub name: Name,
+    pub row: Rc<EntryRow>,
+}
+
+impl Entry {
+    /// Its values, in the order of the section's table.
+    pub fn values(&self) -> &[Value]
+        ensures { result.now ≡ self.now.row.value.values.items }
+    {
+        &self.row.values
+    }
+
+    /// The settings that are written, by their places in the table, in the order in which they are
+    /// written.
+    pub fn order(&self) -> &[usize]
+        ensures { result.now ≡ self.now.row.value.order.items }
+    {
+        &self.row.order
+    }
 }
 
 /// An entry of a player: the event that its key is, by its name or as a handled event, and its

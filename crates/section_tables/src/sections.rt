@@ -1,32 +1,81 @@
 //! Sections that are read by a table or as a list: entries, one entry, or names.
 
-ghost use Rattle.std.specs.Prelude.{◌≡◌, ◌≢◌, ℕ, ◌<◌, List, IfOk, IfErr};
+ghost use Rattle.std.specs.Prelude.{◌≡◌, ◌≢◌, ℕ, ◌<◌, List, [], IfOk, IfErr};
+ghost use Rattle.std.specs.Rc.{rc_value};
 ghost use Rattle.section_tables.specs.Rows.{Entry as Row, Written};
 ghost use Rattle.section_tables.specs.View.{names_view, entry_view, entries_view};
 ghost use Rattle.section_tables.specs.Gives.{IsEntryOf, AreEntriesOf, AreNamesOf, read_entry, read_entries, read_names, GivesEntry, GivesEntries, GivesNames};
-ghost use Rattle.section_tables.specs.Inside.{read_other_entry};
+ghost use Rattle.section_tables.specs.Inside.{GivesRow, read_row, places_of_pairs, read_other_entry};
 
+use crate::bare::{Bare, bare_of};
 use crate::each::each;
 use crate::fault::{ConfigFault, FaultKind};
 use crate::lists::names;
 use crate::nodes::pairs;
-use crate::rows::{Entry, Name};
+use crate::rows::{Entry, EntryRow, Name};
 use crate::scalars::{is_name, name_of, word_in};
 use crate::settings::values;
-use crate::spot::spot_of;
+use crate::spot::{Spot, spot_of};
 use crate::table::{Barred, Bounds, Setting};
 use std::alloc::Global;
+use std::rc::Rc;
 use yaml_subset::tree::{Key, Tree};
+
+// A row of its own, of the pairs of an entry; or the first fault.
+fn own_row(
+    alloc: Global,
+    spot: Spot<'_>,
+    table: &[Setting],
+    pairs: &[(Key, Tree)],
+) -> Result<Rc<EntryRow>, ConfigFault>
+    ensures order { IfOk result (λ row. (rc_value row).order.items ≡ places_of_pairs table.now pairs.now) }
+    ensures row { GivesRow rc_value result (read_row spot.entry table.now pairs.now) }
+{
+    let mut order = Vec::with_capacity(alloc, pairs.len())?;
+    let values = values(alloc, spot, table, pairs, &mut order)?;
+    Ok(Rc::new(alloc, EntryRow { values, order })?)
+}
+
+// The row of an entry in which nothing is written; or Missing at the spot.
+#[tactic(auto, unfolding(crate::specs::Reading::row_at))]
+fn shared_row(alloc: Global, spot: Spot<'_>, bare: &Bare) -> Result<Rc<EntryRow>, ConfigFault>
+    ensures order { IfOk result (λ row. (rc_value row).order.items ≡ []) }
+    ensures row { GivesRow rc_value result (read_row spot.entry bare.now.table.now []) }
+{
+    match bare.lacks {
+        None => Ok(bare.row.clone()?),
+        Some(key) => {
+            let missing = Spot { key, ..spot };
+            Err(ConfigFault::Bundle(missing.fault(alloc, FaultKind::Missing)?))
+        }
+    }
+}
+
+// The row of the pairs of an entry; or the first fault.
+fn row(
+    alloc: Global,
+    spot: Spot<'_>,
+    bare: &Bare,
+    pairs: &[(Key, Tree)],
+) -> Result<Rc<EntryRow>, ConfigFault>
+    ensures order { IfOk result (λ row. (rc_value row).order.items ≡ places_of_pairs bare.now.table.now pairs.now) }
+    ensures row { GivesRow rc_value result (read_row spot.entry bare.now.table.now pairs.now) }
+{
+    if pairs.is_empty() {
+        return shared_row(alloc, spot, bare);
+    }
+    own_row(alloc, spot, bare.table, pairs)
+}
 
 // An entry of a section with this table; or the first fault.
 #[tactic(auto, unfolding(crate::specs::Reading::entry_at))]
 fn read_entry(
     alloc: Global,
-    table: &[Setting],
+    bare: &Bare,
     text: &[u8],
     pair: &(Key, Tree),
 ) -> Result<Entry, ConfigFault>
-    ensures { GivesEntry result (read_entry table.now text.now pair.now) }
+    ensures { GivesEntry result (read_entry bare.now.table.now text.now pair.now) }
 {
     let key = &pair.0;
     let spot = spot_of(text, key);
@@ -34,14 +83,9 @@ fn read_entry(
         return Err(ConfigFault::Bundle(spot.fault(alloc, FaultKind::BadValue)?));
     }
     let below = pairs(alloc, spot, &pair.1)?;
-    let mut order = Vec::with_capacity(alloc, below.pairs.len())?;
-    let values = values(alloc, spot, table, below.pairs, &mut order)?;
+    let row = row(alloc, spot, bare, below.pairs)?;
     let name = name_of(alloc, key.line, &key.text)?;
-    Ok(Entry {
-        name,
-        values,
-        order,
-    })
+    Ok(Entry { name, row })
 }
 
 // The same, under another name than these; or BadValue, or the first fault.
@@ -49,15 +93,15 @@ fn read_entry(
 fn read_other_entry(
     alloc: Global,
     barred: Barred,
-    table: &[Setting],
+    bare: &Bare,
     text: &[u8],
     pair: &(Key, Tree),
 ) -> Result<Entry, ConfigFault>
-    ensures { GivesEntry result (read_other_entry barred table.now text.now pair.now) }
+    ensures { GivesEntry result (read_other_entry barred bare.now.table.now text.now pair.now) }
 {
     let key = &pair.0;
     match word_in(barred.names, &key.text) {
-        None => read_entry(alloc, table, text, pair),
+        None => read_entry(alloc, bare, text, pair),
         Some(_) => {
             let fault = spot_of(text, key).fault(alloc, FaultKind::BadValue)?;
             Err(ConfigFault::Bundle(fault))
@@ -71,19 +115,19 @@ fn read_other_entry(
 fn read_entries(
     alloc: Global,
     barred: Barred,
-    table: &[Setting],
+    bare: &Bare,
     text: &[u8],
     pair: &(Key, Tree),
 ) -> Result<Vec<Entry>, ConfigFault>
-    ensures { GivesEntries result (read_entries barred table.now text.now pair.now) }
+    ensures { GivesEntries result (read_entries barred bare.now.table.now text.now pair.now) }
 {
     let below = pairs(alloc, spot_of(text, &pair.0), &pair.1)?;
     each(
         alloc,
         below.pairs,
         |pair|
-            ensures { GivesEntry result (read_other_entry barred table.entry.now text.entry.now pair.now) }
-        { read_other_entry(alloc, barred, table, text, pair) },
+            ensures { GivesEntry result (read_other_entry barred bare.entry.now.table.now text.entry.now pair.now) }
+        { read_other_entry(alloc, barred, bare, text, pair) },
     )
 }
 
@@ -132,7 +176,8 @@ pub fn entry(
     // Which fault it is, with its line and key, is what reading from the first setting gives.
     ensures exact { GivesEntry result (read_entry table.now text.now pair.now) }
 {
-    read_entry(alloc, table, text, pair)
+    let bare = bare_of(alloc, table)?;
+    read_entry(alloc, &bare, text, pair)
 }
 
 /// The entries of a section by this table, in the text of this name. None of them may have one of
@@ -161,7 +206,8 @@ pub fn entries(
     // Which fault it is, with its line and key, is what reading from the first entry gives.
     ensures exact { GivesEntries result (read_entries barred table.now text.now pair.now) }
 {
-    read_entries(alloc, barred, table, text, pair)
+    let bare = bare_of(alloc, table)?;
+    read_entries(alloc, barred, &bare, text, pair)
 }
 
 /// The names that a section lists, at most so many, in the text of this name, each with the line

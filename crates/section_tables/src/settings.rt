@@ -115,8 +115,8 @@ fn default_value(alloc: Global, without: Without) -> Result<Value, AllocError>
     }
 }
 
-// A row with nothing written in it.
-fn bare_row(alloc: Global, table: &[Setting]) -> Result<Vec<Value>, AllocError>
+/// The values of a row in which nothing is written.
+pub fn bare_row(alloc: Global, table: &[Setting]) -> Result<Vec<Value>, AllocError>
     ensures row { IfOk result (λ row. AreSettingDefaults table.now row.items) }
     ensures len { IfOk result (λ row. length row.items ≡ length table.now) }
 {
@@ -138,8 +138,8 @@ fn lacks(without: Without, value: &Value) -> bool
     }
 }
 
-// The key of the first setting that has to be written and is not.
-fn first_lacking(table: &[Setting], row: &[Value]) -> Option<&'static [u8]>
+/// The key of the first setting that has to be written and is not.
+pub fn first_lacking(table: &[Setting], row: &[Value]) -> Option<&'static [u8]>
     requires { length row.now ≡ length table.now }
     ensures { option_slice (λ key. key) result ≡ lacking_setting table.now row.now }
 {

@@ -1,9 +1,10 @@
-use Rattle.std.proofs.Common.{◌<◌}
+use Rattle.std.proofs.Common.{◌<◌, List, subst}
 use Rattle.yaml_subset.specs.View.{pair_view}
 use Rattle.section_tables.specs.EntryOf.{AreEntries}
 use Rattle.section_tables.specs.Reading.{entries_at}
 use Rattle.section_tables.specs.TableView.{barred_view, table_view}
-use Rattle.section_tables.specs.View.{entries_view}
+use Rattle.section_tables.specs.View.{entries_view, GivesRows}
+use Rattle.section_tables.specs.declared.table.Setting.{Setting}
 use Rattle.section_tables.proofs.AnswersOf.{is_found, is_only, is_refused}
 use Rattle.section_tables.proofs.EntriesRead.{entries_sound, entries_complete}
 use Rattle.section_tables.proofs.sections.entries.Goals as goal
@@ -16,7 +17,7 @@ returns c =
     let p = pair_view c.args.pair.now in
     let read = entries_at text barred table p in
     let r = c.read_entries.result in
-    let h = c.read_entries.ensures in
+    let h = subst (λ (rows : List Setting). GivesRows entries_view r (entries_at text barred (table_view rows) p)) c.in_ok-bare.ensures c.read_entries.ensures in
     record {
       found = is_found 1024 entries_view read (λ n. AreEntries n barred table p) (λ n _. 1024 < n) (entries_sound text barred table p) r h;
       only = is_only 1024 entries_view read (λ n. AreEntries n barred table p) (λ n _. 1024 < n) (entries_complete text barred table p) r h;

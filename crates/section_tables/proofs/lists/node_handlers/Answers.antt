@@ -1,0 +1,16 @@
+use Rattle.std.proofs.Common.{filter}
+use Rattle.yaml_subset.specs.View.{node_view}
+use Rattle.section_tables.specs.Reading.{handled_in}
+use Rattle.section_tables.specs.View.{handler_view, spot_view}
+use Rattle.section_tables.specs.Inside.{is_counted, node_item_at}
+use Rattle.section_tables.proofs.EachGiven.{gives_each}
+use Rattle.section_tables.proofs.NodeLists.{seen_counted}
+use Rattle.section_tables.proofs.lists.node_handlers.Goals as goal
+
+pub returns : goal.returns
+returns c =
+    let nodes = c.args.nodes.now in
+    let given = gives_each node_view handler_view (node_item_at handled_in (spot_view c.args.spot)) (filter is_counted nodes) c.each_counted.result c.each_counted.ensures (λ p s m. m) in
+    let counted = rw c.item_count-count.ensures at c.in_ok-check_count.ensures in
+    let seen = rw (seen_counted nodes) at given in
+    rw counted seen

@@ -1,0 +1,12 @@
+use Rattle.std.proofs.Common.{sym}
+use Rattle.mpf_values.specs.View.{item_view}
+use Rattle.section_tables.specs.Reading.{handled_in}
+use Rattle.section_tables.specs.View.{handler_view, spot_view}
+use Rattle.section_tables.proofs.EachGiven.{gives_each}
+use Rattle.section_tables.proofs.lists.text_handlers.Goals as goal
+
+pub returns : goal.returns
+returns c =
+    let given = gives_each item_view handler_view (handled_in (spot_view c.args.spot)) c.deref.result.now c.each.result c.each.ensures (λ p s m. m) in
+    let has = rw (sym c.deref.ensures.value) at c.in_ok-items.ensures in
+    rw has given
