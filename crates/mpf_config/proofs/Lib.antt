@@ -11,6 +11,7 @@ pub mod NewNames
 pub mod EntryKeys
 pub mod EntriesApart
 pub mod TakenEntries
+pub mod BesideMachine
 pub mod NoneBefore
 pub mod TextNames
 pub mod SameTexts

@@ -1,9 +1,6 @@
 -- Texts that are read as they are reached, where the names of those before are kept in a set.
-use Rattle.std.proofs.Common.{◌≡◌, ◌==◌, ℕ, ◌+◌, ◌<◌, Bool, true, false, not, ◌||◌, if◌then◌else◌, List, [], ◌∷◌, length, drop, get_or, set, add-one, Option, Some, None, Result, Ok, Err, refl, sym, ap, subst, ◌∙◌}
-use Rattle.std.specs.List.{flat_map}
+use Rattle.std.proofs.Common.{◌≡◌, ℕ, ◌+◌, ◌<◌, Bool, true, false, not, ◌||◌, if◌then◌else◌, List, [], ◌∷◌, length, drop, get_or, set, add-one, Option, Some, None, Result, Ok, Err, refl, sym, ap, subst, ◌∙◌}
 use Rattle.std.specs.Str.{bytes_eq}
-use Rattle.std.proofs.lemmas.Bool.{eqb-true}
-use Rattle.std.proofs.lemmas.List.{nil_from_length}
 use Rattle.std.proofs.Math.Seq.{drop-cons}
 use Rattle.yaml_subset.specs.Keys.{is_among}
 use Rattle.section_tables.specs.declared.fault.FaultKind.TheVariants.{Duplicate}
@@ -22,9 +19,8 @@ use Rattle.mpf_config.proofs.NewNames.{nothing_in}
 use Rattle.mpf_config.proofs.EntryKeys.{new_complete}
 use Rattle.mpf_config.specs.Reading.{line_spot, mode_read_at, entries_new_at, new_mode_at, placed_at, modes_from, modes_in_texts, none_found, found_of, taken_by}
 use Rattle.mpf_config.specs.View.{FailsRows}
-use Rattle.mpf_config.proofs.TakenEntries.{SameKeys, HasTaken, entries_same, among_append}
-use Rattle.mpf_config.specs.declared.listed_mode.ListedMode.{ListedMode}
-use Rattle.mpf_config.specs.Inside.{modes_view, text_view, texts_view}
+use Rattle.mpf_config.proofs.TakenEntries.{SameKeys, entries_same}
+use Rattle.mpf_config.specs.Inside.{text_view, texts_view, or_machine}
 
 -- which names were taken matters, and not in which order
 same_step : (names others : List (List ℕ)) (k : List ℕ) → SameKeys names others → SameKeys (k ∷ names) (k ∷ others)
@@ -49,35 +45,24 @@ placed_same : (t : Text) (taken others : List (List ℕ)) (found : Found) (o : O
 placed_same t taken others found None h = refl
 placed_same t taken others found (Some p) h = ap (λ (r : Result ModeRead RowsFault). r >>= λ m. Ok (set found p.0 (Some m))) (new_mode_same taken others p.1 t h)
 
-taken_same : (machine others : List (List ℕ)) (modes : List ModeRead) → SameKeys machine others → SameKeys (taken_by machine modes) (taken_by others modes)
-taken_same machine others modes h q =
-    let rest = flat_map (λ (m : ModeRead). entry_keys m.mode.sections) modes in
-    among_append machine rest q ∙ ap (λ (b : Bool). b || is_among rest q) (h q) ∙ sym (among_append others rest q)
-
 module _ (ws : List Written) where
-  after : (t : Text) (ts : List Text) (names others : List (List ℕ)) (machine also : List (List ℕ))
-      → ((next : Found) → modes_from machine ws (t.name ∷ names) next ts ≡ modes_from also ws (t.name ∷ others) next ts)
+  after : (t : Text) (ts : List Text) (names others machine : List (List ℕ))
+      → ((next : Found) → modes_from machine ws (t.name ∷ names) next ts ≡ modes_from machine ws (t.name ∷ others) next ts)
       → (b : Bool) (placed : Result Found RowsFault)
       → (if b then refused Duplicate (line_spot t.name 1) else (placed >>= λ next. modes_from machine ws (t.name ∷ names) next ts))
-      ≡ (if b then refused Duplicate (line_spot t.name 1) else (placed >>= λ next. modes_from also ws (t.name ∷ others) next ts))
-  after t ts names others machine also same true placed = refl
-  after t ts names others machine also same false (Ok next) = same next
-  after t ts names others machine also same false (Err f) = refl
+      ≡ (if b then refused Duplicate (line_spot t.name 1) else (placed >>= λ next. modes_from machine ws (t.name ∷ others) next ts))
+  after t ts names others machine same true placed = refl
+  after t ts names others machine same false (Ok next) = same next
+  after t ts names others machine same false (Err f) = refl
 
-  same_from : (machine also names others : List (List ℕ)) (found : Found) (ts : List Text) → SameKeys machine also → SameKeys names others
-      → modes_from machine ws names found ts ≡ modes_from also ws others found ts
-  same_from machine also names others found [] m h = refl
-  same_from machine also names others found (t ∷ ts) m h =
+  same_from : (machine names others : List (List ℕ)) (found : Found) (ts : List Text) → SameKeys names others
+      → modes_from machine ws names found ts ≡ modes_from machine ws others found ts
+  same_from machine names others found [] h = refl
+  same_from machine names others found (t ∷ ts) h =
       let step = same_step names others t.name h in
-      let place = found_in mode_text_of t.name ws in
-      let keys = taken_same machine also (found_of found) m in
-      rw (h t.name, placed_same t (taken_by machine (found_of found)) (taken_by also (found_of found)) found place keys)
-      (after t ts names others machine also (λ next. same_from machine also (t.name ∷ names) (t.name ∷ others) next ts m step) (is_among others t.name)
-      (placed_at t (taken_by also (found_of found)) found place))
-
-  -- the keys of the machine in another order
-  pub same_machine : (machine also : List (List ℕ)) (found : Found) (ts : List Text) → SameKeys machine also → modes_from machine ws [] found ts ≡ modes_from also ws [] found ts
-  same_machine machine also found ts m = same_from machine also [] [] found ts m (λ q. refl)
+      rw (h t.name)
+      (after t ts names others machine (λ next. same_from machine (t.name ∷ names) (t.name ∷ others) next ts step) (is_among others t.name)
+      (placed_at t (taken_by machine (found_of found)) found (found_in mode_text_of t.name ws)))
 
 not_true : (b : Bool) → not b ≡ true → b ≡ false
 not_true true e = absurd cc
@@ -110,7 +95,7 @@ module _ (ws : List Written) (machine taken names : List (List ℕ)) (found : Fo
       let rest = texts_view (drop (i + 1) all) in
       let at = sym (placed_same (text_view one) taken (taken_by machine (found_of found)) found place keys) ∙ placed in
       let whole : modes_from machine ws names found (texts_view (drop i all)) ≡ modes_from machine ws (one.name.now ∷ names) next rest = cut ∙ rw (none, at) refl in
-      same_from ws machine machine known (one.name.now ∷ names) next rest (λ q. refl) k ∙ sym whole
+      same_from ws machine known (one.name.now ∷ names) next rest k ∙ sym whole
 
   -- a text that is new, and was not placed
   pub fails_next : (e : ConfigFault) → fresh ≡ not (is_among names one.name.now) → fresh ≡ true → SameKeys taken (taken_by machine (found_of found))
@@ -123,32 +108,8 @@ module _ (ws : List Written) (machine taken names : List (List ℕ)) (found : Fo
 
 -- ---- the machine's entries first
 
-or_none : (a : Bool) → (a || false) ≡ a
-or_none true = refl
-or_none false = refl
-
-pub after_machine : (machine : List SectionRows) (ws : List Written) (ts : List Text) (taken known : List (List ℕ)) (u : Unit {0}) → taken ≡ []
-    → entries_new_at machine_name taken (entry_names machine) ≡ Ok u → HasTaken known (entry_names machine) taken
-    → modes_in_texts machine ws ts ≡ modes_from known ws [] (none_found ws) ts
+-- No two of them are the same. So they are taken before all texts.
+pub before_all : (machine : List SectionRows) (ws : List Written) (ts : List Text) (taken : List (List ℕ)) → AreDistinct (entry_names machine) → taken ≡ []
+    → modes_in_texts machine ws ts ≡ modes_from (or_machine (entry_keys machine) taken) ws [] (none_found ws) ts
 unfolding modes_in_texts
-after_machine machine ws ts taken known u none new k =
-    let first : entries_new_at machine_name [] (entry_names machine) ≡ Ok u = subst (λ (keys : List (List ℕ)). entries_new_at machine_name keys (entry_names machine) ≡ Ok u) none new in
-    let has : HasTaken known (entry_names machine) [] = subst (HasTaken known (entry_names machine)) none k in
-    rw first (same_machine ws (entry_keys machine) known (none_found ws) ts (λ q. sym (has q ∙ or_none (is_among (entry_keys machine) q))))
-
--- ---- where no mode is listed
-
-none_placed : (machine also names : List (List ℕ)) (found : Found) (ts : List Text) → modes_from machine [] names found ts ≡ modes_from also [] names found ts
-none_placed machine also names found [] = refl
-none_placed machine also names found (t ∷ ts) =
-    after [] t ts names names machine also (λ next. none_placed machine also (t.name ∷ names) next ts) (is_among names t.name) (Ok found)
-
--- no text is read then, so it does not matter which entries are taken
-pub nothing_listed : (machine : List SectionRows) (ws : List Written) (ts : List Text) (taken : List (List ℕ)) → AreDistinct (entry_names machine) → ws ≡ []
-    → modes_in_texts machine ws ts ≡ modes_from taken ws [] (none_found ws) ts
-unfolding modes_in_texts
-nothing_listed machine ws ts taken distinct none =
-    rw (none, new_complete machine_name [] (entry_names machine) distinct (λ e c old. nothing_in (entry_key e) old)) (none_placed (entry_keys machine) taken [] [] ts)
-
-pub none_viewed : (listed : List ListedMode) → (length listed == 0) ≡ true → modes_view listed ≡ []
-none_viewed listed e = ap modes_view (nil_from_length listed (eqb-true (length listed) 0 e))
+before_all machine ws ts taken distinct none = rw (none, new_complete machine_name [] (entry_names machine) distinct (λ e c old. nothing_in (entry_key e) old)) refl

@@ -5,7 +5,6 @@ use Rattle.std.specs.List.{flat_map}
 use Rattle.std.specs.Str.{bytes_eq}
 use Rattle.std.specs.Borrow.{Bor}
 use Rattle.std.specs.Global.{Vec, Global}
-use Rattle.std.specs.BTreeSet.{BTreeSet}
 use Rattle.std.specs.HashSet.{HashSet}
 use Rattle.std.specs.declared.borrow.CowSlice.{CowSlice}
 use Rattle.yaml_subset.specs.declared.tree.Key.{Key}
@@ -37,10 +36,10 @@ use Rattle.mpf_config.specs.Rows.{Note, Rows, RowsFault}
 use Rattle.mpf_config.specs.BundleText.{Text}
 use Rattle.mpf_config.specs.ModeReads.{MachineRead, ModeRead}
 use Rattle.mpf_config.specs.Unread.{absent_of, mode_text_of, skipped_note, absent_note, unlisted_note, machine_notes, mode_notes, unlisted_notes}
-use Rattle.mpf_config.specs.Apart.{EntryName, entries_named, entry_names, entry_keys}
+use Rattle.mpf_config.specs.Apart.{EntryName, AreDistinct, entries_named, entry_names, entry_keys}
 use Rattle.mpf_config.specs.Reading.{modes_new_at, modes_at, content_at, section_at, sections_in, sections_at, machine_at, machine_read_at, mode_read_at, entries_new_at, new_mode_at, placed_at, found_of, modes_from, none_found, modes_in_texts}
 use Rattle.mpf_config.specs.View.{name_view, mode_view, note_view, rows_view, GivesRows}
-use Rattle.mpf_config.specs.Inside.{bytes_view, text_view, texts_view, notes_view, names_only_view, sections_view, modes_view, machine_read_view, mode_read_view, found_modes_view, keys_view, placed_keys}
+use Rattle.mpf_config.specs.Inside.{bytes_view, text_view, texts_view, notes_view, names_only_view, sections_view, modes_view, machine_read_view, mode_read_view, found_modes_view, or_machine, placed_keys}
 
 -- ---- sections
 
@@ -115,12 +114,32 @@ abbrev pub is_new_key : {S : Type 0} → HashSet (CowSlice ℕ Global) S → Lis
 is_new_key taken key = not (is_among (copies_view taken) key)
 
 -- a key is in the set that is one of these, or that was in it
-abbrev pub GainsKeys : {S : Type 0} → (old new : HashSet (CowSlice ℕ Global) S) → (is_one : List ℕ → Bool) → Type 0
-GainsKeys old new is_one = (q : List ℕ) → is_among (copies_view new) q ≡ (is_one q || is_among (copies_view old) q)
+abbrev pub TakesKeys : {S : Type 0} → (old new : HashSet (CowSlice ℕ Global) S) → (is_one : List ℕ → Bool) → Type 0
+TakesKeys old new is_one = (q : List ℕ) → is_among (copies_view new) q ≡ (is_one q || is_among (copies_view old) q)
 
 -- none of these entries is taken, and none is the same as an earlier one
 abbrev pub entries_all_new : {S : Type 0} → List ℕ → HashSet (CowSlice ℕ Global) S → List EntryName → Result (Unit {0}) RowsFault
 entries_all_new text taken entries = entries_new_at text (copies_view taken) entries
+
+-- no two entries of these sections are the same
+abbrev pub AreEntriesDistinct : List Section → Type 0
+AreEntriesDistinct sections = AreDistinct (entries_of_sections sections)
+
+-- the keys that are taken beside a machine text of these sections
+abbrev pub keys_taken : {S : Type 0} → List Section → HashSet (CowSlice ℕ Global) S → List (List ℕ)
+keys_taken machine taken = or_machine (keys_of_sections machine) (copies_view taken)
+
+-- a set has these keys, in any order
+abbrev pub AreTaken : {S : Type 0} → HashSet (CowSlice ℕ Global) S → List (List ℕ) → Type 0
+AreTaken taken keys = (q : List ℕ) → is_among (copies_view taken) q ≡ is_among keys q
+
+-- a key is taken that is one of these, or that was taken
+abbrev pub GainsKeys : {S : Type 0} → List Section → (old new : HashSet (CowSlice ℕ Global) S) → (is_one : List ℕ → Bool) → Type 0
+GainsKeys machine old new is_one = (q : List ℕ) → is_among (keys_taken machine new) q ≡ (is_one q || is_among (keys_taken machine old) q)
+
+-- none of the entries of these sections is taken beside the machine text, and none is the same as an earlier one
+abbrev pub entries_new_beside : {S : Type 0} → List ℕ → List Section → HashSet (CowSlice ℕ Global) S → List Section → Result (Unit {0}) RowsFault
+entries_new_beside text machine taken sections = entries_new_at text (keys_taken machine taken) (entries_of_sections sections)
 
 -- ---- modes
 
@@ -149,16 +168,16 @@ abbrev pub mode_of_text : Name → texts.Text → Result ModeRead RowsFault
 mode_of_text name text = mode_read_at (name_view name) (text_view text)
 
 -- the mode of this name by its text, where none of its entries is taken
-abbrev pub new_mode_of_text : {S : Type 0} → HashSet (CowSlice ℕ Global) S → Name → texts.Text → Result ModeRead RowsFault
-new_mode_of_text taken name text = new_mode_at (copies_view taken) (name_view name) (text_view text)
+abbrev pub new_mode_of_text : {S : Type 0} → List Section → HashSet (CowSlice ℕ Global) S → Name → texts.Text → Result ModeRead RowsFault
+new_mode_of_text machine taken name text = new_mode_at (keys_taken machine taken) (name_view name) (text_view text)
 
 -- the keys of the entries of a mode
 abbrev pub keys_of_mode : modes.ModeRead → List (List ℕ)
 keys_of_mode read = entry_keys (mode_read_view read).mode.sections
 
 -- what is found, with the mode of this text at its place
-abbrev pub with_mode_of_text : {S : Type 0} → HashSet (CowSlice ℕ Global) S → List ListedMode → List (Option modes.ModeRead) → texts.Text → Result (List (Option ModeRead)) RowsFault
-with_mode_of_text taken modes found text = placed_at (text_view text) (copies_view taken) (found_modes_view found) (found_in mode_text_of text.name.now (modes_view modes))
+abbrev pub with_mode_of_text : {S : Type 0} → List Section → HashSet (CowSlice ℕ Global) S → List ListedMode → List (Option modes.ModeRead) → texts.Text → Result (List (Option ModeRead)) RowsFault
+with_mode_of_text machine taken modes found text = placed_at (text_view text) (keys_taken machine taken) (found_modes_view found) (found_in mode_text_of text.name.now (modes_view modes))
 
 -- the keys of the entries of the mode that is found at the place of this text
 abbrev pub keys_at_text : List ListedMode → List (Option modes.ModeRead) → texts.Text → List (List ℕ)
@@ -169,12 +188,12 @@ abbrev pub IsNoneFound : List ListedMode → List (Option modes.ModeRead) → Ty
 IsNoneFound modes found = found_modes_view found ≡ none_found (modes_view modes)
 
 -- what is found, with the modes of these texts at their places
-abbrev pub with_modes_of_texts : {S : Type 0} → HashSet (CowSlice ℕ Global) S → List ListedMode → List (Option modes.ModeRead) → List texts.Text → Result (List (Option ModeRead)) RowsFault
-with_modes_of_texts taken modes found texts = modes_from (copies_view taken) (modes_view modes) [] (found_modes_view found) (texts_view texts)
+abbrev pub with_modes_of_texts : {S : Type 0} → List Section → HashSet (CowSlice ℕ Global) S → List ListedMode → List (Option modes.ModeRead) → List texts.Text → Result (List (Option ModeRead)) RowsFault
+with_modes_of_texts machine taken modes found texts = modes_from (keys_taken machine taken) (modes_view modes) [] (found_modes_view found) (texts_view texts)
 
 -- the modes of these texts at their places
-abbrev pub modes_of_texts : {S : Type 0} → HashSet (CowSlice ℕ Global) S → List ListedMode → List texts.Text → Result (List (Option ModeRead)) RowsFault
-modes_of_texts taken modes texts = modes_from (copies_view taken) (modes_view modes) [] (none_found (modes_view modes)) (texts_view texts)
+abbrev pub modes_of_texts : {S : Type 0} → List Section → HashSet (CowSlice ℕ Global) S → List ListedMode → List texts.Text → Result (List (Option ModeRead)) RowsFault
+modes_of_texts machine taken modes texts = modes_from (keys_taken machine taken) (modes_view modes) [] (none_found (modes_view modes)) (texts_view texts)
 
 -- the modes that were found
 abbrev pub AreModesFound : List (Option modes.ModeRead) → List ModeText → Type 0
@@ -261,11 +280,3 @@ GivesBytes result read = GivesRows bytes_view result read
 -- the machine text among these texts
 abbrev pub machine_text_in : List texts.Text → Result (List ℕ) RowsFault
 machine_text_in texts = machine_at (texts_view texts)
-
--- whether a name is not among these
-abbrev pub is_new_name : BTreeSet (Bor (List ℕ)) → List ℕ → Bool
-is_new_name names name = not (is_among (keys_view names) name)
-
--- a name is in the set that is this one, or that was in it
-abbrev pub GainsName : (old new : BTreeSet (Bor (List ℕ))) → List ℕ → Type 0
-GainsName old new name = (q : List ℕ) → is_among (keys_view new) q ≡ (bytes_eq name q || is_among (keys_view old) q)

@@ -1,6 +1,5 @@
 -- What contracts of the functions inside this crate see.
-use Rattle.std.specs.Prelude.{ℕ, List, [], Option, Some, None, option_map, map, slice_get}
-use Rattle.std.specs.BTreeSet.{BTreeSet}
+use Rattle.std.specs.Prelude.{ℕ, List, [], ◌∷◌, Option, Some, None, option_map, map, slice_get}
 use Rattle.std.specs.Borrow.{Bor}
 use Rattle.std.specs.Global.{Vec}
 pub use Rattle.yaml_subset.specs.Keys.{copies_view}
@@ -54,9 +53,10 @@ mode_read_view m = record { mode = mode_view m.mode; notes = notes_view m.notes 
 abbrev pub found_modes_view : List (Option modes.ModeRead) → List (Option ModeRead)
 found_modes_view = map (option_map mode_read_view)
 
--- the keys of a set
-abbrev pub keys_view : BTreeSet (Bor (List ℕ)) → List (List ℕ)
-keys_view s = map (λ k. k.now) s.keys
+-- the keys that are taken: those of the machine's entries, until others are taken with them
+abbrev pub or_machine : List (List ℕ) → List (List ℕ) → List (List ℕ)
+or_machine machine [] = machine
+or_machine machine (k ∷ keys) = k ∷ keys
 
 -- the keys of the entries of the mode at a place, if there is one
 abbrev pub mode_keys : Option (Option ModeRead) → List (List ℕ)

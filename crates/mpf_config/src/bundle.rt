@@ -1,15 +1,13 @@
 //! A bundle of texts.
 
 ghost use Rattle.std.specs.Prelude.{◌≡◌, ◌≢◌, ℕ, List, map, IfOk, IfErr};
-ghost use Rattle.mpf_sections.specs.View.{section_view};
-ghost use Rattle.mpf_config.specs.Apart.{AreDistinct, entry_names};
 ghost use Rattle.mpf_config.specs.Reading.{rows_at, mode_names_at};
 ghost use Rattle.mpf_config.specs.Rows.{Rows};
 ghost use Rattle.mpf_config.specs.RowsOf.{Sizes, within_limits, IsRowsOf, IsAbove, AreModesOf, IsTextOver};
 ghost use Rattle.section_tables.specs.declared.fault.ConfigFault.TheVariants.{NoMemory};
 ghost use Rattle.mpf_config.specs.View.{rows_view};
 ghost use Rattle.mpf_config.specs.Inside.{names_only_view};
-ghost use Rattle.mpf_config.specs.Gives.{GivesModes, GivesMachine, GivesConfig, GivesModeNames, machine_in_texts, modes_of_machine, AreTextsOf};
+ghost use Rattle.mpf_config.specs.Gives.{GivesModes, GivesMachine, GivesConfig, GivesModeNames, AreEntriesDistinct, machine_in_texts, modes_of_machine, AreTextsOf};
 
 use crate::config::{Config, MachineText, Note, Section};
 use crate::fault::{ConfigFault, FaultKind};
@@ -18,7 +16,6 @@ use crate::listed_mode::ListedMode;
 use crate::modes::{ModeRead, find_modes, take_modes};
 use crate::sections::{sections, sections_in};
 use crate::spot::{NONE, line_of};
-use crate::taken::take_entries;
 use crate::texts::{MACHINE_NAME, Text, machine_text, texts};
 use crate::unread::{add_unlisted, machine_notes};
 use crate::version::tree_of;
@@ -57,25 +54,8 @@ fn read_machine(
     Ok(MachineRead { sections, notes })
 }
 
-// The modes of a machine text with these sections, which lists these modes; or the first fault.
-#[tactic(auto, unfolding(crate::specs::Reading::modes_in_texts))]
-fn read_listed(
-    alloc: Global,
-    hashing: KeyHashing,
-    sections: &[Section],
-    listed: &[ListedMode<'_>],
-    texts: &[Text<'_>],
-) -> Result<Vec<Option<ModeRead>>, ConfigFault>
-    ensures { GivesModes result (modes_of_machine sections.now listed.now texts.now) }
-{
-    let mut taken = no_keys(alloc, hashing);
-    take_entries(alloc, MACHINE_NAME, sections, &mut taken)?;
-    let found = find_modes(alloc, hashing, listed, texts, &mut taken)?;
-    Ok(found)
-}
-
-// The same, where no two entries of the sections are the same. Where no mode is listed they are not
-// taken, for no text is read that may have one of them.
+// The modes of a machine text with these sections, which lists these modes; or the first fault. No
+// two entries of the sections are the same.
 fn read_modes(
     alloc: Global,
     hashing: KeyHashing,
@@ -83,14 +63,11 @@ fn read_modes(
     listed: &[ListedMode<'_>],
     texts: &[Text<'_>],
 ) -> Result<Vec<Option<ModeRead>>, ConfigFault>
-    requires { AreDistinct (entry_names (map section_view sections.now)) }
+    requires { AreEntriesDistinct sections.now }
     ensures { GivesModes result (modes_of_machine sections.now listed.now texts.now) }
 {
-    if !listed.is_empty() {
-        return read_listed(alloc, hashing, sections, listed, texts);
-    }
     let mut taken = no_keys(alloc, hashing);
-    let found = find_modes(alloc, hashing, listed, texts, &mut taken)?;
+    let found = find_modes(alloc, hashing, sections, listed, texts, &mut taken)?;
     Ok(found)
 }
 

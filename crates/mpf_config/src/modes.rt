@@ -2,23 +2,23 @@
 
 ghost use Rattle.std.specs.Prelude.{◌≡◌, length, IfOk};
 ghost use Rattle.yaml_subset.specs.Keys.{is_among};
-ghost use Rattle.mpf_config.specs.Gives.{GainsKeys, GivesMode, GivesModes, LeavesModes, mode_of_text, new_mode_of_text, keys_of_mode, with_mode_of_text, keys_at_text, IsNoneFound, with_modes_of_texts, modes_of_texts, AreModesFound, notes_found, GainsNotes};
+ghost use Rattle.mpf_config.specs.Gives.{GainsKeys, GivesMode, GivesModes, LeavesModes, mode_of_text, new_mode_of_text, keys_of_mode, with_mode_of_text, keys_at_text, IsNoneFound, with_modes_of_texts, AreEntriesDistinct, modes_of_texts, AreModesFound, notes_found, GainsNotes};
 
-use crate::config::{ModeText, Note};
+use crate::config::{ModeText, Note, Section};
 use crate::fault::{ConfigFault, FaultKind};
 use crate::listed::mode_of;
 use crate::listed_mode::ListedMode;
 use crate::sections::{sections, sections_in};
 use crate::spot::line_of;
-use crate::taken::take_entries;
-use crate::texts::{Text, take_name};
+use crate::taken::take_beside;
+use crate::texts::Text;
 use crate::unread::mode_notes;
 use crate::version::tree_of;
 use mpf_tables::TextKind;
 use section_tables::rows::Name;
 use std::alloc::{AllocError, Global};
-use std::collections::BTreeSet;
-use yaml_subset::keys::{KeyHashing, KeySet};
+use std::borrow::CowSlice;
+use yaml_subset::keys::{KeyHashing, KeySet, no_keys, take_key};
 
 /// A mode by its text, with the notes on that text.
 #[derive(Drop)]
@@ -49,20 +49,22 @@ fn read_mode(
 }
 
 /// The same, once none of its entries is taken; or Duplicate at the first that is. They are taken
-/// then.
+/// then, and those of the machine text before.
 #[tactic(auto, unfolding(crate::specs::Reading::new_mode_at))]
 fn read_new_mode(
     alloc: Global,
     hashing: KeyHashing,
+    machine: &[Section],
     name: &Name,
     text: Text<'_>,
     taken: &mut KeySet,
 ) -> Result<ModeRead, ConfigFault>
-    ensures value { GivesMode result (new_mode_of_text taken.old name.now text.entry) }
-    ensures known { IfOk result (λ read. GainsKeys taken.old taken.new (is_among (keys_of_mode read))) }
+    requires distinct { AreEntriesDistinct machine.now }
+    ensures value { GivesMode result (new_mode_of_text machine.now taken.old name.now text.entry) }
+    ensures known { IfOk result (λ read. GainsKeys machine.now taken.old taken.new (is_among (keys_of_mode read))) }
 {
     let read = read_mode(alloc, hashing, name, text)?;
-    take_entries(alloc, text.name, &read.mode.sections, taken)?;
+    take_beside(alloc, text.name, machine, &read.mode.sections, taken)?;
     Ok(read)
 }
 
@@ -71,17 +73,19 @@ fn read_new_mode(
 fn place(
     alloc: Global,
     hashing: KeyHashing,
+    machine: &[Section],
     modes: &[ListedMode<'_>],
     text: Text<'_>,
     taken: &mut KeySet,
     found: &mut [Option<ModeRead>],
 ) -> Result<(), ConfigFault>
-    requires { length found.old ≡ length modes.now }
-    ensures value { LeavesModes found.new result (with_mode_of_text taken.old modes.now found.old text.entry) }
-    ensures known { IfOk result (λ _. GainsKeys taken.old taken.new (is_among (keys_at_text modes.now found.new text.entry))) }
+    requires distinct { AreEntriesDistinct machine.now }
+    requires as_long { length found.old ≡ length modes.now }
+    ensures value { LeavesModes found.new result (with_mode_of_text machine.now taken.old modes.now found.old text.entry) }
+    ensures known { IfOk result (λ _. GainsKeys machine.now taken.old taken.new (is_among (keys_at_text modes.now found.new text.entry))) }
 {
     if let Some((place, name)) = mode_of(modes, text.name) {
-        found[place] = Some(read_new_mode(alloc, hashing, name, text, taken)?);
+        found[place] = Some(read_new_mode(alloc, hashing, machine, name, text, taken)?);
     }
     Ok(())
 }
@@ -98,45 +102,48 @@ fn none_found(alloc: Global, modes: &[ListedMode<'_>]) -> Result<Vec<Option<Mode
 }
 
 /// Takes each text to the place of its mode, in the order of the bundle; or the first fault, which
-/// may also be Duplicate at a text with the name of an earlier one. The entries of the machine text
-/// are taken before.
+/// may also be Duplicate at a text with the name of an earlier one.
 fn place_all(
     alloc: Global,
     hashing: KeyHashing,
+    machine: &[Section],
     modes: &[ListedMode<'_>],
     texts: &[Text<'_>],
     taken: &mut KeySet,
     found: &mut [Option<ModeRead>],
 ) -> Result<(), ConfigFault>
+    requires distinct { AreEntriesDistinct machine.now }
     requires none { IsNoneFound modes.now found.old }
-    ensures { LeavesModes found.new result (with_modes_of_texts taken.old modes.now found.old texts.now) }
+    ensures { LeavesModes found.new result (with_modes_of_texts machine.now taken.old modes.now found.old texts.now) }
 {
-    let mut names = BTreeSet::new(alloc);
+    let mut names = no_keys(alloc, hashing);
     for text in texts {
-        let fresh = take_name(&mut names, text.name)?;
+        let fresh = take_key(&mut names, CowSlice::Borrowed(text.name))?;
         if !fresh {
             let fault = line_of(text.name, 1).fault(alloc, FaultKind::Duplicate)?;
             return Err(ConfigFault::Bundle(fault));
         }
-        place(alloc, hashing, modes, *text, taken, found)?;
+        place(alloc, hashing, machine, modes, *text, taken, found)?;
     }
     Ok(())
 }
 
 /// The modes that are found in texts, each at its place in the list of modes; or the first fault in
 /// the order of the bundle. No two texts may have one name, and no entry may be taken: neither by
-/// the machine text nor by an earlier mode.
+/// the machine text, which has these sections, nor by an earlier mode.
 pub fn find_modes(
     alloc: Global,
     hashing: KeyHashing,
+    machine: &[Section],
     modes: &[ListedMode<'_>],
     texts: &[Text<'_>],
     taken: &mut KeySet,
 ) -> Result<Vec<Option<ModeRead>>, ConfigFault>
-    ensures { GivesModes result (modes_of_texts taken.old modes.now texts.now) }
+    requires { AreEntriesDistinct machine.now }
+    ensures { GivesModes result (modes_of_texts machine.now taken.old modes.now texts.now) }
 {
     let mut found = none_found(alloc, modes)?;
-    place_all(alloc, hashing, modes, texts, taken, &mut found)?;
+    place_all(alloc, hashing, machine, modes, texts, taken, &mut found)?;
     Ok(found)
 }
 

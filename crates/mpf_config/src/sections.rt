@@ -10,7 +10,6 @@ ghost use Rattle.mpf_config.specs.Gives.{Passes, GivesPairs, GivesNames, GivesCo
 use crate::config::{Content, Section};
 use crate::fault::{ConfigFault, FaultKind};
 use crate::spot::line_of;
-use crate::texts::take_name;
 use crate::unread::is_skipped;
 use mpf_sections::{ModeSettings, as_mode_settings};
 use mpf_tables::tables::MODE_NAME;
@@ -20,7 +19,8 @@ use section_tables::spot::{Spot, spot_of};
 use section_tables::table::Shape;
 use section_tables::{MapPairs, entries, entry as read_entry, name_list, players};
 use std::alloc::Global;
-use std::collections::BTreeSet;
+use std::borrow::CowSlice;
+use yaml_subset::keys::{KeyHashing, no_keys, take_key};
 use yaml_subset::tree::{Key, Tree};
 
 /// The most modes of a machine.
@@ -37,13 +37,14 @@ const START_EVENTS: &[u8] = b"start_events";
 fn compare_modes(alloc: Global, spot: Spot<'_>, modes: &[Name]) -> Result<(), ConfigFault>
     ensures { Passes result (modes_all_new spot.entry modes.now) }
 {
-    let mut names = BTreeSet::new(alloc);
+    // They are few, so it does not matter which hashes they have.
+    let mut names = no_keys(alloc, KeyHashing::of(spot.text));
     for mode in modes {
         let name = mode.text.as_slice();
         if name == MACHINE_OWNER {
             return Err(ConfigFault::Bundle(spot.fault(alloc, FaultKind::BadValue)?));
         }
-        let fresh = take_name(&mut names, name)?;
+        let fresh = take_key(&mut names, CowSlice::Borrowed(name))?;
         if !fresh {
             let at = Spot {
                 text: spot.text,
@@ -104,7 +105,7 @@ fn keeps_to_ball_end(section: &[u8], content: &Content) -> bool
 {
     match content {
         Content::Entry(entry) if section == MODE_NAME => {
-            has_right_starts(as_mode_settings(&entry.values))
+            has_right_starts(as_mode_settings(entry.values()))
         }
         _ => true,
     }

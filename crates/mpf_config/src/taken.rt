@@ -1,13 +1,15 @@
 //! The entries of texts, of which no two may be of one section and name.
 
-ghost use Rattle.std.specs.Prelude.{◌≡◌, ◌++◌, [], map, IfOk};
+ghost use Rattle.std.specs.Prelude.{◌≡◌, ◌++◌, [], false, map, IfOk, IfErr};
 ghost use Rattle.std.specs.Str.{bytes_eq};
 ghost use Rattle.yaml_subset.specs.Keys.{is_among};
+ghost use Rattle.section_tables.specs.declared.fault.ConfigFault.TheVariants.{NoMemory};
 ghost use Rattle.mpf_config.specs.Apart.{joined, entry_key};
-ghost use Rattle.mpf_config.specs.Gives.{Passes, entries_of_section, entries_of_sections, keys_of_sections, is_new_key, GainsKeys, entries_all_new};
+ghost use Rattle.mpf_config.specs.Gives.{Passes, entries_of_section, entries_of_sections, keys_of_sections, is_new_key, TakesKeys, GainsKeys, AreTaken, AreEntriesDistinct, keys_taken, entries_all_new, entries_new_beside};
 
 use crate::config::Section;
 use crate::fault::{ConfigFault, FaultKind};
+use crate::texts::MACHINE_NAME;
 use section_tables::spot::Spot;
 use std::alloc::{AllocError, Global};
 use std::borrow::CowSlice;
@@ -45,7 +47,7 @@ fn take_entry(
     taken: &mut KeySet,
 ) -> Result<bool, AllocError>
     ensures fresh { IfOk result (λ fresh. fresh ≡ is_new_key taken.old (front.now ++ name.now)) }
-    ensures known { IfOk result (λ _. GainsKeys taken.old taken.new (bytes_eq (front.now ++ name.now))) }
+    ensures known { IfOk result (λ _. TakesKeys taken.old taken.new (bytes_eq (front.now ++ name.now))) }
 {
     let key = key_of(alloc, front, name)?;
     let fresh = take_key(taken, CowSlice::Owned(key))?;
@@ -60,7 +62,7 @@ fn take_section(
     taken: &mut KeySet,
 ) -> Result<(), ConfigFault>
     ensures value { Passes result (entries_all_new text.now taken.old (entries_of_section section.now)) }
-    ensures known { IfOk result (λ _. GainsKeys taken.old taken.new (is_among (map entry_key (entries_of_section section.now)))) }
+    ensures known { IfOk result (λ _. TakesKeys taken.old taken.new (is_among (map entry_key (entries_of_section section.now)))) }
 {
     let front = front_of(alloc, &section.name)?;
     let entries = section.content.entries();
@@ -80,17 +82,61 @@ fn take_section(
 }
 
 /// Takes the entries of the sections of this text; or Duplicate at the first that is not new.
-pub fn take_entries(
+fn take_entries(
     alloc: Global,
     text: &[u8],
     sections: &[Section],
     taken: &mut KeySet,
 ) -> Result<(), ConfigFault>
     ensures value { Passes result (entries_all_new text.now taken.old (entries_of_sections sections.now)) }
-    ensures known { IfOk result (λ _. GainsKeys taken.old taken.new (is_among (keys_of_sections sections.now))) }
+    ensures known { IfOk result (λ _. TakesKeys taken.old taken.new (is_among (keys_of_sections sections.now))) }
 {
     for section in sections {
         take_section(alloc, text, section, taken)?;
     }
     Ok(())
+}
+
+/// Takes the entries of the machine text, which has these sections, where none is taken yet.
+fn take_machine(alloc: Global, machine: &[Section], taken: &mut KeySet) -> Result<(), ConfigFault>
+    requires { AreEntriesDistinct machine.now }
+    ensures known { IfOk result (λ _. AreTaken taken.new (keys_taken machine.now taken.old)) }
+    ensures fails { IfErr result (λ e. e ≡ NoMemory) }
+{
+    if taken.is_empty() {
+        take_entries(alloc, MACHINE_NAME, machine, taken)?;
+    }
+    Ok(())
+}
+
+/// Whether one of these sections has an entry.
+fn have_entries(sections: &[Section]) -> bool
+    ensures { result ≡ false → entries_of_sections sections.now ≡ [] }
+{
+    for section in sections {
+        if !section.content.entries().is_empty() {
+            return true;
+        }
+    }
+    false
+}
+
+/// Takes the entries of the text of a mode, which has these sections; or Duplicate at the first that
+/// is not new. Those of the machine text are taken before, once a mode has entries.
+pub fn take_beside(
+    alloc: Global,
+    text: &[u8],
+    machine: &[Section],
+    sections: &[Section],
+    taken: &mut KeySet,
+) -> Result<(), ConfigFault>
+    requires { AreEntriesDistinct machine.now }
+    ensures value { Passes result (entries_new_beside text.now machine.now taken.old sections.now) }
+    ensures known { IfOk result (λ _. GainsKeys machine.now taken.old taken.new (is_among (keys_of_sections sections.now))) }
+{
+    if !have_entries(sections) {
+        return Ok(());
+    }
+    take_machine(alloc, machine, taken)?;
+    take_entries(alloc, text, sections, taken)
 }

@@ -4,13 +4,12 @@ ghost use Rattle.std.specs.Prelude.{◌≡◌, ◌≤◌, ◌+◌, ◌^◌, fals
 ghost use Rattle.yaml_subset.specs.View.{option_slice};
 ghost use Rattle.mpf_config.specs.BundleText.{mode_text_name, name_in, piece_len, line_ends};
 ghost use Rattle.mpf_config.specs.Reading.{text_at, texts_at};
-ghost use Rattle.mpf_config.specs.Gives.{GivesText, GivesTexts, GivesBytes, machine_text_in, is_new_name, GainsName};
+ghost use Rattle.mpf_config.specs.Gives.{GivesText, GivesTexts, GivesBytes, machine_text_in};
 
 use crate::fault::{ConfigFault, FaultKind};
 use crate::spot::{NONE, line_of};
 use memchr::{memchr_iter, memmem};
-use std::alloc::{AllocError, AllocFailed, Global};
-use std::collections::BTreeSet;
+use std::alloc::{AllocError, Global};
 use yaml_bytes::{behind_blanks, is_blank, split_line, trimmed};
 
 /// The name of the machine text.
@@ -118,15 +117,4 @@ pub fn machine_text<'a>(alloc: Global, texts: &[Text<'a>]) -> Result<&'a [u8], C
     }
     let fault = line_of(NONE, 1).fault(alloc, FaultKind::Bundle)?;
     Err(ConfigFault::Bundle(fault))
-}
-
-/// Adds a name, and says whether it is new. If memory runs out, it may have been added or not.
-pub fn take_name<'a>(
-    names: &mut BTreeSet<&'a [u8]>,
-    name: &'a [u8],
-) -> Result<bool, AllocFailed<&'a [u8]>>
-    ensures fresh { IfOk result (λ fresh. fresh ≡ is_new_name names.old name.now) }
-    ensures known { IfOk result (λ _. GainsName names.old names.new name.now) }
-{
-    names.insert(name)
 }

@@ -1,14 +1,15 @@
 use Rattle.std.proofs.Common.{◌||◌, ap, ◌∙◌, arith}
 use Rattle.yaml_subset.specs.Keys.{is_among}
 use Rattle.mpf_config.specs.View.{name_view}
-use Rattle.mpf_config.specs.Inside.{text_view, copies_view}
+use Rattle.mpf_config.specs.Gives.{keys_taken}
+use Rattle.mpf_config.specs.Inside.{text_view}
 use Rattle.mpf_config.proofs.ModeLoops.{put_in_place, none_placed, keys_placed, no_keys_placed}
 use Rattle.mpf_config.proofs.modes.place.Goals as goal
 use Rattle.mpf_config.proofs.modes.place.Goals.{in-Some+in_ok-read_new_mode+in-Some-1, in-Some+in_ok-read_new_mode+in-None-1, in_default}
 
 pub returns-clause-value : goal.returns-clause-value
 returns-clause-value c =
-    let keys = copies_view c.args.taken.now in
+    let keys = keys_taken c.args.machine.now c.args.taken.now in
     elim c.match-mode_of.branch [
       | in-Some+in_ok-read_new_mode+in-Some-1 w ↦
           put_in_place (text_view c.args.text) keys (name_view w.in-Some.name.now) c.args.found.now c.match-mode_of.found w.in-Some.place w.in_ok-read_new_mode.field-0 _
@@ -21,18 +22,18 @@ returns-clause-value c =
 
 pub returns-clause-known : goal.returns-clause-known
 returns-clause-known c =
-    let keys = copies_view c.args.taken.now in
-    let long = c.requires in
+    let keys = keys_taken c.args.machine.now c.args.taken.now in
+    let long = c.requires.as_long in
     elim c.match-mode_of.branch [
       | in-Some+in_ok-read_new_mode+in-Some-1 w ↦ (λ q.
           (let within = w.in-Some.ensures.within in
           let placed = keys_placed (name_view w.in-Some.name.now) c.args.found.now c.match-mode_of.found w.in-Some.place w.in_ok-read_new_mode.field-0 _ w.in-Some.ensures.found w.found-is (omega (arith, within, long)) in
-          ap (λ set. is_among (copies_view set) q) w.taken-is ∙ w.in_ok-read_new_mode.ensures.known q ∙ ap (λ ks. is_among ks q || is_among keys q) placed))
+          ap (λ set. is_among (keys_taken c.args.machine.now set) q) w.taken-is ∙ w.in_ok-read_new_mode.ensures.known q ∙ ap (λ ks. is_among ks q || is_among keys q) placed))
       | in-Some+in_ok-read_new_mode+in-None-1 w ↦ (λ q.
           (let within = w.in-Some.ensures.within in
           let placed = keys_placed (name_view w.in-Some.name.now) c.args.found.now c.match-mode_of.found w.in-Some.place w.in_ok-read_new_mode.field-0 _ w.in-Some.ensures.found w.found-is (omega (arith, within, long)) in
-          ap (λ set. is_among (copies_view set) q) w.taken-is ∙ w.in_ok-read_new_mode.ensures.known q ∙ ap (λ ks. is_among ks q || is_among keys q) placed))
+          ap (λ set. is_among (keys_taken c.args.machine.now set) q) w.taken-is ∙ w.in_ok-read_new_mode.ensures.known q ∙ ap (λ ks. is_among ks q || is_among keys q) placed))
       | in_default w ↦ (λ q.
-          ap (λ set. is_among (copies_view set) q) w.taken-is
+          ap (λ set. is_among (keys_taken c.args.machine.now set) q) w.taken-is
           ∙ ap (λ ks. is_among ks q || is_among keys q) (no_keys_placed c.match-mode_of.found _ w.in_default.ensures.found))
     ]

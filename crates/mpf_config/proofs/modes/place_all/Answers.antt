@@ -5,7 +5,8 @@ use Rattle.mpf_config.specs.declared.texts.Text as texts
 use Rattle.section_tables.specs.Tables.{found_in}
 use Rattle.mpf_config.specs.Unread.{mode_text_of}
 use Rattle.mpf_config.specs.View.{FailsRows}
-use Rattle.mpf_config.specs.Inside.{keys_view, copies_view, modes_view, found_modes_view, placed_keys}
+use Rattle.mpf_config.specs.Gives.{keys_taken}
+use Rattle.mpf_config.specs.Inside.{copies_view, modes_view, found_modes_view, placed_keys}
 use Rattle.mpf_config.proofs.NoneBefore.{none_before, machine_only, none_long, next_before, next_taken}
 use Rattle.mpf_config.proofs.SameTexts.{takes_next, fails_next, is_fresh}
 use Rattle.mpf_config.proofs.modes.place_all.Goals as goal
@@ -20,16 +21,16 @@ loop-text-init c =
     let found = found_modes_view c.args.found.now in
     record {
       as_long = none_long c.args.found.now c.args.modes.now c.requires.none;
-      none = none_before (keys_view c.new-names.result) ws found c.requires.none;
-      known = λ q. ap (λ keys. is_among keys q) (machine_only (copies_view c.args.taken.now) ws found c.requires.none);
-      so_far = rw c.new-names.ensures.empty refl;
+      none = none_before (copies_view c.no_keys-names.result) ws found c.requires.none;
+      known = λ q. ap (λ keys. is_among keys q) (machine_only (keys_taken c.args.machine.now c.args.taken.now) ws found c.requires.none);
+      so_far = rw c.no_keys-names.ensures refl;
     }
 
 pub returns-in_err-place : goal.returns-in_err-place
 returns-in_err-place c =
     let fault = c.in_err-place.field-0.0 in
     let fails =
-    fails_next (modes_view c.args.modes.now) (copies_view c.args.taken.now) (copies_view c.loop-text.taken) (keys_view c.loop-text.names) (found_modes_view c.loop-text.found)
+    fails_next (modes_view c.args.modes.now) (keys_taken c.args.machine.now c.args.taken.now) (keys_taken c.args.machine.now c.loop-text.taken) (copies_view c.loop-text.names) (found_modes_view c.loop-text.found)
     c.args.texts.now c.loop-text.text-index nothing c.loop-text-test.true c.in_ok-fresh.fresh fault
     c.in_ok-fresh.ensures.fresh c.if-not-fresh.false c.loop-text.invariant.known c.in_err-place.ensures.value in
     let p = err_from_is_err_and c.from_residual-in_err-place.result c.from_residual-in_err-place.ensures.1 in
@@ -40,10 +41,10 @@ loop-text-preserved c =
     let ws = modes_view c.args.modes.now in
     let found = found_modes_view c.loop-text.found in
     let next = found_modes_view c.place.new.found in
-    let machine = copies_view c.args.taken.now in
-    let keys = copies_view c.loop-text.taken in
-    let names = keys_view c.loop-text.names in
-    let known = keys_view c.take_name.new.names in
+    let machine = keys_taken c.args.machine.now c.args.taken.now in
+    let keys = keys_taken c.args.machine.now c.loop-text.taken in
+    let names = copies_view c.loop-text.names in
+    let known = copies_view c.take_key.new.keys in
     let hit = found_in mode_text_of (get_or c.args.texts.now c.loop-text.text-index nothing).name.now ws in
     let fresh =
     is_fresh ws machine keys names found c.args.texts.now c.loop-text.text-index nothing c.loop-text-test.true c.in_ok-fresh.fresh

@@ -2,9 +2,9 @@ use Rattle.std.proofs.Common.{◌≡◌, [], drop, map}
 use Rattle.section_tables.specs.View.{spot_view}
 use Rattle.mpf_config.specs.Reading.{modes_new_at}
 use Rattle.mpf_config.specs.View.{name_view}
-use Rattle.mpf_config.specs.Inside.{keys_view}
+use Rattle.mpf_config.specs.Inside.{copies_view}
 use Rattle.mpf_config.proofs.sections.compare_modes.Given as goal
 
 abbrev pub invariant-loop-mode : goal.invariant-loop-mode
 invariant-loop-mode l =
-    modes_new_at (spot_view l.spot) (keys_view l.names) (map name_view (drop l.mode-index l.modes)) ≡ modes_new_at (spot_view l.spot) [] (map name_view l.modes)
+    modes_new_at (spot_view l.spot) (copies_view l.names) (map name_view (drop l.mode-index l.modes)) ≡ modes_new_at (spot_view l.spot) [] (map name_view l.modes)
