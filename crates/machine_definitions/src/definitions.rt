@@ -93,7 +93,10 @@ impl<'a> Definitions<'a> {
     pub fn coil(&self, name: &[u8]) -> Option<Coil<'a>>
         ensures { option_map coil_view result ≡ coil_called self.now.machine name.now }
     {
-        Some(as_coil(self.coils.get(name)?))
+        match self.coils.get(name) {
+            Some(entry) => Some(as_coil(entry)),
+            None => None,
+        }
     }
 
     /// Whether an entry defines a switch of this name.
@@ -122,14 +125,20 @@ impl<'a> Definitions<'a> {
     pub fn ball_device(&self, name: &[u8]) -> Option<BallDevice<'a>>
         ensures { option_map ball_device_view result ≡ ball_device_called self.now.machine name.now }
     {
-        Some(as_ball_device(self.ball_devices.get(name)?))
+        match self.ball_devices.get(name) {
+            Some(entry) => Some(as_ball_device(entry)),
+            None => None,
+        }
     }
 
     /// The shot of this name, if there is one, in whichever text.
     pub fn shot(&self, name: &[u8]) -> Option<Shot<'a>>
         ensures { option_map shot_view result ≡ shot_called self.now name.now }
     {
-        Some(as_shot(self.shots.get(name)?))
+        match self.shots.get(name) {
+            Some(entry) => Some(as_shot(entry)),
+            None => None,
+        }
     }
 
     /// Whether there is a profile of this name: `default`, or one that an entry defines.
@@ -166,6 +175,7 @@ fn coils_of<'a>(
 fn add_coils<'a>(coils: &mut ByName<'a, &'a Entry>, entries: &'a [Entry]) -> Result<(), AllocError>
     ensures { OnOk result (GainsCoils coils.old coils.new (as_coils entries.now)) }
 {
+    coils.reserve(entries.len())?;
     for entry in entries {
         coils.insert(&entry.name.text, entry)?;
     }
@@ -193,6 +203,7 @@ fn add_ball_devices<'a>(
 ) -> Result<(), AllocError>
     ensures { OnOk result (GainsBallDevices devices.old devices.new (as_ball_devices entries.now)) }
 {
+    devices.reserve(entries.len())?;
     for entry in entries {
         devices.insert(&entry.name.text, entry)?;
     }
@@ -218,6 +229,7 @@ fn switches_of<'a>(
 fn add_switches<'a>(names: &mut Names<'a>, entries: &'a [Entry]) -> Result<(), AllocError>
     ensures { OnOk result (GainsNames names.old names.new (defines_switch entries.now)) }
 {
+    names.reserve(entries.len())?;
     for entry in entries {
         names.insert(&entry.name.text)?;
     }

@@ -49,6 +49,7 @@ fn add_text_shots<'a>(
 fn add_shots<'a>(shots: &mut ByName<'a, &'a Entry>, entries: &'a [Entry]) -> Result<(), AllocError>
     ensures { OnOk result (GainsShots shots.old shots.new (as_shots entries.now)) }
 {
+    shots.reserve(entries.len())?;
     for entry in entries {
         shots.insert(&entry.name.text, entry)?;
     }

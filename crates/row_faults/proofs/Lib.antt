@@ -11,3 +11,4 @@ pub mod Leads
 pub mod Routed
 pub mod Rising
 mod Short
+mod Ungrouped

@@ -1,5 +1,5 @@
 -- The faults of what the program has, and what lists and sets gain.
-use Rattle.std.specs.Prelude.{◌≡◌, ◌||◌, ℕ, Bool, List, ◌++◌, length, map, filter, Option, Some, option_map}
+use Rattle.std.specs.Prelude.{◌≡◌, ◌⊎◌, ◌||◌, ℕ, Bool, List, [], ◌++◌, length, map, filter, Option, Some, option_map}
 use Rattle.std.specs.List.{flat_map, list_any}
 use Rattle.std.specs.Str.{bytes_eq}
 use Rattle.std.specs.Borrow.{Bor}
@@ -22,12 +22,12 @@ use Rattle.mpf_sections.specs.declared.balls.BallDevice as typed_balls
 use Rattle.mpf_sections.specs.declared.game.VariableItem as typed_variable_items
 use Rattle.mpf_sections.specs.declared.shots.Shot as typed_shots
 use Rattle.mpf_sections.specs.declared.shots.ShotGroup as typed_groups
-use Rattle.mpf_sections.specs.Rows.{Written, BallDevice}
+use Rattle.mpf_sections.specs.Rows.{Written, BallDevice, ShotGroup}
 use Rattle.mpf_sections.specs.Typed.{step_block_of, switches_in, event_players_in, counters_in, timers_in}
 use Rattle.mpf_sections.specs.TypedCoils.{coils_in, coil_item_of, coil_players_in, flippers_in, autofires_in}
 use Rattle.mpf_sections.specs.TypedBalls.{ball_devices_in}
 use Rattle.mpf_sections.specs.TypedGame.{variable_item_of}
-use Rattle.mpf_sections.specs.TypedShots.{shot_of, shots_in}
+use Rattle.mpf_sections.specs.TypedShots.{shot_of, shots_in, shot_groups_in}
 use Rattle.mpf_sections.specs.View.{name_view, name_at_view, entry_view, keyed_view, section_view, coil_view, coil_item_view, flipper_view, autofire_view, ball_device_view, variable_item_view, shot_view, shot_group_view}
 use Rattle.mpf_config.specs.declared.config.ModeText.{ModeText}
 use Rattle.mpf_config.specs.Rows.{Rows}
@@ -187,6 +187,14 @@ is_misplaced_name f own taken first line name = is_misplaced f.rows (is_found ow
 -- by each name is found whether the sections define a shot of this name; whether one of these entries does
 abbrev pub HasOwnShots : {S : Type 0} → List Section → HashSet (Bor (List ℕ)) S → Type 0
 HasOwnShots sections shots = (name : List ℕ) → is_found shots name ≡ is_own_shot (section_rows sections) name
+
+-- the groups of these sections
+abbrev pub groups_among : List Section → List ShotGroup
+groups_among sections = flat_map shot_groups_in (section_rows sections)
+
+-- so it is unless the sections have no groups
+abbrev pub HasShotsForGroups : {S : Type 0} → List Section → HashSet (Bor (List ℕ)) S → Type 0
+HasShotsForGroups sections shots = (groups_among sections ≡ []) ⊎ HasOwnShots sections shots
 
 abbrev pub defines_shot : List entry_rows.Entry → List ℕ → Bool
 defines_shot entries name = list_any (λ s. bytes_eq name s.name.text) (map shot_of (map entry_view entries))

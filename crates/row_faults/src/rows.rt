@@ -16,7 +16,7 @@ use crate::fault::{RowFault, RowFaultKind};
 use crate::once::listed_once;
 use crate::reserved::{ModeEvents, add_posts, add_texts, events_of_modes};
 use crate::routes::add_route_faults;
-use crate::shot_faults::{Shots, add_groups, add_shots, shots_of};
+use crate::shot_faults::{Shots, add_groups, add_shots, shots_for_groups};
 use crate::variable_faults::add_variable_players;
 use indexmap::IndexSet;
 use machine_definitions::Definitions;
@@ -111,7 +111,7 @@ fn faults_of_text<'a>(
     ensures faults { IfOk result (λ faults. row_faults_view faults.items ≡ faults_of_text modes.now definitions.now taken.old text.now sections.now) }
     ensures taken { IfOk result (λ _. Takes taken.old taken.new (listed_by_sections definitions.now sections.now)) }
 {
-    let own = shots_of(alloc, definitions.config().hashing, sections)?;
+    let own = shots_for_groups(alloc, definitions.config().hashing, sections)?;
     let mut faults = Faults {
         alloc,
         definitions,

@@ -1,11 +1,11 @@
 //! What is wrong with shots, and with the shots that groups list.
 
-ghost use Rattle.std.specs.Prelude.{◌≡◌, ℕ, map, option_map, IfOk, OnOk};
+ghost use Rattle.std.specs.Prelude.{◌≡◌, ℕ, [], true, map, option_map, IfOk, OnOk};
 ghost use Rattle.mpf_sections.specs.View.{name_view, shot_view};
 ghost use Rattle.machine_definitions.specs.Found.{is_found, GainsNames};
 ghost use Rattle.row_faults.specs.Collected.{Gains};
 ghost use Rattle.row_faults.specs.ShotFaults.{first_shot, are_of_two_profiles};
-ghost use Rattle.row_faults.specs.FaultsOf.{HasOwnShots, Takes, faults_of_listed, faults_of_profile, faults_of_shot, faults_of_shot_switch, faults_of_shots, listed_by_group, defines_shot, is_misplaced_name, names_listed, listed_by_section};
+ghost use Rattle.row_faults.specs.FaultsOf.{HasOwnShots, HasShotsForGroups, Takes, faults_of_listed, faults_of_profile, faults_of_shot, faults_of_shot_switch, faults_of_shots, listed_by_group, defines_shot, groups_among, is_misplaced_name, names_listed, listed_by_section};
 
 use crate::as_written::{Named, add_as_written};
 use crate::coil_faults::add_switch_name;
@@ -170,9 +170,37 @@ fn are_of_two_profiles(one: Option<Shot<'_>>, other: Option<Shot<'_>>) -> bool
 
 // ---- the shots of a text
 
+/// The shots that these sections define, where they have groups. Without groups nothing asks for
+/// them, and it gives none.
+pub(crate) fn shots_for_groups<'a>(
+    alloc: Global,
+    hashing: KeyHashing,
+    sections: &'a [Section],
+) -> Result<Shots<'a>, AllocError>
+    ensures { IfOk result (λ shots. HasShotsForGroups sections.now shots) }
+{
+    if have_no_groups(sections) {
+        return Ok(IndexSet::with_hasher(alloc, hashing));
+    }
+    shots_of(alloc, hashing, sections)
+}
+
+/// Whether no group stands in these sections.
+#[tactic(auto, unfolding(mpf_sections::specs::TypedShots::shot_groups_in))]
+fn have_no_groups(sections: &[Section]) -> bool
+    ensures { result ≡ true → groups_among sections.now ≡ [] }
+{
+    for section in sections {
+        if !section.entries_of(SHOT_GROUPS_NAME).is_empty() {
+            return false;
+        }
+    }
+    true
+}
+
 /// The shots that these sections define.
 #[tactic(auto, unfolding(mpf_sections::specs::TypedShots::shots_in))]
-pub(crate) fn shots_of<'a>(
+fn shots_of<'a>(
     alloc: Global,
     hashing: KeyHashing,
     sections: &'a [Section],
@@ -189,6 +217,7 @@ pub(crate) fn shots_of<'a>(
 fn take_shots<'a>(shots: &mut Shots<'a>, entries: &'a [Entry]) -> Result<(), AllocError>
     ensures { OnOk result (GainsNames shots.old shots.new (defines_shot entries.now)) }
 {
+    shots.reserve(entries.len())?;
     for entry in entries {
         shots.insert(&entry.name.text)?;
     }

@@ -9,6 +9,7 @@ use Rattle.row_faults.specs.Collected.{FaultsView, with_faults}
 use Rattle.row_faults.specs.RowFaults.{fault_line, fault_number, written_faults}
 use Rattle.row_faults.specs.ShotFaults.{is_own_shot}
 use Rattle.row_faults.specs.View.{keys_view, row_faults_view}
+use Rattle.row_faults.proofs.Ungrouped.{by_own}
 use Rattle.row_faults.proofs.rows.faults_of_text.Goals as goal
 
 pub returns-clause-faults : goal.returns-clause-faults
@@ -18,8 +19,7 @@ returns-clause-faults c =
     let text = c.args.text.now in
     let rows = c.args.definitions.now in
     let first : FaultsView = record { rows = rows; modes = modes; text = text; found = row_faults_view c.new.result.items } in
-    let own : is_found c.in_ok-own.own ≡ is_own_shot sections = λ i name. c.in_ok-own.ensures name i in
-    let written = c.in_ok-add_sections.ensures.faults ∙ ap (λ (test : List ℕ → Bool). with_faults first (written_faults modes rows test (is_found c.args.taken.now) text sections)) own in
+    let written = c.in_ok-add_sections.ensures.faults ∙ ap (with_faults first) (by_own modes rows text (is_found c.in_ok-own.own) (is_found c.args.taken.now) sections c.in_ok-own.ensures) in
     let all = c.in_ok-add_route_faults.ensures ∙ ap (λ (g : FaultsView). with_faults g (route_faults g.text (ball_devices_of sections))) written in
     let found = written_faults modes rows (is_own_shot sections) (is_found c.args.taken.now) text sections in
     let of_text = c.found_in-found.ensures ∙ ap (λ (g : FaultsView). g.found) all ∙ ap (λ (none : List RowFault). (row_faults_view none ++ found) ++ route_faults text (ball_devices_of sections)) c.new.ensures.items in
