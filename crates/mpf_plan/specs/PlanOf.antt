@@ -1,7 +1,16 @@
--- The plan of the rows. Owners, sections and entries give contributions, one after the other: `contributions_of`. Names
--- are numbered in the order of their first uses: `names_from`. Each table has what the contributions give to it, in
--- their order: `tables_of`. What one gives may depend on the mode, row, list or switch that came last, and so on those
--- before it.
+-- The plan of the rows of a configuration, in three steps.
+--
+-- 1. Owners, sections and entries give contributions, one after the other: `contributions_of`, in
+--    `row_contributions/specs/Contributions.antt`. A setting that is not written has the default of its table, in
+--    `mpf_tables/specs/SectionTables.antt`.
+-- 2. Names are numbered in the order of their first uses: `names_from`.
+-- 3. Each table has what the contributions give to it, in their order: `tables_of`. What one gives may depend on the
+--    mode, row, list or switch that came last, and so on those before it. What a list does, and the condition of a
+--    binding, come after it.
+--
+-- For example, the entry `a: b, c` of `event_player` gives a binding of `a`, with which a list begins, and then that
+-- this list posts `b`, and that it posts `c`. So `bindings` has one more, whose event is `a` and whose target is to run
+-- that list; and `lists` has one more, of two actions.
 use Rattle.std.specs.Prelude.{◌≡◌, ℕ, ◌+◌, ◌-◌, ◌==◌, if◌then◌else◌, cond, Bool, false, List, [], ◌∷◌, ◌++◌, Option, None, Some, Result, Ok, Err, map, length, unwrap_or}
 use Rattle.std.specs.List.{flat_map, sum_by, last_or, range_with_len}
 use Rattle.std.specs.Str.{bytes_eq}
