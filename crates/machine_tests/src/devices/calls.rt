@@ -91,22 +91,45 @@ pub(crate) fn row_of(settings: Settings) -> DeviceRow {
 /// Does the job with a new device of these settings.
 pub(crate) fn do_with<J: Job>(settings: Settings, job: &mut J) {
     let row = row_of(settings);
-    if let Some(mut counter) = Counter::new(&row) {
+    // Each function knows a few kinds: a long chain of devices, each of which may be none, is slow to prove.
+    if do_with_block(&row, job) || do_with_rule(&row, job) {
+        return;
+    }
+    do_with_balls(&row, job);
+}
+
+/// Does the job with a new logic block or timer. Returns whether the row is one.
+fn do_with_block<J: Job>(row: &DeviceRow, job: &mut J) -> bool {
+    if let Some(mut counter) = Counter::new(row) {
         job.run(&mut counter);
-    } else if let Some(mut accrual) = Accrual::new(&row) {
+        true
+    } else if let Some(mut accrual) = Accrual::new(row) {
         job.run(&mut accrual);
-    } else if let Some(mut sequence) = Sequence::new(&row) {
+        true
+    } else if let Some(mut sequence) = Sequence::new(row) {
         job.run(&mut sequence);
-    } else if let Some(mut timer) = Timer::new(&row) {
+        true
+    } else if let Some(mut timer) = Timer::new(row) {
         job.run(&mut timer);
-    } else if let Some(mut bank) = ShotBank::new(&row) {
-        job.run(&mut bank);
-    } else if let Some(mut flipper) = Flipper::new(&row) {
-        job.run(&mut flipper);
-    } else if let Some(mut autofire) = Autofire::new(&row) {
-        job.run(&mut autofire);
+        true
     } else {
-        do_with_balls(&row, job);
+        false
+    }
+}
+
+/// Does the job with a new bank of shots, flipper or autofire coil. Returns whether the row is one.
+fn do_with_rule<J: Job>(row: &DeviceRow, job: &mut J) -> bool {
+    if let Some(mut bank) = ShotBank::new(row) {
+        job.run(&mut bank);
+        true
+    } else if let Some(mut flipper) = Flipper::new(row) {
+        job.run(&mut flipper);
+        true
+    } else if let Some(mut autofire) = Autofire::new(row) {
+        job.run(&mut autofire);
+        true
+    } else {
+        false
     }
 }
 
