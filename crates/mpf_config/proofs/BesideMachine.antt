@@ -8,8 +8,8 @@ use Rattle.yaml_subset.specs.Keys.{is_among}
 use Rattle.mpf_sections.specs.Rows.{Entry, SectionRows}
 use Rattle.mpf_sections.specs.Typed.{entries_in}
 use Rattle.mpf_config.specs.Rows.{RowsFault}
-use Rattle.section_tables.specs.declared.fault.ConfigFault.{ConfigFault}
-use Rattle.section_tables.specs.declared.fault.ConfigFault.TheVariants as faults
+use Rattle.config_faults.specs.declared.fault.ConfigFault.{ConfigFault}
+use Rattle.config_faults.specs.declared.fault.ConfigFault.TheVariants as faults
 use Rattle.mpf_config.specs.View.{FailsRows, rows_fault_view}
 use Rattle.mpf_config.specs.Apart.{EntryName, AreDistinct, named_entry, entry_names, entry_key}
 use Rattle.mpf_config.specs.Reading.{entries_new_at}

@@ -1,8 +1,8 @@
 -- Lists that are read element by element, up to the first fault.
 use Rattle.std.proofs.Common.{◌≡◌, List, [], ◌∷◌, ◌++◌, Result, Ok, Err, refl, sym, ap, ◌∙◌, append_assoc}
 use Rattle.std.proofs.lemmas.List.{append-nil}
-use Rattle.section_tables.specs.declared.fault.ConfigFault.{ConfigFault}
-use Rattle.section_tables.specs.declared.fault.ConfigFault.TheVariants as faults
+use Rattle.config_faults.specs.declared.fault.ConfigFault.{ConfigFault}
+use Rattle.config_faults.specs.declared.fault.ConfigFault.TheVariants as faults
 use Rattle.mpf_config.specs.Rows.{RowsFault}
 use Rattle.mpf_config.specs.View.{rows_fault_view, FailsRows}
 use Rattle.section_tables.specs.Reading.{◌>>=◌, each_read}

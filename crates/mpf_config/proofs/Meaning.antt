@@ -8,11 +8,12 @@ use Rattle.std.proofs.lemmas.Slice.Eq.{bytes_eq-Decides}
 use Rattle.yaml_subset.specs.Keys.{is_among}
 use Rattle.yaml_subset.specs.Node.{Node, Pair}
 use Rattle.yaml_subset.specs.View.{line_of, pairs_in}
-use Rattle.section_tables.specs.declared.fault.FaultKind.TheVariants.{BadValue, Duplicate}
+use Rattle.config_faults.specs.declared.fault.FaultKind.TheVariants.{BadValue, Duplicate}
 use Rattle.mpf_tables.specs.declared.tables.TextKind.{TextKind}
 use Rattle.section_tables.specs.Kinds.{Shape, by_entries, by_players, by_entry, by_names}
 use Rattle.mpf_tables.specs.SectionTables.{shape_of}
-use Rattle.section_tables.specs.Reading.{IsReadOr, ◌>>=◌, Spot, key_spot, refused, rows_fault_at, entry_at, entries_at, players_at, names_at}
+use Rattle.section_tables.specs.Reading.{IsReadOr, ◌>>=◌, key_spot, entry_at, entries_at, players_at, names_at}
+use Rattle.config_faults.specs.Faults.{Spot, refused, rows_fault_at}
 use Rattle.section_tables.proofs.Steps.{bind_ok, guard_true, guard_false, ok_is, expected}
 use Rattle.section_tables.proofs.Outcomes.{each_sound, weaker, then_or, each_or}
 use Rattle.section_tables.proofs.EntriesRead.{entry_sound, entry_complete, entries_sound, entries_complete, players_sound, players_complete, names_sound, names_complete}

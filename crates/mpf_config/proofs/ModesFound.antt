@@ -10,11 +10,11 @@ use Rattle.std.proofs.lemmas.List.{append_cancel_left, length-append, length-map
 use Rattle.std.proofs.lemmas.List.Elements.{All-head, All-tail}
 use Rattle.std.proofs.lemmas.Slice.Eq.{bytes_eq-Decides}
 use Rattle.yaml_subset.specs.Keys.{is_among}
-use Rattle.section_tables.specs.declared.fault.FaultKind.TheVariants.{Duplicate}
+use Rattle.config_faults.specs.declared.fault.FaultKind.TheVariants.{Duplicate}
 use Rattle.mpf_tables.specs.declared.tables.TextKind.TheVariants.{Mode}
-use Rattle.section_tables.specs.Rows.{RowsFault}
+use Rattle.config_faults.specs.Faults.{RowsFault, rows_fault_at}
 use Rattle.section_tables.specs.Tables.{behind_one, found_in}
-use Rattle.section_tables.specs.Reading.{IsReadOr, ◌>>=◌, rows_fault_at}
+use Rattle.section_tables.specs.Reading.{IsReadOr, ◌>>=◌}
 use Rattle.section_tables.proofs.Steps.{bind_ok, guard_false, ok_is}
 use Rattle.section_tables.proofs.Outcomes.{weaker, then_or}
 use Rattle.mpf_sections.specs.Rows.{Written, SectionRows}

@@ -2,7 +2,7 @@
 use Rattle.std.proofs.Common.{◌≡◌, ℕ, Bool, true, false, not, ◌||◌, List, [], ◌∷◌, refl, sym, ap, ◌∙◌}
 use Rattle.std.specs.Str.{bytes_eq}
 use Rattle.yaml_subset.specs.Keys.{is_among}
-use Rattle.section_tables.specs.Reading.{Spot}
+use Rattle.config_faults.specs.Faults.{Spot}
 use Rattle.mpf_config.specs.BundleText.{machine_owner}
 use Rattle.mpf_config.specs.Rows.{Written}
 use Rattle.mpf_config.specs.Reading.{modes_new_at}

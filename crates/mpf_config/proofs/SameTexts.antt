@@ -3,11 +3,12 @@ use Rattle.std.proofs.Common.{◌≡◌, ℕ, ◌+◌, ◌<◌, Bool, true, fals
 use Rattle.std.specs.Str.{bytes_eq}
 use Rattle.std.proofs.Math.Seq.{drop-cons}
 use Rattle.yaml_subset.specs.Keys.{is_among}
-use Rattle.section_tables.specs.declared.fault.FaultKind.TheVariants.{Duplicate}
-use Rattle.section_tables.specs.declared.fault.ConfigFault.{ConfigFault}
-use Rattle.section_tables.specs.declared.fault.ConfigFault.TheVariants as faults
+use Rattle.config_faults.specs.declared.fault.FaultKind.TheVariants.{Duplicate}
+use Rattle.config_faults.specs.declared.fault.ConfigFault.{ConfigFault}
+use Rattle.config_faults.specs.declared.fault.ConfigFault.TheVariants as faults
 use Rattle.section_tables.specs.Tables.{found_in}
-use Rattle.section_tables.specs.Reading.{◌>>=◌, refused}
+use Rattle.section_tables.specs.Reading.{◌>>=◌}
+use Rattle.config_faults.specs.Faults.{refused}
 use Rattle.mpf_config.specs.declared.texts.Text as texts
 use Rattle.mpf_sections.specs.Rows.{Written, SectionRows}
 use Rattle.mpf_config.specs.Rows.{RowsFault}

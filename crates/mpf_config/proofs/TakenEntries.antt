@@ -3,10 +3,10 @@ use Rattle.std.proofs.Common.{◌≡◌, ℕ, Bool, true, false, not, ◌||◌, 
 use Rattle.std.specs.Str.{bytes_eq}
 use Rattle.std.proofs.lemmas.List.{map-append}
 use Rattle.yaml_subset.specs.Keys.{is_among}
-use Rattle.section_tables.specs.declared.fault.FaultKind.TheVariants.{Duplicate}
-use Rattle.section_tables.specs.declared.fault.ConfigFault.{ConfigFault}
-use Rattle.section_tables.specs.declared.fault.ConfigFault.TheVariants as faults
-use Rattle.section_tables.specs.Reading.{refused, rows_fault_at}
+use Rattle.config_faults.specs.declared.fault.FaultKind.TheVariants.{Duplicate}
+use Rattle.config_faults.specs.declared.fault.ConfigFault.{ConfigFault}
+use Rattle.config_faults.specs.declared.fault.ConfigFault.TheVariants as faults
+use Rattle.config_faults.specs.Faults.{refused, rows_fault_at}
 use Rattle.section_tables.proofs.Steps.{guard_false}
 use Rattle.mpf_sections.specs.Rows.{SectionRows}
 use Rattle.mpf_config.specs.Rows.{RowsFault}

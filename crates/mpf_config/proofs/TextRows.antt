@@ -9,9 +9,10 @@ use Rattle.yaml_subset.specs.Reading.{read_at}
 use Rattle.yaml_subset.proofs.LineContents.{one_content}
 use Rattle.yaml_subset.proofs.Levels.{one_tree}
 use Rattle.yaml_subset.proofs.Theorem.{read_sound, is_refused as no_tree}
-use Rattle.section_tables.specs.declared.fault.FaultKind.TheVariants.{Version}
+use Rattle.config_faults.specs.declared.fault.FaultKind.TheVariants.{Version}
 use Rattle.mpf_tables.specs.declared.tables.TextKind.{TextKind}
-use Rattle.section_tables.specs.Reading.{IsReadOr, ◌>>=◌, rows_fault_at}
+use Rattle.section_tables.specs.Reading.{IsReadOr, ◌>>=◌}
+use Rattle.config_faults.specs.Faults.{rows_fault_at}
 use Rattle.section_tables.proofs.Steps.{bind_ok, guard_true, ok_is}
 use Rattle.section_tables.proofs.Outcomes.{weaker, then_or}
 use Rattle.mpf_sections.specs.Rows.{SectionRows}

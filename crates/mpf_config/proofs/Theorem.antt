@@ -1,9 +1,10 @@
 -- The rows that are read are those of the bundle, and it has no others.
 use Rattle.std.proofs.Common.{◌≡◌, ℕ, ◌≤◌, ◌^◌, ltb, List, [], length, map, Option, Result, Ok, refl, sym, ap, subst, ◌∙◌, inl, inr, codes}
 use Rattle.std.proofs.lemmas.Bool.{cases_lt, le-ltb, lt-ltb}
-use Rattle.section_tables.specs.declared.fault.FaultKind.TheVariants.{Limit}
+use Rattle.config_faults.specs.declared.fault.FaultKind.TheVariants.{Limit}
 use Rattle.mpf_tables.specs.declared.tables.TextKind.TheVariants.{Machine}
-use Rattle.section_tables.specs.Reading.{IsReadOr, ◌>>=◌, rows_fault_at}
+use Rattle.section_tables.specs.Reading.{IsReadOr, ◌>>=◌}
+use Rattle.config_faults.specs.Faults.{rows_fault_at}
 use Rattle.section_tables.proofs.Steps.{bind_ok, guard_false, ok_is}
 use Rattle.section_tables.proofs.Outcomes.{weaker, then_or}
 use Rattle.mpf_sections.specs.Rows.{Written, SectionRows}

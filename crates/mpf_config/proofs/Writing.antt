@@ -6,7 +6,7 @@ use Rattle.std.proofs.lemmas.Grind.{flat_map-append}
 use Rattle.std.specs.Fmt.{decimal}
 use Rattle.std.specs.Io.KnownBytes.{Appends}
 use Rattle.mpf_config.specs.Rows.{RowsFault}
-use Rattle.section_tables.specs.FaultNames.{number_of, kind_name}
+use Rattle.config_faults.specs.FaultNames.{number_of, kind_name}
 use Rattle.mpf_config.specs.Escaped.{is_control, escaped_byte, escaped}
 use Rattle.mpf_config.specs.FaultLine.{spaced, fault_line}
 

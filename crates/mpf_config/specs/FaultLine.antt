@@ -3,7 +3,7 @@ use Rattle.std.specs.Prelude.{ℕ, List, [], ◌∷◌, ◌++◌, codes}
 use Rattle.std.specs.Fmt.{decimal}
 use Rattle.yaml_subset.specs.declared.fault.FaultKind as yaml
 use Rattle.yaml_subset.specs.declared.fault.FaultKind.TheVariants as yaml_kinds
-use Rattle.section_tables.specs.FaultNames.{number_of, kind_name}
+use Rattle.config_faults.specs.FaultNames.{number_of, kind_name}
 use Rattle.mpf_config.specs.Rows.{RowsFault}
 use Rattle.mpf_config.specs.Escaped.{escaped}
 

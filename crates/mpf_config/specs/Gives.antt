@@ -14,13 +14,14 @@ use Rattle.yaml_subset.specs.Keys.{is_among, copies_view}
 use Rattle.yaml_subset.specs.View.{node_view, pair_view}
 use Rattle.mpf_tables.specs.declared.tables.TextKind.{TextKind}
 use Rattle.section_tables.specs.declared.rows.Name.{Name}
-use Rattle.section_tables.specs.declared.fault.ConfigFault.{ConfigFault}
+use Rattle.config_faults.specs.declared.fault.ConfigFault.{ConfigFault}
 use Rattle.section_tables.specs.declared.nodes.MapPairs.{MapPairs}
-use Rattle.section_tables.specs.declared.spot.Spot as spots
+use Rattle.config_faults.specs.declared.spot.Spot as spots
 use Rattle.section_tables.specs.declared.table.Shape as shapes
 use Rattle.section_tables.specs.Tables.{found_in}
 use Rattle.section_tables.specs.TableView.{shape_view}
-use Rattle.section_tables.specs.View.{names_view, spot_view, pairs_view, pairs_in_view, found_view}
+use Rattle.section_tables.specs.View.{names_view, pairs_view, pairs_in_view, found_view}
+use Rattle.config_faults.specs.Faults.{spot_view}
 use Rattle.mpf_sections.specs.declared.section.Content as contents
 use Rattle.mpf_sections.specs.declared.section.Section.{Section}
 use Rattle.mpf_sections.specs.Rows.{Written, Content, SectionRows}

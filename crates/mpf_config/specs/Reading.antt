@@ -8,13 +8,14 @@ use Rattle.yaml_subset.specs.Node.{Node, Pair}
 use Rattle.yaml_subset.specs.Reading.{read_at}
 use Rattle.yaml_subset.specs.Keys.{is_among}
 use Rattle.yaml_subset.specs.View.{line_of, pairs_in}
-use Rattle.section_tables.specs.declared.fault.FaultKind.TheVariants.{Bundle, Version, Yaml, UnknownSection, BadValue, Duplicate, Limit}
+use Rattle.config_faults.specs.declared.fault.FaultKind.TheVariants.{Bundle, Version, Yaml, UnknownSection, BadValue, Duplicate, Limit}
 use Rattle.mpf_tables.specs.declared.tables.TextKind.{TextKind}
 use Rattle.mpf_tables.specs.declared.tables.TextKind.TheVariants.{Machine, Mode}
 use Rattle.section_tables.specs.Kinds.{Shape, by_entries, by_players, by_entry, by_names}
 use Rattle.mpf_tables.specs.SectionTables.{mode_name, shape_of}
 use Rattle.section_tables.specs.Tables.{found_in}
-use Rattle.section_tables.specs.Reading.{Spot, refused, key_spot, expect, each_read, entry_at, entries_at, players_at, names_at}
+use Rattle.section_tables.specs.Reading.{key_spot, expect, each_read, entry_at, entries_at, players_at, names_at}
+use Rattle.config_faults.specs.Faults.{Spot, refused}
 use Rattle.mpf_sections.specs.Rows.{Written, Content, entries, players, entry, listed, SectionRows, ModeSettings}
 use Rattle.mpf_config.specs.Rows.{Rows, RowsFault}
 use Rattle.mpf_config.specs.FaultLine.{yaml_kind_name}

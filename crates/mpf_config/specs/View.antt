@@ -5,7 +5,8 @@ use Rattle.mpf_config.specs.declared.config.Note as notes
 use Rattle.mpf_config.specs.declared.config.Config.{Config}
 use Rattle.mpf_config.specs.Rows.{Note, Rows}
 pub use Rattle.mpf_config.specs.ModeView.{mode_view}
-pub use Rattle.section_tables.specs.View.{name_view, rows_fault_view, FailsRows, GivesRows}
+pub use Rattle.section_tables.specs.View.{name_view}
+pub use Rattle.config_faults.specs.Faults.{rows_fault_view, FailsRows, GivesRows}
 
 abbrev pub note_view : notes.Note → Note
 note_view n = record { kind = n.kind; text = n.text.items; line = n.line; name = n.name.items }

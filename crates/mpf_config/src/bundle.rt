@@ -4,7 +4,7 @@ ghost use Rattle.std.specs.Prelude.{◌≡◌, ◌≢◌, ℕ, List, map, IfOk, 
 ghost use Rattle.mpf_config.specs.Reading.{rows_at, mode_names_at};
 ghost use Rattle.mpf_config.specs.Rows.{Rows};
 ghost use Rattle.mpf_config.specs.RowsOf.{Sizes, within_limits, IsRowsOf, IsAbove, AreModesOf, IsTextOver};
-ghost use Rattle.section_tables.specs.declared.fault.ConfigFault.TheVariants.{NoMemory};
+ghost use Rattle.config_faults.specs.declared.fault.ConfigFault.TheVariants.{NoMemory};
 ghost use Rattle.mpf_config.specs.View.{rows_view};
 ghost use Rattle.mpf_config.specs.Inside.{names_only_view};
 ghost use Rattle.mpf_config.specs.Gives.{GivesModes, GivesMachine, GivesConfig, GivesModeNames, AreEntriesDistinct, machine_in_texts, modes_of_machine, AreTextsOf};

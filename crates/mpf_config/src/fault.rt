@@ -6,7 +6,7 @@ ghost use Rattle.mpf_config.specs.FaultLine.{fault_line};
 ghost use Rattle.mpf_config.specs.View.{rows_fault_view};
 
 use crate::escape::write_escaped;
-pub use section_tables::fault::{ConfigFault, Fault, FaultKind};
+pub use config_faults::{ConfigFault, Fault, FaultKind};
 use std::io::{self, Write};
 
 /// Writes the line of a fault, `error NUMBER NAME TEXT LINE KEY`, the text and the key as

@@ -2,7 +2,8 @@
 
 ghost use Rattle.std.specs.Prelude.{◌≡◌};
 ghost use Rattle.yaml_subset.specs.View.{pair_view};
-ghost use Rattle.section_tables.specs.View.{spot_view, pairs_view};
+ghost use Rattle.section_tables.specs.View.{pairs_view};
+ghost use Rattle.config_faults.specs.Faults.{spot_view};
 ghost use Rattle.mpf_config.specs.Reading.{has_right_starts, keeps_to_ball_end, line_of_key, starts_spot};
 ghost use Rattle.mpf_sections.specs.View.{content_view, mode_settings_view};
 ghost use Rattle.mpf_config.specs.Gives.{Passes, GivesPairs, GivesNames, GivesContent, GivesSection, GivesSections, pairs_of_tree, modes_all_new, modes_of_entry, content_of_entry, section_of_entry, sections_of_entries};
@@ -11,11 +12,11 @@ use crate::config::{Content, Section};
 use crate::fault::{ConfigFault, FaultKind};
 use crate::spot::line_of;
 use crate::unread::is_skipped;
+use config_faults::{Spot, spot_of};
 use mpf_sections::{ModeSettings, as_mode_settings};
 use mpf_tables::tables::MODE_NAME;
 use mpf_tables::{TextKind, shape_of};
 use section_tables::rows::Name;
-use section_tables::spot::{Spot, spot_of};
 use section_tables::table::Shape;
 use section_tables::{MapPairs, entries, entry as read_entry, name_list, players};
 use std::alloc::Global;
@@ -105,7 +106,7 @@ fn keeps_to_ball_end(section: &[u8], content: &Content) -> bool
 {
     match content {
         Content::Entry(entry) if section == MODE_NAME => {
-            has_right_starts(as_mode_settings(entry.values()))
+            has_right_starts(as_mode_settings(entry))
         }
         _ => true,
     }

@@ -1,10 +1,10 @@
 //! Lines where faults stand.
 
 ghost use Rattle.std.specs.Prelude.{◌≡◌};
-ghost use Rattle.section_tables.specs.View.{spot_view};
+ghost use Rattle.config_faults.specs.Faults.{spot_view};
 ghost use Rattle.mpf_config.specs.Reading.{line_spot};
 
-use section_tables::spot::Spot;
+use config_faults::Spot;
 
 /// Stands for the text or the key where a fault has none.
 pub const NONE: &[u8] = b"-";

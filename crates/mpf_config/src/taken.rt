@@ -3,14 +3,14 @@
 ghost use Rattle.std.specs.Prelude.{◌≡◌, ◌++◌, [], false, map, IfOk, IfErr};
 ghost use Rattle.std.specs.Str.{bytes_eq};
 ghost use Rattle.yaml_subset.specs.Keys.{is_among};
-ghost use Rattle.section_tables.specs.declared.fault.ConfigFault.TheVariants.{NoMemory};
+ghost use Rattle.config_faults.specs.declared.fault.ConfigFault.TheVariants.{NoMemory};
 ghost use Rattle.mpf_config.specs.Apart.{joined, entry_key};
 ghost use Rattle.mpf_config.specs.Gives.{Passes, entries_of_section, entries_of_sections, keys_of_sections, is_new_key, TakesKeys, GainsKeys, AreTaken, AreEntriesDistinct, keys_taken, entries_all_new, entries_new_beside};
 
 use crate::config::Section;
 use crate::fault::{ConfigFault, FaultKind};
 use crate::texts::MACHINE_NAME;
-use section_tables::spot::Spot;
+use config_faults::Spot;
 use std::alloc::{AllocError, Global};
 use std::borrow::CowSlice;
 use yaml_subset::keys::{KeySet, take_key};

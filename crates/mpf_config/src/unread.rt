@@ -3,7 +3,7 @@
 
 ghost use Rattle.std.specs.Prelude.{◌≡◌, IfOk, IfErr};
 ghost use Rattle.mpf_config.specs.Unread.{is_skipped, has_text};
-ghost use Rattle.section_tables.specs.declared.fault.ConfigFault.TheVariants.{NoMemory};
+ghost use Rattle.config_faults.specs.declared.fault.ConfigFault.TheVariants.{NoMemory};
 ghost use Rattle.mpf_config.specs.Inside.{texts_view};
 ghost use Rattle.mpf_config.specs.Gives.{GainsNotes, IsSkippedNote, IsAbsentNote, IsUnlistedNote, notes_on_absent, notes_on_unlisted, AreMachineNotes, AreModeNotes};
 

@@ -8,7 +8,7 @@ ghost use Rattle.mpf_config.specs.Gives.{GivesTree};
 
 use crate::fault::{ConfigFault, FaultKind};
 use crate::spot::line_of;
-use section_tables::spot::Spot;
+use config_faults::Spot;
 use std::alloc::Global;
 use yaml_bytes::{split_line, trimmed};
 use yaml_subset::fault::{FaultKind as YamlKind, YamlFault};

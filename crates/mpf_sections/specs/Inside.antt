@@ -13,7 +13,7 @@ use Rattle.section_tables.specs.declared.rows.Keyed as keyed_rows
 use Rattle.section_tables.specs.declared.rows.Entry as entry_rows
 use Rattle.section_tables.specs.Rows.{Written, Plain, Value, Entry, name as named}
 use Rattle.section_tables.specs.Entries.{written_at}
-use Rattle.section_tables.specs.View.{value_view, values_view, plains_view}
+use Rattle.section_tables.specs.View.{value_view, plains_view}
 use Rattle.mpf_sections.specs.declared.section.Content as contents
 use Rattle.mpf_sections.specs.declared.section.Section.{Section}
 use Rattle.mpf_sections.specs.declared.typed.NameAt.{NameAt}
@@ -43,8 +43,8 @@ abbrev pub needed_at : ℕ → Entry → Written
 needed_at place e = unwrap_or (name_in (text_of (slice_get e.values place))) e.name
 
 -- the settings of a logic block, from this place on in a row of the program
-abbrev pub IsBlockAt : ℕ → List value_rows.Value → typed_blocks.Block → Type 0
-IsBlockAt first row block = block_view block ≡ block_at first (values_view row)
+abbrev pub IsBlockAt : ℕ → entry_rows.Entry → typed_blocks.Block → Type 0
+IsBlockAt first entry block = block_view block ≡ block_at first (entry_view entry).values
 
 -- the name at a place of an entry of the program; its own where there is none
 abbrev pub IsNeededAt : ℕ → entry_rows.Entry → NameAt → Type 0
@@ -52,45 +52,45 @@ IsNeededAt place entry name = name_at_view name ≡ needed_at place (entry_view 
 
 -- ---- rows
 
--- the value at a place of a row
-abbrev pub value_at : List value_rows.Value → ℕ → Option Value
-value_at row place = slice_get (values_view row) place
+-- the value at a place of an entry
+abbrev pub value_at : entry_rows.Entry → ℕ → Option Value
+value_at entry place = slice_get (entry_view entry).values place
 
--- the text at a place of a row, if there is one
-abbrev pub IsTextAt : List value_rows.Value → ℕ → Option (Bor plain_rows.Plain) → Type 0
-IsTextAt row place text = plain_option_view text ≡ text_of (value_at row place)
+-- the text at a place of an entry, if there is one
+abbrev pub IsTextAt : entry_rows.Entry → ℕ → Option (Bor plain_rows.Plain) → Type 0
+IsTextAt entry place text = plain_option_view text ≡ text_of (value_at entry place)
 
--- the names that are listed at a place of a row
-abbrev pub AreNamesAt : List value_rows.Value → ℕ → List Name → Type 0
-AreNamesAt row place names = map name_view names ≡ listed_names (value_at row place)
+-- the names that are listed at a place of an entry
+abbrev pub AreNamesAt : entry_rows.Entry → ℕ → List Name → Type 0
+AreNamesAt entry place names = map name_view names ≡ listed_names (value_at entry place)
 
--- the names that are listed at a place of a row, where they are 16 at most
-abbrev pub AreFewNamesAt : List value_rows.Value → ℕ → List Name → Type 0
-AreFewNamesAt row place names = map name_view names ≡ few (listed_names (value_at row place))
+-- the names that are listed at a place of an entry, where they are 16 at most
+abbrev pub AreFewNamesAt : entry_rows.Entry → ℕ → List Name → Type 0
+AreFewNamesAt entry place names = map name_view names ≡ few (listed_names (value_at entry place))
 
--- the handled events that are listed at a place of a row
-abbrev pub AreEventsAt : List value_rows.Value → ℕ → List Handler → Type 0
-AreEventsAt row place events = map handler_view events ≡ listed_events (value_at row place)
+-- the handled events that are listed at a place of an entry
+abbrev pub AreEventsAt : entry_rows.Entry → ℕ → List Handler → Type 0
+AreEventsAt entry place events = map handler_view events ≡ listed_events (value_at entry place)
 
 -- the posted events that a value lists
 abbrev pub ArePostsOf : value_rows.Value → List Name → Type 0
 ArePostsOf value posts = map name_view posts ≡ listed_posts (Some (value_view value))
 
--- the posted events that are listed at a place of a row
-abbrev pub ArePostsAt : List value_rows.Value → ℕ → List Name → Type 0
-ArePostsAt row place posts = map name_view posts ≡ listed_posts (value_at row place)
+-- the posted events that are listed at a place of an entry
+abbrev pub ArePostsAt : entry_rows.Entry → ℕ → List Name → Type 0
+ArePostsAt entry place posts = map name_view posts ≡ listed_posts (value_at entry place)
 
--- the steps at a place of a row
-abbrev pub AreStepsAt : List value_rows.Value → ℕ → List (Vec Handler) → Type 0
-AreStepsAt row place steps = map handlers_view steps ≡ listed_steps (value_at row place)
+-- the steps at a place of an entry
+abbrev pub AreStepsAt : entry_rows.Entry → ℕ → List (Vec Handler) → Type 0
+AreStepsAt entry place steps = map handlers_view steps ≡ listed_steps (value_at entry place)
 
--- the maps that are listed at a place of a row
-abbrev pub AreMapsAt : List value_rows.Value → ℕ → List field_rows.Fields → Type 0
-AreMapsAt row place maps = map fields_view maps ≡ listed_maps (value_at row place)
+-- the maps that are listed at a place of an entry
+abbrev pub AreMapsAt : entry_rows.Entry → ℕ → List field_rows.Fields → Type 0
+AreMapsAt entry place maps = map fields_view maps ≡ listed_maps (value_at entry place)
 
--- the maps that are listed at a place of a row, where they are 16 at most
-abbrev pub AreFewMapsAt : List value_rows.Value → ℕ → List field_rows.Fields → Type 0
-AreFewMapsAt row place maps = map fields_view maps ≡ few (listed_maps (value_at row place))
+-- the maps that are listed at a place of an entry, where they are 16 at most
+abbrev pub AreFewMapsAt : entry_rows.Entry → ℕ → List field_rows.Fields → Type 0
+AreFewMapsAt entry place maps = map fields_view maps ≡ few (listed_maps (value_at entry place))
 
 -- the names of a value, with what belongs to each
 abbrev pub AreKeyedOf : value_rows.Value → List keyed_rows.Keyed → Type 0

@@ -3,12 +3,10 @@ use Rattle.std.specs.Prelude.{◌≡◌, ℕ, List, map, Option, option_map}
 use Rattle.std.specs.Borrow.{Bor}
 use Rattle.section_tables.specs.declared.rows.Name.{Name}
 use Rattle.section_tables.specs.declared.rows.Handler.{Handler}
-use Rattle.section_tables.specs.declared.rows.Value as value_rows
 use Rattle.section_tables.specs.declared.rows.Fields as field_rows
 use Rattle.section_tables.specs.declared.rows.Keyed as keyed_rows
 use Rattle.section_tables.specs.declared.rows.Entry as entry_rows
 use Rattle.section_tables.specs.declared.rows.Player as player_rows
-use Rattle.section_tables.specs.View.{values_view}
 use Rattle.mpf_sections.specs.declared.section.Content as contents
 use Rattle.mpf_sections.specs.declared.section.Section.{Section}
 use Rattle.mpf_sections.specs.declared.typed.NameAt.{NameAt}
@@ -146,9 +144,9 @@ IsGameOf entry game = game_view game ≡ game_of (entry_view entry)
 abbrev pub min_balls_in : List Section → ℕ
 min_balls_in sections = min_balls_of (map section_view sections)
 
--- the settings of a mode that this row says
-abbrev pub AreModeSettingsOf : List value_rows.Value → typed_settings.ModeSettings → Type 0
-AreModeSettingsOf row settings = mode_settings_view settings ≡ mode_settings_of (values_view row)
+-- the settings of a mode that this entry says
+abbrev pub AreModeSettingsOf : entry_rows.Entry → typed_settings.ModeSettings → Type 0
+AreModeSettingsOf entry settings = mode_settings_view settings ≡ mode_settings_of (entry_view entry).values
 
 -- the settings of the mode whose text has these sections
 abbrev pub AreModeSettingsIn : List Section → typed_settings.ModeSettings → Type 0

@@ -71,10 +71,10 @@ const HOME: &[u8] = b"home";
 const DRAIN: &[u8] = b"drain";
 
 // The number of attempts at a place of a row: up to 1,000; 0 where there is no such number.
-fn attempts(row: &[Value], at: usize) -> u16
-    ensures { result ≡ natural_within 0 1000 0 (value_at row.now at) }
+fn attempts(entry: &Entry, at: usize) -> u16
+    ensures { result ≡ natural_within 0 1000 0 (value_at entry.now at) }
 {
-    match row.get(at) {
+    match entry.value(at) {
         Some(Value::One(Plain::Number(number))) => match u16::try_from(*number) {
             Ok(n) if n <= 1_000 => n,
             _ => 0,
@@ -88,18 +88,17 @@ fn attempts(row: &[Value], at: usize) -> u16
 pub fn as_ball_device(entry: &Entry) -> BallDevice<'_>
     ensures { IsBallDeviceOf entry.now result }
 {
-    let row = entry.values();
     BallDevice {
         name: &entry.name,
-        switches: few_names(row, BALL_SWITCHES),
-        eject_coil: name(text(row, EJECT_COIL)),
-        target: name_or(text(row, EJECT_TARGETS), PLAYFIELD),
-        timeout: some_time(row, EJECT_TIMEOUTS, 10_000),
-        entrance_delay: some_time(row, ENTRANCE_COUNT_DELAY, 500),
-        exit_delay: some_time(row, EXIT_COUNT_DELAY, 500),
-        mechanical: flag(row, MECHANICAL_EJECT),
-        max_attempts: attempts(row, MAX_EJECT_ATTEMPTS),
-        tags: names(row, TAGS),
+        switches: few_names(entry, BALL_SWITCHES),
+        eject_coil: name(text(entry, EJECT_COIL)),
+        target: name_or(text(entry, EJECT_TARGETS), PLAYFIELD),
+        timeout: some_time(entry, EJECT_TIMEOUTS, 10_000),
+        entrance_delay: some_time(entry, ENTRANCE_COUNT_DELAY, 500),
+        exit_delay: some_time(entry, EXIT_COUNT_DELAY, 500),
+        mechanical: flag(entry, MECHANICAL_EJECT),
+        max_attempts: attempts(entry, MAX_EJECT_ATTEMPTS),
+        tags: names(entry, TAGS),
         order: entry.order(),
     }
 }

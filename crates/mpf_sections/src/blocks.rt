@@ -6,7 +6,7 @@ ghost use Rattle.mpf_sections.specs.TypedOf.{IsCounterOf, IsStepBlockOf};
 
 use crate::values::{direction, flag, handlers, limit, milliseconds, number, posts_at, steps};
 use crate::words::Direction;
-use section_tables::rows::{Entry, Handler, Name, Value};
+use section_tables::rows::{Entry, Handler, Name};
 
 /// The settings that all logic blocks have.
 #[derive(Clone, Copy)]
@@ -98,20 +98,20 @@ pub const STEPS_HIT: usize = 8;
 pub const STEPS_COMPLETE: usize = 9;
 
 // The settings that all logic blocks have, from this place on in a row.
-fn as_block(row: &[Value], first: usize) -> Block<'_>
+fn as_block(entry: &Entry, first: usize) -> Block<'_>
     requires { first ≤ 6 }
-    ensures { IsBlockAt first row.now result }
+    ensures { IsBlockAt first entry.now result }
 {
     Block {
-        reset_on_complete: flag(row, first),
-        disable_on_complete: flag(row, first + 1),
-        persist: flag(row, first + 2),
-        enables: handlers(row, first + 3),
-        disables: handlers(row, first + 4),
-        resets: handlers(row, first + 5),
-        restarts: handlers(row, first + 6),
-        hit: posts_at(row, first + 7),
-        complete: posts_at(row, first + 8),
+        reset_on_complete: flag(entry, first),
+        disable_on_complete: flag(entry, first + 1),
+        persist: flag(entry, first + 2),
+        enables: handlers(entry, first + 3),
+        disables: handlers(entry, first + 4),
+        resets: handlers(entry, first + 5),
+        restarts: handlers(entry, first + 6),
+        hit: posts_at(entry, first + 7),
+        complete: posts_at(entry, first + 8),
     }
 }
 
@@ -120,16 +120,15 @@ fn as_block(row: &[Value], first: usize) -> Block<'_>
 pub fn as_counter(entry: &Entry) -> Counter<'_>
     ensures { IsCounterOf entry.now result }
 {
-    let row = entry.values();
     Counter {
         name: &entry.name,
-        counts: handlers(row, COUNT_EVENTS),
-        start: number(row, STARTING_COUNT),
-        interval: number(row, COUNT_INTERVAL),
-        end: limit(row, COUNT_COMPLETE_VALUE),
-        direction: direction(row, DIRECTION),
-        window: milliseconds(row, MULTIPLE_HIT_WINDOW),
-        block: as_block(row, BLOCK_OF_COUNTER),
+        counts: handlers(entry, COUNT_EVENTS),
+        start: number(entry, STARTING_COUNT),
+        interval: number(entry, COUNT_INTERVAL),
+        end: limit(entry, COUNT_COMPLETE_VALUE),
+        direction: direction(entry, DIRECTION),
+        window: milliseconds(entry, MULTIPLE_HIT_WINDOW),
+        block: as_block(entry, BLOCK_OF_COUNTER),
         order: entry.order(),
     }
 }
@@ -139,11 +138,10 @@ pub fn as_counter(entry: &Entry) -> Counter<'_>
 pub fn as_step_block(entry: &Entry) -> StepBlock<'_>
     ensures { IsStepBlockOf entry.now result }
 {
-    let row = entry.values();
     StepBlock {
         name: &entry.name,
-        steps: steps(row, EVENTS),
-        block: as_block(row, BLOCK_OF_STEPS),
+        steps: steps(entry, EVENTS),
+        block: as_block(entry, BLOCK_OF_STEPS),
         order: entry.order(),
     }
 }

@@ -71,8 +71,7 @@ const AUTOFIRE_DISABLES: usize = 3;
 fn needed_name(entry: &Entry, at: usize) -> NameAt<'_>
     ensures { IsNeededAt at entry.now result }
 {
-    let row = entry.values();
-    match name(text(row, at)) {
+    match name(text(entry, at)) {
         Some(name) => name,
         None => NameAt {
             line: entry.name.line,
@@ -86,14 +85,13 @@ fn needed_name(entry: &Entry, at: usize) -> NameAt<'_>
 pub fn as_flipper(entry: &Entry) -> Flipper<'_>
     ensures { IsFlipperOf entry.now result }
 {
-    let row = entry.values();
     Flipper {
         name: &entry.name,
         main_coil: needed_name(entry, MAIN_COIL),
-        hold_coil: name(text(row, HOLD_COIL)),
+        hold_coil: name(text(entry, HOLD_COIL)),
         switch: needed_name(entry, ACTIVATION_SWITCH),
-        enables: handlers(row, FLIPPER_ENABLES),
-        disables: handlers(row, FLIPPER_DISABLES),
+        enables: handlers(entry, FLIPPER_ENABLES),
+        disables: handlers(entry, FLIPPER_DISABLES),
         order: entry.order(),
     }
 }
@@ -103,13 +101,12 @@ pub fn as_flipper(entry: &Entry) -> Flipper<'_>
 pub fn as_autofire(entry: &Entry) -> Autofire<'_>
     ensures { IsAutofireOf entry.now result }
 {
-    let row = entry.values();
     Autofire {
         name: &entry.name,
         coil: needed_name(entry, COIL),
         switch: needed_name(entry, SWITCH),
-        enables: handlers(row, AUTOFIRE_ENABLES),
-        disables: handlers(row, AUTOFIRE_DISABLES),
+        enables: handlers(entry, AUTOFIRE_ENABLES),
+        disables: handlers(entry, AUTOFIRE_DISABLES),
         order: entry.order(),
     }
 }

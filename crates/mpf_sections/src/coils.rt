@@ -116,17 +116,16 @@ fn max_hold_power(written: Option<u16>, allowed: bool, power: Option<u16>) -> u1
 pub fn as_coil(entry: &Entry) -> Coil<'_>
     ensures { IsCoilOf entry.now result }
 {
-    let row = entry.values();
-    let pulse_ms = pulse(text(row, DEFAULT_PULSE_MS)).unwrap_or(10);
-    let allowed = flag(row, ALLOW_ENABLE);
-    let hold_power = power(text(row, DEFAULT_HOLD_POWER));
-    let greatest = max_hold_power(power(text(row, MAX_HOLD_POWER)), allowed, hold_power);
+    let pulse_ms = pulse(text(entry, DEFAULT_PULSE_MS)).unwrap_or(10);
+    let allowed = flag(entry, ALLOW_ENABLE);
+    let hold_power = power(text(entry, DEFAULT_HOLD_POWER));
+    let greatest = max_hold_power(power(text(entry, MAX_HOLD_POWER)), allowed, hold_power);
     Coil {
         name: &entry.name,
         pulse_ms,
-        max_pulse_ms: pulse(text(row, MAX_PULSE_MS)).unwrap_or(pulse_ms),
-        pulse_power: power(text(row, DEFAULT_PULSE_POWER)).unwrap_or(1_000),
-        max_pulse_power: power(text(row, MAX_PULSE_POWER)).unwrap_or(1_000),
+        max_pulse_ms: pulse(text(entry, MAX_PULSE_MS)).unwrap_or(pulse_ms),
+        pulse_power: power(text(entry, DEFAULT_PULSE_POWER)).unwrap_or(1_000),
+        max_pulse_power: power(text(entry, MAX_PULSE_POWER)).unwrap_or(1_000),
         may_hold: may_hold(allowed, hold_power),
         hold_power: hold_power.unwrap_or(greatest),
         max_hold_power: greatest,

@@ -92,10 +92,9 @@ pub fn as_variable_player(player: &Player) -> VariablePlayer<'_>
 pub fn as_game(entry: &Entry) -> GameSettings
     ensures { IsGameOf entry.now result }
 {
-    let row = entry.values();
     GameSettings {
-        balls_per_game: natural_within(row, BALLS_PER_GAME, 1, 99, 3),
-        max_players: natural_within(row, MAX_PLAYERS, 1, 4, 4),
+        balls_per_game: natural_within(entry, BALLS_PER_GAME, 1, 99, 3),
+        max_players: natural_within(entry, MAX_PLAYERS, 1, 4, 4),
     }
 }
 
@@ -105,7 +104,7 @@ pub fn min_balls(sections: &[Section]) -> u32
     ensures { result ≡ min_balls_in sections.now }
 {
     match section_named(sections, MACHINE_SECTION_NAME) {
-        Some(Content::Entry(entry)) => natural_within(entry.values(), MIN_BALLS, 0, 99, 1),
+        Some(Content::Entry(entry)) => natural_within(entry, MIN_BALLS, 0, 99, 1),
         _ => 1,
     }
 }

@@ -49,10 +49,10 @@ const START_EVENTS: usize = 1;
 
 // The number of balls at a place of a row: at most 99, and at least this; this where there is no such
 // number.
-fn balls(row: &[Value], at: usize, least: u8) -> u8
-    ensures { result ≡ natural_within least 99 least (value_at row.now at) }
+fn balls(entry: &Entry, at: usize, least: u8) -> u8
+    ensures { result ≡ natural_within least 99 least (value_at entry.now at) }
 {
-    match row.get(at) {
+    match entry.value(at) {
         Some(Value::One(Plain::Number(number))) => match u8::try_from(*number) {
             Ok(n) if least <= n && n <= 99 => n,
             _ => least,
@@ -66,13 +66,12 @@ fn balls(row: &[Value], at: usize, least: u8) -> u8
 pub fn as_ball_save(entry: &Entry) -> BallSave<'_>
     ensures { IsBallSaveOf entry.now result }
 {
-    let row = entry.values();
     BallSave {
         name: &entry.name,
-        active_time: milliseconds(row, ACTIVE_TIME),
-        balls: balls(row, BALLS_TO_SAVE, 1),
-        enable_events: handlers(row, ENABLE_EVENTS),
-        disable_events: handlers(row, DISABLE_EVENTS),
+        active_time: milliseconds(entry, ACTIVE_TIME),
+        balls: balls(entry, BALLS_TO_SAVE, 1),
+        enable_events: handlers(entry, ENABLE_EVENTS),
+        disable_events: handlers(entry, DISABLE_EVENTS),
     }
 }
 
@@ -81,10 +80,9 @@ pub fn as_ball_save(entry: &Entry) -> BallSave<'_>
 pub fn as_multiball(entry: &Entry) -> Multiball<'_>
     ensures { IsMultiballOf entry.now result }
 {
-    let row = entry.values();
     Multiball {
         name: &entry.name,
-        balls: balls(row, BALL_COUNT, 2),
-        start_events: handlers(row, START_EVENTS),
+        balls: balls(entry, BALL_COUNT, 2),
+        start_events: handlers(entry, START_EVENTS),
     }
 }

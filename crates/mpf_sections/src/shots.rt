@@ -6,7 +6,7 @@ ghost use Rattle.mpf_sections.specs.Inside.{AreFewMapsAt};
 use crate::typed::NameAt;
 use crate::values::{few_names, field, flag, handlers, maps, name, name_or, text};
 use mpf_tables::tables::DEFAULT_PROFILE;
-use section_tables::rows::{Entry, Fields, Handler, Name, Value};
+use section_tables::rows::{Entry, Fields, Handler, Name};
 
 /// An entry of `shots`.
 #[derive(Clone, Copy)]
@@ -101,28 +101,29 @@ const LOOP: usize = 2;
 const STATE_NAME: usize = 0;
 
 // The maps at a place of a row, 16 at most.
-fn few_maps(row: &[Value], at: usize) -> &[Fields]
-    ensures { AreFewMapsAt row.now at result.now }
+fn few_maps(entry: &Entry, at: usize) -> &[Fields]
+    ensures { AreFewMapsAt entry.now at result.now }
 {
-    let maps = maps(row, at);
+    let maps = maps(entry, at);
     if maps.len() <= 16 { maps } else { &[] }
 }
 
 /// An entry of `shots`, by the names of its settings.
+// Inlined, so that a caller that reads one setting does not read the others.
+#[inline(always)]
 #[tactic(auto, unfolding(crate::specs::TypedShots::shot_of))]
 pub fn as_shot(entry: &Entry) -> Shot<'_>
     ensures { IsShotOf entry.now result }
 {
-    let row = entry.values();
     Shot {
         name: &entry.name,
-        switch: name(text(row, SWITCH)),
-        hits: handlers(row, HITS),
-        profile: name_or(text(row, PROFILE), DEFAULT_PROFILE),
-        advances: handlers(row, ADVANCES),
-        resets: handlers(row, SHOT_RESETS),
-        enables: handlers(row, ENABLES),
-        disables: handlers(row, DISABLES),
+        switch: name(text(entry, SWITCH)),
+        hits: handlers(entry, HITS),
+        profile: name_or(text(entry, PROFILE), DEFAULT_PROFILE),
+        advances: handlers(entry, ADVANCES),
+        resets: handlers(entry, SHOT_RESETS),
+        enables: handlers(entry, ENABLES),
+        disables: handlers(entry, DISABLES),
         order: entry.order(),
     }
 }
@@ -132,14 +133,13 @@ pub fn as_shot(entry: &Entry) -> Shot<'_>
 pub fn as_shot_group(entry: &Entry) -> ShotGroup<'_>
     ensures { IsShotGroupOf entry.now result }
 {
-    let row = entry.values();
     ShotGroup {
         name: &entry.name,
-        shots: few_names(row, SHOTS),
-        rotates: handlers(row, ROTATES),
-        rotates_right: handlers(row, ROTATES_RIGHT),
-        rotates_left: handlers(row, ROTATES_LEFT),
-        resets: handlers(row, GROUP_RESETS),
+        shots: few_names(entry, SHOTS),
+        rotates: handlers(entry, ROTATES),
+        rotates_right: handlers(entry, ROTATES_RIGHT),
+        rotates_left: handlers(entry, ROTATES_LEFT),
+        resets: handlers(entry, GROUP_RESETS),
     }
 }
 
@@ -156,11 +156,10 @@ pub fn as_state(map: &Fields) -> Option<NameAt<'_>>
 pub fn as_shot_profile(entry: &Entry) -> ShotProfile<'_>
     ensures { IsShotProfileOf entry.now result }
 {
-    let row = entry.values();
     ShotProfile {
         name: &entry.name,
-        states: few_maps(row, STATES),
-        advance_on_hit: flag(row, ADVANCE_ON_HIT),
-        loops: flag(row, LOOP),
+        states: few_maps(entry, STATES),
+        advance_on_hit: flag(entry, ADVANCE_ON_HIT),
+        loops: flag(entry, LOOP),
     }
 }

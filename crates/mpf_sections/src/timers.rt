@@ -146,16 +146,15 @@ pub fn as_control(map: &Fields) -> Option<Control<'_>>
 pub fn as_timer(entry: &Entry) -> Timer<'_>
     ensures { IsTimerOf entry.now result }
 {
-    let row = entry.values();
-    let direction = direction(row, DIRECTION);
+    let direction = direction(entry, DIRECTION);
     Timer {
         name: &entry.name,
-        start: number(row, START_VALUE),
-        end: end_from(direction, limit(row, END_VALUE)),
+        start: number(entry, START_VALUE),
+        end: end_from(direction, limit(entry, END_VALUE)),
         direction,
-        interval: interval_from(milliseconds(row, TICK_INTERVAL)),
-        start_running: flag(row, START_RUNNING),
-        restart: flag(row, RESTART_ON_COMPLETE),
-        controls: maps(row, CONTROL_EVENTS),
+        interval: interval_from(milliseconds(entry, TICK_INTERVAL)),
+        start_running: flag(entry, START_RUNNING),
+        restart: flag(entry, RESTART_ON_COMPLETE),
+        controls: maps(entry, CONTROL_EVENTS),
     }
 }

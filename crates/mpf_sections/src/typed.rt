@@ -10,7 +10,7 @@ use crate::section::{Content, Section};
 use crate::values::{flag, handled, handlers, names, natural, posts, posts_at, word};
 use crate::words::{Contact, Debounce};
 use mpf_tables::tables::{MODE_NAME, MODES_NAME};
-use section_tables::rows::{Entry, Guard, Handler, Name, Player, Value};
+use section_tables::rows::{Entry, Guard, Handler, Name, Player};
 
 /// A name where it is written.
 #[derive(Clone, Copy)]
@@ -132,14 +132,13 @@ fn debounce_of(word: &[u8]) -> Debounce
 pub fn as_switch(entry: &Entry) -> Switch<'_>
     ensures { IsSwitchOf entry.now result }
 {
-    let row = entry.values();
     Switch {
         name: &entry.name,
-        contact: contact_of(word(row, TYPE)),
-        debounce: debounce_of(word(row, DEBOUNCE)),
-        tags: names(row, TAGS),
-        activated: posts_at(row, ACTIVATED),
-        deactivated: posts_at(row, DEACTIVATED),
+        contact: contact_of(word(entry, TYPE)),
+        debounce: debounce_of(word(entry, DEBOUNCE)),
+        tags: names(entry, TAGS),
+        activated: posts_at(entry, ACTIVATED),
+        deactivated: posts_at(entry, DEACTIVATED),
         order: entry.order(),
     }
 }
@@ -191,16 +190,16 @@ fn default_settings<'a>() -> ModeSettings<'a>
 
 /// The row of `mode`, by the names of its settings.
 #[tactic(auto, unfolding(crate::specs::Typed::mode_settings_of))]
-pub fn as_mode_settings(row: &[Value]) -> ModeSettings<'_>
-    ensures { AreModeSettingsOf row.now result }
+pub fn as_mode_settings(entry: &Entry) -> ModeSettings<'_>
+    ensures { AreModeSettingsOf entry.now result }
 {
     ModeSettings {
-        starts: handlers(row, START_EVENTS),
-        stops: handlers(row, STOP_EVENTS),
-        priority: natural(row, PRIORITY),
-        game: flag(row, GAME_MODE),
-        stops_with_ball: flag(row, STOP_ON_BALL_END),
-        holds_ball_end: flag(row, USE_WAIT_QUEUE),
+        starts: handlers(entry, START_EVENTS),
+        stops: handlers(entry, STOP_EVENTS),
+        priority: natural(entry, PRIORITY),
+        game: flag(entry, GAME_MODE),
+        stops_with_ball: flag(entry, STOP_ON_BALL_END),
+        holds_ball_end: flag(entry, USE_WAIT_QUEUE),
     }
 }
 
@@ -230,7 +229,7 @@ pub fn mode_settings(sections: &[Section]) -> ModeSettings<'_>
     ensures { AreModeSettingsIn sections.now result }
 {
     match section_named(sections, MODE_NAME) {
-        Some(Content::Entry(entry)) => as_mode_settings(entry.values()),
+        Some(Content::Entry(entry)) => as_mode_settings(entry),
         _ => default_settings(),
     }
 }

@@ -1,4 +1,4 @@
-//! Values in a row, by their places.
+//! Values of an entry, by their places.
 
 ghost use Rattle.std.specs.Prelude.{◌≡◌, ◌&&◌, nat_le, pos, negsuc};
 ghost use Rattle.section_tables.specs.EntryOf.{within};
@@ -9,36 +9,36 @@ ghost use Rattle.mpf_sections.specs.Inside.{value_at, IsTextAt, AreNamesAt, AreF
 
 use crate::typed::{HandledAt, NameAt, as_handled};
 use crate::words::Direction;
-use section_tables::rows::{Fields, Handler, Keyed, Name, Plain, Value};
+use section_tables::rows::{Entry, Fields, Handler, Keyed, Name, Plain, Value};
 
 // ---- values of settings
 
 const DOWN: &[u8] = b"down";
 
-/// The names at a place of a row; none where there is no list of names.
-pub fn names(row: &[Value], at: usize) -> &[Name]
-    ensures { AreNamesAt row.now at result.now }
+/// The names at a place of an entry; none where there is no list of names.
+pub fn names(entry: &Entry, at: usize) -> &[Name]
+    ensures { AreNamesAt entry.now at result.now }
 {
-    match row.get(at) {
+    match entry.value(at) {
         Some(Value::Names(names)) => names,
         _ => &[],
     }
 }
 
-/// The names at a place of a row, 16 at most; none where there are more, or there is no list of
+/// The names at a place of an entry, 16 at most; none where there are more, or there is no list of
 /// names.
-pub fn few_names(row: &[Value], at: usize) -> &[Name]
-    ensures { AreFewNamesAt row.now at result.now }
+pub fn few_names(entry: &Entry, at: usize) -> &[Name]
+    ensures { AreFewNamesAt entry.now at result.now }
 {
-    let names = names(row, at);
+    let names = names(entry, at);
     if names.len() <= 16 { names } else { &[] }
 }
 
-/// The handled events at a place of a row; none where there is no list of them.
-pub fn handlers(row: &[Value], at: usize) -> &[Handler]
-    ensures { AreEventsAt row.now at result.now }
+/// The handled events at a place of an entry; none where there is no list of them.
+pub fn handlers(entry: &Entry, at: usize) -> &[Handler]
+    ensures { AreEventsAt entry.now at result.now }
 {
-    match row.get(at) {
+    match entry.value(at) {
         Some(Value::Events(handlers)) => handlers,
         _ => &[],
     }
@@ -54,51 +54,51 @@ pub fn posts(value: &Value) -> &[Name]
     }
 }
 
-/// The posted events at a place of a row.
-pub fn posts_at(row: &[Value], at: usize) -> &[Name]
-    ensures { ArePostsAt row.now at result.now }
+/// The posted events at a place of an entry.
+pub fn posts_at(entry: &Entry, at: usize) -> &[Name]
+    ensures { ArePostsAt entry.now at result.now }
 {
-    match row.get(at) {
+    match entry.value(at) {
         Some(value) => posts(value),
         None => &[],
     }
 }
 
-/// The word at a place of a row; the empty one where there is none.
-pub fn word(row: &[Value], at: usize) -> &'static [u8]
-    ensures { result.now ≡ word_of (value_at row.now at) }
+/// The word at a place of an entry; the empty one where there is none.
+pub fn word(entry: &Entry, at: usize) -> &'static [u8]
+    ensures { result.now ≡ word_of (value_at entry.now at) }
 {
-    match row.get(at) {
+    match entry.value(at) {
         Some(Value::One(Plain::Word(word))) => word,
         _ => b"",
     }
 }
 
-/// The flag at a place of a row; false where there is none.
-pub fn flag(row: &[Value], at: usize) -> bool
-    ensures { result ≡ flag_of (value_at row.now at) }
+/// The flag at a place of an entry; false where there is none.
+pub fn flag(entry: &Entry, at: usize) -> bool
+    ensures { result ≡ flag_of (value_at entry.now at) }
 {
-    match row.get(at) {
+    match entry.value(at) {
         Some(Value::One(Plain::Flag(flag))) => *flag,
         _ => false,
     }
 }
 
-/// The number at a place of a row; 0 where there is none, or it is not of 32 bits.
-pub fn natural(row: &[Value], at: usize) -> u32
-    ensures { result ≡ natural_of (value_at row.now at) }
+/// The number at a place of an entry; 0 where there is none, or it is not of 32 bits.
+pub fn natural(entry: &Entry, at: usize) -> u32
+    ensures { result ≡ natural_of (value_at entry.now at) }
 {
-    match row.get(at) {
+    match entry.value(at) {
         Some(Value::One(Plain::Number(number))) => u32::try_from(*number).unwrap_or(0),
         _ => 0,
     }
 }
 
-/// The number at a place of a row, of this range; where there is none, another.
-pub fn natural_within(row: &[Value], at: usize, least: u32, greatest: u32, otherwise: u32) -> u32
-    ensures { result ≡ natural_within least greatest otherwise (value_at row.now at) }
+/// The number at a place of an entry, of this range; where there is none, another.
+pub fn natural_within(entry: &Entry, at: usize, least: u32, greatest: u32, otherwise: u32) -> u32
+    ensures { result ≡ natural_within least greatest otherwise (value_at entry.now at) }
 {
-    match row.get(at) {
+    match entry.value(at) {
         Some(Value::One(Plain::Number(number))) => match u32::try_from(*number) {
             Ok(n) if least <= n && n <= greatest => n,
             _ => otherwise,
@@ -114,71 +114,71 @@ fn is_limit(n: i64) -> bool
     -1_000_000_000 <= n && n <= 1_000_000_000
 }
 
-/// The whole number at a place of a row; 0 where there is none.
-pub fn number(row: &[Value], at: usize) -> i64
-    ensures { result ≡ number_of (value_at row.now at) }
+/// The whole number at a place of an entry; 0 where there is none.
+pub fn number(entry: &Entry, at: usize) -> i64
+    ensures { result ≡ number_of (value_at entry.now at) }
 {
-    match row.get(at) {
+    match entry.value(at) {
         Some(Value::One(Plain::Number(number))) => *number,
         _ => 0,
     }
 }
 
-/// The number at a place of a row where there may be none.
-pub fn limit(row: &[Value], at: usize) -> Option<i64>
-    ensures { result ≡ limit_of (value_at row.now at) }
+/// The number at a place of an entry where there may be none.
+pub fn limit(entry: &Entry, at: usize) -> Option<i64>
+    ensures { result ≡ limit_of (value_at entry.now at) }
 {
-    match row.get(at) {
+    match entry.value(at) {
         Some(Value::One(Plain::Number(number))) if is_limit(*number) => Some(*number),
         _ => None,
     }
 }
 
-/// The direction at a place of a row; up where there is none.
-pub fn direction(row: &[Value], at: usize) -> Direction
-    ensures { result ≡ direction_of (word_of (value_at row.now at)) }
+/// The direction at a place of an entry; up where there is none.
+pub fn direction(entry: &Entry, at: usize) -> Direction
+    ensures { result ≡ direction_of (word_of (value_at entry.now at)) }
 {
-    if word(row, at) == DOWN {
+    if word(entry, at) == DOWN {
         return Direction::Down;
     }
     Direction::Up
 }
 
-/// The milliseconds at a place of a row; 0 where there is no time.
-pub fn milliseconds(row: &[Value], at: usize) -> u32
-    ensures { result ≡ time_of (value_at row.now at) }
+/// The milliseconds at a place of an entry; 0 where there is no time.
+pub fn milliseconds(entry: &Entry, at: usize) -> u32
+    ensures { result ≡ time_of (value_at entry.now at) }
 {
-    match row.get(at) {
+    match entry.value(at) {
         Some(Value::One(Plain::Time(ms))) => *ms,
         _ => 0,
     }
 }
 
-/// The milliseconds at a place of a row, at least 1; where there are none, others.
-pub fn some_time(row: &[Value], at: usize, otherwise: u32) -> u32
-    ensures { result ≡ some_time_of otherwise (value_at row.now at) }
+/// The milliseconds at a place of an entry, at least 1; where there are none, others.
+pub fn some_time(entry: &Entry, at: usize, otherwise: u32) -> u32
+    ensures { result ≡ some_time_of otherwise (value_at entry.now at) }
 {
-    match row.get(at) {
+    match entry.value(at) {
         Some(Value::One(Plain::Time(ms))) if *ms >= 1 => *ms,
         _ => otherwise,
     }
 }
 
-/// The steps at a place of a row, 16 at most; none where there are no steps.
-pub fn steps(row: &[Value], at: usize) -> &[Vec<Handler>]
-    ensures { AreStepsAt row.now at result.now }
+/// The steps at a place of an entry, 16 at most; none where there are no steps.
+pub fn steps(entry: &Entry, at: usize) -> &[Vec<Handler>]
+    ensures { AreStepsAt entry.now at result.now }
 {
-    match row.get(at) {
+    match entry.value(at) {
         Some(Value::Steps(steps)) if steps.len() <= 16 => steps,
         _ => &[],
     }
 }
 
-/// The maps at a place of a row; none where there is no list of them.
-pub fn maps(row: &[Value], at: usize) -> &[Fields]
-    ensures { AreMapsAt row.now at result.now }
+/// The maps at a place of an entry; none where there is no list of them.
+pub fn maps(entry: &Entry, at: usize) -> &[Fields]
+    ensures { AreMapsAt entry.now at result.now }
 {
-    match row.get(at) {
+    match entry.value(at) {
         Some(Value::Maps(maps)) => maps,
         _ => &[],
     }
@@ -194,11 +194,11 @@ pub fn keyed(value: &Value) -> &[Keyed]
     }
 }
 
-/// The text at a place of a row; none where there is none.
-pub fn text(row: &[Value], at: usize) -> Option<&Plain>
-    ensures { IsTextAt row.now at result }
+/// The text at a place of an entry; none where there is none.
+pub fn text(entry: &Entry, at: usize) -> Option<&Plain>
+    ensures { IsTextAt entry.now at result }
 {
-    match row.get(at) {
+    match entry.value(at) {
         Some(Value::One(text)) => Some(text),
         _ => None,
     }

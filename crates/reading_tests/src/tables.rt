@@ -4,9 +4,9 @@ use crate::cases::{Subject, assert_rows};
 use crate::pen::Pen;
 use crate::yaml::tree_of;
 use crate::{balls, saves, shots};
+use config_faults::ConfigFault;
 use mpf_sections::as_handled;
 use mpf_tables::{TextKind, shape_of};
-use section_tables::fault::ConfigFault;
 use section_tables::rows::{Entry, Fields, Keyed, Plain, Player, Value};
 use section_tables::table::{
     Absent, Barred, Bounds, Field, Kind, Others, PlayerKinds, Scalar, Setting, Shape, Without,
@@ -527,10 +527,16 @@ fn show_value(pen: &mut Pen, value: &Value) {
     }
 }
 
+/// More settings than any table has.
+const MOST_SETTINGS: usize = 64;
+
 fn show_entry(pen: &mut Pen, row: &Entry) {
     pen.name(&row.name);
     let mut between = ": ";
-    for value in row.values() {
+    for place in 0..MOST_SETTINGS {
+        let Some(value) = row.value(place) else {
+            return;
+        };
         pen.put(between);
         show_value(pen, value);
         between = " | ";

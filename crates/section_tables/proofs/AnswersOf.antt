@@ -1,10 +1,9 @@
 -- What an answer means whose value is what is read.
 use Rattle.std.proofs.Common.{◌≡◌, ◌≢◌, Result, Ok, Err, IfOk, IfErr, refl}
 use Rattle.section_tables.specs.Reading.{IsReadOr}
-use Rattle.section_tables.specs.declared.fault.ConfigFault.{ConfigFault}
-use Rattle.section_tables.specs.declared.fault.ConfigFault.TheVariants as faults
-use Rattle.section_tables.specs.Rows.{RowsFault}
-use Rattle.section_tables.specs.View.{rows_fault_view, GivesRows}
+use Rattle.config_faults.specs.declared.fault.ConfigFault.{ConfigFault}
+use Rattle.config_faults.specs.declared.fault.ConfigFault.TheVariants as faults
+use Rattle.config_faults.specs.Faults.{RowsFault, rows_fault_view, GivesRows}
 use Rattle.section_tables.proofs.Outcomes.{only_or, above_or}
 
 -- read gives what Is relates, within the limits

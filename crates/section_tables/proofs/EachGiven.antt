@@ -6,11 +6,10 @@ use Rattle.std.specs.Fn.{Shared, FnReturnsAt}
 use Rattle.std.specs.Global.{Vec}
 use Rattle.std.proofs.lemmas.List.{take_more}
 use Rattle.std.proofs.lemmas.List.Elements.{filter-append}
-use Rattle.section_tables.specs.declared.fault.ConfigFault.{ConfigFault}
-use Rattle.section_tables.specs.declared.fault.ConfigFault.TheVariants as faults
-use Rattle.section_tables.specs.Rows.{RowsFault}
+use Rattle.config_faults.specs.declared.fault.ConfigFault.{ConfigFault}
+use Rattle.config_faults.specs.declared.fault.ConfigFault.TheVariants as faults
+use Rattle.config_faults.specs.Faults.{RowsFault, FailsRows, GivesRows}
 use Rattle.section_tables.specs.Reading.{each_read}
-use Rattle.section_tables.specs.View.{FailsRows, GivesRows}
 use Rattle.section_tables.specs.GivenEach.{FailsFirst, GaveUpTo, GaveEach}
 
 pub zip_push : {A B : Type 0} (R : A → B → Type 0) (xs : List A) (ys : List B) (x : A) (y : B) → AllZip R xs ys → R x y → AllZip R (xs ++ x ∷ []) (ys ++ y ∷ [])

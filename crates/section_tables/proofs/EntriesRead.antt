@@ -3,13 +3,14 @@ use Rattle.std.proofs.Common.{◌≡◌, ◌<◌, ℕ, Bool, true, false, List, 
 use Rattle.yaml_subset.specs.Node.{Node, Pair}
 use Rattle.mpf_values.specs.Reading.{is_name}
 use Rattle.mpf_values.proofs.NameTexts.{IsName-from_is_name, is_name-from_IsName}
-use Rattle.section_tables.specs.declared.fault.FaultKind.TheVariants.{BadValue}
+use Rattle.config_faults.specs.declared.fault.FaultKind.TheVariants.{BadValue}
 use Rattle.section_tables.specs.Rows.{Written, Plain, Value, Entry, Player}
 use Rattle.section_tables.specs.Kinds.{at_least, Setting, PlayerKinds}
 use Rattle.section_tables.specs.Entries.{pairs_below, is_ignored, written_at}
 use Rattle.section_tables.specs.Tables.{setting_key, setting_default, setting_lacks}
 use Rattle.section_tables.specs.EntryOf.{IsWritten, IsSetting, IsOneOf, places_written, IsEntry, IsOtherEntry, AreEntries, IsPlayer, ArePlayers, AreNamesListed}
-use Rattle.section_tables.specs.Reading.{most_items, IsReadOr, IsReadOrLong, ◌>>=◌, Spot, rows_fault_at, key_spot, expect, each_read, scalar_of, value_at, setting_at, values_at, is_one_of, entry_at, other_entry_at, entries_at, player_at, players_at, written_in, names_at}
+use Rattle.section_tables.specs.Reading.{most_items, IsReadOr, IsReadOrLong, ◌>>=◌, key_spot, expect, each_read, scalar_of, value_at, setting_at, values_at, is_one_of, entry_at, other_entry_at, entries_at, player_at, players_at, written_in, names_at}
+use Rattle.config_faults.specs.Faults.{Spot, rows_fault_at}
 use Rattle.section_tables.proofs.Steps.{bind_ok, guard_true, guard_false, ok_is, expected}
 use Rattle.section_tables.proofs.Outcomes.{then_or, each_sound, each_or}
 use Rattle.section_tables.proofs.ScalarTexts.{among_sound, among_complete, scalar_sound, scalar_complete}

@@ -1,5 +1,5 @@
 -- Looking for a key in a table, and for what is lacking in a row, from a place on.
-use Rattle.std.proofs.Common.{◌≡◌, ℕ, suc, ◌+◌, ◌<◌, Bool, true, false, List, [], ◌∷◌, length, drop, get_or, map, Option, Some, None, refl, sym, ap, ◌∙◌, arith, add-one}
+use Rattle.std.proofs.Common.{◌≡◌, ℕ, zero, suc, ◌+◌, ◌<◌, Bool, true, false, if◌then◌else◌, slice_get, List, [], ◌∷◌, length, drop, get_or, map, Option, Some, None, refl, sym, ap, ◌∙◌, arith, add-one}
 use Rattle.std.specs.List.{list_any}
 use Rattle.std.specs.Str.{bytes_eq}
 use Rattle.std.proofs.Math.Seq.{drop-cons}
@@ -49,3 +49,12 @@ not_here key_of lacks seen view table row i d x total lt less is h so_far =
     let here : drop i row ≡ x ∷ drop (i + 1) row = cut row i x less ∙ ap (λ z. z ∷ drop (i + 1) row) (sym is) in
     let one : lacking key_of lacks (map seen (drop i table)) (map view (drop i row)) ≡ lacking key_of lacks (map seen (drop (i + 1) table)) (map view (drop (i + 1) row)) = rw (cut table i d lt, here, h) refl in
     sym one ∙ so_far
+
+-- what is lacking from a place on: what lacks its value there, or is lacking later
+pub lacking_at : {S T V : Type 0} (key_of : T → List ℕ) (lacks : T → V → Bool) (seen : S → T) (table : List S) (row : List V) (i : ℕ) (d : S) → i < length table → length row ≡ length table
+    → (v : V) × (slice_get row i ≡ Some v)
+    × (lacking key_of lacks (map seen (drop i table)) (drop i row) ≡ (if lacks (seen (get_or table i d)) v then Some (key_of (seen (get_or table i d))) else lacking key_of lacks (map seen (drop (suc i) table)) (drop (suc i) row)))
+lacking_at key_of lacks seen [] row i d within same = absurd (omega (arith, within))
+lacking_at key_of lacks seen (s ∷ ss) [] i d within same = absurd (omega (arith, same))
+lacking_at key_of lacks seen (s ∷ ss) (v ∷ vs) zero d within same = (v, refl, refl)
+lacking_at key_of lacks seen (s ∷ ss) (v ∷ vs) (suc i) d within same = lacking_at key_of lacks seen ss vs i d (omega (arith, within)) (omega (arith, same))

@@ -1,6 +1,7 @@
 pub mod Steps
 pub mod Outcomes
 pub mod Finding
+pub mod WrittenRows
 pub mod EachGiven
 pub mod Options
 pub mod ScalarTexts

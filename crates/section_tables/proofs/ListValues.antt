@@ -8,12 +8,13 @@ use Rattle.mpf_values.specs.Reading.{is_name, list_at, event_at}
 use Rattle.mpf_values.proofs.NameTexts.{IsName-from_is_name, is_name-from_IsName}
 use Rattle.mpf_values.proofs.EventTexts.{event_computes}
 use Rattle.mpf_values.proofs.ListNodes.{list_sound, list_complete}
-use Rattle.section_tables.specs.declared.fault.FaultKind.TheVariants.{BadValue, Limit}
-use Rattle.section_tables.specs.Rows.{Written, Handled, Plain, RowsFault}
+use Rattle.config_faults.specs.declared.fault.FaultKind.TheVariants.{BadValue, Limit}
+use Rattle.section_tables.specs.Rows.{Written, Handled, Plain}
+use Rattle.config_faults.specs.Faults.{RowsFault, Spot, rows_fault_at, refused}
 use Rattle.section_tables.specs.Kinds.{Scalar, Bounds, fits}
 use Rattle.section_tables.specs.Entries.{nodes_below, written_at, handled_at}
 use Rattle.section_tables.specs.EntryOf.{IsPlain, AreListed, AreNodes, IsWritten, IsHandled}
-use Rattle.section_tables.specs.Reading.{most_items, IsReadOr, IsReadOrLong, ◌>>=◌, Spot, rows_fault_at, refused, expect, give, each_read, scalar_of, plain_at, written_in, handled_in, count_at, count_of, list_items_at, listed_at, list_nodes_at, nodes_at}
+use Rattle.section_tables.specs.Reading.{most_items, IsReadOr, IsReadOrLong, ◌>>=◌, expect, give, each_read, scalar_of, plain_at, written_in, handled_in, count_at, count_of, list_items_at, listed_at, list_nodes_at, nodes_at}
 use Rattle.section_tables.proofs.Steps.{bind_ok, guard_true, guard_false, ok_is, expected}
 use Rattle.section_tables.proofs.Outcomes.{then_or, each_sound, each_or}
 use Rattle.section_tables.proofs.Counting.{count_few}

@@ -1,5 +1,5 @@
 -- A name that is a list text is its only item.
-use Rattle.std.proofs.Common.{◌≡◌, ℕ, ◌<◌, nat_lt, cond, ◌==◌, not, ◌&&◌, eqb, leb, Bool, true, false, List, [], ◌∷◌, length, map, Option, Some, None, Result, Ok, Err, refl, sym, ap, subst, ◌∙◌, arith, append-nil}
+use Rattle.std.proofs.Common.{◌≡◌, ℕ, ◌<◌, nat_lt, cond, not, ◌&&◌, eqb, leb, Bool, true, false, List, [], ◌∷◌, length, map, Some, None, Result, Ok, Err, refl, sym, ap, subst, ◌∙◌, arith, append-nil}
 use Rattle.std.specs.List.{list_all}
 use Rattle.std.proofs.lemmas.Bool.{and_parts, or_from, eqb-true, ltb-true}
 use Rattle.std.proofs.lemmas.Option.{same_Some, none-some}
@@ -12,11 +12,11 @@ use Rattle.mpf_values.specs.Lists.{Item, item_at}
 use Rattle.mpf_values.specs.Reading.{is_name, onto_items, items_from, items_of, list_at, event_at}
 use Rattle.mpf_values.proofs.EventTexts.{event_computes}
 use Rattle.mpf_values.proofs.NameTexts.{IsName-from_is_name}
-use Rattle.section_tables.specs.declared.fault.FaultKind.TheVariants.{Limit}
+use Rattle.config_faults.specs.declared.fault.FaultKind.TheVariants.{Limit}
 use Rattle.section_tables.specs.Kinds.{Bounds}
-use Rattle.section_tables.specs.Rows.{Written, Handled, RowsFault}
+use Rattle.config_faults.specs.Faults.{RowsFault, Spot, refused}
 use Rattle.section_tables.specs.Entries.{written_at, handled_at}
-use Rattle.section_tables.specs.Reading.{◌>>=◌, Spot, refused, each_read, count_at, written_in, handled_in, list_items_at, listed_at}
+use Rattle.section_tables.specs.Reading.{◌>>=◌, each_read, count_at, written_in, handled_in, list_items_at, listed_at}
 
 -- ---- bytes of a name
 

@@ -2,7 +2,7 @@
 use Rattle.std.proofs.Common.{◌≡◌, true, false, List, [], ◌∷◌, Result, Ok, Err, refl, sym, subst, ◌∙◌, inl, inr}
 use Rattle.std.specs.List.{AllZip}
 use Rattle.std.specs.Result.{is_ok}
-use Rattle.section_tables.specs.Rows.{RowsFault}
+use Rattle.config_faults.specs.Faults.{RowsFault}
 use Rattle.section_tables.specs.Reading.{IsReadOr, ◌>>=◌, each_read}
 use Rattle.section_tables.proofs.Steps.{bind_ok, ok_is}
 

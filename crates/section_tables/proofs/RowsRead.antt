@@ -2,11 +2,11 @@
 use Rattle.std.proofs.Common.{◌≡◌, ◌<◌, ℕ, Bool, true, false, List, [], ◌∷◌, length, map, set, Option, Some, None, Result, Ok, refl, sym, ap, subst, ◌∙◌, inl, arith}
 use Rattle.std.proofs.lemmas.List.{length-map, length-set}
 use Rattle.yaml_subset.specs.Node.{Node, Pair}
-use Rattle.section_tables.specs.declared.fault.FaultKind.TheVariants.{UnknownSetting}
-use Rattle.section_tables.specs.Rows.{RowsFault}
+use Rattle.config_faults.specs.declared.fault.FaultKind.TheVariants.{UnknownSetting}
+use Rattle.config_faults.specs.Faults.{RowsFault, Spot, rows_fault_at}
 use Rattle.section_tables.specs.Tables.{found_in}
 use Rattle.section_tables.specs.EntryOf.{OverwritesAt, IsOverwritten, IsWhole}
-use Rattle.section_tables.specs.Reading.{most_items, IsReadOrLong, Spot, rows_fault_at, key_spot, put_at, overwritten_at, lacking, whole_from, row_at}
+use Rattle.section_tables.specs.Reading.{most_items, IsReadOrLong, key_spot, put_at, overwritten_at, lacking, whole_from, row_at}
 use Rattle.section_tables.proofs.Steps.{bind_ok, guard_true, ok_is}
 use Rattle.section_tables.proofs.Outcomes.{then_or}
 

@@ -2,8 +2,8 @@
 use Rattle.std.proofs.Common.{◌≡◌, ℕ, List, Bool, true, false, cond, Option, Some, None, Result, Ok, Err, refl, ap, ◌⊎◌, inl, inr}
 use Rattle.std.specs.Str.{bytes_eq}
 use Rattle.std.proofs.lemmas.Slice.Eq.{bytes_eq-Decides}
-use Rattle.section_tables.specs.Rows.{RowsFault}
-use Rattle.section_tables.specs.Reading.{◌>>=◌, Spot, expect}
+use Rattle.config_faults.specs.Faults.{RowsFault, Spot}
+use Rattle.section_tables.specs.Reading.{◌>>=◌, expect}
 
 pub bind_ok : {A B : Type 0} (r : Result A RowsFault) (f : A → Result B RowsFault) (y : B) → (r >>= f) ≡ Ok y → (x : A) × (r ≡ Ok x) × (f x ≡ Ok y)
 bind_ok (Ok x) f y e = (x, refl, e)

@@ -1,5 +1,5 @@
 -- What the readers of sections answer, by the tables of the program.
-use Rattle.std.specs.Prelude.{◌≡◌, ℕ, List, Result}
+use Rattle.std.specs.Prelude.{ℕ, List, Result}
 use Rattle.std.specs.Global.{Vec}
 use Rattle.yaml_subset.specs.declared.tree.Key.{Key}
 use Rattle.yaml_subset.specs.declared.tree.Tree.{Tree}
@@ -10,15 +10,13 @@ use Rattle.section_tables.specs.declared.rows.Player as players
 use Rattle.section_tables.specs.declared.table.Barred.{Barred}
 use Rattle.section_tables.specs.declared.table.PlayerKinds.{PlayerKinds}
 use Rattle.section_tables.specs.declared.table.Setting.{Setting}
-use Rattle.section_tables.specs.declared.spot.Spot.{Spot}
-use Rattle.section_tables.specs.declared.fault.Fault.{Fault}
-use Rattle.section_tables.specs.declared.fault.FaultKind.{FaultKind}
-use Rattle.section_tables.specs.declared.fault.ConfigFault.{ConfigFault}
-use Rattle.section_tables.specs.Rows.{Written, Entry, Player, RowsFault}
+use Rattle.config_faults.specs.declared.fault.ConfigFault.{ConfigFault}
+use Rattle.section_tables.specs.Rows.{Written, Entry, Player}
+use Rattle.config_faults.specs.Faults.{RowsFault, GivesRows}
 use Rattle.section_tables.specs.EntryOf.{IsEntry, AreEntries, ArePlayers, AreNamesListed}
-use Rattle.section_tables.specs.Reading.{rows_fault_at, entry_at, entries_at, players_at, names_at}
+use Rattle.section_tables.specs.Reading.{entry_at, entries_at, players_at, names_at}
 use Rattle.section_tables.specs.TableView.{barred_view, table_view, player_kinds_view}
-use Rattle.section_tables.specs.View.{names_view, entry_view, entries_view, players_view, spot_view, rows_fault_view, GivesRows}
+use Rattle.section_tables.specs.View.{names_view, entry_view, entries_view, players_view}
 
 -- ---- what a pair is, with at most so many items in each list
 
@@ -73,9 +71,3 @@ GivesPlayers answer read = GivesRows players_view answer read
 -- the answer is the names that are read
 abbrev pub GivesNames : Result (Vec Name) ConfigFault → Result (List Written) RowsFault → Type 0
 GivesNames answer read = GivesRows names_view answer read
-
--- ---- faults
-
--- a fault of this kind that stands here
-abbrev pub IsFaultAt : FaultKind → Spot → Fault → Type 0
-IsFaultAt kind spot fault = rows_fault_view fault ≡ rows_fault_at kind (spot_view spot)

@@ -1,5 +1,5 @@
 -- What contracts of the functions inside this crate see.
-use Rattle.std.specs.Prelude.{◌≡◌, ℕ, Bool, List, [], ◌∷◌, ◌++◌, length, map, filter, set, Option, Some, None, Result, Ok, if◌then◌else◌}
+use Rattle.std.specs.Prelude.{◌≡◌, ℕ, Bool, List, [], ◌∷◌, ◌++◌, length, map, filter, set, slice_get, Option, Some, None, Result, Ok, if◌then◌else◌}
 use Rattle.std.specs.Borrow.{Bor}
 use Rattle.std.specs.Global.{Vec}
 use Rattle.yaml_subset.specs.declared.tree.Key.{Key}
@@ -28,18 +28,19 @@ use Rattle.section_tables.specs.declared.table.Kind.{Kind}
 use Rattle.section_tables.specs.declared.table.Setting.{Setting}
 use Rattle.section_tables.specs.declared.table.PlayerKinds.{PlayerKinds}
 use Rattle.section_tables.specs.declared.table.Barred.{Barred}
-use Rattle.section_tables.specs.declared.spot.Spot.{Spot}
-use Rattle.section_tables.specs.declared.fault.ConfigFault.{ConfigFault}
-use Rattle.section_tables.specs.Rows.{Written, Handled, Plain, name, event, Fields, Keyed, Value, Entry, Player, RowsFault}
+use Rattle.config_faults.specs.declared.spot.Spot.{Spot}
+use Rattle.config_faults.specs.declared.fault.ConfigFault.{ConfigFault}
+use Rattle.section_tables.specs.Rows.{Written, Handled, Plain, name, event, Fields, Keyed, Value, Entry, Player}
+use Rattle.config_faults.specs.Faults.{RowsFault, spot_view, GivesRows}
 use Rattle.section_tables.specs.Kinds.{at_least}
 use Rattle.section_tables.specs.Kinds as kinds
 use Rattle.section_tables.specs.Entries.{pairs_below, is_ignored, written_at, handled_at}
 use Rattle.section_tables.specs.EntryOf.{pass, own_name, place_found, places_written}
 use Rattle.section_tables.specs.Tables.{found_in, field_key, field_default, field_lacks, setting_key, setting_default, setting_lacks}
-use Rattle.section_tables.specs.Reading as readings
+use Rattle.config_faults.specs.Faults as seen
 use Rattle.section_tables.specs.Reading.{◌>>=◌, expect, give, counts, each_read, scalar_of, plain_at, most_items, count_at, written_in, handled_in, list_items_at, listed_at, list_nodes_at, nodes_at, put_at, overwritten_at, lacking, field_at, fields_row_at, fields_at, named_maps_at, keyed_row_at, keyed_at, few_pairs_at, keyed_list_at, value_at, setting_at, values_at, other_entry_at, player_at}
 use Rattle.section_tables.specs.TableView.{scalar_view, bounds_view, others_view, field_view, kind_view, setting_view, table_view, player_kinds_view, barred_view}
-use Rattle.section_tables.specs.View.{name_view, handler_view, handlers_view, steps_view, plain_view, plains_view, fields_view, maps_view, keyed_view, keyed_list_view, value_view, values_view, player_view, spot_view, pairs_view, pairs_in_view, nodes_in_view, found_view, GivesRows}
+use Rattle.section_tables.specs.View.{name_view, handler_view, handlers_view, steps_view, plain_view, plains_view, fields_view, maps_view, keyed_view, keyed_list_view, value_view, values_view, value_option_view, with_written, row_values, player_view, pairs_view, pairs_in_view, nodes_in_view, found_view}
 
 -- ---- answers: what reading gives, which is a value or the first fault, unless memory ran out
 
@@ -107,13 +108,9 @@ GivesKeyedList answer read = GivesRows keyed_list_view answer read
 abbrev pub GivesValue : Result values.Value ConfigFault → Result Value RowsFault → Type 0
 GivesValue answer read = GivesRows value_view answer read
 
--- the answer is the row of settings that is read
-abbrev pub GivesValues : Result (Vec values.Value) ConfigFault → Result (List Value) RowsFault → Type 0
-GivesValues answer read = GivesRows (λ row. values_view row.items) answer read
-
 -- the answer leads to the row of an entry that is read, apart from its order
 abbrev pub GivesRow : {R : Type 0} → (R → EntryRow) → Result R ConfigFault → Result (List Value) RowsFault → Type 0
-GivesRow row_at answer read = GivesRows (λ shared. values_view (row_at shared).values.items) answer read
+GivesRow row_at answer read = GivesRows (λ shared. values_view (row_values (row_at shared))) answer read
 
 -- the answer is the entry of a player that is read
 abbrev pub GivesPlayer : Result players.Player ConfigFault → Result Player RowsFault → Type 0
@@ -123,9 +120,9 @@ GivesPlayer answer read = GivesRows player_view answer read
 abbrev pub FillsPlains : Result (Unit {0}) ConfigFault → List plains.Plain → Result (List Plain) RowsFault → Type 0
 FillsPlains answer row read = GivesRows (λ _. plains_view row) answer read
 
--- a row of settings is afterwards what reading makes of it
-abbrev pub FillsValues : Result (Unit {0}) ConfigFault → List values.Value → Result (List Value) RowsFault → Type 0
-FillsValues answer row read = GivesRows (λ _. values_view row) answer read
+-- a row is what reading makes of it, with what is written afterwards
+abbrev pub WritesValues : Result (Unit {0}) ConfigFault → List values.Value → Vec ℕ → Vec values.Value → Result (List Value) RowsFault → Type 0
+WritesValues answer row order written read = GivesRows (λ _. values_view (with_written row order.items written.items)) answer read
 
 -- ---- nodes and items: what reading gives, whose faults stand at a spot
 
@@ -162,11 +159,11 @@ abbrev pub is_counted : Tree → Bool
 is_counted node = counts (node_view node)
 
 -- what f gives for the item that a node of a YAML list is
-abbrev pub node_item_at : {B : Type 0} → (readings.Spot → Item → Result B RowsFault) → readings.Spot → Node → Result B RowsFault
+abbrev pub node_item_at : {B : Type 0} → (seen.Spot → Item → Result B RowsFault) → seen.Spot → Node → Result B RowsFault
 node_item_at f spot node = expect spot (scalar_at node) >>= λ item. f spot item
 
 -- what f gives for each item of a YAML list with these nodes, which are counted before it
-abbrev pub counted_at : {B : Type 0} → (readings.Spot → Item → Result B RowsFault) → ℕ → kinds.Bounds → readings.Spot → List Node → Result (List B) RowsFault
+abbrev pub counted_at : {B : Type 0} → (seen.Spot → Item → Result B RowsFault) → ℕ → kinds.Bounds → seen.Spot → List Node → Result (List B) RowsFault
 counted_at f most bounds spot nodes = count_at most bounds spot (length (filter counts nodes)) >>= λ _. each_read (node_item_at f spot) (filter counts nodes)
 
 -- the item that a node of a YAML list is
@@ -318,7 +315,11 @@ AreSettingDefaults table row = values_view row ≡ map setting_default (table_vi
 -- a row has in it what holds where nothing is written, in no order, and it lacks this key first, or none
 abbrev pub IsBareRow : List Setting → EntryRow → Option (Bor (List ℕ)) → Type 0
 IsBareRow table row lacks =
-    AreSettingDefaults table row.values.items × (row.order.items ≡ []) × (option_slice (λ key. key) lacks ≡ lacking_setting table row.values.items)
+    AreSettingDefaults table (row_values row) × (row.order.items ≡ []) × (option_slice (λ key. key) lacks ≡ lacking_setting table (row_values row))
+
+-- a value is the one at this place of a row
+abbrev pub IsValueAt : EntryRow → ℕ → Option (Bor values.Value) → Type 0
+IsValueAt row place value = value_option_view value ≡ slice_get (values_view (row_values row)) place
 
 -- the value of a setting of this kind
 abbrev pub read_value : Spot → Kind → Tree → Result Value RowsFault

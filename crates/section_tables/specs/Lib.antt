@@ -1,4 +1,3 @@
-pub mod FaultNames
 pub mod Rows
 pub mod Entries
 pub mod Kinds

@@ -1,5 +1,5 @@
 -- Reading an entry by a table, from its first setting to its last, with the first fault that is met.
-use Rattle.std.specs.Prelude.{◌≡◌, ℕ, ◌<◌, nat_lt, nat_le, ◌==◌, ◌&&◌, not, Bool, true, false, if◌then◌else◌, List, [], ◌∷◌, length, map, filter, Option, Some, None, Result, Ok, Err, set, ◌⊎◌}
+use Rattle.std.specs.Prelude.{◌≡◌, ℕ, ◌<◌, nat_lt, nat_le, ◌==◌, ◌&&◌, not, Bool, true, false, if◌then◌else◌, List, [], ◌∷◌, length, map, filter, Option, Some, None, Result, Ok, set, ◌⊎◌}
 use Rattle.std.specs.List.{list_any}
 use Rattle.std.specs.Result.{is_ok}
 use Rattle.std.specs.Str.{bytes_eq}
@@ -8,25 +8,13 @@ use Rattle.yaml_subset.specs.Node.{Node, Pair}
 use Rattle.yaml_subset.specs.View.{line_of, text_in, items_in}
 use Rattle.mpf_values.specs.Lists.{Item}
 use Rattle.mpf_values.specs.Reading.{is_name, list_at, boolean_at, integer_at, time_at, power_at, event_at}
-use Rattle.section_tables.specs.declared.fault.FaultKind.{FaultKind}
-use Rattle.section_tables.specs.declared.fault.FaultKind.TheVariants.{UnknownSetting, BadValue, Missing, Limit}
-use Rattle.section_tables.specs.Rows.{Written, Handled, Plain, flag, number, time, power, word, name, event, Fields, Keyed, Value, one, names, posts, events, steps, maps, keyed, Entry, Player, RowsFault}
+use Rattle.config_faults.specs.declared.fault.FaultKind.TheVariants.{UnknownSetting, BadValue, Missing, Limit}
+use Rattle.section_tables.specs.Rows.{Written, Handled, Plain, flag, number, time, power, word, name, event, Fields, Keyed, Value, one, names, posts, events, steps, maps, keyed, Entry, Player}
+use Rattle.config_faults.specs.Faults.{RowsFault, Spot, refused}
 use Rattle.section_tables.specs.Kinds.{Scalar, a_flag, number_within, time_within, a_power, one_of, a_name, an_event, Bounds, at_least, fits, Field, Kind, single, name_list, post_list, event_list, step_list, map_list, named_maps, keyed_maps, Setting, PlayerKinds}
 use Rattle.section_tables.specs.Entries.{pairs_below, nodes_below, is_ignored, written_at, handled_at}
 use Rattle.section_tables.specs.Tables.{found_in, field_key, field_default, field_lacks, setting_key, setting_default, setting_lacks}
 use Rattle.section_tables.specs.EntryOf.{within, pass, own_name, places_written}
-
--- where a fault stands: in which text, at which line, and with which key
-pub record Spot : Type 0 where
-  pub text : List ℕ
-  pub line : ℕ
-  pub key : List ℕ
-
-abbrev pub rows_fault_at : FaultKind → Spot → RowsFault
-rows_fault_at kind spot = record { kind = kind; text = spot.text; line = spot.line; key = spot.key }
-
-abbrev pub refused : {A : Type 0} → FaultKind → Spot → Result A RowsFault
-refused kind spot = Err (rows_fault_at kind spot)
 
 -- the key of an entry
 abbrev pub key_spot : List ℕ → Pair → Spot

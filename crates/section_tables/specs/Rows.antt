@@ -1,7 +1,6 @@
 -- The rows of sections, apart from where they lie in memory.
 use Rattle.std.specs.Prelude.{ℕ, ℤ, Bool, List}
 use Rattle.mpf_values.specs.Events.{Event}
-use Rattle.section_tables.specs.declared.fault.FaultKind.{FaultKind}
 
 -- a name, with the line where it is written; one that is not written has line 0
 pub record Written : Type 0 where
@@ -55,10 +54,3 @@ pub record Entry : Type 0 where
 pub record Player : Type 0 where
   pub event : Plain
   pub value : Value
-
--- what is wrong, in which text, at which line, and with which key
-pub record RowsFault : Type 0 where
-  pub kind : FaultKind
-  pub text : List ℕ
-  pub line : ℕ
-  pub key : List ℕ

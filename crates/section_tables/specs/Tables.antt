@@ -46,5 +46,10 @@ value_lacks _ _ = false
 abbrev pub field_lacks : Field → Plain → Bool
 field_lacks f = plain_lacks f.absent
 
+-- the same, where there may be no value
+abbrev pub lacks_if : Absent Value → Option Value → Bool
+lacks_if absent (Some v) = value_lacks absent v
+lacks_if absent None = false
+
 abbrev pub setting_lacks : Setting → Value → Bool
 setting_lacks s = value_lacks s.absent

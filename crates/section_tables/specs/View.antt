@@ -1,5 +1,5 @@
 -- What contracts see of the rows, and of an answer.
-use Rattle.std.specs.Prelude.{◌≡◌, ℕ, map, List, Option, Some, None, Result, Ok, Err}
+use Rattle.std.specs.Prelude.{ℕ, map, set, List, [], ◌∷◌, Option, Some, None}
 use Rattle.std.specs.Borrow.{Bor}
 use Rattle.std.specs.Global.{Box, Vec}
 use Rattle.yaml_subset.specs.declared.tree.Key.{Key}
@@ -20,13 +20,9 @@ use Rattle.section_tables.specs.declared.rows.Player as players
 use Rattle.section_tables.specs.declared.rows.Value as values
 use Rattle.section_tables.specs.declared.rows.Value.TheVariants as value
 use Rattle.section_tables.specs.declared.rows.Entry as entries
-use Rattle.section_tables.specs.declared.spot.Spot as spots
-use Rattle.section_tables.specs.declared.fault.Fault.{Fault}
-use Rattle.section_tables.specs.declared.fault.ConfigFault.{ConfigFault}
-use Rattle.section_tables.specs.declared.fault.ConfigFault.TheVariants as faults
-use Rattle.section_tables.specs.Rows.{Written, Handled, Plain, nothing, flag, number, time, power, word, name, event, Fields, Keyed, Value, one, names, posts, events, steps, maps, keyed, Entry, Player, RowsFault}
+use Rattle.section_tables.specs.declared.rows.EntryRow.{EntryRow}
+use Rattle.section_tables.specs.Rows.{Written, Handled, Plain, nothing, flag, number, time, power, word, name, event, Fields, Keyed, Value, one, names, posts, events, steps, maps, keyed, Entry, Player}
 use Rattle.section_tables.specs.Entries.{written_at}
-use Rattle.section_tables.specs.Reading.{Spot}
 
 -- ---- values
 
@@ -90,10 +86,23 @@ value_view (value.Keyed xs) = keyed (keyed_list_view xs)
 abbrev pub values_view : List values.Value → List Value
 values_view = map value_view
 
+abbrev pub value_option_view : Option (Bor values.Value) → Option Value
+value_option_view None = None
+value_option_view (Some v) = Some (value_view v.now)
+
+-- a row with these values written into it, each at its place, one after the other
+abbrev pub with_written : {V : Type 0} → List V → List ℕ → List V → List V
+with_written row (p ∷ ps) (v ∷ vs) = with_written (set row p v) ps vs
+with_written row _ _ = row
+
+-- the values of an entry, in the order of the section's table
+unfoldable pub row_values : EntryRow → List values.Value
+row_values row = with_written row.bare.value.items row.order.items row.written.items
+
 -- ---- entries
 
 abbrev pub entry_view : entries.Entry → Entry
-entry_view e = record { name = name_view e.name; values = values_view e.row.value.values.items; order = e.row.value.order.items }
+entry_view e = record { name = name_view e.name; values = values_view (row_values e.row.value); order = e.row.value.order.items }
 
 abbrev pub entries_view : Vec entries.Entry → List Entry
 entries_view xs = map entry_view xs.items
@@ -103,23 +112,6 @@ player_view p = record { event = plain_view p.event; value = value_view p.value 
 
 abbrev pub players_view : Vec players.Player → List Player
 players_view xs = map player_view xs.items
-
--- ---- faults
-
-abbrev pub spot_view : spots.Spot → Spot
-spot_view s = record { text = s.text.now; line = s.line; key = s.key.now }
-
-abbrev pub rows_fault_view : Fault → RowsFault
-rows_fault_view f = record { kind = f.kind; text = f.text.items; line = f.line; key = f.key.items }
-
--- An answer, seen by view, is what reading gives, unless memory ran out.
-abbrev pub FailsRows : {Y : Type 0} → ConfigFault → Result Y RowsFault → Type 0
-FailsRows faults.NoMemory read = Unit {0}
-FailsRows (faults.Bundle f) read = read ≡ Err (rows_fault_view f)
-
-abbrev pub GivesRows : {X Y : Type 0} → (X → Y) → Result X ConfigFault → Result Y RowsFault → Type 0
-GivesRows view (Ok x) read = read ≡ Ok (view x)
-GivesRows view (Err e) read = FailsRows e read
 
 -- ---- nodes
 

@@ -1,32 +1,45 @@
-//! The row of an entry in which nothing is written.
+//! What the entries of a section share.
 
 ghost use Rattle.std.specs.Prelude.{◌≡◌, IfOk};
-ghost use Rattle.section_tables.specs.Inside.{IsBareRow};
+ghost use Rattle.section_tables.specs.Inside.{AreSettingDefaults, IsBareRow};
 
-use crate::rows::EntryRow;
+use crate::rows::{EntryRow, Value};
 use crate::settings::{bare_row, first_lacking};
 use crate::table::Setting;
 use std::alloc::{AllocError, Global};
 use std::rc::Rc;
 
-/// A table, with the row of an entry in which nothing is written. All such entries of a section
-/// share it.
+/// A table, with what its section's entries share: what holds where nothing is written, and the row
+/// of an entry in which nothing is.
 #[derive(Drop)]
 pub struct Bare<'t> {
     pub table: &'t [Setting],
+    /// What holds where nothing is written: a value for each setting.
+    pub values: Rc<Vec<Value>>,
     pub row: Rc<EntryRow>,
     /// The key of the first setting that has to be written.
     pub lacks: Option<&'static [u8]>,
+    ghost defaults: { AreSettingDefaults table.now values.value.items },
     ghost is_bare: { IsBareRow table.now row.value lacks },
 }
 
-/// A table, with its row in which nothing is written.
+/// A table, with what the entries of its section share.
+#[tactic(auto, unfolding(crate::specs::View::row_values))]
 pub fn bare_of(alloc: Global, table: &[Setting]) -> Result<Bare<'_>, AllocError>
     ensures { IfOk result (λ bare. bare.table.now ≡ table.now) }
 {
-    let values = bare_row(alloc, table)?;
-    let lacks = first_lacking(table, &values);
-    let order = Vec::new(alloc);
-    let row = Rc::new(alloc, EntryRow { values, order })?;
-    Ok(Bare { table, row, lacks })
+    let values = Rc::new(alloc, bare_row(alloc, table)?)?;
+    let row = EntryRow {
+        written: Vec::new(alloc),
+        order: Vec::new(alloc),
+        bare: values.clone()?,
+    };
+    let lacks = first_lacking(table, &row);
+    let row = Rc::new(alloc, row)?;
+    Ok(Bare {
+        table,
+        values,
+        row,
+        lacks,
+    })
 }

@@ -5,8 +5,8 @@ ghost use Rattle.std.specs.Fn.{FnReturnsAt};
 ghost use Rattle.section_tables.specs.GivenEach.{GaveEach};
 ghost use Rattle.section_tables.specs.Inside.{is_counted};
 
-use crate::fault::ConfigFault;
 use crate::lists::is_empty;
+use config_faults::ConfigFault;
 use std::alloc::Global;
 use yaml_subset::tree::Tree;
 

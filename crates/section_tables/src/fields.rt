@@ -11,12 +11,11 @@ ghost use Rattle.section_tables.specs.View.{plain_view};
 ghost use Rattle.section_tables.specs.Inside.{GivesPlains, FillsPlains, GivesFields, GivesMaps, GivesKeyed, GivesKeyedList, FindsField, AreFieldDefaults, AreFieldDefaultsBut, lacking_field, put_field, overwrite_fields, read_field_row, read_fields, read_maps, read_named_maps, name_of_map, names_of_maps, read_keyed_row, read_keyed, read_keyed_list};
 
 use crate::each::each;
-use crate::fault::{ConfigFault, FaultKind};
 use crate::nodes::{few_pairs, nodes, pairs};
 use crate::rows::{Fields, Keyed, Plain};
 use crate::scalars::{is_name, name_of, plain};
-use crate::spot::{Spot, spot_of};
 use crate::table::{Absent, Bounds, Field, Others, Scalar};
+use config_faults::{ConfigFault, FaultKind, Spot, spot_of};
 use std::alloc::{AllocError, Global};
 use yaml_subset::tree::{Key, Tree};
 

@@ -7,13 +7,12 @@ ghost use Rattle.section_tables.specs.Gives.{ArePlayersOf, read_players, GivesPl
 ghost use Rattle.section_tables.specs.Inside.{GivesPlayer, read_player};
 
 use crate::each::each;
-use crate::fault::{ConfigFault, FaultKind};
 use crate::nodes::pairs;
 use crate::rows::Player;
 use crate::scalars::scalar;
 use crate::settings::value;
-use crate::spot::spot_of;
 use crate::table::PlayerKinds;
+use config_faults::{ConfigFault, FaultKind, spot_of};
 use std::alloc::Global;
 use yaml_subset::tree::{Key, Tree};
 

@@ -8,7 +8,7 @@
 
 mod bare;
 mod each;
-pub mod fault;
+mod entry_values;
 mod fields;
 mod handling;
 mod lists;
@@ -17,7 +17,6 @@ pub mod rows;
 mod scalars;
 mod sections;
 mod settings;
-pub mod spot;
 pub mod table;
 
 pub use handling::players;

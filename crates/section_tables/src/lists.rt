@@ -9,11 +9,10 @@ ghost use Rattle.section_tables.specs.Gives.{GivesNames};
 ghost use Rattle.section_tables.specs.Inside.{GivesCheck, GivesItem, GivesItems, GivesName, GivesHandler, GivesHandlers, check_of_count, read_items, read_item_name, read_item_handler, read_node_item, read_node_name, read_node_handler, read_node_names, read_node_handlers, read_one_name, read_one_handler, read_listed_names, read_listed_handlers};
 
 use crate::each::{each, each_counted};
-use crate::fault::{ConfigFault, FaultKind};
 use crate::rows::{Handler, Name};
 use crate::scalars::{handler_of, is_name, name_of};
-use crate::spot::Spot;
 use crate::table::Bounds;
+use config_faults::{ConfigFault, FaultKind, Spot};
 use mpf_values::{Event, Item, ListFault, event, list};
 use std::alloc::Global;
 use yaml_subset::tree::Tree;

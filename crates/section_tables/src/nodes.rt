@@ -11,10 +11,9 @@ ghost use Rattle.yaml_subset.specs.View.{node_view, pair_view, option_slice};
 ghost use Rattle.section_tables.specs.Entries.{pairs_below, nodes_below};
 ghost use Rattle.section_tables.specs.Inside.{GivesPairs, GivesNodes, read_pairs, read_few_pairs, read_nodes};
 
-use crate::fault::{ConfigFault, FaultKind};
 use crate::lists::{MAX_ITEMS, check_count};
-use crate::spot::Spot;
 use crate::table::Bounds;
+use config_faults::{ConfigFault, FaultKind, Spot};
 use std::alloc::Global;
 use yaml_subset::tree::{Key, Tree};
 

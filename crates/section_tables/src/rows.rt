@@ -1,23 +1,28 @@
 //! The rows of sections.
 
-ghost use Rattle.std.specs.Prelude.{◌≡◌};
+ghost use Rattle.std.specs.Prelude.{◌≡◌, length};
 
 use mpf_values::Comparison;
+use smallvec::SmallVec;
 use std::mem::size_of;
 use std::rc::Rc;
+
+/// The letters of a name. Most names are short: up to 16 letters are in the value itself, and take no
+/// memory of their own.
+pub type NameText = SmallVec<u8, 16>;
 
 /// A name of 1 to 64 letters, digits, `_`, `-` and `.`, with the line where it is written,
 /// counted from 1; line 0 if it is not written and holds by default.
 #[derive(Drop)]
 pub struct Name {
     pub line: u32,
-    pub text: Vec<u8>,
+    pub text: NameText,
 }
 
 /// That a variable of the current player compares so with a number.
 #[derive(Drop)]
 pub struct Guard {
-    pub variable: Vec<u8>,
+    pub variable: NameText,
     pub comparison: Comparison,
     pub number: i64,
 }
@@ -27,7 +32,7 @@ pub struct Guard {
 #[derive(Drop)]
 pub struct Handler {
     pub line: u32,
-    pub name: Vec<u8>,
+    pub name: NameText,
     pub condition: Option<Box<Guard>>,
 }
 
@@ -83,15 +88,20 @@ const _: () = prove!(size_of::<Plain>() <= 24);
 
 const _: () = prove!(size_of::<Value>() <= 32);
 
-const _: () = prove!(size_of::<Handler>() <= 48);
+const _: () = prove!(size_of::<Handler>() <= 56);
 
-/// The values of an entry, in the order of its section's table.
+/// The values of an entry. Those that are written are its own. The others it shares with all entries
+/// of its section.
 #[derive(Drop)]
 pub struct EntryRow {
-    pub values: Vec<Value>,
-    /// The settings that are written, by their places in the table, in the order in which they are
-    /// written. A key that the table does not have is not among them.
-    pub order: Vec<usize>,
+    /// The values that are written, in the order in which they are written. A key that the table does
+    /// not have gives none.
+    pub(crate) written: Vec<Value>,
+    /// Their places in the table.
+    pub(crate) order: Vec<usize>,
+    /// What holds where nothing is written: a value for each setting of the table.
+    pub(crate) bare: Rc<Vec<Value>>,
+    ghost placed: { length order.items ≡ length written.items },
 }
 
 /// An entry of a section. The entries of a section in which nothing is written share one row.
@@ -99,23 +109,6 @@ pub struct EntryRow {
 pub struct Entry {
     pub name: Name,
     pub row: Rc<EntryRow>,
-}
-
-impl Entry {
-    /// Its values, in the order of the section's table.
-    pub fn values(&self) -> &[Value]
-        ensures { result.now ≡ self.now.row.value.values.items }
-    {
-        &self.row.values
-    }
-
-    /// The settings that are written, by their places in the table, in the order in which they are
-    /// written.
-    pub fn order(&self) -> &[usize]
-        ensures { result.now ≡ self.now.row.value.order.items }
-    {
-        &self.row.order
-    }
 }
 
 /// An entry of a player: the event that its key is, by its name or as a handled event, and its

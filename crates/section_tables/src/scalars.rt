@@ -10,10 +10,9 @@ ghost use Rattle.section_tables.specs.Reading.{is_one_of};
 ghost use Rattle.section_tables.specs.View.{name_view, handler_view};
 ghost use Rattle.section_tables.specs.Inside.{GivesPlain, IsPlainSaid, name_said, event_said, scalar_said, read_plain};
 
-use crate::fault::{ConfigFault, FaultKind};
-use crate::rows::{Guard, Handler, Name, Plain};
-use crate::spot::Spot;
+use crate::rows::{Guard, Handler, Name, NameText, Plain};
 use crate::table::Scalar;
+use config_faults::{ConfigFault, FaultKind, Spot};
 use mpf_values::{Event, boolean, event, integer, name, power, time};
 use std::alloc::{AllocError, Global};
 use yaml_subset::tree::Tree;
@@ -30,7 +29,7 @@ pub fn is_name(text: &[u8]) -> bool
 pub fn name_of(alloc: Global, line: u32, text: &[u8]) -> Result<Name, AllocError>
     ensures { IfOk result (λ name. name_view name ≡ written_at line text.now) }
 {
-    let text = Vec::from_slice(alloc, text)?;
+    let text = NameText::from_slice(alloc, text)?;
     Ok(Name { line, text })
 }
 
@@ -38,11 +37,11 @@ pub fn name_of(alloc: Global, line: u32, text: &[u8]) -> Result<Name, AllocError
 pub fn handler_of(alloc: Global, line: u32, event: Event<'_>) -> Result<Handler, AllocError>
     ensures { IfOk result (λ handler. handler_view handler ≡ handled_at line (event_view event.entry)) }
 {
-    let name = Vec::from_slice(alloc, event.name)?;
+    let name = NameText::from_slice(alloc, event.name)?;
     let condition = match event.condition {
         None => None,
         Some(condition) => {
-            let variable = Vec::from_slice(alloc, condition.variable)?;
+            let variable = NameText::from_slice(alloc, condition.variable)?;
             let guard = Guard {
                 variable,
                 comparison: condition.comparison,

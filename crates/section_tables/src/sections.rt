@@ -9,14 +9,13 @@ ghost use Rattle.section_tables.specs.Inside.{GivesRow, read_row, places_of_pair
 
 use crate::bare::{Bare, bare_of};
 use crate::each::each;
-use crate::fault::{ConfigFault, FaultKind};
 use crate::lists::names;
 use crate::nodes::pairs;
 use crate::rows::{Entry, EntryRow, Name};
 use crate::scalars::{is_name, name_of, word_in};
-use crate::settings::values;
-use crate::spot::{Spot, spot_of};
+use crate::settings::row_of;
 use crate::table::{Barred, Bounds, Setting};
+use config_faults::{ConfigFault, FaultKind, Spot, spot_of};
 use std::alloc::Global;
 use std::rc::Rc;
 use yaml_subset::tree::{Key, Tree};
@@ -25,15 +24,14 @@ use yaml_subset::tree::{Key, Tree};
 fn own_row(
     alloc: Global,
     spot: Spot<'_>,
-    table: &[Setting],
+    bare: &Bare,
     pairs: &[(Key, Tree)],
 ) -> Result<Rc<EntryRow>, ConfigFault>
-    ensures order { IfOk result (λ row. (rc_value row).order.items ≡ places_of_pairs table.now pairs.now) }
-    ensures row { GivesRow rc_value result (read_row spot.entry table.now pairs.now) }
+    ensures order { IfOk result (λ row. (rc_value row).order.items ≡ places_of_pairs bare.now.table.now pairs.now) }
+    ensures row { GivesRow rc_value result (read_row spot.entry bare.now.table.now pairs.now) }
 {
-    let mut order = Vec::with_capacity(alloc, pairs.len())?;
-    let values = values(alloc, spot, table, pairs, &mut order)?;
-    Ok(Rc::new(alloc, EntryRow { values, order })?)
+    let row = row_of(alloc, spot, bare.table, &bare.values, pairs)?;
+    Ok(Rc::new(alloc, row)?)
 }
 
 // The row of an entry in which nothing is written; or Missing at the spot.
@@ -64,7 +62,7 @@ fn row(
     if pairs.is_empty() {
         return shared_row(alloc, spot, bare);
     }
-    own_row(alloc, spot, bare.table, pairs)
+    own_row(alloc, spot, bare, pairs)
 }
 
 // An entry of a section with this table; or the first fault.

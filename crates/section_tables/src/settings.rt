@@ -1,25 +1,27 @@
 //! The settings of an entry, read by the table of its section.
 
-ghost use Rattle.std.specs.Prelude.{◌≡◌, ◌<◌, [], ◌∷◌, length, None, IfOk, IfSome, OnOk};
+ghost use Rattle.std.specs.Prelude.{◌≡◌, ◌<◌, List, [], ◌∷◌, length, None, IfOk, IfSome, OnOk};
+ghost use Rattle.std.specs.Rc.{rc_value};
+ghost use Rattle.section_tables.specs.declared.rows.Value.{Value};
 ghost use Rattle.std.specs.List.{list_any};
 ghost use Rattle.std.specs.Str.{bytes_eq};
 ghost use Rattle.yaml_subset.specs.View.{option_slice};
 ghost use Rattle.section_tables.specs.Entries.{is_ignored, written_at, handled_at};
-ghost use Rattle.section_tables.specs.Tables.{value_default, value_lacks};
+ghost use Rattle.section_tables.specs.Tables.{value_default, value_lacks, lacks_if};
 ghost use Rattle.section_tables.specs.TableView.{without_view};
-ghost use Rattle.section_tables.specs.View.{names_view, handlers_view, value_view};
-ghost use Rattle.section_tables.specs.Inside.{GivesHandlers, GivesSteps, GivesValue, GivesValues, FillsValues, FindsSetting, AreSettingDefaults, lacking_setting, read_step, read_steps, read_value, put_setting, overwrite_settings, read_row, GainsPlaces, place_of_key, places_of_pairs};
+ghost use Rattle.section_tables.specs.View.{names_view, handlers_view, value_view, value_option_view, with_written, row_values};
+ghost use Rattle.section_tables.specs.Inside.{GivesHandlers, GivesSteps, GivesValue, GivesRow, WritesValues, FindsSetting, AreSettingDefaults, lacking_setting, read_step, read_steps, read_value, put_setting, overwrite_settings, read_row, GainsPlaces, place_of_key, places_of_pairs};
 
 use crate::each::each;
-use crate::fault::{ConfigFault, FaultKind};
 use crate::fields::{default_plain, keyed_list, lacks as plain_lacks, maps, named_maps};
 use crate::lists::{MAX_ITEMS, handlers, names};
 use crate::nodes::nodes;
-use crate::rows::{Handler, Name, Value};
+use crate::rows::{EntryRow, Handler, Name, NameText, Value};
 use crate::scalars::plain;
-use crate::spot::{Spot, spot_of};
 use crate::table::{Bounds, Kind, Setting, Without};
+use config_faults::{ConfigFault, FaultKind, Spot, spot_of};
 use std::alloc::{AllocError, Global};
+use std::rc::Rc;
 use yaml_subset::tree::{Key, Tree};
 
 // ---- keys
@@ -73,7 +75,7 @@ fn setting_of<'t>(table: &'t [Setting], key: &[u8]) -> Option<(usize, &'t Settin
 fn default_name(alloc: Global, text: &[u8]) -> Result<Vec<Name>, AllocError>
     ensures { IfOk result (λ xs. names_view xs ≡ written_at 0 text.now ∷ []) }
 {
-    let text = Vec::from_slice(alloc, text)?;
+    let text = NameText::from_slice(alloc, text)?;
     let mut names = Vec::with_capacity(alloc, 1)?;
     names.push(Name { line: 0, text })?;
     Ok(names)
@@ -83,7 +85,7 @@ fn default_name(alloc: Global, text: &[u8]) -> Result<Vec<Name>, AllocError>
 fn default_event(alloc: Global, name: &[u8]) -> Result<Vec<Handler>, AllocError>
     ensures { IfOk result (λ xs. handlers_view xs ≡ handled_at 0 (record { name = name.now; condition = None }) ∷ []) }
 {
-    let name = Vec::from_slice(alloc, name)?;
+    let name = NameText::from_slice(alloc, name)?;
     let handler = Handler {
         line: 0,
         name,
@@ -138,13 +140,23 @@ fn lacks(without: Without, value: &Value) -> bool
     }
 }
 
+// The same, where there may be no value.
+fn lacks_at(without: Without, value: Option<&Value>) -> bool
+    ensures { result ≡ lacks_if (without_view without) (value_option_view value.entry) }
+{
+    match value {
+        Some(value) => lacks(without, value),
+        None => false,
+    }
+}
+
 /// The key of the first setting that has to be written and is not.
-pub fn first_lacking(table: &[Setting], row: &[Value]) -> Option<&'static [u8]>
-    requires { length row.now ≡ length table.now }
-    ensures { option_slice (λ key. key) result ≡ lacking_setting table.now row.now }
+pub fn first_lacking(table: &[Setting], row: &EntryRow) -> Option<&'static [u8]>
+    requires { length (row_values row.now) ≡ length table.now }
+    ensures { option_slice (λ key. key) result ≡ lacking_setting table.now (row_values row.now) }
 {
     for (at, setting) in table.iter().enumerate() {
-        if lacks(setting.without, &row[at]) {
+        if lacks_at(setting.without, row.value(at)) {
             return Some(setting.key);
         }
     }
@@ -213,19 +225,20 @@ pub fn value(alloc: Global, spot: Spot<'_>, kind: Kind, tree: &Tree) -> Result<V
     }
 }
 
-// Puts the value of a pair into a row, and adds its place in the table to the order; or
-// UnknownSetting, or the fault of the value.
+// Adds the value of a pair and its place in the table to what is written; or UnknownSetting, or the
+// fault of the value.
 fn put(
     alloc: Global,
     spot: Spot<'_>,
     table: &[Setting],
     tree: &Tree,
-    row: &mut [Value],
+    written: &mut Vec<Value>,
     order: &mut Vec<usize>,
 ) -> Result<(), ConfigFault>
-    requires { length row.old ≡ length table.now }
+    requires { length order.old.items ≡ length written.old.items }
     ensures order { OnOk result (GainsPlaces order.old order.new (place_of_key table.now spot.entry.key.now)) }
-    ensures row { FillsValues result row.new (put_setting spot.entry table.now tree.now row.old) }
+    ensures placed { OnOk result (length order.new.items ≡ length written.new.items) }
+    ensures row { (row : List Value) → WritesValues result row order.new written.new (put_setting spot.entry table.now tree.now (with_written row order.old.items written.old.items)) }
 {
     let Some((at, setting)) = setting_of(table, spot.key) else {
         if is_ignored(spot.key) {
@@ -233,47 +246,62 @@ fn put(
         }
         return Err(ConfigFault::Bundle(spot.fault(alloc, FaultKind::UnknownSetting)?));
     };
-    row[at] = value(alloc, spot, setting.kind, tree)?;
+    let value = value(alloc, spot, setting.kind, tree)?;
+    written.push(value)?;
     order.push(at)?;
     Ok(())
 }
 
-// Overwrites a row by pairs, one after the other, and adds their places to the order; or the first
-// fault.
+// Adds what pairs write, one after the other; or the first fault.
 fn overwrite(
     alloc: Global,
     text: &[u8],
     table: &[Setting],
     pairs: &[(Key, Tree)],
-    row: &mut [Value],
+    written: &mut Vec<Value>,
     order: &mut Vec<usize>,
 ) -> Result<(), ConfigFault>
-    requires { length row.old ≡ length table.now }
+    requires { length order.old.items ≡ length written.old.items }
     ensures order { OnOk result (GainsPlaces order.old order.new (places_of_pairs table.now pairs.now)) }
-    ensures row { FillsValues result row.new (overwrite_settings text.now table.now pairs.now row.old) }
+    ensures placed { OnOk result (length order.new.items ≡ length written.new.items) }
+    ensures row { (row : List Value) → WritesValues result row order.new written.new (overwrite_settings text.now table.now pairs.now (with_written row order.old.items written.old.items)) }
 {
     for pair in pairs {
-        put(alloc, spot_of(text, &pair.0), table, &pair.1, row, order)?;
+        put(
+            alloc,
+            spot_of(text, &pair.0),
+            table,
+            &pair.1,
+            written,
+            order,
+        )?;
     }
     Ok(())
 }
 
-/// The row of the pairs of an entry. The places in the table of the settings that are written are
-/// added to the order. Or the first fault: those of the settings as they are written, and then
-/// `Missing` at the spot, with the first key of the table that is required and not written.
-#[tactic(auto, unfolding(crate::specs::Reading::row_at))]
-pub fn values(
+/// The row of the pairs of an entry, with these values for what is not written. Or the first fault:
+/// those of the settings as they are written, and then `Missing` at the spot, with the first key of
+/// the table that is required and not written.
+#[tactic(auto, unfolding(crate::specs::Reading::row_at, crate::specs::View::row_values))]
+pub fn row_of(
     alloc: Global,
     spot: Spot<'_>,
     table: &[Setting],
+    bare: &Rc<Vec<Value>>,
     pairs: &[(Key, Tree)],
-    order: &mut Vec<usize>,
-) -> Result<Vec<Value>, ConfigFault>
-    ensures order { OnOk result (GainsPlaces order.old order.new (places_of_pairs table.now pairs.now)) }
-    ensures row { GivesValues result (read_row spot.entry table.now pairs.now) }
+) -> Result<EntryRow, ConfigFault>
+    requires { AreSettingDefaults table.now (rc_value bare.now).items }
+    ensures order { IfOk result (λ row. row.order.items ≡ places_of_pairs table.now pairs.now) }
+    ensures row { GivesRow (λ row. row) result (read_row spot.entry table.now pairs.now) }
 {
-    let mut row = bare_row(alloc, table)?;
-    overwrite(alloc, spot.text, table, pairs, &mut row, order)?;
+    let mut written = Vec::with_capacity(alloc, pairs.len())?;
+    let mut order = Vec::with_capacity(alloc, pairs.len())?;
+    overwrite(alloc, spot.text, table, pairs, &mut written, &mut order)?;
+    let row = EntryRow {
+        written,
+        order,
+        bare: bare.clone()?,
+    };
     if let Some(key) = first_lacking(table, &row) {
         let missing = Spot { key, ..spot };
         return Err(ConfigFault::Bundle(missing.fault(alloc, FaultKind::Missing)?));

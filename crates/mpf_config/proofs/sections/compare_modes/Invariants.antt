@@ -1,5 +1,5 @@
 use Rattle.std.proofs.Common.{◌≡◌, [], drop, map}
-use Rattle.section_tables.specs.View.{spot_view}
+use Rattle.config_faults.specs.Faults.{spot_view}
 use Rattle.mpf_config.specs.Reading.{modes_new_at}
 use Rattle.mpf_config.specs.View.{name_view}
 use Rattle.mpf_config.specs.Inside.{copies_view}

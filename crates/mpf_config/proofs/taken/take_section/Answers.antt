@@ -1,8 +1,8 @@
 use Rattle.std.proofs.Common.{◌≡◌, ◌+◌, ◌||◌, ℕ, List, [], ◌∷◌, ◌++◌, Err, not, drop, map, sym, ap, ◌∙◌}
 use Rattle.std.specs.Str.{bytes_eq}
 use Rattle.yaml_subset.specs.Keys.{is_among}
-use Rattle.section_tables.specs.declared.fault.FaultKind.TheVariants.{Duplicate}
-use Rattle.section_tables.specs.Reading.{rows_fault_at}
+use Rattle.config_faults.specs.declared.fault.FaultKind.TheVariants.{Duplicate}
+use Rattle.config_faults.specs.Faults.{rows_fault_at}
 use Rattle.mpf_config.specs.Apart.{joined, named_entry}
 use Rattle.mpf_sections.specs.View.{entry_view}
 use Rattle.mpf_config.specs.Inside.{copies_view}
@@ -24,7 +24,7 @@ loop-entry-preserved c =
     let keys = copies_view c.loop-entry.taken in
     let more = copies_view c.take_entry.new.taken in
     let front : c.deref-in-loop-entry.result.now ≡ joined section [] = c.deref-in-loop-entry.ensures.value ∙ c.in_ok-front.ensures ∙ ap (λ s. joined s []) c.deref.ensures.value in
-    let key : c.deref-in-loop-entry.result.now ++ c.deref-in-loop-entry-2.result.now ≡ joined section name = (λ j. front j ++ c.deref-in-loop-entry-2.ensures.value j) ∙ front_and_name section name in
+    let key : c.deref-in-loop-entry.result.now ++ c.deref-in-loop-entry-2.result.now ≡ joined section name = (λ j. front j ++ c.deref-in-loop-entry-2.ensures j) ∙ front_and_name section name in
     let fresh = c.in_ok-fresh.ensures.fresh ∙ ap (λ k. not (is_among keys k)) key in
     let known : (q : List ℕ) → is_among more q ≡ (bytes_eq (joined section name) q || is_among keys q) = λ q. c.in_ok-fresh.ensures.known q ∙ ap (λ k. bytes_eq k q || is_among keys q) key in
     record {
@@ -45,9 +45,9 @@ returns-then-not-fresh-clause-value c =
     let first : all ≡ named (entry_view entry) ∷ behind = ap (map named) (mapped_at entry_view entries i entry c.loop-entry-test.true c.entry-item.is) in
     let keys = copies_view c.loop-entry.taken in
     let front : c.deref-in-loop-entry.result.now ≡ joined section [] = c.deref-in-loop-entry.ensures.value ∙ c.in_ok-front.ensures ∙ ap (λ s. joined s []) c.deref.ensures.value in
-    let key : c.deref-in-loop-entry.result.now ++ c.deref-in-loop-entry-2.result.now ≡ joined section name = (λ j. front j ++ c.deref-in-loop-entry-2.ensures.value j) ∙ front_and_name section name in
+    let key : c.deref-in-loop-entry.result.now ++ c.deref-in-loop-entry-2.result.now ≡ joined section name = (λ j. front j ++ c.deref-in-loop-entry-2.ensures j) ∙ front_and_name section name in
     let fresh = c.in_ok-fresh.ensures.fresh ∙ ap (λ k. not (is_among keys k)) key in
     let refused = refuses_entry c.args.text.now keys c.in_ok-fresh.fresh (named (entry_view entry)) behind all first fresh c.if-not-fresh.true in
     sym c.loop-entry.invariant.so_far ∙ refused
-    ∙ ap (λ k. Err (rows_fault_at Duplicate (record { text = c.args.text.now; line = entry.name.line; key = k }))) (sym c.deref-then-not-fresh.ensures.value)
+    ∙ ap (λ k. Err (rows_fault_at Duplicate (record { text = c.args.text.now; line = entry.name.line; key = k }))) (sym c.deref-then-not-fresh.ensures)
     ∙ sym (ap Err c.in_ok-fault.ensures)

@@ -2,7 +2,7 @@ use Rattle.std.proofs.Common.{map, sym, ap, subst, ◌∙◌}
 use Rattle.yaml_subset.specs.View.{node_view}
 use Rattle.section_tables.specs.Reading.{handled_in, most_items}
 use Rattle.section_tables.specs.TableView.{bounds_view}
-use Rattle.section_tables.specs.View.{spot_view}
+use Rattle.config_faults.specs.Faults.{spot_view}
 use Rattle.section_tables.specs.Inside.{GivesHandlers}
 use Rattle.section_tables.specs.Inside.{read_one_handler}
 use Rattle.section_tables.proofs.NameLists.{one_handled}

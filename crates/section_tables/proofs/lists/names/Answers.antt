@@ -2,7 +2,7 @@ use Rattle.std.proofs.Common.{map, sym, ap, subst, ◌∙◌}
 use Rattle.yaml_subset.specs.View.{node_view}
 use Rattle.section_tables.specs.Reading.{written_in}
 use Rattle.section_tables.specs.TableView.{bounds_view}
-use Rattle.section_tables.specs.View.{spot_view}
+use Rattle.config_faults.specs.Faults.{spot_view}
 use Rattle.section_tables.specs.Gives.{GivesNames}
 use Rattle.section_tables.specs.Inside.{read_one_name}
 use Rattle.section_tables.proofs.NameLists.{one_written}

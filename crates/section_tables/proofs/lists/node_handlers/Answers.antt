@@ -1,7 +1,8 @@
 use Rattle.std.proofs.Common.{filter}
 use Rattle.yaml_subset.specs.View.{node_view}
 use Rattle.section_tables.specs.Reading.{handled_in}
-use Rattle.section_tables.specs.View.{handler_view, spot_view}
+use Rattle.section_tables.specs.View.{handler_view}
+use Rattle.config_faults.specs.Faults.{spot_view}
 use Rattle.section_tables.specs.Inside.{is_counted, node_item_at}
 use Rattle.section_tables.proofs.EachGiven.{gives_each}
 use Rattle.section_tables.proofs.NodeLists.{seen_counted}

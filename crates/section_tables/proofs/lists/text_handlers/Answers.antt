@@ -1,7 +1,8 @@
 use Rattle.std.proofs.Common.{sym}
 use Rattle.mpf_values.specs.View.{item_view}
 use Rattle.section_tables.specs.Reading.{handled_in}
-use Rattle.section_tables.specs.View.{handler_view, spot_view}
+use Rattle.section_tables.specs.View.{handler_view}
+use Rattle.config_faults.specs.Faults.{spot_view}
 use Rattle.section_tables.proofs.EachGiven.{gives_each}
 use Rattle.section_tables.proofs.lists.text_handlers.Goals as goal
 

@@ -1,7 +1,8 @@
 use Rattle.std.proofs.Common.{sym}
 use Rattle.mpf_values.specs.View.{item_view}
 use Rattle.section_tables.specs.Reading.{written_in}
-use Rattle.section_tables.specs.View.{name_view, spot_view}
+use Rattle.section_tables.specs.View.{name_view}
+use Rattle.config_faults.specs.Faults.{spot_view}
 use Rattle.section_tables.proofs.EachGiven.{gives_each}
 use Rattle.section_tables.proofs.lists.text_names.Goals as goal
 

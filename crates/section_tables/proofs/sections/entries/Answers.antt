@@ -3,7 +3,8 @@ use Rattle.yaml_subset.specs.View.{pair_view}
 use Rattle.section_tables.specs.EntryOf.{AreEntries}
 use Rattle.section_tables.specs.Reading.{entries_at}
 use Rattle.section_tables.specs.TableView.{barred_view, table_view}
-use Rattle.section_tables.specs.View.{entries_view, GivesRows}
+use Rattle.section_tables.specs.View.{entries_view}
+use Rattle.config_faults.specs.Faults.{GivesRows}
 use Rattle.section_tables.specs.declared.table.Setting.{Setting}
 use Rattle.section_tables.proofs.AnswersOf.{is_found, is_only, is_refused}
 use Rattle.section_tables.proofs.EntriesRead.{entries_sound, entries_complete}

@@ -1,15 +1,16 @@
-use Rattle.std.proofs.Common.{◌≡◌, ◌++◌, drop, length, map}
+use Rattle.std.proofs.Common.{◌≡◌, List, ◌++◌, drop, length, map}
+use Rattle.section_tables.specs.declared.rows.Value.{Value}
 use Rattle.section_tables.specs.Entries.{is_ignored}
 use Rattle.section_tables.specs.EntryOf.{places_written}
 use Rattle.section_tables.specs.Tables.{setting_key}
 use Rattle.section_tables.specs.Reading.{setting_at, overwritten_at}
 use Rattle.section_tables.specs.TableView.{setting_view}
-use Rattle.section_tables.specs.View.{pairs_view, values_view}
+use Rattle.section_tables.specs.View.{pairs_view, values_view, with_written}
 use Rattle.section_tables.proofs.settings.overwrite.Given as goal
 
 abbrev pub invariant-loop-pair : goal.invariant-loop-pair
 invariant-loop-pair l =
-    (length l.row ≡ length l.table)
-    × (overwritten_at setting_key setting_at is_ignored l.text (map setting_view l.table) (pairs_view (drop l.pair-index l.pairs)) (values_view l.row)
-    ≡ overwritten_at setting_key setting_at is_ignored l.text (map setting_view l.table) (pairs_view l.pairs) (values_view l.fn.row))
+    (length l.order.items ≡ length l.written.items)
+    × ((row : List Value) → overwritten_at setting_key setting_at is_ignored l.text (map setting_view l.table) (pairs_view (drop l.pair-index l.pairs)) (values_view (with_written row l.order.items l.written.items))
+    ≡ overwritten_at setting_key setting_at is_ignored l.text (map setting_view l.table) (pairs_view l.pairs) (values_view (with_written row l.fn.order.items l.fn.written.items)))
     × (l.order.items ++ places_written (map setting_view l.table) (pairs_view (drop l.pair-index l.pairs)) ≡ l.fn.order.items ++ places_written (map setting_view l.table) (pairs_view l.pairs))

@@ -1,8 +1,8 @@
 //! Why a bundle has no rows.
 
 ghost use Rattle.std.specs.Prelude.{◌≡◌};
-ghost use Rattle.section_tables.specs.FaultNames.{number_of, kind_name};
-ghost use Rattle.section_tables.specs.declared.fault.ConfigFault.TheVariants.{NoMemory};
+ghost use Rattle.config_faults.specs.FaultNames.{number_of, kind_name};
+ghost use Rattle.config_faults.specs.declared.fault.ConfigFault.TheVariants.{NoMemory};
 
 use std::alloc::{AllocError, AllocFailed};
 use thiserror::Error;

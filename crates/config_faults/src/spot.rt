@@ -2,8 +2,7 @@
 
 ghost use Rattle.std.specs.Prelude.{◌≡◌, IfOk};
 ghost use Rattle.std.specs.Cow.{cow_slice_items};
-ghost use Rattle.section_tables.specs.View.{spot_view};
-ghost use Rattle.section_tables.specs.Gives.{IsFaultAt};
+ghost use Rattle.config_faults.specs.Faults.{spot_view, IsFaultAt};
 
 use crate::fault::{Fault, FaultKind};
 use std::alloc::{AllocError, Global};

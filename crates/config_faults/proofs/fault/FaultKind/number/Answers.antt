@@ -1,5 +1,5 @@
 use Rattle.std.proofs.Common.{rules}
-use Rattle.section_tables.proofs.fault.FaultKind.number.Goals as goal
+use Rattle.config_faults.proofs.fault.FaultKind.number.Goals as goal
 
 pub returns-in-Bundle : goal.returns-in-Bundle
 returns-in-Bundle c = search rules

@@ -1,7 +1,7 @@
 -- What the kinds of faults are called.
 use Rattle.std.specs.Prelude.{ℕ, List, codes}
-use Rattle.section_tables.specs.declared.fault.FaultKind.{FaultKind}
-use Rattle.section_tables.specs.declared.fault.FaultKind.TheVariants.{Bundle, Version, Yaml, UnknownSection, UnknownSetting, BadValue, Missing, Duplicate, Limit}
+use Rattle.config_faults.specs.declared.fault.FaultKind.{FaultKind}
+use Rattle.config_faults.specs.declared.fault.FaultKind.TheVariants.{Bundle, Version, Yaml, UnknownSection, UnknownSetting, BadValue, Missing, Duplicate, Limit}
 
 -- the number of a kind
 abbrev pub number_of : FaultKind → ℕ

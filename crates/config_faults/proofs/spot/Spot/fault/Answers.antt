@@ -1,5 +1,5 @@
 use Rattle.std.proofs.Common.{rules}
-use Rattle.section_tables.proofs.spot.Spot.fault.Goals as goal
+use Rattle.config_faults.proofs.spot.Spot.fault.Goals as goal
 
 pub returns-in_err-from_slice : goal.returns-in_err-from_slice
 returns-in_err-from_slice c = search rules

@@ -1,5 +1,5 @@
 use Rattle.std.proofs.Common.{rules}
-use Rattle.section_tables.proofs.fault.FaultKind.name.Goals as goal
+use Rattle.config_faults.proofs.fault.FaultKind.name.Goals as goal
 
 pub returns-in-Bundle : goal.returns-in-Bundle
 returns-in-Bundle c = search rules

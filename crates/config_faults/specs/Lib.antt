@@ -1,0 +1,2 @@
+pub mod FaultNames
+pub mod Faults

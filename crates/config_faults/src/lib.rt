@@ -1,0 +1,11 @@
+//! Faults in the texts of a configuration: what is wrong, and where.
+//!
+//! A [`Fault`] has its kind, its text, its line and its key. A [`Spot`] is where one may be: a reader
+//! takes it, and makes the fault of a kind there.
+#![tactic(auto)]
+
+mod fault;
+mod spot;
+
+pub use fault::{ConfigFault, Fault, FaultKind};
+pub use spot::{Spot, spot_of};
