@@ -61,21 +61,16 @@ impl<'a> Definitions<'a> {
     pub fn new(alloc: Global, config: &'a Config) -> Result<Definitions<'a>, AllocError>
         ensures { IfOk result (λ d. d ≡ rows_view config.now) }
     {
-        let machine: &'a [Section] = config.machine.sections.as_slice();
-        let hashing = config.hashing;
-        let coils = coils_of(alloc, hashing, machine)?;
-        let switches = switches_of(alloc, hashing, machine)?;
-        let quick = quick_of(alloc, hashing, machine)?;
-        let ball_devices = ball_devices_of(alloc, hashing, machine)?;
+        let machine = machine_tables(alloc, config.hashing, &config.machine.sections)?;
         let shots = shots_of(alloc, config)?;
         let profiles = profiles_of(alloc, config)?;
         let standard = standard_profile(alloc)?;
         Ok(Definitions {
             config,
-            coils,
-            switches,
-            quick,
-            ball_devices,
+            coils: machine.coils,
+            switches: machine.switches,
+            quick: machine.quick,
+            ball_devices: machine.ball_devices,
             shots,
             profiles,
             standard,
@@ -132,6 +127,8 @@ impl<'a> Definitions<'a> {
     }
 
     /// The shot of this name, if there is one, in whichever text.
+    // Inlined, as `as_shot` is.
+    #[inline(always)]
     pub fn shot(&self, name: &[u8]) -> Option<Shot<'a>>
         ensures { option_map shot_view result ≡ shot_called self.now name.now }
     {
@@ -154,6 +151,34 @@ impl<'a> Definitions<'a> {
     {
         self.profiles.get(name).unwrap_or(&self.standard)
     }
+}
+
+/// What the entries of the machine text define, without its shots and profiles.
+#[derive(Drop)]
+struct MachineTables<'a> {
+    coils: ByName<'a, &'a Entry>,
+    switches: Names<'a>,
+    quick: Names<'a>,
+    ball_devices: ByName<'a, &'a Entry>,
+}
+
+/// What these sections of the machine text define.
+fn machine_tables<'a>(
+    alloc: Global,
+    hashing: KeyHashing,
+    sections: &'a [Section],
+) -> Result<MachineTables<'a>, AllocError>
+    ensures coils { IfOk result (λ t. HasCoils (section_rows sections.now) t.coils) }
+    ensures switches { IfOk result (λ t. HasSwitches (section_rows sections.now) t.switches) }
+    ensures quick { IfOk result (λ t. HasQuick (section_rows sections.now) t.quick) }
+    ensures ball_devices { IfOk result (λ t. HasBallDevices (section_rows sections.now) t.ball_devices) }
+{
+    Ok(MachineTables {
+        coils: coils_of(alloc, hashing, sections)?,
+        switches: switches_of(alloc, hashing, sections)?,
+        quick: quick_of(alloc, hashing, sections)?,
+        ball_devices: ball_devices_of(alloc, hashing, sections)?,
+    })
 }
 
 /// The coils of all sections, by their names.

@@ -4,10 +4,11 @@ use Rattle.std.specs.Borrow.{Bor}
 use Rattle.std.specs.HashMap.{HashMap}
 use Rattle.std.specs.Map.{lookup}
 use Rattle.std.specs.Str.{bytes_eq}
-use Rattle.mpf_sections.specs.View.{entry_view, player_view, mode_settings_view}
+use Rattle.mpf_sections.specs.View.{entry_view, player_view}
+use Rattle.mpf_sections.specs.Typed.{mode_settings}
 use Rattle.mpf_sections.specs.TypedShots.{shot_of, shot_group_of}
 use Rattle.mpf_sections.specs.TypedBalls.{playfield, ball_device_of}
-use Rattle.machine_definitions.specs.Found.{has_bytes, profile_view}
+use Rattle.machine_definitions.specs.Found.{has_bytes, profile_view, section_rows}
 use Rattle.plan_rows.specs.declared.rows.Row as rows
 use Rattle.plan_rows.specs.declared.rows.Row.TheVariants as row
 use Rattle.plan_rows.specs.declared.seats.Seat as seats
@@ -43,7 +44,7 @@ row_view (row.Shot place s seat known p) = shot place (shot_of (entry_view s.now
 row_view (row.Group place g m) = group place (shot_group_of (entry_view g.now)) (members_view m)
 row_view (row.BallDevice d to) = ball_device (ball_device_of (entry_view d.now)) to
 row_view (row.Player place section p) = player place section.now (player_view p.now)
-row_view (row.Mode name s) = of_mode name.now (mode_settings_view s)
+row_view (row.Mode name sections) = of_mode name.now (mode_settings (section_rows sections.now))
 
 abbrev pub row_list_view : List rows.Row → List Row
 row_list_view rs = map row_view rs

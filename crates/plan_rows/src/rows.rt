@@ -1,6 +1,9 @@
 //! The rows of a configuration, in plan order.
 
 ghost use Rattle.std.specs.Prelude.{◌≡◌, IfOk, OnOk};
+ghost use Rattle.std.specs.Str.{bytes_eq};
+ghost use Rattle.mpf_sections.specs.TypedShots.{shots_name, shot_groups_name};
+ghost use Rattle.mpf_sections.specs.TypedBalls.{ball_devices_name};
 ghost use Rattle.plan_rows.specs.Rows.{rows_of};
 ghost use Rattle.plan_rows.specs.View.{row_view, row_list_view};
 ghost use Rattle.plan_rows.specs.Gained.{Gains, row_of_ball_device, rows_of_mode, rows_of_players, rows_after_sections, rows_after_mode, rows_of_text, rows_of_entries, row_of_entry, row_of_other, rows_of_section, rows_of_sections, row_of_shot};
@@ -12,8 +15,8 @@ use crate::seats::{Seat, Seats, seats_of};
 use machine_definitions::{Definitions, Profile};
 use mpf_config::config::ModeText;
 use mpf_config::{
-    BALL_DEVICES_NAME, Content, Entry, ModeSettings, Player, SHOT_GROUPS_NAME, SHOTS_NAME, Section,
-    as_ball_device, as_shot, as_shot_group, mode_settings,
+    BALL_DEVICES_NAME, Content, Entry, Player, SHOT_GROUPS_NAME, SHOTS_NAME, Section,
+    as_ball_device, as_shot, as_shot_group,
 };
 use std::alloc::{AllocError, Global};
 
@@ -32,8 +35,8 @@ pub enum Row<'d, 'a> {
     BallDevice(&'a Entry, Destination),
     /// An entry of a player in the section of this name, whose bindings have this place.
     Player(Place, &'a [u8], &'a Player),
-    /// A mode by its name, with what its text says of it.
-    Mode(&'a [u8], ModeSettings<'a>),
+    /// A mode by its name, with the sections of its text.
+    Mode(&'a [u8], &'a [Section]),
 }
 
 /// The rows of the machine text, and then those of one mode after the other, in the order of the
@@ -79,7 +82,7 @@ fn add_mode<'d, 'a>(
     ensures after { IfOk result (λ after. after ≡ rows_after_mode before mode.now) }
 {
     let sections = mode.sections.as_slice();
-    rows.push(Row::Mode(&mode.name, mode_settings(sections)))?;
+    rows.push(Row::Mode(&mode.name, sections))?;
     add_text(alloc, rows, definitions, Place::Mode, before, sections)
 }
 
@@ -150,8 +153,9 @@ fn add_entries<'d, 'a>(
     ensures { OnOk result (Gains rows.old rows.new (rows_of_entries definitions.now place seats.now section.now entries.now)) }
 {
     rows.reserve(entries.len())?;
+    let asked = section_of(section);
     for entry in entries {
-        rows.push(entry_row(definitions, place, seats, section, entry))?;
+        rows.push(entry_row(definitions, place, seats, asked, entry))?;
     }
     Ok(())
 }
@@ -171,20 +175,44 @@ fn add_players<'d, 'a>(
     Ok(())
 }
 
-/// The row of an entry in the section of this name.
+/// A section by its name, and whether its entries are of a kind whose rows need other entries. This
+/// is asked once for all its entries.
+#[derive(Clone, Copy)]
+struct EntrySection<'a> {
+    name: &'a [u8],
+    has_shots: bool,
+    has_groups: bool,
+    has_ball_devices: bool,
+    ghost shots: { has_shots ≡ bytes_eq name.now shots_name },
+    ghost groups: { has_groups ≡ bytes_eq name.now shot_groups_name },
+    ghost ball_devices: { has_ball_devices ≡ bytes_eq name.now ball_devices_name },
+}
+
+fn section_of(name: &[u8]) -> EntrySection<'_>
+    ensures { result.name.now ≡ name.now }
+{
+    EntrySection {
+        name,
+        has_shots: name == SHOTS_NAME,
+        has_groups: name == SHOT_GROUPS_NAME,
+        has_ball_devices: name == BALL_DEVICES_NAME,
+    }
+}
+
+/// The row of an entry in this section.
 fn entry_row<'d, 'a>(
     definitions: &'d Definitions<'a>,
     place: Place,
     seats: &Seats<'a>,
-    section: &'a [u8],
+    section: EntrySection<'a>,
     entry: &'a Entry,
 ) -> Row<'d, 'a>
-    ensures { row_view result ≡ row_of_entry definitions.now place seats.now section.now entry.now }
+    ensures { row_view result ≡ row_of_entry definitions.now place seats.now section.entry.name.now entry.now }
 {
-    if section == SHOTS_NAME {
+    if section.has_shots {
         return shot_row(definitions, place, seats, entry);
     }
-    if section == SHOT_GROUPS_NAME {
+    if section.has_groups {
         return Row::Group(place, entry, members_of(definitions, as_shot_group(entry)));
     }
     other_row(place, seats, section, entry)
@@ -214,14 +242,14 @@ fn shot_row<'d, 'a>(
 fn other_row<'d, 'a>(
     place: Place,
     seats: &Seats<'a>,
-    section: &'a [u8],
+    section: EntrySection<'a>,
     entry: &'a Entry,
 ) -> Row<'d, 'a>
-    ensures { row_view result ≡ row_of_other place seats.now section.now entry.now }
+    ensures { row_view result ≡ row_of_other place seats.now section.entry.name.now entry.now }
 {
     match place {
-        Place::Machine if section == BALL_DEVICES_NAME => ball_device_row(seats, entry),
-        _ => Row::Entry(place, section, entry),
+        Place::Machine if section.has_ball_devices => ball_device_row(seats, entry),
+        _ => Row::Entry(place, section.name, entry),
     }
 }
 

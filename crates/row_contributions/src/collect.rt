@@ -21,7 +21,7 @@ use mpf_config::{
     AUTOFIRE_COILS_NAME, COIL_PLAYER_NAME, COILS_NAME, Debounce, EVENT_PLAYER_NAME, Entry,
     EventPlayer, FLIPPERS_NAME, GAME_NAME, ModeSettings, Name, Player, SWITCHES_NAME, Switch,
     VARIABLE_PLAYER_NAME, as_autofire, as_ball_device, as_coil, as_coil_player, as_event_player,
-    as_flipper, as_game, as_shot, as_shot_group, as_switch, as_variable_player,
+    as_flipper, as_game, as_shot, as_shot_group, as_switch, as_variable_player, mode_settings,
 };
 use plan_contributions::{Aim, Contribution, Effect, add, joined, whole};
 use plan_rows::{Place, Row};
@@ -64,7 +64,7 @@ pub fn collect_row<'a>(
         Row::Player(place, section, player) => {
             collect_player(contributions, definitions, place, section, player)
         }
-        Row::Mode(name, settings) => collect_mode(contributions, name, settings),
+        Row::Mode(name, sections) => collect_mode(contributions, name, mode_settings(sections)),
     }
 }
 

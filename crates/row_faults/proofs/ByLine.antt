@@ -1,12 +1,12 @@
 -- What a stable sort by number makes of a list.
-use Rattle.std.proofs.Common.{◌≡◌, ℕ, ◌<◌, ◌≤◌, nat_lt, ◌==◌, if◌then◌else◌, Bool, true, false, cond, not, ◌&&◌, List, [], ◌∷◌, filter, map, suc, refl, sym, ap, ◌∙◌, inl, inr, arith, true≢false}
-use Rattle.std.specs.List.{All}
+use Rattle.std.proofs.Common.{◌≡◌, ℕ, ◌<◌, ◌≤◌, nat_lt, ◌==◌, if◌then◌else◌, Bool, true, false, cond, not, ◌&&◌, List, [], ◌∷◌, filter, map, length, suc, refl, sym, ap, ◌∙◌, inl, inr, arith, true≢false}
+use Rattle.std.specs.List.{All, AllAdjacentBelow}
 use Rattle.std.specs.List.Sorted.{IsSortedByKey, IsStableByKey, IsNonDecreasingBy, ties}
-use Rattle.std.specs.Ordering.{is_lt, nat_cmp}
+use Rattle.std.specs.Ordering.{is_lt, is_le, nat_cmp}
 use Rattle.std.specs.declared.cmp.Ordering.TheVariants.{Less, Equal, Greater}
-use Rattle.std.proofs.lemmas.Bool.{cases_lt, le-ltb, lt-ltb, cases_Bool}
+use Rattle.std.proofs.lemmas.Bool.{cases_lt, le-ltb, lt-ltb, ne_eqb, cases_Bool}
 use Rattle.std.proofs.lemmas.List.Elements.{All-nil, All-cons, All-head, All-tail, All-weaker}
-use Rattle.std.proofs.lemmas.List.Sorted.{IsNonDecreasingBy-from_sort}
+use Rattle.std.proofs.lemmas.List.Sorted.{IsNonDecreasingBy-from_sort, IsNonDecreasingBy-from_all_adjacent}
 use Rattle.row_faults.specs.AsWritten.{put_by, ordered_by}
 
 less-is : (less same : Bool) → is_lt (cond less Less (cond same Equal Greater)) ≡ less
@@ -16,6 +16,20 @@ less-is false false = refl
 
 nat_cmp-less : (x y : ℕ) → is_lt (nat_cmp x y) ≡ nat_lt x y
 nat_cmp-less x y = less-is (nat_lt x y) (x == y)
+
+above-not : (x y : ℕ) → y < x → is_le (nat_cmp x y) ≡ false
+above-not x y above =
+    let not_less : nat_lt x y ≡ false = le-ltb x y (omega (arith, above)) in
+    let not_same : (x == y) ≡ false = ne_eqb x y (λ same. omega (arith, above, same)) in
+    rw (not_less, not_same) refl
+
+-- what is compared as at most another number is at most that
+pub at-most : (x y : ℕ) → is_le (nat_cmp x y) ≡ true → x ≤ y
+at-most x y e =
+    elim (cases_lt y x) [
+      | inl above ↦ absurd (true≢false (sym e ∙ above-not x y above))
+      | inr at ↦ at
+    ]
 
 module _ {X : Type 0} where
   apart : (x : X) (xs : List X) → [] ≡ x ∷ xs → ⊥
@@ -172,6 +186,11 @@ module _ {X : Type 0} where
     pub sorted-is : (xs ys : List X) → IsSortedByKey number nat_cmp ys → IsStableByKey number nat_cmp xs ys → ys ≡ ordered_by number xs
     sorted-is xs ys sorted stable =
         ascends-only ys (ordered_by number xs) (ascends-from ys (IsNonDecreasingBy-from_sort number ys sorted)) (ordered-ascends xs) (λ x. stable x ∙ sym (ordered-kept x xs))
+
+    -- a list in order stays as it is
+    pub in-order : (xs : List X) → AllAdjacentBelow (λ x y. number x ≤ number y) xs (length xs) → xs ≡ ordered_by number xs
+    in-order xs adjacent =
+        ascends-only xs (ordered_by number xs) (ascends-from xs (IsNonDecreasingBy-from_all_adjacent number xs adjacent)) (ordered-ascends xs) (λ x. sym (ordered-kept x xs))
 
     -- each item of an ordered list is one of the list
     pub ordered-all : (P : X → Type 0) (xs : List X) → All P (ordered_by number xs) → All P xs

@@ -25,21 +25,7 @@ pub fn write_row_fault<W: Write>(fault: &RowFault, writer: &mut W) -> io::Result
 fn write_title<W: Write>(kind: RowFaultKind, writer: &mut W) -> io::Result<()>
     ensures { OnOk result (Appends (W.contents writer.old) (W.contents writer.new) (row_title kind)) }
 {
-    writer.write_all(title_of(kind))
-}
-
-/// The number and the name of a fault of a row, as they are written.
-fn title_of(kind: RowFaultKind) -> &'static [u8]
-    ensures { result.now ≡ row_title kind }
-{
-    match kind {
-        RowFaultKind::Name => b"fault 1 Name",
-        RowFaultKind::PulseLimit => b"fault 2 PulseLimit",
-        RowFaultKind::PowerLimit => b"fault 3 PowerLimit",
-        RowFaultKind::HoldNotAllowed => b"fault 4 HoldNotAllowed",
-        RowFaultKind::TimerAtEnd => b"fault 5 TimerAtEnd",
-        RowFaultKind::BallRoute => b"fault 6 BallRoute",
-    }
+    write!(writer, "fault {} {}", kind.number(), kind.name())
 }
 
 /// Writes where a fault of a row is, and what is at fault.

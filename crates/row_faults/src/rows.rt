@@ -131,6 +131,10 @@ fn faults_of_text<'a>(
 fn sort_by_number(faults: &mut Vec<RowFault>) -> Result<(), AllocError>
     ensures { OnOk result (Sorts fault_number faults.old faults.new) }
 {
+    // Most are in order, and a sort takes memory.
+    if faults.is_sorted_by_key(|fault| fault.kind.number()) {
+        return Ok(());
+    }
     faults.sort_by_key(|fault| fault.kind.number())?;
     Ok(())
 }
@@ -139,6 +143,9 @@ fn sort_by_number(faults: &mut Vec<RowFault>) -> Result<(), AllocError>
 fn sort_by_line(faults: &mut Vec<RowFault>) -> Result<(), AllocError>
     ensures { OnOk result (Sorts fault_line faults.old faults.new) }
 {
+    if faults.is_sorted_by_key(|fault| fault.line) {
+        return Ok(());
+    }
     faults.sort_by_key(|fault| fault.line)?;
     Ok(())
 }

@@ -19,7 +19,7 @@ loop-entry-preserved c = λ name.
     let others = λ (entries : List _). list_any (λ s. bytes_eq name s.name.text) (map switch_of (map entry_view entries)) in
     let rest = others (drop (l.entry-index + 1) c.args.entries.now) in
     let took = took-name l.names c.insert.new.self c.deref.result c.in_ok-insert.ensures.updates name in
-    ap (λ (b : Bool). b || rest) (took ∙ ap (λ key. is_found l.names name || bytes_eq name key) (c.deref.ensures.value ∙ sym (ap (λ (w : Written). w.text) (named (entry_view c.entry-item.result)))))
+    ap (λ (b : Bool). b || rest) (took ∙ ap (λ key. is_found l.names name || bytes_eq name key) (c.deref.ensures ∙ sym (ap (λ (w : Written). w.text) (named (entry_view c.entry-item.result)))))
     ∙ or_more (is_found l.names name) _ rest
     ∙ next-is (λ entries. is_found l.names name || others entries) c.args.entries.now l.entry-index c.entry-item.result c.loop-entry-test.true c.entry-item.is
     ∙ l.invariant name

@@ -10,12 +10,12 @@ pub loop-shot-preserved : goal.loop-shot-preserved
 loop-shot-preserved c =
     let l = c.loop-shot in
     let rows = c.args.definitions.now in
-    let there = known shot_view c.shot.result _ (c.shot.ensures ∙ ap (shot_called rows) c.deref.ensures.value) c.is_none.result c.is_none.ensures c.if-is_none.false in
+    let there = known shot_view c.shot.result _ (c.shot.ensures ∙ ap (shot_called rows) c.deref.ensures) c.is_none.result c.is_none.ensures c.if-is_none.false in
     all_next (λ (w : Written). is_some (shot_called rows w.text)) c.args.shots.now l.shot-index c.shot-item.result c.loop-shot-test.true c.shot-item.is there ∙ l.invariant
 
 pub returns-then-is_none : goal.returns-then-is_none
 returns-then-is_none c =
     let l = c.loop-shot in
     let rows = c.args.definitions.now in
-    let gone = missing shot_view c.shot.result _ (c.shot.ensures ∙ ap (shot_called rows) c.deref.ensures.value) c.is_none.result c.is_none.ensures c.if-is_none.true in
+    let gone = missing shot_view c.shot.result _ (c.shot.ensures ∙ ap (shot_called rows) c.deref.ensures) c.is_none.result c.is_none.ensures c.if-is_none.true in
     not_all (λ (w : Written). is_some (shot_called rows w.text)) c.args.shots.now l.shot-index c.shot-item.result c.loop-shot-test.true c.shot-item.is gone ∙ l.invariant

@@ -13,7 +13,7 @@ loop-number-preserved c =
     let shots = c.args.shots.now in
     let flag = λ (w : Written). is_enabled_if (shot_called rows w.text) in
     let d = c.index-shots-number.result in
-    let here = c.is_enabled_if.ensures ∙ ap is_enabled_if c.shot.ensures ∙ ap (λ (t : List ℕ). is_enabled_if (shot_called rows t)) c.deref.ensures.value in
+    let here = c.is_enabled_if.ensures ∙ ap is_enabled_if c.shot.ensures ∙ ap (λ (t : List ℕ). is_enabled_if (shot_called rows t)) c.deref.ensures in
     let within : l.number < 16 = omega arith in
     let some : l.number < length shots = omega arith in
     ap (λ (bs : List Bool). set bs l.number c.is_enabled_if.result) l.invariant

@@ -16,7 +16,7 @@ returns-in_ok-insert c = λ name.
     let new = c.insert.new.self in
     let before = c.args.before in
     let own = (ball_device_of (entry_view c.args.entry.now)).name.text in
-    let key : c.deref.result.now ≡ own = c.deref.ensures.value in
+    let key : c.deref.result.now ≡ own = c.deref.ensures in
     let named : bytes_eq c.args.section.now ball_devices_name ≡ true = sym c.eq.ensures ∙ c.if-eq.true in
     sym (option_map_id (found_row new name))
     ∙ took-value (λ n. n) old new c.deref.result before own key c.in_ok-insert.ensures.updates name

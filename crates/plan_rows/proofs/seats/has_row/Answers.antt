@@ -9,5 +9,5 @@ use Rattle.plan_rows.proofs.seats.has_row.Goals as goal
 pub returns-then-eq : goal.returns-then-eq
 returns-then-eq c = λ place h.
     let grouped = c.args.grouped.now in
-    ap not (c.contains.ensures ∙ name-found grouped c.as_slice.result.now ∙ ap (is_found grouped) c.as_slice.ensures.value)
+    ap not (c.contains.ensures ∙ name-found grouped c.as_slice.result.now ∙ ap (is_found grouped) c.as_slice.ensures)
     ∙ shot_has_row place (is_found grouped) c.args.section.now (entry_view c.args.entry.now) (sym c.eq.ensures ∙ c.if-eq.true)

@@ -21,6 +21,6 @@ returns c =
     let named = contributions_view c.collect_switches.new.contributions.items in
     let naming =
     c.in_ok-collect_mentions.ensures
-    ∙ (λ i. named ++ map (mentions Events) (entry_mentions (c.deref.ensures.value i) (c.drains-drain.ensures i))) in
+    ∙ (λ i. named ++ map (mentions Events) (entry_mentions (c.deref.ensures i) (c.drains-drain.ensures i))) in
     ball_device_collected machine d to old (contributions_view c.collect_unknown.new.contributions.items) (contributions_view c.add.new.contributions.items) named (contributions_view c.collect_mentions.new.contributions.items)
     (contributions_view c.collect_lists.new.contributions.items) known row c.in_ok-collect_switches.ensures naming c.in_ok-collect_lists.ensures

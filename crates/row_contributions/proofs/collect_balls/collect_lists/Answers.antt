@@ -22,7 +22,7 @@ returns c =
     let entered =
     c.in_ok-collect_effect.ensures
     ∙ (λ i. old ++ does_in 0 (enters (c.ball_event.ensures i) (c.requires.drains i)) ∷ [])
-    ∙ ap (λ (n : List ℕ). old ++ does_in 0 (enters (ball_event n (codes "_ball_enter")) (drains machine d)) ∷ []) c.deref.ensures.value in
-    let attempted = c.in_ok-collect_attempt.ensures ∙ ap (λ (n : List ℕ). a ++ map (does_in 1) (attempt_effects machine n d.eject_coil)) c.deref-2.ensures.value in
-    let rest = c.in_ok-collect_later.ensures ∙ ap (λ (n : List ℕ). b ++ effects_from 2 (later_lists n)) c.deref-3.ensures.value in
+    ∙ ap (λ (n : List ℕ). old ++ does_in 0 (enters (ball_event n (codes "_ball_enter")) (drains machine d)) ∷ []) c.deref.ensures in
+    let attempted = c.in_ok-collect_attempt.ensures ∙ ap (λ (n : List ℕ). a ++ map (does_in 1) (attempt_effects machine n d.eject_coil)) c.deref-2.ensures in
+    let rest = c.in_ok-collect_later.ensures ∙ ap (λ (n : List ℕ). b ++ effects_from 2 (later_lists n)) c.deref-3.ensures in
     then_these old a new (enter ∷ []) (attempt ++ later) entered (then_these a b new attempt later attempted rest)

@@ -13,5 +13,5 @@ loop-number-preserved c =
     let i = c.loop-number.number in
     let now = contributions_view c.loop-number.contributions.items in
     let later = listens_from (i + 1) (texts (map name_view (drop (i + 1) switches))) in
-    let here = c.in_ok-collect_switch.ensures ∙ ap (λ n. now ++ listens i n ∷ []) c.deref.ensures.value in
+    let here = c.in_ok-collect_switch.ensures ∙ ap (λ n. now ++ listens i n ∷ []) c.deref.ensures in
     ap (λ l. l ++ later) here ∙ listens_next now switches i c.index-switches-number.result c.loop-number-test.true ∙ c.loop-number.invariant

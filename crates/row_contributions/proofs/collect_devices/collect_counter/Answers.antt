@@ -23,5 +23,5 @@ returns c =
     let acting = c.in_ok-collect_block_acts.ensures ∙ ap (λ l. l ++ flat_map f others) c.in_ok-collect_acts.ensures ∙ made_after f one counts others in
     let acted = contributions_view c.collect_block_acts.new.contributions.items in
     let block = block_view c.args.row.block in
-    let posting = c.in_ok-collect_block_posts.ensures ∙ ap (λ n. acted ++ (map (mentions Events) (block_mentions block) ++ effects_from 0 (block_lists n block))) c.deref.ensures.value in
+    let posting = c.in_ok-collect_block_posts.ensures ∙ ap (λ n. acted ++ (map (mentions Events) (block_mentions block) ++ effects_from 0 (block_lists n block))) c.deref.ensures in
     device_collected place (counter_device row) (contributions_view old) one acted (contributions_view c.collect_block_posts.new.contributions.items) refl first acting posting

@@ -13,5 +13,5 @@ returns c =
     let old = c.args.contributions.now.items in
     let first = row_first old c.add.new.contributions.items place c.timer_settings.result (timer_settings row) c.in_ok-add.ensures c.timer_settings.ensures in
     let acted = contributions_view c.collect_timer_acts.new.contributions.items in
-    let posting = c.in_ok-collect_timer_lists.ensures ∙ ap (λ n. acted ++ effects_from 0 (timer_lists n)) c.deref.ensures.value in
+    let posting = c.in_ok-collect_timer_lists.ensures ∙ ap (λ n. acted ++ effects_from 0 (timer_lists n)) c.deref.ensures in
     device_collected place (timer_device row) (contributions_view old) (contributions_view c.add.new.contributions.items) acted (contributions_view c.collect_timer_lists.new.contributions.items) refl first c.in_ok-collect_timer_acts.ensures posting

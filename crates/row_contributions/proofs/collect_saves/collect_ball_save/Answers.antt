@@ -13,5 +13,5 @@ returns c =
     let old = c.args.contributions.now.items in
     let first = row_first old c.add.new.contributions.items place c.save_settings.result (save_settings row) c.in_ok-add.ensures c.save_settings.ensures in
     let acted = contributions_view c.collect_save_acts.new.contributions.items in
-    let doing = c.in_ok-collect_save_lists.ensures ∙ ap (λ n. acted ++ effects_from 0 (save_lists n)) c.deref.ensures.value in
+    let doing = c.in_ok-collect_save_lists.ensures ∙ ap (λ n. acted ++ effects_from 0 (save_lists n)) c.deref.ensures in
     device_collected place (save_device row) (contributions_view old) (contributions_view c.add.new.contributions.items) acted (contributions_view c.collect_save_lists.new.contributions.items) refl first c.in_ok-collect_save_acts.ensures doing

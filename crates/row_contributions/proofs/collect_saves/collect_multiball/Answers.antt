@@ -13,5 +13,5 @@ returns c =
     let old = c.args.contributions.now.items in
     let first = row_first old c.add.new.contributions.items place c.multiball_settings.result (multiball_settings row) c.in_ok-add.ensures c.multiball_settings.ensures in
     let acted = contributions_view c.collect_acts.new.contributions.items in
-    let doing = c.in_ok-collect_multiball_lists.ensures ∙ ap (λ n. acted ++ effects_from 0 (multiball_lists n row.balls)) c.deref.ensures.value in
+    let doing = c.in_ok-collect_multiball_lists.ensures ∙ ap (λ n. acted ++ effects_from 0 (multiball_lists n row.balls)) c.deref.ensures in
     device_collected place (multiball_device row) (contributions_view old) (contributions_view c.add.new.contributions.items) acted (contributions_view c.collect_multiball_lists.new.contributions.items) refl first c.in_ok-collect_acts.ensures doing

@@ -24,7 +24,7 @@ loop-shot-preserved c =
     let counted : (name : List ℕ) → length (f name) ≡ count = λ name. length-map p.states (λ state. map posts (shot_events name p.name state)) ∙ length-map c.args.profile.now.states.items (λ n. n.now) in
     record {
       lists =
-          ap (λ cs. cs ++ effects_from c.in_ok-next.next later) (c.in_ok-next.ensures.lists ∙ ap (λ name. old ++ effects_from l.next (f name)) c.deref.ensures.value)
+          ap (λ cs. cs ++ effects_from c.in_ok-next.next later) (c.in_ok-next.ensures.lists ∙ ap (λ name. old ++ effects_from l.next (f name)) c.deref.ensures)
           ∙ shot_next f count counted old l.next c.in_ok-next.next shots l.shot-index d c.loop-shot-test.true c.shot-item.is c.in_ok-next.ensures.next
           ∙ l.invariant.lists;
       next = omega (arith, l.invariant.next, c.in_ok-next.ensures.next);

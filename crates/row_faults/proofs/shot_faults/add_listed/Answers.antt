@@ -22,13 +22,13 @@ loop-name-preserved c =
     let listed = λ (names : List _). listed_with first (map name_view names) in
     let rest = listed (drop (l.name-index + 1) c.args.listed.now) in
     let judged = c.is_misplaced-misplaced.ensures name.line
-    ∙ ap (λ (text : List ℕ). is_misplaced f.rows own (is_found l.taken) (record { first = first; shot = record { line = name.line; text = text } })) c.deref.ensures.value in
+    ∙ ap (λ (text : List ℕ). is_misplaced f.rows own (is_found l.taken) (record { first = first; shot = record { line = name.line; text = text } })) c.deref.ensures in
     let found : c.add_if.new.faults ≡ with_faults f (group_faults f own (is_found l.taken) (it ∷ [])) =
     c.in_ok-add_if.ensures
     ∙ (λ i. with_faults f (fault_if (judged i) kinds.Name f.text (c.at.ensures i)))
     ∙ ap (with_faults f) (fault-kept (is_misplaced f.rows own (is_found l.taken) it) f.text name) in
     let taken : is_found c.insert.new.self ≡ taken_with it (is_found l.taken) =
-    λ i q. (took-name l.taken c.insert.new.self c.deref-in-loop-name.result c.in_ok-insert.ensures.updates q ∙ ap (λ key. is_found l.taken q || bytes_eq q key) c.deref-in-loop-name.ensures.value) i in
+    λ i q. (took-name l.taken c.insert.new.self c.deref-in-loop-name.result c.in_ok-insert.ensures.updates q ∙ ap (λ key. is_found l.taken q || bytes_eq q key) c.deref-in-loop-name.ensures) i in
     record {
       found =
           group-more f c.add_if.new.faults own (is_found l.taken) (is_found c.insert.new.self) (it ∷ []) rest found taken

@@ -33,7 +33,7 @@ loop-number-preserved c =
     let n = l.number in
     let less : n < length given = c.loop-number-test.true in
     let took : (name : List ℕ) → number_found c.insert.new.self name ≡ (if bytes_eq name d.name.text then Some n else number_found l.numbers name) =
-    λ name. sym (option_map_id _) ∙ took-value (λ n. n) l.numbers c.insert.new.self c.deref.result n d.name.text c.deref.ensures.value c.in_ok-insert.ensures.updates name ∙ ap (λ (o : Option ℕ). if bytes_eq name d.name.text then Some n else o) (option_map_id (number_found l.numbers name)) in
+    λ name. sym (option_map_id _) ∙ took-value (λ n. n) l.numbers c.insert.new.self c.deref.result n d.name.text c.deref.ensures c.in_ok-insert.ensures.updates name ∙ ap (λ (o : Option ℕ). if bytes_eq name d.name.text then Some n else o) (option_map_id (number_found l.numbers name)) in
     let here : slice_get devices n ≡ Some d = slice_get-map ball_device_view given n ∙ ap (option_map ball_device_view) (slice_get-get_or given n item less ∙ ap (λ (x : _). Some x) (sym c.index-devices-number.is)) in
     let more : take (n + 1) devices ≡ take n devices ++ d ∷ [] = take_more devices n d (omega (arith, less, length-map given ball_device_view)) ∙ ap (λ (x : BallDevice). take n devices ++ x ∷ []) (get_or-map ball_device_view given n item d less ∙ ap ball_device_view (sym c.index-devices-number.is)) in
     record {
