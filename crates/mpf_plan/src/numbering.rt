@@ -1,12 +1,13 @@
 //! Names by number, in the order of their first uses.
 
-ghost use Rattle.std.specs.Prelude.{◌≡◌, ◌≤◌, ◌<◌, List, [], false, length, nat_lt, IfOk, OnOk};
+ghost use Rattle.std.specs.Prelude.{◌≡◌, ◌≤◌, ◌<◌, ℕ, List, [], false, true, length, nat_lt, IfOk, OnOk};
 ghost use Rattle.plan_contributions.specs.Contributions.{Contribution as ContributionValue};
 ghost use Rattle.plan_tables.specs.Limits.{entry_count, limit_of, tables_in_order, first_above};
 ghost use Rattle.mpf_plan.specs.Uses.{number_among, is_to_be_given, lacks_name};
 ghost use Rattle.mpf_plan.specs.Filling.{plan_from};
 ghost use Rattle.plan_tables.specs.NamesKept.{names_of};
 ghost use Rattle.plan_contributions.specs.View.{parts_text};
+ghost use Rattle.first_names.specs.FirstNames.{with_name, IsNameTableOf, IsNumberIn};
 ghost use Rattle.mpf_plan.specs.Drafting.{given_by_rows};
 ghost use Rattle.mpf_plan.specs.Numbering.{AreNameTablesOf, CountsMore, binding_count_of, device_row_count_of, HoldGivenNames, GainGivenNames, TellsUnknownName, TellsAnyUnknownName, names_nothing, HasFound, FindsMore, FindsOneMore, HasNames, Numbered};
 
@@ -150,10 +151,38 @@ fn note_one(
         found.numbers.push(0)?;
         return Ok(());
     };
-    write_name(text, name)?;
-    let number = note_name(alloc, &mut found.tables[table.index()], text)?;
+    let number = note_pieces(alloc, &mut found.tables[table.index()], text, name)?;
     found.numbers.push(as_kept(number))?;
     Ok(())
+}
+
+/// One more use of a name in pieces, and the name's number, as [`note_name`] gives it.
+fn note_pieces(
+    alloc: Global,
+    table: &mut NameTable,
+    text: &mut Vec<u8>,
+    name: Parts,
+) -> Result<usize, AllocError>
+    ensures limit { OnOk result (table.new.limit ≡ table.old.limit) }
+    ensures names { OnOk result ((all : List (List ℕ)) → IsNameTableOf all table.old → IsNameTableOf (with_name all (parts_text name.entry)) table.new) }
+    ensures number { IfOk result (IsNumberIn table.old (parts_text name.entry)) }
+{
+    if is_whole(&name) {
+        return note_name(alloc, table, name.sixth);
+    }
+    write_name(text, name)?;
+    note_name(alloc, table, text)
+}
+
+/// Whether the name is in one piece, as most are.
+fn is_whole(name: &Parts) -> bool
+    ensures { result ≡ true → parts_text name.now ≡ name.now.sixth.now }
+{
+    name.first.is_empty()
+        && name.second.is_empty()
+        && name.third.is_empty()
+        && name.fourth.is_empty()
+        && name.fifth.is_empty()
 }
 
 /// A number as it is kept. No table has so many names that one would not fit; such a one would be 0.

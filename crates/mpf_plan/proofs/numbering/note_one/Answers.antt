@@ -1,10 +1,6 @@
-use Rattle.std.proofs.Common.{refl, sym, ◌∙◌, ap, subst}
+use Rattle.std.proofs.Common.{refl, sym, ◌∙◌, ap}
 use Rattle.std.specs.Option.{option_map}
 use Rattle.plan_contributions.specs.View.{parts_text, named_view, contribution_view}
-use Rattle.std.specs.Str.{bytes_eq}
-use Rattle.std.specs.List.{position_or_len}
-use Rattle.std.specs.Prelude.{◌≡◌, ◌≤◌, length}
-use Rattle.first_names.specs.FirstNames.{with_name, IsNameTableOf}
 use Rattle.mpf_plan.proofs.Found.{found_nameless, found_named}
 use Rattle.mpf_plan.proofs.numbering.note_one.Goals as goal
 
@@ -16,11 +12,10 @@ returns-in_default c before has =
 pub returns : goal.returns
 returns c before has =
     let was = c.index_mut.result.now in
-    let is = c.note_name.new.table in
-    let text = c.deref.ensures.value ∙ c.in_ok-write_name.ensures in
+    let is = c.note_pieces.new.table in
     found_named before (contribution_view c.args.contribution.now) c.args.found.now _ has c.count_binding-found.ensures c.count_row-found.ensures
     c.in-Some.table (parts_text c.in-Some.name) c.index.result was is (sym c.used.ensures ∙ ap (option_map named_view) c.in-Some.is) c.index.ensures refl c.index_mut.ensures.value c.in_ok-number.ensures.limit
-    (λ all h. subst (λ n. IsNameTableOf (with_name all n) is) text (c.in_ok-number.ensures.names all h))
+    c.in_ok-number.ensures.names
     c.in_ok-number.number c.as_kept.result
-    (λ all h. subst (λ n. length (with_name all n) ≤ was.limit → c.in_ok-number.number ≡ position_or_len (bytes_eq n) (with_name all n)) text (c.in_ok-number.ensures.number all h))
+    c.in_ok-number.ensures.number
     c.as_kept.ensures c.in_ok-push-2.ensures.items
