@@ -1,28 +1,17 @@
 -- A text that is written piece by piece.
-use Rattle.std.proofs.Common.{◌≡◌, ℕ, ◌+◌, ◌<◌, ◌≤◌, List, [], ◌∷◌, ◌++◌, length, map, take, get_or, Option, Some, None, Result, Ok, Err, OnOk, sym, ap, subst, ◌∙◌, append_assoc, append-nil, arith}
+use Rattle.std.proofs.Common.{◌≡◌, ℕ, ◌+◌, ◌<◌, ◌≤◌, List, [], ◌∷◌, ◌++◌, length, map, take, get_or, Option, Result, Ok, Err, OnOk, sym, ap, subst, ◌∙◌, append-nil, arith}
 use Rattle.std.specs.List.{flat_map, zip}
 use Rattle.std.specs.Io.KnownBytes.{Appends}
+use Rattle.std.proofs.KnownBytes.{Appends-trans}
 use Rattle.std.proofs.lemmas.List.{take_more, take_all}
 use Rattle.std.proofs.lemmas.Grind.{flat_map-append}
 use Rattle.std.proofs.lemmas.List.Folds.{flat_map-map}
 use Rattle.std.proofs.lemmas.Slice.Zip.{get_or-zip, length-zip}
 use Rattle.config_checker.specs.CertificateText.{numbered_line}
 
--- nothing is written
-pub written-nil : (a : Option (List ℕ)) → Appends a a []
-written-nil None = tt
-written-nil (Some x) = sym (append-nil x)
-
--- one piece, and then another
-pub written-then : (a b c : Option (List ℕ)) (x y : List ℕ) → Appends a b x → Appends b c y → Appends a c (x ++ y)
-written-then None b c x y h k = tt
-written-then (Some a) None c x y h k = absurd h
-written-then (Some a) (Some b) None x y h k = absurd k
-written-then (Some a) (Some b) (Some c) x y h k = k ∙ ap (λ (front : List ℕ). front ++ y) h ∙ append_assoc a x y
-
 -- a last piece, which may fail
 pub written-last : {T E : Type 0} (r : Result T E) (a b c : Option (List ℕ)) (x y z : List ℕ) → x ++ y ≡ z → Appends a b x → OnOk r (Appends b c y) → OnOk r (Appends a c z)
-written-last (Ok u) a b c x y z e h k = subst (Appends a c) e (written-then a b c x y h k)
+written-last (Ok u) a b c x y z e h k = subst (Appends a c) e (Appends-trans a b c x y h k)
 written-last (Err f) a b c x y z e h k = tt
 
 -- the pieces of a list, one more
@@ -31,7 +20,7 @@ pub written-more : {X : Type 0} (piece : X → List ℕ) (xs : List X) (i : ℕ)
 written-more piece xs i d a b c within h k =
     let more : flat_map piece (take (i + 1) xs) ≡ flat_map piece (take i xs) ++ piece (get_or xs i d) =
     ap (flat_map piece) (take_more xs i d within) ∙ flat_map-append piece (take i xs) (get_or xs i d ∷ []) ∙ ap (λ (last : List ℕ). flat_map piece (take i xs) ++ last) (append-nil (piece (get_or xs i d))) in
-    subst (Appends a c) (sym more) (written-then a b c _ _ h k)
+    subst (Appends a c) (sym more) (Appends-trans a b c _ _ h k)
 
 -- all pieces of a list
 pub written-all : {X : Type 0} (piece : X → List ℕ) (xs : List X) (i : ℕ) (a b : Option (List ℕ)) → length xs ≤ i → Appends a b (flat_map piece (take i xs)) → Appends a b (flat_map piece xs)

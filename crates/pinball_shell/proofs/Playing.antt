@@ -13,7 +13,7 @@ use Rattle.written_machine.specs.NextAlarm.{most_alarms}
 use Rattle.written_machine.specs.PlanOrder.{settled}
 use Rattle.written_machine.proofs.Alarms.{settled-moment}
 use Rattle.written_machine.proofs.AlarmsEnd.{alarms_by-none}
-use Rattle.config_checker.proofs.Writing.{written-then}
+use Rattle.std.proofs.KnownBytes.{Appends-trans}
 use Rattle.pin_rig.specs.declared.input.StepFault.TheVariants.{BoardFault}
 use Rattle.pin_rig.specs.Rig.{RigView}
 use Rattle.pinball_shell.specs.declared.fault.Verdict.{Verdict}
@@ -251,7 +251,7 @@ module _ (plan : PlanView) (bound : ℕ) where
             served = to_fault.served;
             halted = fault.halted;
           });
-          text = subst (Appends a d) (sym (texts-append plan shown last)) (written-then a c d _ _ to_fault.text (subst (Appends c d) (sym (append-nil (refused_text number (Step BoardFault)))) text));
+          text = subst (Appends a d) (sym (texts-append plan shown last)) (Appends-trans a c d _ _ to_fault.text (subst (Appends c d) (sym (append-nil (refused_text number (Step BoardFault)))) text));
           verdict_is = verdict ∙ sym (worse_refused (log_verdict shown)) ∙ verdict-append shown last;
         }
 

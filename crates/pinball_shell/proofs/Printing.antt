@@ -12,7 +12,7 @@ use Rattle.written_machine.specs.Run.{Stimulus}
 use Rattle.written_machine.specs.AlarmsBy.{state_after}
 use Rattle.written_machine.specs.PlanOrder.{settled}
 use Rattle.coil_driver.specs.Board.{commands_of, after_lines, HasTakenAll}
-use Rattle.config_checker.proofs.Writing.{written-nil, written-then}
+use Rattle.std.proofs.KnownBytes.{Appends-nil, Appends-trans}
 use Rattle.pin_rig.specs.declared.input.Input.{Input}
 use Rattle.pin_rig.specs.Rig.{RigView, RigStep, RigHalt}
 use Rattle.pinball_shell.specs.RunOfLog.{trace_of, Printed, Traced}
@@ -25,7 +25,7 @@ use Rattle.pinball_shell.proofs.Stimuli.{state_after-append, trace_of-append}
 
 module _ (plan : PlanView) where
   pub printed-none : (rig : RigView) (a : Option (List ℕ)) → rig.faulted ≡ None → IsPrinted plan [] rig rig a a
-  printed-none rig a running = record { served = served-none rig [] running refl; text = written-nil a }
+  printed-none rig a running = record { served = served-none rig [] running refl; text = Appends-nil a }
 
   pub texts-append : (xs ys : List Printed) → printed_texts plan (xs ++ ys) ≡ printed_texts plan xs ++ printed_texts plan ys
   texts-append xs ys = flat_map-append (printed_text plan) xs ys
@@ -33,7 +33,7 @@ module _ (plan : PlanView) where
   pub printed-then : (xs ys : List Printed) (s t u : RigView) (a b c : Option (List ℕ)) → IsPrinted plan xs s t a b → IsPrinted plan ys t u b c → IsPrinted plan (xs ++ ys) s u a c
   printed-then xs ys s t u a b c h k = record {
     served = served-then xs ys s t u h.served k.served;
-    text = subst (Appends a c) (sym (texts-append xs ys)) (written-then a b c _ _ h.text k.text);
+    text = subst (Appends a c) (sym (texts-append xs ys)) (Appends-trans a b c _ _ h.text k.text);
   }
 
   -- a fault, after something was printed

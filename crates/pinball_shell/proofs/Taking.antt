@@ -13,7 +13,7 @@ use Rattle.coil_driver.specs.Board.{BoardView, commands_of, TellsMore}
 use Rattle.machine_core.specs.declared.fault.CoreFault.{CoreFault}
 use Rattle.machine_core.specs.declared.fault.CoreFault.TheVariants as core_faults
 use Rattle.machine_core.specs.Fit.{IsFit, IsFirstWrong}
-use Rattle.config_checker.proofs.Writing.{written-then}
+use Rattle.std.proofs.KnownBytes.{Appends-trans}
 use Rattle.pin_rig.specs.declared.input.Input.{Input}
 use Rattle.pin_rig.specs.declared.input.Input.TheVariants as inputs
 use Rattle.pin_rig.specs.declared.input.StepFault.{StepFault}
@@ -120,7 +120,7 @@ log-played plan c first rig board last log a b d v plan_is rest h shut =
       faults = over.faults;
       put_off = over.put_off;
       told = end-tells (commands_of (traced whole.printed)) _ over.off over.faults board rig.board last (end-told c.plan c.bound log (at_rest c board) whole.printed rig whole.end) over.put_off;
-      text = written-then a b d _ _ whole.text over.text;
+      text = Appends-trans a b d _ _ whole.text over.text;
       verdict_is = whole.verdict_is;
     }
 

@@ -1,7 +1,6 @@
 //! The players of a game.
 
 ghost use Rattle.std.specs.Prelude.{◌≡◌, ◌≤◌};
-ghost use Rattle.device_objects.specs.Values.{clamped};
 ghost use Rattle.player_game.specs.Players.{acted, most_players};
 
 use crate::slot::Slot;
@@ -261,17 +260,6 @@ fn acted(action: VariableAction, number: i64, value: i64) -> i64
 {
     match action {
         VariableAction::Add => clamped(i128::from(value) + i128::from(number)),
-        VariableAction::Set => nearest(number),
+        VariableAction::Set => clamped(i128::from(number)),
     }
-}
-
-/// No value is further from 0.
-const GREATEST: i64 = 999_999_999_999_999;
-
-/// The value nearest to a number: what [`clamped`] gives, in 64 bits. Most actions set a variable.
-#[tactic(auto, unfolding(device_objects::specs::Values::clamped))]
-fn nearest(number: i64) -> i64
-    ensures { result ≡ clamped number }
-{
-    number.clamp(-GREATEST, GREATEST)
 }

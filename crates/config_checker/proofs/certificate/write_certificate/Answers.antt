@@ -1,7 +1,8 @@
 use Rattle.std.proofs.Common.{◌≡◌, ℕ, List, [], ◌∷◌, ◌++◌, Option, Some, Result, OnOk, codes, refl, subst}
 use Rattle.std.specs.Io.KnownBytes.{Appends}
 use Rattle.config_checker.specs.CertificateText.{Numbered, bound_line, numbered_lines, text_of, certificate_of}
-use Rattle.config_checker.proofs.Writing.{written-then, written-last}
+use Rattle.std.proofs.KnownBytes.{Appends-trans}
+use Rattle.config_checker.proofs.Writing.{written-last}
 use Rattle.config_checker.proofs.certificate.write_certificate.Goals as goal
 
 written : {T E : Type 0} (r : Result T E) (b : ℕ) (switches events : Numbered) (bound : ℕ) (w0 w1 w2 w3 w4 : Option (List ℕ)) → bound ≡ b
@@ -9,8 +10,8 @@ written : {T E : Type 0} (r : Result T E) (b : ℕ) (switches events : Numbered)
     → OnOk r (Appends w0 w4 (text_of (record { bound = b; switches = Some switches; events = events })))
 written r b switches events bound w0 w1 w2 w3 w4 is_bound h k s rest =
     written-last r w0 w3 w4 _ _ _ refl
-    (written-then w0 w2 w3 _ (numbered_lines (codes "switch") switches)
-    (written-then w0 w1 w2 (codes "pinball-certificate 2" ++ 10 ∷ []) (bound_line b) h (subst (λ (n : ℕ). Appends w1 w2 (bound_line n)) is_bound k)) s)
+    (Appends-trans w0 w2 w3 _ (numbered_lines (codes "switch") switches)
+    (Appends-trans w0 w1 w2 (codes "pinball-certificate 2" ++ 10 ∷ []) (bound_line b) h (subst (λ (n : ℕ). Appends w1 w2 (bound_line n)) is_bound k)) s)
     rest
 
 pub returns : goal.returns

@@ -2,7 +2,8 @@ use Rattle.std.proofs.Common.{ℕ, List, [], ◌∷◌, ◌++◌, OnOk, codes, r
 use Rattle.std.specs.Io.KnownBytes.{Appends}
 use Rattle.config_checker.specs.View.{certificate_fault_view}
 use Rattle.config_checker.specs.ReportText.{certificate_fault_text}
-use Rattle.config_checker.proofs.Writing.{written-then, written-last}
+use Rattle.std.proofs.KnownBytes.{Appends-trans}
+use Rattle.config_checker.proofs.Writing.{written-last}
 use Rattle.config_checker.proofs.report_text.write_fault.Goals as goal
 
 pub returns-in-Limit : goal.returns-in-Limit
@@ -15,5 +16,5 @@ pub returns-in_ok-write_certificate_fault-in-Certificate :
 returns-in_ok-write_certificate_fault-in-Certificate g c =
     rw c.in-Certificate.is
     (written-last c.write_all-in-Certificate.result _ _ _ _ (10 ∷ []) _ refl
-    (written-then _ _ _ (codes "fault 10 Certificate ") (certificate_fault_text (certificate_fault_view c.in-Certificate.fault)) c.in_ok-write_all-in-Certificate.ensures.bytes c.in_ok-write_certificate_fault-in-Certificate.ensures)
+    (Appends-trans _ _ _ (codes "fault 10 Certificate ") (certificate_fault_text (certificate_fault_view c.in-Certificate.fault)) c.in_ok-write_all-in-Certificate.ensures.bytes c.in_ok-write_certificate_fault-in-Certificate.ensures)
     c.write_all-in-Certificate.ensures.bytes)
