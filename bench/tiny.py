@@ -11,6 +11,7 @@ from texts import VERSION, bundle, filled
 
 LETTERS = string.ascii_letters + string.digits + "_"
 STEPS = ",".join(LETTERS[:16])  # the most that an accrual has
+FEW_STEPS = ",".join("a" * 4)  # of one event alone
 TIMES = 1024  # the most names that a list has
 POSTS = ",".join(itertools.islice(itertools.cycle(LETTERS), TIMES))
 OWN = 512  # the names of a list whose names are all new
@@ -36,6 +37,7 @@ ENTRIES = {
     "ball devices of one switch": (f"{PARTS}ball_devices:\n", ": {ball_switches: s}"),
     "counters": ("counters:\n", ": {count_events: a}"),
     "accruals of 16 steps": ("accruals:\n", f": {{events: [{STEPS}]}}"),
+    "accruals of 4 steps": ("accruals:\n", f": {{events: [{FEW_STEPS}]}}"),
     "events that post nothing": ("event_player:\n", ":"),
     "events that post one event": ("event_player:\n", ": a"),
     "events under a condition": ("event_player:\n", "{current_player.a>1}: a"),

@@ -14,7 +14,7 @@ from .bundle import MACHINE_TEXT, VERSION, ConfigFault, joined, split_bundle
 from .costs import Costs, Weights
 from .layout import means
 from .machine import TooLong
-from .sections import PLAYERS, SETTINGS, has_saves
+from .sections import PLAYERS, SETTINGS
 from .yaml_text import read
 
 SECONDS, MOST_SECONDS = 2.0, 60.0  # of the processor for an answer, and by the clock
@@ -199,7 +199,7 @@ class Comparison:
             self.foldered(drawing, bundle)
         if drawing.random() < 0.3:
             self.checked(judge(f"@ {MACHINE_TEXT}\n{VERSION}\n{drawing.choice(odd.TEXTS)}".encode()))
-        if has_saves() and drawing.random() < 0.5:
+        if drawing.random() < 0.5:
             self.checked(judge(f"@ {MACHINE_TEXT}\n{VERSION}\n{drawing.choice(odd.SAVE_TEXTS)}".encode()))
         self.count("machines")
 

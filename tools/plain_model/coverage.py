@@ -1,7 +1,6 @@
 """How often each thing has to come up in a comparison."""
 from . import cascades
 from .compare import Found
-from .sections import has_saves
 
 CASCADES = 4  # machines of cascades for each other machine
 # About how often things come up with 100 machines. They are too rare where they come up less than a fifth of that.
@@ -67,7 +66,7 @@ def rare(found: Found, count: int) -> list[str]:
     """What came up too rarely with so many machines."""
     least = {"machines": count}
     least |= {f"cascades: {kind}": CASCADES * count // many for kind, many in cascades.KINDS.items()}
-    for shares in [SHARES, SAVE_SHARES] if has_saves() else [SHARES]:
+    for shares in (SHARES, SAVE_SHARES):
         for share, whats in shares.items():
             least |= {" ".join(what.split()): int(share * count / 500) for what in whats.split("|")}
     return [f"{found.counts[what]} {what}, of {few}" for what, few in least.items() if found.counts[what] < few]

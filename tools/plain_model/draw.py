@@ -12,7 +12,7 @@ from typing import Any
 from .bundle import MACHINE_TEXT, mode_text
 from .layout import Layout, Names
 from .plan import GAME_EVENTS, MODE_EVENTS
-from .sections import IGNORED, SKIPPED, has_saves
+from .sections import IGNORED, SKIPPED
 
 Data = dict[str, Any]
 SIGNS = ["==", "!=", "<", "<=", ">", ">="]
@@ -73,8 +73,7 @@ class Drawing:
         self.at = "machine"  # whose entry it is
         self.anywhere = draw.choice([0.0] * 12 + [0.02, 0.1])
         self.has_game = pick(draw, 0.65)
-        self.has_saves = has_saves()
-        self.drawn.busy = self.has_saves and self.has_game and pick(draw, 0.4)
+        self.drawn.busy = self.has_game and pick(draw, 0.4)
         self.size = draw.choice([4, 8, 12, 18])
         self.coils: dict[str, Data] = {}
         self.profiles: dict[str, int] = {}
@@ -543,7 +542,7 @@ class Drawing:
         for _ in range(self.draw.randint(self.size // 2, self.size)):
             self.mark, self.at = -1, "machine"
             self.draw.choice(whats)()
-            if self.has_saves and self.chance(0.1 if self.has_game else 0.25):
+            if self.chance(0.1 if self.has_game else 0.25):
                 self.save_or_multiball()
 
     def draw_all(self) -> Drawn:
@@ -568,7 +567,7 @@ class Drawing:
         if self.chance(0.5):  # more of a few kinds
             whats = [self.mode, self.event_player, *self.draw.sample(whats, 3)]
         self.entries(whats)
-        if self.chance(0.6 if self.drawn.busy or self.has_saves and not self.has_game else 0.2):
+        if self.chance(0.6 if self.drawn.busy or not self.has_game else 0.2):
             self.dear_event()
         if self.has_game and self.chance(0.1):
             self.start_again()

@@ -9,7 +9,7 @@ from .draw import Data, Drawn
 from .faults import Faults
 from .layout import Names, Raw
 from .plan import GAME_EVENTS, LIMITS, Plan
-from .sections import MACHINE_ONLY, PLAYERS, SETTINGS, has_saves
+from .sections import MACHINE_ONLY, PLAYERS, SETTINGS
 from .values import LIST_LIMIT
 from .yaml_text import TEXT_LIMIT
 
@@ -379,21 +379,18 @@ class Planter:
 
 
 # In the order in which they are planted: those that leave something else than they found come last.
-KINDS = """wrong_name unknown_member reserved_post reserved_variable group pulse power hold timer route cycle bound
-    limit wait_queue depth size version inner_setting modes texts setting missing long_list twice bad_name section
-    junk""".split()
+KINDS = """save_cycle wrong_name unknown_member reserved_post reserved_variable group pulse power hold timer route
+    cycle bound limit wait_queue depth size version inner_setting modes texts setting missing long_list twice bad_name
+    section junk""".split()
 SHARES = {"limit": 2.0, "wait_queue": 0.3, "version": 0.3, "depth": 0.7, "size": 0.3, "texts": 0.4, "inner_setting": 0.5}
 SHARES |= {"section": 0.5, "long_list": 0.7, "junk": 1.5, "twice": 2.0, "missing": 1.5}
-SHARES |= {"cycle": 1.5, "bound": 3.0, "hold": 1.5, "timer": 1.5, "pulse": 1.5, "route": 1.5}
-SHARES |= {"save_cycle": 1.2}
-SAVE_KINDS = ["save_cycle"]
+SHARES |= {"save_cycle": 1.2, "cycle": 1.5, "bound": 3.0, "hold": 1.5, "timer": 1.5, "pulse": 1.5, "route": 1.5}
 
 
 def plant(draw: random.Random, drawn: Drawn) -> None:
     """Plants one fault or some."""
     planter = Planter(draw, drawn)
-    kinds = SAVE_KINDS + KINDS if has_saves() else KINDS
-    shares = [SHARES.get(kind, 1.0) for kind in kinds]
-    drawn.planted = draw.choices(kinds, shares, k=draw.choice([1, 1, 1, 1, 2, 3]))
-    for kind in sorted(drawn.planted, key=kinds.index):
+    shares = [SHARES.get(kind, 1.0) for kind in KINDS]
+    drawn.planted = draw.choices(KINDS, shares, k=draw.choice([1, 1, 1, 1, 2, 3]))
+    for kind in sorted(drawn.planted, key=KINDS.index):
         getattr(planter, kind)()

@@ -23,7 +23,6 @@ ONE_ENTRY = "machine game mode".split()
 # Sections whose entries are devices, and none of them may have the name of the playfield.
 DEVICES = """flippers autofire_coils ball_devices counters accruals sequences shots shot_groups timers ball_saves
     multiballs""".split()
-SAVES = "ball_saves multiballs".split()
 
 
 class Fault(Exception):
@@ -271,16 +270,6 @@ SETTINGS: dict[str, dict[str, Setting]] = {
         "control_events": Setting(control_events, ()),
     },
 }
-
-
-def leave_out_saves() -> None:
-    """Makes ball saves and multiballs unknown, as they are to a program that has none."""
-    for section in SAVES:
-        SETTINGS.pop(section, None)
-
-
-def has_saves() -> bool:
-    return all(section in SETTINGS for section in SAVES)
 
 
 def defaults(section: str) -> Entry:
