@@ -18,8 +18,6 @@ sooner-none None = refl
 sooner-none (Some a) = refl
 
 pub sooner-assoc : (a b c : Option (ℕ × ℕ)) → sooner (sooner a b) c ≡ sooner a (sooner b c)
-sooner-assoc None b c = refl
-sooner-assoc (Some a) None c = refl
 sooner-assoc (Some a) (Some b) None = sooner-none (sooner (Some a) (Some b))
 sooner-assoc (Some a) (Some b) (Some c) =
     elim (cases_lt b.0 a.0) [
@@ -36,6 +34,7 @@ sooner-assoc (Some a) (Some b) (Some c) =
             | inr bc ↦ sooner-first a c (omega arith) ∙ sym (ap (sooner (Some a)) (sooner-first b c bc) ∙ sooner-first a b ab)
           ]
     ]
+sooner-assoc _ _ c = refl
 
 -- ---- a walk over the ball switches
 

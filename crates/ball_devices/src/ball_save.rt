@@ -6,7 +6,8 @@ ghost use Rattle.plan_tables.specs.declared.devices.Settings.TheVariants as kind
 
 use crate::ejects::answer;
 use device_objects::{Device, DeviceState, Outcome, SaveState, World};
-use plan_tables::{Act, DeviceRow, SaveSettings, Settings};
+use machine_settings::SaveSettings;
+use plan_tables::{Act, DeviceRow, Settings};
 
 /// The list of a ball save that becomes active.
 const ENABLED: u16 = 0;

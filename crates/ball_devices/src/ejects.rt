@@ -41,7 +41,7 @@ fn attempt(settings: &BallSettings, state: &mut BallState, number: u16, now: u64
 {
     state.eject = Eject::Pulsing(Attempt {
         number,
-        timeout: now + u64::from(settings.timeout),
+        timeout: now + u64::from(settings.ejects.timeout),
     });
 }
 
@@ -78,9 +78,9 @@ pub(crate) fn begin(
 
 /// Whether it may attempt once more after an attempt of this number.
 fn may_try_again(settings: &BallSettings, number: u16) -> bool
-    ensures { result ≡ may_try_again settings.now.max_attempts number }
+    ensures { result ≡ may_try_again settings.now.ejects.max_attempts number }
 {
-    match settings.max_attempts {
+    match settings.ejects.max_attempts {
         None => true,
         Some(most) => number < most,
     }
@@ -178,8 +178,8 @@ pub(crate) fn gone(settings: &BallSettings, state: &mut BallState, now: u64) -> 
             state.eject = Eject::Away(attempt);
             answer(&[LEFT])
         }
-        Eject::Idle if settings.mechanical => {
-            let timeout = now + u64::from(settings.timeout);
+        Eject::Idle if settings.ejects.mechanical => {
+            let timeout = now + u64::from(settings.ejects.timeout);
             state.eject = Eject::Away(Attempt { number: 1, timeout });
             answer(&[LEFT])
         }

@@ -6,7 +6,8 @@ ghost use Rattle.plan_tables.specs.declared.devices.Settings.TheVariants as kind
 
 use crate::ejects::answer;
 use device_objects::{Device, DeviceState, MultiballState, Outcome, World};
-use plan_tables::{Act, DeviceRow, MultiballSettings, Settings};
+use machine_settings::MultiballSettings;
+use plan_tables::{Act, DeviceRow, Settings};
 
 /// The list of a multiball that starts.
 const STARTED: u16 = 0;

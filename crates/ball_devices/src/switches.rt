@@ -1,7 +1,7 @@
 //! The ball switches of a device.
 
 ghost use Rattle.std.specs.Prelude.{◌≡◌, ◌<◌, ◌^◌, length, option_map, slice_index_or, slice_set, IfSome};
-ghost use Rattle.device_objects.specs.BallDevice.{due_of, earlier, empty, first_due, first_due_from, has_ball, noted, sooner, switched, timeout_of, turned};
+ghost use Rattle.device_objects.specs.BallDevice.{delay, due_of, earlier, empty, first_due, first_due_from, has_ball, noted, sooner, switched, timeout_of, turned};
 
 use device_objects::{BallState, BallSwitch, Eject};
 use plan_tables::BallSettings;
@@ -91,20 +91,26 @@ pub(crate) fn due_of(state: &BallState) -> Option<u64>
     earlier(moment_of(first_due(state)), timeout_of(&state.eject))
 }
 
+/// How many milliseconds a ball switch has to be active, or inactive, before the device counts it.
+fn delay(settings: &BallSettings, active: bool) -> u32
+    ensures { result ≡ delay settings.now active }
+{
+    if active {
+        settings.ejects.entrance_delay
+    } else {
+        settings.ejects.exit_delay
+    }
+}
+
 /// A ball switch has become active, or inactive.
 fn noted(settings: &BallSettings, active: bool, now: u64, switch: BallSwitch) -> BallSwitch
     requires { now < 2 ^ 40 }
     ensures { result ≡ noted settings.now active now switch }
 {
-    let delay = if active {
-        settings.entrance_delay
-    } else {
-        settings.exit_delay
-    };
     let due = if switch.counted == active {
         None
     } else {
-        Some(now + u64::from(delay))
+        Some(now + u64::from(delay(settings, active)))
     };
     BallSwitch { due, ..switch }
 }

@@ -11,7 +11,7 @@ use Rattle.plan_tables.specs.Valid.{HasEntries, IsEventWithin, IsGameWithin}
 use Rattle.plan_tables.specs.GameEvents.{order_of}
 use Rattle.plan_tables.specs.declared.entries.EventId.{EventId}
 use Rattle.plan_tables.specs.declared.entries.GameEvent.{GameEvent}
-use Rattle.plan_tables.specs.declared.entries.GameEvent.TheVariants.{SwStart, GameWillStart, GameStarting, PlayerAdded, GameStarted, PlayerTurnWillStart, PlayerTurnStarting, PlayerTurnStarted, BallWillStart, BallStarting, BallStarted, BallDrain, BallWillEnd, BallEnding, BallEnded, PlayerTurnWillEnd, PlayerTurnEnding, PlayerTurnEnded, GameWillEnd, GameEnding, GameEnded}
+use Rattle.plan_tables.specs.declared.entries.GameEvent.TheVariants.{SwStart}
 use Rattle.plan_tables.specs.declared.entries.GameRules.{GameRules}
 use Rattle.plan_tables.specs.declared.entries.ModeEvent.{ModeEvent}
 use Rattle.plan_tables.specs.declared.entries.Work.{Work}
@@ -34,9 +34,8 @@ event_of_game-below n (Some rules) within some which = event_in_game-below n rul
 
 -- whether the work is not in the game
 abbrev IsOfMode : Work → Type 0
-IsOfMode works.Nothing = Unit {0}
-IsOfMode (works.Mode m which) = Unit {0}
 IsOfMode (works.Game which) = ⊥
+IsOfMode _ = Unit {0}
 
 mode_or : (n : ℕ) (o : Option ModeEvent) (rest : Work) → IsOfMode rest → IsOfMode (work_or n o rest)
 mode_or n None rest h = h
@@ -48,9 +47,8 @@ of_mode n (m ∷ ms) e = mode_or n (which_event m.mode.events e) (work_from (suc
 
 -- whether there is an event, where the work is in the game
 abbrev IsSomeEvent : ℕ → Work → Type 0
-IsSomeEvent n works.Nothing = Unit {0}
-IsSomeEvent n (works.Mode m which) = Unit {0}
 IsSomeEvent n (works.Game which) = 0 < n
+IsSomeEvent n _ = Unit {0}
 
 some_event-or : (n : ℕ) (w v : Work) → IsOfMode w → IsSomeEvent n v → IsSomeEvent n (or_work w v)
 some_event-or n works.Nothing v h some = some
@@ -87,26 +85,7 @@ are_few ways = list_all (λ posts. nat_le (length posts) 2) ways
 
 choices_are_few : (which : GameEvent) → are_few (choices which) ≡ true
 choices_are_few SwStart = refl
-choices_are_few GameWillStart = refl
-choices_are_few GameStarting = refl
-choices_are_few PlayerAdded = refl
-choices_are_few GameStarted = refl
-choices_are_few PlayerTurnWillStart = refl
-choices_are_few PlayerTurnStarting = refl
-choices_are_few PlayerTurnStarted = refl
-choices_are_few BallWillStart = refl
-choices_are_few BallStarting = refl
-choices_are_few BallStarted = refl
-choices_are_few BallDrain = refl
-choices_are_few BallWillEnd = refl
-choices_are_few BallEnding = refl
-choices_are_few BallEnded = refl
-choices_are_few PlayerTurnWillEnd = refl
-choices_are_few PlayerTurnEnding = refl
-choices_are_few PlayerTurnEnded = refl
-choices_are_few GameWillEnd = refl
-choices_are_few GameEnding = refl
-choices_are_few GameEnded = refl
+choices_are_few _ = refl
 
 -- the ways as they are given: by none does it post more than two events
 pub choice-few : {X : Type 0} (items : X → List GameEvent) (which : GameEvent) (ways : List X) (i : ℕ) (d : X) → map items ways ≡ choices which → i < length ways → length (items (get_or ways i d)) ≤ 2

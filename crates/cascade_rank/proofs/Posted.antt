@@ -82,7 +82,6 @@ occurrences-posts e (Both a b) = omega (arith, occurrences-append e (weights_in 
 occurrences-posts e (Greater a b) = omega (arith, occurrences-append e (weights_in a) (weights_in b), occurrences-posts e a, occurrences-posts e b)
 
 pub unmet-length : (c : Cost) → unmet (λ _. false) c ≡ length (weights_in c)
-unmet-length (Lines n) = refl
-unmet-length (Weight e) = refl
 unmet-length (Both a b) = omega (arith, length-append (weights_in a) (weights_in b), unmet-length a, unmet-length b)
 unmet-length (Greater a b) = omega (arith, length-append (weights_in a) (weights_in b), unmet-length a, unmet-length b)
+unmet-length _ = refl

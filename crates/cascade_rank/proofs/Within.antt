@@ -22,7 +22,7 @@ use Rattle.plan_tables.specs.declared.entries.SwitchId.{SwitchId}
 use Rattle.plan_tables.specs.declared.entries.Listener.{Listener}
 use Rattle.plan_tables.specs.declared.entries.ListId.{ListId}
 use Rattle.plan_tables.specs.declared.entries.Action.{Action}
-use Rattle.plan_tables.specs.declared.entries.Action.TheVariants.{Post, Pulse, Enable, Disable, Change, Enter, Leave, Lose, Arrive, Request, AddBalls}
+use Rattle.plan_tables.specs.declared.entries.Action.TheVariants.{Post, Change, Enter, Request, AddBalls}
 use Rattle.plan_tables.specs.declared.entries.Target.{Target}
 use Rattle.plan_tables.specs.declared.entries.Target.TheVariants.{Run, Start, Stop, Act}
 use Rattle.plan_tables.specs.declared.entries.Owner.TheVariants as owners
@@ -117,13 +117,12 @@ module _ (plan : PlanView) (valid : HasEntries plan) where
 
   -- and that which the machine's work posts
   IsBelow-led : (w : Work) (e : EventId) → IsWorkAt plan e w → IsBelow (length plan.events) (cost_if_led (led_by plan w))
-  IsBelow-led works.Nothing e h = tt
   IsBelow-led (works.Mode m WillStart) e h = mode_event-within m Starting h.0
   IsBelow-led (works.Mode m Starting) e h = mode_event-within m Started h.0
   IsBelow-led (works.Mode m Started) e h = mode_event-within m Stopping h.0
   IsBelow-led (works.Mode m Stopping) e h = mode_event-within m Stopped h.0
   IsBelow-led (works.Mode m Stopped) e h = IsBelow-end m h.0 (may_hold_ball_end plan m)
-  IsBelow-led (works.Game which) e h = tt
+  IsBelow-led _ e h = tt
 
   -- the event of the game at which a ball drains
   IsBelow-drain : (drain : Bool) → 0 < length plan.events → IsBelow (length plan.events) (cost_of_drain plan drain)
@@ -137,16 +136,11 @@ module _ (plan : PlanView) (valid : HasEntries plan) where
   module _ (tell : Telling → Cost) (within : (telling : Telling) → IsTellingWithin (length plan.rows) telling → IsBelow (length plan.events) (tell telling)) where
     IsBelow-action : (a : Action) → IsActionWithin plan a → IsBelow (length plan.events) (cost_of_action_by plan tell a)
     IsBelow-action (Post e) h = h
-    IsBelow-action (Pulse coil ms power) h = tt
-    IsBelow-action (Enable coil power) h = tt
-    IsBelow-action (Disable coil) h = tt
     IsBelow-action (Change v action n e) h = (tt, h.1)
     IsBelow-action (Enter r e drain) h = let some : 0 < length plan.events = omega (arith, h.1) in (tt, (h.1, (IsBelow-drain drain some, within (Arrived (Device r)) h.0)))
-    IsBelow-action (Leave r) h = tt
-    IsBelow-action (Lose r) h = tt
-    IsBelow-action (Arrive r) h = tt
     IsBelow-action (Request n) h = within (Wanted n) tt
     IsBelow-action (AddBalls n) h = within (Wanted n) tt
+    IsBelow-action _ h = tt
 
     IsBelow-list : (l : ListId) → l.0 < length plan.lists → IsBelow (length plan.events) (cost_of_list_by plan tell l)
     IsBelow-list l h =
@@ -238,9 +232,8 @@ module _ (plan : PlanView) (valid : HasEntries plan) where
       by false = tt
 
   IsBelow-game : (w : Work) (e : EventId) → work_of plan e ≡ w → IsBelow (length plan.events) (cost_of_game plan w)
-  IsBelow-game works.Nothing e is = tt
-  IsBelow-game (works.Mode m which) e is = tt
   IsBelow-game (works.Game which) e is = (tt, (IsBelow-request which, (IsBelow-drained_ball which, IsBelow-choices (game_has-event plan valid e which is) (choices which))))
+  IsBelow-game _ e is = tt
 
   pub IsBelow-work : (e : EventId) → IsBelow (length plan.events) (cost_of_work plan e)
   IsBelow-work e = (

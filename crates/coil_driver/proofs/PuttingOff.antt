@@ -66,9 +66,6 @@ pub record IsPuttingOff (plan : PlanView) (now : ℕ) (start : DriverView) (numb
   pub same : (c : CoilId) → number ≤ c.0 → coil_at d.sent c ≡ coil_at start.sent c
   pub few : length off + faults ≤ number
 
-pub putting-none : (plan : PlanView) (now : ℕ) (start : DriverView) → length start.sent ≡ length plan.coils → IsPuttingOff plan now start 0 start [] 0
-putting-none plan now start count = record { off_are = (refl, refl, refl); coils = count; faulted = refl; same = λ c at. refl; few = omega arith }
-
 module _ (plan : PlanView) (now : ℕ) (start : DriverView) (number : ℕ) (d : DriverView) (off_now : List CoilId) (faults : ℕ) (h : IsPuttingOff plan now start number d off_now faults) (there : number < length plan.coils) where
   abbrev coil : CoilId
   coil = record { 0 = number }

@@ -26,7 +26,7 @@ use Rattle.written_machine.specs.declared.line.Happening.TheVariants as lines
 use Rattle.written_machine.specs.Machine.{Machine, write, set_ledger, told, ask_coil, book, counts_of}
 use Rattle.written_machine.specs.EventStep.{taken, EventStep, EventSteps}
 use Rattle.written_machine.specs.Run.{Stimulus, begin}
-use Rattle.written_machine.specs.Moves.{Move, Wrote, Sent, Switched, Began, Ended, Marked, Released, Turned, Asked, Booked, Varied, Stepped, AddedBalls, do_move, Licence, MayDo, Does, IsNoCommand, TakesPart, Begins, ordinary, working}
+use Rattle.written_machine.specs.Moves.{Move, Wrote, Sent, Began, Ended, Asked, Booked, do_move, Licence, MayDo, Does, IsNoCommand, TakesPart, Begins, ordinary, working}
 use Rattle.written_machine.proofs.Does.{start-by, stop-by, does-keeps}
 use Rattle.written_machine.proofs.Parts.{does-before, does-after, does-begin}
 use Rattle.written_machine.proofs.Held.{asked-count}
@@ -105,22 +105,12 @@ after_lines-append [] more s = refl
 after_lines-append (l ∷ ls) more s = after_lines-append ls more (after_line l s)
 
 count-happening : (owner : Owner) (now : ℕ) (what : Happening) (s : List CoilState) → length (after_happening owner now what s) ≡ length s
-count-happening owner now (lines.Switch n active) s = refl
-count-happening owner now (lines.Event e) s = refl
 count-happening owner now (lines.Coil command) s = asked-count owner command now s
-count-happening owner now (lines.Skip command) s = refl
-count-happening owner now (lines.Player player v value) s = refl
-count-happening owner now (lines.Balls booking counts) s = refl
-count-happening owner now (lines.Final player score) s = refl
+count-happening owner now _ s = refl
 
 sendable-one : (s : List CoilState) (owner : Owner) (now : ℕ) (what : Happening) → IsSent s owner now what → IsToCoil (length s) what
-sendable-one s owner now (lines.Switch n active) h = tt
-sendable-one s owner now (lines.Event e) h = tt
 sendable-one s owner now (lines.Coil command) h = to-coil s owner now command h
-sendable-one s owner now (lines.Skip command) h = tt
-sendable-one s owner now (lines.Player player v value) h = tt
-sendable-one s owner now (lines.Balls booking counts) h = tt
-sendable-one s owner now (lines.Final player score) h = tt
+sendable-one s owner now _ h = tt
 
 pub sent-sendable : (moment : ℕ) (s : List CoilState) (count : ℕ) (ls : List Line) → moment < 2 ^ 40 → length s ≡ count → AreSent moment s ls → All (IsSendable count) ls
 sent-sendable moment s count [] early counted h = λ k d within. absurd (omega (arith, within))
@@ -150,13 +140,9 @@ module _ (plan : PlanView) (start : List CoilState) where
       same (lines.Final player score) is cs = refl
 
       quiet : (w : Happening) → IsNoCommand w → IsSent (after_lines s.lines start) owner s.moment w
-      quiet (lines.Switch n active) is = tt
-      quiet (lines.Event e) is = tt
       quiet (lines.Coil command) is = absurd is
       quiet (lines.Skip command) is = absurd is
-      quiet (lines.Player player v value) is = tt
-      quiet (lines.Balls booking counts) is = tt
-      quiet (lines.Final player score) is = tt
+      quiet _ is = tt
 
   asked-agrees : (owner : Owner) (command : Command) (s : Machine) → Agrees start s → Agrees start (ask_coil owner command s)
   asked-agrees owner command s h =
@@ -180,18 +166,11 @@ module _ (plan : PlanView) (start : List CoilState) where
 
   agrees-move : (licence : Licence) (x : Move) (s : Machine) → MayDo plan licence x → Agrees start s → Agrees start (do_move plan x s)
   agrees-move licence (Wrote owner what) s may h = wrote-agrees owner what s may.2 h
-  agrees-move licence (Sent owner e) s may h = record { coils = h.coils; sent = h.sent }
-  agrees-move licence (Switched n state) s may h = record { coils = h.coils; sent = h.sent }
   agrees-move licence (Began m) s may h = start-by plan m s (Agrees start) (record { coils = h.coils; sent = h.sent }) (record { coils = h.coils; sent = h.sent })
   agrees-move licence (Ended m) s may h = stop-by plan m s (Agrees start) (record { coils = h.coils; sent = h.sent }) (record { coils = h.coils; sent = h.sent })
-  agrees-move licence (Marked m state) s may h = record { coils = h.coils; sent = h.sent }
-  agrees-move licence (Turned call r) s may h = record { coils = h.coils; sent = h.sent }
   agrees-move licence (Asked owner command) s may h = asked-agrees owner command s h
   agrees-move licence (Booked owner call) s may h = booked-agrees owner call s h
-  agrees-move licence (Released m) s may h = record { coils = h.coils; sent = h.sent }
-  agrees-move licence (Varied v value) s may h = record { coils = h.coils; sent = h.sent }
-  agrees-move licence (Stepped which) s may h = record { coils = h.coils; sent = h.sent }
-  agrees-move licence (AddedBalls n) s may h = record { coils = h.coils; sent = h.sent }
+  agrees-move licence _ s may h = record { coils = h.coils; sent = h.sent }
 
   agrees-does : (licence : Licence) {c : Cost} {s t : Machine} → Does plan (MayDo plan licence) c s t → Agrees start s → Agrees start t
   agrees-does licence d h = does-keeps plan (MayDo plan licence) (Agrees start) (agrees-move licence) d h

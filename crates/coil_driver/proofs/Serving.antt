@@ -1,5 +1,5 @@
 -- The commands of lines are sent, one after another.
-use Rattle.std.proofs.Common.{◌≡◌, ℕ, ◌+◌, ◌<◌, Option, None, Some, Ok, List, [], ◌∷◌, ◌++◌, length, take, get_or, refl, sym, ap, ◌∙◌, subst, append_assoc}
+use Rattle.std.proofs.Common.{◌≡◌, ℕ, ◌+◌, ◌<◌, Option, None, Some, Ok, List, [], ◌∷◌, ◌++◌, length, take, get_or, sym, ap, ◌∙◌, subst, append_assoc}
 use Rattle.std.proofs.lemmas.Grind.{flat_map-append}
 use Rattle.std.proofs.lemmas.List.{take_more}
 use Rattle.coil_guard.specs.declared.command.Command.{Command}
@@ -22,9 +22,6 @@ sent-append first second a b c one two = record {
   sent = two.sent ∙ ap (after_lines second) one.sent ∙ sym (after_lines-append first second a.sent);
   faulted = two.faulted ∙ one.faulted;
 }
-
-pub sent-none : (a : DriverView) → HasSent [] a a
-sent-none a = record { taken = refl; sent = refl; faulted = refl }
 
 -- the line at a place is the next one
 pub sent-more : (trace : List Line) (place : ℕ) (d : Line) (a b c : DriverView) → place < length trace → HasSent (take place trace) a b → HasSent (get_or trace place d ∷ []) b c → HasSent (take (place + 1) trace) a c

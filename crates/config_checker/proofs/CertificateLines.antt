@@ -53,9 +53,6 @@ module _ (text : List ℕ) (whole : parts 10 text ≡ text ∷ []) where
   unfolding certificate_at
   no_heading = ap heading_at whole
 
-  pub no_bound : (version : Bool) → bound_at version (parts 10 text) ≡ Err 2
-  no_bound version = ap (bound_at version) whole
-
   pub no_front : (word : List ℕ) → front word (parts 10 text) ≡ ([], parts 10 text)
   no_front word = ap (front word) whole ∙ ap (λ (ps : List (List ℕ)). ([], ps)) (sym whole)
 

@@ -1,5 +1,5 @@
 -- A text is read as the one certificate that it is the text of.
-use Rattle.std.proofs.Common.{◌≡◌, ℕ, ◌+◌, ◌^◌, ◌<◌, ◌==◌, ◌&&◌, ◌||◌, not, nat_lt, Bool, true, false, cond, Option, Some, None, IfSome, Result, Ok, Err, List, [], ◌∷◌, ◌++◌, length, get_or, codes, refl, sym, ap, subst, ◌∙◌, append_assoc, append-nil, arith}
+use Rattle.std.proofs.Common.{◌≡◌, ℕ, ◌+◌, ◌^◌, ◌<◌, ◌==◌, ◌&&◌, ◌||◌, not, nat_lt, Bool, true, false, cond, Option, Some, None, IfSome, Ok, Err, List, [], ◌∷◌, ◌++◌, length, get_or, codes, refl, sym, ap, subst, ◌∙◌, append_assoc, append-nil, arith}
 use Rattle.std.specs.List.{join_with_byte, list_all, All}
 use Rattle.std.specs.Char.{is_ascii_digit}
 use Rattle.std.specs.Fmt.{decimal}
@@ -378,17 +378,3 @@ text-is_read c text (h, is) =
     ∙ bound_first behind (codes "bound " ++ decimal c.bound) body (first_line (codes "bound " ++ decimal c.bound) body stated) version
     ∙ ap (λ (o : Option ℕ). with_bound version o (parts 10 body)) (bound_complete c.bound h.bound)
     ∙ body_complete c.bound c.switches c.events h.switches h.events
-
--- a text with a bad line is of no certificate
-pub bad_line_of_none : (text : List ℕ) (n : ℕ) → certificate_at text ≡ Err n → (c : Certificate) → IsTextOf c text → ⊥
-bad_line_of_none text n bad c h = never (sym bad ∙ text-is_read c text h)
-  where
-    never : Err n ≡ Ok c → ⊥
-    never e = cc
-
-same_certificate : (c d : Certificate) → ◌≡◌ {A = Result Certificate ℕ} (Ok c) (Ok d) → c ≡ d
-same_certificate c d e = cc
-
--- a text is of one certificate at most
-pub one_certificate : (text : List ℕ) (c d : Certificate) → IsTextOf c text → IsTextOf d text → c ≡ d
-one_certificate text c d h k = same_certificate c d (sym (text-is_read c text h) ∙ text-is_read d text k)

@@ -4,7 +4,7 @@ use Rattle.std.specs.Prelude.{Option, None, Some, IfSome, unwrap_or}
 use Rattle.std.specs.List.{All}
 use Rattle.std.proofs.lemmas.List.Elements.{All-nil, All-cons}
 use Rattle.mpf_sections.specs.declared.words.CoilAction.{CoilAction}
-use Rattle.mpf_sections.specs.declared.words.CoilAction.TheVariants.{Pulse, Enable, Disable}
+use Rattle.mpf_sections.specs.declared.words.CoilAction.TheVariants.{Disable}
 use Rattle.mpf_sections.specs.Rows.{Written, Coil, CoilItem, Flipper, Autofire, SectionRows}
 use Rattle.machine_definitions.specs.Definitions.{coil_called, no_coil}
 use Rattle.plan_contributions.specs.Effects.{Deed, pulse, enable, disable, Effect, works}
@@ -35,9 +35,8 @@ module _ (machine : List SectionRows) where
   }
 
   action_within : (i : CoilItem) (action : CoilAction) (c : Coil) → IsActionWithin c i action → IsDeedWithin (deed_by (defaults_of_coil c) i action) c
-  action_within i Pulse c h = h
-  action_within i Enable c h = h
   action_within i Disable c h = tt
+  action_within i _ c h = h
 
   pub item_deed : (i : CoilItem) → IsItemSound machine i → IsDeedSound i.coil.text (deed_by (defaults_called machine i.coil.text) i i.action)
   item_deed i h = sound i.coil.text (λ c. IsActionWithin c i i.action) (λ d. deed_by d i i.action) (λ c within. action_within i i.action c within) h

@@ -15,9 +15,9 @@ use Rattle.plan_tables.specs.declared.table.Table.{Table}
 use Rattle.plan_tables.specs.declared.table.Table.TheVariants.{Events, Switches, Coils, Variables}
 use Rattle.plan_tables.specs.Limits.{order_of}
 use Rattle.machine_definitions.specs.Definitions.{latest_coil, coil_called}
-use Rattle.plan_contributions.specs.Effects.{Effect, posts, works, changes, enters, leaves, loses, arrives, requests, adds_balls}
+use Rattle.plan_contributions.specs.Effects.{Effect, posts, works, changes, enters}
 use Rattle.row_contributions.specs.CoilEntries.{limits_of_coil}
-use Rattle.plan_contributions.specs.Contributions.{Contribution, gives, reads, active, inactive, mode, mode_event, mode_event_name, binds, does, device, does_in, listens, mentions, unknown, coil, under, plays}
+use Rattle.plan_contributions.specs.Contributions.{Contribution, gives, active, inactive, mode, mode_event, mode_event_name, binds, does, does_in, listens, mentions, unknown, coil, under}
 use Rattle.row_contributions.specs.Contributions.{contributions_of}
 use Rattle.row_contributions.specs.Doing.{IsMention, Does}
 use Rattle.row_contributions.specs.Facts.{given_coil}
@@ -128,11 +128,7 @@ module _ (rows : Rows) (sound : IsSound rows) where
   effect-given (works n deed) h = λ needed. coil_given n rows h.coil h.called
   effect-given (changes v action n) h = never_variable v
   effect-given (enters n drain) h = never n
-  effect-given leaves h = tt
-  effect-given loses h = tt
-  effect-given arrives h = tt
-  effect-given (requests n) h = tt
-  effect-given (adds_balls n) h = tt
+  effect-given _ h = tt
 
   -- what a setting names
   mention-given : (t : Table) (n : List ℕ) → IsMention (IsFine rows) (IsUnreserved rows) (IsThere rows) t n → IsGiven cs (Some (t, n))
@@ -150,8 +146,6 @@ module _ (rows : Rows) (sound : IsSound rows) where
   is_given i d (listens k n) within at h = λ needed. switches_given rows n h
   is_given i d (does e) within at h = effect-given e h
   is_given i d (does_in k e) within at h = effect-given e h
-  is_given i d (reads kind confirms) within at h = tt
-  is_given i d (device place settings) within at h = tt
   is_given i d (active n) within at h = never n
   is_given i d (inactive n) within at h = never n
   is_given i d (mode n priority game holds) within at h = never (mode_event_name WillStart n)
@@ -160,7 +154,7 @@ module _ (rows : Rows) (sound : IsSound rows) where
   is_given i d (mentions t n) within at h = mention-given t n h
   is_given i d unknown within at h = absurd h
   is_given i d (under c) within at h = never_variable c.variable
-  is_given i d (plays min_balls balls_per_game max_players) within at h = tt
+  is_given i d _ within at h = tt
 
   are_given : AreGiven cs
   are_given =

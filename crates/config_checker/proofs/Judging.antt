@@ -99,11 +99,8 @@ none-some x e = absurd (apart e)
 
 module _ (rows : Rows) where
   limit-checked : faults_of_rows rows ≡ [] → (judge : PlanView → Result CheckedView FaultView) (fault : FaultView) → IsLimitFault rows fault → checked judge (plan_at rows) ≡ Err (fault ∷ [])
-  limit-checked none judge (row f) h = absurd h
   limit-checked none judge (limit t) h = ap (checked judge) (plan_at-exceeded rows (lacks_nothing rows (rows_sound rows none)) t h)
-  limit-checked none judge (cycle names) h = absurd h
-  limit-checked none judge bound h = absurd h
-  limit-checked none judge (certificate fault) h = absurd h
+  limit-checked none judge _ h = absurd h
 
   pub limit-found : faults_of_rows rows ≡ [] → (fault : FaultView) → IsLimitFault rows fault → checked_at rows ≡ Err (fault ∷ [])
   unfolding checked_at
@@ -114,18 +111,12 @@ module _ (rows : Rows) where
   limit-given none text fault h = first-none rows (checked (certified_plan text) (plan_at rows)) none ∙ limit-checked none (certified_plan text) fault h
 
   pub limit-fault : (fault : FaultView) → IsLimitFault rows fault → IsFaultOf rows fault
-  limit-fault (row f) h = absurd h
   limit-fault (limit t) h = h
-  limit-fault (cycle names) h = absurd h
-  limit-fault bound h = absurd h
-  limit-fault (certificate fault) h = absurd h
+  limit-fault _ h = absurd h
 
   pub limit-fault_with : (text : List ℕ) (fault : FaultView) → IsLimitFault rows fault → IsFaultWith rows text fault
-  limit-fault_with text (row f) h = absurd h
   limit-fault_with text (limit t) h = h
-  limit-fault_with text (cycle names) h = absurd h
-  limit-fault_with text bound h = absurd h
-  limit-fault_with text (certificate fault) h = absurd h
+  limit-fault_with text _ h = absurd h
 
   -- what is reported where there is no plan is what the checker reports
   pub no-plan-found : (report : Report) → ReportsNoPlan rows report → GivesChecked (Err report) (checked_at rows)

@@ -20,12 +20,12 @@ use Rattle.plan_tables.specs.declared.entries.EventId.{EventId}
 use Rattle.plan_tables.specs.declared.entries.ModeEvent.{ModeEvent}
 use Rattle.plan_tables.specs.declared.entries.ModeEvent.TheVariants.{WillStart, Starting, Started, Stopping, Stopped}
 use Rattle.plan_tables.specs.declared.entries.Action.{Action}
-use Rattle.plan_tables.specs.declared.entries.Action.TheVariants.{Post, Pulse, Enable, Disable, Change as ChangeVariable, Enter, Leave, Lose, Arrive, Request, AddBalls}
+use Rattle.plan_tables.specs.declared.entries.Action.TheVariants.{Post, Pulse, Enable, Change as ChangeVariable, Enter}
 use Rattle.plan_tables.specs.declared.entries.CoilId.{CoilId}
 use Rattle.plan_tables.specs.declared.entries.CoilLimits.{CoilLimits}
 use Rattle.plan_tables.specs.declared.entries.Owner.{Owner}
 use Rattle.plan_tables.specs.declared.entries.Target.{Target}
-use Rattle.plan_tables.specs.declared.entries.Target.TheVariants.{Run, Start, Stop, Act}
+use Rattle.plan_tables.specs.declared.entries.Target.TheVariants.{Act}
 use Rattle.plan_tables.specs.declared.devices.RowId.{RowId}
 use Rattle.plan_tables.specs.declared.devices.Act.{Act as ActOfDevice}
 use Rattle.plan_tables.specs.PlanView.{PlanCoil, no_coil, PlanView, name_of_event, coil_at, row_at}
@@ -151,16 +151,9 @@ module _ (rows : Rows) (none : faults_of_rows rows ≡ []) (plan : PlanView) (is
 
   action-free : (a : Action) → IsByVariable plan a → IsFine rows (effect_of plan a) → IsFreeAction plan a
   action-free (Post e) by h = event-free e h
-  action-free (Pulse coil ms power) by h = tt
-  action-free (Enable coil power) by h = tt
-  action-free (Disable coil) by h = tt
   action-free (ChangeVariable v action n e) by h = event-free e (subst (IsUnreserved rows) (sym by) h)
   action-free (Enter r e drain) by h = event-free e h
-  action-free (Leave r) by h = tt
-  action-free (Lose r) by h = tt
-  action-free (Arrive r) by h = tt
-  action-free (Request n) by h = tt
-  action-free (AddBalls n) by h = tt
+  action-free _ by h = tt
 
   abbrev IsNamedFree : EventId → Type 0
   IsNamedFree e = IsUnreserved rows (name_of_event plan e)
@@ -199,7 +192,6 @@ module _ (rows : Rows) (none : faults_of_rows rows ≡ []) (plan : PlanView) (is
       get_or-map (λ (p : PlanCoil). p.limits) plan.coils c.0 no_coil no_limits within ∙ same_Some (coil_at plan c).limits (limits_of_coil x) (sym given ∙ own)
 
   action-keeps_limits : (a : Action) → IsActionWithin plan a → IsFine rows (effect_of plan a) → KeepsLimits plan a
-  action-keeps_limits (Post e) within h = tt
   action-keeps_limits (Pulse c ms power) within h =
       let same = limits_are c within h.coil h.called in
       let pulse = h.such in
@@ -208,14 +200,7 @@ module _ (rows : Rows) (none : faults_of_rows rows ≡ []) (plan : PlanView) (is
       let same = limits_are c within h.coil h.called in
       let hold = h.such in
       (ap (λ (l : CoilLimits). l.may_hold) same ∙ hold.allowed, omega (arith, hold.greatest, ap (λ (l : CoilLimits). l.max_hold_power) same))
-  action-keeps_limits (Disable c) within h = tt
-  action-keeps_limits (ChangeVariable v action n e) within h = tt
-  action-keeps_limits (Enter r e drain) within h = tt
-  action-keeps_limits (Leave r) within h = tt
-  action-keeps_limits (Lose r) within h = tt
-  action-keeps_limits (Arrive r) within h = tt
-  action-keeps_limits (Request n) within h = tt
-  action-keeps_limits (AddBalls n) within h = tt
+  action-keeps_limits _ within h = tt
 
   plan_keeps_limits : ActionsKeepLimits plan
   plan_keeps_limits =
@@ -233,10 +218,8 @@ plan_own rows short plan is = record {
 }
   where
     own : (owner : Owner) (t : Target) → ((r : RowId) (act : ActOfDevice) → t ≡ Act r act → (row_at plan r).owner ≡ owner) → IsOwnAct plan owner t
-    own owner (Run l) h = tt
-    own owner (Start m) h = tt
-    own owner (Stop m) h = tt
     own owner (Act r act) h = h r act refl
+    own owner _ h = tt
 
 -- ---- balls
 

@@ -160,9 +160,6 @@ module _ (rows : Rows) where
       let certified = accepted_is_certified from.0 text c from.2 in
       (from.1 ∙ ap Ok (sym certified.1), certified.0, certified.2)
 
-  pub given-text : (text : List ℕ) (c : CheckedView) → checked_with_at rows text ≡ Ok c → IsCertificateText c text
-  given-text text c is = (given_is_verified text c is).2
-
   pub found-plan : (c : CheckedView) → checked_at rows ≡ Ok c → c.plan ≡ plan_of rows
   found-plan c is = (plan_at-Ok rows c.plan (found_is_verified c is).0).0
 

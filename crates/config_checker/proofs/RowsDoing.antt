@@ -7,7 +7,7 @@ use Rattle.std.specs.Str.{bytes_eq}
 use Rattle.std.specs.List.{All, AllPairs, flat_map, list_any}
 use Rattle.std.proofs.lemmas.List.{get_or_append_left}
 use Rattle.std.proofs.lemmas.List.Elements.{All-nil, All-cons, All-head, All-tail, All-append, All-map, All-weaker, All-from_get_or, All-from_recursion}
-use Rattle.mpf_sections.specs.Rows.{Written, Entry, Switch, CoilPlayer, VariablePlayer, Block, Flipper, Autofire, Shot, ShotGroup, BallDevice, SectionRows}
+use Rattle.mpf_sections.specs.Rows.{Written, Entry, Switch, CoilPlayer, VariablePlayer, BlockEvents, Flipper, Autofire, Shot, ShotGroup, BallDevice, SectionRows}
 use Rattle.mpf_sections.specs.TypedGame.{variable_players_in}
 use Rattle.machine_definitions.specs.Players.{player_event, is_set_by_game}
 use Rattle.row_contributions.specs.VariableEntries.{item_change}
@@ -17,12 +17,12 @@ use Rattle.mpf_sections.specs.TypedCoils.{coil_players_in, flippers_in, autofire
 use Rattle.mpf_sections.specs.TypedShots.{shots_in, shot_groups_in}
 use Rattle.mpf_sections.specs.TypedBalls.{playfield, ball_devices_in}
 use Rattle.mpf_sections.specs.TypedSaves.{ball_saves_name, multiballs_name, ball_save_of, multiball_of}
-use Rattle.plan_tables.specs.declared.devices.StepSettings.{StepSettings}
+use Rattle.machine_settings.specs.declared.settings.StepSettings.{StepSettings}
 use Rattle.plan_tables.specs.declared.devices.Settings.{Settings}
 use Rattle.plan_tables.specs.declared.devices.Settings.TheVariants as kinds
 use Rattle.machine_definitions.specs.Definitions.{has_switch, ball_devices_of, latest_ball_device}
 use Rattle.machine_definitions.specs.Shots.{Profile, profile_of_name}
-use Rattle.plan_contributions.specs.Effects.{Effect, posts, works, changes, enters, leaves, loses, arrives, requests, adds_balls}
+use Rattle.plan_contributions.specs.Effects.{Effect, posts, works, changes, enters, leaves, loses, arrives}
 use Rattle.row_contributions.specs.DeviceEntries.{Device, counter_device, step_device, step_settings, timer_device, device_of, block_event, or_own, block_lists, timer_event, timer_endings, timer_lists}
 use Rattle.row_contributions.specs.CoilEntries.{defaults_called, own_pulse, item_effect, flipper_device, autofire_device}
 use Rattle.row_contributions.specs.BallEntries.{drains, ball_event, eject_pulse, ball_lists}
@@ -85,11 +85,7 @@ module _ (rows : Rows) where
   IsFine (works n deed) = IsDeedSound rows.machine n deed
   IsFine (changes v action n) = IsUnreserved (player_event v)
   IsFine (enters n drain) = IsUnreserved n
-  IsFine leaves = Unit {0}
-  IsFine loses = Unit {0}
-  IsFine arrives = Unit {0}
-  IsFine (requests n) = Unit {0}
-  IsFine (adds_balls n) = Unit {0}
+  IsFine _ = Unit {0}
 
   -- a switch to which a device listens is defined
   abbrev pub IsThere : List ℕ → Type 0
@@ -137,7 +133,7 @@ module _ (rows : Rows) where
   one e h = All-cons IsFine e [] h (All-nil IsFine)
 
   -- what the effect lists of a block post
-  block-lists : (name : List ℕ) (b : Block) → All IsFreePost b.hit × All IsFreePost b.complete → All (All IsFine) (block_lists name b)
+  block-lists : (name : List ℕ) (b : BlockEvents) → All IsFreePost b.hit × All IsFreePost b.complete → All (All IsFine) (block_lists name b)
   block-lists name b parts =
       let updated = posts (block_event name (codes "_updated")) ∷ [] in
       let hit = map posts (or_own b.hit (block_event name (codes "_hit"))) in
@@ -173,7 +169,7 @@ module _ (rows : Rows) where
           record { lists = all_save IsFine name (λ ending. save-free name ending rows) tt; listens = All-nil IsThere }
       by false true =
           let balls = multiball_of e in
-          record { lists = all_multiball IsFine balls.name.text balls.balls (λ ending. multiball-free balls.name.text ending rows) tt; listens = All-nil IsThere }
+          record { lists = all_multiball IsFine balls.name.text balls.settings.balls (λ ending. multiball-free balls.name.text ending rows) tt; listens = All-nil IsThere }
       by false false = tt
 
   -- the devices of a section that stand in any text

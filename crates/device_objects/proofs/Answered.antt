@@ -5,12 +5,12 @@ use Rattle.std.proofs.lemmas.List.{append-nil}
 use Rattle.std.proofs.lemmas.Option.{none-some}
 use Rattle.std.proofs.lemmas.Bool.{and_from, and_parts, eq-eqb, leb-true, ltb-true, lt-ltb, false≢true, true≢false}
 use Rattle.plan_tables.specs.declared.devices.BankSettings.{BankSettings}
-use Rattle.plan_tables.specs.declared.devices.BlockSettings.{BlockSettings}
-use Rattle.plan_tables.specs.declared.devices.CounterSettings.{CounterSettings}
-use Rattle.plan_tables.specs.declared.devices.StepSettings.{StepSettings}
-use Rattle.plan_tables.specs.declared.devices.TimerSettings.{TimerSettings}
+use Rattle.machine_settings.specs.declared.settings.BlockSettings.{BlockSettings}
+use Rattle.machine_settings.specs.declared.settings.CounterSettings.{CounterSettings}
+use Rattle.machine_settings.specs.declared.settings.StepSettings.{StepSettings}
+use Rattle.machine_settings.specs.declared.settings.TimerSettings.{TimerSettings}
 use Rattle.plan_tables.specs.declared.devices.Settings.TheVariants as kinds
-use Rattle.plan_tables.specs.declared.devices.Direction.{Direction}
+use Rattle.machine_settings.specs.declared.words.Direction.{Direction}
 use Rattle.plan_tables.specs.declared.devices.Act.{Act}
 use Rattle.plan_tables.specs.declared.devices.Act.TheVariants as acts
 use Rattle.plan_tables.specs.Devices.{state_count}
@@ -25,7 +25,8 @@ use Rattle.device_objects.specs.declared.state.FlipperState.{FlipperState}
 use Rattle.device_objects.specs.declared.state.AutofireState.{AutofireState}
 use Rattle.device_objects.specs.declared.state.DeviceState.TheVariants as states
 use Rattle.device_objects.specs.declared.state.World.{World}
-use Rattle.device_objects.specs.Values.{clamped, is_at_end, moved}
+use Rattle.machine_settings.specs.Ends.{is_at_end}
+use Rattle.device_objects.specs.Values.{clamped, moved}
 use Rattle.device_objects.specs.Slots.{updated}
 use Rattle.device_objects.specs.Counter as counter
 use Rattle.device_objects.specs.Accrual as accrual
@@ -85,11 +86,10 @@ counter_none-in c _ is = here
 
 counter-in : (c : CounterSettings) (call : Call) (now : ℕ) (world : World) (slots : List CounterSlot) → length slots ≡ 4 → MayCome call (states.Counter slots)
     → In (counter.counter_step c call now world slots).1 (outcomes (kinds.Counter c) call)
-counter-in c calls.ModeStart now world slots four may = here
-counter-in c calls.ModeStop now world slots four may = here
 counter-in c calls.Fire now world slots four may = absurd (false≢true may)
 counter-in c (calls.Act act) now world slots four may = in_use-answers (λ answer. In answer (of_counter c act)) (λ slot. counter.slot_step c act now (counter.current c world slot))
     (λ slot. counter_slot-in c act now (counter.current c world slot)) c.block.persist world slots four (counter_none-in c act)
+counter-in c _ now world slots four may = here
 
 -- ---- accruals
 
@@ -142,11 +142,10 @@ accrual_none-in a _ is = here
 
 accrual-in : (a : StepSettings) (call : Call) (world : World) (slots : List AccrualSlot) → length slots ≡ 4 → MayCome call (states.Accrual slots)
     → In (accrual.accrual_step a call world slots).1 (outcomes (kinds.Accrual a) call)
-accrual-in a calls.ModeStart world slots four may = here
-accrual-in a calls.ModeStop world slots four may = here
 accrual-in a calls.Fire world slots four may = absurd (false≢true may)
 accrual-in a (calls.Act act) world slots four may = in_use-answers (λ answer. In answer (of_accrual a act)) (λ slot. accrual.slot_step a act (accrual.current a world slot))
     (λ slot. accrual_slot-in a act (accrual.current a world slot)) a.block.persist world slots four (accrual_none-in a act)
+accrual-in a _ world slots four may = here
 
 -- ---- sequences
 
@@ -173,11 +172,10 @@ sequence_none-in q _ is = here
 
 sequence-in : (q : StepSettings) (call : Call) (world : World) (slots : List SequenceSlot) → length slots ≡ 4 → MayCome call (states.Sequence slots)
     → In (sequence.sequence_step q call world slots).1 (outcomes (kinds.Sequence q) call)
-sequence-in q calls.ModeStart world slots four may = here
-sequence-in q calls.ModeStop world slots four may = here
 sequence-in q calls.Fire world slots four may = absurd (false≢true may)
 sequence-in q (calls.Act act) world slots four may = in_use-answers (λ answer. In answer (of_sequence q act)) (λ slot. sequence.slot_step q act (sequence.current q world slot))
     (λ slot. sequence_slot-in q act (sequence.current q world slot)) q.block.persist world slots four (sequence_none-in q act)
+sequence-in q _ world slots four may = here
 
 -- ---- timers
 
@@ -194,10 +192,9 @@ changed-in t now s = either (timer.is_running s && is_at_end t.direction t.end s
     (λ not. here)
 
 more-in : {x : List ℕ} (y : List ℕ) (test more : Bool) → (test ≡ true → more ≡ true) → In x ([] ∷ only_if test (y ∷ [])) → In x ([] ∷ only_if more (y ∷ []))
-more-in y true more has here = here
 more-in y true more has (there at) = there (if_holds more (has refl) at)
-more-in y false more has here = here
 more-in y false more has (there at) = elim at [ ]
+more-in y _ more has here = here
 
 ticked-in : (t : TimerSettings) (ends : Bool) (done going : TimerState × List ℕ) → (ends ≡ true → is_some t.end ≡ true) → done.1 ≡ timer_completing t → going.1 ≡ []
     → In (timer.tick ∷ (if ends then done else going).1) (of_timer t calls.Fire)
@@ -221,7 +218,6 @@ timer_act-in : (t : TimerSettings) (act : Act) (now : ℕ) (s : TimerState) → 
 timer_act-in t acts.Start now s = starts-in (timer.is_running s) s (timer.run t now s) timer.started
 timer_act-in t acts.Stop now s = stops-in (timer.is_running s) s (timer.halt s) timer.stopped
 timer_act-in t acts.Pause now s = stops-in (timer.is_running s) s (timer.halt s) timer.paused
-timer_act-in t acts.Restart now s = here
 timer_act-in t (acts.Add n) now s = more-in (timer_completing t) (is_at_end t.direction t.end (clamped (s.value +ℤ n))) (is_some t.end) (at_end-some t.direction t.end (clamped (s.value +ℤ n))) (changed-in t now (record s { value = clamped (s.value +ℤ n) }))
 timer_act-in t (acts.Subtract n) now s = more-in (timer_completing t) (is_at_end t.direction t.end (clamped (s.value -ℤ n))) (is_some t.end) (at_end-some t.direction t.end (clamped (s.value -ℤ n))) (changed-in t now (record s { value = clamped (s.value -ℤ n) }))
 timer_act-in t (acts.Jump n) now s = changed-in t now (record s { value = clamped n })
@@ -255,11 +251,9 @@ hit-comes : {S : Type 0} (x y : S) (group advance moves all several : Bool) (hit
     (if group && (advance && moves) then only_if several (hits ∷ []) ++ (hits ++ done ∷ []) ∷ [] else hits ∷ [])
 hit-comes x y false false moves all several hits done only = here
 hit-comes x y true false moves all several hits done only = here
-hit-comes x y false true moves all several hits done only = by (append-nil hits) here
-hit-comes x y true true false all several hits done only = by (append-nil hits) here
 hit-comes x y true true true true several hits done only = at_last (only_if several (hits ∷ []))
-hit-comes x y true true true false true hits done only = by (append-nil hits) here
 hit-comes x y true true true false false hits done only = absurd (false≢true (only refl))
+hit-comes x y _ true _ _ _ hits done only = by (append-nil hits) here
 
 hit_now-in : (b : BankSettings) (i s : ℕ) (slot : BankSlot) → nat_lt i b.shots ≡ true → slice_get slot.states i ≡ Some s
     → In (bank.hit b i s slot).1 (of_hit_in b i s)
@@ -294,12 +288,11 @@ bank_none-in b _ = here
 
 bank-in : (b : BankSettings) (call : Call) (world : World) (slots : List BankSlot) → length slots ≡ 4 → MayCome call (states.Bank slots)
     → In (bank.bank_step b call world slots).1 (outcomes (kinds.Bank b) call)
-bank-in b calls.ModeStart world slots four may = here
-bank-in b calls.ModeStop world slots four may = here
 bank-in b calls.Fire world slots four may = absurd (false≢true may)
 bank-in b (calls.Act act) world slots four may =
     in_use-answers (λ answer. In answer (of_bank b act)) (λ slot. bank.slot_step b act (bank.current b world slot))
     (λ slot. bank_slot-in b act (bank.current b world slot)) true world slots four (λ is. bank_none-in b act)
+bank-in b _ world slots four may = here
 
 -- ---- flippers and autofire coils
 
@@ -313,20 +306,18 @@ flipper_act-in (acts.SwitchOff i) s = switch-in s.on i flipper.off (record s { o
 flipper_act-in _ s = here
 
 flipper-in : (call : Call) (s : FlipperState) → MayCome call (states.Flipper s) → In (flipper.flipper_step call s).1 (outcomes kinds.Flipper call)
-flipper-in calls.ModeStart s may = here
-flipper-in calls.ModeStop s may = here
 flipper-in calls.Fire s may = absurd (false≢true may)
 flipper-in (calls.Act act) s may = flipper_act-in act s
+flipper-in _ s may = here
 
 autofire_act-in : (act : Act) (s : AutofireState) → In (autofire.act_step act s).1 (of_autofire act)
 autofire_act-in (acts.SwitchOn i) s = switch-in s.enabled i autofire.fires s s
 autofire_act-in _ s = here
 
 autofire-in : (call : Call) (s : AutofireState) → MayCome call (states.Autofire s) → In (autofire.autofire_step call s).1 (outcomes kinds.Autofire call)
-autofire-in calls.ModeStart s may = here
-autofire-in calls.ModeStop s may = here
 autofire-in calls.Fire s may = absurd (false≢true may)
 autofire-in (calls.Act act) s may = autofire_act-in act s
+autofire-in _ s may = here
 
 -- ---- all kinds
 

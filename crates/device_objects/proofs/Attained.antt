@@ -10,16 +10,17 @@ use Rattle.std.proofs.lemmas.List.{append-nil, get_or-replicate, get_or-set_othe
 use Rattle.std.proofs.lemmas.Option.{slice_get-get_or}
 use Rattle.std.proofs.lemmas.Bool.{and_from, and_parts, cases_Bool, eq-eqb, eqb-false, le-leb, ltb-true, ne_eqb, false≢true, true≢false}
 use Rattle.plan_tables.specs.declared.devices.BankSettings.{BankSettings}
-use Rattle.plan_tables.specs.declared.devices.CounterSettings.{CounterSettings}
-use Rattle.plan_tables.specs.declared.devices.StepSettings.{StepSettings}
-use Rattle.plan_tables.specs.declared.devices.TimerSettings.{TimerSettings}
+use Rattle.machine_settings.specs.declared.settings.CounterSettings.{CounterSettings}
+use Rattle.machine_settings.specs.declared.settings.StepSettings.{StepSettings}
+use Rattle.machine_settings.specs.declared.settings.TimerSettings.{TimerSettings}
 use Rattle.plan_tables.specs.declared.devices.Settings.{Settings}
 use Rattle.plan_tables.specs.declared.devices.Settings.TheVariants as kinds
-use Rattle.plan_tables.specs.declared.devices.Direction.{Direction}
-use Rattle.plan_tables.specs.declared.devices.Direction.TheVariants.{Up, Down}
+use Rattle.machine_settings.specs.declared.words.Direction.{Direction}
+use Rattle.machine_settings.specs.declared.words.Direction.TheVariants.{Up, Down}
 use Rattle.plan_tables.specs.declared.devices.Act.{Act}
 use Rattle.plan_tables.specs.declared.devices.Act.TheVariants as acts
-use Rattle.plan_tables.specs.Devices.{IsEndWithin, IsWithinLimits, state_count}
+use Rattle.machine_settings.specs.Limits.{IsEndWithin}
+use Rattle.plan_tables.specs.Devices.{IsWithinLimits, state_count}
 use Rattle.device_objects.specs.declared.device.Call.{Call}
 use Rattle.device_objects.specs.declared.device.Call.TheVariants as calls
 use Rattle.device_objects.specs.declared.state.CounterSlot.{CounterSlot}
@@ -30,7 +31,8 @@ use Rattle.device_objects.specs.declared.state.BankSlot.{BankSlot}
 use Rattle.device_objects.specs.declared.state.FlipperState.{FlipperState}
 use Rattle.device_objects.specs.declared.state.DeviceState.TheVariants as states
 use Rattle.device_objects.specs.declared.state.World.{World}
-use Rattle.device_objects.specs.Values.{clamped, is_at_end, moved}
+use Rattle.machine_settings.specs.Ends.{is_at_end}
+use Rattle.device_objects.specs.Values.{clamped, moved}
 use Rattle.device_objects.specs.Slots.{updated, slot_in_use, is_of_other_game, step_in_use}
 use Rattle.device_objects.specs.Counter as counter
 use Rattle.device_objects.specs.Accrual as accrual
@@ -165,9 +167,8 @@ all_set zero = refl
 all_set (suc n) = all_set n
 
 filled : (n i : ℕ) → slice_set (slice_set (replicate n true) i false) i true ≡ replicate n true
-filled zero i = refl
-filled (suc n) zero = refl
 filled (suc n) (suc i) = ap (λ marks. true ∷ marks) (filled n i)
+filled _ _ = refl
 
 hole_at : (n i : ℕ) → i < n → slice_get (slice_set (replicate n true) i false) i ≡ Some false
 hole_at zero i below = absurd (omega (arith, below))
@@ -180,10 +181,9 @@ open_at (suc n) zero below = refl
 open_at (suc n) (suc i) below = open_at n i (omega (arith, below))
 
 some_left : (steps i : ℕ) → nat_lt 1 steps ≡ true → list_all (λ d. d) (take steps (slice_set accrual.none_done i true)) ≡ false
-some_left zero i several = absurd (false≢true several)
-some_left (suc zero) i several = absurd (false≢true several)
 some_left (suc (suc n)) zero several = refl
 some_left (suc (suc n)) (suc i) several = refl
+some_left _ i several = absurd (false≢true several)
 
 abbrev accrual_slot : Bool → List Bool → AccrualSlot
 accrual_slot enabled done = record { game = 0; enabled = enabled; done = done }
@@ -397,15 +397,13 @@ bank_by_nobody b act = record {
 -- what a hit answers where it completes no group, and where it completes one
 not_complete : (group advance moves all : Bool) → (group && (advance && moves)) ≡ false → advance ≡ true
     → (group && (moves && all)) ≡ false
-not_complete false advance moves all is on = refl
 not_complete true false moves all is on = absurd (false≢true on)
-not_complete true true false all is on = refl
 not_complete true true true all is on = absurd (true≢false is)
+not_complete _ _ _ all is on = refl
 
 none_differs : (group moves all : Bool) → all ≡ false → (group && (moves && all)) ≡ false
-none_differs false moves all is = refl
-none_differs true false all is = refl
 none_differs true true all is = is
+none_differs _ _ all is = refl
 
 quiet_hit : {S : Type 0} (x y : S) (advance complete : Bool) (hits done : List ℕ) → (advance ≡ true → complete ≡ false)
     → (if◌then◌else◌ {A = S × List ℕ} advance (x, hits ++ (if complete then done else [])) (y, hits)).1 ≡ hits
@@ -434,18 +432,16 @@ all_same zero s = refl
 all_same (suc n) s = and_from (s == s) (list_all (λ x. x == s) (replicate n s)) (eq-eqb s s refl) (all_same n s)
 
 set-replicate : (n i s : ℕ) → slice_set (replicate n s) i s ≡ replicate n s
-set-replicate zero i s = refl
-set-replicate (suc n) zero s = refl
 set-replicate (suc n) (suc i) s = ap (λ xs. s ∷ xs) (set-replicate n i s)
+set-replicate _ _ s = refl
 
 slice_get-replicate : {X : Type 0} (n i : ℕ) (x : X) → i < n → slice_get (replicate n x) i ≡ Some x
 slice_get-replicate n i x l =
     slice_get-get_or (replicate n x) i x (omega (arith, l, length-replicate n x)) ∙ ap Some (get_or-replicate n i x x l)
 
 none_moves : (group all same : Bool) → same ≡ true → (group && (not same && all)) ≡ false
-none_moves false all same is = refl
-none_moves true all true is = refl
 none_moves true all false is = absurd (false≢true is)
+none_moves _ all _ is = refl
 
 -- of several shots that were in one state, one has moved
 one_moved : (n i s next : ℕ) → nat_lt 1 n ≡ true → n ≤ 16 → (next ≡ s → ⊥)

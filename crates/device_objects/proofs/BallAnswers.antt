@@ -87,10 +87,10 @@ module _ (d : BallSettings) where
 
   gone-in : (now : ℕ) (eject : Eject) (s : BallState) → IsEjectOf d eject → In (gone d now eject s).1 (of_count d)
   gone-in now Idle s is =
-      let first : Attempt = record { number = 1; timeout = now + d.timeout } in
-      either d.mechanical (record s { eject = Away first }, left ∷ []) (s, lost ∷ [])
-      (λ hand. left-in (or_right d.has_coil d.mechanical hand)) (λ none. lost-in)
-  gone-in now (Pulsing a) s is = left-in (or_left d.has_coil d.mechanical is.0)
+      let first : Attempt = record { number = 1; timeout = now + d.ejects.timeout } in
+      either d.ejects.mechanical (record s { eject = Away first }, left ∷ []) (s, lost ∷ [])
+      (λ hand. left-in (or_right d.has_coil d.ejects.mechanical hand)) (λ none. lost-in)
+  gone-in now (Pulsing a) s is = left-in (or_left d.has_coil d.ejects.mechanical is.0)
   gone-in now (Away a) s is = lost-in
 
   count-in : (now i : ℕ) (s : BallState) → i < d.switches → HasBallShape d s → In (count d now i s).1 (of_count d)
@@ -106,14 +106,14 @@ module _ (d : BallSettings) where
 
   stuck-in : (now : ℕ) (a : Attempt) (s : BallState) → IsAttempt d a.number → In (stuck d now a s).1 (of_attempt d)
   stuck-in now a s is =
-      let again : List (List ℕ) = only_if (may_try_again d.max_attempts 1) ((failed ∷ attempted ∷ []) ∷ []) in
-      let last : List (List ℕ) = only_if (is_some d.max_attempts) ((failed ∷ []) ∷ []) in
-      either (may_try_again d.max_attempts a.number)
+      let again : List (List ℕ) = only_if (may_try_again d.ejects.max_attempts 1) ((failed ∷ attempted ∷ []) ∷ []) in
+      let last : List (List ℕ) = only_if (is_some d.ejects.max_attempts) ((failed ∷ []) ∷ []) in
+      either (may_try_again d.ejects.max_attempts a.number)
       (after (failed ∷ []) (attempt d (min (suc a.number) 1000) now s))
       (record s { eject = Idle; wanted = 0 }, failed ∷ [])
       (λ may. at_left last
-      (if_holds (may_try_again d.max_attempts 1) (may_follow_first d.max_attempts a.number is.0 may) here))
-      (λ not. at_right again (if_holds (is_some d.max_attempts) (has_last d.max_attempts a.number not) here))
+      (if_holds (may_try_again d.ejects.max_attempts 1) (may_follow_first d.ejects.max_attempts a.number is.0 may) here))
+      (λ not. at_right again (if_holds (is_some d.ejects.max_attempts) (has_last d.ejects.max_attempts a.number not) here))
 
   time_out-in : (now : ℕ) (eject : Eject) (s : BallState) → IsEjectOf d eject → is_some (timeout_of eject) ≡ true
       → HasBallShape d (ended s) → In (time_out d now eject s).1 (of_ball_fire d)
@@ -147,19 +147,17 @@ module _ (d : BallSettings) where
 
   confirm-in : (now : ℕ) (eject : Eject) (s : BallState) → IsEjectOf d eject → HasBallShape d (ended s)
       → In (confirm d now eject s).1 (of_ball_act d acts.Confirm)
-  confirm-in now Idle s is shape = here
-  confirm-in now (Pulsing a) s is shape = here
   confirm-in now (Away a) s is shape =
       there (if_holds (may_eject d) is.0
       (ending-in (confirmed d.target) now (ended s) (may_begin-from (ended s) shape)))
+  confirm-in now _ s is shape = here
 
   either_request : (n : ℕ) (asked can : Bool) (x y z : BallState)
       → (asked ≡ true → can ≡ true → (d.trough && may_begin d) ≡ true)
       → In (if◌then◌else◌ {A = BallState × List ℕ} asked (if can then (x, attempted ∷ []) else (y, [])) (z, [])).1
       (of_ball_act d (acts.Request n))
   either_request n true true x y z may = there (if_holds (d.trough && may_begin d) (may refl refl) here)
-  either_request n true false x y z may = here
-  either_request n false can x y z may = here
+  either_request n _ _ x y z may = here
 
   requested-in : (n now : ℕ) (s : BallState) → HasBallShape d s
       → In (requested d n now s).1 (of_ball_act d (acts.Request n))
@@ -172,15 +170,12 @@ module _ (d : BallSettings) where
       (and_from d.has_coil (nat_lt 0 d.switches) begins.1 (some_switch d.switches s.switches shape.unused begins.0)))
 
   act-in : (act : Act) (now : ℕ) (s : BallState) → HasBallShape d s → In (act_step d act now s).1 (of_ball_act d act)
-  act-in (acts.SwitchOn i) now s shape = here
-  act-in (acts.SwitchOff i) now s shape = here
   act-in acts.Confirm now s shape = confirm-in now s.eject s shape.eject (ended-shape d s shape)
   act-in (acts.Request n) now s shape = requested-in n now s shape
   act-in _ now s shape = here
 
   pub ball-in : (call : Call) (now : ℕ) (s : BallState) → HasBallShape d s → MayCome call (states.BallDevice s)
       → In (ball_step d call now s).1 (outcomes (kinds.BallDevice d) call)
-  ball-in calls.ModeStart now s shape may = here
-  ball-in calls.ModeStop now s shape may = here
   ball-in calls.Fire now s shape may = fire-in now s shape may
   ball-in (calls.Act act) now s shape may = act-in act now s shape
+  ball-in _ now s shape may = here

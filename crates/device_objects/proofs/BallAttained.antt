@@ -9,7 +9,8 @@ use Rattle.plan_tables.specs.declared.devices.Act.{Act}
 use Rattle.plan_tables.specs.declared.devices.Act.TheVariants as acts
 use Rattle.plan_tables.specs.declared.devices.BallSettings.{BallSettings}
 use Rattle.plan_tables.specs.declared.devices.Settings.TheVariants as kinds
-use Rattle.plan_tables.specs.Devices.{IsAttemptsWithin, IsWithinLimits}
+use Rattle.machine_settings.specs.Limits.{IsAttemptsWithin}
+use Rattle.plan_tables.specs.Devices.{IsWithinLimits}
 use Rattle.device_objects.specs.declared.device.Call.{Call}
 use Rattle.device_objects.specs.declared.device.Call.TheVariants as calls
 use Rattle.device_objects.specs.declared.state.Attempt.{Attempt}
@@ -134,31 +135,31 @@ module _ (d : BallSettings) (limits : IsWithinLimits (kinds.BallDevice d)) where
 
   left-comes : 0 < d.switches → may_eject d ≡ true → IsAnswer (kinds.BallDevice d) calls.Fire (left ∷ [])
   left-comes some may =
-      elim (or_cases d.has_coil d.mechanical may) [
+      elim (or_cases d.has_coil d.ejects.mechanical may) [
         | inl coil ↦
             answered calls.Fire (left ∷ []) (state_with emptying (Pulsing (over 1)) 0)
             (shape_with emptying (Pulsing (over 1)) 0 some (coil, first_attempt d) (omega arith)) refl refl
         | inr hand ↦
             let s : BallState = state_with emptying Idle 0 in
             let t : BallState = set_switch 0 (turned emptying) s in
-            let first : Attempt = record { number = 1; timeout = 0 + d.timeout } in
+            let first : Attempt = record { number = 1; timeout = 0 + d.ejects.timeout } in
             answered calls.Fire (left ∷ []) s (shape_with emptying Idle 0 some tt (omega arith)) refl
-            (if_true d.mechanical (record t { eject = Away first }, left ∷ []) (t, lost ∷ []) hand)
+            (if_true d.ejects.mechanical (record t { eject = Away first }, left ∷ []) (t, lost ∷ []) hand)
       ]
 
   lost-comes : 0 < d.switches → IsAnswer (kinds.BallDevice d) calls.Fire (lost ∷ [])
   lost-comes some =
-      elim (cases_Bool d.mechanical) [
+      elim (cases_Bool d.ejects.mechanical) [
         | inl hand ↦
             answered calls.Fire (lost ∷ []) (state_with emptying (Away (over 1)) 0)
-            (shape_with emptying (Away (over 1)) 0 some (or_right d.has_coil d.mechanical hand, first_attempt d)
+            (shape_with emptying (Away (over 1)) 0 some (or_right d.has_coil d.ejects.mechanical hand, first_attempt d)
             (omega arith)) refl refl
         | inr none ↦
             let s : BallState = state_with emptying Idle 0 in
             let t : BallState = set_switch 0 (turned emptying) s in
-            let first : Attempt = record { number = 1; timeout = 0 + d.timeout } in
+            let first : Attempt = record { number = 1; timeout = 0 + d.ejects.timeout } in
             answered calls.Fire (lost ∷ []) s (shape_with emptying Idle 0 some tt (omega arith)) refl
-            (if_false d.mechanical (record t { eject = Away first }, left ∷ []) (t, lost ∷ []) none)
+            (if_false d.ejects.mechanical (record t { eject = Away first }, left ∷ []) (t, lost ∷ []) none)
       ]
 
   count-comes : 0 < d.switches → All (IsAnswer (kinds.BallDevice d) calls.Fire) (of_count d)
@@ -184,25 +185,25 @@ module _ (d : BallSettings) (limits : IsWithinLimits (kinds.BallDevice d)) where
   attempt-comes : d.has_coil ≡ true → All (IsAnswer (kinds.BallDevice d) calls.Fire) (of_attempt d)
   attempt-comes coil =
       let Answer : List ℕ → Type 0 = IsAnswer (kinds.BallDevice d) calls.Fire in
-      All-append Answer (only_if (may_try_again d.max_attempts 1) ((failed ∷ attempted ∷ []) ∷ []))
-      (only_if (is_some d.max_attempts) ((failed ∷ []) ∷ []))
-      (all_if Answer (may_try_again d.max_attempts 1) ((failed ∷ attempted ∷ []) ∷ [])
+      All-append Answer (only_if (may_try_again d.ejects.max_attempts 1) ((failed ∷ attempted ∷ []) ∷ []))
+      (only_if (is_some d.ejects.max_attempts) ((failed ∷ []) ∷ []))
+      (all_if Answer (may_try_again d.ejects.max_attempts 1) ((failed ∷ attempted ∷ []) ∷ [])
       (λ may.
       let s : BallState = bare (Pulsing (over 1)) in
       one Answer (failed ∷ attempted ∷ [])
       (answered calls.Fire (failed ∷ attempted ∷ []) s (bare-shape (Pulsing (over 1)) (coil, first_attempt d)) refl
-      (if_true (may_try_again d.max_attempts 1) (after (failed ∷ []) (attempt d 2 0 s))
+      (if_true (may_try_again d.ejects.max_attempts 1) (after (failed ∷ []) (attempt d 2 0 s))
       (record s { eject = Idle; wanted = 0 }, failed ∷ []) may))))
-      (all_if Answer (is_some d.max_attempts) ((failed ∷ []) ∷ [])
-      (λ some. one Answer (failed ∷ []) (gives_up (last_attempt d.max_attempts limits.attempts some))))
+      (all_if Answer (is_some d.ejects.max_attempts) ((failed ∷ []) ∷ [])
+      (λ some. one Answer (failed ∷ []) (gives_up (last_attempt d.ejects.max_attempts limits.ejects.attempts some))))
     where
-      gives_up : (n : ℕ) × (1 ≤ n) × (n ≤ max 1 (option_map_or (λ m. m) d.max_attempts 1000))
-          × (may_try_again d.max_attempts n ≡ false)
+      gives_up : (n : ℕ) × (1 ≤ n) × (n ≤ max 1 (option_map_or (λ m. m) d.ejects.max_attempts 1000))
+          × (may_try_again d.ejects.max_attempts n ≡ false)
           → IsAnswer (kinds.BallDevice d) calls.Fire (failed ∷ [])
       gives_up last =
           let s : BallState = bare (Pulsing (over last.0)) in
           answered calls.Fire (failed ∷ []) s (bare-shape (Pulsing (over last.0)) (coil, (last.1, last.2))) refl
-          (if_false (may_try_again d.max_attempts last.0) (after (failed ∷ []) (attempt d (min (suc last.0) 1000) 0 s))
+          (if_false (may_try_again d.ejects.max_attempts last.0) (after (failed ∷ []) (attempt d (min (suc last.0) 1000) 0 s))
           (record s { eject = Idle; wanted = 0 }, failed ∷ []) last.3)
 
   fire-comes : All (IsAnswer (kinds.BallDevice d) calls.Fire) (of_ball_fire d)

@@ -111,9 +111,8 @@ first_due-none i [] = refl
 first_due-none i (b ∷ bs) = first_due-none (suc i) bs
 
 pub not_due-none : (bs : List BallSwitch) (i : ℕ) → (get_or (map not_due bs) i empty).due ≡ None
-not_due-none [] i = refl
-not_due-none (b ∷ bs) zero = refl
 not_due-none (b ∷ bs) (suc i) = not_due-none bs i
+not_due-none _ _ = refl
 
 -- ---- the parts: the ball switches, then the attempt
 
@@ -136,10 +135,9 @@ part-of_attempt [] timeout = refl
 part-of_attempt (b ∷ bs) timeout = part-of_attempt bs timeout
 
 pub part-past : (bs : List BallSwitch) (timeout : Option ℕ) (k : ℕ) → length bs < k → get_or (parts bs timeout) k None ≡ None
-part-past [] timeout zero past = absurd (omega (arith, past))
 part-past [] timeout (suc k) past = refl
-part-past (b ∷ bs) timeout zero past = absurd (omega (arith, past))
 part-past (b ∷ bs) timeout (suc k) past = part-past bs timeout k (omega (arith, past))
+part-past _ timeout zero past = absurd (omega (arith, past))
 
 -- a ball switch that is due is a part that is
 pub switch-is_part : (bs : List BallSwitch) (timeout : Option ℕ) (i t : ℕ) → (get_or bs i empty).due ≡ Some t

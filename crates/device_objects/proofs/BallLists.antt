@@ -63,11 +63,11 @@ module _ (d : BallSettings) where
 
   attempt-lists : All AreLists (of_attempt d)
   attempt-lists =
-      All-append AreLists (only_if (may_try_again d.max_attempts 1) ((failed ∷ attempted ∷ []) ∷ []))
-      (only_if (is_some d.max_attempts) ((failed ∷ []) ∷ []))
-      (all_if AreLists (may_try_again d.max_attempts 1) ((failed ∷ attempted ∷ []) ∷ [])
+      All-append AreLists (only_if (may_try_again d.ejects.max_attempts 1) ((failed ∷ attempted ∷ []) ∷ []))
+      (only_if (is_some d.ejects.max_attempts) ((failed ∷ []) ∷ []))
+      (all_if AreLists (may_try_again d.ejects.max_attempts 1) ((failed ∷ attempted ∷ []) ∷ [])
       (λ may. one AreLists (failed ∷ attempted ∷ []) (two_lists failed attempted (omega arith) (omega arith))))
-      (all_if AreLists (is_some d.max_attempts) ((failed ∷ []) ∷ [])
+      (all_if AreLists (is_some d.ejects.max_attempts) ((failed ∷ []) ∷ [])
       (λ some. one AreLists (failed ∷ []) (one_list failed (omega arith))))
 
   fire_outcomes-lists : All AreLists (of_ball_fire d)
@@ -94,10 +94,9 @@ module _ (d : BallSettings) where
   act_outcomes-lists _ = one AreLists [] no_list
 
   pub ball_outcomes-lists : (call : Call) → All AreLists (of_ball_device d call)
-  ball_outcomes-lists calls.ModeStart = one AreLists [] no_list
-  ball_outcomes-lists calls.ModeStop = one AreLists [] no_list
   ball_outcomes-lists calls.Fire = fire_outcomes-lists
   ball_outcomes-lists (calls.Act act) = act_outcomes-lists act
+  ball_outcomes-lists _ = one AreLists [] no_list
 
   -- ---- answers
 
@@ -110,7 +109,7 @@ module _ (d : BallSettings) where
 
   stuck-lists : (now : ℕ) (a : Attempt) (s : BallState) → AreLists (stuck d now a s).1
   stuck-lists now a s =
-      either (may_try_again d.max_attempts a.number)
+      either (may_try_again d.ejects.max_attempts a.number)
       (after (failed ∷ []) (attempt d (min (suc a.number) 1000) now s))
       (record s { eject = Idle; wanted = 0 }, failed ∷ [])
       (two_lists failed attempted (omega arith) (omega arith)) (one_list failed (omega arith))
@@ -122,15 +121,14 @@ module _ (d : BallSettings) where
       and_then (overdue d.target) (begin d now (ended s)).1 (overdue-lists d.target) (begin-lists now (ended s))
 
   confirm-lists : (now : ℕ) (eject : Eject) (s : BallState) → AreLists (confirm d now eject s).1
-  confirm-lists now Idle s = no_list
-  confirm-lists now (Pulsing a) s = no_list
   confirm-lists now (Away a) s =
       and_then (confirmed d.target) (begin d now (ended s)).1 (confirmed-lists d.target) (begin-lists now (ended s))
+  confirm-lists now _ s = no_list
 
   gone-lists : (now : ℕ) (eject : Eject) (s : BallState) → AreLists (gone d now eject s).1
   gone-lists now Idle s =
-      let first : Attempt = record { number = 1; timeout = now + d.timeout } in
-      either d.mechanical (record s { eject = Away first }, left ∷ []) (s, lost ∷ []) (one_list left (omega arith))
+      let first : Attempt = record { number = 1; timeout = now + d.ejects.timeout } in
+      either d.ejects.mechanical (record s { eject = Away first }, left ∷ []) (s, lost ∷ []) (one_list left (omega arith))
       (one_list lost (omega arith))
   gone-lists now (Pulsing a) s = one_list left (omega arith)
   gone-lists now (Away a) s = one_list lost (omega arith)
@@ -157,14 +155,11 @@ module _ (d : BallSettings) where
       either d.trough (begin d now t) (s, []) (begin-lists now t) no_list
 
   act-lists : (act : Act) (now : ℕ) (s : BallState) → AreLists (act_step d act now s).1
-  act-lists (acts.SwitchOn i) now s = no_list
-  act-lists (acts.SwitchOff i) now s = no_list
   act-lists acts.Confirm now s = confirm-lists now s.eject s
   act-lists (acts.Request n) now s = requested-lists n now s
   act-lists _ now s = no_list
 
   pub ball_step-lists : (call : Call) (now : ℕ) (s : BallState) → AreLists (ball_step d call now s).1
-  ball_step-lists calls.ModeStart now s = no_list
-  ball_step-lists calls.ModeStop now s = no_list
   ball_step-lists calls.Fire now s = fire-lists now s
   ball_step-lists (calls.Act act) now s = act-lists act now s
+  ball_step-lists _ now s = no_list

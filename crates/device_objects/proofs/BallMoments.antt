@@ -27,11 +27,9 @@ use Rattle.device_objects.proofs.BallDue.{not_due-none, first_due-none, first_du
 -- a ball switch after one was written: the one written, or as it was
 after_set : (bs : List BallSwitch) (i j : ℕ) (b : BallSwitch)
     → (get_or (set bs i b) j empty ≡ b) ⊎ (get_or (set bs i b) j empty ≡ get_or bs j empty)
-after_set [] i j b = inr refl
 after_set (c ∷ bs) zero zero b = inl refl
-after_set (c ∷ bs) zero (suc j) b = inr refl
-after_set (c ∷ bs) (suc i) zero b = inr refl
 after_set (c ∷ bs) (suc i) (suc j) b = after_set bs i j b
+after_set _ _ _ b = inr refl
 
 -- the part after the last ball switch is the attempt
 part-at_attempt : (s : BallState) (k : ℕ) → k ≡ length s.switches → part_due s k ≡ timeout_of s.eject
@@ -61,16 +59,16 @@ module _ (d : BallSettings) (now : ℕ) (limits : IsBallDeviceWithin d) (old : B
   idle : IsEjectLater Idle
   idle due is = absurd (none-some due is)
 
-  armed : (due : ℕ) → Some (now + d.timeout) ≡ Some due → (timeout_of old.eject ≡ Some due) ⊎ (now < due)
+  armed : (due : ℕ) → Some (now + d.ejects.timeout) ≡ Some due → (timeout_of old.eject ≡ Some due) ⊎ (now < due)
   armed due is =
-      inr (let same : now + d.timeout ≡ due = same_Some (now + d.timeout) due is in omega (arith, limits.timeout, same))
+      inr (let same : now + d.ejects.timeout ≡ due = same_Some (now + d.ejects.timeout) due is in omega (arith, limits.ejects.timeout, same))
 
   begin-later : (s : BallState) → IsLater s → IsLater (begin d now s).0
   begin-later s h = either (can_begin d s) (attempt d 1 now s) (s, []) (h.0, armed, h.2) h
 
   stuck-later : (a : Attempt) (s : BallState) → IsLater s → IsLater (stuck d now a s).0
   stuck-later a s h =
-      either (may_try_again d.max_attempts a.number)
+      either (may_try_again d.ejects.max_attempts a.number)
       (after (failed ∷ []) (attempt d (min (suc a.number) 1000) now s))
       (record s { eject = Idle; wanted = 0 }, failed ∷ []) (h.0, armed, h.2) (h.0, idle, h.2)
 
@@ -80,14 +78,13 @@ module _ (d : BallSettings) (now : ℕ) (limits : IsBallDeviceWithin d) (old : B
   time_out-later (Away a) s h = begin-later (ended s) (h.0, idle, h.2)
 
   confirm-later : (eject : Eject) (s : BallState) → IsLater s → IsLater (confirm d now eject s).0
-  confirm-later Idle s h = h
-  confirm-later (Pulsing a) s h = h
   confirm-later (Away a) s h = begin-later (ended s) (h.0, idle, h.2)
+  confirm-later _ s h = h
 
   gone-later : (eject : Eject) (s : BallState) → IsEjectLater eject → IsLater s → IsLater (gone d now eject s).0
   gone-later Idle s e h =
-      let first : Attempt = record { number = 1; timeout = now + d.timeout } in
-      either d.mechanical (record s { eject = Away first }, left ∷ []) (s, lost ∷ []) (h.0, armed, h.2) h
+      let first : Attempt = record { number = 1; timeout = now + d.ejects.timeout } in
+      either d.ejects.mechanical (record s { eject = Away first }, left ∷ []) (s, lost ∷ []) (h.0, armed, h.2) h
   gone-later (Pulsing a) s e h = (h.0, e, h.2)
   gone-later (Away a) s e h = h
 
@@ -118,8 +115,8 @@ module _ (d : BallSettings) (now : ℕ) (limits : IsBallDeviceWithin d) (old : B
       (count_due d now (first_due s) s) (time_out-later s.eject s h) (count_due-later (first_due s) s h)
 
   delay-some : (active : Bool) → 1 ≤ delay d active
-  delay-some true = limits.entrance
-  delay-some false = limits.exit
+  delay-some true = limits.ejects.entrance
+  delay-some false = limits.ejects.exit
 
   noted-later : (active otherwise : Bool) (due : ℕ)
       → (if otherwise then Some (now + delay d active) else None) ≡ Some due → now < due
@@ -218,14 +215,14 @@ module _ (d : BallSettings) (now : ℕ) (limits : IsBallDeviceWithin d) where
   either_after true x y first second = first
   either_after false x y first second = second
 
-  armed_after : now < now + d.timeout
-  armed_after = omega (arith, limits.timeout)
+  armed_after : now < now + d.ejects.timeout
+  armed_after = omega (arith, limits.ejects.timeout)
 
   time_out-after : (eject : Eject) (s : BallState) → is_some (timeout_of eject) ≡ true
       → IsAfter (time_out d now eject s).0.eject
   time_out-after Idle s some = absurd (false≢true some)
   time_out-after (Pulsing a) s some =
-      either_after (may_try_again d.max_attempts a.number)
+      either_after (may_try_again d.ejects.max_attempts a.number)
       (after (failed ∷ []) (attempt d (min (suc a.number) 1000) now s))
       (record s { eject = Idle; wanted = 0 }, failed ∷ []) armed_after tt
   time_out-after (Away a) s some =
@@ -240,15 +237,14 @@ module _ (d : BallSettings) (now : ℕ) (limits : IsBallDeviceWithin d) where
 
   gone-switches : (eject : Eject) (s : BallState) → (gone d now eject s).0.switches ≡ s.switches
   gone-switches Idle s =
-      let first : Attempt = record { number = 1; timeout = now + d.timeout } in
-      either_switches s.switches d.mechanical (record s { eject = Away first }, left ∷ []) (s, lost ∷ []) refl refl
-  gone-switches (Pulsing a) s = refl
-  gone-switches (Away a) s = refl
+      let first : Attempt = record { number = 1; timeout = now + d.ejects.timeout } in
+      either_switches s.switches d.ejects.mechanical (record s { eject = Away first }, left ∷ []) (s, lost ∷ []) refl refl
+  gone-switches _ s = refl
 
   time_out-switches : (eject : Eject) (s : BallState) → (time_out d now eject s).0.switches ≡ s.switches
   time_out-switches Idle s = refl
   time_out-switches (Pulsing a) s =
-      either_switches s.switches (may_try_again d.max_attempts a.number)
+      either_switches s.switches (may_try_again d.ejects.max_attempts a.number)
       (after (failed ∷ []) (attempt d (min (suc a.number) 1000) now s))
       (record s { eject = Idle; wanted = 0 }, failed ∷ []) refl refl
   time_out-switches (Away a) s =

@@ -109,7 +109,7 @@ module _ (d : BallSettings) where
   attempt-shape : (number now : ℕ) (s : BallState) → d.has_coil ≡ true → IsAttempt d number → HasBallShape d s
       → HasBallShape d (attempt d number now s).0
   attempt-shape number now s coil is shape =
-      with_eject s (Pulsing (record { number = number; timeout = now + d.timeout })) s.wanted shape (coil, is)
+      with_eject s (Pulsing (record { number = number; timeout = now + d.ejects.timeout })) s.wanted shape (coil, is)
       shape.wanted
 
   begin-shape : (now : ℕ) (s : BallState) → HasBallShape d s → HasBallShape d (begin d now s).0
@@ -123,11 +123,11 @@ module _ (d : BallSettings) where
   stuck-shape : (now : ℕ) (a : Attempt) (s : BallState) → d.has_coil ≡ true → HasBallShape d s
       → HasBallShape d (stuck d now a s).0
   stuck-shape now a s coil shape =
-      one_answer (may_try_again d.max_attempts a.number)
+      one_answer (may_try_again d.ejects.max_attempts a.number)
       (after (failed ∷ []) (attempt d (min (suc a.number) 1000) now s))
       (record s { eject = Idle; wanted = 0 }, failed ∷ [])
       (λ may. attempt-shape (min (suc a.number) 1000) now s coil
-      (omega arith, next-within d.max_attempts a.number may) shape)
+      (omega arith, next-within d.ejects.max_attempts a.number may) shape)
       (with_eject s Idle 0 shape tt (omega arith))
 
   time_out-shape : (now : ℕ) (eject : Eject) (s : BallState) → IsEjectOf d eject → HasBallShape d s
@@ -138,9 +138,8 @@ module _ (d : BallSettings) where
 
   confirm-shape : (now : ℕ) (eject : Eject) (s : BallState) → HasBallShape d s
       → HasBallShape d (confirm d now eject s).0
-  confirm-shape now Idle s shape = shape
-  confirm-shape now (Pulsing a) s shape = shape
   confirm-shape now (Away a) s shape = begin-shape now (ended s) (ended-shape s shape)
+  confirm-shape now _ s shape = shape
 
   requested-shape : (n now : ℕ) (s : BallState) → HasBallShape d s → HasBallShape d (requested d n now s).0
   requested-shape n now s shape =
@@ -154,12 +153,12 @@ module _ (d : BallSettings) where
   gone-shape : (now : ℕ) (eject : Eject) (s : BallState) → IsEjectOf d eject → HasBallShape d s
       → HasBallShape d (gone d now eject s).0
   gone-shape now Idle s is shape =
-      let first : Attempt = record { number = 1; timeout = now + d.timeout } in
-      one_answer d.mechanical (record s { eject = Away first }, left ∷ []) (s, lost ∷ [])
-      (λ hand. with_eject s (Away first) s.wanted shape (or_right d.has_coil d.mechanical hand, first_attempt)
+      let first : Attempt = record { number = 1; timeout = now + d.ejects.timeout } in
+      one_answer d.ejects.mechanical (record s { eject = Away first }, left ∷ []) (s, lost ∷ [])
+      (λ hand. with_eject s (Away first) s.wanted shape (or_right d.has_coil d.ejects.mechanical hand, first_attempt)
       shape.wanted) shape
   gone-shape now (Pulsing a) s is shape =
-      with_eject s (Away a) s.wanted shape (or_left d.has_coil d.mechanical is.0, is.1) shape.wanted
+      with_eject s (Away a) s.wanted shape (or_left d.has_coil d.ejects.mechanical is.0, is.1) shape.wanted
   gone-shape now (Away a) s is shape = shape
 
   count-shape : (now i : ℕ) (s : BallState) → i < d.switches → HasBallShape d s → HasBallShape d (count d now i s).0

@@ -1,8 +1,8 @@
 -- Sixteen flags, and the bits of the number that keeps them.
-use Rattle.std.proofs.Common.{◌≡◌, ◌≢◌, ℕ, zero, suc, ◌+◌, ◌^◌, ◌<◌, ◌≤◌, ◌==◌, nat_le, min, inl, inr, Bool, true, false, Option, None, Some, List, [], ◌∷◌, length, map, take, replicate, set, get_or, slice_get, refl, sym, ap, ◌∙◌, subst, arith}
+use Rattle.std.proofs.Common.{◌≡◌, ◌≢◌, ℕ, zero, suc, ◌+◌, ◌^◌, ◌<◌, ◌≤◌, ◌==◌, nat_le, min, inl, inr, Bool, true, false, None, Some, List, [], ◌∷◌, length, take, replicate, set, get_or, slice_get, refl, sym, ap, ◌∙◌, subst, arith}
 use Rattle.std.specs.Int.{bit_at, trailing_ones, w16}
 use lib.Count.{count_trailing_zeros}
-use Rattle.std.specs.List.{list_all, range_with_len}
+use Rattle.std.specs.List.{list_all}
 use Rattle.std.proofs.lemmas.Bool.{and_from, cases_eq, cases_lt, eq-eqb, le-leb, leb-true, leb-false}
 use Rattle.std.proofs.lemmas.List.{ext_get_or, get_or-set_same, get_or-set_other, get_or-take, length-set, length-take}
 use Rattle.std.proofs.lemmas.List.Folds.{list_all_at}

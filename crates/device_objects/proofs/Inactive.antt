@@ -14,16 +14,9 @@ abbrev pub IsInactive : DeviceState → Type 0
 IsInactive state = IfSome (save_state state) (λ s. s.active ≡ false) × IfSome (multiball_state state) (λ s. s.running ≡ false)
 
 pub first-inactive : (settings : Settings) → IsInactive (first_state settings)
-first-inactive (kinds.Counter c) = (tt, tt)
-first-inactive (kinds.Accrual a) = (tt, tt)
-first-inactive (kinds.Sequence q) = (tt, tt)
-first-inactive (kinds.Timer t) = (tt, tt)
-first-inactive (kinds.Bank b) = (tt, tt)
-first-inactive kinds.Flipper = (tt, tt)
-first-inactive kinds.Autofire = (tt, tt)
-first-inactive (kinds.BallDevice d) = (tt, tt)
 first-inactive (kinds.BallSave b) = (refl, tt)
 first-inactive (kinds.Multiball m) = (tt, refl)
+first-inactive _ = (tt, tt)
 
 pub stopped-inactive : (settings : Settings) (now : ℕ) (world : World) (state : DeviceState) → HasShape settings state
     → IsInactive (device_step settings calls.ModeStop now world state).0

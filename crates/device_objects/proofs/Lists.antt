@@ -8,9 +8,9 @@ use Rattle.plan_tables.specs.Devices.{state_count, list_count}
 use Rattle.plan_tables.specs.declared.devices.Act.{Act}
 use Rattle.plan_tables.specs.declared.devices.Act.TheVariants as acts
 use Rattle.plan_tables.specs.declared.devices.BankSettings.{BankSettings}
-use Rattle.plan_tables.specs.declared.devices.CounterSettings.{CounterSettings}
-use Rattle.plan_tables.specs.declared.devices.StepSettings.{StepSettings}
-use Rattle.plan_tables.specs.declared.devices.TimerSettings.{TimerSettings}
+use Rattle.machine_settings.specs.declared.settings.CounterSettings.{CounterSettings}
+use Rattle.machine_settings.specs.declared.settings.StepSettings.{StepSettings}
+use Rattle.machine_settings.specs.declared.settings.TimerSettings.{TimerSettings}
 use Rattle.plan_tables.specs.declared.devices.Settings.{Settings}
 use Rattle.plan_tables.specs.declared.devices.Settings.TheVariants as kinds
 use Rattle.device_objects.specs.declared.device.Call.{Call}
@@ -25,7 +25,8 @@ use Rattle.device_objects.specs.declared.state.AutofireState.{AutofireState}
 use Rattle.device_objects.specs.declared.state.DeviceState.{DeviceState}
 use Rattle.device_objects.specs.declared.state.DeviceState.TheVariants as states
 use Rattle.device_objects.specs.declared.state.World.{World}
-use Rattle.device_objects.specs.Values.{clamped, is_at_end, moved}
+use Rattle.machine_settings.specs.Ends.{is_at_end}
+use Rattle.device_objects.specs.Values.{clamped, moved}
 use Rattle.device_objects.specs.Slots.{slot_in_use, step_at, step_in_use}
 use Rattle.device_objects.specs.Counter as counter
 use Rattle.device_objects.specs.Accrual as accrual
@@ -97,11 +98,9 @@ counter-slot c acts.Restart now slot = one 3 0 (omega arith)
 counter-slot c _ now slot = none 3
 
 counter-below : (c : CounterSettings) (call : Call) (now : ℕ) (world : World) (slots : List CounterSlot) → AreBelow 3 (counter.counter_step c call now world slots).1
-counter-below c calls.ModeStart now world slots = none 3
-counter-below c calls.ModeStop now world slots = none 3
-counter-below c calls.Fire now world slots = none 3
 counter-below c (calls.Act act) now world slots =
     in_use-below 3 (λ slot. counter.slot_step c act now (counter.current c world slot)) (λ slot. counter-slot c act now (counter.current c world slot)) slots (slot_in_use c.block.persist world)
+counter-below c _ now world slots = none 3
 
 accrued-below : (a : StepSettings) (slot : AccrualSlot) → AreBelow 3 (accrual.stepped a slot).1
 accrued-below a slot = either 3 (accrual.are_all_done a slot.done) (accrual.completed a slot, 0 ∷ 1 ∷ 2 ∷ []) (slot, 0 ∷ 1 ∷ []) three two
@@ -110,18 +109,14 @@ accrual-slot : (a : StepSettings) (act : Act) (slot : AccrualSlot) → AreBelow 
 accrual-slot a (acts.Step i) slot =
     let done = record slot { done = slice_set slot.done i true } in
     either 3 (slot.enabled && accrual.is_step_open a i slot.done) (accrual.stepped a done) (slot, []) (accrued-below a done) (none 3)
-accrual-slot a acts.Enable slot = none 3
-accrual-slot a acts.Disable slot = none 3
 accrual-slot a acts.Reset slot = one 3 0 (omega arith)
 accrual-slot a acts.Restart slot = one 3 0 (omega arith)
 accrual-slot a _ slot = none 3
 
 accrual-below : (a : StepSettings) (call : Call) (world : World) (slots : List AccrualSlot) → AreBelow 3 (accrual.accrual_step a call world slots).1
-accrual-below a calls.ModeStart world slots = none 3
-accrual-below a calls.ModeStop world slots = none 3
-accrual-below a calls.Fire world slots = none 3
 accrual-below a (calls.Act act) world slots =
     in_use-below 3 (λ slot. accrual.slot_step a act (accrual.current a world slot)) (λ slot. accrual-slot a act (accrual.current a world slot)) slots (slot_in_use a.block.persist world)
+accrual-below a _ world slots = none 3
 
 followed-below : (q : StepSettings) (slot : SequenceSlot) → AreBelow 3 (sequence.stepped q slot).1
 followed-below q slot = either 3 (slot.next == q.steps) (sequence.completed q slot, 0 ∷ 1 ∷ 2 ∷ []) (slot, 0 ∷ 1 ∷ []) three two
@@ -130,18 +125,14 @@ sequence-slot : (q : StepSettings) (act : Act) (slot : SequenceSlot) → AreBelo
 sequence-slot q (acts.Step i) slot =
     let done = record slot { next = suc i } in
     either 3 (slot.enabled && (i == slot.next) && nat_lt i q.steps) (sequence.stepped q done) (slot, []) (followed-below q done) (none 3)
-sequence-slot q acts.Enable slot = none 3
-sequence-slot q acts.Disable slot = none 3
 sequence-slot q acts.Reset slot = one 3 0 (omega arith)
 sequence-slot q acts.Restart slot = one 3 0 (omega arith)
 sequence-slot q _ slot = none 3
 
 sequence-below : (q : StepSettings) (call : Call) (world : World) (slots : List SequenceSlot) → AreBelow 3 (sequence.sequence_step q call world slots).1
-sequence-below q calls.ModeStart world slots = none 3
-sequence-below q calls.ModeStop world slots = none 3
-sequence-below q calls.Fire world slots = none 3
 sequence-below q (calls.Act act) world slots =
     in_use-below 3 (λ slot. sequence.slot_step q act (sequence.current q world slot)) (λ slot. sequence-slot q act (sequence.current q world slot)) slots (slot_in_use q.block.persist world)
+sequence-below q _ world slots = none 3
 
 -- ---- timers
 
@@ -155,7 +146,6 @@ timer-act : (t : TimerSettings) (act : Act) (now : ℕ) (s : TimerState) → Are
 timer-act t acts.Start now s = either 5 (timer.is_running s) (s, []) (timer.run t now s, 0 ∷ []) (none 5) (one 5 0 (omega arith))
 timer-act t acts.Stop now s = either 5 (timer.is_running s) (timer.halt s, 1 ∷ []) (s, []) (one 5 1 (omega arith)) (none 5)
 timer-act t acts.Pause now s = either 5 (timer.is_running s) (timer.halt s, 2 ∷ []) (s, []) (one 5 2 (omega arith)) (none 5)
-timer-act t acts.Reset now s = none 5
 timer-act t acts.Restart now s = one 5 0 (omega arith)
 timer-act t (acts.Add n) now s = changed-below t now (record s { value = clamped (s.value +ℤ n) })
 timer-act t (acts.Subtract n) now s = changed-below t now (record s { value = clamped (s.value -ℤ n) })
@@ -174,7 +164,6 @@ timer-below t (calls.Act act) now s = timer-act t act now s
 -- ---- flippers and autofire coils
 
 flipper-act : (act : Act) (s : FlipperState) → AreBelow 2 (flipper.act_step act s).1
-flipper-act acts.Enable s = none 2
 flipper-act acts.Disable s = either 2 s.on (record s { enabled = false; on = false }, 1 ∷ []) (record s { enabled = false }, []) (one 2 1 (omega arith)) (none 2)
 flipper-act (acts.SwitchOn i) s = either 2 (s.enabled && (i == 0)) (record s { on = true }, 0 ∷ []) (s, []) (one 2 0 (omega arith)) (none 2)
 flipper-act (acts.SwitchOff i) s = either 2 (s.on && (i == 0)) (record s { on = false }, 1 ∷ []) (s, []) (one 2 1 (omega arith)) (none 2)
@@ -185,8 +174,6 @@ flipper-below (calls.Act act) s = flipper-act act s
 flipper-below _ s = none 2
 
 autofire-act : (act : Act) (s : AutofireState) → AreBelow 1 (autofire.act_step act s).1
-autofire-act acts.Enable s = none 1
-autofire-act acts.Disable s = none 1
 autofire-act (acts.SwitchOn i) s = either 1 (s.enabled && (i == 0)) (s, 0 ∷ []) (s, []) (one 1 0 (omega arith)) (none 1)
 autofire-act _ s = none 1
 
@@ -273,10 +260,9 @@ module _ (b : BankSettings) where
   bank-below _ = only count [] (none count)
 
   bank-all_below : (call : Call) → AreAllBelow count (outcomes (kinds.Bank b) call)
-  bank-all_below calls.ModeStart = only count [] (none count)
-  bank-all_below calls.ModeStop = only count [] (none count)
   bank-all_below calls.Fire = All-nil (AreBelow count)
   bank-all_below (calls.Act act) = bank-below act
+  bank-all_below _ = only count [] (none count)
 
   -- what a bank answers is one of its outcomes
   bank-slot : (act : Act) (slot : BankSlot) → AreBelow count (slot_step b act slot).1
@@ -291,16 +277,11 @@ module _ (b : BankSettings) where
 
 -- each outcome of a call
 pub outcomes_of_row : OutcomesAreOfTheRow
-outcomes_of_row (kinds.Counter c) call = search rules
-outcomes_of_row (kinds.Accrual a) call = search rules
-outcomes_of_row (kinds.Sequence q) call = search rules
-outcomes_of_row (kinds.Timer t) call = search rules
 outcomes_of_row (kinds.Bank b) call = bank-all_below b call
-outcomes_of_row kinds.Flipper call = search rules
-outcomes_of_row kinds.Autofire call = search rules
 outcomes_of_row (kinds.BallDevice d) call = ball_outcomes-lists d call
 outcomes_of_row (kinds.BallSave b) call = save_outcomes-lists b call
 outcomes_of_row (kinds.Multiball m) call = multiball_outcomes-lists call
+outcomes_of_row _ call = search rules
 
 -- and what a device answers
 pub lists_are_of_the_row : (settings : Settings) (call : Call) (now : ℕ) (world : World) (state : DeviceState) → All (λ k. k < list_count settings) (device_step settings call now world state).1

@@ -3,7 +3,7 @@ use Rattle.std.proofs.Common.{◌≡◌, ℕ, zero, suc, ◌+◌, ◌<◌, ◌�
 use Rattle.std.proofs.lemmas.Option.{IfSome_then, none-some, same_Some}
 use Rattle.plan_tables.specs.declared.devices.Act.{Act}
 use Rattle.plan_tables.specs.declared.devices.Act.TheVariants as acts
-use Rattle.plan_tables.specs.declared.devices.TimerSettings.{TimerSettings}
+use Rattle.machine_settings.specs.declared.settings.TimerSettings.{TimerSettings}
 use Rattle.plan_tables.specs.declared.devices.Settings.{Settings}
 use Rattle.plan_tables.specs.declared.devices.Settings.TheVariants as kinds
 use Rattle.plan_tables.specs.Devices.{IsWithinLimits}
@@ -13,7 +13,8 @@ use Rattle.device_objects.specs.declared.state.TimerState.{TimerState}
 use Rattle.device_objects.specs.declared.state.DeviceState.{DeviceState}
 use Rattle.device_objects.specs.declared.state.DeviceState.TheVariants as states
 use Rattle.device_objects.specs.declared.state.World.{World}
-use Rattle.device_objects.specs.Values.{clamped, is_at_end, moved}
+use Rattle.machine_settings.specs.Ends.{is_at_end}
+use Rattle.device_objects.specs.Values.{clamped, moved}
 use Rattle.device_objects.specs.Timer as timer
 use Rattle.device_objects.specs.DeviceStep.{due_of, part_due, first_state, device_step}
 use Rattle.device_objects.specs.Laws.{ArmsLaterMoments, DevicesAreDueWithTheirParts, FiresFirstPart, FirstPartsFire, HasShape, IsDone, IsFirstPart, NothingIsDue}
@@ -49,7 +50,6 @@ module _ (t : TimerSettings) (now : ℕ) (some : 1 ≤ t.interval) (Before : ℕ
   act-later acts.Start s h = either (timer.is_running s) (s, []) (timer.run t now s, timer.started ∷ []) h (ran s)
   act-later acts.Stop s h = either (timer.is_running s) (timer.halt s, timer.stopped ∷ []) (s, []) (halted s) h
   act-later acts.Pause s h = either (timer.is_running s) (timer.halt s, timer.paused ∷ []) (s, []) (halted s) h
-  act-later acts.Reset s h = h
   act-later acts.Restart s h = ran (timer.first_state t)
   act-later (acts.Add n) s h = changed-later (record s { value = clamped (s.value +ℤ n) }) h
   act-later (acts.Subtract n) s h = changed-later (record s { value = clamped (s.value -ℤ n) }) h
@@ -163,11 +163,9 @@ timer-part (Some m) = λ other is. (let same : m ≡ other = same_Some m other i
 -- while a device is not due, none of its parts is
 pub parts-none : (state : DeviceState) → due_of state ≡ None → (k : ℕ) → part_due state k ≡ None
 parts-none (states.Timer s) is zero = is
-parts-none (states.Timer s) is (suc k) = refl
 parts-none (states.BallDevice s) is k = ball-parts_none s is k
 parts-none (states.BallSave s) is zero = is
-parts-none (states.BallSave s) is (suc k) = refl
-parts-none _ is k = refl
+parts-none _ is _ = refl
 
 -- while it is, one is due at the same moment
 pub parts-one : (state : DeviceState) → IfSome (due_of state) (λ due. (k : ℕ) × (part_due state k ≡ Some due))
@@ -217,15 +215,7 @@ devices_are_due_with_their_parts = record { none = parts-none; one = parts-one; 
 -- at first nothing is due
 pub first-quiet : (settings : Settings) → due_of (first_state settings) ≡ None
 first-quiet (kinds.Counter c) = refl
-first-quiet (kinds.Accrual a) = refl
-first-quiet (kinds.Sequence q) = refl
-first-quiet (kinds.Timer t) = refl
-first-quiet (kinds.Bank b) = refl
-first-quiet kinds.Flipper = refl
-first-quiet kinds.Autofire = refl
-first-quiet (kinds.BallDevice d) = refl
-first-quiet (kinds.BallSave b) = refl
-first-quiet (kinds.Multiball m) = refl
+first-quiet _ = refl
 
 -- nor when the device's mode has stopped; and to that it answers nothing
 pub stopped-quiet : (settings : Settings) (now : ℕ) (world : World) (state : DeviceState) → HasShape settings state → due_of (device_step settings calls.ModeStop now world state).0 ≡ None

@@ -5,7 +5,7 @@ use Rattle.std.proofs.lemmas.Bool.{false≢true}
 use Rattle.std.proofs.lemmas.List.Elements.{All-cons}
 use Rattle.plan_tables.specs.declared.devices.Act.{Act}
 use Rattle.plan_tables.specs.declared.devices.Act.TheVariants as acts
-use Rattle.plan_tables.specs.declared.devices.MultiballSettings.{MultiballSettings}
+use Rattle.machine_settings.specs.declared.settings.MultiballSettings.{MultiballSettings}
 use Rattle.plan_tables.specs.declared.devices.Settings.TheVariants as kinds
 use Rattle.device_objects.specs.declared.device.Call.{Call}
 use Rattle.device_objects.specs.declared.device.Call.TheVariants as calls
@@ -29,10 +29,9 @@ act-in _ world s = here
 
 pub multiball-in : (m : MultiballSettings) (call : Call) (world : World) (s : MultiballState)
     → MayCome call (states.Multiball s) → In (multiball_step call world s).1 (outcomes (kinds.Multiball m) call)
-multiball-in m calls.ModeStart world s may = here
-multiball-in m calls.ModeStop world s may = here
 multiball-in m calls.Fire world s may = absurd (false≢true may)
 multiball-in m (calls.Act act) world s may = act-in act world s
+multiball-in m _ world s may = here
 
 -- ---- each outcome comes about
 
@@ -95,10 +94,9 @@ act_outcomes-lists acts.End =
 act_outcomes-lists _ = one AreLists [] no_list
 
 pub multiball_outcomes-lists : (call : Call) → All AreLists (by_act of_multiball call)
-multiball_outcomes-lists calls.ModeStart = one AreLists [] no_list
-multiball_outcomes-lists calls.ModeStop = one AreLists [] no_list
 multiball_outcomes-lists calls.Fire = none AreLists
 multiball_outcomes-lists (calls.Act act) = act_outcomes-lists act
+multiball_outcomes-lists _ = one AreLists [] no_list
 
 one_answer : (test : Bool) (x y : MultiballState × List ℕ) → AreLists x.1 → AreLists y.1
     → AreLists (if test then x else y).1
@@ -114,7 +112,5 @@ act-lists acts.End world s =
 act-lists _ world s = no_list
 
 pub multiball_step-lists : (call : Call) (world : World) (s : MultiballState) → AreLists (multiball_step call world s).1
-multiball_step-lists calls.ModeStart world s = no_list
-multiball_step-lists calls.ModeStop world s = no_list
-multiball_step-lists calls.Fire world s = no_list
 multiball_step-lists (calls.Act act) world s = act-lists act world s
+multiball_step-lists _ world s = no_list

@@ -9,12 +9,4 @@ use Rattle.device_objects.specs.Outcomes.{outcomes}
 pub requests-alike : (settings : Settings) (m n : ℕ)
     → outcomes settings (calls.Act (acts.Request m)) ≡ outcomes settings (calls.Act (acts.Request n))
 requests-alike (kinds.Counter c) m n = refl
-requests-alike (kinds.Accrual a) m n = refl
-requests-alike (kinds.Sequence q) m n = refl
-requests-alike (kinds.Timer t) m n = refl
-requests-alike (kinds.Bank b) m n = refl
-requests-alike kinds.Flipper m n = refl
-requests-alike kinds.Autofire m n = refl
-requests-alike (kinds.BallDevice d) m n = refl
-requests-alike (kinds.BallSave b) m n = refl
-requests-alike (kinds.Multiball b) m n = refl
+requests-alike _ m n = refl

@@ -6,7 +6,7 @@ use Rattle.std.proofs.lemmas.List.Elements.{All-append, All-cons}
 use Rattle.std.proofs.lemmas.Option.{none-some, same_Some}
 use Rattle.plan_tables.specs.declared.devices.Act.{Act}
 use Rattle.plan_tables.specs.declared.devices.Act.TheVariants as acts
-use Rattle.plan_tables.specs.declared.devices.SaveSettings.{SaveSettings}
+use Rattle.machine_settings.specs.declared.settings.SaveSettings.{SaveSettings}
 use Rattle.plan_tables.specs.declared.devices.Settings.TheVariants as kinds
 use Rattle.device_objects.specs.declared.device.Call.{Call}
 use Rattle.device_objects.specs.declared.device.Call.TheVariants as calls
@@ -70,10 +70,9 @@ module _ (b : SaveSettings) where
   act-shape _ now s shape = shape
 
   pub save_step-shape : (call : Call) (now : ℕ) (s : SaveState) → HasSaveShape b s → HasSaveShape b (save_step b call now s).0
-  save_step-shape calls.ModeStart now s shape = first_save-shape
-  save_step-shape calls.ModeStop now s shape = first_save-shape
   save_step-shape calls.Fire now s shape = disable-shape s shape
   save_step-shape (calls.Act act) now s shape = act-shape act now s shape
+  save_step-shape _ now s shape = first_save-shape
 
 -- ---- answers are outcomes
 
@@ -99,13 +98,12 @@ module _ (b : SaveSettings) where
 
   pub save-in : (call : Call) (now : ℕ) (s : SaveState) → HasSaveShape b s → MayCome call (states.BallSave s)
       → In (save_step b call now s).1 (of_save b call)
-  save-in calls.ModeStart now s shape may = here
-  save-in calls.ModeStop now s shape may = here
   save-in calls.Fire now s shape may =
       let parts : (s.active ≡ true) × (0 < b.active_time) = shape.due may in
       if_holds (nat_lt 0 b.active_time) (lt-ltb 0 b.active_time parts.1)
       (by (if_true s.active (shut s, disabled ∷ []) (s, []) parts.0) here)
   save-in (calls.Act act) now s shape may = act-in act now s shape
+  save-in _ now s shape may = here
 
 -- ---- each outcome comes about
 
@@ -216,12 +214,11 @@ module _ (b : SaveSettings) where
   act_outcomes-lists _ = one AreLists [] no_list
 
   pub save_outcomes-lists : (call : Call) → All AreLists (of_save b call)
-  save_outcomes-lists calls.ModeStart = one AreLists [] no_list
-  save_outcomes-lists calls.ModeStop = one AreLists [] no_list
   save_outcomes-lists calls.Fire =
       all_if AreLists (nat_lt 0 b.active_time) ((disabled ∷ []) ∷ [])
       (λ some. one AreLists (disabled ∷ []) (one_list disabled (omega arith)))
   save_outcomes-lists (calls.Act act) = act_outcomes-lists act
+  save_outcomes-lists _ = one AreLists [] no_list
 
   one_answer : (test : Bool) (x y : SaveState × List ℕ) → AreLists x.1 → AreLists y.1
       → AreLists (if test then x else y).1
@@ -245,10 +242,9 @@ module _ (b : SaveSettings) where
   act-lists _ now s = no_list
 
   pub save_step-lists : (call : Call) (now : ℕ) (s : SaveState) → AreLists (save_step b call now s).1
-  save_step-lists calls.ModeStart now s = no_list
-  save_step-lists calls.ModeStop now s = no_list
   save_step-lists calls.Fire now s = disable-lists s
   save_step-lists (calls.Act act) now s = act-lists act now s
+  save_step-lists _ now s = no_list
 
 -- ---- moments
 
@@ -292,10 +288,9 @@ module _ (b : SaveSettings) (now : ℕ) (Before : ℕ → Type 0) where
   act-later _ s h = h
 
   pub save-later : (call : Call) (s : SaveState) → IsLater s → IsLater (save_step b call now s).0
-  save-later calls.ModeStart s h = not_due first_state refl
-  save-later calls.ModeStop s h = not_due first_state refl
   save-later calls.Fire s h = disable-later s h
   save-later (calls.Act act) s h = act-later act s h
+  save-later _ s h = not_due first_state refl
 
 if_some : (o : Option ℕ) (P : ℕ → Type 0) → ((m : ℕ) → o ≡ Some m → P m) → IfSome o P
 if_some None P each = tt

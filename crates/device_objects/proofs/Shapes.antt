@@ -5,8 +5,8 @@ use Rattle.std.proofs.lemmas.Bool.{ltb-true}
 use Rattle.std.proofs.lemmas.List.{length-set, length-take, length-drop, length-append}
 use Rattle.std.proofs.lemmas.List.Elements.{All-replicate, All-set, All-append, All-take, All-drop}
 use Rattle.plan_tables.specs.declared.devices.BankSettings.{BankSettings}
-use Rattle.plan_tables.specs.declared.devices.CounterSettings.{CounterSettings}
-use Rattle.plan_tables.specs.declared.devices.StepSettings.{StepSettings}
+use Rattle.machine_settings.specs.declared.settings.CounterSettings.{CounterSettings}
+use Rattle.machine_settings.specs.declared.settings.StepSettings.{StepSettings}
 use Rattle.plan_tables.specs.declared.devices.Settings.{Settings}
 use Rattle.plan_tables.specs.declared.devices.Settings.TheVariants as kinds
 use Rattle.plan_tables.specs.declared.devices.Act.{Act}
@@ -38,9 +38,8 @@ anew-length false slots first = length-set slots 0 first
 
 counter_step-length : (c : CounterSettings) (call : Call) (now : ℕ) (world : World) (slots : List CounterSlot) → length (counter.counter_step c call now world slots).0 ≡ length slots
 counter_step-length c calls.ModeStart now world slots = anew-length c.block.persist slots (counter.first_slot c 0)
-counter_step-length c calls.ModeStop now world slots = refl
-counter_step-length c calls.Fire now world slots = refl
 counter_step-length c (calls.Act act) now world slots = step_in_use-length (λ slot. counter.slot_step c act now (counter.current c world slot)) slots (slot_in_use c.block.persist world)
+counter_step-length c _ now world slots = refl
 
 -- each accrual slot keeps its 16 marks
 
@@ -60,8 +59,6 @@ slot_step-marks a (acts.Step i) slot marks =
     either (slot.enabled && accrual.is_step_open a i slot.done) (accrual.stepped a stepped) (slot, [])
     (either (accrual.are_all_done a stepped.done) (accrual.completed a stepped, _) (stepped, _) (completed-marks a stepped a.block.reset_on_complete still) still)
     marks
-slot_step-marks a acts.Enable slot marks = marks
-slot_step-marks a acts.Disable slot marks = marks
 slot_step-marks a acts.Reset slot marks = refl
 slot_step-marks a acts.Restart slot marks = refl
 slot_step-marks a _ slot marks = marks
@@ -76,24 +73,21 @@ anew-marks a false slots all = All-set HasMarks slots 0 (accrual.first_slot a 0)
 
 accrual_step-marks : (a : StepSettings) (call : Call) (world : World) (slots : List AccrualSlot) → All HasMarks slots → All HasMarks (accrual.accrual_step a call world slots).0
 accrual_step-marks a calls.ModeStart world slots all = anew-marks a a.block.persist slots all
-accrual_step-marks a calls.ModeStop world slots all = all
-accrual_step-marks a calls.Fire world slots all = all
 accrual_step-marks a (calls.Act act) world slots all =
     step_in_use-all HasMarks (λ slot. accrual.slot_step a act (accrual.current a world slot))
     (λ slot marks. slot_step-marks a act (accrual.current a world slot) (current-marks a world slot (is_of_other_game a.block.persist world slot.game) marks))
     slots (slot_in_use a.block.persist world) all
+accrual_step-marks a _ world slots all = all
 
 accrual_step-length : (a : StepSettings) (call : Call) (world : World) (slots : List AccrualSlot) → length (accrual.accrual_step a call world slots).0 ≡ length slots
 accrual_step-length a calls.ModeStart world slots = anew-length a.block.persist slots (accrual.first_slot a 0)
-accrual_step-length a calls.ModeStop world slots = refl
-accrual_step-length a calls.Fire world slots = refl
 accrual_step-length a (calls.Act act) world slots = step_in_use-length (λ slot. accrual.slot_step a act (accrual.current a world slot)) slots (slot_in_use a.block.persist world)
+accrual_step-length a _ world slots = refl
 
 sequence_step-length : (q : StepSettings) (call : Call) (world : World) (slots : List SequenceSlot) → length (sequence.sequence_step q call world slots).0 ≡ length slots
 sequence_step-length q calls.ModeStart world slots = anew-length q.block.persist slots (sequence.first_slot q 0)
-sequence_step-length q calls.ModeStop world slots = refl
-sequence_step-length q calls.Fire world slots = refl
 sequence_step-length q (calls.Act act) world slots = step_in_use-length (λ slot. sequence.slot_step q act (sequence.current q world slot)) slots (slot_in_use q.block.persist world)
+sequence_step-length q _ world slots = refl
 
 -- ---- banks
 
@@ -230,13 +224,10 @@ pub first-shape : (settings : Settings) → HasShape settings (first_state setti
 first-shape (kinds.Counter c) = refl
 first-shape (kinds.Accrual a) = (refl, All-replicate HasMarks 4 (accrual.first_slot a 0) refl)
 first-shape (kinds.Sequence q) = refl
-first-shape (kinds.Timer t) = tt
 first-shape (kinds.Bank b) = (refl, All-replicate (HasBankShape b) 4 (bank.first_slot b 0) (first_slot-shape b 0))
-first-shape kinds.Flipper = tt
-first-shape kinds.Autofire = tt
 first-shape (kinds.BallDevice d) = first_ball-shape d
 first-shape (kinds.BallSave b) = first_save-shape b
-first-shape (kinds.Multiball m) = tt
+first-shape _ = tt
 
 step-shape : (settings : Settings) (call : Call) (now : ℕ) (world : World) (state : DeviceState) → HasShape settings state → HasShape settings (device_step settings call now world state).0
 step-shape (kinds.Counter c) call now world (states.Counter slots) four = counter_step-length c call now world slots ∙ four

@@ -110,7 +110,7 @@ part_due s k = slice_index_or (parts s.switches (timeout_of s.eject)) k None
 -- it attempts to eject a ball, for the time that its settings give
 abbrev pub attempt : BallSettings → ℕ → ℕ → BallState → BallState × List ℕ
 attempt d number now s =
-    (record s { eject = Pulsing (record { number = number; timeout = now + d.timeout }) }, attempted ∷ [])
+    (record s { eject = Pulsing (record { number = number; timeout = now + d.ejects.timeout }) }, attempted ∷ [])
 
 abbrev pub is_idle : Eject → Bool
 is_idle Idle = true
@@ -147,7 +147,7 @@ may_try_again (Some most) number = nat_lt number most
 -- an attempt is over before the ball has left: it tries again, or gives up
 abbrev pub stuck : BallSettings → ℕ → Attempt → BallState → BallState × List ℕ
 stuck d now a s =
-    if may_try_again d.max_attempts a.number
+    if may_try_again d.ejects.max_attempts a.number
     then after (failed ∷ []) (attempt d (min (suc a.number) 1000) now s)
     else (record s { eject = Idle; wanted = 0 }, failed ∷ [])
 
@@ -175,7 +175,7 @@ confirm d now (Away a) s = after (confirmed d.target) (begin d now (ended s))
 
 -- for how long a ball switch has to be active, or inactive, before that counts
 abbrev pub delay : BallSettings → Bool → ℕ
-delay d active = if active then d.entrance_delay else d.exit_delay
+delay d active = if active then d.ejects.entrance_delay else d.ejects.exit_delay
 
 -- whether the level of a ball switch differs from what is counted
 abbrev pub counts_otherwise : Bool → BallSwitch → Bool
@@ -195,8 +195,8 @@ turned b = record { counted = not b.counted; due = None }
 -- a ball counts no more: the one that is ejected has left, or one is lost
 abbrev pub gone : BallSettings → ℕ → Eject → BallState → BallState × List ℕ
 gone d now Idle s =
-    if d.mechanical
-    then (record s { eject = Away (record { number = 1; timeout = now + d.timeout }) }, left ∷ [])
+    if d.ejects.mechanical
+    then (record s { eject = Away (record { number = 1; timeout = now + d.ejects.timeout }) }, left ∷ [])
     else (s, lost ∷ [])
 gone d now (Pulsing a) s = (record s { eject = Away a }, left ∷ [])
 gone d now (Away a) s = (s, lost ∷ [])

@@ -4,7 +4,7 @@ use Rattle.std.specs.Option.{option_map_or}
 use Rattle.std.specs.List.{All}
 use Rattle.plan_tables.specs.declared.devices.BallSettings.{BallSettings}
 use Rattle.plan_tables.specs.declared.devices.BankSettings.{BankSettings}
-use Rattle.plan_tables.specs.declared.devices.SaveSettings.{SaveSettings}
+use Rattle.machine_settings.specs.declared.settings.SaveSettings.{SaveSettings}
 use Rattle.plan_tables.specs.declared.devices.Settings.{Settings}
 use Rattle.plan_tables.specs.declared.devices.Settings.TheVariants as kinds
 use Rattle.plan_tables.specs.Devices.{IsWithinLimits, list_count}
@@ -33,7 +33,7 @@ HasBankShape b slot =
 
 -- The number of an attempt is at least 1, and at most the limit, or 1,000 if there is none.
 abbrev pub IsAttempt : BallSettings → ℕ → Type 0
-IsAttempt d number = (1 ≤ number) × (number ≤ max 1 (option_map_or (λ most. most) d.max_attempts 1000))
+IsAttempt d number = (1 ≤ number) × (number ≤ max 1 (option_map_or (λ most. most) d.ejects.max_attempts 1000))
 
 -- Only a device with a coil can be Pulsing. Only one with a coil, or with a mechanical eject, can be Away.
 abbrev pub IsEjectOf : BallSettings → Eject → Type 0

@@ -3,19 +3,20 @@ use Rattle.std.specs.Prelude.{ℕ, suc, ◌==◌, nat_lt, Bool, not, ◌&&◌, �
 use Rattle.std.specs.List.{flat_map, range_with_len}
 use Rattle.plan_tables.specs.declared.devices.Act.{Act}
 use Rattle.plan_tables.specs.declared.devices.Act.TheVariants as acts
-use Rattle.plan_tables.specs.declared.devices.BlockSettings.{BlockSettings}
-use Rattle.plan_tables.specs.declared.devices.CounterSettings.{CounterSettings}
-use Rattle.plan_tables.specs.declared.devices.StepSettings.{StepSettings}
-use Rattle.plan_tables.specs.declared.devices.TimerSettings.{TimerSettings}
+use Rattle.machine_settings.specs.declared.settings.BlockSettings.{BlockSettings}
+use Rattle.machine_settings.specs.declared.settings.CounterSettings.{CounterSettings}
+use Rattle.machine_settings.specs.declared.settings.StepSettings.{StepSettings}
+use Rattle.machine_settings.specs.declared.settings.TimerSettings.{TimerSettings}
 use Rattle.plan_tables.specs.declared.devices.BankSettings.{BankSettings}
 use Rattle.plan_tables.specs.declared.devices.BallSettings.{BallSettings}
-use Rattle.plan_tables.specs.declared.devices.SaveSettings.{SaveSettings}
+use Rattle.machine_settings.specs.declared.settings.SaveSettings.{SaveSettings}
 use Rattle.plan_tables.specs.declared.devices.Settings.{Settings}
 use Rattle.plan_tables.specs.declared.devices.Settings.TheVariants as kinds
 use Rattle.plan_tables.specs.Devices.{state_count}
 use Rattle.device_objects.specs.declared.device.Call.{Call}
 use Rattle.device_objects.specs.declared.device.Call.TheVariants as calls
-use Rattle.device_objects.specs.Values.{clamped, is_at_end}
+use Rattle.machine_settings.specs.Ends.{is_at_end}
+use Rattle.device_objects.specs.Values.{clamped}
 use Rattle.device_objects.specs.Slots.{updated, hit}
 use Rattle.device_objects.specs.Slots as block
 use Rattle.device_objects.specs.Timer.{started, stopped, paused, tick}
@@ -133,7 +134,7 @@ may_begin d = d.has_coil && nat_lt 0 d.switches
 
 -- whether a ball can be on its way from it in some state
 abbrev pub may_eject : BallSettings → Bool
-may_eject d = d.has_coil || d.mechanical
+may_eject d = d.has_coil || d.ejects.mechanical
 
 -- these lists, alone or followed by a new attempt
 abbrev pub ending : BallSettings → List ℕ → List (List ℕ)
@@ -146,8 +147,8 @@ of_count d = ending d (entered ∷ []) ++ only_if (may_eject d) ((left ∷ []) �
 -- An attempt has failed. Another one follows, unless only one is allowed. If there is a limit, it may also be the last.
 abbrev pub of_attempt : BallSettings → List (List ℕ)
 of_attempt d =
-    only_if (may_try_again d.max_attempts 1) ((failed ∷ attempted ∷ []) ∷ [])
-    ++ only_if (is_some d.max_attempts) ((failed ∷ []) ∷ [])
+    only_if (may_try_again d.ejects.max_attempts 1) ((failed ∷ attempted ∷ []) ∷ [])
+    ++ only_if (is_some d.ejects.max_attempts) ((failed ∷ []) ∷ [])
 
 abbrev pub of_ball_fire : BallSettings → List (List ℕ)
 of_ball_fire d =

@@ -1,7 +1,7 @@
--- Values that move, and the ends that they reach.
-use Rattle.std.specs.Prelude.{ℕ, ℤ, pos, neg_ℤ, ◌+ℤ◌, ◌-ℤ◌, int_le, Bool, false, if◌then◌else◌, Option, None, Some}
-use Rattle.plan_tables.specs.declared.devices.Direction.{Direction}
-use Rattle.plan_tables.specs.declared.devices.Direction.TheVariants.{Up, Down}
+-- Values that move.
+use Rattle.std.specs.Prelude.{ℕ, ℤ, pos, neg_ℤ, ◌+ℤ◌, ◌-ℤ◌, int_le, if◌then◌else◌}
+use Rattle.machine_settings.specs.declared.words.Direction.{Direction}
+use Rattle.machine_settings.specs.declared.words.Direction.TheVariants.{Up, Down}
 
 -- no value is further from 0
 abbrev pub greatest : ℕ
@@ -15,9 +15,3 @@ clamped n = if int_le n (neg_ℤ (pos greatest)) then neg_ℤ (pos greatest) els
 abbrev pub moved : Direction → ℤ → ℤ → ℤ
 moved Up by value = clamped (value +ℤ by)
 moved Down by value = clamped (value -ℤ by)
-
--- whether a value has reached or passed its end, if it has one
-abbrev pub is_at_end : Direction → Option ℤ → ℤ → Bool
-is_at_end direction None value = false
-is_at_end Up (Some end) value = int_le end value
-is_at_end Down (Some end) value = int_le value end

@@ -10,12 +10,10 @@ ghost use Rattle.device_objects.specs.Outcomes.{can_complete, hit_completing, en
 
 use crate::bank::{group_complete, hit_lists, next_state};
 use crate::device::{Call, Outcome};
-use crate::values::{clamped, is_at_end};
+use crate::values::clamped;
 use arrayvec::ArrayVec;
-use plan_tables::{
-    Act, BallSettings, BallTarget, BankSettings, BlockSettings, CounterSettings, SaveSettings,
-    Settings, StepSettings, TimerSettings,
-};
+use machine_settings::{BlockSettings, CounterSettings, SaveSettings, StepSettings, TimerSettings};
+use plan_tables::{Act, BallSettings, BallTarget, BankSettings, Settings};
 
 /// What a call of a device can answer, whatever the device's state. A hit of a shot has most outcomes:
 /// nothing, or in each of 16 states a hit that completes its group, or one that does not.
@@ -159,7 +157,7 @@ fn of_timer_act(timer: &TimerSettings, act: Act) -> Outcomes
         Act::Restart => with(none(), &[0]),
         Act::Add(_) | Act::Subtract(_) => of_change(timer),
         Act::Jump(n) => {
-            let ends = is_at_end(timer.direction, timer.end, clamped(i128::from(n)));
+            let ends = timer.direction.is_at_end(timer.end, clamped(i128::from(n)));
             with_if(silent(), ends, timer_completing(timer))
         }
         _ => silent(),
@@ -282,7 +280,7 @@ fn may_begin(device: &BallSettings) -> bool
 fn may_eject(device: &BallSettings) -> bool
     ensures { result ≡ may_eject device.now }
 {
-    device.has_coil || device.mechanical
+    device.has_coil || device.ejects.mechanical
 }
 
 /// These lists, after which the device can begin to eject a ball, or not.
@@ -318,12 +316,12 @@ fn with_attempt(all: Outcomes, device: &BallSettings) -> Outcomes
     ensures answers { map (λ o. o.items) result.items ≡ map (λ o. o.items) all.items ++ of_attempt device.now }
     ensures count { array_vec_len result ≤ array_vec_len all + 2 }
 {
-    let goes_on = match device.max_attempts {
+    let goes_on = match device.ejects.max_attempts {
         None => true,
         Some(most) => 1 < most,
     };
     let all = with_if(all, goes_on, &[6, 1]);
-    with_if(all, device.max_attempts.is_some(), &[6])
+    with_if(all, device.ejects.max_attempts.is_some(), &[6])
 }
 
 /// The time is over in which a ball on its way was to arrive.

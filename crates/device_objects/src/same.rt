@@ -6,10 +6,7 @@ use crate::state::{
     AccrualSlot, Attempt, AutofireState, BallState, BallSwitch, BankSlot, CounterSlot, DeviceState,
     Eject, FlipperState, MultiballState, SaveState, SequenceSlot, TimerState,
 };
-use plan_tables::{
-    BallSettings, BallTarget, BankSettings, BlockSettings, CounterSettings, DeviceRow, Direction,
-    MultiballSettings, Owner, SaveSettings, Settings, StepSettings, TimerSettings,
-};
+use plan_tables::{BallSettings, BallTarget, BankSettings, DeviceRow, Owner, Settings};
 
 /// Whether two rows are the same.
 pub fn is_same_row(a: &DeviceRow, b: &DeviceRow) -> bool
@@ -49,53 +46,6 @@ fn is_same_owner(a: Owner, b: Owner) -> bool
     }
 }
 
-fn is_same_direction(a: Direction, b: Direction) -> bool
-    ensures { IsTrue result ↔ (a ≡ b) }
-{
-    match (a, b) {
-        (Direction::Up, Direction::Up) => true,
-        (Direction::Down, Direction::Down) => true,
-        _ => false,
-    }
-}
-
-fn is_same_block(a: &BlockSettings, b: &BlockSettings) -> bool
-    ensures { IsTrue result ↔ (a.now ≡ b.now) }
-{
-    a.enabled == b.enabled
-        && a.reset_on_complete == b.reset_on_complete
-        && a.disable_on_complete == b.disable_on_complete
-        && a.persist == b.persist
-}
-
-fn is_same_counter_kind(a: &CounterSettings, b: &CounterSettings) -> bool
-    ensures { IsTrue result ↔ (a.now ≡ b.now) }
-{
-    is_same_block(&a.block, &b.block)
-        && a.start == b.start
-        && a.interval == b.interval
-        && is_same_direction(a.direction, b.direction)
-        && a.complete == b.complete
-        && a.window == b.window
-}
-
-fn is_same_step_kind(a: &StepSettings, b: &StepSettings) -> bool
-    ensures { IsTrue result ↔ (a.now ≡ b.now) }
-{
-    is_same_block(&a.block, &b.block) && a.steps == b.steps
-}
-
-fn is_same_timer_kind(a: &TimerSettings, b: &TimerSettings) -> bool
-    ensures { IsTrue result ↔ (a.now ≡ b.now) }
-{
-    a.start == b.start
-        && a.end == b.end
-        && is_same_direction(a.direction, b.direction)
-        && a.interval == b.interval
-        && a.start_running == b.start_running
-        && a.restart == b.restart
-}
-
 fn is_same_bank_kind(a: &BankSettings, b: &BankSettings) -> bool
     ensures { IsTrue result ↔ (a.now ≡ b.now) }
 {
@@ -121,43 +71,27 @@ fn is_same_ball_kind(a: &BallSettings, b: &BallSettings) -> bool
     ensures { IsTrue result ↔ (a.now ≡ b.now) }
 {
     a.switches == b.switches
-        && a.entrance_delay == b.entrance_delay
-        && a.exit_delay == b.exit_delay
         && is_same_target(a.target, b.target)
         && a.has_coil == b.has_coil
-        && a.mechanical == b.mechanical
-        && a.timeout == b.timeout
-        && a.max_attempts == b.max_attempts
+        && a.ejects.is(&b.ejects)
         && a.trough == b.trough
         && a.home == b.home
-}
-
-fn is_same_save_kind(a: &SaveSettings, b: &SaveSettings) -> bool
-    ensures { IsTrue result ↔ (a.now ≡ b.now) }
-{
-    a.active_time == b.active_time && a.balls == b.balls
-}
-
-fn is_same_multiball_kind(a: &MultiballSettings, b: &MultiballSettings) -> bool
-    ensures { IsTrue result ↔ (a.now ≡ b.now) }
-{
-    a.balls == b.balls
 }
 
 fn is_same_settings(a: &Settings, b: &Settings) -> bool
     ensures { IsTrue result ↔ (a.now ≡ b.now) }
 {
     match (a, b) {
-        (Settings::Counter(a), Settings::Counter(b)) => is_same_counter_kind(a, b),
-        (Settings::Accrual(a), Settings::Accrual(b)) => is_same_step_kind(a, b),
-        (Settings::Sequence(a), Settings::Sequence(b)) => is_same_step_kind(a, b),
-        (Settings::Timer(a), Settings::Timer(b)) => is_same_timer_kind(a, b),
+        (Settings::Counter(a), Settings::Counter(b)) => a.is(b),
+        (Settings::Accrual(a), Settings::Accrual(b)) => a.is(b),
+        (Settings::Sequence(a), Settings::Sequence(b)) => a.is(b),
+        (Settings::Timer(a), Settings::Timer(b)) => a.is(b),
         (Settings::Bank(a), Settings::Bank(b)) => is_same_bank_kind(a, b),
         (Settings::Flipper, Settings::Flipper) => true,
         (Settings::Autofire, Settings::Autofire) => true,
         (Settings::BallDevice(a), Settings::BallDevice(b)) => is_same_ball_kind(a, b),
-        (Settings::BallSave(a), Settings::BallSave(b)) => is_same_save_kind(a, b),
-        (Settings::Multiball(a), Settings::Multiball(b)) => is_same_multiball_kind(a, b),
+        (Settings::BallSave(a), Settings::BallSave(b)) => a.is(b),
+        (Settings::Multiball(a), Settings::Multiball(b)) => a.is(b),
         _ => false,
     }
 }

@@ -8,7 +8,8 @@ ghost use Rattle.device_objects.specs.Laws.{HasBallShape, HasBankShape, HasMarks
 use crate::state::{
     AccrualSlot, Attempt, BallState, BallSwitch, BankSlot, DeviceState, Eject, SaveState,
 };
-use plan_tables::{BallSettings, BankSettings, SaveSettings, Settings};
+use machine_settings::SaveSettings;
+use plan_tables::{BallSettings, BankSettings, Settings};
 
 /// Whether a state is of the shape that these settings ask for: of their kind, and such that what the device
 /// acts on is within the settings.
@@ -116,7 +117,7 @@ fn are_empty(switches: &[BallSwitch]) -> bool
 fn is_attempt(device: &BallSettings, attempt: Attempt) -> bool
     ensures { IsTrue result ↔ IsAttempt device.now attempt.number }
 {
-    let most = device.max_attempts.unwrap_or(1000).max(1);
+    let most = device.ejects.max_attempts.unwrap_or(1000).max(1);
     1 <= attempt.number && attempt.number <= most
 }
 
@@ -128,7 +129,7 @@ fn is_eject(device: &BallSettings, eject: Eject) -> bool
         Eject::Idle => true,
         Eject::Pulsing(attempt) => device.has_coil && is_attempt(device, attempt),
         Eject::Away(attempt) => {
-            (device.has_coil || device.mechanical) && is_attempt(device, attempt)
+            (device.has_coil || device.ejects.mechanical) && is_attempt(device, attempt)
         }
     }
 }

@@ -1,9 +1,9 @@
-//! Values that move, and the ends that they reach.
+//! Values that move.
 
 ghost use Rattle.std.specs.Prelude.{◌≡◌};
-ghost use Rattle.device_objects.specs.Values.{clamped, is_at_end, moved};
+ghost use Rattle.device_objects.specs.Values.{clamped, moved};
 
-use plan_tables::Direction;
+use machine_settings::Direction;
 
 /// No value is further from 0.
 const GREATEST: i128 = 999_999_999_999_999;
@@ -29,16 +29,5 @@ pub fn moved(direction: Direction, by: i64, value: i64) -> i64
     match direction {
         Direction::Up => clamped(i128::from(value) + i128::from(by)),
         Direction::Down => clamped(i128::from(value) - i128::from(by)),
-    }
-}
-
-/// Whether a value has reached or passed its end, if it has one.
-pub fn is_at_end(direction: Direction, end: Option<i64>, value: i64) -> bool
-    ensures { result ≡ is_at_end direction end value }
-{
-    match (direction, end) {
-        (_, None) => false,
-        (Direction::Up, Some(end)) => end <= value,
-        (Direction::Down, Some(end)) => value <= end,
     }
 }

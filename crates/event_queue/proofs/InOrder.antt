@@ -46,13 +46,12 @@ before-same a b not neither =
 -- ---- the first is the least
 
 first_of-put : (alarm : Option Alarm) (alarms : List Alarm) → slice_get (put_alarm alarm alarms) 0 ≡ first_of alarm (slice_get alarms 0)
-first_of-put None alarms = refl
-first_of-put (Some a) [] = refl
 first_of-put (Some a) (b ∷ bs) = by (comes_before b a)
   where
     by : (is : Bool) → slice_get (cond is (b ∷ put comes_before a bs) (a ∷ b ∷ bs)) 0 ≡ cond is (Some b) (Some a)
     by true = refl
     by false = refl
+first_of-put _ _ = refl
 
 first_from : (number : ℕ) (dues : List (Option ℕ)) → slice_get (ordered_from number dues) 0 ≡ least_from number dues
 first_from number [] = refl
@@ -102,9 +101,8 @@ none-ordered n = sym (from-none 0 n)
 -- ---- a row's due moment is set
 
 put_alarm-comm : (a b : Option Alarm) (alarms : List Alarm) → put_alarm a (put_alarm b alarms) ≡ put_alarm b (put_alarm a alarms)
-put_alarm-comm None b alarms = refl
-put_alarm-comm (Some a) None alarms = refl
 put_alarm-comm (Some a) (Some b) alarms = put_comm comes_before before-order before-same a b alarms
+put_alarm-comm _ _ alarms = refl
 
 from-set : (number r : ℕ) (dues : List (Option ℕ)) (due : Option ℕ) → r < length dues → ordered_from number (slice_set dues r due) ≡ put_alarm (alarm_of (row_of (number + r)) due) (ordered_from number (slice_set dues r None))
 from-set number r [] due within = absurd (omega arith)

@@ -9,7 +9,8 @@ ghost use Rattle.plan_tables.specs.declared.devices.Settings.TheVariants as kind
 use crate::lists::{hit, reset, silent};
 use device_objects::slot::{SlotStep, is_of_other_game, slot_in_use, step_in_use};
 use device_objects::{AccrualSlot, Device, DeviceState, Outcome, World};
-use plan_tables::{Act, DeviceRow, Settings, StepSettings};
+use machine_settings::StepSettings;
+use plan_tables::{Act, DeviceRow, Settings};
 
 /// An accrual: it completes when all its steps are done, in any order.
 #[derive(Drop)]

@@ -7,9 +7,10 @@ ghost use Rattle.plan_tables.specs.declared.devices.Settings.TheVariants as kind
 
 use crate::lists::{hit, reset, silent};
 use device_objects::slot::{SlotStep, is_of_other_game, slot_in_use, step_in_use};
-use device_objects::values::{is_at_end, moved};
+use device_objects::values::moved;
 use device_objects::{CounterSlot, Device, DeviceState, Outcome, World};
-use plan_tables::{Act, CounterSettings, DeviceRow, Settings};
+use machine_settings::CounterSettings;
+use plan_tables::{Act, DeviceRow, Settings};
 
 /// A counter: it counts hits, and completes when its value reaches or passes the one that is set.
 #[derive(Drop)]
@@ -155,7 +156,7 @@ fn counted(settings: &CounterSettings, slot: &mut CounterSlot) -> Outcome
     ensures slot { slot.new ≡ (counted settings.now slot.old).0 }
     ensures outcome { result.items ≡ (counted settings.now slot.old).1 }
 {
-    let completes = is_at_end(settings.direction, settings.complete, slot.value);
+    let completes = settings.direction.is_at_end(settings.complete, slot.value);
     if completes {
         complete(settings, slot);
     }

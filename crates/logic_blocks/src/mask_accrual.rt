@@ -11,7 +11,8 @@ use crate::lists::{hit, reset, silent};
 use device_objects::flags::{are_set, flags_of, is_set, mask_of, with_flag};
 use device_objects::slot::{SlotStep, is_of_other_game, slot_in_use, step_in_use};
 use device_objects::{AccrualSlot, Device, DeviceState, Outcome, World, has_shape};
-use plan_tables::{Act, DeviceRow, Settings, StepSettings};
+use machine_settings::StepSettings;
+use plan_tables::{Act, DeviceRow, Settings};
 
 /// An accrual that keeps which steps are done as bits. Its row and its calls are those of
 /// [`Accrual`](crate::Accrual), and it can take the place of one in any state.

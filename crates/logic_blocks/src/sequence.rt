@@ -8,7 +8,8 @@ ghost use Rattle.plan_tables.specs.declared.devices.Settings.TheVariants as kind
 use crate::lists::{hit, reset, silent};
 use device_objects::slot::{SlotStep, is_of_other_game, slot_in_use, step_in_use};
 use device_objects::{Device, DeviceState, Outcome, SequenceSlot, World};
-use plan_tables::{Act, DeviceRow, Settings, StepSettings};
+use machine_settings::StepSettings;
+use plan_tables::{Act, DeviceRow, Settings};
 
 /// A sequence: it completes when all its steps are done, each after the one before.
 #[derive(Drop)]

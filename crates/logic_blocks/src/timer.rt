@@ -8,9 +8,10 @@ ghost use Rattle.device_objects.specs.declared.device.Call.TheVariants as calls;
 ghost use Rattle.plan_tables.specs.declared.devices.Settings.TheVariants as kinds;
 
 use crate::lists::{one, silent};
-use device_objects::values::{clamped, is_at_end, moved};
+use device_objects::values::{clamped, moved};
 use device_objects::{Device, DeviceState, Outcome, TimerState, World};
-use plan_tables::{Act, DeviceRow, Settings, TimerSettings};
+use machine_settings::TimerSettings;
+use plan_tables::{Act, DeviceRow, Settings};
 
 /// The list of a timer that starts to run.
 const STARTED: u16 = 0;
@@ -131,7 +132,7 @@ fn change(settings: &TimerSettings, state: &mut TimerState, value: i128, now: u6
     ensures outcome { result.items ≡ (changed settings.now now (record state.old { value = clamped value })).1 }
 {
     state.value = clamped(value);
-    if state.due.is_some() && is_at_end(settings.direction, settings.end, state.value) {
+    if state.due.is_some() && settings.direction.is_at_end(settings.end, state.value) {
         complete(settings, state, now)
     } else {
         silent()
@@ -146,7 +147,7 @@ fn tick(settings: &TimerSettings, state: &mut TimerState, now: u64) -> Outcome
 {
     state.value = moved(settings.direction, 1, state.value);
     let mut lists = one(TICK);
-    if is_at_end(settings.direction, settings.end, state.value) {
+    if settings.direction.is_at_end(settings.end, state.value) {
         lists.push(COMPLETE);
         complete(settings, state, now);
         if settings.restart {

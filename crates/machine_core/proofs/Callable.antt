@@ -7,7 +7,7 @@ use Rattle.plan_tables.specs.Valid.{HasEntries, IsActionWithin}
 use Rattle.plan_tables.specs.declared.entries.ListId.{ListId}
 use Rattle.cascade_rank.specs.Cost.{Cost}
 use Rattle.written_machine.specs.Machine.{Machine}
-use Rattle.written_machine.specs.Moves.{Move, Wrote, Sent, Switched, Began, Ended, Marked, Released, Turned, Asked, Booked, Varied, Stepped, AddedBalls, do_move, Does}
+use Rattle.written_machine.specs.Moves.{Move, Began, Ended, Asked, Booked, do_move, Does}
 use Rattle.written_machine.proofs.Does.{start-by, stop-by, does-keeps, has_devices-does, moment-does}
 use Rattle.written_machine.proofs.Held.{asked-count}
 use Rattle.machine_core.specs.Core.{CoreView, CanCall}
@@ -15,19 +15,11 @@ use Rattle.machine_core.proofs.Going.{goes-book}
 
 module _ (plan : PlanView) where
   count-move : (x : Move) (s : Machine) → length (do_move plan x s).coils ≡ length s.coils
-  count-move (Wrote owner what) s = refl
-  count-move (Sent owner e) s = refl
-  count-move (Switched n state) s = refl
   count-move (Began m) s = start-by plan m s (λ t. length t.coils ≡ length s.coils) refl refl
   count-move (Ended m) s = stop-by plan m s (λ t. length t.coils ≡ length s.coils) refl refl
-  count-move (Marked m state) s = refl
-  count-move (Turned call r) s = refl
   count-move (Asked owner command) s = asked-count owner command s.moment s.coils
   count-move (Booked owner call) s = (goes-book plan owner call s).coils
-  count-move (Released m) s = refl
-  count-move (Varied v value) s = refl
-  count-move (Stepped which) s = refl
-  count-move (AddedBalls n) s = refl
+  count-move _ s = refl
 
   count-does : {may : Move → Type 0} {c : Cost} {s t : Machine} → Does plan may c s t → length t.coils ≡ length s.coils
   count-does {may} {c} {s} {t} d = does-keeps plan may (λ u. length u.coils ≡ length s.coils) (λ x u allowed h. count-move x u ∙ h) d refl

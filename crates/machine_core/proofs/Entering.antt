@@ -10,7 +10,7 @@ use Rattle.plan_tables.specs.declared.devices.RowId.{RowId}
 use Rattle.plan_tables.specs.declared.devices.Telling.{Telling}
 use Rattle.plan_tables.specs.declared.devices.Telling.TheVariants.{Arrived}
 use Rattle.ball_devices.specs.declared.booking.Origin.{Origin}
-use Rattle.ball_devices.specs.declared.booking.Origin.TheVariants.{Awaited, Found, New}
+use Rattle.ball_devices.specs.declared.booking.Origin.TheVariants.{Awaited}
 use Rattle.ball_devices.specs.Ledger.{origin_of}
 use Rattle.ball_devices.specs.Bookings.{is_awaited}
 use Rattle.ball_devices.specs.Bookings as calls_of_ledger
@@ -25,13 +25,11 @@ module _ (plan : PlanView) (tell : Telling → Machine → Machine) (owner : Own
   -- where it was on its way, the device that ejected it is told, and else it may have drained
   rest-awaited : (o : Origin) (s : Machine) → is_awaited o ≡ true → after_entry plan tell owner r drain o s ≡ tell (Arrived (Device r)) s
   rest-awaited Awaited s h = refl
-  rest-awaited Found s h = absurd (false≢true h)
-  rest-awaited New s h = absurd (false≢true h)
+  rest-awaited _ s h = absurd (false≢true h)
 
   rest-other : (o : Origin) (s : Machine) → is_awaited o ≡ false → after_entry plan tell owner r drain o s ≡ drain_if plan owner drain s
   rest-other Awaited s h = absurd (false≢true (sym h))
-  rest-other Found s h = refl
-  rest-other New s h = refl
+  rest-other _ s h = refl
 
 module _ (tell : Tell) (goes : AlwaysGoes tell) (owner : Owner) (r : RowId) (drain : Bool) (e : EventId) (old : CoreView) (room : HasRoom old.room (enter_ball old.plan (tell old.plan) owner r e drain old.machine)) where
   abbrev told : Machine

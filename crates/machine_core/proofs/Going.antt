@@ -17,7 +17,7 @@ use Rattle.ball_devices.specs.Bookings.{LedgerCall, after_call, booked, can_book
 use Rattle.ball_devices.specs.Bookings as calls_of_ledger
 use Rattle.ball_devices.specs.Ledger.{origin_of}
 use Rattle.ball_devices.specs.declared.booking.Origin.{Origin}
-use Rattle.ball_devices.specs.declared.booking.Origin.TheVariants.{Awaited, Found, New}
+use Rattle.ball_devices.specs.declared.booking.Origin.TheVariants.{Awaited}
 use Rattle.coil_guard.specs.declared.command.Command.{Command}
 use Rattle.coil_guard.specs.declared.command.Command.TheVariants as commands
 use Rattle.device_objects.specs.declared.device.Call.{Call}
@@ -27,7 +27,7 @@ use Rattle.player_game.specs.Players.{PlayersState, changed_to, after_change}
 use Rattle.switch_core.specs.declared.change.Change.{Change}
 use Rattle.written_machine.specs.declared.line.Happening.{Happening}
 use Rattle.written_machine.specs.declared.line.Happening.TheVariants as lines
-use Rattle.written_machine.specs.Machine.{Machine, write, post, set_device, set_game, set_ledger, set_players, all_do, ask_coil, tell_change, book, counts_of, drain_if, after_entry, enter_ball, want_balls, add_balls, do_action_by, do_list_by, do_answer_by, called, call_device_by, tell_nobody, told_device, tell_device, tell_first, do_action, do_list, call_device, ask_ball, end_multiballs, confirm_on_playfield}
+use Rattle.written_machine.specs.Machine.{Machine, write, post, set_device, set_game, set_ledger, set_players, all_do, ask_coil, tell_change, book, counts_of, drain_if, after_entry, enter_ball, want_balls, add_balls, do_action_by, do_list_by, do_answer_by, called, call_device_by, tell_nobody, told_device, tell_device, tell_first, call_device, ask_ball, end_multiballs, confirm_on_playfield}
 use Rattle.written_machine.specs.Moves.{Turned, Does, moved}
 use Rattle.written_machine.proofs.Does.{has_devices-does}
 use Rattle.written_machine.proofs.Growth.{post-grows, asked-grows, told-grows}
@@ -123,8 +123,7 @@ module _ (plan : PlanView) where
   module _ (tell : Telling → Machine → Machine) (each : (telling : Telling) (s : Machine) → Goes plan s (tell telling s)) where
     pub goes-after_entry : (owner : Owner) (r : RowId) (drain : Bool) (o : Origin) (s : Machine) → Goes plan s (after_entry plan tell owner r drain o s)
     goes-after_entry owner r drain Awaited s = each (Arrived (targets.Device r)) s
-    goes-after_entry owner r drain Found s = goes-drain owner drain s
-    goes-after_entry owner r drain New s = goes-drain owner drain s
+    goes-after_entry owner r drain _ s = goes-drain owner drain s
 
     goes-enter : (owner : Owner) (r : RowId) (e : EventId) (drain : Bool) (s : Machine) → Goes plan s (enter_ball plan tell owner r e drain s)
     goes-enter owner r e drain s =
@@ -182,12 +181,6 @@ module _ (plan : PlanView) where
 
   pub goes-tell_first : (telling : Telling) (s : Machine) → Goes plan s (tell_first plan telling s)
   goes-tell_first telling s = goes-device telling (told_device plan telling s) s
-
-  pub goes-action : (owner : Owner) (a : Action) (s : Machine) → Goes plan s (do_action plan owner a s)
-  goes-action owner a s = goes-action_by (tell_first plan) goes-tell_first owner a s
-
-  pub goes-list : (r : RowId) (k : ℕ) (s : Machine) → Goes plan s (do_list plan (row_at plan r).owner (list_of_row plan r k) s)
-  goes-list r k s = goes-list_by (tell_first plan) goes-tell_first r k s
 
   pub goes-call : (call : Call) (r : RowId) (s : Machine) → Goes plan s (call_device plan call r s)
   goes-call call r s = goes-call_by (tell_first plan) goes-tell_first call r s

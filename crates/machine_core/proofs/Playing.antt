@@ -1,5 +1,5 @@
 -- What an event of the game leads to.
-use Rattle.std.proofs.Common.{◌≡◌, ℕ, suc, ◌+◌, ◌-◌, ◌<◌, ◌≤◌, Bool, true, false, if◌then◌else◌, Option, None, Some, List, [], ◌∷◌, length, refl, ap, sym, ◌∙◌, subst, arith}
+use Rattle.std.proofs.Common.{◌≡◌, ℕ, suc, ◌+◌, ◌-◌, ◌<◌, ◌≤◌, Bool, true, false, if◌then◌else◌, Option, None, Some, List, ◌∷◌, length, refl, ap, sym, ◌∙◌, subst, arith}
 use Rattle.std.specs.List.{range_with_len}
 use Rattle.plan_tables.specs.PlanView.{PlanView}
 use Rattle.plan_tables.specs.Valid.{HasGame}
@@ -74,11 +74,6 @@ pub finals-first : (place count : ℕ) → place < count → range_with_len (pla
 finals-first place count there =
     let one : count - place ≡ suc (count - (place + 1)) = omega arith in
     ap (range_with_len (place + 1)) one
-
-pub finals-end : (place count : ℕ) → count ≤ place → range_with_len (place + 1) (count - place) ≡ []
-finals-end place count past =
-    let none : count - place ≡ 0 = omega arith in
-    ap (range_with_len (place + 1)) none
 
 -- ---- the game goes on, scores are told, a ball is asked for, and events are posted
 

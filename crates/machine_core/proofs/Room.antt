@@ -6,7 +6,7 @@ use Rattle.plan_tables.specs.declared.entries.Owner.{Owner}
 use Rattle.plan_tables.specs.declared.entries.Owner.TheVariants as owners
 use Rattle.plan_tables.specs.declared.entries.GameEvent.{GameEvent}
 use Rattle.plan_tables.specs.declared.entries.VariableId.{VariableId}
-use Rattle.plan_tables.specs.declared.entries.VariableAction.{VariableAction}
+use Rattle.machine_settings.specs.declared.words.VariableAction.{VariableAction}
 use Rattle.plan_tables.specs.PlanView.{PlanView, game_event}
 use Rattle.player_game.specs.Players.{changed_to, after_change as players_after_change, score_of}
 use Rattle.written_machine.specs.declared.line.Happening.TheVariants as lines

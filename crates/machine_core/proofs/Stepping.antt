@@ -4,7 +4,7 @@ use Rattle.plan_tables.specs.declared.entries.BindingId.{BindingId}
 use Rattle.plan_tables.specs.PlanView.{PlanView, work_of}
 use Rattle.plan_tables.specs.declared.entries.EventId.{EventId}
 use Rattle.plan_tables.specs.declared.entries.Work.{Work}
-use Rattle.plan_tables.specs.declared.entries.Work.TheVariants.{Nothing, Mode, Game}
+use Rattle.plan_tables.specs.declared.entries.Work.TheVariants.{Nothing}
 use Rattle.mode_stack.specs.Modes.{running_of}
 use Rattle.event_queue.specs.PlanOrder.{in_order}
 use Rattle.written_machine.specs.Machine.{Machine, all_do, do_handler}
@@ -28,13 +28,11 @@ follow-same f g c same = λ i. record { plan = c.plan; running = running_of (sam
 
 pub kept-some : (work : Work) (s : Machine) (kept : Bool) → kept_at work s ≡ Some kept → kept ≡ is_kept work s
 kept-some Nothing s kept is = cc
-kept-some (Mode m which) s kept is = cc
-kept-some (Game which) s kept is = cc
+kept-some _ s kept is = cc
 
 pub kept-none : (work : Work) (s : Machine) → kept_at work s ≡ None → work ≡ Nothing
 kept-none Nothing s is = refl
-kept-none (Mode m which) s is = cc
-kept-none (Game which) s is = cc
+kept-none _ s is = cc
 
 -- ---- devices can still be called
 

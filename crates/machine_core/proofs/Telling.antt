@@ -28,16 +28,10 @@ eject-due None (Away a) = refl
 eject-due (Some moment) (Away a) = refl
 
 pub away-due : (s : DeviceState) → is_device_away s ≡ (is_some (due_of s) && is_device_away s)
-away-due (states.Counter slots) = refl
-away-due (states.Accrual slots) = refl
-away-due (states.Sequence slots) = refl
 away-due (states.Timer s) = and-false (is_some s.due)
-away-due (states.Bank slots) = refl
-away-due (states.Flipper s) = refl
-away-due (states.Autofire s) = refl
 away-due (states.BallDevice s) = eject-due (option_map (λ a. a.0) (first_due s)) s.eject
 away-due (states.BallSave s) = and-false (is_some s.due)
-away-due (states.Multiball s) = refl
+away-due _ = refl
 
 find-nothing : (p : RowId → Bool) (rows : List RowId) → ((r : RowId) → p r ≡ false) → find p rows ≡ None
 find-nothing p [] none = refl

@@ -38,10 +38,11 @@ use ball_devices::BallLedger;
 use coil_guard::{Answer, Coils, Command};
 use device_objects::{Call, Device, DeviceState, Outcome, World};
 use event_queue::{Alarms, Handlers, Posted, Queue};
+use machine_settings::VariableAction;
 use mode_stack::{Modes, StopAnswer};
 use plan_tables::{
     BallTarget, BindingId, Condition, EventId, GameEvent, ModeId, Owner, Plan, RowId, SwitchId,
-    VariableAction, VariableId,
+    VariableId,
 };
 use player_game::{Game, GamePhase, GameWork, Players};
 use std::alloc::{AllocError, Global};

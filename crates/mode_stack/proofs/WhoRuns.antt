@@ -2,7 +2,7 @@
 use Rattle.std.proofs.Common.{◌≡◌, Bool, true, false, if◌then◌else◌, refl, sym}
 use Rattle.std.proofs.Math.Seq.{map-set_same}
 use Rattle.mode_stack.specs.declared.phase.Phase.{Phase}
-use Rattle.mode_stack.specs.declared.phase.Phase.TheVariants.{Idle, Starting, Active, Stopping}
+use Rattle.mode_stack.specs.declared.phase.Phase.TheVariants.{Idle, Starting}
 use Rattle.mode_stack.specs.declared.phase.ModeState.{ModeState}
 use Rattle.mode_stack.specs.ModeStep.{in_phase, is_running, starts, started, stopped}
 use Rattle.mode_stack.specs.Modes.{mode_state, StartingKeepsWhoRuns}
@@ -13,15 +13,11 @@ started-by false s idle = refl
 
 started-runs : (needs game : Bool) (phase : Phase) (kept : Bool) → is_running (started needs game (record { phase = phase; kept = kept })).phase ≡ is_running phase
 started-runs needs game Idle kept = started-by (starts needs game Idle) (record { phase = Idle; kept = kept }) refl
-started-runs needs game Starting kept = refl
-started-runs needs game Active kept = refl
-started-runs needs game Stopping kept = refl
+started-runs needs game _ kept = refl
 
 stopped-runs : (phase : Phase) (kept : Bool) → is_running (stopped (record { phase = phase; kept = kept })).phase ≡ is_running phase
 stopped-runs Idle kept = refl
-stopped-runs Starting kept = refl
-stopped-runs Active kept = refl
-stopped-runs Stopping kept = refl
+stopped-runs _ kept = refl
 
 pub starting_keeps_who_runs : StartingKeepsWhoRuns
 starting_keeps_who_runs = record {

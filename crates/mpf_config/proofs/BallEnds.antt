@@ -6,7 +6,7 @@ use Rattle.std.proofs.lemmas.Bool.{ne_eqb}
 use Rattle.std.proofs.lemmas.List.Elements.{All-nil, All-cons, All-head, All-tail}
 use Rattle.section_tables.proofs.Steps.{word_is, is_word}
 use Rattle.mpf_tables.specs.SectionTables.{mode_name}
-use Rattle.mpf_sections.specs.Rows.{Handled, Content, entries, players, entry, listed, ModeSettings}
+use Rattle.mpf_sections.specs.Rows.{Handled, Content, entry, ModeSettings}
 use Rattle.mpf_sections.specs.Typed.{mode_settings_of, ball_ending, starts_at_ball_end}
 use Rattle.mpf_config.specs.RowsOf.{StartsAtBallEnd, KeepsToBallEnd}
 use Rattle.mpf_config.specs.Reading.{has_right_starts, keeps_to_ball_end}
@@ -66,20 +66,16 @@ starts_complete s h = rw (some_complete s.starts h.some, all_complete s.starts h
 
 pub keeps_sound : (section : List ℕ) (content : Content) → keeps_to_ball_end section content ≡ true → KeepsToBallEnd section content
 unfolding keeps_to_ball_end
-keeps_sound section (entries es) e = tt
-keeps_sound section (players ps) e = tt
 keeps_sound section (entry x) e = λ is holds.
     let s = mode_settings_of x.values in
     let well = implied (bytes_eq section mode_name) (has_right_starts s) e (is_word section mode_name is) in
     starts_sound s (implied s.holds_ball_end (starts_at_ball_end s) well holds)
-keeps_sound section (listed ws) e = tt
+keeps_sound section _ e = tt
 
 pub keeps_complete : (section : List ℕ) (content : Content) → KeepsToBallEnd section content → keeps_to_ball_end section content ≡ true
 unfolding keeps_to_ball_end
-keeps_complete section (entries es) h = refl
-keeps_complete section (players ps) h = refl
 keeps_complete section (entry x) h =
     let s = mode_settings_of x.values in
     implies (bytes_eq section mode_name) (has_right_starts s)
     (λ is. implies s.holds_ball_end (starts_at_ball_end s) (λ holds. starts_complete s (h (word_is section mode_name is) holds)))
-keeps_complete section (listed ws) h = refl
+keeps_complete section _ h = refl

@@ -7,7 +7,7 @@ use Rattle.yaml_subset.specs.Node.{Pair}
 use Rattle.mpf_values.specs.Names.{IsName}
 use Rattle.mpf_tables.specs.declared.tables.TextKind.{TextKind}
 use Rattle.section_tables.proofs.RowNames.{names_named, names_short}
-use Rattle.mpf_sections.specs.Rows.{Written, Content, entries, players, entry, listed, SectionRows}
+use Rattle.mpf_sections.specs.Rows.{Written, Content, listed, SectionRows}
 use Rattle.mpf_sections.specs.Named.{AllNames}
 use Rattle.mpf_sections.specs.Typed.{modes_name, names_in, content_named, names_of_content, listed_modes}
 use Rattle.mpf_config.specs.RowsOf.{Sizes, AreNew, IsContent, IsSection}
@@ -22,15 +22,13 @@ module _ (sizes : Sizes) (kind : TextKind) where
   none_listed = record { named = All-nil (λ (w : Written). IsName w.text); few = omega arith; apart = tt }
 
   content_listed : (p : Pair) (content : Content) → IsContent sizes kind p content → AreListed sizes (names_in content)
-  content_listed p (entries es) h = none_listed
-  content_listed p (players ps) h = none_listed
-  content_listed p (entry e) h = none_listed
   content_listed p (listed ws) h =
       record {
         named = All-from_recursion (λ (w : Written). IsName w.text) ws (names_named sizes.modes p ws h.1.listed);
         few = names_short sizes.modes p ws h.1.listed;
         apart = h.1.apart;
       }
+  content_listed p _ h = none_listed
 
   pub modes_listed : (sections : List Pair) (rows : List SectionRows) → AllZip (IsSection sizes kind) sections rows → AreListed sizes (listed_modes rows)
   modes_listed [] [] each = none_listed

@@ -13,7 +13,7 @@ use Rattle.mpf_tables.specs.declared.tables.TextKind.{TextKind}
 use Rattle.section_tables.specs.Kinds.{Setting}
 use Rattle.section_tables.specs.Entries.{or_none, pairs_below}
 use Rattle.section_tables.specs.EntryOf.{IsOtherEntry}
-use Rattle.mpf_sections.specs.Rows.{Entry, Content, entries, players, entry, listed, SectionRows}
+use Rattle.mpf_sections.specs.Rows.{Entry, Content, entries, entry, SectionRows}
 use Rattle.mpf_config.specs.Unread.{is_skipped, read_of}
 use Rattle.mpf_config.specs.Apart.{EntryName, Differ, AreDistinct, named_entry, entries_named, entry_names}
 use Rattle.mpf_config.specs.RowsOf.{Sizes, AreNew, IsContent, IsSection, AreRowsOf}
@@ -182,9 +182,7 @@ module _ (longest : ℕ) (barred : List (List ℕ)) (table : List Setting) (sect
 content_distinct : (sizes : Sizes) (kind : TextKind) (p : Pair) (section : List ℕ) (content : Content) → HasKeys p.value → IsContent sizes kind p content
     → AreDistinct (entries_named (record { name = section; content = content }))
 content_distinct sizes kind p section (entries es) own h = entries_distinct sizes.longest h.0 h.1 section [] h.3.0 es h.3.2 (pairs_have_keys p.value h.3.0 own h.3.1)
-content_distinct sizes kind p section (players ps) own h = tt
-content_distinct sizes kind p section (entry e) own h = tt
-content_distinct sizes kind p section (listed ws) own h = tt
+content_distinct sizes kind p section _ own h = tt
 
 -- ---- those of all sections
 

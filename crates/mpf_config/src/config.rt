@@ -10,9 +10,7 @@ ghost use Rattle.mpf_config.specs.Named.{IsNamedMode};
 ghost use Rattle.mpf_config.specs.Short.{IsShortMode};
 ghost use Rattle.mpf_config.specs.ModeView.{mode_view};
 
-pub use mpf_sections::{
-    CoilAction, Contact, Content, ControlAction, Debounce, Direction, Section, VariableAction,
-};
+pub use mpf_sections::{CoilAction, Content, ControlAction, Debounce, Section};
 use yaml_subset::keys::KeyHashing;
 
 /// The machine text: its sections as written; in the rows of a bundle no name occurs twice.

@@ -18,14 +18,14 @@ mod version;
 
 pub use bundle::{mode_names, read_bundle};
 pub use config::{
-    CoilAction, Config, Contact, Content, ControlAction, Debounce, Direction, MachineText,
-    ModeText, Note, NoteKind, Section, VariableAction,
+    CoilAction, Config, Content, ControlAction, Debounce, MachineText, ModeText, Note, NoteKind,
+    Section,
 };
 pub use escape::{escaped_makes_no_line, write_escaped};
 pub use fault::{ConfigFault, Fault, FaultKind, write_fault};
 // The sections: their names, and their entries by the names of their settings.
 pub use mpf_sections::{
-    Autofire, BallDevice, BallSave, Block, Coil, CoilItem, CoilPlayer, Control, Counter,
+    Autofire, BallDevice, BallSave, BlockEvents, Coil, CoilItem, CoilPlayer, Control, Counter,
     EventPlayer, Flipper, GameSettings, HandledAt, ModeSettings, Multiball, NameAt, Shot,
     ShotGroup, ShotProfile, StepBlock, Switch, Timer, VariableItem, VariablePlayer, as_autofire,
     as_ball_device, as_ball_save, as_coil, as_coil_item, as_coil_player, as_control, as_counter,

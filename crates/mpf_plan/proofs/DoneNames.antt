@@ -10,7 +10,7 @@ use Rattle.plan_tables.specs.declared.entries.EventId.{EventId}
 use Rattle.plan_tables.specs.declared.entries.CoilId.{CoilId}
 use Rattle.plan_tables.specs.declared.entries.VariableId.{VariableId}
 use Rattle.plan_tables.specs.declared.entries.Action.{Action}
-use Rattle.plan_tables.specs.declared.entries.Action.TheVariants.{Post, Pulse, Enable, Disable, Change, Enter, Leave, Lose, Arrive, Request, AddBalls}
+use Rattle.plan_tables.specs.declared.entries.Action.TheVariants.{Post, Pulse, Enable, Disable, Change, Enter}
 use Rattle.plan_tables.specs.declared.table.Table.TheVariants.{Events, Coils, Variables}
 use Rattle.plan_tables.specs.PlanView.{PlanCoil, no_coil, PlanView, coil_at, name_of_event, name_of_variable}
 use Rattle.plan_contributions.specs.Effects.{pulse, enable, disable, Effect, works, posts, changes, enters, leaves, loses, arrives, requests, adds_balls}
@@ -60,11 +60,7 @@ module _ (cs : List Contribution) where
   named_is (Disable c) = ap (λ n. works n disable) (coil_name c)
   named_is (Change v action n e) = ap (λ m. changes m action n) (variable_name v)
   named_is (Enter r e drain) = ap (λ n. enters n drain) (event_name e)
-  named_is (Leave r) = refl
-  named_is (Lose r) = refl
-  named_is (Arrive r) = refl
-  named_is (Request n) = refl
-  named_is (AddBalls n) = refl
+  named_is _ = refl
 
 -- ---- what is done
 

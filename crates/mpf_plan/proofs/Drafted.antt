@@ -28,7 +28,7 @@ use Rattle.plan_tables.specs.declared.table.Table.TheVariants.{Events, Bindings,
 use Rattle.plan_tables.specs.declared.entries.ModeEvent.TheVariants.{WillStart}
 use Rattle.plan_tables.specs.PlanView.{PlanSwitch, no_switch, PlanCoil, no_coil, PlanMode, no_mode, no_binding, PlanView}
 use Rattle.plan_tables.specs.Limits.{entry_count, entry_names}
-use Rattle.plan_contributions.specs.Contributions.{Contribution, gives, reads, active, inactive, mode, mode_event, mode_event_name, binds, does, device, does_in, listens, mentions, unknown, coil, under, plays}
+use Rattle.plan_contributions.specs.Contributions.{Contribution, gives, reads, active, inactive, mode, mode_event, mode_event_name, binds, does, device, does_in, listens, coil, under, plays}
 use Rattle.row_contributions.specs.Contributions.{row_contributions, given_by}
 use Rattle.mpf_plan.specs.Uses.{Names, names_from, number_among}
 use Rattle.mpf_plan.specs.Filling.{DraftView, last_row, last_switch, with_given, new_mode, with_event_in, next_binding, lists_for, with_binding, with_list_for, with_one_more, next_row, next_list, with_device, next_listener, heard_by, with_listener, limited_to, with_coil, conditioned, last_conditioned, with_condition, with_game, with_contribution, named_switch, named_coil, blank, drafted, plan_from}
@@ -233,10 +233,9 @@ module _ (names : Names) where
   counts_one d (does_in k e) = action_counts ((first_of_last d.plan.row_lists).0 + k) (action_of names (last_row d.plan) e) d
   counts_one d (listens k n) = listener_counts (number_among (names Switches) n) (next_listener d.plan k) d
   counts_one d (coil n limits) = coil_counts (number_among (names Coils) n) limits d
-  counts_one d (mentions t n) = modes_counts d.plan.modes d
-  counts_one d unknown = modes_counts d.plan.modes d
   counts_one d (under c) = condition_counts (condition_of names c) d
   counts_one d (plays min_balls balls_per_game max_players) = game_counts (rules_of (names Events) min_balls balls_per_game max_players) d
+  counts_one d _ = modes_counts d.plan.modes d
 
   counts_then : (n m r q l k : ℕ) (a b c : DraftView) → Counts n r l a b → Counts m q k b c → Counts (n + m) (r + q) (l + k) a c
   counts_then n m r q l k a b c first then_ = record {

@@ -114,8 +114,7 @@ quiet_alone machine Machine section e = by (bytes_eq section game_name)
     by : (b : Bool) → AreQuiet (if b then game_contributions machine (game_of e) else [])
     by true = quiet_game machine (game_of e)
     by false = All-nil IsQuiet
-quiet_alone machine Control section e = All-nil IsQuiet
-quiet_alone machine Mode section e = All-nil IsQuiet
+quiet_alone machine _ section e = All-nil IsQuiet
 
 pub quiet_controls : (s : ModeSettings) → AreQuiet (controls s)
 quiet_controls s = of_controls IsQuiet (λ e. Unit {0}) usual_quiet s
@@ -129,11 +128,9 @@ heard_any o (gives t n ∷ cs) h = (h.0, heard_any o cs h.1)
 heard_any o (reads kind confirms ∷ cs) h = (tt, heard_any o cs h.1)
 heard_any o (active n ∷ cs) h = (tt, heard_any o cs h.1)
 heard_any o (inactive n ∷ cs) h = (tt, heard_any o cs h.1)
-heard_any o (mode n priority game holds ∷ cs) h = (tt, h.1)
 heard_any o (mode_event which n ∷ cs) h = (tt, heard_any o cs h.1)
 heard_any o (binds n place aim ∷ cs) h = (tt, heard_any o cs h.1)
 heard_any o (does e ∷ cs) h = (tt, heard_any o cs h.1)
-heard_any o (device place settings ∷ cs) h = (tt, h.1)
 heard_any o (does_in k e ∷ cs) h = (tt, heard_any o cs h.1)
 heard_any o (listens k n ∷ cs) h = absurd (none_some h.0)
   where
@@ -144,6 +141,7 @@ heard_any o (unknown ∷ cs) h = (tt, heard_any o cs h.1)
 heard_any o (coil n limits ∷ cs) h = (tt, heard_any o cs h.1)
 heard_any o (under c ∷ cs) h = (tt, heard_any o cs h.1)
 heard_any o (plays min_balls balls_per_game max_players ∷ cs) h = (tt, heard_any o cs h.1)
+heard_any o _ h = (tt, h.1)
 
 heard_append : (cs ds : List Contribution) (o : Option Place) → AreHeard o cs → AreHeard None ds → AreHeard o (cs ++ ds)
 heard_append [] ds o a b = heard_any o ds b

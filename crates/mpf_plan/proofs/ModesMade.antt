@@ -41,10 +41,7 @@ use Rattle.mpf_plan.proofs.Heard.{IsQuiet, AreQuiet, quiet_unknown, quiet_shot_s
 module _ (names : Names) where
   pub made-event : (which : ModeEvent) (m : ModeRows) → event_among (mode_of names m).mode.events which ≡ event_for names which m.name
   made-event WillStart m = refl
-  made-event Starting m = refl
-  made-event Started m = refl
-  made-event Stopping m = refl
-  made-event Stopped m = refl
+  made-event _ m = refl
 
   -- ---- one contribution
 
@@ -191,8 +188,7 @@ module _ (names : Names) where
       by : (b : Bool) → modes_of (if b then ball_device_row destination (ball_device_of e) else entry Machine name e) ≡ []
       by true = refl
       by false = refl
-  none_other destination Control name e = refl
-  none_other destination Mode name e = refl
+  none_other destination _ name e = refl
 
   module _ (rows : Rows) (place : Place) (seat : List ℕ → Option Seat) (destination : List ℕ → Destination) where
     none_entry : (name : List ℕ) (e : Entry) → modes_of (entry_row rows place seat destination name e) ≡ []
@@ -206,8 +202,7 @@ module _ (names : Names) where
     none_from : (name : List ℕ) (content : Content) → flat_map modes_of (rows_from rows place seat destination name content) ≡ []
     none_from name (entries es) = none_mapped (entry_row rows place seat destination name) (none_entry name) es
     none_from name (players ps) = none_mapped (player place name) (λ p. refl) ps
-    none_from name (sections.entry e) = refl
-    none_from name (sections.listed ws) = refl
+    none_from name _ = refl
 
     none_in : (ss : List SectionRows) → flat_map modes_of (rows_in rows place seat destination ss) ≡ []
     none_in [] = refl

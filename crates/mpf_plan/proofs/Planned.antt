@@ -2,7 +2,6 @@
 use Rattle.std.proofs.Common.{◌≡◌, ◌<◌, ◌≤◌, false, List, length, sym, ◌∙◌, ap, subst, arith}
 use Rattle.std.specs.Prelude.{Result, Ok, Err}
 use Rattle.std.specs.List.{All}
-use Rattle.std.proofs.lemmas.List.Elements.{All-weaker}
 use Rattle.mpf_sections.specs.Rows.{SectionRows}
 use Rattle.mpf_config.specs.Rows.{Rows}
 use Rattle.mpf_config.specs.Short.{AreListsShort}
@@ -16,7 +15,7 @@ use Rattle.plan_tables.specs.declared.table.Table.TheVariants.{Coils}
 use Rattle.mpf_plan.specs.declared.fault.PlanFault.{PlanFault}
 use Rattle.mpf_plan.specs.declared.fault.PlanFault.TheVariants as faults
 use Rattle.plan_tables.specs.PlanView.{PlanView}
-use Rattle.plan_tables.specs.Valid.{IsBindingWithin, IsValid}
+use Rattle.plan_tables.specs.Valid.{IsValid}
 use Rattle.plan_contributions.specs.Contributions.{Contribution}
 use Rattle.row_contributions.specs.Contributions.{given_by, contributions_of}
 use Rattle.plan_rows.specs.Rows.{rows_of}
@@ -116,7 +115,3 @@ pub lists_within : (rows : Rows) (machine : List SectionRows) (rs made_of : List
 lists_within rows machine rs made_of text are again short few =
     let same : given_by machine (row_list_view made_of) ≡ contributions_of rows = λ i. given_by (text i) ((ap row_list_view again ∙ are) i) in
     omega (arith, few, lists_few (contributions_of rows) (rows_are_limited rows short), ap lists_count same, ap row_count same)
-
--- each binding is of an event of the plan
-pub events_bound : (plan : PlanView) → IsValid plan → All (λ b. b.event.0 < length plan.events) plan.bindings
-events_bound plan valid = All-weaker (IsBindingWithin plan) (λ b. b.event.0 < length plan.events) (λ b h. h.0) plan.bindings valid.entries.bindings

@@ -1,22 +1,21 @@
 -- Where a contribution speaks of an event whose name it does not use, another contribution uses that name; and what is said
 -- of the game is within its limits.
-use Rattle.std.proofs.Common.{◌≡◌, ℕ, zero, suc, ◌+◌, ◌<◌, ◌≤◌, Bool, true, false, if◌then◌else◌, ◌||◌, ◌&&◌, nat_le, List, [], ◌∷◌, ◌++◌, length, map, get_or, codes, refl, ◌∙◌, ap, arith}
-use Rattle.std.specs.Prelude.{pos, Option, None, Some}
+use Rattle.std.proofs.Common.{◌≡◌, ℕ, suc, ◌+◌, ◌<◌, ◌≤◌, Bool, true, false, if◌then◌else◌, ◌||◌, ◌&&◌, List, [], ◌∷◌, ◌++◌, length, map, get_or, codes, refl, ◌∙◌, ap, arith}
+use Rattle.std.specs.Prelude.{Option, None, Some}
 use Rattle.std.specs.Str.{bytes_eq}
 use Rattle.std.specs.List.{All, flat_map, list_any}
-use Rattle.std.proofs.lemmas.Bool.{and_parts, leb-true, or_left, or_right}
+use Rattle.std.proofs.lemmas.Bool.{or_left, or_right}
 use Rattle.std.proofs.lemmas.Grind.{flat_map-append}
 use Rattle.std.proofs.lemmas.List.Elements.{All-nil, All-cons, All-append, All-map, All-weaker, All-head, All-tail, All-from_get_or, All-from_recursion}
 use Rattle.std.proofs.lemmas.List.Folds.{list_any-append, list_any_at}
 use Rattle.std.proofs.lemmas.Slice.Eq.{bytes_eq-Decides}
-use Rattle.section_tables.specs.Rows.{number, Value, one}
-use Rattle.mpf_sections.specs.Rows.{Entry, Player, Block, Flipper, VariableItem, VariablePlayer, Shot, ShotGroup, BallDevice, ModeSettings, SectionRows, Written}
+use Rattle.mpf_sections.specs.Rows.{Entry, Player, BlockEvents, Flipper, VariableItem, VariablePlayer, Shot, ShotGroup, BallDevice, ModeSettings, SectionRows, Written}
 use Rattle.mpf_config.specs.Rows.{Rows}
-use Rattle.mpf_sections.specs.Typed.{switches_name, event_player_name, counters_name, accruals_name, sequences_name, timers_name, switch_of, event_player_of, counter_of, step_block_of, timer_of, setting_of, row_or, content_named, natural_within}
+use Rattle.mpf_sections.specs.Typed.{switches_name, event_player_name, counters_name, accruals_name, sequences_name, timers_name, switch_of, event_player_of, counter_of, step_block_of, timer_of}
 use Rattle.mpf_sections.specs.TypedSaves.{ball_saves_name, multiballs_name, ball_save_of, multiball_of}
 use Rattle.mpf_sections.specs.TypedCoils.{coils_name, coil_player_name, flippers_name, autofire_coils_name, coil_of, coil_player_of, flipper_of}
-use Rattle.mpf_tables.specs.SectionTables as tables
-use Rattle.mpf_sections.specs.TypedGame.{variable_player_name, machine_section_name, game_name, variable_player_of, game_of, min_balls_of}
+use Rattle.mpf_sections.specs.TypedGame.{variable_player_name, game_name, variable_player_of, game_of, min_balls_of}
+use Rattle.mpf_sections.proofs.GameRows.{game_in_range, min_balls_few}
 use Rattle.machine_definitions.specs.GameEvents.{game_event_names}
 use Rattle.machine_definitions.specs.Players.{player_event}
 use Rattle.plan_rows.specs.declared.place.Place.{Place}
@@ -44,6 +43,7 @@ use Rattle.mpf_plan.specs.Uses.{names_from, number_among}
 use Rattle.mpf_plan.proofs.Among.{place_within}
 use Rattle.mpf_plan.proofs.Lacking.{any_first}
 use Rattle.mpf_plan.proofs.Usual.{IsUsual, of_switch, of_bound, of_player, of_coil_player, of_device, of_unknown, of_shot_switch, of_acts_at, of_controls}
+use Rattle.section_tables.specs.Rows.{number, one}
 
 -- what happens with balls is in one of seven lists
 abbrev pub IsLow : ℕ → Effect → Type 0
@@ -184,7 +184,7 @@ all_posts : (ns : List (List ℕ)) → All IsPlainEffect (map posts ns)
 all_posts [] = no_effects
 all_posts (n ∷ ns) = All-cons IsPlainEffect (posts n) (map posts ns) tt (all_posts ns)
 
-of_block : (name : List ℕ) (b : Block) → ArePlain (block_lists name b)
+of_block : (name : List ℕ) (b : BlockEvents) → ArePlain (block_lists name b)
 of_block name b =
     let own = posts (block_event name (codes "_updated")) in
     let hit = or_own b.hit (block_event name (codes "_hit")) in
@@ -223,7 +223,7 @@ plain_save : (section : List ℕ) (e : Entry) → IsPlainDevice (save_device_of 
 unfolding save_device_of
 plain_save section e =
     when (bytes_eq section ball_saves_name) _ _ (of_save (ball_save_of e).name.text)
-    (when (bytes_eq section multiballs_name) _ None (of_multiball (multiball_of e).name.text (multiball_of e).balls) tt)
+    (when (bytes_eq section multiballs_name) _ None (of_multiball (multiball_of e).name.text (multiball_of e).settings.balls) tt)
 
 plain_device : (section : List ℕ) (e : Entry) → IsPlainDevice (device_of section e)
 unfolding device_of
@@ -365,26 +365,15 @@ ready_ball_device machine d to =
 
 -- ---- the game
 
-within_range : (least greatest otherwise : ℕ) → least ≤ otherwise → otherwise ≤ greatest → (o : Option Value) → (least ≤ natural_within least greatest otherwise o) × (natural_within least greatest otherwise o ≤ greatest)
-within_range least greatest otherwise low high (Some (one (number (pos n)))) = by (nat_le least n && nat_le n greatest) refl
-  where
-    by : (b : Bool) → (nat_le least n && nat_le n greatest) ≡ b → (least ≤ (if b then n else otherwise)) × ((if b then n else otherwise) ≤ greatest)
-    by true is = let parts = and_parts (nat_le least n) (nat_le n greatest) is in (leb-true least n parts.0, leb-true n greatest parts.1)
-    by false is = (low, high)
-within_range least greatest otherwise low high _ = (low, high)
-
 rules_within : (machine : List SectionRows) (e : Entry) → AreRules (min_balls_of machine) (game_of e).balls_per_game (game_of e).max_players
-unfolding game_of
 rules_within machine e =
-    let balls = within_range 1 99 3 (omega arith) (omega arith) (setting_of tables.game (codes "balls_per_game") e.values) in
-    let players = within_range 1 4 4 (omega arith) (omega arith) (setting_of tables.game (codes "max_players") e.values) in
-    let home = setting_of tables.machine (codes "min_balls") (row_or tables.machine (content_named machine_section_name machine)) in
+    let game = game_in_range e in
     record {
-      min_balls_within = (within_range 0 99 1 (omega arith) (omega arith) home).1;
-      some_ball = balls.0;
-      balls = balls.1;
-      some_player = players.0;
-      players = players.1;
+      min_balls_within = min_balls_few machine;
+      some_ball = game.some_balls;
+      balls = game.few_balls;
+      some_player = game.some_players;
+      players = game.few_players;
     }
 
 mentioned_uses : (ns : List (List ℕ)) → uses Events (map (mentions Events) ns) ≡ ns
@@ -452,8 +441,7 @@ ready_alone machine Machine section e = by (bytes_eq section game_name)
     by : (b : Bool) → AreReady (if b then game_contributions machine (game_of e) else [])
     by true = ready_game machine e
     by false = All-nil (IsReady (IsUsed []))
-ready_alone machine Control section e = All-nil (IsReady (IsUsed []))
-ready_alone machine Mode section e = All-nil (IsReady (IsUsed []))
+ready_alone machine _ section e = All-nil (IsReady (IsUsed []))
 
 ready_player_entry : (machine : List SectionRows) (place : Place) (section : List ℕ) (p : Player) → AreReady (player_entry_contributions machine place section p)
 unfolding player_entry_contributions
@@ -466,12 +454,8 @@ ready_player_entry machine place section p = by (bytes_eq section event_player_n
     by false false false = All-nil (IsReady (IsUsed []))
 
 events_plain : (name : List ℕ) (s : ModeSettings) → All IsPlain (mode name s.priority s.game s.holds_ball_end ∷ later_events name)
-events_plain name s zero d within = tt
-events_plain name s (suc zero) d within = tt
-events_plain name s (suc (suc zero)) d within = tt
-events_plain name s (suc (suc (suc zero))) d within = tt
-events_plain name s (suc (suc (suc (suc zero)))) d within = tt
 events_plain name s (suc (suc (suc (suc (suc i))))) d within = absurd (omega (arith, within))
+events_plain name s _ d within = tt
 
 ready_row : (machine : List SectionRows) (r : Row) → AreReady (row_contributions machine r)
 unfolding mode_contributions

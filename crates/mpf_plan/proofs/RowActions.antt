@@ -15,7 +15,7 @@ use Rattle.plan_tables.specs.declared.entries.Action.{Action}
 use Rattle.plan_tables.specs.declared.entries.Binding.{Binding}
 use Rattle.plan_tables.specs.declared.entries.ListId.{ListId}
 use Rattle.plan_tables.specs.declared.entries.Target.{Target}
-use Rattle.plan_tables.specs.declared.entries.Target.TheVariants.{Run, Start, Stop, Act}
+use Rattle.plan_tables.specs.declared.entries.Target.TheVariants.{Run}
 use Rattle.plan_tables.specs.declared.table.Table.TheVariants.{Events}
 use Rattle.plan_tables.specs.PlanView.{no_row}
 use Rattle.plan_contributions.specs.Effects.{pulse, enable, disable, Effect, posts, works, changes, requests, adds_balls}
@@ -152,9 +152,7 @@ module _ (names : Names) where
     run_kept : (new : List (List Action)) → length lists ≤ length new → ((i : ℕ) → i < length lists → (i < first) ⊎ (end ≤ i) → All BooksNothing (get_or lists i []) → All BooksNothing (get_or new i []))
         → (t : Target) → IsRunOfNone first end lists t → IsRunOfNone first end new t
     run_kept new more keeps (Run l) h = let within = h.0 in (omega (arith, within, more), h.1, keeps l.0 within h.1 h.2)
-    run_kept new more keeps (Start m) h = tt
-    run_kept new more keeps (Stop m) h = tt
-    run_kept new more keeps (Act r act) h = tt
+    run_kept new more keeps _ h = tt
 
     earlier_kept : (new : List (List Action)) → ((i : ℕ) → i < first → get_or new i [] ≡ get_or lists i []) → (r : ℕ) → suc r < length rows → IsMadeRow rows firsts new first r
     earlier_kept new same r within =
@@ -277,9 +275,7 @@ module _ (names : Names) where
       run_then (Run l) h =
           let within = h.0 in
           (omega (arith, within, length-append lists (replicate (list_count settings) [])), inl within, subst (All BooksNothing) (sym (get_or_append_left lists (replicate (list_count settings) []) [] l.0 within)) h.2)
-      run_then (Start m) h = tt
-      run_then (Stop m) h = tt
-      run_then (Act r act) h = tt
+      run_then _ h = tt
 
       pub made_device : IsRight o → AreMade 1024 (Some (first_row place settings)) rows_then firsts_then lists_then bindings
       made_device right = record {

@@ -32,9 +32,9 @@ use Rattle.plan_tables.specs.declared.devices.Settings.TheVariants as kinds
 use Rattle.plan_tables.specs.Devices.{list_count}
 use Rattle.plan_tables.specs.PlanView.{PlanSwitch, PlanCoil, PlanMode, no_binding, no_mode, no_row, row_at, list_of_row, target_in, target_of, PlanView}
 use Rattle.plan_tables.specs.Valid.{IsEventWithin, IsSwitchWithin, IsListenerWithin, IsModeWithin, IsActionWithin, IsOwnerWithin, IsTargetWithin, IsConditionWithin, IsBindingWithin, IsGameWithin, IsTargetThere, IsRowWithin, HasGame, HasEntries}
-use Rattle.plan_contributions.specs.Effects.{pulse, enable, disable, Effect, posts, works, changes, enters, leaves, loses, arrives, requests, adds_balls}
+use Rattle.plan_contributions.specs.Effects.{pulse, enable, disable, Effect, posts, works, changes, enters}
 use Rattle.plan_contributions.specs.UsedNames.{used_by}
-use Rattle.plan_contributions.specs.Contributions.{Contribution, gives, reads, active, inactive, mode, mode_event, mode_event_name, binds, does, device, does_in, listens, mentions, unknown, coil, under, plays}
+use Rattle.plan_contributions.specs.Contributions.{Contribution, gives, reads, active, inactive, mode, mode_event, mode_event_name, binds, does, device, does_in, listens, coil, under, plays}
 use Rattle.mpf_plan.specs.Uses.{Names, names_from, number_among}
 use Rattle.mpf_plan.specs.Filling.{DraftView, last_row, new_mode, with_event_in, with_mode, with_mode_event, last_mode, target_at, next_binding, lists_for, with_list_for, with_binding, next_row, next_list, with_device, with_one_more, conditioned, last_conditioned, with_condition, with_game, with_contribution, blank, drafted}
 use Rattle.mpf_plan.specs.ByNumber.{event_of, action_of, owner_at, first_of_last, condition_of, rules_of}
@@ -88,9 +88,8 @@ module _ (count : ℕ) (p q : PlanView) (grows : Grows p q) where
 
   target_grows : (t : Target) → IsTargetWithin p t → IsTargetWithin q t
   target_grows (targets.Run l) within = omega (arith, within, grows.lists)
-  target_grows (targets.Start m) within = omega (arith, within, grows.modes)
-  target_grows (targets.Stop m) within = omega (arith, within, grows.modes)
   target_grows (targets.Act r act) within = omega (arith, within, grows.rows)
+  target_grows _ within = omega (arith, within, grows.modes)
 
   condition_grows : (o : Option Condition) → IsConditionWithin p o → IsConditionWithin q o
   condition_grows None within = tt
@@ -261,10 +260,9 @@ module _ (names : Names) (final : List DeviceRow) (d : DraftView) (sound : IsSou
     target_within : (aim : Aim) (owner : Owner) (plan : PlanView) → IsOpenAim n aim → IsOwnTarget plan.rows owner (target_at d.plan aim) → length plan.modes ≡ length d.plan.modes → plan.lists ≡ lists_for aim d.plan.lists
         → IsTargetWithin plan (target_at d.plan aim)
     target_within aims.Run owner plan opened own same lists = omega (arith, ap length lists, length_push d.plan.lists [])
-    target_within aims.Start owner plan opened own same lists = omega (arith, few, opened, same)
-    target_within aims.Stop owner plan opened own same lists = omega (arith, few, opened, same)
     target_within (aims.Do act) owner plan opened own same lists = own.0
     target_within (aims.On r act) owner plan opened own same lists = own.0
+    target_within _ owner plan opened own same lists = omega (arith, few, opened, same)
 
     longer : (aim : Aim) → length d.plan.lists ≤ length (lists_for aim d.plan.lists)
     longer aims.Run = omega (arith, length_push d.plan.lists [])
@@ -321,11 +319,10 @@ module _ (names : Names) (final : List DeviceRow) (d : DraftView) (sound : IsSou
     sound_one (device place settings) own opened known = device_sound place settings opened own
     sound_one (does_in k e) own opened known = action_sound ((first_of_last d.plan.row_lists).0 + k) (action_of names (last_row d.plan) e)
     sound_one (listens k x) own opened known = same_sound (with_contribution names d (listens k x)).plan.switches d.plan.coils d.plan.lists (omega arith)
-    sound_one (mentions t x) own opened known = sound
-    sound_one unknown own opened known = sound
     sound_one (coil x limits) own opened known = same_sound d.plan.switches (with_contribution names d (coil x limits)).plan.coils d.plan.lists (omega arith)
     sound_one (under c) own opened known = condition_sound (condition_of names c) (subst (λ vs. number_among (names Variables) c.variable < length vs) (sym sound.variables) known)
     sound_one (plays min_balls balls_per_game max_players) own opened known = game_sound (rules_of (names Events) min_balls balls_per_game max_players)
+    sound_one _ own opened known = sound
 
 -- ---- all contributions
 
@@ -379,11 +376,7 @@ module _ (names : Names) where
     effect_known (works x disable) known ready drains r = known
     effect_known (changes v action n) known ready drains r = (known, ready)
     effect_known (enters x drain) known ready drains r = (known, drains)
-    effect_known leaves known ready drains r = tt
-    effect_known loses known ready drains r = tt
-    effect_known arrives known ready drains r = tt
-    effect_known (requests n) known ready drains r = tt
-    effect_known (adds_balls n) known ready drains r = tt
+    effect_known _ known ready drains r = tt
 
     done_known : (c : Contribution) → IsKnown names c → IsReady (IsNumberedIn (names Events)) c → DrainsWell game c → IsMet (IsEventWithin (length (names Events))) IsNumbered names c
     done_known (active x) known ready drains = known
@@ -395,9 +388,6 @@ module _ (names : Names) where
     action_within : (plan : PlanView) → length plan.events ≡ length (names Events) → length plan.coils ≡ length (names Coils) → length plan.variables ≡ length (names Variables) → (game ≡ true → HasGame plan)
         → (a : Action) → IsNumbered a → IsOfRows (length plan.rows) a → IsActionWithin plan a
     action_within plan events coils variables has (Post e) within there = omega (arith, within, events)
-    action_within plan events coils variables has (Pulse c ms power) within there = omega (arith, within, coils)
-    action_within plan events coils variables has (Enable c power) within there = omega (arith, within, coils)
-    action_within plan events coils variables has (Disable c) within there = omega (arith, within, coils)
     action_within plan events coils variables has (Change v action n e) within there =
         let variable = within.0 in
         let event = within.1 in
@@ -410,6 +400,7 @@ module _ (names : Names) where
     action_within plan events coils variables has (Arrive r) within there = there
     action_within plan events coils variables has (Request n) within there = tt
     action_within plan events coils variables has (AddBalls n) within there = tt
+    action_within plan events coils variables has _ within there = omega (arith, within, coils)
 
 -- what contributions make is sound, where a mode came before what is of one, and a row before what acts on it
 pub sound_drafted : (cs : List Contribution) → AreOpened 0 cs → ArePlaced None cs → AreAimed (row_places 0 cs) 0 cs → AreHeard None cs → All (HasTarget (row_settings cs)) cs

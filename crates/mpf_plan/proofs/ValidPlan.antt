@@ -25,7 +25,7 @@ use Rattle.plan_tables.specs.declared.table.Table.TheVariants as tables
 use Rattle.plan_tables.specs.PlanView.{no_coil, PlanView, coil_at, row_at}
 use Rattle.plan_tables.specs.Devices.{IsWithinLimits, list_count}
 use Rattle.plan_tables.specs.Valid.{IsCoilWithin, IsValid, HasEntries}
-use Rattle.plan_contributions.specs.Contributions.{Contribution, gives, reads, active, inactive, mode, mode_event, binds, does, device, does_in, listens, mentions, unknown, coil, under, plays}
+use Rattle.plan_contributions.specs.Contributions.{Contribution, gives, reads, active, inactive, mode, mode_event, binds, does, device, does_in, listens, coil, under, plays}
 use Rattle.row_contributions.specs.Contributions.{contributions_of}
 use Rattle.mpf_plan.specs.Uses.{Names, names_from, number_among, lacks_name}
 use Rattle.mpf_plan.specs.ByName.{latest_limits, AreLimitsByName, ListenersAreOwn}
@@ -182,11 +182,10 @@ module _ (names : Names) where
   fit_one n f d (device place settings) room fit = fit_device n f d.plan fit (d.plan.rows ++ next_row d.plan place settings ∷ []) (list_count settings)
   fit_one n f d (does_in k e) room fit = fit_in n f d.plan fit k (action_of names (last_row d.plan) e) room
   fit_one n f d (listens k e) room fit = record { lists = fit.lists; last = fit.last; in_row = fit.in_row }
-  fit_one n f d (mentions t e) room fit = fit
-  fit_one n f d unknown room fit = fit
   fit_one n f d (coil e limits) room fit = record { lists = fit.lists; last = fit.last; in_row = fit.in_row }
   fit_one n f d (under c) room fit = record { lists = fit.lists; last = fit.last; in_row = fit.in_row }
   fit_one n f d (plays min_balls balls_per_game max_players) room fit = record { lists = fit.lists; last = fit.last; in_row = fit.in_row }
+  fit_one n f d _ room fit = fit
 
   fit_fold : (n : ℕ) (f : ℕ → ℕ) (cs : List Contribution) (d : DraftView) → AreShort n f cs → AreFit n f d.plan
       → All (λ actions. length actions ≤ 1024) (fold (with_contribution names) d cs).plan.lists

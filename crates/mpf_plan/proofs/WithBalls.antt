@@ -23,7 +23,7 @@ use Rattle.plan_tables.specs.declared.entries.Target.{Target}
 use Rattle.plan_tables.specs.declared.entries.Target.TheVariants.{Run, Start, Stop, Act}
 use Rattle.plan_tables.specs.declared.table.Table.TheVariants.{Events, Switches}
 use Rattle.plan_contributions.specs.Effects.{Effect, posts, works, changes, enters, leaves, loses, arrives, requests, adds_balls}
-use Rattle.plan_contributions.specs.Contributions.{Contribution, gives, reads, active, inactive, mode, mode_event, binds, does, device, does_in, listens, mentions, unknown, coil, under, plays}
+use Rattle.plan_contributions.specs.Contributions.{Contribution, gives, reads, active, inactive, binds, does, device, does_in, listens, mentions, unknown, under}
 use Rattle.row_contributions.specs.Contributions.{contributions_of}
 use Rattle.row_contributions.specs.BallFacts.{IsOfNoBall, IsRightRow, LastRow, with_switch, with_effect, last_after, IsRight, IfRow, IsOffBallsAt, IsFitting, AreFitting, row_settings, ActsOffBalls, heard_after, IsHeardOnce, AreHeardOnce}
 use Rattle.row_contributions.specs.Facts.{effects_after, effects_in_after, full, IsRoomy, AreShort, IsPlaceOf, IsOfMachine}
@@ -132,10 +132,6 @@ abbrev heard_of : Option LastRow → ℕ
 heard_of None = 0
 heard_of (Some x) = x.heard
 
-heard_still : (k : ℕ) (e : Effect) (o : Option LastRow) → heard_of (option_map (with_effect k e) o) ≡ heard_of o
-heard_still k e None = refl
-heard_still k e (Some x) = refl
-
 -- what a binding does is done to no ball device of these rows
 abbrev IsActOfNone : List DeviceRow → Target → Type 0
 IsActOfNone rows (Act r act) = IsNoBallDevice (settings_at rows r.0)
@@ -176,11 +172,9 @@ module _ (names : Names) where
           subst IsNoBallDevice (sym at) off
 
       act_off : (rest : List DeviceRow) → final ≡ d.plan.rows ++ rest → (m : List ℕ) (place : Place) (aim : Aim) → IsOffBallsAt o aim → ActsOffBalls (settings_of final) (binds m place aim) → IsActOfNone final (target_at d.plan aim)
-      act_off rest all m place aims.Run at off = tt
-      act_off rest all m place aims.Start at off = tt
-      act_off rest all m place aims.Stop at off = tt
       act_off rest all m place (aims.Do act) at off = act_last rest all o own.made at
       act_off rest all m place (aims.On r act) at off = act_on r off
+      act_off rest all m place _ at off = tt
 
       abbrev first : ℕ
       first = (first_of_last d.plan.row_lists).0
@@ -271,12 +265,9 @@ module _ (names : Names) where
         acts = All-changed (λ b. IsActOfNone final b.target) (conditioned (condition_of names c)) d.plan.bindings (length d.plan.bindings - 1) no_binding (λ b h. h) own.acts;
         listening = own.listening;
       }
-      so_far_one (mode m priority game holds) room fits once off known ready = record { made = own.made; acts = own.acts; listening = own.listening }
-      so_far_one (mode_event which m) room fits once off known ready = record { made = own.made; acts = own.acts; listening = own.listening }
       so_far_one (mentions t m) room fits once off known ready = own
       so_far_one unknown room fits once off known ready = own
-      so_far_one (coil m limits) room fits once off known ready = record { made = own.made; acts = own.acts; listening = own.listening }
-      so_far_one (plays min_balls balls_per_game max_players) room fits once off known ready = record { made = own.made; acts = own.acts; listening = own.listening }
+      so_far_one _ room fits once off known ready = record { made = own.made; acts = own.acts; listening = own.listening }
 
     -- ---- all contributions
 

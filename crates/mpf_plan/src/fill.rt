@@ -16,13 +16,13 @@ ghost use Rattle.mpf_plan.specs.Drafting.{given_by_rows, event_called, game_even
 use crate::draft::Draft;
 use crate::numbering::number_among;
 use machine_definitions::{Definitions, GAME_EVENT_NAMES};
+use machine_settings::Contact;
 use plan_contributions::{Aim, Contribution, Deed, Effect, Parts, player_event, whole};
 use plan_rows::{Place, Row};
 use plan_tables::devices::{DeviceRow, RowId, Settings};
 use plan_tables::entries::{
-    Action, Binding, CoilId, CoilLimits, Condition, Contact, EventId, GameRules, ListId, Listener,
-    Mode, ModeEntry, ModeEvent, ModeEvents, ModeId, Owner, SwitchEntry, SwitchKind, Target,
-    VariableId,
+    Action, Binding, CoilId, CoilLimits, Condition, EventId, GameRules, ListId, Listener, Mode,
+    ModeEntry, ModeEvent, ModeEvents, ModeId, Owner, SwitchEntry, SwitchKind, Target, VariableId,
 };
 use plan_tables::names::NameSets;
 use plan_tables::table::Table;

@@ -3,20 +3,23 @@ use Rattle.std.proofs.Common.{◌≡◌, ℕ, ◌≤◌, nat_le, Bool, true, fal
 use Rattle.std.specs.List.{All, AllByRecursion}
 use Rattle.std.proofs.lemmas.Bool.{leb-true}
 use Rattle.std.proofs.lemmas.List.{length-map}
-use Rattle.std.proofs.lemmas.List.Elements.{All-nil, All-cons, All-map, All-weaker}
+use Rattle.std.proofs.lemmas.List.Elements.{All-nil, All-cons}
 use Rattle.mpf_values.specs.Names.{IsName}
-use Rattle.section_tables.specs.Rows.{Plain, nothing, flag, number, time, power, word, name, event, Keyed, Value, one, names, posts, events, steps, maps, keyed, Entry, Player}
+use Rattle.section_tables.specs.Rows.{Plain, time, power, Keyed, Value, one, keyed, Entry, Player}
 use Rattle.section_tables.specs.Named.{IsNamedKeyed, IsNamedValue, IsNamedEntry, IsNamedPlayer, IsShortEntry, IsShortPlayer}
+use Rattle.mpf_tables.specs.SectionTables as tables
 use Rattle.mpf_sections.specs.Rows.{Written, CoilItem, SectionRows}
 use Rattle.mpf_sections.specs.Typed.{text_of, flag_of, listed_keyed, name_in, pulse_in, power_in, entries_of, players_of}
 use Rattle.mpf_sections.specs.TypedCoils.{coils_name, coil_player_name, flippers_name, autofire_coils_name, max_hold_power, coil_of, coil_item_of, coil_player_of, flipper_of, autofire_of, coils_in, coil_players_in, flippers_in, autofires_in}
+use Rattle.mpf_sections.specs.TypedNumbers.{time_under}
 use Rattle.mpf_sections.specs.Inside.{needed_at}
 use Rattle.mpf_sections.specs.Named.{IsNamedCoil, IsNamedCoilPlayer, IsNamedFlipper, IsNamedAutofire, IsNamed}
 use Rattle.mpf_sections.specs.Short.{IsPulseInRange, IsPowerInRange, IsCoilInRange, IsItemInRange, IsShortCoilPlayer, IsCoilPlayerInRange, IsShortFlipper, IsShortAutofire, IsShortSection}
-use Rattle.mpf_sections.proofs.Each.{all_mapped}
+use Rattle.mpf_sections.proofs.Each.{all_mapped, made_each}
 use Rattle.mpf_sections.proofs.RowNames.{IsNamedOption, value_at_named, events_named, event_named, entries_of_named, players_of_named}
 use Rattle.mpf_sections.proofs.ShortRows.{IsShortOption, none_short, value_at_short, events_short, entries_of_short, players_of_short}
 use Rattle.mpf_sections.proofs.DeviceRows.{IsNamedText, IsNamedWritten, name_in_named}
+use Rattle.mpf_sections.proofs.NumberRows.{time_in_range}
 
 -- ---- names
 
@@ -33,13 +36,8 @@ items_named [] h = All-nil HasName
 items_named (k ∷ ks) h = All-cons HasName (coil_item_of k) (map coil_item_of ks) h.0.0 (items_named ks h.1)
 
 keyed_named : (v : Value) → IsNamedValue v → All HasName (map coil_item_of (listed_keyed (Some v)))
-keyed_named (one x) h = All-nil HasName
-keyed_named (names xs) h = All-nil HasName
-keyed_named (posts xs) h = All-nil HasName
-keyed_named (events xs) h = All-nil HasName
-keyed_named (steps ss) h = All-nil HasName
-keyed_named (maps ms) h = All-nil HasName
 keyed_named (keyed ks) h = items_named ks h
+keyed_named _ h = All-nil HasName
 
 -- The names in an entry of `coil_player` are names.
 pub coil_player_named : (p : Player) → IsNamedPlayer p → IsNamedCoilPlayer (coil_player_of p)
@@ -47,14 +45,8 @@ unfolding coil_player_of
 coil_player_named p h = record { event = event_named p.event h.event; items = keyed_named p.value h.value }
 
 text_named : (o : Option Value) → IsNamedOption o → IsNamedText (text_of o)
-text_named None h = tt
 text_named (Some (one x)) h = h
-text_named (Some (names xs)) h = tt
-text_named (Some (posts xs)) h = tt
-text_named (Some (events xs)) h = tt
-text_named (Some (steps ss)) h = tt
-text_named (Some (maps ms)) h = tt
-text_named (Some (keyed ks)) h = tt
+text_named _ h = tt
 
 pub written_named : (e : Entry) (i : ℕ) → IsNamedEntry e → IsNamedWritten (name_in (text_of (slice_get e.values i)))
 written_named e i h = name_in_named (text_of (slice_get e.values i)) (text_named (slice_get e.values i) (value_at_named e.values i h.values))
@@ -96,62 +88,37 @@ autofire_named e h = record {
 -- so they are in a section
 pub coils_named : (s : SectionRows) → IsNamed s → All IsNamedCoil (coils_in s)
 unfolding coils_in
-coils_named s h =
-    let es = entries_of coils_name s in
-    All-map IsNamedCoil coil_of es (All-weaker IsNamedEntry (λ e. IsNamedCoil (coil_of e)) coil_named es (entries_of_named coils_name s h))
+coils_named s h = made_each IsNamedCoil coil_of coil_named (entries_of coils_name s) (entries_of_named coils_name s h)
 
 pub coil_players_named : (s : SectionRows) → IsNamed s → All IsNamedCoilPlayer (coil_players_in s)
 unfolding coil_players_in
-coil_players_named s h =
-    let ps = players_of coil_player_name s in
-    All-map IsNamedCoilPlayer coil_player_of ps
-    (All-weaker IsNamedPlayer (λ p. IsNamedCoilPlayer (coil_player_of p)) coil_player_named ps (players_of_named coil_player_name s h))
+coil_players_named s h = made_each IsNamedCoilPlayer coil_player_of coil_player_named (players_of coil_player_name s) (players_of_named coil_player_name s h)
 
 pub flippers_named : (s : SectionRows) → IsNamed s → All IsNamedFlipper (flippers_in s)
 unfolding flippers_in
-flippers_named s h =
-    let es = entries_of flippers_name s in
-    All-map IsNamedFlipper flipper_of es (All-weaker IsNamedEntry (λ e. IsNamedFlipper (flipper_of e)) flipper_named es (entries_of_named flippers_name s h))
+flippers_named s h = made_each IsNamedFlipper flipper_of flipper_named (entries_of flippers_name s) (entries_of_named flippers_name s h)
 
 pub autofires_named : (s : SectionRows) → IsNamed s → All IsNamedAutofire (autofires_in s)
 unfolding autofires_in
-autofires_named s h =
-    let es = entries_of autofire_coils_name s in
-    All-map IsNamedAutofire autofire_of es
-    (All-weaker IsNamedEntry (λ e. IsNamedAutofire (autofire_of e)) autofire_named es (entries_of_named autofire_coils_name s h))
+autofires_named s h = made_each IsNamedAutofire autofire_of autofire_named (entries_of autofire_coils_name s) (entries_of_named autofire_coils_name s h)
 
 -- ---- ranges
 
 pulse_by : (ms : ℕ) (low high : Bool) → nat_le 1 ms ≡ low → nat_le ms 5000 ≡ high → IfSome (if low && high then Some ms else None) IsPulseInRange
 pulse_by ms true true least greatest = (leb-true 1 ms least, leb-true ms 5000 greatest)
-pulse_by ms true false least greatest = tt
-pulse_by ms false high least greatest = tt
+pulse_by ms _ _ least greatest = tt
 
 pulse_in_range : (o : Option Plain) → IfSome (pulse_in o) IsPulseInRange
-pulse_in_range None = tt
-pulse_in_range (Some nothing) = tt
-pulse_in_range (Some (flag b)) = tt
-pulse_in_range (Some (number n)) = tt
 pulse_in_range (Some (time ms)) = pulse_by ms (nat_le 1 ms) (nat_le ms 5000) refl refl
-pulse_in_range (Some (power n)) = tt
-pulse_in_range (Some (word w)) = tt
-pulse_in_range (Some (name w)) = tt
-pulse_in_range (Some (event h)) = tt
+pulse_in_range _ = tt
 
 power_by : (n : ℕ) (b : Bool) → nat_le n 1000 ≡ b → IfSome (if b then Some n else None) IsPowerInRange
 power_by n true h = leb-true n 1000 h
 power_by n false h = tt
 
 power_in_range : (o : Option Plain) → IfSome (power_in o) IsPowerInRange
-power_in_range None = tt
-power_in_range (Some nothing) = tt
-power_in_range (Some (flag b)) = tt
-power_in_range (Some (number n)) = tt
-power_in_range (Some (time ms)) = tt
 power_in_range (Some (power n)) = power_by n (nat_le n 1000) refl
-power_in_range (Some (word w)) = tt
-power_in_range (Some (name w)) = tt
-power_in_range (Some (event h)) = tt
+power_in_range _ = tt
 
 -- where something holds of a number if it is written, and of another one, it holds of the one that is taken
 taken : (P : ℕ → Type 0) (o : Option ℕ) (other : ℕ) → IfSome o P → P other → P (unwrap_or o other)
@@ -163,9 +130,6 @@ full = omega arith
 
 none : IsPowerInRange 0
 none = omega arith
-
-ten : IsPulseInRange 10
-ten = (omega arith, omega arith)
 
 hold_in_range : (written : Option ℕ) (allowed : Bool) (hold : Option ℕ) → IfSome written IsPowerInRange → IfSome hold IsPowerInRange
     → IsPowerInRange (max_hold_power written allowed hold)
@@ -179,9 +143,9 @@ unfolding coil_of
 coil_in_range e =
     let text : ℕ → Option Plain = λ i. text_of (slice_get e.values i) in
     let allowed : Bool = flag_of (slice_get e.values 4) in
-    let ms : ℕ = unwrap_or (pulse_in (text 0)) 10 in
+    let ms : ℕ = time_under (slice_get tables.coils 0) (slice_get e.values 0) in
     let greatest : ℕ = max_hold_power (power_in (text 6)) allowed (power_in (text 5)) in
-    let pulse_is : IsPulseInRange ms = taken IsPulseInRange (pulse_in (text 0)) 10 (pulse_in_range (text 0)) ten in
+    let pulse_is : IsPulseInRange ms = time_in_range (slice_get tables.coils 0) (slice_get e.values 0) refl in
     let greatest_is : IsPowerInRange greatest = hold_in_range (power_in (text 6)) allowed (power_in (text 5)) (power_in_range (text 6)) (power_in_range (text 5)) in
     record {
       pulse_ms = pulse_is;
@@ -207,14 +171,8 @@ coil_player_in_range p = all_mapped IsItemInRange coil_item_of item_in_range (li
 
 -- An entry of `coil_player` says of at most 1,024 coils what they do.
 pub keyed_short : (o : Option Value) → IsShortOption o → length (listed_keyed o) ≤ 1024
-keyed_short None h = none_short
-keyed_short (Some (one x)) h = none_short
-keyed_short (Some (names xs)) h = none_short
-keyed_short (Some (posts xs)) h = none_short
-keyed_short (Some (events xs)) h = none_short
-keyed_short (Some (steps xs)) h = none_short
-keyed_short (Some (maps xs)) h = none_short
 keyed_short (Some (keyed xs)) h = h.0
+keyed_short _ h = none_short
 
 pub coil_player_short : (p : Player) → IsShortPlayer 1024 p → IsShortCoilPlayer (coil_player_of p)
 unfolding coil_player_of
@@ -248,19 +206,12 @@ coil_players_in_range s = all_mapped IsCoilPlayerInRange coil_player_of coil_pla
 
 pub coil_players_short : (s : SectionRows) → IsShortSection s → All IsShortCoilPlayer (coil_players_in s)
 unfolding coil_players_in
-coil_players_short s h =
-    let ps = players_of coil_player_name s in
-    All-map IsShortCoilPlayer coil_player_of ps
-    (All-weaker (IsShortPlayer 1024) (λ p. IsShortCoilPlayer (coil_player_of p)) coil_player_short ps (players_of_short coil_player_name s h))
+coil_players_short s h = made_each IsShortCoilPlayer coil_player_of coil_player_short (players_of coil_player_name s) (players_of_short coil_player_name s h)
 
 pub flippers_short : (s : SectionRows) → IsShortSection s → All IsShortFlipper (flippers_in s)
 unfolding flippers_in
-flippers_short s h =
-    let es = entries_of flippers_name s in
-    All-map IsShortFlipper flipper_of es (All-weaker (IsShortEntry 1024) (λ e. IsShortFlipper (flipper_of e)) flipper_short es (entries_of_short flippers_name s h))
+flippers_short s h = made_each IsShortFlipper flipper_of flipper_short (entries_of flippers_name s) (entries_of_short flippers_name s h)
 
 pub autofires_short : (s : SectionRows) → IsShortSection s → All IsShortAutofire (autofires_in s)
 unfolding autofires_in
-autofires_short s h =
-    let es = entries_of autofire_coils_name s in
-    All-map IsShortAutofire autofire_of es (All-weaker (IsShortEntry 1024) (λ e. IsShortAutofire (autofire_of e)) autofire_short es (entries_of_short autofire_coils_name s h))
+autofires_short s h = made_each IsShortAutofire autofire_of autofire_short (entries_of autofire_coils_name s) (entries_of_short autofire_coils_name s h)

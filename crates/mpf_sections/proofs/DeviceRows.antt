@@ -2,20 +2,21 @@
 use Rattle.std.proofs.Common.{◌≡◌, ℕ, zero, suc, ◌+◌, ◌≤◌, nat_le, ℤ, pos, negsuc, ◌≤ℤ◌, int_le, Bool, true, false, ◌&&◌, if◌then◌else◌, List, [], ◌∷◌, length, Option, Some, None, slice_get, refl, arith}
 use Rattle.std.specs.List.{All, AllByRecursion}
 use Rattle.std.proofs.lemmas.Bool.{leb-true}
-use Rattle.std.proofs.lemmas.List.Elements.{All-nil, All-cons, All-map, All-weaker, All-from_recursion}
+use Rattle.std.proofs.lemmas.List.Elements.{All-nil, All-cons, All-weaker, All-from_recursion}
 use Rattle.mpf_values.specs.Names.{IsName}
 use Rattle.std.proofs.lemmas.Int.{ints}
-use Rattle.section_tables.specs.Rows.{Plain, nothing, flag, number, time, power, word, name, event, Fields, Value, one, names, posts, events, steps, maps, keyed, Entry}
+use Rattle.section_tables.specs.Rows.{Plain, number, name, event, Fields, Value, one, steps, maps, Entry}
 use Rattle.section_tables.specs.Named.{IsNamedHandled, IsNamedPlain, AreNamedEvents, AreNamedPlains, IsNamedValue, IsNamedEntry, IsShortValue, IsShortEntry}
 use Rattle.section_tables.specs.EntryOf.{within}
-use Rattle.mpf_sections.specs.declared.words.Direction.{Direction}
-use Rattle.mpf_sections.specs.declared.words.Direction.TheVariants.{Up, Down}
+use Rattle.machine_settings.specs.declared.words.Direction.{Direction}
+use Rattle.machine_settings.specs.declared.words.Direction.TheVariants.{Up, Down}
 use Rattle.mpf_sections.specs.Rows.{Written, Handled, Control, SectionRows}
 use Rattle.mpf_sections.specs.Typed.{counters_name, accruals_name, sequences_name, timers_name, direction_of, word_of, limit_of, time_of, listed_steps, listed_maps, name_in, event_in, control_from, control_of, with_control, controls_of, end_from, interval_from, counter_of, step_block_of, timer_of, counters_in, accruals_in, sequences_in, timers_in, entries_of}
 use Rattle.mpf_sections.specs.Inside.{block_at}
+use Rattle.machine_settings.specs.Limits.{IsEndWithin}
 use Rattle.mpf_sections.specs.Named.{AllNamedEvents, IsNamedBlock, IsNamedCounter, IsNamedStepBlock, IsNamedTimer, IsNamed}
-use Rattle.mpf_sections.specs.Short.{IsEndInRange, IsShortBlock, IsShortCounter, IsShortStepBlock, IsShortTimer, IsShortSection}
-use Rattle.mpf_sections.proofs.Each.{all_where}
+use Rattle.mpf_sections.specs.Short.{IsShortBlock, IsShortCounter, IsShortStepBlock, IsShortTimer, IsShortSection}
+use Rattle.mpf_sections.proofs.Each.{all_where, made_each}
 use Rattle.mpf_sections.proofs.RowNames.{IsNamedOption, value_at_named, events_named, posts_named, entries_of_named}
 use Rattle.mpf_sections.proofs.ShortRows.{value_at_short, posts_short, entries_of_short}
 
@@ -44,14 +45,8 @@ all_steps : (ss : List (List Handled)) → AllByRecursion AreNamedEvents ss → 
 all_steps ss h = All-weaker AreNamedEvents AllNamedEvents (λ hs k. All-from_recursion IsNamedHandled hs k) ss (All-from_recursion AreNamedEvents ss h)
 
 steps_named : (o : Option Value) → IsNamedOption o → All AllNamedEvents (listed_steps o)
-steps_named None h = All-nil AllNamedEvents
-steps_named (Some (one x)) h = All-nil AllNamedEvents
-steps_named (Some (names xs)) h = All-nil AllNamedEvents
-steps_named (Some (posts xs)) h = All-nil AllNamedEvents
-steps_named (Some (events xs)) h = All-nil AllNamedEvents
 steps_named (Some (steps ss)) h = all_where AllNamedEvents (nat_le (length ss) 16) ss (all_steps ss h)
-steps_named (Some (maps xs)) h = All-nil AllNamedEvents
-steps_named (Some (keyed xs)) h = All-nil AllNamedEvents
+steps_named _ h = All-nil AllNamedEvents
 
 -- Those in an entry of `accruals` or `sequences` are, too.
 pub step_block_named : (e : Entry) → IsNamedEntry e → IsNamedStepBlock (step_block_of e)
@@ -79,30 +74,16 @@ IsNamedFound None = Unit {0}
 IsNamedFound (Some h) = IsNamedHandled h
 
 event_in_named : (o : Option Plain) → IsNamedText o → IsNamedFound (event_in o)
-event_in_named None h = tt
-event_in_named (Some nothing) h = tt
-event_in_named (Some (flag b)) h = tt
-event_in_named (Some (number n)) h = tt
-event_in_named (Some (time ms)) h = tt
-event_in_named (Some (power n)) h = tt
-event_in_named (Some (word w)) h = tt
-event_in_named (Some (name w)) h = tt
 event_in_named (Some (event e)) h = h
+event_in_named _ h = tt
 
 abbrev pub IsNamedWritten : Option Written → Type 0
 IsNamedWritten None = Unit {0}
 IsNamedWritten (Some w) = IsName w.text
 
 pub name_in_named : (o : Option Plain) → IsNamedText o → IsNamedWritten (name_in o)
-name_in_named None h = tt
-name_in_named (Some nothing) h = tt
-name_in_named (Some (flag b)) h = tt
-name_in_named (Some (number n)) h = tt
-name_in_named (Some (time ms)) h = tt
-name_in_named (Some (power n)) h = tt
-name_in_named (Some (word w)) h = tt
 name_in_named (Some (name w)) h = h
-name_in_named (Some (event e)) h = tt
+name_in_named _ h = tt
 
 one_control : (m : Fields) (o : Option Handled) → IsNamedFound o → (cs : List Control) → All HasNames cs → All HasNames (with_control (control_from m o) cs)
 one_control m None h cs rest = rest
@@ -115,14 +96,8 @@ controls_named (m ∷ ms) h =
     one_control m (event_in (slice_get m.values 0)) (event_in_named (slice_get m.values 0) (text_at_named m.values 0 h.0)) (controls_of ms) (controls_named ms h.1)
 
 maps_named : (o : Option Value) → IsNamedOption o → All HasNames (controls_of (listed_maps o))
-maps_named None h = All-nil HasNames
-maps_named (Some (one x)) h = All-nil HasNames
-maps_named (Some (names xs)) h = All-nil HasNames
-maps_named (Some (posts xs)) h = All-nil HasNames
-maps_named (Some (events xs)) h = All-nil HasNames
-maps_named (Some (steps ss)) h = All-nil HasNames
 maps_named (Some (maps ms)) h = controls_named ms h
-maps_named (Some (keyed xs)) h = All-nil HasNames
+maps_named _ h = All-nil HasNames
 
 -- Those in an entry of `timers` are, too.
 pub timer_named : (e : Entry) → IsNamedEntry e → IsNamedTimer (timer_of e)
@@ -132,27 +107,19 @@ timer_named e h = record { name = h.name; controls = maps_named (slice_get e.val
 -- so they are in a section
 pub counters_named : (s : SectionRows) → IsNamed s → All IsNamedCounter (counters_in s)
 unfolding counters_in
-counters_named s h =
-    let es = entries_of counters_name s in
-    All-map IsNamedCounter counter_of es (All-weaker IsNamedEntry (λ e. IsNamedCounter (counter_of e)) counter_named es (entries_of_named counters_name s h))
+counters_named s h = made_each IsNamedCounter counter_of counter_named (entries_of counters_name s) (entries_of_named counters_name s h)
 
 pub accruals_named : (s : SectionRows) → IsNamed s → All IsNamedStepBlock (accruals_in s)
 unfolding accruals_in
-accruals_named s h =
-    let es = entries_of accruals_name s in
-    All-map IsNamedStepBlock step_block_of es (All-weaker IsNamedEntry (λ e. IsNamedStepBlock (step_block_of e)) step_block_named es (entries_of_named accruals_name s h))
+accruals_named s h = made_each IsNamedStepBlock step_block_of step_block_named (entries_of accruals_name s) (entries_of_named accruals_name s h)
 
 pub sequences_named : (s : SectionRows) → IsNamed s → All IsNamedStepBlock (sequences_in s)
 unfolding sequences_in
-sequences_named s h =
-    let es = entries_of sequences_name s in
-    All-map IsNamedStepBlock step_block_of es (All-weaker IsNamedEntry (λ e. IsNamedStepBlock (step_block_of e)) step_block_named es (entries_of_named sequences_name s h))
+sequences_named s h = made_each IsNamedStepBlock step_block_of step_block_named (entries_of sequences_name s) (entries_of_named sequences_name s h)
 
 pub timers_named : (s : SectionRows) → IsNamed s → All IsNamedTimer (timers_in s)
 unfolding timers_in
-timers_named s h =
-    let es = entries_of timers_name s in
-    All-map IsNamedTimer timer_of es (All-weaker IsNamedEntry (λ e. IsNamedTimer (timer_of e)) timer_named es (entries_of_named timers_name s h))
+timers_named s h = made_each IsNamedTimer timer_of timer_named (entries_of timers_name s) (entries_of_named timers_name s h)
 
 -- ---- ranges
 
@@ -163,30 +130,17 @@ both false b e = absurd cc
 pub at_most : (a b : ℤ) → int_le a b ≡ true → a ≤ℤ b
 at_most a b h = grind (arith, ints, h)
 
-limit_by : (n : ℤ) (b : Bool) → within (negsuc 999999999) (pos 1000000000) n ≡ b → IsEndInRange (if b then Some n else None)
+limit_by : (n : ℤ) (b : Bool) → within (negsuc 999999999) (pos 1000000000) n ≡ b → IsEndWithin (if b then Some n else None)
 limit_by n true h =
     let a = both (int_le (negsuc 999999999) n) (int_le n (pos 1000000000)) h in
     (at_most (negsuc 999999999) n a.0, at_most n (pos 1000000000) a.1)
 limit_by n false h = tt
 
-limit_in_range : (o : Option Value) → IsEndInRange (limit_of o)
-limit_in_range None = tt
-limit_in_range (Some (one nothing)) = tt
-limit_in_range (Some (one (flag b))) = tt
+limit_in_range : (o : Option Value) → IsEndWithin (limit_of o)
 limit_in_range (Some (one (number n))) = limit_by n (within (negsuc 999999999) (pos 1000000000) n) refl
-limit_in_range (Some (one (time ms))) = tt
-limit_in_range (Some (one (power n))) = tt
-limit_in_range (Some (one (word w))) = tt
-limit_in_range (Some (one (name w))) = tt
-limit_in_range (Some (one (event h))) = tt
-limit_in_range (Some (names xs)) = tt
-limit_in_range (Some (posts xs)) = tt
-limit_in_range (Some (events xs)) = tt
-limit_in_range (Some (steps ss)) = tt
-limit_in_range (Some (maps ms)) = tt
-limit_in_range (Some (keyed ks)) = tt
+limit_in_range _ = tt
 
-end_in_range : (direction : Direction) (o : Option ℤ) → IsEndInRange o → IsEndInRange (end_from direction o)
+end_in_range : (direction : Direction) (o : Option ℤ) → IsEndWithin o → IsEndWithin (end_from direction o)
 end_in_range direction (Some n) h = h
 end_in_range Up None h = tt
 end_in_range Down None h = (at_most (negsuc 999999999) (pos 0) refl, at_most (pos 0) (pos 1000000000) refl)
@@ -203,14 +157,8 @@ no_steps : 0 ≤ 16
 no_steps = omega arith
 
 steps_few : (o : Option Value) → length (listed_steps o) ≤ 16
-steps_few None = no_steps
-steps_few (Some (one x)) = no_steps
-steps_few (Some (names xs)) = no_steps
-steps_few (Some (posts xs)) = no_steps
-steps_few (Some (events xs)) = no_steps
 steps_few (Some (steps ss)) = steps_by ss (nat_le (length ss) 16) refl
-steps_few (Some (maps ms)) = no_steps
-steps_few (Some (keyed ks)) = no_steps
+steps_few _ = no_steps
 
 block_short : (first : ℕ) (row : List Value) → All (IsShortValue 1024) row → IsShortBlock (block_at first row)
 block_short first row h = record {
@@ -221,7 +169,7 @@ block_short first row h = record {
 -- What a counter has is in its range, and so it is with what an accrual, a sequence or a timer has.
 pub counter_short : (e : Entry) → IsShortEntry 1024 e → IsShortCounter (counter_of e)
 unfolding counter_of
-counter_short e h = record { end = limit_in_range (slice_get e.values 3); block = block_short 6 e.values h }
+counter_short e h = record { settings = limit_in_range (slice_get e.values 3); block = block_short 6 e.values h }
 
 pub step_block_short : (e : Entry) → IsShortEntry 1024 e → IsShortStepBlock (step_block_of e)
 unfolding step_block_of
@@ -229,26 +177,20 @@ step_block_short e h = record { steps = steps_few (slice_get e.values 0); block 
 
 pub timer_in_range : (e : Entry) → IsShortTimer (timer_of e)
 unfolding timer_of
-timer_in_range e = record {
-  end = end_in_range (direction_of (word_of (slice_get e.values 2))) (limit_of (slice_get e.values 1)) (limit_in_range (slice_get e.values 1));
-  interval = interval_in_range (time_of (slice_get e.values 3));
-}
+timer_in_range e = (
+  interval_in_range (time_of (slice_get e.values 3)),
+  end_in_range (direction_of (word_of (slice_get e.values 2))) (limit_of (slice_get e.values 1)) (limit_in_range (slice_get e.values 1)),
+)
 
 -- so it is with those of a section
 pub counters_short : (s : SectionRows) → IsShortSection s → All IsShortCounter (counters_in s)
 unfolding counters_in
-counters_short s h =
-    let es = entries_of counters_name s in
-    All-map IsShortCounter counter_of es (All-weaker (IsShortEntry 1024) (λ e. IsShortCounter (counter_of e)) counter_short es (entries_of_short counters_name s h))
+counters_short s h = made_each IsShortCounter counter_of counter_short (entries_of counters_name s) (entries_of_short counters_name s h)
 
 pub accruals_short : (s : SectionRows) → IsShortSection s → All IsShortStepBlock (accruals_in s)
 unfolding accruals_in
-accruals_short s h =
-    let es = entries_of accruals_name s in
-    All-map IsShortStepBlock step_block_of es (All-weaker (IsShortEntry 1024) (λ e. IsShortStepBlock (step_block_of e)) step_block_short es (entries_of_short accruals_name s h))
+accruals_short s h = made_each IsShortStepBlock step_block_of step_block_short (entries_of accruals_name s) (entries_of_short accruals_name s h)
 
 pub sequences_short : (s : SectionRows) → IsShortSection s → All IsShortStepBlock (sequences_in s)
 unfolding sequences_in
-sequences_short s h =
-    let es = entries_of sequences_name s in
-    All-map IsShortStepBlock step_block_of es (All-weaker (IsShortEntry 1024) (λ e. IsShortStepBlock (step_block_of e)) step_block_short es (entries_of_short sequences_name s h))
+sequences_short s h = made_each IsShortStepBlock step_block_of step_block_short (entries_of sequences_name s) (entries_of_short sequences_name s h)

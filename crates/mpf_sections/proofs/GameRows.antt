@@ -1,24 +1,24 @@
 -- What holds of variable players, of the game and of the machine, by the names of their settings: their names are names, and their settings are in their ranges.
-use Rattle.std.proofs.Common.{◌≡◌, ℕ, ◌≤◌, nat_le, ℤ, pos, negsuc, neg_ℤ, ◌≤ℤ◌, int_le, Bool, true, false, ◌&&◌, if◌then◌else◌, map, List, [], ◌∷◌, length, Option, Some, None, slice_get, refl, arith}
+use Rattle.std.proofs.Common.{◌≡◌, ◌≤◌, ℤ, pos, negsuc, neg_ℤ, ◌≤ℤ◌, int_le, Bool, true, false, if◌then◌else◌, map, List, [], ◌∷◌, length, Option, Some, slice_get, refl}
 use Rattle.std.specs.List.{All, AllByRecursion}
-use Rattle.std.proofs.lemmas.Bool.{leb-true}
 use Rattle.std.proofs.lemmas.List.{length-map}
-use Rattle.std.proofs.lemmas.List.Elements.{All-nil, All-cons, All-map, All-weaker}
+use Rattle.std.proofs.lemmas.List.Elements.{All-nil, All-cons}
 use Rattle.mpf_values.specs.Names.{IsName}
-use Rattle.section_tables.specs.Rows.{Plain, nothing, flag, number, time, power, word, name, event, Keyed, Value, one, names, posts, events, steps, maps, keyed, Entry, Player}
+use Rattle.section_tables.specs.Rows.{Plain, number, Keyed, Value, keyed, Entry, Player}
 use Rattle.section_tables.specs.Named.{IsNamedKeyed, IsNamedValue, IsNamedPlayer, IsShortPlayer}
 use Rattle.section_tables.specs.EntryOf.{within}
 use Rattle.mpf_sections.specs.Rows.{VariableItem, SectionRows}
 use Rattle.mpf_tables.specs.SectionTables as tables
-use Rattle.mpf_sections.specs.Typed.{natural_within, listed_keyed, players_of, content_named, row_or}
+use Rattle.mpf_sections.specs.Typed.{listed_keyed, players_of, content_named, row_or}
 use Rattle.mpf_sections.specs.TypedGame.{variable_player_name, machine_section_name, change_in, variable_item_of, variable_player_of, variable_players_in, game_of, min_balls_of}
 use Rattle.mpf_sections.specs.Named.{IsNamedVariablePlayer, IsNamed}
 use Rattle.mpf_sections.specs.Short.{IsShortVariablePlayer, IsChangeInRange, IsVariablePlayerInRange, IsGameInRange, IsShortSection}
-use Rattle.mpf_sections.proofs.Each.{all_mapped}
+use Rattle.mpf_sections.proofs.Each.{all_mapped, made_each}
 use Rattle.mpf_sections.proofs.RowNames.{event_named, players_of_named}
 use Rattle.mpf_sections.proofs.ShortRows.{players_of_short}
 use Rattle.mpf_sections.proofs.DeviceRows.{both, at_most}
 use Rattle.mpf_sections.proofs.CoilRows.{keyed_short}
+use Rattle.mpf_sections.proofs.NumberRows.{natural_in_range}
 
 -- ---- names
 
@@ -31,13 +31,8 @@ items_named [] h = All-nil HasName
 items_named (k ∷ ks) h = All-cons HasName (variable_item_of k) (map variable_item_of ks) h.0.0 (items_named ks h.1)
 
 keyed_named : (v : Value) → IsNamedValue v → All HasName (map variable_item_of (listed_keyed (Some v)))
-keyed_named (one x) h = All-nil HasName
-keyed_named (names xs) h = All-nil HasName
-keyed_named (posts xs) h = All-nil HasName
-keyed_named (events xs) h = All-nil HasName
-keyed_named (steps ss) h = All-nil HasName
-keyed_named (maps ms) h = All-nil HasName
 keyed_named (keyed ks) h = items_named ks h
+keyed_named _ h = All-nil HasName
 
 -- The names in an entry of `variable_player` are names.
 pub variable_player_named : (p : Player) → IsNamedPlayer p → IsNamedVariablePlayer (variable_player_of p)
@@ -46,10 +41,7 @@ variable_player_named p h = record { event = event_named p.event h.event; items 
 
 pub variable_players_named : (s : SectionRows) → IsNamed s → All IsNamedVariablePlayer (variable_players_in s)
 unfolding variable_players_in
-variable_players_named s h =
-    let ps = players_of variable_player_name s in
-    All-map IsNamedVariablePlayer variable_player_of ps
-    (All-weaker IsNamedPlayer (λ p. IsNamedVariablePlayer (variable_player_of p)) variable_player_named ps (players_of_named variable_player_name s h))
+variable_players_named s h = made_each IsNamedVariablePlayer variable_player_of variable_player_named (players_of variable_player_name s) (players_of_named variable_player_name s h)
 
 -- ---- ranges
 
@@ -66,15 +58,8 @@ no_change : IsChange (pos 0)
 no_change = change_by (pos 0) true refl
 
 change_in_range : (o : Option Plain) → IsChange (change_in o)
-change_in_range None = no_change
-change_in_range (Some nothing) = no_change
-change_in_range (Some (flag b)) = no_change
 change_in_range (Some (number n)) = change_by n (within (negsuc 999999999) (pos 1000000000) n) refl
-change_in_range (Some (time ms)) = no_change
-change_in_range (Some (power n)) = no_change
-change_in_range (Some (word w)) = no_change
-change_in_range (Some (name w)) = no_change
-change_in_range (Some (event h)) = no_change
+change_in_range _ = no_change
 
 item_in_range : (k : Keyed) → IsChangeInRange (variable_item_of k)
 unfolding variable_item_of
@@ -99,50 +84,18 @@ variable_players_in_range s = all_mapped IsVariablePlayerInRange variable_player
 
 pub variable_players_short : (s : SectionRows) → IsShortSection s → All IsShortVariablePlayer (variable_players_in s)
 unfolding variable_players_in
-variable_players_short s h =
-    let ps = players_of variable_player_name s in
-    All-map IsShortVariablePlayer variable_player_of ps
-    (All-weaker (IsShortPlayer 1024) (λ p. IsShortVariablePlayer (variable_player_of p)) variable_player_short ps (players_of_short variable_player_name s h))
-
--- ---- numbers of a range
-
-module _ (least greatest otherwise : ℕ) (from : least ≤ otherwise) (to : otherwise ≤ greatest) where
-  abbrev pub InRange : ℕ → Type 0
-  InRange n = (least ≤ n) × (n ≤ greatest)
-
-  pub kept_in_range : (n : ℕ) (low high : Bool) → nat_le least n ≡ low → nat_le n greatest ≡ high → InRange (if low && high then n else otherwise)
-  kept_in_range n true true low high = (leb-true least n low, leb-true n greatest high)
-  kept_in_range n true false low high = (from, to)
-  kept_in_range n false high low e = (from, to)
-
-  pub natural_in_range : (o : Option Value) → InRange (natural_within least greatest otherwise o)
-  natural_in_range None = (from, to)
-  natural_in_range (Some (one nothing)) = (from, to)
-  natural_in_range (Some (one (flag b))) = (from, to)
-  natural_in_range (Some (one (number (pos n)))) = kept_in_range n (nat_le least n) (nat_le n greatest) refl refl
-  natural_in_range (Some (one (number (negsuc n)))) = (from, to)
-  natural_in_range (Some (one (time ms))) = (from, to)
-  natural_in_range (Some (one (power n))) = (from, to)
-  natural_in_range (Some (one (word w))) = (from, to)
-  natural_in_range (Some (one (name w))) = (from, to)
-  natural_in_range (Some (one (event h))) = (from, to)
-  natural_in_range (Some (names xs)) = (from, to)
-  natural_in_range (Some (posts xs)) = (from, to)
-  natural_in_range (Some (events xs)) = (from, to)
-  natural_in_range (Some (steps ss)) = (from, to)
-  natural_in_range (Some (maps ms)) = (from, to)
-  natural_in_range (Some (keyed ks)) = (from, to)
+variable_players_short s h = made_each IsShortVariablePlayer variable_player_of variable_player_short (players_of variable_player_name s) (players_of_short variable_player_name s h)
 
 -- What is said of the game is in its ranges.
 pub game_in_range : (e : Entry) → IsGameInRange (game_of e)
 unfolding game_of
 game_in_range e =
-    let balls = natural_in_range 1 99 3 (omega arith) (omega arith) (slice_get e.values 0) in
-    let players = natural_in_range 1 4 4 (omega arith) (omega arith) (slice_get e.values 1) in
+    let balls = natural_in_range (slice_get tables.game 0) (slice_get e.values 0) refl in
+    let players = natural_in_range (slice_get tables.game 1) (slice_get e.values 1) refl in
     record { some_balls = balls.0; few_balls = balls.1; some_players = players.0; few_players = players.1 }
 
 -- A game needs at most 99 balls.
 pub min_balls_few : (sections : List SectionRows) → min_balls_of sections ≤ 99
 min_balls_few sections =
     let row = row_or tables.machine (content_named machine_section_name sections) in
-    (natural_in_range 0 99 1 (omega arith) (omega arith) (slice_get row 0)).1
+    (natural_in_range (slice_get tables.machine 0) (slice_get row 0) refl).1

@@ -2,6 +2,7 @@ pub mod Each
 pub mod RowNames
 pub mod ShortRows
 pub mod DeviceRows
+pub mod NumberRows
 pub mod CoilRows
 pub mod GameRows
 pub mod ShotRows

@@ -2,18 +2,18 @@
 use Rattle.std.proofs.Common.{◌≡◌, ◌≢◌, ℕ, zero, suc, Bool, true, false, if◌then◌else◌, map, List, [], ◌∷◌, Option, Some, None, slice_get, refl, sym, ap, ◌∙◌, true≢false}
 use Rattle.std.specs.List.{All, AllByRecursion}
 use Rattle.std.specs.Str.{bytes_eq}
-use Rattle.std.proofs.lemmas.List.Elements.{All-nil, All-head, All-tail, All-map, All-weaker, All-from_recursion}
+use Rattle.std.proofs.lemmas.List.Elements.{All-nil, All-head, All-tail, All-weaker, All-from_recursion}
 use Rattle.mpf_values.specs.Bytes.{is_name_byte}
 use Rattle.mpf_values.specs.Names.{IsName}
-use Rattle.section_tables.specs.Rows.{Plain, nothing, flag, number, time, power, word, name, event, Value, one, names, posts, events, steps, maps, keyed, Entry, Player}
+use Rattle.section_tables.specs.Rows.{Plain, name, event, Value, names, posts, events, Entry, Player}
 use Rattle.section_tables.specs.Named.{IsNamedHandled, IsNamedValue, IsNamedEvent, IsNamedEntry, IsNamedPlayer}
 use Rattle.section_tables.specs.Tables.{setting_default}
-use Rattle.mpf_sections.specs.Rows.{Written, Content, entries, players, entry, listed, SectionRows}
+use Rattle.mpf_sections.specs.Rows.{Written, Content, entries, players, entry, SectionRows}
 use Rattle.mpf_tables.specs.SectionTables as tables
 use Rattle.mpf_tables.specs.SectionTables.{switches_name, event_player_name}
 use Rattle.mpf_sections.specs.Typed.{content_named, mode_row, mode_name, mode_settings_of, mode_settings, listed_names, listed_events, listed_posts, handled_in, switch_of, event_player_of, entries_in, players_in, entries_of, players_of, switches_in, event_players_in}
 use Rattle.mpf_sections.specs.Named.{AllNames, AllNamedEvents, IsNamedSwitch, IsNamedEventPlayer, AreNamedSettings, IsNamedContent, IsNamed}
-use Rattle.mpf_sections.proofs.Each.{all_where}
+use Rattle.mpf_sections.proofs.Each.{all_where, made_each}
 
 abbrev pub IsNamedOption : Option Value → Type 0
 IsNamedOption None = Unit {0}
@@ -28,44 +28,21 @@ abbrev pub is_name : Written → Type 0
 is_name w = IsName w.text
 
 pub names_named : (o : Option Value) → IsNamedOption o → AllNames (listed_names o)
-names_named None h = All-nil is_name
-names_named (Some (one x)) h = All-nil is_name
 names_named (Some (names xs)) h = All-from_recursion is_name xs h
-names_named (Some (posts xs)) h = All-nil is_name
-names_named (Some (events xs)) h = All-nil is_name
-names_named (Some (steps xs)) h = All-nil is_name
-names_named (Some (maps xs)) h = All-nil is_name
-names_named (Some (keyed xs)) h = All-nil is_name
+names_named _ h = All-nil is_name
 
 pub posts_named : (o : Option Value) → IsNamedOption o → AllNames (listed_posts o)
-posts_named None h = All-nil is_name
-posts_named (Some (one x)) h = All-nil is_name
-posts_named (Some (names xs)) h = All-nil is_name
 posts_named (Some (posts xs)) h = All-from_recursion is_name xs h
-posts_named (Some (events xs)) h = All-nil is_name
-posts_named (Some (steps xs)) h = All-nil is_name
-posts_named (Some (maps xs)) h = All-nil is_name
-posts_named (Some (keyed xs)) h = All-nil is_name
+posts_named _ h = All-nil is_name
 
 pub events_named : (o : Option Value) → IsNamedOption o → AllNamedEvents (listed_events o)
-events_named None h = All-nil IsNamedHandled
-events_named (Some (one x)) h = All-nil IsNamedHandled
-events_named (Some (names xs)) h = All-nil IsNamedHandled
-events_named (Some (posts xs)) h = All-nil IsNamedHandled
 events_named (Some (events hs)) h = All-from_recursion IsNamedHandled hs h
-events_named (Some (steps xs)) h = All-nil IsNamedHandled
-events_named (Some (maps xs)) h = All-nil IsNamedHandled
-events_named (Some (keyed xs)) h = All-nil IsNamedHandled
+events_named _ h = All-nil IsNamedHandled
 
 pub event_named : (x : Plain) → IsNamedEvent x → IsNamedHandled (handled_in x)
-event_named nothing h = absurd h
-event_named (flag b) h = absurd h
-event_named (number n) h = absurd h
-event_named (time ms) h = absurd h
-event_named (power n) h = absurd h
-event_named (word w) h = absurd h
 event_named (name w) h = record { name = h; variable = tt }
 event_named (event e) h = h
+event_named _ h = absurd h
 
 -- The names in an entry of `switches` are names.
 pub switch_named : (e : Entry) → IsNamedEntry e → IsNamedSwitch (switch_of e)
@@ -103,11 +80,8 @@ defaults_named : AllByRecursion IsNamedValue (map setting_default tables.mode)
 defaults_named = (tt, (tt, (tt, (tt, (tt, (tt, tt))))))
 
 row_named : (o : Option Content) → IsNamedFound o → AllByRecursion IsNamedValue (mode_row o)
-row_named None h = defaults_named
-row_named (Some (entries es)) h = defaults_named
-row_named (Some (players ps)) h = defaults_named
 row_named (Some (entry e)) h = h.values
-row_named (Some (listed ws)) h = defaults_named
+row_named _ h = defaults_named
 
 -- so it is in what the sections of a mode say of it
 pub mode_settings_named : (sections : List SectionRows) → All IsNamed sections → AreNamedSettings (mode_settings sections)
@@ -115,15 +89,11 @@ mode_settings_named sections h = settings_named (mode_row (content_named mode_na
 
 entries_in_named : (content : Content) → IsNamedContent content → All IsNamedEntry (entries_in content)
 entries_in_named (entries es) h = h
-entries_in_named (players ps) h = All-nil IsNamedEntry
-entries_in_named (entry e) h = All-nil IsNamedEntry
-entries_in_named (listed ws) h = All-nil IsNamedEntry
+entries_in_named _ h = All-nil IsNamedEntry
 
 players_in_named : (content : Content) → IsNamedContent content → All IsNamedPlayer (players_in content)
-players_in_named (entries es) h = All-nil IsNamedPlayer
 players_in_named (players ps) h = h
-players_in_named (entry e) h = All-nil IsNamedPlayer
-players_in_named (listed ws) h = All-nil IsNamedPlayer
+players_in_named _ h = All-nil IsNamedPlayer
 
 pub entries_of_named : (section : List ℕ) (s : SectionRows) → IsNamed s → All IsNamedEntry (entries_of section s)
 entries_of_named section s h = all_where IsNamedEntry (bytes_eq s.name section) (entries_in s.content) (entries_in_named s.content h)
@@ -134,17 +104,12 @@ players_of_named section s h = all_where IsNamedPlayer (bytes_eq s.name section)
 -- The names in the switches of a section are names.
 pub switches_named : (s : SectionRows) → IsNamed s → All IsNamedSwitch (switches_in s)
 unfolding switches_in
-switches_named s h =
-    let es = entries_of switches_name s in
-    All-map IsNamedSwitch switch_of es (All-weaker IsNamedEntry (λ e. IsNamedSwitch (switch_of e)) switch_named es (entries_of_named switches_name s h))
+switches_named s h = made_each IsNamedSwitch switch_of switch_named (entries_of switches_name s) (entries_of_named switches_name s h)
 
 -- Those in the entries of `event_player` are, too.
 pub event_players_named : (s : SectionRows) → IsNamed s → All IsNamedEventPlayer (event_players_in s)
 unfolding event_players_in
-event_players_named s h =
-    let ps = players_of event_player_name s in
-    All-map IsNamedEventPlayer event_player_of ps
-    (All-weaker IsNamedPlayer (λ p. IsNamedEventPlayer (event_player_of p)) event_player_named ps (players_of_named event_player_name s h))
+event_players_named s h = made_each IsNamedEventPlayer event_player_of event_player_named (players_of event_player_name s) (players_of_named event_player_name s h)
 
 -- ---- what a name is not
 

@@ -1,17 +1,17 @@
 -- What holds of ball saves and multiballs, by the names of their settings: their names are names, and their settings are in their ranges.
-use Rattle.std.proofs.Common.{◌≡◌, map, slice_get, refl, arith}
+use Rattle.std.proofs.Common.{◌≡◌, map, slice_get, refl}
 use Rattle.std.specs.List.{All}
-use Rattle.std.proofs.lemmas.List.Elements.{All-map, All-weaker}
 use Rattle.section_tables.specs.Rows.{Entry}
 use Rattle.section_tables.specs.Named.{IsNamedEntry}
+use Rattle.mpf_tables.specs.SectionTables as tables
 use Rattle.mpf_sections.specs.Rows.{SectionRows}
 use Rattle.mpf_sections.specs.Typed.{entries_of}
 use Rattle.mpf_sections.specs.TypedSaves.{ball_saves_name, multiballs_name, ball_save_of, multiball_of, ball_saves_in, multiballs_in}
 use Rattle.mpf_sections.specs.Named.{IsNamedBallSave, IsNamedMultiball, IsNamed}
 use Rattle.mpf_sections.specs.Short.{IsShortBallSave, IsShortMultiball}
-use Rattle.mpf_sections.proofs.Each.{all_mapped}
+use Rattle.mpf_sections.proofs.Each.{all_mapped, made_each}
 use Rattle.mpf_sections.proofs.RowNames.{value_at_named, events_named, entries_of_named}
-use Rattle.mpf_sections.proofs.GameRows.{natural_in_range}
+use Rattle.mpf_sections.proofs.NumberRows.{natural_in_range}
 
 -- ---- names
 
@@ -32,33 +32,23 @@ multiball_named e h = record { name = h.name; start_events = events_named (slice
 -- so they are in a section
 pub ball_saves_named : (s : SectionRows) → IsNamed s → All IsNamedBallSave (ball_saves_in s)
 unfolding ball_saves_in
-ball_saves_named s h =
-    let es = entries_of ball_saves_name s in
-    All-map IsNamedBallSave ball_save_of es
-    (All-weaker IsNamedEntry (λ e. IsNamedBallSave (ball_save_of e)) ball_save_named es (entries_of_named ball_saves_name s h))
+ball_saves_named s h = made_each IsNamedBallSave ball_save_of ball_save_named (entries_of ball_saves_name s) (entries_of_named ball_saves_name s h)
 
 pub multiballs_named : (s : SectionRows) → IsNamed s → All IsNamedMultiball (multiballs_in s)
 unfolding multiballs_in
-multiballs_named s h =
-    let es = entries_of multiballs_name s in
-    All-map IsNamedMultiball multiball_of es
-    (All-weaker IsNamedEntry (λ e. IsNamedMultiball (multiball_of e)) multiball_named es (entries_of_named multiballs_name s h))
+multiballs_named s h = made_each IsNamedMultiball multiball_of multiball_named (entries_of multiballs_name s) (entries_of_named multiballs_name s h)
 
 -- ---- ranges
 
 -- A ball save saves 1 to 99 balls.
 pub ball_save_short : (e : Entry) → IsShortBallSave (ball_save_of e)
 unfolding ball_save_of
-ball_save_short e =
-    let balls = natural_in_range 1 99 1 (omega arith) (omega arith) (slice_get e.values 1) in
-    record { some_balls = balls.0; few_balls = balls.1 }
+ball_save_short e = natural_in_range (slice_get tables.ball_saves 1) (slice_get e.values 1) refl
 
 -- A multiball has 2 to 99 balls.
 pub multiball_short : (e : Entry) → IsShortMultiball (multiball_of e)
 unfolding multiball_of
-multiball_short e =
-    let balls = natural_in_range 2 99 2 (omega arith) (omega arith) (slice_get e.values 0) in
-    record { some_balls = balls.0; few_balls = balls.1 }
+multiball_short e = natural_in_range (slice_get tables.multiballs 0) (slice_get e.values 0) refl
 
 -- so it is with those of a section
 pub ball_saves_short : (s : SectionRows) → All IsShortBallSave (ball_saves_in s)

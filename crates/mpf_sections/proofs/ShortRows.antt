@@ -2,14 +2,14 @@
 use Rattle.std.proofs.Common.{ℕ, zero, suc, ◌≤◌, List, [], ◌∷◌, length, Option, Some, None, slice_get, arith}
 use Rattle.std.specs.List.{All}
 use Rattle.std.specs.Str.{bytes_eq}
-use Rattle.std.proofs.lemmas.List.Elements.{All-head, All-tail, All-map, All-weaker}
-use Rattle.section_tables.specs.Rows.{Value, one, names, posts, events, steps, maps, keyed, Entry, Player}
+use Rattle.std.proofs.lemmas.List.Elements.{All-head, All-tail}
+use Rattle.section_tables.specs.Rows.{Value, names, posts, events, Entry, Player}
 use Rattle.section_tables.specs.Named.{IsShortValue, IsShortEntry, IsShortPlayer}
 use Rattle.mpf_sections.specs.Rows.{SectionRows}
 use Rattle.mpf_tables.specs.SectionTables.{switches_name, event_player_name}
 use Rattle.mpf_sections.specs.Typed.{listed_names, listed_events, listed_posts, switch_of, event_player_of, entries_in, players_in, entries_of, players_of, switches_in, event_players_in}
 use Rattle.mpf_sections.specs.Short.{IsShortSection, IsShortSwitch, IsShortEventPlayer}
-use Rattle.mpf_sections.proofs.Each.{all_where}
+use Rattle.mpf_sections.proofs.Each.{all_where, made_each}
 
 pub none_short : 0 ≤ 1024
 none_short = omega arith
@@ -27,34 +27,16 @@ value_at_short (v ∷ vs) zero h = All-head (IsShortValue 1024) v vs h
 value_at_short (v ∷ vs) (suc i) h = value_at_short vs i (All-tail (IsShortValue 1024) v vs h)
 
 pub names_short : (o : Option Value) → IsShortOption o → length (listed_names o) ≤ 1024
-names_short None h = none_short
-names_short (Some (one x)) h = none_short
 names_short (Some (names xs)) h = h.0
-names_short (Some (posts xs)) h = none_short
-names_short (Some (events xs)) h = none_short
-names_short (Some (steps xs)) h = none_short
-names_short (Some (maps xs)) h = none_short
-names_short (Some (keyed xs)) h = none_short
+names_short _ h = none_short
 
 pub events_short : (o : Option Value) → IsShortOption o → length (listed_events o) ≤ 1024
-events_short None h = none_short
-events_short (Some (one x)) h = none_short
-events_short (Some (names xs)) h = none_short
-events_short (Some (posts xs)) h = none_short
 events_short (Some (events hs)) h = h.0
-events_short (Some (steps xs)) h = none_short
-events_short (Some (maps xs)) h = none_short
-events_short (Some (keyed xs)) h = none_short
+events_short _ h = none_short
 
 pub posts_short : (o : Option Value) → IsShortOption o → length (listed_posts o) ≤ 1024
-posts_short None h = none_short
-posts_short (Some (one x)) h = none_short
-posts_short (Some (names xs)) h = none_short
 posts_short (Some (posts xs)) h = h.0
-posts_short (Some (events xs)) h = none_short
-posts_short (Some (steps xs)) h = none_short
-posts_short (Some (maps xs)) h = none_short
-posts_short (Some (keyed xs)) h = none_short
+posts_short _ h = none_short
 
 -- No list in an entry of `switches` has more items.
 pub switch_short : (e : Entry) → IsShortEntry 1024 e → IsShortSwitch (switch_of e)
@@ -79,14 +61,9 @@ players_of_short section s h = all_where (IsShortPlayer 1024) (bytes_eq s.name s
 -- No list in the switches of a section has more items.
 pub switches_short : (s : SectionRows) → IsShortSection s → All IsShortSwitch (switches_in s)
 unfolding switches_in
-switches_short s h =
-    let es = entries_of switches_name s in
-    All-map IsShortSwitch switch_of es (All-weaker (IsShortEntry 1024) (λ e. IsShortSwitch (switch_of e)) switch_short es (entries_of_short switches_name s h))
+switches_short s h = made_each IsShortSwitch switch_of switch_short (entries_of switches_name s) (entries_of_short switches_name s h)
 
 -- No list in the entries of `event_player` has, either.
 pub event_players_short : (s : SectionRows) → IsShortSection s → All IsShortEventPlayer (event_players_in s)
 unfolding event_players_in
-event_players_short s h =
-    let ps = players_of event_player_name s in
-    All-map IsShortEventPlayer event_player_of ps
-    (All-weaker (IsShortPlayer 1024) (λ p. IsShortEventPlayer (event_player_of p)) event_player_short ps (players_of_short event_player_name s h))
+event_players_short s h = made_each IsShortEventPlayer event_player_of event_player_short (players_of event_player_name s) (players_of_short event_player_name s h)

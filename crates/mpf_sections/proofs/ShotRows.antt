@@ -2,8 +2,8 @@
 use Rattle.std.proofs.Common.{◌≡◌, ℕ, suc, ◌≤◌, nat_le, Bool, true, false, if◌then◌else◌, List, [], ◌∷◌, length, Option, Some, None, map, slice_get, refl, arith}
 use Rattle.std.specs.List.{All, cons_option, filter_map}
 use Rattle.std.proofs.lemmas.Bool.{leb-true}
-use Rattle.std.proofs.lemmas.List.Elements.{All-nil, All-cons, All-head, All-tail, All-map, All-weaker, All-from_recursion}
-use Rattle.section_tables.specs.Rows.{Fields, Value, one, names, posts, events, steps, maps, keyed, Entry}
+use Rattle.std.proofs.lemmas.List.Elements.{All-nil, All-cons, All-head, All-tail, All-from_recursion}
+use Rattle.section_tables.specs.Rows.{Fields, Value, maps, Entry}
 use Rattle.section_tables.specs.Entries.{written_at}
 use Rattle.section_tables.specs.Named.{AreNamedPlains, IsNamedEntry, IsShortEntry}
 use Rattle.mpf_sections.specs.Rows.{Written, SectionRows}
@@ -11,7 +11,7 @@ use Rattle.mpf_sections.specs.Typed.{text_of, listed_names, listed_events, liste
 use Rattle.mpf_sections.specs.TypedShots.{few, shots_name, shot_groups_name, shot_profiles_name, default_profile, shot_of, shot_group_of, state_of, shot_profile_of, shots_in, shot_groups_in, shot_profiles_in}
 use Rattle.mpf_sections.specs.Named.{AllNames, AllNamedEvents, IsNamedShot, IsNamedShotGroup, IsNamedShotProfile, IsNamed}
 use Rattle.mpf_sections.specs.Short.{IsShortShot, IsShortShotGroup, IsShortShotProfile, IsShortSection}
-use Rattle.mpf_sections.proofs.Each.{all_where, all_mapped}
+use Rattle.mpf_sections.proofs.Each.{all_where, all_mapped, made_each}
 use Rattle.mpf_tables.proofs.TableNames.{default_profile_named}
 use Rattle.mpf_sections.proofs.RowNames.{IsNamedOption, is_name, value_at_named, names_named, events_named, entries_of_named}
 use Rattle.mpf_sections.proofs.ShortRows.{value_at_short, events_short, entries_of_short}
@@ -65,14 +65,8 @@ abbrev IsNamedMap : Fields → Type 0
 IsNamedMap m = AreNamedPlains m.values
 
 maps_named : (o : Option Value) → IsNamedOption o → All IsNamedMap (listed_maps o)
-maps_named None h = All-nil IsNamedMap
-maps_named (Some (one x)) h = All-nil IsNamedMap
-maps_named (Some (names xs)) h = All-nil IsNamedMap
-maps_named (Some (posts xs)) h = All-nil IsNamedMap
-maps_named (Some (events xs)) h = All-nil IsNamedMap
-maps_named (Some (steps ss)) h = All-nil IsNamedMap
 maps_named (Some (maps ms)) h = All-from_recursion IsNamedMap ms h
-maps_named (Some (keyed ks)) h = All-nil IsNamedMap
+maps_named _ h = All-nil IsNamedMap
 
 one_state : (o : Option Written) → IsNamedWritten o → (ws : List Written) → AllNames ws → AllNames (cons_option o ws)
 one_state None h ws rest = rest
@@ -95,23 +89,15 @@ shot_profile_named e h =
 -- so they are in a section
 pub shots_named : (s : SectionRows) → IsNamed s → All IsNamedShot (shots_in s)
 unfolding shots_in
-shots_named s h =
-    let es = entries_of shots_name s in
-    All-map IsNamedShot shot_of es (All-weaker IsNamedEntry (λ e. IsNamedShot (shot_of e)) shot_named es (entries_of_named shots_name s h))
+shots_named s h = made_each IsNamedShot shot_of shot_named (entries_of shots_name s) (entries_of_named shots_name s h)
 
 pub shot_groups_named : (s : SectionRows) → IsNamed s → All IsNamedShotGroup (shot_groups_in s)
 unfolding shot_groups_in
-shot_groups_named s h =
-    let es = entries_of shot_groups_name s in
-    All-map IsNamedShotGroup shot_group_of es
-    (All-weaker IsNamedEntry (λ e. IsNamedShotGroup (shot_group_of e)) shot_group_named es (entries_of_named shot_groups_name s h))
+shot_groups_named s h = made_each IsNamedShotGroup shot_group_of shot_group_named (entries_of shot_groups_name s) (entries_of_named shot_groups_name s h)
 
 pub shot_profiles_named : (s : SectionRows) → IsNamed s → All IsNamedShotProfile (shot_profiles_in s)
 unfolding shot_profiles_in
-shot_profiles_named s h =
-    let es = entries_of shot_profiles_name s in
-    All-map IsNamedShotProfile shot_profile_of es
-    (All-weaker IsNamedEntry (λ e. IsNamedShotProfile (shot_profile_of e)) shot_profile_named es (entries_of_named shot_profiles_name s h))
+shot_profiles_named s h = made_each IsNamedShotProfile shot_profile_of shot_profile_named (entries_of shot_profiles_name s) (entries_of_named shot_profiles_name s h)
 
 -- ---- limits
 
@@ -163,16 +149,11 @@ shot_profile_short e =
 -- so it is with those of a section
 pub shots_short : (s : SectionRows) → IsShortSection s → All IsShortShot (shots_in s)
 unfolding shots_in
-shots_short s h =
-    let es = entries_of shots_name s in
-    All-map IsShortShot shot_of es (All-weaker (IsShortEntry 1024) (λ e. IsShortShot (shot_of e)) shot_short es (entries_of_short shots_name s h))
+shots_short s h = made_each IsShortShot shot_of shot_short (entries_of shots_name s) (entries_of_short shots_name s h)
 
 pub shot_groups_short : (s : SectionRows) → IsShortSection s → All IsShortShotGroup (shot_groups_in s)
 unfolding shot_groups_in
-shot_groups_short s h =
-    let es = entries_of shot_groups_name s in
-    All-map IsShortShotGroup shot_group_of es
-    (All-weaker (IsShortEntry 1024) (λ e. IsShortShotGroup (shot_group_of e)) shot_group_short es (entries_of_short shot_groups_name s h))
+shot_groups_short s h = made_each IsShortShotGroup shot_group_of shot_group_short (entries_of shot_groups_name s) (entries_of_short shot_groups_name s h)
 
 pub shot_profiles_short : (s : SectionRows) → All IsShortShotProfile (shot_profiles_in s)
 unfolding shot_profiles_in

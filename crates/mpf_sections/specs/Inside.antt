@@ -1,5 +1,5 @@
 -- What contracts of the functions inside this crate see.
-use Rattle.std.specs.Prelude.{◌≡◌, ℕ, ◌+◌, Bool, List, map, Option, Some, option_map, slice_get, unwrap_or}
+use Rattle.std.specs.Prelude.{◌≡◌, ℕ, ◌+◌, ◌==◌, Bool, List, length, map, Option, Some, option_map, slice_get, unwrap_or}
 use Rattle.std.specs.List.{list_all}
 use Rattle.std.specs.Str.{bytes_eq}
 use Rattle.std.specs.Borrow.{Bor}
@@ -18,18 +18,25 @@ use Rattle.mpf_sections.specs.declared.section.Content as contents
 use Rattle.mpf_sections.specs.declared.section.Section.{Section}
 use Rattle.mpf_sections.specs.declared.typed.NameAt.{NameAt}
 use Rattle.mpf_sections.specs.declared.typed.HandledAt.{HandledAt}
-use Rattle.mpf_sections.specs.declared.blocks.Block as typed_blocks
-use Rattle.mpf_sections.specs.Rows.{Block}
+use Rattle.mpf_sections.specs.declared.blocks.BlockEvents as typed_blocks
+use Rattle.machine_settings.specs.declared.settings.BlockSettings.{BlockSettings}
+use Rattle.mpf_sections.specs.Rows.{BlockEvents}
 use Rattle.mpf_sections.specs.Typed.{text_of, flag_of, listed_names, listed_events, listed_posts, listed_steps, listed_maps, listed_keyed, name_in, handled_in, event_in, pulse_in, power_in, ball_ending, content_named}
 use Rattle.mpf_sections.specs.TypedShots.{few}
 use Rattle.mpf_sections.specs.View.{name_view, handler_view, handlers_view, plain_view, fields_view, keyed_view, entry_view, content_view, section_view, name_at_view, handled_at_view, plain_option_view, block_view}
 
 -- the settings that all logic blocks have, from this place on in a row
-abbrev pub block_at : ℕ → List Value → Block
-block_at first row = record {
+abbrev pub block_settings_at : ℕ → List Value → BlockSettings
+block_settings_at first row = record {
+  enabled = length (listed_events (slice_get row (first + 3))) == 0;
   reset_on_complete = flag_of (slice_get row first);
   disable_on_complete = flag_of (slice_get row (first + 1));
   persist = flag_of (slice_get row (first + 2));
+}
+
+-- the events that all logic blocks have, after these settings
+abbrev pub block_at : ℕ → List Value → BlockEvents
+block_at first row = record {
   enables = listed_events (slice_get row (first + 3));
   disables = listed_events (slice_get row (first + 4));
   resets = listed_events (slice_get row (first + 5));
@@ -42,8 +49,8 @@ block_at first row = record {
 abbrev pub needed_at : ℕ → Entry → Written
 needed_at place e = unwrap_or (name_in (text_of (slice_get e.values place))) e.name
 
--- the settings of a logic block, from this place on in a row of the program
-abbrev pub IsBlockAt : ℕ → entry_rows.Entry → typed_blocks.Block → Type 0
+-- the events of a logic block, whose settings are from this place on in a row of the program
+abbrev pub IsBlockAt : ℕ → entry_rows.Entry → typed_blocks.BlockEvents → Type 0
 IsBlockAt first entry block = block_view block ≡ block_at first (entry_view entry).values
 
 -- the name at a place of an entry of the program; its own where there is none

@@ -1,5 +1,6 @@
 pub mod Rows
 pub mod Typed
+pub mod TypedNumbers
 pub mod TypedCoils
 pub mod TypedGame
 pub mod TypedShots

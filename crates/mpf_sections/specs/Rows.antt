@@ -1,12 +1,17 @@
 -- The rows of a section, apart from where they lie in memory. The `order` of an entry has the places in the section's
 -- table of the settings that are written, in the order in which they are written.
 use Rattle.std.specs.Prelude.{ℕ, ℤ, Bool, List, Option}
-use Rattle.mpf_sections.specs.declared.words.Contact.{Contact}
+use Rattle.machine_settings.specs.declared.words.Contact.{Contact}
 use Rattle.mpf_sections.specs.declared.words.Debounce.{Debounce}
-use Rattle.mpf_sections.specs.declared.words.Direction.{Direction}
 use Rattle.mpf_sections.specs.declared.words.ControlAction.{ControlAction}
 use Rattle.mpf_sections.specs.declared.words.CoilAction.{CoilAction}
-use Rattle.mpf_sections.specs.declared.words.VariableAction.{VariableAction}
+use Rattle.machine_settings.specs.declared.words.VariableAction.{VariableAction}
+use Rattle.machine_settings.specs.declared.settings.BlockSettings.{BlockSettings}
+use Rattle.machine_settings.specs.declared.settings.CounterSettings.{CounterSettings}
+use Rattle.machine_settings.specs.declared.settings.TimerSettings.{TimerSettings}
+use Rattle.machine_settings.specs.declared.settings.EjectSettings.{EjectSettings}
+use Rattle.machine_settings.specs.declared.settings.SaveSettings.{SaveSettings}
+use Rattle.machine_settings.specs.declared.settings.MultiballSettings.{MultiballSettings}
 pub use Rattle.section_tables.specs.Rows.{Written, Handled, Entry, Player}
 
 -- an entry of `switches`
@@ -86,36 +91,28 @@ pub record Autofire : Type 0 where
   pub disables : List Handled
   pub order : List ℕ
 
--- An entry of `ball_devices`: its ball switches, the coil that ejects a ball, if there is one, and where it ejects its
--- balls to; how many milliseconds an attempt to eject a ball lasts, and how many a ball switch has to be active before
--- its ball counts, and inactive before its ball is gone; whether a ball that leaves by itself counts as ejected; how
--- many attempts there are, 0 for no limit; and its tags.
+-- an entry of `ball_devices`: its ball switches, the coil that ejects a ball, if there is one, where it ejects its balls
+-- to, how it counts and ejects them, and its tags
 pub record BallDevice : Type 0 where
   pub name : Written
   pub switches : List Written
   pub eject_coil : Option Written
   pub target : Written
-  pub timeout : ℕ
-  pub entrance_delay : ℕ
-  pub exit_delay : ℕ
-  pub mechanical : Bool
-  pub max_attempts : ℕ
+  pub ejects : EjectSettings
   pub tags : List Written
   pub order : List ℕ
 
--- An entry of `ball_saves`: for how many milliseconds it is active once it is enabled, 0 for no end; how many balls it saves
--- each time; and the events that enable and disable it.
+-- an entry of `ball_saves`: its settings, and the events that enable and disable it
 pub record BallSave : Type 0 where
   pub name : Written
-  pub active_time : ℕ
-  pub balls : ℕ
+  pub settings : SaveSettings
   pub enable_events : List Handled
   pub disable_events : List Handled
 
--- an entry of `multiballs`: how many balls are to be in play, and the events that start it
+-- an entry of `multiballs`: its settings, and the events that start it
 pub record Multiball : Type 0 where
   pub name : Written
-  pub balls : ℕ
+  pub settings : MultiballSettings
   pub start_events : List Handled
 
 -- what `mode` says of a mode: the events that start and stop it, its priority, whether it runs only in a game, whether
@@ -128,13 +125,9 @@ pub record ModeSettings : Type 0 where
   pub stops_with_ball : Bool
   pub holds_ball_end : Bool
 
--- what all logic blocks have: whether completing resets and disables the block, whether each player has a state of their
--- own, the events that enable, disable, reset and restart it, and those that are posted in place of its own when it is hit
--- and when it completes; none where its own are posted
-pub record Block : Type 0 where
-  pub reset_on_complete : Bool
-  pub disable_on_complete : Bool
-  pub persist : Bool
+-- the events that all logic blocks have: those that enable, disable, reset and restart the block, and those that are
+-- posted in place of its own when it is hit and when it completes; none where its own are posted
+pub record BlockEvents : Type 0 where
   pub enables : List Handled
   pub disables : List Handled
   pub resets : List Handled
@@ -142,24 +135,20 @@ pub record Block : Type 0 where
   pub hit : List Written
   pub complete : List Written
 
--- an entry of `counters`: the events that it counts, its value at first, by how much and which way a hit moves it, the value
--- at which it completes, if there is one, and for how many milliseconds after a hit no other counts
+-- an entry of `counters`: the events that it counts, and its settings
 pub record Counter : Type 0 where
   pub name : Written
   pub counts : List Handled
-  pub start : ℤ
-  pub interval : ℤ
-  pub end : Option ℤ
-  pub direction : Direction
-  pub window : ℕ
-  pub block : Block
+  pub settings : CounterSettings
+  pub block : BlockEvents
   pub order : List ℕ
 
 -- an entry of `accruals` or `sequences`: its steps, each with the events that do it
 pub record StepBlock : Type 0 where
   pub name : Written
   pub steps : List (List Handled)
-  pub block : Block
+  pub settings : BlockSettings
+  pub block : BlockEvents
   pub order : List ℕ
 
 -- an event that controls a timer: what it does, and with which value
@@ -168,17 +157,10 @@ pub record Control : Type 0 where
   pub action : ControlAction
   pub value : ℤ
 
--- an entry of `timers`: its value at first, the value at which it completes, if one is written, which way it goes, the
--- milliseconds from one tick to the next, whether it runs when its mode starts, whether it starts again when it completes,
--- and the events that control it
+-- an entry of `timers`: its settings, and the events that control it
 pub record Timer : Type 0 where
   pub name : Written
-  pub start : ℤ
-  pub end : Option ℤ
-  pub direction : Direction
-  pub interval : ℕ
-  pub start_running : Bool
-  pub restart : Bool
+  pub settings : TimerSettings
   pub controls : List Control
 
 -- an entry of `shots`: its switch, if it has one, the events that hit it, its profile, and the events that advance, reset,

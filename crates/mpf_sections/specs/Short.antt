@@ -1,8 +1,9 @@
 -- What it means that no list in a section has more than 1,024 items, and that settings are in their ranges.
-use Rattle.std.specs.Prelude.{ℕ, ◌≤◌, ℤ, pos, neg_ℤ, ◌≤ℤ◌, Option, IfSome, length}
+use Rattle.std.specs.Prelude.{ℕ, ◌≤◌, IfSome, length}
 use Rattle.std.specs.List.{All}
 pub use Rattle.section_tables.specs.Named.{IsShortEntry, IsShortPlayer}
-use Rattle.mpf_sections.specs.Rows.{Switch, EventPlayer, Coil, CoilItem, CoilPlayer, VariableItem, VariablePlayer, GameSettings, Flipper, Autofire, Shot, ShotGroup, ShotProfile, BallDevice, BallSave, Multiball, Block, Counter, StepBlock, Timer, Content, SectionRows}
+use Rattle.machine_settings.specs.Limits.{IsNumberWithin, IsCounterWithin, IsTimerWithin, IsEjectWithin, IsSaveWithin, IsMultiballWithin}
+use Rattle.mpf_sections.specs.Rows.{Switch, EventPlayer, Coil, CoilItem, CoilPlayer, VariableItem, VariablePlayer, GameSettings, Flipper, Autofire, Shot, ShotGroup, ShotProfile, BallDevice, BallSave, Multiball, BlockEvents, Counter, StepBlock, Timer, Content, SectionRows}
 use Rattle.mpf_sections.specs.Typed.{entries_in, players_in, entry_in, names_in}
 
 -- No list in a section is longer, whatever its settings are; the coils of an entry of `coil_player` are such a list, and
@@ -32,7 +33,7 @@ IsShortVariablePlayer p = length p.items ≤ 1024
 
 -- the number of a variable
 abbrev pub IsChangeInRange : VariableItem → Type 0
-IsChangeInRange i = (neg_ℤ (pos 1000000000) ≤ℤ i.number) × (i.number ≤ℤ pos 1000000000)
+IsChangeInRange i = IsNumberWithin i.number
 
 abbrev pub IsVariablePlayerInRange : VariablePlayer → Type 0
 IsVariablePlayerInRange p = All IsChangeInRange p.items
@@ -94,46 +95,30 @@ pub record IsShortShotGroup (g : ShotGroup) : Type 0 where
 abbrev pub IsShortShotProfile : ShotProfile → Type 0
 IsShortShotProfile p = length p.states ≤ 16
 
--- milliseconds, at least one
-abbrev pub IsSomeTime : ℕ → Type 0
-IsSomeTime ms = (1 ≤ ms) × (ms ≤ 4294967295)
-
--- a ball device has at most 16 ball switches, and its times and the number of its attempts are in their ranges
+-- a ball device has at most 16 ball switches
 pub record IsShortBallDevice (d : BallDevice) : Type 0 where
   pub switches : length d.switches ≤ 16
-  pub timeout : IsSomeTime d.timeout
-  pub entrance_delay : IsSomeTime d.entrance_delay
-  pub exit_delay : IsSomeTime d.exit_delay
-  pub max_attempts : d.max_attempts ≤ 1000
+  pub ejects : IsEjectWithin d.ejects
   pub tags : length d.tags ≤ 1024
 
--- how many balls a ball save saves
-pub record IsShortBallSave (b : BallSave) : Type 0 where
-  pub some_balls : 1 ≤ b.balls
-  pub few_balls : b.balls ≤ 99
+abbrev pub IsShortBallSave : BallSave → Type 0
+IsShortBallSave b = IsSaveWithin b.settings
 
--- how many balls a multiball has
-pub record IsShortMultiball (m : Multiball) : Type 0 where
-  pub some_balls : 2 ≤ m.balls
-  pub few_balls : m.balls ≤ 99
+abbrev pub IsShortMultiball : Multiball → Type 0
+IsShortMultiball m = IsMultiballWithin m.settings
 
 -- the events that a logic block posts
-pub record IsShortBlock (b : Block) : Type 0 where
+pub record IsShortBlock (b : BlockEvents) : Type 0 where
   pub hit : length b.hit ≤ 1024
   pub complete : length b.complete ≤ 1024
 
--- the value at which something completes
-abbrev pub IsEndInRange : Option ℤ → Type 0
-IsEndInRange end = IfSome end (λ n. (neg_ℤ (pos 1000000000) ≤ℤ n) × (n ≤ℤ pos 1000000000))
-
 pub record IsShortCounter (c : Counter) : Type 0 where
-  pub end : IsEndInRange c.end
+  pub settings : IsCounterWithin c.settings
   pub block : IsShortBlock c.block
 
 pub record IsShortStepBlock (b : StepBlock) : Type 0 where
   pub steps : length b.steps ≤ 16
   pub block : IsShortBlock b.block
 
-pub record IsShortTimer (t : Timer) : Type 0 where
-  pub end : IsEndInRange t.end
-  pub interval : 1 ≤ t.interval
+abbrev pub IsShortTimer : Timer → Type 0
+IsShortTimer t = IsTimerWithin t.settings

@@ -2,12 +2,13 @@
 use Rattle.std.specs.Prelude.{ℕ, zero, suc, ℤ, pos, negsuc, ◌^◌, nat_lt, nat_le, ◌==◌, ◌&&◌, not, Bool, false, if◌then◌else◌, List, [], ◌∷◌, length, map, Option, Some, None, slice_get, codes}
 use Rattle.std.specs.List.{list_all}
 use Rattle.std.specs.Str.{bytes_eq}
-use Rattle.mpf_sections.specs.declared.words.Contact.{Contact}
-use Rattle.mpf_sections.specs.declared.words.Contact.TheVariants.{NormallyOpen, NormallyClosed}
+use Rattle.machine_settings.specs.declared.words.Contact.{Contact}
+use Rattle.machine_settings.specs.declared.words.Contact.TheVariants.{NormallyOpen, NormallyClosed}
 use Rattle.mpf_sections.specs.declared.words.Debounce.{Debounce}
 use Rattle.mpf_sections.specs.declared.words.Debounce.TheVariants.{Auto, Quick, Normal}
-use Rattle.mpf_sections.specs.declared.words.Direction.{Direction}
-use Rattle.mpf_sections.specs.declared.words.Direction.TheVariants.{Up, Down}
+use Rattle.machine_settings.specs.declared.words.Direction.{Direction}
+use Rattle.machine_settings.specs.declared.words.Direction.TheVariants.{Up, Down}
+use Rattle.machine_settings.specs.declared.settings.BlockSettings.{BlockSettings}
 use Rattle.mpf_sections.specs.declared.words.ControlAction.{ControlAction}
 use Rattle.mpf_sections.specs.declared.words.ControlAction.TheVariants.{Start, Stop, Pause, Reset, Restart, Add, Subtract, Jump}
 use Rattle.section_tables.specs.Rows.{Written, Handled, Plain, flag, number, time, power, word, name, event, Fields, Keyed, Value, one, names, posts, events, steps, maps, keyed, Entry, Player}
@@ -17,7 +18,7 @@ use Rattle.mpf_tables.specs.SectionTables as tables
 pub use Rattle.mpf_tables.specs.SectionTables.{switches_name, event_player_name, counters_name, accruals_name, sequences_name, timers_name, modes_name, mode_name}
 use Rattle.section_tables.specs.Entries.{handled_at}
 use Rattle.section_tables.specs.EntryOf.{within}
-use Rattle.mpf_sections.specs.Rows.{Switch, EventPlayer, Block, Counter, StepBlock, Control, Timer, ModeSettings, Content, entries, players, entry, listed, SectionRows}
+use Rattle.mpf_sections.specs.Rows.{Switch, EventPlayer, BlockEvents, Counter, StepBlock, Control, Timer, ModeSettings, Content, entries, players, entry, listed, SectionRows}
 
 -- ---- values
 
@@ -67,11 +68,6 @@ flag_of _ = false
 abbrev pub natural_of : Option Value → ℕ
 natural_of (Some (one (number (pos n)))) = if nat_lt n (2 ^ 32) then n else 0
 natural_of _ = 0
-
--- a number of this range; where there is none, this one
-abbrev pub natural_within : ℕ → ℕ → ℕ → Option Value → ℕ
-natural_within least greatest otherwise (Some (one (number (pos n)))) = if nat_le least n && nat_le n greatest then n else otherwise
-natural_within least greatest otherwise _ = otherwise
 
 -- a number
 abbrev pub number_of : Option Value → ℤ
@@ -165,12 +161,18 @@ switch_of e = record {
 
 -- ---- `counters`, `accruals` and `sequences`
 
--- the settings that all of them have
-abbrev pub block_of : List Setting → List Value → Block
-block_of table row = record {
+-- the settings that all of them have; a block is enabled at first where no event enables it
+abbrev pub block_settings_of : List Setting → List Value → BlockSettings
+block_settings_of table row = record {
+  enabled = length (listed_events (setting_of table (codes "enable_events") row)) == 0;
   reset_on_complete = flag_of (setting_of table (codes "reset_on_complete") row);
   disable_on_complete = flag_of (setting_of table (codes "disable_on_complete") row);
   persist = flag_of (setting_of table (codes "persist_state") row);
+}
+
+-- the events that all of them have
+abbrev pub block_of : List Setting → List Value → BlockEvents
+block_of table row = record {
   enables = listed_events (setting_of table (codes "enable_events") row);
   disables = listed_events (setting_of table (codes "disable_events") row);
   resets = listed_events (setting_of table (codes "reset_events") row);
@@ -187,11 +189,14 @@ unfoldable pub counter_of : Entry → Counter
 counter_of e = record {
   name = e.name;
   counts = listed_events (setting_of tables.counters (codes "count_events") e.values);
-  start = number_of (setting_of tables.counters (codes "starting_count") e.values);
-  interval = number_of (setting_of tables.counters (codes "count_interval") e.values);
-  end = limit_of (setting_of tables.counters (codes "count_complete_value") e.values);
-  direction = direction_of (word_of (setting_of tables.counters (codes "direction") e.values));
-  window = time_of (setting_of tables.counters (codes "multiple_hit_window") e.values);
+  settings = record {
+    block = block_settings_of tables.counters e.values;
+    start = number_of (setting_of tables.counters (codes "starting_count") e.values);
+    interval = number_of (setting_of tables.counters (codes "count_interval") e.values);
+    direction = direction_of (word_of (setting_of tables.counters (codes "direction") e.values));
+    complete = limit_of (setting_of tables.counters (codes "count_complete_value") e.values);
+    window = time_of (setting_of tables.counters (codes "multiple_hit_window") e.values);
+  };
   block = block_of tables.counters e.values;
   order = e.order;
 }
@@ -201,6 +206,7 @@ unfoldable pub step_block_of : Entry → StepBlock
 step_block_of e = record {
   name = e.name;
   steps = listed_steps (setting_of tables.step_blocks (codes "events") e.values);
+  settings = block_settings_of tables.step_blocks e.values;
   block = block_of tables.step_blocks e.values;
   order = e.order;
 }
@@ -254,12 +260,14 @@ timer_of e =
     let direction = direction_of (word_of (setting_of tables.timers (codes "direction") e.values)) in
     record {
       name = e.name;
-      start = number_of (setting_of tables.timers (codes "start_value") e.values);
-      end = end_from direction (limit_of (setting_of tables.timers (codes "end_value") e.values));
-      direction = direction;
-      interval = interval_from (time_of (setting_of tables.timers (codes "tick_interval") e.values));
-      start_running = flag_of (setting_of tables.timers (codes "start_running") e.values);
-      restart = flag_of (setting_of tables.timers (codes "restart_on_complete") e.values);
+      settings = record {
+        start = number_of (setting_of tables.timers (codes "start_value") e.values);
+        end = end_from direction (limit_of (setting_of tables.timers (codes "end_value") e.values));
+        direction = direction;
+        interval = interval_from (time_of (setting_of tables.timers (codes "tick_interval") e.values));
+        start_running = flag_of (setting_of tables.timers (codes "start_running") e.values);
+        restart = flag_of (setting_of tables.timers (codes "restart_on_complete") e.values);
+      };
       controls = controls_of (listed_maps (setting_of tables.timers (codes "control_events") e.values));
     }
 

@@ -1,19 +1,20 @@
 -- The entries of `ball_devices`, by the names of their settings.
-use Rattle.std.specs.Prelude.{ℕ, nat_le, Bool, ◌&&◌, ◌||◌, if◌then◌else◌, List, map, Option, Some, unwrap_or, codes}
+use Rattle.std.specs.Prelude.{ℕ, zero, suc, Bool, ◌||◌, List, map, Option, Some, None, unwrap_or, codes}
 use Rattle.std.specs.List.{list_any}
 use Rattle.std.specs.Str.{bytes_eq}
-use Rattle.section_tables.specs.Rows.{time, Value, one, Entry}
+use Rattle.section_tables.specs.Rows.{Entry}
 use Rattle.section_tables.specs.Entries.{written_at}
 use Rattle.mpf_tables.specs.SectionTables as tables
 pub use Rattle.mpf_tables.specs.SectionTables.{ball_devices_name, playfield}
-use Rattle.mpf_sections.specs.Typed.{setting_of, text_of, flag_of, natural_within, listed_names, name_in, entries_of}
+use Rattle.mpf_sections.specs.Typed.{setting_of, text_of, flag_of, listed_names, name_in, entries_of}
+use Rattle.mpf_sections.specs.TypedNumbers.{natural_setting, time_setting}
 use Rattle.mpf_sections.specs.TypedShots.{few}
 use Rattle.mpf_sections.specs.Rows.{BallDevice, SectionRows}
 
--- milliseconds from 1 to 2^32 - 1; where there are none, these
-abbrev pub some_time_of : ℕ → Option Value → ℕ
-some_time_of otherwise (Some (one (time ms))) = if nat_le 1 ms && nat_le ms 4294967295 then ms else otherwise
-some_time_of otherwise _ = otherwise
+-- how many attempts there may be, by a number in which 0 stands for no limit
+abbrev pub attempts_of : ℕ → Option ℕ
+attempts_of zero = None
+attempts_of (suc n) = Some (suc n)
 
 unfoldable pub ball_device_of : Entry → BallDevice
 ball_device_of e = record {
@@ -21,11 +22,13 @@ ball_device_of e = record {
   switches = few (listed_names (setting_of tables.ball_devices (codes "ball_switches") e.values));
   eject_coil = name_in (text_of (setting_of tables.ball_devices (codes "eject_coil") e.values));
   target = unwrap_or (name_in (text_of (setting_of tables.ball_devices (codes "eject_targets") e.values))) (written_at 0 playfield);
-  timeout = some_time_of 10000 (setting_of tables.ball_devices (codes "eject_timeouts") e.values);
-  entrance_delay = some_time_of 500 (setting_of tables.ball_devices (codes "entrance_count_delay") e.values);
-  exit_delay = some_time_of 500 (setting_of tables.ball_devices (codes "exit_count_delay") e.values);
-  mechanical = flag_of (setting_of tables.ball_devices (codes "mechanical_eject") e.values);
-  max_attempts = natural_within 0 1000 0 (setting_of tables.ball_devices (codes "max_eject_attempts") e.values);
+  ejects = record {
+    entrance_delay = time_setting tables.ball_devices (codes "entrance_count_delay") e.values;
+    exit_delay = time_setting tables.ball_devices (codes "exit_count_delay") e.values;
+    timeout = time_setting tables.ball_devices (codes "eject_timeouts") e.values;
+    max_attempts = attempts_of (natural_setting tables.ball_devices (codes "max_eject_attempts") e.values);
+    mechanical = flag_of (setting_of tables.ball_devices (codes "mechanical_eject") e.values);
+  };
   tags = listed_names (setting_of tables.ball_devices (codes "tags") e.values);
   order = e.order;
 }

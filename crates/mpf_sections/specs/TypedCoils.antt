@@ -8,6 +8,7 @@ use Rattle.section_tables.specs.Kinds.{Setting}
 use Rattle.mpf_tables.specs.SectionTables as tables
 pub use Rattle.mpf_tables.specs.SectionTables.{coils_name, coil_player_name, flippers_name, autofire_coils_name}
 use Rattle.mpf_sections.specs.Typed.{setting_of, field_of, text_of, flag_of, listed_events, listed_keyed, handled_in, name_in, word_in, pulse_in, power_in, entries_of, players_of}
+use Rattle.mpf_sections.specs.TypedNumbers.{time_setting}
 use Rattle.mpf_sections.specs.Rows.{Coil, CoilItem, CoilPlayer, Flipper, Autofire, SectionRows}
 
 -- ---- `coils`
@@ -29,7 +30,7 @@ coil_text key e = text_of (setting_of tables.coils key e.values)
 -- where no longest pulse is written, it is the default one; where no power to hold the coil, it is the greatest
 unfoldable pub coil_of : Entry → Coil
 coil_of e =
-    let pulse_ms = unwrap_or (pulse_in (coil_text (codes "default_pulse_ms") e)) 10 in
+    let pulse_ms = time_setting tables.coils (codes "default_pulse_ms") e.values in
     let allowed = flag_of (setting_of tables.coils (codes "allow_enable") e.values) in
     let hold_power = power_in (coil_text (codes "default_hold_power") e) in
     let greatest = max_hold_power (power_in (coil_text (codes "max_hold_power") e)) allowed hold_power in

@@ -1,13 +1,14 @@
 -- The entries of `machine`, `game` and `variable_player`, by the names of their settings.
 use Rattle.std.specs.Prelude.{ℕ, ℤ, pos, negsuc, if◌then◌else◌, List, map, Option, Some, codes}
 use Rattle.std.specs.Str.{bytes_eq}
-use Rattle.mpf_sections.specs.declared.words.VariableAction.{VariableAction}
-use Rattle.mpf_sections.specs.declared.words.VariableAction.TheVariants.{Add, Set}
+use Rattle.machine_settings.specs.declared.words.VariableAction.{VariableAction}
+use Rattle.machine_settings.specs.declared.words.VariableAction.TheVariants.{Add, Set}
 use Rattle.section_tables.specs.Rows.{Plain, number, Keyed, Entry, Player}
 use Rattle.section_tables.specs.EntryOf.{within}
 use Rattle.mpf_tables.specs.SectionTables as tables
 pub use Rattle.mpf_tables.specs.SectionTables.{variable_player_name, machine_section_name, game_name}
-use Rattle.mpf_sections.specs.Typed.{setting_of, field_of, natural_within, listed_keyed, handled_in, word_in, players_of, content_named, row_or}
+use Rattle.mpf_sections.specs.Typed.{field_of, listed_keyed, handled_in, word_in, players_of, content_named, row_or}
+use Rattle.mpf_sections.specs.TypedNumbers.{natural_setting}
 use Rattle.mpf_sections.specs.Rows.{VariableItem, VariablePlayer, GameSettings, SectionRows}
 
 -- ---- `variable_player`
@@ -39,13 +40,12 @@ variable_players_in s = map variable_player_of (players_of variable_player_name 
 
 unfoldable pub game_of : Entry → GameSettings
 game_of e = record {
-  balls_per_game = natural_within 1 99 3 (setting_of tables.game (codes "balls_per_game") e.values);
-  max_players = natural_within 1 4 4 (setting_of tables.game (codes "max_players") e.values);
+  balls_per_game = natural_setting tables.game (codes "balls_per_game") e.values;
+  max_players = natural_setting tables.game (codes "max_players") e.values;
 }
 
 -- ---- `machine`
 
 -- how many balls a game needs: what the section says, or its default if there is no such section
 abbrev pub min_balls_of : List SectionRows → ℕ
-min_balls_of sections =
-    natural_within 0 99 1 (setting_of tables.machine (codes "min_balls") (row_or tables.machine (content_named machine_section_name sections)))
+min_balls_of sections = natural_setting tables.machine (codes "min_balls") (row_or tables.machine (content_named machine_section_name sections))

@@ -3,14 +3,17 @@ use Rattle.std.specs.Prelude.{List, map, codes}
 use Rattle.section_tables.specs.Rows.{Entry}
 use Rattle.mpf_tables.specs.SectionTables as tables
 pub use Rattle.mpf_tables.specs.SectionTables.{ball_saves_name, multiballs_name}
-use Rattle.mpf_sections.specs.Typed.{setting_of, natural_within, time_of, listed_events, entries_of}
+use Rattle.mpf_sections.specs.Typed.{setting_of, time_of, listed_events, entries_of}
+use Rattle.mpf_sections.specs.TypedNumbers.{natural_setting}
 use Rattle.mpf_sections.specs.Rows.{BallSave, Multiball, SectionRows}
 
 unfoldable pub ball_save_of : Entry → BallSave
 ball_save_of e = record {
   name = e.name;
-  active_time = time_of (setting_of tables.ball_saves (codes "active_time") e.values);
-  balls = natural_within 1 99 1 (setting_of tables.ball_saves (codes "balls_to_save") e.values);
+  settings = record {
+    active_time = time_of (setting_of tables.ball_saves (codes "active_time") e.values);
+    balls = natural_setting tables.ball_saves (codes "balls_to_save") e.values;
+  };
   enable_events = listed_events (setting_of tables.ball_saves (codes "enable_events") e.values);
   disable_events = listed_events (setting_of tables.ball_saves (codes "disable_events") e.values);
 }
@@ -18,7 +21,7 @@ ball_save_of e = record {
 unfoldable pub multiball_of : Entry → Multiball
 multiball_of e = record {
   name = e.name;
-  balls = natural_within 2 99 2 (setting_of tables.multiballs (codes "ball_count") e.values);
+  settings = record { balls = natural_setting tables.multiballs (codes "ball_count") e.values };
   start_events = listed_events (setting_of tables.multiballs (codes "start_events") e.values);
 }
 

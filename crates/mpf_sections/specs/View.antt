@@ -10,7 +10,7 @@ use Rattle.mpf_sections.specs.declared.typed.HandledAt.{HandledAt}
 use Rattle.mpf_sections.specs.declared.typed.Switch as typed_switches
 use Rattle.mpf_sections.specs.declared.typed.EventPlayer as typed_players
 use Rattle.mpf_sections.specs.declared.typed.ModeSettings as typed_settings
-use Rattle.mpf_sections.specs.declared.blocks.Block as typed_blocks
+use Rattle.mpf_sections.specs.declared.blocks.BlockEvents as typed_blocks
 use Rattle.mpf_sections.specs.declared.blocks.Counter as typed_counters
 use Rattle.mpf_sections.specs.declared.blocks.StepBlock as typed_steps
 use Rattle.mpf_sections.specs.declared.timers.Control as typed_controls
@@ -29,7 +29,7 @@ use Rattle.mpf_sections.specs.declared.shots.ShotProfile as typed_profiles
 use Rattle.mpf_sections.specs.declared.balls.BallDevice as typed_balls
 use Rattle.mpf_sections.specs.declared.saves.BallSave as typed_saves
 use Rattle.mpf_sections.specs.declared.saves.Multiball as typed_multiballs
-use Rattle.mpf_sections.specs.Rows.{Written, Handled, Switch, EventPlayer, Coil, CoilItem, CoilPlayer, VariableItem, VariablePlayer, GameSettings, Flipper, Autofire, Shot, ShotGroup, ShotProfile, BallDevice, BallSave, Multiball, Block, Counter, StepBlock, Control, Timer, ModeSettings}
+use Rattle.mpf_sections.specs.Rows.{Written, Handled, Switch, EventPlayer, Coil, CoilItem, CoilPlayer, VariableItem, VariablePlayer, GameSettings, Flipper, Autofire, Shot, ShotGroup, ShotProfile, BallDevice, BallSave, Multiball, BlockEvents, Counter, StepBlock, Control, Timer, ModeSettings}
 use Rattle.mpf_sections.specs.Typed.{controls_of}
 use Rattle.mpf_sections.specs.TypedCoils.{coil_item_of}
 use Rattle.mpf_sections.specs.TypedGame.{variable_item_of}
@@ -71,11 +71,8 @@ mode_settings_view s = record {
   holds_ball_end = s.holds_ball_end;
 }
 
-abbrev pub block_view : typed_blocks.Block → Block
+abbrev pub block_view : typed_blocks.BlockEvents → BlockEvents
 block_view b = record {
-  reset_on_complete = b.reset_on_complete;
-  disable_on_complete = b.disable_on_complete;
-  persist = b.persist;
   enables = map handler_view b.enables.now;
   disables = map handler_view b.disables.now;
   resets = map handler_view b.resets.now;
@@ -88,32 +85,25 @@ abbrev pub counter_view : typed_counters.Counter → Counter
 counter_view c = record {
   name = name_view c.name.now;
   counts = map handler_view c.counts.now;
-  start = c.start;
-  interval = c.interval;
-  end = c.end;
-  direction = c.direction;
-  window = c.window;
+  settings = c.settings;
   block = block_view c.block;
   order = c.order.now;
 }
 
 abbrev pub step_block_view : typed_steps.StepBlock → StepBlock
-step_block_view b = record { name = name_view b.name.now; steps = map handlers_view b.steps.now; block = block_view b.block; order = b.order.now }
+step_block_view b = record {
+  name = name_view b.name.now;
+  steps = map handlers_view b.steps.now;
+  settings = b.settings;
+  block = block_view b.block;
+  order = b.order.now;
+}
 
 abbrev pub control_view : typed_controls.Control → Control
 control_view c = record { event = handled_at_view c.event; action = c.action; value = c.value }
 
 abbrev pub timer_view : typed_timers.Timer → Timer
-timer_view t = record {
-  name = name_view t.name.now;
-  start = t.start;
-  end = t.end;
-  direction = t.direction;
-  interval = t.interval;
-  start_running = t.start_running;
-  restart = t.restart;
-  controls = controls_of (map fields_view t.controls.now);
-}
+timer_view t = record { name = name_view t.name.now; settings = t.settings; controls = controls_of (map fields_view t.controls.now) }
 
 abbrev pub coil_view : typed_coils.Coil → Coil
 coil_view c = record {
@@ -206,11 +196,7 @@ ball_device_view d = record {
   switches = map name_view d.switches.now;
   eject_coil = option_map name_at_view d.eject_coil;
   target = name_at_view d.target;
-  timeout = d.timeout;
-  entrance_delay = d.entrance_delay;
-  exit_delay = d.exit_delay;
-  mechanical = d.mechanical;
-  max_attempts = d.max_attempts;
+  ejects = d.ejects;
   tags = map name_view d.tags.now;
   order = d.order.now;
 }
@@ -218,11 +204,10 @@ ball_device_view d = record {
 abbrev pub ball_save_view : typed_saves.BallSave → BallSave
 ball_save_view b = record {
   name = name_view b.name.now;
-  active_time = b.active_time;
-  balls = b.balls;
+  settings = b.settings;
   enable_events = map handler_view b.enable_events.now;
   disable_events = map handler_view b.disable_events.now;
 }
 
 abbrev pub multiball_view : typed_multiballs.Multiball → Multiball
-multiball_view m = record { name = name_view m.name.now; balls = m.balls; start_events = map handler_view m.start_events.now }
+multiball_view m = record { name = name_view m.name.now; settings = m.settings; start_events = map handler_view m.start_events.now }

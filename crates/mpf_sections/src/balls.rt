@@ -1,16 +1,16 @@
 //! The entries of `ball_devices`, by the names of their settings.
 
-ghost use Rattle.std.specs.Prelude.{◌≡◌};
-ghost use Rattle.mpf_sections.specs.Typed.{natural_within};
-ghost use Rattle.mpf_sections.specs.TypedBalls.{is_tagged, is_trough, is_home, is_drain};
+ghost use Rattle.std.specs.Prelude.{◌≡◌, ◌<◌};
+ghost use Rattle.mpf_sections.specs.TypedBalls.{attempts_of, is_tagged, is_trough, is_home, is_drain};
 ghost use Rattle.mpf_sections.specs.View.{ball_device_view};
 ghost use Rattle.mpf_sections.specs.TypedOf.{IsBallDeviceOf};
-ghost use Rattle.mpf_sections.specs.Inside.{value_at};
 
+use crate::numbers::{natural, time};
 use crate::typed::NameAt;
-use crate::values::{few_names, flag, name, name_or, names, some_time, text};
-use mpf_tables::tables::PLAYFIELD;
-use section_tables::rows::{Entry, Name, Plain, Value};
+use crate::values::{few_names, flag, name, name_or, names, text};
+use machine_settings::EjectSettings;
+use mpf_tables::tables::{BALL_DEVICES, PLAYFIELD};
+use section_tables::rows::{Entry, Name};
 
 /// An entry of `ball_devices`.
 #[derive(Clone, Copy)]
@@ -22,18 +22,7 @@ pub struct BallDevice<'a> {
     pub eject_coil: Option<NameAt<'a>>,
     /// The device to which it ejects its balls, or `playfield`, as by default, at line 0.
     pub target: NameAt<'a>,
-    /// How many milliseconds an attempt to eject a ball lasts: at least 1, and 10,000 by default.
-    pub timeout: u32,
-    /// How many milliseconds a ball switch has to be active before its ball counts: at least 1, and
-    /// 500 by default.
-    pub entrance_delay: u32,
-    /// How many it has to be inactive before its ball is gone: at least 1, and 500 by default.
-    pub exit_delay: u32,
-    /// The setting `mechanical_eject`: whether a ball that leaves by itself counts as ejected. By
-    /// default it does not.
-    pub mechanical: bool,
-    /// How many attempts there are to eject a ball: up to 1,000; 0, as by default, for no limit.
-    pub max_attempts: u16,
+    pub ejects: EjectSettings,
     /// Its tags, of which `trough`, `home` and `drain` say what it is for.
     pub tags: &'a [Name],
     /// The settings that are written, by their places in the table, in the order in which they are
@@ -70,16 +59,13 @@ const HOME: &[u8] = b"home";
 
 const DRAIN: &[u8] = b"drain";
 
-// The number of attempts at a place of a row: up to 1,000; 0 where there is no such number.
-fn attempts(entry: &Entry, at: usize) -> u16
-    ensures { result ≡ natural_within 0 1000 0 (value_at entry.now at) }
+// How many attempts there may be, by a number of 16 bits: 0 stands for no limit.
+fn attempts(number: u32) -> Option<u16>
+    ensures { number < 65536 → result ≡ attempts_of number }
 {
-    match entry.value(at) {
-        Some(Value::One(Plain::Number(number))) => match u16::try_from(*number) {
-            Ok(n) if n <= 1_000 => n,
-            _ => 0,
-        },
-        _ => 0,
+    match u16::try_from(number) {
+        Ok(n) if n > 0 => Some(n),
+        _ => None,
     }
 }
 
@@ -93,11 +79,13 @@ pub fn as_ball_device(entry: &Entry) -> BallDevice<'_>
         switches: few_names(entry, BALL_SWITCHES),
         eject_coil: name(text(entry, EJECT_COIL)),
         target: name_or(text(entry, EJECT_TARGETS), PLAYFIELD),
-        timeout: some_time(entry, EJECT_TIMEOUTS, 10_000),
-        entrance_delay: some_time(entry, ENTRANCE_COUNT_DELAY, 500),
-        exit_delay: some_time(entry, EXIT_COUNT_DELAY, 500),
-        mechanical: flag(entry, MECHANICAL_EJECT),
-        max_attempts: attempts(entry, MAX_EJECT_ATTEMPTS),
+        ejects: EjectSettings {
+            entrance_delay: time(entry, BALL_DEVICES, ENTRANCE_COUNT_DELAY),
+            exit_delay: time(entry, BALL_DEVICES, EXIT_COUNT_DELAY),
+            timeout: time(entry, BALL_DEVICES, EJECT_TIMEOUTS),
+            max_attempts: attempts(natural(entry, BALL_DEVICES, MAX_EJECT_ATTEMPTS)),
+            mechanical: flag(entry, MECHANICAL_EJECT),
+        },
         tags: names(entry, TAGS),
         order: entry.order(),
     }

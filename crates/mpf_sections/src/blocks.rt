@@ -1,23 +1,18 @@
 //! The entries of `counters`, `accruals` and `sequences`, by the names of their settings.
 
-ghost use Rattle.std.specs.Prelude.{◌≤◌};
-ghost use Rattle.mpf_sections.specs.Inside.{IsBlockAt};
+ghost use Rattle.std.specs.Prelude.{◌≡◌, ◌≤◌};
+ghost use Rattle.mpf_sections.specs.View.{entry_view};
+ghost use Rattle.mpf_sections.specs.Inside.{block_settings_at, IsBlockAt};
 ghost use Rattle.mpf_sections.specs.TypedOf.{IsCounterOf, IsStepBlockOf};
 
 use crate::values::{direction, flag, handlers, limit, milliseconds, number, posts_at, steps};
-use crate::words::Direction;
+use machine_settings::{BlockSettings, CounterSettings};
 use section_tables::rows::{Entry, Handler, Name};
 
-/// The settings that all logic blocks have.
+/// The events that all logic blocks have.
 #[derive(Clone, Copy)]
-pub struct Block<'a> {
-    /// Whether completing resets the block: by default it does.
-    pub reset_on_complete: bool,
-    /// Whether completing disables the block: by default it does.
-    pub disable_on_complete: bool,
-    /// Whether each player has a state of their own: by default there is one state.
-    pub persist: bool,
-    /// The events that enable it. Without any it is enabled at first.
+pub struct BlockEvents<'a> {
+    /// The events that enable the block. Without any it is enabled at first.
     pub enables: &'a [Handler],
     /// The events that disable it.
     pub disables: &'a [Handler],
@@ -37,17 +32,8 @@ pub struct Counter<'a> {
     pub name: &'a Name,
     /// The events that it counts.
     pub counts: &'a [Handler],
-    /// Its value at first: 0 by default.
-    pub start: i64,
-    /// By how much a hit moves the value: 1 by default.
-    pub interval: i64,
-    /// It completes when its value reaches or passes this one; by default it never does.
-    pub end: Option<i64>,
-    /// Up by default.
-    pub direction: Direction,
-    /// For how many milliseconds after a hit no other counts: 0 by default.
-    pub window: u32,
-    pub block: Block<'a>,
+    pub settings: CounterSettings,
+    pub block: BlockEvents<'a>,
     /// The settings that are written, by their places in the table, in the order in which they are
     /// written.
     pub order: &'a [usize],
@@ -59,7 +45,8 @@ pub struct StepBlock<'a> {
     pub name: &'a Name,
     /// The steps, each with the events that do it: at most 16.
     pub steps: &'a [Vec<Handler>],
-    pub block: Block<'a>,
+    pub settings: BlockSettings,
+    pub block: BlockEvents<'a>,
     /// The settings that are written, by their places in the table, in the order in which they are
     /// written.
     pub order: &'a [usize],
@@ -98,14 +85,24 @@ pub const STEPS_HIT: usize = 8;
 pub const STEPS_COMPLETE: usize = 9;
 
 // The settings that all logic blocks have, from this place on in a row.
-fn as_block(entry: &Entry, first: usize) -> Block<'_>
+fn block_settings(entry: &Entry, first: usize) -> BlockSettings
     requires { first ≤ 6 }
-    ensures { IsBlockAt first entry.now result }
+    ensures { result ≡ block_settings_at first (entry_view entry.now).values }
 {
-    Block {
+    BlockSettings {
+        enabled: handlers(entry, first + 3).is_empty(),
         reset_on_complete: flag(entry, first),
         disable_on_complete: flag(entry, first + 1),
         persist: flag(entry, first + 2),
+    }
+}
+
+// The events that all logic blocks have, after these settings.
+fn block_events(entry: &Entry, first: usize) -> BlockEvents<'_>
+    requires { first ≤ 6 }
+    ensures { IsBlockAt first entry.now result }
+{
+    BlockEvents {
         enables: handlers(entry, first + 3),
         disables: handlers(entry, first + 4),
         resets: handlers(entry, first + 5),
@@ -123,12 +120,15 @@ pub fn as_counter(entry: &Entry) -> Counter<'_>
     Counter {
         name: &entry.name,
         counts: handlers(entry, COUNT_EVENTS),
-        start: number(entry, STARTING_COUNT),
-        interval: number(entry, COUNT_INTERVAL),
-        end: limit(entry, COUNT_COMPLETE_VALUE),
-        direction: direction(entry, DIRECTION),
-        window: milliseconds(entry, MULTIPLE_HIT_WINDOW),
-        block: as_block(entry, BLOCK_OF_COUNTER),
+        settings: CounterSettings {
+            block: block_settings(entry, BLOCK_OF_COUNTER),
+            start: number(entry, STARTING_COUNT),
+            interval: number(entry, COUNT_INTERVAL),
+            direction: direction(entry, DIRECTION),
+            complete: limit(entry, COUNT_COMPLETE_VALUE),
+            window: milliseconds(entry, MULTIPLE_HIT_WINDOW),
+        },
+        block: block_events(entry, BLOCK_OF_COUNTER),
         order: entry.order(),
     }
 }
@@ -141,7 +141,8 @@ pub fn as_step_block(entry: &Entry) -> StepBlock<'_>
     StepBlock {
         name: &entry.name,
         steps: steps(entry, EVENTS),
-        block: as_block(entry, BLOCK_OF_STEPS),
+        settings: block_settings(entry, BLOCK_OF_STEPS),
+        block: block_events(entry, BLOCK_OF_STEPS),
         order: entry.order(),
     }
 }

@@ -4,9 +4,11 @@ ghost use Rattle.std.specs.Prelude.{◌≡◌};
 ghost use Rattle.mpf_sections.specs.TypedCoils.{may_hold, max_hold_power, coil_action_of};
 ghost use Rattle.mpf_sections.specs.TypedOf.{IsCoilPlayerOf, IsCoilItemOf, IsCoilOf};
 
+use crate::numbers::time;
 use crate::typed::HandledAt;
 use crate::values::{field, flag, handled, keyed, power, pulse, text, word_field};
 use crate::words::CoilAction;
+use mpf_tables::tables::COILS;
 use section_tables::rows::{Entry, Keyed, Name, Player};
 
 /// An entry of `coils`. Powers are in thousandths of full power.
@@ -116,7 +118,7 @@ fn max_hold_power(written: Option<u16>, allowed: bool, power: Option<u16>) -> u1
 pub fn as_coil(entry: &Entry) -> Coil<'_>
     ensures { IsCoilOf entry.now result }
 {
-    let pulse_ms = pulse(text(entry, DEFAULT_PULSE_MS)).unwrap_or(10);
+    let pulse_ms = time(entry, COILS, DEFAULT_PULSE_MS);
     let allowed = flag(entry, ALLOW_ENABLE);
     let hold_power = power(text(entry, DEFAULT_HOLD_POWER));
     let greatest = max_hold_power(power(text(entry, MAX_HOLD_POWER)), allowed, hold_power);

@@ -4,11 +4,12 @@ ghost use Rattle.std.specs.Prelude.{◌≡◌};
 ghost use Rattle.mpf_sections.specs.TypedGame.{variable_action_of};
 ghost use Rattle.mpf_sections.specs.TypedOf.{IsVariablePlayerOf, IsVariableItemOf, IsGameOf, min_balls_in};
 
+use crate::numbers::{natural, natural_default};
 use crate::section::{Content, Section};
 use crate::typed::{HandledAt, section_named};
-use crate::values::{change, handled, keyed, natural_within, word_field};
-use crate::words::VariableAction;
-use mpf_tables::tables::MACHINE_SECTION_NAME;
+use crate::values::{change, handled, keyed, word_field};
+use machine_settings::VariableAction;
+use mpf_tables::tables::{GAME, MACHINE, MACHINE_SECTION_NAME};
 use section_tables::rows::{Entry, Keyed, Name, Player};
 
 /// What is done with a variable where an event is handled.
@@ -93,8 +94,8 @@ pub fn as_game(entry: &Entry) -> GameSettings
     ensures { IsGameOf entry.now result }
 {
     GameSettings {
-        balls_per_game: natural_within(entry, BALLS_PER_GAME, 1, 99, 3),
-        max_players: natural_within(entry, MAX_PLAYERS, 1, 4, 4),
+        balls_per_game: natural(entry, GAME, BALLS_PER_GAME),
+        max_players: natural(entry, GAME, MAX_PLAYERS),
     }
 }
 
@@ -104,7 +105,7 @@ pub fn min_balls(sections: &[Section]) -> u32
     ensures { result ≡ min_balls_in sections.now }
 {
     match section_named(sections, MACHINE_SECTION_NAME) {
-        Some(Content::Entry(entry)) => natural_within(entry, MIN_BALLS, 0, 99, 1),
-        _ => 1,
+        Some(Content::Entry(entry)) => natural(entry, MACHINE, MIN_BALLS),
+        _ => natural_default(MACHINE, MIN_BALLS),
     }
 }

@@ -13,6 +13,7 @@ pub mod blocks;
 pub mod coil_rules;
 pub mod coils;
 pub mod game;
+mod numbers;
 pub mod saves;
 pub mod section;
 pub mod shots;
@@ -22,7 +23,7 @@ mod values;
 pub mod words;
 
 pub use balls::{BallDevice, as_ball_device};
-pub use blocks::{Block, Counter, StepBlock, as_counter, as_step_block};
+pub use blocks::{BlockEvents, Counter, StepBlock, as_counter, as_step_block};
 pub use coil_rules::{Autofire, Flipper, as_autofire, as_flipper};
 pub use coils::{Coil, CoilItem, CoilPlayer, as_coil, as_coil_item, as_coil_player};
 pub use game::{
@@ -37,4 +38,4 @@ pub use typed::{
     EventPlayer, HandledAt, ModeSettings, NameAt, Switch, as_event_player, as_handled,
     as_mode_settings, as_switch, listed_modes, mode_settings,
 };
-pub use words::{CoilAction, Contact, ControlAction, Debounce, Direction, VariableAction};
+pub use words::{CoilAction, ControlAction, Debounce};

@@ -8,7 +8,8 @@ use crate::typed::HandledAt;
 use crate::values::{
     direction, event, field, flag, limit, maps, milliseconds, number, number_field, word_field,
 };
-use crate::words::{ControlAction, Direction};
+use crate::words::ControlAction;
+use machine_settings::{Direction, TimerSettings};
 use section_tables::rows::{Entry, Fields, Name};
 
 /// An event that controls a timer.
@@ -24,19 +25,8 @@ pub struct Control<'a> {
 #[derive(Clone, Copy)]
 pub struct Timer<'a> {
     pub name: &'a Name,
-    /// Its value at first: 0 by default.
-    pub start: i64,
-    /// It completes when its value reaches or passes this one; none: never. By default a timer that
-    /// goes down completes at 0, and one that goes up never.
-    pub end: Option<i64>,
-    /// Up by default.
-    pub direction: Direction,
-    /// The milliseconds from one tick to the next: at least 1, and 1,000 by default.
-    pub interval: u32,
-    /// Whether it runs when its mode starts: by default it does not.
-    pub start_running: bool,
-    /// Whether it starts again when it completes: by default it does not.
-    pub restart: bool,
+    /// Where no end is written, a timer that goes down completes at 0, and one that goes up never.
+    pub settings: TimerSettings,
     /// The events that control it, each to be read with [`as_control`].
     pub controls: &'a [Fields],
 }
@@ -149,12 +139,14 @@ pub fn as_timer(entry: &Entry) -> Timer<'_>
     let direction = direction(entry, DIRECTION);
     Timer {
         name: &entry.name,
-        start: number(entry, START_VALUE),
-        end: end_from(direction, limit(entry, END_VALUE)),
-        direction,
-        interval: interval_from(milliseconds(entry, TICK_INTERVAL)),
-        start_running: flag(entry, START_RUNNING),
-        restart: flag(entry, RESTART_ON_COMPLETE),
+        settings: TimerSettings {
+            start: number(entry, START_VALUE),
+            end: end_from(direction, limit(entry, END_VALUE)),
+            direction,
+            interval: interval_from(milliseconds(entry, TICK_INTERVAL)),
+            start_running: flag(entry, START_RUNNING),
+            restart: flag(entry, RESTART_ON_COMPLETE),
+        },
         controls: maps(entry, CONTROL_EVENTS),
     }
 }

@@ -8,7 +8,8 @@ ghost use Rattle.mpf_sections.specs.Inside.{are_ball_ending, IsContentNamed};
 
 use crate::section::{Content, Section};
 use crate::values::{flag, handled, handlers, names, natural, posts, posts_at, word};
-use crate::words::{Contact, Debounce};
+use crate::words::Debounce;
+use machine_settings::Contact;
 use mpf_tables::tables::{MODE_NAME, MODES_NAME};
 use section_tables::rows::{Entry, Guard, Handler, Name, Player};
 

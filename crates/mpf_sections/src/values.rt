@@ -2,13 +2,12 @@
 
 ghost use Rattle.std.specs.Prelude.{◌≡◌, ◌&&◌, nat_le, pos, negsuc};
 ghost use Rattle.section_tables.specs.EntryOf.{within};
-ghost use Rattle.mpf_sections.specs.Typed.{word_of, flag_of, natural_of, natural_within, number_of, direction_of, limit_of, time_of, word_in, number_in};
+ghost use Rattle.mpf_sections.specs.Typed.{word_of, flag_of, natural_of, number_of, direction_of, limit_of, time_of, word_in, number_in};
 ghost use Rattle.mpf_sections.specs.TypedGame.{change_in};
-ghost use Rattle.mpf_sections.specs.TypedBalls.{some_time_of};
 ghost use Rattle.mpf_sections.specs.Inside.{value_at, IsTextAt, AreNamesAt, AreFewNamesAt, AreEventsAt, ArePostsOf, ArePostsAt, AreStepsAt, AreMapsAt, AreKeyedOf, field_at, IsFieldAt, IsAlways, IsHandledIn, IsEventIn, IsNameIn, IsNameOr, pulse_of_text, power_of_text};
 
 use crate::typed::{HandledAt, NameAt, as_handled};
-use crate::words::Direction;
+use machine_settings::Direction;
 use section_tables::rows::{Entry, Fields, Handler, Keyed, Name, Plain, Value};
 
 // ---- values of settings
@@ -94,19 +93,6 @@ pub fn natural(entry: &Entry, at: usize) -> u32
     }
 }
 
-/// The number at a place of an entry, of this range; where there is none, another.
-pub fn natural_within(entry: &Entry, at: usize, least: u32, greatest: u32, otherwise: u32) -> u32
-    ensures { result ≡ natural_within least greatest otherwise (value_at entry.now at) }
-{
-    match entry.value(at) {
-        Some(Value::One(Plain::Number(number))) => match u32::try_from(*number) {
-            Ok(n) if least <= n && n <= greatest => n,
-            _ => otherwise,
-        },
-        _ => otherwise,
-    }
-}
-
 /// Whether a number is from -1,000,000,000 to 1,000,000,000.
 fn is_limit(n: i64) -> bool
     ensures { result ≡ within (negsuc 999999999) (pos 1000000000) n }
@@ -151,16 +137,6 @@ pub fn milliseconds(entry: &Entry, at: usize) -> u32
     match entry.value(at) {
         Some(Value::One(Plain::Time(ms))) => *ms,
         _ => 0,
-    }
-}
-
-/// The milliseconds at a place of an entry, at least 1; where there are none, others.
-pub fn some_time(entry: &Entry, at: usize, otherwise: u32) -> u32
-    ensures { result ≡ some_time_of otherwise (value_at entry.now at) }
-{
-    match entry.value(at) {
-        Some(Value::One(Plain::Time(ms))) if *ms >= 1 => *ms,
-        _ => otherwise,
     }
 }
 

@@ -1,14 +1,5 @@
 //! What the words in settings say.
 
-/// The state of a switch's contact while nothing presses it.
-#[derive(Clone, Copy, Debug)]
-pub enum Contact {
-    /// Open: raw level 1 is active.
-    NormallyOpen,
-    /// Closed: raw level 0 is active.
-    NormallyClosed,
-}
-
 /// How long a raw level has to last before it is accepted.
 #[derive(Clone, Copy, Debug)]
 pub enum Debounce {
@@ -18,13 +9,6 @@ pub enum Debounce {
     Quick,
     /// 5 ms.
     Normal,
-}
-
-/// Which way a value goes.
-#[derive(Clone, Copy, Debug)]
-pub enum Direction {
-    Up,
-    Down,
 }
 
 /// What an event that controls a timer does with it.
@@ -57,13 +41,4 @@ pub enum CoilAction {
     Enable,
     /// It is off.
     Disable,
-}
-
-/// What is done with a variable.
-#[derive(Clone, Copy, Debug)]
-pub enum VariableAction {
-    /// The number is added to it.
-    Add,
-    /// It becomes the number.
-    Set,
 }

@@ -6,7 +6,7 @@ use Rattle.plan_tables.specs.declared.entries.SwitchId.{SwitchId}
 use Rattle.plan_tables.specs.declared.entries.CoilId.{CoilId}
 use Rattle.plan_tables.specs.Valid.{IsValid}
 use Rattle.written_machine.specs.Machine.{Machine}
-use Rattle.written_machine.specs.Run.{Source, source_due, Stimulus, SwitchChange, Alarm, Wait, IsTimely, IsAllowed}
+use Rattle.written_machine.specs.Run.{Source, Stimulus, SwitchChange, Alarm, Wait, IsTimely, IsAllowed}
 use Rattle.written_machine.specs.NextAlarm.{next_alarm, is_due_by}
 use Rattle.written_machine.proofs.NextAlarms.{none-nothing, found-is_next, next-is_found, not_due-nothing, nothing-not_due}
 use Rattle.written_machine.proofs.Reached.{reached-not_late}
@@ -15,7 +15,7 @@ use Rattle.pin_rig.specs.declared.input.Input.TheVariants as inputs
 use Rattle.pin_rig.specs.declared.input.StepFault.{StepFault}
 use Rattle.pin_rig.specs.declared.input.StepFault.TheVariants as faults
 use Rattle.pin_rig.specs.Refused.{is_too_late, admitted}
-use Rattle.pin_rig.specs.Rig.{RigView, timely, alarm_at, stimulus_in, unless_halted, stimulus_at, HasFailed, IsWhy, IsOfRun, IsNextMoment}
+use Rattle.pin_rig.specs.Rig.{RigView, timely, alarm_at, stimulus_in, unless_halted, stimulus_at, IsOfRun, IsNextMoment}
 use Rattle.pin_rig.specs.Steps.{IsOfInput}
 
 ok_is : (a b : Stimulus) → ◌≡◌ {A = Result Stimulus StepFault} (Ok a) (Ok b) → a ≡ b
@@ -215,25 +215,6 @@ refuses rig input = by rig.faulted
     by : (halted : Option CoilId) → Refuses (unless_halted halted (stimulus_in rig.checked rig.machine input))
     by None = in-refuses rig input
     by (Some coil) = tt
-
--- so nothing has changed, and this is why
-pub refused-failed : (input : Input) (old new : RigView) (fault : StepFault) → stimulus_at old input ≡ Err fault → new ≡ old → HasFailed input old new fault
-refused-failed input old new faults.BoardFault is same = absurd (subst Refuses is (refuses old input))
-refused-failed input old new faults.Halted is same = (is, same)
-refused-failed input old new faults.NoSuchSwitch is same = (is, same)
-refused-failed input old new faults.NoAlarm is same = (is, same)
-refused-failed input old new faults.Backwards is same = (is, same)
-refused-failed input old new faults.TooLate is same = (is, same)
-refused-failed input old new faults.AlarmPending is same = (is, same)
-
-pub failed-why : (input : Input) (old new : RigView) (fault : StepFault) → HasFailed input old new fault → IsWhy (stimulus_at old input) fault
-failed-why input old new faults.BoardFault h = (h.cascade.stimulus, h.cascade.stimulus_is)
-failed-why input old new faults.Halted h = h.0
-failed-why input old new faults.NoSuchSwitch h = h.0
-failed-why input old new faults.NoAlarm h = h.0
-failed-why input old new faults.Backwards h = h.0
-failed-why input old new faults.TooLate h = h.0
-failed-why input old new faults.AlarmPending h = h.0
 
 -- ---- the alarm that is due next
 

@@ -15,7 +15,7 @@ use Rattle.coil_guard.specs.SentCommands.{Sending, is_on}
 use Rattle.coil_guard.specs.CoilStep.{is_on_at}
 use Rattle.coil_guard.specs.Coils.{coil_at}
 use Rattle.coil_guard.specs.Calls as calls_of
-use Rattle.coil_guard.specs.Calls.{CoilCall, after_call, sent_by, sent_as}
+use Rattle.coil_guard.specs.Calls.{CoilCall, sent_as}
 use Rattle.coil_guard.specs.Follows.{Follows}
 use Rattle.coil_guard.specs.Asked.{limits_of, after_asking, answer_asking}
 use Rattle.coil_guard.proofs.Following.{calls_follow, later_follows}
@@ -126,13 +126,8 @@ module _ (limits : List CoilLimits) where
 
   line-follows : (sent : List Sending) (s : List CoilState) (owner : Owner) (now : ℕ) (what : Happening) → IsSent s owner now what → Follows limits sent s now
       → Follows limits (sent ++ sent_at now owner what) (after_happening owner now what s) now
-  line-follows sent s owner now (lines.Switch n active) is h = quiet-follows sent s now h
-  line-follows sent s owner now (lines.Event e) is h = quiet-follows sent s now h
   line-follows sent s owner now (lines.Coil command) is h = command-follows sent s owner now command is h
-  line-follows sent s owner now (lines.Skip command) is h = quiet-follows sent s now h
-  line-follows sent s owner now (lines.Player player v value) is h = quiet-follows sent s now h
-  line-follows sent s owner now (lines.Balls booking counts) is h = quiet-follows sent s now h
-  line-follows sent s owner now (lines.Final player score) is h = quiet-follows sent s now h
+  line-follows sent s owner now _ is h = quiet-follows sent s now h
 
   -- the first of the lines that are sent
   part-follows : (moment : ℕ) (shown later : List Line) (sent : List Sending) (s : List CoilState) → AreSent moment s (shown ++ later) → Follows limits sent s moment

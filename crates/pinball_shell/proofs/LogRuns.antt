@@ -21,7 +21,7 @@ use Rattle.pin_rig.specs.declared.input.StepFault.{StepFault}
 use Rattle.pin_rig.specs.Refused.{admitted}
 use Rattle.pin_rig.proofs.Judging.{admitted-is}
 use Rattle.pinball_shell.specs.declared.refusal.Refusal.{Refusal}
-use Rattle.pinball_shell.specs.LogText.{Said, Nothing, Unreadable, said}
+use Rattle.pinball_shell.specs.LogText.{Said, said}
 use Rattle.pinball_shell.specs.LogText as says
 use Rattle.pinball_shell.specs.RunOfLog.{if_admitted, change_of, given_by_line, trace_of, all_alarms_by, with_alarms, printed_for_line, after_line, printed_for_lines, printed_for_log, traced}
 use Rattle.pinball_shell.specs.RunGiven.{given_of, given_by_lines, stimuli_of, without_alarms, IsRunInOrder, IsPlayOfLog}
@@ -67,12 +67,11 @@ module _ (plan : PlanView) (now : ℕ) where
       subst (IsGivenInTime plan now) is (forward, early, within switch refl)
 
   pub given-in_time : (line : Said) (stimulus : Stimulus) → given_by_line plan now line ≡ Ok (Some stimulus) → IsGivenInTime plan now stimulus
-  given-in_time Nothing stimulus h = cc
-  given-in_time Unreadable stimulus h = cc
   given-in_time (says.Wait at) stimulus h =
       let (forward, early, is) = in_time now at (Wait at) stimulus h in
       subst (IsGivenInTime plan now) is (forward, early)
   given-in_time (says.Change at name level) stimulus h = given-change at (switch_named plan name) level stimulus (named_within plan name) h
+  given-in_time _ stimulus h = cc
 
 -- in time, and nothing is due any more: it may come
 pub may_come : (plan : PlanView) (now : ℕ) (s : Machine) (stimulus : Stimulus) → IsGivenInTime plan now stimulus → s.moment ≤ moment_of stimulus → IsNoAlarmDueBy s (moment_of stimulus) → IsAllowed plan s stimulus
@@ -112,9 +111,8 @@ in_order-push plan (x ∷ xs) old trace s (first, (k, (idle_first, (rest, run, i
     (first, (k, (idle_first, (rest ++ t.lines, in_order-push plan xs mid rest s run stimulus allowed n idle, ap (λ (ls : List Line). ls ++ t.lines) is ∙ append_assoc mid.lines rest t.lines))))
 
 abbrev is_alarm : Stimulus → Bool
-is_alarm (SwitchChange at n level) = false
 is_alarm (Alarm at source) = true
-is_alarm (Wait at) = false
+is_alarm _ = false
 
 -- whether the last of them is an alarm, or `none` where there is none
 abbrev ends_with_alarm : Bool → List Stimulus → Bool
@@ -134,14 +132,12 @@ no_alarm_last stimuli none before at source is = differ (sym none ∙ ap (ends_w
 
 -- what comes in time is no alarm
 in_time-given : (plan : PlanView) (now : ℕ) (stimulus : Stimulus) → IsGivenInTime plan now stimulus → without_alarms (stimulus ∷ []) ≡ stimulus ∷ []
-in_time-given plan now (SwitchChange at n level) time = refl
 in_time-given plan now (Alarm at source) none = absurd none
-in_time-given plan now (Wait at) time = refl
+in_time-given plan now _ time = refl
 
 in_time-no_alarm : (plan : PlanView) (now : ℕ) (stimulus : Stimulus) → IsGivenInTime plan now stimulus → is_alarm stimulus ≡ false
-in_time-no_alarm plan now (SwitchChange at n level) time = refl
 in_time-no_alarm plan now (Alarm at source) none = absurd none
-in_time-no_alarm plan now (Wait at) time = refl
+in_time-no_alarm plan now _ time = refl
 
 module _ (c : CheckedView) (accepted : IsAccepted c) where
   -- Some run in plan order was given these stimuli, and alarms, and whether one of those came last; it has this trace and leads
@@ -255,20 +251,18 @@ module _ (c : CheckedView) (accepted : IsAccepted c) where
 
   run-line : (number : ℕ) (given : List Stimulus) (trace : List Line) (s : Machine) (line : Said) → IsRunGiven given false trace s → (is : Result (Option Stimulus) Refusal) → given_by_line c.plan s.moment line ≡ is
       → IsRunGiven (given ++ option_to_list (given_of is)) false (trace ++ traced (printed_for_line c.plan c.bound number s is)) (after_line c.plan c.bound s is)
-  run-line number given trace s line run (Ok None) is = run-nothing given trace s run
-  run-line number given trace s line run (Err refusal) is = run-nothing given trace s run
   run-line number given trace s line run (Ok (Some stimulus)) is =
       let played = trace_of c.plan c.bound (with_alarms c.plan c.bound stimulus s) s in
       subst (λ (ls : List Line). IsRunGiven (given ++ stimulus ∷ []) false (trace ++ ls) (state_after c.plan c.bound (with_alarms c.plan c.bound stimulus s) s)) (sym (traced-lines played))
       (run-given given trace s stimulus run (given-in_time c.plan s.moment line stimulus is))
+  run-line number given trace s line run _ is = run-nothing given trace s run
 
   -- the latest moment is that of the latest stimulus that was given
   latest-given : (s : Machine) (is : Result (Option Stimulus) Refusal) → (after_line c.plan c.bound s is).moment ≡ option_map_or moment_of (given_of is) s.moment
-  latest-given s (Ok None) = refl
-  latest-given s (Err refusal) = refl
   latest-given s (Ok (Some stimulus)) =
       let alarms = all_alarms_by c.plan c.bound (moment_of stimulus) s in
       ap (λ (m : Machine). m.moment) (state_after-append c.plan c.bound alarms (stimulus ∷ []) s) ∙ settled-moment c.plan c.bound stimulus (state_after c.plan c.bound alarms s)
+  latest-given s _ = refl
 
   run-lines : (number : ℕ) (log : List (List ℕ)) (given : List Stimulus) (trace : List Line) (s : Machine) → IsRunGiven given false trace s
       → (t : Machine) × IsRunGiven (given ++ given_by_lines c.plan s.moment log) false (trace ++ traced (printed_for_lines c.plan c.bound number log s)) t

@@ -26,9 +26,8 @@ none_given (Alarm at source ∷ more) e h = absurd (h [] at source (ap (λ (xs :
 none_given (Wait at ∷ more) e h = cc
 
 given-rest : (x : Stimulus) (xs ys : List Stimulus) → without_alarms (x ∷ xs) ≡ without_alarms (x ∷ ys) → without_alarms xs ≡ without_alarms ys
-given-rest (SwitchChange at n level) xs ys e = cc
 given-rest (Alarm at source) xs ys e = e
-given-rest (Wait at) xs ys e = cc
+given-rest _ xs ys e = cc
 
 next-same : (s : Machine) (at other : ℕ) (a b : Source) → IsNextAlarm s at a → IsNextAlarm s other b → Alarm at a ≡ Alarm other b
 next-same s at other a b here there =

@@ -1,5 +1,5 @@
 -- Alarms and lines of a log that are played one after another.
-use Rattle.std.proofs.Common.{◌≡◌, ℕ, ◌+◌, ◌-◌, ◌<◌, ◌≤◌, Bool, true, false, ◌||◌, cond, Option, Some, None, Result, Ok, Err, List, [], ◌∷◌, ◌++◌, length, map, take, inl, inr, refl, ap, sym, ◌∙◌, subst, arith, append_assoc, append-nil, length-append}
+use Rattle.std.proofs.Common.{◌≡◌, ℕ, ◌+◌, ◌-◌, ◌<◌, ◌≤◌, Bool, true, false, ◌||◌, cond, Option, Some, None, Result, Ok, Err, List, [], ◌∷◌, ◌++◌, length, map, take, inr, refl, ap, sym, ◌∙◌, subst, arith, append_assoc, append-nil, length-append}
 use Rattle.std.specs.List.{list_any}
 use Rattle.std.specs.Io.KnownBytes.{Appends, append_known}
 use Rattle.std.specs.Str.Lines.{lines}
@@ -133,9 +133,8 @@ module _ (plan : PlanView) (bound : ℕ) where
   -- ---- the lines of a log
 
   any-append : (xs ys : List Printed) → list_any is_refused (xs ++ ys) ≡ (list_any is_refused xs || list_any is_refused ys)
-  any-append [] ys = refl
   any-append (Traced l ∷ xs) ys = any-append xs ys
-  any-append (Refused n r ∷ xs) ys = refl
+  any-append _ ys = refl
 
   either_refused : (t u : Bool) → worse_of (cond t verdicts.Refused verdicts.Yes) (cond u verdicts.Refused verdicts.Yes) ≡ cond (t || u) verdicts.Refused verdicts.Yes
   either_refused true true = refl
@@ -174,17 +173,6 @@ module _ (plan : PlanView) (bound : ℕ) where
     pub printed : IsPrinted plan (printed_for_lines plan bound 1 earlier (initial plan)) old now before after
     pub verdict_is : verdict ≡ log_verdict (printed_for_lines plan bound 1 earlier (initial plan))
     pub few : number + length rest ≤ 1 + length log
-
-  pub lines-start : (log : List ℕ) (old : RigView) (a : Option (List ℕ)) → old.machine ≡ initial plan → old.faulted ≡ None → AreLinesGoing log old a 1 log old a verdicts.Yes
-  lines-start log old a rest running = record {
-    earlier = [];
-    log_is = refl;
-    number_is = refl;
-    state = rest;
-    printed = printed-none plan old a running;
-    verdict_is = refl;
-    few = omega arith;
-  }
 
   module _ (log : List ℕ) (old : RigView) (number : ℕ) (rest line left : List ℕ) (s t : RigView) (a b c : Option (List ℕ)) (v : Verdict) (h : AreLinesGoing log old a number rest s b v) (is : lines rest ≡ line ∷ lines left) where
     abbrev push : List (List ℕ)
@@ -254,21 +242,6 @@ module _ (plan : PlanView) (bound : ℕ) where
           text = subst (Appends a d) (sym (texts-append plan shown last)) (Appends-trans a c d _ _ to_fault.text (subst (Appends c d) (sym (append-nil (refused_text number (Step BoardFault)))) text));
           verdict_is = verdict ∙ sym (worse_refused (log_verdict shown)) ∙ verdict-append shown last;
         }
-
-  pub lines-end : (log : List ℕ) (old : RigView) (number : ℕ) (rest : List ℕ) (s : RigView) (a b : Option (List ℕ)) (v : Verdict) → AreLinesGoing log old a number rest s b v → length rest ≡ 0 → IsLogPlayed plan bound log old s a b v
-  lines-end log old number rest s a b v h none =
-      let all : h.earlier ≡ lines log = sym (append-nil h.earlier) ∙ sym (ap (λ (r : List ℕ). h.earlier ++ lines r) (empty rest none)) ∙ sym h.log_is in
-      let printed = ap (λ (ls : List (List ℕ)). printed_for_lines plan bound 1 ls (initial plan)) all in
-      record {
-        printed = printed_for_lines plan bound 1 h.earlier (initial plan);
-        end = inl (record { printed_is = printed; machine_is = h.state ∙ ap (λ (ls : List (List ℕ)). after_log_lines plan bound ls (initial plan)) all; served = h.printed.served });
-        text = h.printed.text;
-        verdict_is = h.verdict_is;
-      }
-    where
-      empty : (xs : List ℕ) → length xs ≡ 0 → xs ≡ []
-      empty [] e = refl
-      empty (x ∷ xs) e = absurd (omega arith)
 
   -- what is left on the page is written
   pub log-written : (log : List ℕ) (old s : RigView) (first grown last : Option (List ℕ)) (empty page : List ℕ) (v : Verdict) → empty ≡ [] → Appends grown last page

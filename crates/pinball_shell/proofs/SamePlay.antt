@@ -1,5 +1,5 @@
 -- The bound says only how many event steps there may be, and not what they do.
-use Rattle.std.proofs.Common.{◌≡◌, ℕ, zero, suc, ◌+◌, ◌<◌, ◌≤◌, ◌^◌, Option, Some, None, Result, Ok, Err, List, [], ◌∷◌, ◌++◌, map, inl, inr, refl, ap, sym, ◌∙◌, subst, arith}
+use Rattle.std.proofs.Common.{◌≡◌, ℕ, zero, suc, ◌+◌, ◌<◌, ◌≤◌, ◌^◌, Option, Some, Result, Ok, List, [], ◌∷◌, ◌++◌, map, inl, inr, refl, ap, sym, ◌∙◌, subst, arith}
 use Rattle.std.specs.Str.Lines.{lines}
 use Rattle.plan_tables.specs.PlanView.{PlanView}
 use Rattle.written_machine.specs.declared.line.Line.{Line}
@@ -131,8 +131,6 @@ module _ (plan : PlanView) (ws vs : List ℕ) (a b : ℕ) where
       reached : Reached (after_line plan a s given)
 
     same-line : (number : ℕ) (s : Machine) → Reached s → (given : Result (Option Stimulus) Refusal) → ((stimulus : Stimulus) → given ≡ Ok (Some stimulus) → IsGivenInTime plan s.moment stimulus) → IsSameLine number s given
-    same-line number s reached (Ok None) time = record { printed = refl; state = refl; reached = reached }
-    same-line number s reached (Err refusal) time = record { printed = refl; state = refl; reached = reached }
     same-line number s reached (Ok (Some stimulus)) time =
         let h = same-given s reached stimulus (time stimulus refl) in
         record {
@@ -140,6 +138,7 @@ module _ (plan : PlanView) (ws vs : List ℕ) (a b : ℕ) where
           state = ap (λ (xs : List Stimulus). state_after plan b xs s) h.same ∙ h.state;
           reached = h.reached;
         }
+    same-line number s reached _ time = record { printed = refl; state = refl; reached = reached }
 
     same-lines : (number : ℕ) (log : List (List ℕ)) (s : Machine) → Reached s → printed_for_lines plan b number log s ≡ printed_for_lines plan a number log s
     same-lines number [] s reached = refl

@@ -6,7 +6,7 @@ use Rattle.written_machine.specs.declared.line.Line.{Line}
 use Rattle.written_machine.specs.CheckedView.{CheckedView}
 use Rattle.written_machine.specs.Accepted.{IsAccepted}
 use Rattle.written_machine.specs.Machine.{Machine}
-use Rattle.written_machine.specs.Run.{Stimulus, SwitchChange, Alarm, Wait, moment_of, IsReached}
+use Rattle.written_machine.specs.Run.{Stimulus, Alarm, moment_of, IsReached}
 use Rattle.written_machine.specs.NextAlarm.{is_due_by}
 use Rattle.written_machine.proofs.NextAlarms.{not_due-nothing}
 use Rattle.coil_driver.specs.Board.{BoardView, commands_of, TellsMore}
@@ -42,9 +42,8 @@ use Rattle.pinball_shell.proofs.Playing.{line-played, line-fault, line-alarm_fau
 -- ---- what the rig takes
 
 input_of-stimulus : (plan : PlanView) (now : ℕ) (stimulus : Stimulus) → IsGivenInTime plan now stimulus → IsOfInput (input_of stimulus) stimulus
-input_of-stimulus plan now (SwitchChange at n level) time = refl
 input_of-stimulus plan now (Alarm at source) none = absurd none
-input_of-stimulus plan now (Wait at) time = refl
+input_of-stimulus plan now _ time = refl
 
 -- what comes in time is taken, once nothing is due by its moment
 in_time-taken : (rig : RigView) (now : ℕ) (stimulus : Stimulus) → rig.faulted ≡ None → IsGivenInTime rig.checked.plan now stimulus → rig.machine.moment ≤ moment_of stimulus → is_due_by (moment_of stimulus) rig.machine ≡ false → stimulus_at rig (input_of stimulus) ≡ Ok stimulus

@@ -1,6 +1,6 @@
 -- What effect lists do.
 use Rattle.std.specs.Prelude.{ℕ, ℤ, Bool, List}
-use Rattle.plan_tables.specs.declared.entries.VariableAction.{VariableAction}
+use Rattle.machine_settings.specs.declared.words.VariableAction.{VariableAction}
 
 -- What is done with a coil: it is pulsed, for so many milliseconds and with this power in thousandths; or enabled with
 -- this power; or disabled.

@@ -6,10 +6,11 @@ ghost use Rattle.plan_contributions.specs.Contributions.{event_ending, mode_even
 ghost use Rattle.machine_definitions.specs.Players.{player_event};
 ghost use Rattle.plan_contributions.specs.View.{parts_text, named_view, effect_view, contribution_view};
 
+use machine_settings::VariableAction;
 use plan_rows::Place;
 use plan_tables::Comparison;
 use plan_tables::devices::{Act, Settings};
-use plan_tables::entries::{CoilLimits, ModeEvent, SwitchKind, VariableAction};
+use plan_tables::entries::{CoilLimits, ModeEvent, SwitchKind};
 use plan_tables::table::Table;
 use std::alloc::AllocError;
 

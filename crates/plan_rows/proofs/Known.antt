@@ -1,15 +1,11 @@
 -- What other entries say of the shots of a group.
-use Rattle.std.proofs.Common.{◌≡◌, true, false, ◌&&◌, ℕ, ◌+◌, ◌<◌, Bool, List, [], ◌∷◌, length, map, drop, get_or, Option, None, Some, option_map, refl, sym, ap, ◌∙◌}
-use Rattle.std.specs.Prelude.{is_some, not, slice_get}
+use Rattle.std.proofs.Common.{◌≡◌, true, false, ◌&&◌, ℕ, ◌+◌, ◌<◌, Bool, List, ◌∷◌, length, map, drop, get_or, Option, None, Some, option_map, refl, sym, ap, ◌∙◌}
+use Rattle.std.specs.Prelude.{is_some, not}
 use Rattle.std.specs.List.{list_all}
-use Rattle.std.proofs.lemmas.Option.{same_Some}
 use Rattle.section_tables.specs.declared.rows.Name.{Name}
 use Rattle.mpf_sections.specs.Rows.{Written}
 use Rattle.mpf_sections.specs.View.{name_view}
-use Rattle.mpf_config.specs.Rows.{Rows}
-use Rattle.machine_definitions.specs.Shots.{shot_called}
 use Rattle.machine_definitions.proofs.Finding.{next-is}
-use Rattle.plan_rows.specs.Members.{profile_if, first_profile}
 
 -- whether something is found, of what is found
 pub is_some-map : {X Y : Type 0} (f : X → Y) (o : Option X) → is_some (option_map f o) ≡ is_some o
@@ -37,12 +33,3 @@ module _ (f : Written → Bool) (names : List Name) (i : ℕ) (d : Name) (within
 
   pub not_all : f (name_view d) ≡ false → false ≡ list_all f (map name_view (drop i names))
   not_all fails = ap (λ b. b && list_all f (map name_view (drop (i + 1) names))) (sym fails) ∙ next-is (λ l. list_all f (map name_view l)) names i d within is
-
--- the profile of the first
-pub first_there : (rows : Rows) (names : List Name) (n : Name) → slice_get names 0 ≡ Some n → profile_if rows (shot_called rows (name_view n).text) ≡ first_profile rows (map name_view names)
-first_there rows [] n e = absurd cc
-first_there rows (x ∷ xs) n e = ap (λ (m : Name). profile_if rows (shot_called rows (name_view m).text)) (sym (same_Some x n e))
-
-pub none_there : (rows : Rows) (names : List Name) → slice_get names 0 ≡ None → profile_if rows None ≡ first_profile rows (map name_view names)
-none_there rows [] e = refl
-none_there rows (x ∷ xs) e = absurd cc

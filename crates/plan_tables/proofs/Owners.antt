@@ -14,8 +14,7 @@ use Rattle.plan_tables.specs.PlanView.{PlanView, is_owner, row_at, row_numbers, 
 pub is_owner-same : (a b : Owner) → is_owner a b ≡ true → a ≡ b
 is_owner-same Machine Machine is = refl
 is_owner-same (Mode m) (Mode n) is = ap (λ k. Mode (record { 0 = k })) (eqb-true m.0 n.0 is)
-is_owner-same Machine (Mode n) is = cc
-is_owner-same (Mode m) Machine is = cc
+is_owner-same _ _ is = cc
 
 -- what passes a test is among those that do
 filter-there : {X : Type 0} (p : X → Bool) (xs : List X) (x : X) → Contains xs x → p x ≡ true → Contains (filter p xs) x

@@ -2,7 +2,7 @@
 use Rattle.std.proofs.Common.{suc, ◌+◌, ◌≤◌, Bool, true, false, if◌then◌else◌, arith}
 use Rattle.std.proofs.lemmas.Nat.{mul-le}
 use Rattle.plan_tables.specs.declared.devices.Settings.{Settings}
-use Rattle.plan_tables.specs.declared.devices.Settings.TheVariants.{Counter, Accrual, Sequence, Timer, Bank, Flipper, Autofire, BallDevice, BallSave, Multiball}
+use Rattle.plan_tables.specs.declared.devices.Settings.TheVariants.{Bank}
 use Rattle.plan_tables.specs.Devices.{IsWithinLimits, list_count}
 
 of_group : (group : Bool) → (if group then 2 else 0) ≤ 2
@@ -10,17 +10,9 @@ of_group true = omega arith
 of_group false = omega arith
 
 pub few_lists : (s : Settings) → IsWithinLimits s → list_count s ≤ 288
-few_lists (Counter c) limits = omega arith
-few_lists (Accrual a) limits = omega arith
-few_lists (Sequence q) limits = omega arith
-few_lists (Timer t) limits = omega arith
 few_lists (Bank b) limits =
     let shots = limits.0 in
     let states = limits.1 in
     let more = of_group b.group in
     mul-le (suc b.last_state) (b.shots + (if b.group then 2 else 0)) 16 18 (omega (arith, states)) (omega (arith, shots, more))
-few_lists Flipper limits = omega arith
-few_lists Autofire limits = omega arith
-few_lists (BallDevice d) limits = omega arith
-few_lists (BallSave b) limits = omega arith
-few_lists (Multiball m) limits = omega arith
+few_lists _ limits = omega arith

@@ -1,43 +1,28 @@
 -- The limits of a device's settings, and how many effect lists it has.
-use Rattle.std.specs.Prelude.{◌≡◌, ℕ, suc, ◌+◌, ◌*◌, ◌≤◌, ℤ, pos, neg_ℤ, ◌≤ℤ◌, if◌then◌else◌, Option, IfSome, length}
+use Rattle.std.specs.Prelude.{◌≡◌, ℕ, suc, ◌+◌, ◌*◌, ◌≤◌, if◌then◌else◌, length}
+use Rattle.machine_settings.specs.Limits.{IsCounterWithin, AreStepsWithin, IsTimerWithin, IsEjectWithin, IsSaveWithin, IsMultiballWithin}
 use Rattle.plan_tables.specs.declared.devices.BallSettings.{BallSettings}
 use Rattle.plan_tables.specs.declared.devices.BankSettings.{BankSettings}
 use Rattle.plan_tables.specs.declared.devices.Settings.{Settings}
 use Rattle.plan_tables.specs.declared.devices.Settings.TheVariants.{Counter, Accrual, Sequence, Timer, Bank, Flipper, Autofire, BallDevice, BallSave, Multiball}
 
--- a number of a setting
-abbrev pub IsNumberWithin : ℤ → Type 0
-IsNumberWithin n = (neg_ℤ (pos 1000000000) ≤ℤ n) × (n ≤ℤ pos 1000000000)
-
--- a value that is reached
-abbrev pub IsEndWithin : Option ℤ → Type 0
-IsEndWithin end = IfSome end IsNumberWithin
-
--- how many attempts there may be
-abbrev pub IsAttemptsWithin : Option ℕ → Type 0
-IsAttemptsWithin attempts = IfSome attempts (λ n. (1 ≤ n) × (n ≤ 1000))
-
--- at most 16 ball switches, each delay of at least a millisecond, and at least one attempt
+-- at most 16 ball switches
 pub record IsBallDeviceWithin (d : BallSettings) : Type 0 where
   pub switches : d.switches ≤ 16
-  pub entrance : 1 ≤ d.entrance_delay
-  pub exit : 1 ≤ d.exit_delay
-  pub timeout : 1 ≤ d.timeout
-  pub attempts : IsAttemptsWithin d.max_attempts
+  pub ejects : IsEjectWithin d.ejects
 
--- At most 16 steps, shots and states, a flag for each of 16 shots, at least a millisecond between the ticks of a timer,
--- and ends that a value can pass. A ball save saves 1 to 99 balls, and a multiball asks for 2 to 99.
+-- of a bank at most 16 shots and states, and a flag for each of 16 shots
 abbrev pub IsWithinLimits : Settings → Type 0
-IsWithinLimits (Counter c) = IsEndWithin c.complete
-IsWithinLimits (Accrual a) = a.steps ≤ 16
-IsWithinLimits (Sequence q) = q.steps ≤ 16
-IsWithinLimits (Timer t) = (1 ≤ t.interval) × IsEndWithin t.end
+IsWithinLimits (Counter c) = IsCounterWithin c
+IsWithinLimits (Accrual a) = AreStepsWithin a
+IsWithinLimits (Sequence q) = AreStepsWithin q
+IsWithinLimits (Timer t) = IsTimerWithin t
 IsWithinLimits (Bank b) = (b.shots ≤ 16) × (b.last_state ≤ 15) × (length b.enabled ≡ 16)
 IsWithinLimits Flipper = Unit {0}
 IsWithinLimits Autofire = Unit {0}
 IsWithinLimits (BallDevice d) = IsBallDeviceWithin d
-IsWithinLimits (BallSave b) = (1 ≤ b.balls) × (b.balls ≤ 99)
-IsWithinLimits (Multiball m) = (2 ≤ m.balls) × (m.balls ≤ 99)
+IsWithinLimits (BallSave b) = IsSaveWithin b
+IsWithinLimits (Multiball m) = IsMultiballWithin m
 
 -- how many states the profile of a bank has
 abbrev pub state_count : BankSettings → ℕ

@@ -1,6 +1,7 @@
 //! The entries of a plan's tables.
 
 use crate::devices::{Act, RowId};
+use machine_settings::{Contact, VariableAction};
 use mpf_values::Comparison;
 
 /// An event, by its number in order of first use: below 4,096.
@@ -10,15 +11,6 @@ pub struct EventId(pub u16);
 /// A switch, by its number in order of first use: below 256.
 #[derive(Clone, Copy, Debug)]
 pub struct SwitchId(pub u16);
-
-/// The state of a switch's contact while nothing presses it.
-#[derive(Clone, Copy, Debug)]
-pub enum Contact {
-    /// Raw level 1 is active.
-    NormallyOpen,
-    /// Raw level 0 is active.
-    NormallyClosed,
-}
 
 /// How a switch's raw levels are read.
 #[derive(Clone, Copy, Debug)]
@@ -49,15 +41,6 @@ pub struct CoilLimits {
 /// A variable of the players, by its number in order of first use: below 256.
 #[derive(Clone, Copy, Debug, PartialEq, Eq)]
 pub struct VariableId(pub u16);
-
-/// What is done with a variable.
-#[derive(Clone, Copy, Debug)]
-pub enum VariableAction {
-    /// The number is added to it.
-    Add,
-    /// It becomes the number.
-    Set,
-}
 
 /// A comparison of a variable of the current player with a number.
 #[derive(Clone, Copy, Debug)]

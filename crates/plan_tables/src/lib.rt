@@ -11,14 +11,12 @@ pub mod tables;
 mod works;
 
 pub use devices::{
-    Act, BallSettings, BallTarget, BankSettings, BlockSettings, CounterSettings, DeviceRow,
-    Direction, MultiballSettings, RowId, SaveSettings, Settings, StepSettings, Telling,
-    TimerSettings,
+    Act, BallSettings, BallTarget, BankSettings, DeviceRow, RowId, Settings, Telling,
 };
 pub use entries::{
-    Action, Binding, BindingId, CoilId, CoilLimits, Condition, Contact, EventId, GAME_EVENTS,
-    GameEvent, GameRules, ListId, Listener, Mode, ModeEntry, ModeEvent, ModeEvents, ModeId, Owner,
-    SwitchEntry, SwitchId, SwitchKind, Target, VariableAction, VariableId, Work,
+    Action, Binding, BindingId, CoilId, CoilLimits, Condition, EventId, GAME_EVENTS, GameEvent,
+    GameRules, ListId, Listener, Mode, ModeEntry, ModeEvent, ModeEvents, ModeId, Owner,
+    SwitchEntry, SwitchId, SwitchKind, Target, VariableId, Work,
 };
 pub use mpf_values::Comparison;
 pub use names::{NameHashing, NameSet, NameSets, NameTable};

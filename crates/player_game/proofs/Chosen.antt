@@ -2,7 +2,7 @@
 use Rattle.std.proofs.Common.{◌≡◌, ℕ, Bool, true, false, if◌then◌else◌, List, [], ◌∷◌, ◌==◌, ◌-◌, Contains, Some, refl, zero-le, suc-le-suc}
 use Rattle.plan_tables.specs.PlanView.{PlanView}
 use Rattle.plan_tables.specs.declared.entries.GameEvent.{GameEvent}
-use Rattle.plan_tables.specs.declared.entries.GameEvent.TheVariants.{SwStart, GameWillStart, GameStarting, PlayerAdded, GameStarted, PlayerTurnWillStart, PlayerTurnStarting, PlayerTurnStarted, BallWillStart, BallStarting, BallStarted, BallDrain, BallWillEnd, BallEnding, BallEnded, PlayerTurnWillEnd, PlayerTurnEnding, PlayerTurnEnded, GameWillEnd, GameEnding, GameEnded}
+use Rattle.plan_tables.specs.declared.entries.GameEvent.TheVariants.{SwStart, GameWillStart, PlayerAdded, PlayerTurnWillStart, BallDrain, BallWillEnd, BallEnding, BallEnded, PlayerTurnEnded, GameWillEnd}
 use Rattle.plan_tables.specs.declared.entries.GameRules.{GameRules}
 use Rattle.player_game.specs.Players.{PlayersState}
 use Rattle.player_game.specs.GameStep.{GameState, GameStep, can_begin, can_join, game_step, is_ball_on, is_held, is_over, leads_to}
@@ -30,8 +30,7 @@ starts false false g h p q = third (GameWillStart ∷ []) (PlayerAdded ∷ []) [
 drains : (is_on is_last : Bool) (g h k : GameState) (p : PlayersState)
     → Contains (choices BallDrain) (if is_on then (if is_last then leads_to (BallWillEnd ∷ []) h p else leads_to [] k p) else leads_to [] g p).posts
 drains true true g h k p = first (BallWillEnd ∷ []) ([] ∷ [])
-drains true false g h k p = second (BallWillEnd ∷ []) [] []
-drains false is_last g h k p = second (BallWillEnd ∷ []) [] []
+drains _ _ g h k p = second (BallWillEnd ∷ []) [] []
 
 held_back : (held : Bool) → Contains (choices BallEnding) (if held then [] else BallEnded ∷ [])
 held_back true = second (BallEnded ∷ []) [] []
@@ -51,76 +50,26 @@ posted : (rules : GameRules) (plan : PlanView) (which : GameEvent) (home : ℕ) 
     → Contains (choices which) (game_step (Some rules) plan which home g p).posts
 unfolding game_step
 posted rules plan SwStart home g p = starts (can_begin rules home g) (can_join rules plan g p) _ _ _ _
-posted rules plan GameWillStart home g p = first _ []
-posted rules plan GameStarting home g p = first _ []
-posted rules plan PlayerAdded home g p = first _ []
-posted rules plan GameStarted home g p = first _ []
-posted rules plan PlayerTurnWillStart home g p = first _ []
-posted rules plan PlayerTurnStarting home g p = first _ []
-posted rules plan PlayerTurnStarted home g p = first _ []
-posted rules plan BallWillStart home g p = first _ []
-posted rules plan BallStarting home g p = first _ []
-posted rules plan BallStarted home g p = first _ []
 posted rules plan BallDrain home g p = drains (is_ball_on g.phase) (g.balls - 1 == 0) _ _ _ _
-posted rules plan BallWillEnd home g p = first _ []
 posted rules plan BallEnding home g p = held_back (is_held g)
-posted rules plan BallEnded home g p = first _ []
-posted rules plan PlayerTurnWillEnd home g p = first _ []
-posted rules plan PlayerTurnEnding home g p = first _ []
 posted rules plan PlayerTurnEnded home g p = ends (is_over rules plan p) _ _ _
-posted rules plan GameWillEnd home g p = first _ []
-posted rules plan GameEnding home g p = first _ []
-posted rules plan GameEnded home g p = first _ []
+posted rules plan _ home g p = first _ []
 
 told : (rules : GameRules) (plan : PlanView) (which : GameEvent) (home : ℕ) (g : GameState) (p : PlayersState)
     → (game_step (Some rules) plan which home g p).finals ≡ tells_scores which
 unfolding game_step
 told rules plan SwStart home g p = unset (λ step. step.finals) (can_begin rules home g) _ _ refl refl
-told rules plan GameWillStart home g p = refl
-told rules plan GameStarting home g p = refl
-told rules plan PlayerAdded home g p = refl
-told rules plan GameStarted home g p = refl
-told rules plan PlayerTurnWillStart home g p = refl
-told rules plan PlayerTurnStarting home g p = refl
-told rules plan PlayerTurnStarted home g p = refl
-told rules plan BallWillStart home g p = refl
-told rules plan BallStarting home g p = refl
-told rules plan BallStarted home g p = refl
 told rules plan BallDrain home g p = unset (λ step. step.finals) (is_ball_on g.phase) _ _ (unset (λ step. step.finals) (g.balls - 1 == 0) _ _ refl refl) refl
-told rules plan BallWillEnd home g p = refl
-told rules plan BallEnding home g p = refl
-told rules plan BallEnded home g p = refl
-told rules plan PlayerTurnWillEnd home g p = refl
-told rules plan PlayerTurnEnding home g p = refl
 told rules plan PlayerTurnEnded home g p = unset (λ step. step.finals) (is_over rules plan p) _ _ refl refl
-told rules plan GameWillEnd home g p = refl
-told rules plan GameEnding home g p = refl
-told rules plan GameEnded home g p = refl
+told rules plan _ home g p = refl
 
 asked : (rules : GameRules) (plan : PlanView) (which : GameEvent) (home : ℕ) (g : GameState) (p : PlayersState)
     → (game_step (Some rules) plan which home g p).requests ≡ asks_for_ball which
 unfolding game_step
 asked rules plan SwStart home g p = unset (λ step. step.requests) (can_begin rules home g) _ _ refl refl
-asked rules plan GameWillStart home g p = refl
-asked rules plan GameStarting home g p = refl
-asked rules plan PlayerAdded home g p = refl
-asked rules plan GameStarted home g p = refl
-asked rules plan PlayerTurnWillStart home g p = refl
-asked rules plan PlayerTurnStarting home g p = refl
-asked rules plan PlayerTurnStarted home g p = refl
-asked rules plan BallWillStart home g p = refl
-asked rules plan BallStarting home g p = refl
-asked rules plan BallStarted home g p = refl
 asked rules plan BallDrain home g p = unset (λ step. step.requests) (is_ball_on g.phase) _ _ (unset (λ step. step.requests) (g.balls - 1 == 0) _ _ refl refl) refl
-asked rules plan BallWillEnd home g p = refl
-asked rules plan BallEnding home g p = refl
-asked rules plan BallEnded home g p = refl
-asked rules plan PlayerTurnWillEnd home g p = refl
-asked rules plan PlayerTurnEnding home g p = refl
 asked rules plan PlayerTurnEnded home g p = unset (λ step. step.requests) (is_over rules plan p) _ _ refl refl
-asked rules plan GameWillEnd home g p = refl
-asked rules plan GameEnding home g p = refl
-asked rules plan GameEnded home g p = refl
+asked rules plan _ home g p = refl
 
 pub steps_are_choices : StepsAreChoices
 steps_are_choices = record { posts = posted; finals = told; requests = asked }

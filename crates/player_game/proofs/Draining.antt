@@ -15,8 +15,7 @@ nothing_posted : (is_on is_last : Bool) (g k : GameState) (p : PlayersState)
     → in_play (if is_on then (if is_last then leads_to (BallWillEnd ∷ []) (record g { phase = phases.Between; balls = 0 }) p else leads_to [] k p) else leads_to [] g p).game ≡ 1
     → (if is_on then (if is_last then leads_to (BallWillEnd ∷ []) (record g { phase = phases.Between; balls = 0 }) p else leads_to [] k p) else leads_to [] g p).posts ≡ []
 nothing_posted true true g k p one = let none : 0 ≡ 1 = one in absurd (omega (arith, none))
-nothing_posted true false g k p one = refl
-nothing_posted false is_last g k p one = refl
+nothing_posted _ _ g k p one = refl
 
 -- where one is left in play, nothing is posted: the ball does not end
 pub one-left : (rules : Option GameRules) (plan : PlanView) (home : ℕ) (g : GameState) (p : PlayersState)

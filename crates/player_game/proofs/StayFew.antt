@@ -4,7 +4,7 @@ use Rattle.std.proofs.lemmas.Bool.{leb-true, ltb-true}
 use Rattle.std.proofs.lemmas.List.{length-append, length-set}
 use Rattle.plan_tables.specs.PlanView.{PlanView}
 use Rattle.plan_tables.specs.declared.entries.GameEvent.{GameEvent}
-use Rattle.plan_tables.specs.declared.entries.GameEvent.TheVariants.{SwStart, GameWillStart, GameStarting, PlayerAdded, GameStarted, PlayerTurnWillStart, PlayerTurnStarting, PlayerTurnStarted, BallWillStart, BallStarting, BallStarted, BallDrain, BallWillEnd, BallEnding, BallEnded, PlayerTurnWillEnd, PlayerTurnEnding, PlayerTurnEnded, GameWillEnd, GameEnding, GameEnded}
+use Rattle.plan_tables.specs.declared.entries.GameEvent.TheVariants.{SwStart, PlayerAdded, GameStarted, PlayerTurnStarted, BallDrain, PlayerTurnEnded, GameEnded}
 use Rattle.plan_tables.specs.declared.entries.GameRules.{GameRules}
 use Rattle.player_game.specs.Players.{PlayerState, PlayersState, added, most_players, new_player, next_ball, no_players, player_at, turned, with_current, with_next_ball}
 use Rattle.player_game.specs.GameStep.{GameState, GameStep, can_begin, game_step, is_ball_on, is_over}
@@ -56,26 +56,13 @@ stay_few-in_game : (rules : GameRules) (plan : PlanView) (which : GameEvent) (ho
     → AreFew plan p → AreFew plan (game_step (Some rules) plan which home g p).players
 unfolding game_step
 stay_few-in_game rules plan SwStart home g p few = either_step plan (can_begin rules home g) _ _ (none-few plan) few
-stay_few-in_game rules plan GameWillStart home g p few = few
-stay_few-in_game rules plan GameStarting home g p few = few
 stay_few-in_game rules plan PlayerAdded home g p few = added-few plan p few
 stay_few-in_game rules plan GameStarted home g p few = turned-few plan 1 p few
-stay_few-in_game rules plan PlayerTurnWillStart home g p few = few
-stay_few-in_game rules plan PlayerTurnStarting home g p few = few
 stay_few-in_game rules plan PlayerTurnStarted home g p few = next_ball-few plan p few
-stay_few-in_game rules plan BallWillStart home g p few = few
-stay_few-in_game rules plan BallStarting home g p few = few
-stay_few-in_game rules plan BallStarted home g p few = few
 stay_few-in_game rules plan BallDrain home g p few = either_step plan (is_ball_on g.phase) _ _ (either_step plan (g.balls - 1 == 0) _ _ few few) few
-stay_few-in_game rules plan BallWillEnd home g p few = few
-stay_few-in_game rules plan BallEnding home g p few = few
-stay_few-in_game rules plan BallEnded home g p few = few
-stay_few-in_game rules plan PlayerTurnWillEnd home g p few = few
-stay_few-in_game rules plan PlayerTurnEnding home g p few = few
 stay_few-in_game rules plan PlayerTurnEnded home g p few = either_step plan (is_over rules plan p) _ _ few (turned-few plan _ p few)
-stay_few-in_game rules plan GameWillEnd home g p few = few
-stay_few-in_game rules plan GameEnding home g p few = few
 stay_few-in_game rules plan GameEnded home g p few = turned-few plan 0 p few
+stay_few-in_game rules plan _ home g p few = few
 
 stay_few : (game : Option GameRules) (plan : PlanView) (which : GameEvent) (home : ℕ) (g : GameState) (p : PlayersState)
     → AreFew plan p → AreFew plan (game_step game plan which home g p).players

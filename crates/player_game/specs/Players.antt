@@ -5,8 +5,8 @@ use Rattle.std.specs.Option.{option_map_or}
 use Rattle.mpf_values.specs.Comparing.{compares}
 use Rattle.plan_tables.specs.PlanView.{PlanView, variable_named}
 use Rattle.plan_tables.specs.declared.entries.VariableId.{VariableId}
-use Rattle.plan_tables.specs.declared.entries.VariableAction.{VariableAction}
-use Rattle.plan_tables.specs.declared.entries.VariableAction.TheVariants.{Add, Set}
+use Rattle.machine_settings.specs.declared.words.VariableAction.{VariableAction}
+use Rattle.machine_settings.specs.declared.words.VariableAction.TheVariants.{Add, Set}
 use Rattle.plan_tables.specs.declared.entries.Condition.{Condition}
 use Rattle.plan_tables.specs.declared.entries.GameRules.{GameRules}
 use Rattle.device_objects.specs.Values.{clamped}

@@ -6,7 +6,8 @@ ghost use Rattle.player_game.specs.Players.{acted, most_players};
 use crate::slot::Slot;
 use crate::special::Special;
 use device_objects::values::clamped;
-use plan_tables::{Condition, Plan, VariableAction, VariableId};
+use machine_settings::VariableAction;
+use plan_tables::{Condition, Plan, VariableId};
 use std::alloc::{AllocError, Global};
 use std::marker::Model;
 

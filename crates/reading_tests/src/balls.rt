@@ -74,12 +74,12 @@ fn show_ball_device(pen: &mut Pen, device: BallDevice<'_>) {
     pen.name_at(device.eject_coil);
     pen.name_at(Some(device.target));
     pen.put(";");
-    pen.also(device.timeout);
-    pen.also(device.entrance_delay);
-    pen.also(device.exit_delay);
+    pen.also(device.ejects.timeout);
+    pen.also(device.ejects.entrance_delay);
+    pen.also(device.ejects.exit_delay);
     pen.put(";");
-    pen.also(device.mechanical);
-    pen.also(device.max_attempts);
+    pen.also(device.ejects.mechanical);
+    pen.also(device.ejects.max_attempts.unwrap_or(0));
     pen.put(";");
     pen.listed(device.tags);
     pen.also(device.is_trough());

@@ -1,7 +1,10 @@
 //! Logic blocks and timers of bundles, by the names of their settings.
 
 use crate::pen::Pen;
-use mpf_config::{Block, Entry, Fields, Section, as_control, as_counter, as_step_block, as_timer};
+use machine_settings::BlockSettings;
+use mpf_config::{
+    BlockEvents, Entry, Fields, Section, as_control, as_counter, as_step_block, as_timer,
+};
 use mpf_tables::tables::{ACCRUALS_NAME, COUNTERS_NAME, SEQUENCES_NAME, TIMERS_NAME};
 
 /// Texts, and what is read of them. A counter is shown by its name, the events that it counts, its value
@@ -36,10 +39,10 @@ pub(crate) const SAME_NAMES: &str = "\
 @¶modes: a¶@a¶timers:¶  t:¶@b¶timers:¶  t:¶ => modes¶ a@2¶a: 100 true true;;;¶timers¶ t@3; 0 None Up 1000 false false;¶note modes/b/config/b.yaml 0 unlisted modes/b/config/b.yaml¶
 ";
 
-fn show_block(pen: &mut Pen, block: Block<'_>) {
-    pen.also(block.reset_on_complete);
-    pen.also(block.disable_on_complete);
-    pen.also(block.persist);
+fn show_block(pen: &mut Pen, settings: BlockSettings, block: BlockEvents<'_>) {
+    pen.also(settings.reset_on_complete);
+    pen.also(settings.disable_on_complete);
+    pen.also(settings.persist);
     pen.events(block.enables);
     pen.events(block.disables);
     pen.events(block.resets);
@@ -56,13 +59,14 @@ fn show_counters(pen: &mut Pen, section: &Section) {
         pen.entry(counter.name);
         pen.handlers(counter.counts);
         pen.put(";");
-        pen.also(counter.start);
-        pen.also(counter.interval);
-        pen.shown(counter.end);
-        pen.shown(counter.direction);
-        pen.also(counter.window);
+        let settings = counter.settings;
+        pen.also(settings.start);
+        pen.also(settings.interval);
+        pen.shown(settings.complete);
+        pen.shown(settings.direction);
+        pen.also(settings.window);
         pen.put(";");
-        show_block(pen, counter.block);
+        show_block(pen, settings.block, counter.block);
     }
 }
 
@@ -75,7 +79,7 @@ fn show_step_blocks(pen: &mut Pen, entries: &[Entry]) {
         }
         pen.steps(block.steps);
         pen.put(";");
-        show_block(pen, block.block);
+        show_block(pen, block.settings, block.block);
     }
 }
 
@@ -95,12 +99,13 @@ fn show_timers(pen: &mut Pen, section: &Section) {
     for entry in section.entries_of(TIMERS_NAME) {
         let timer = as_timer(entry);
         pen.entry(timer.name);
-        pen.also(timer.start);
-        pen.shown(timer.end);
-        pen.shown(timer.direction);
-        pen.also(timer.interval);
-        pen.also(timer.start_running);
-        pen.also(timer.restart);
+        let settings = timer.settings;
+        pen.also(settings.start);
+        pen.shown(settings.end);
+        pen.shown(settings.direction);
+        pen.also(settings.interval);
+        pen.also(settings.start_running);
+        pen.also(settings.restart);
         pen.put(";");
         show_controls(pen, timer.controls);
         pen.put("\n");

@@ -75,8 +75,8 @@ fn show_ball_saves(pen: &mut Pen, section: &Section) {
     for entry in section.entries_of(BALL_SAVES_NAME) {
         let save = as_ball_save(entry);
         pen.entry(save.name);
-        pen.also(save.active_time);
-        pen.also(save.balls);
+        pen.also(save.settings.active_time);
+        pen.also(save.settings.balls);
         pen.events(save.enable_events);
         pen.events(save.disable_events);
         pen.put("\n");
@@ -87,7 +87,7 @@ fn show_multiballs(pen: &mut Pen, section: &Section) {
     for entry in section.entries_of(MULTIBALLS_NAME) {
         let multiball = as_multiball(entry);
         pen.entry(multiball.name);
-        pen.also(multiball.balls);
+        pen.also(multiball.settings.balls);
         pen.events(multiball.start_events);
         pen.put("\n");
     }

@@ -223,8 +223,7 @@ module _ (A : Place → Aim → Type 0) (plain : (own : Place) (aim : Aim) → I
   in_alone : (machine : List SectionRows) (own : Place) (section : List ℕ) (e : Entry) → All Q (alone_contributions machine own section e)
   unfolding alone_contributions
   in_alone machine Machine section e = when (bytes_eq section game_name) (game_contributions machine (game_of e)) [] (in_game machine (game_of e)) (All-nil Q)
-  in_alone machine Control section e = All-nil Q
-  in_alone machine Mode section e = All-nil Q
+  in_alone machine _ section e = All-nil Q
 
 -- an entry of the machine text
 in_machine_entry : (A : Place → Aim → Type 0) (plain : (own : Place) (aim : Aim) → IsUnnumbered aim → A own aim) (machine : List SectionRows) (section : List ℕ) (e : Entry) → All (IsOfText A Machine) (machine_entry_contributions machine section e)

@@ -29,7 +29,7 @@ use Rattle.plan_rows.specs.declared.place.Place.TheVariants.{Machine}
 use Rattle.plan_rows.specs.Seats.{Seat, seat_of, destination_of, rows_after_text}
 use Rattle.plan_rows.specs.Rows.{alone, rows_from, rows_in, modes_rows, rows_of}
 use Rattle.plan_contributions.specs.declared.contribution.Aim.{Aim}
-use Rattle.plan_contributions.specs.declared.contribution.Aim.TheVariants.{Run, Start, Stop, Do, On}
+use Rattle.plan_contributions.specs.declared.contribution.Aim.TheVariants.{Do, On}
 use Rattle.row_contributions.specs.CoilEntries.{defaults_called, own_pulse}
 use Rattle.row_contributions.specs.DeviceEntries.{texts}
 use Rattle.plan_contributions.specs.Effects.{Effect, posts, works, enters, leaves, loses, arrives}
@@ -237,10 +237,7 @@ fitting_kept rows = record {
   where
     aimed : (aim : Aim) → IsPlainAim (row_kinds rows) aim → (e : List ℕ) (place : Place) (o : Option LastRow) → IsFitting o (binds e place aim)
     aimed (Do act) is e place o = absurd is
-    aimed Run is e place o = tt
-    aimed Start is e place o = tt
-    aimed Stop is e place o = tt
-    aimed (On r act) is e place o = tt
+    aimed _ is e place o = tt
 
     first : (c : Contribution) → IsPlain (row_kinds rows) c → (cs : List Contribution) → ((o : Option LastRow) → IsRight o → AreFitting o cs) → (o : Option LastRow) → IsRight o → AreFitting o (c ∷ cs)
     first (device place settings) is cs rest o right = absurd is
@@ -317,12 +314,11 @@ module _ (rows : Rows) where
   no_target _ is = tt
 
   target : (to : Destination) → IsBallRow (row_kinds rows) to → IsTargetThere (length all_settings) (target_of to)
-  target destinations.Playfield is = tt
   target (destinations.Device r) is =
       let within : r < length (row_kinds rows) = slice_get_within (row_kinds rows) r true is in
       let same : length (row_kinds rows) ≡ length all_settings = ap (λ (l : List Bool). length l) (kinds_are rows) ∙ length-map all_settings is_ball in
       omega (arith, within, same)
-  target destinations.Unknown is = tt
+  target _ is = tt
 
   plain_target : (c : Contribution) → IsPlain (row_kinds rows) c → Q c
   plain_target (device place s) is = absurd is
@@ -351,10 +347,7 @@ module _ (rows : Rows) where
 
   aimed_off : (e : List ℕ) (place : Place) (aim : Aim) → IsPlainAim (row_kinds rows) aim → W (binds e place aim)
   aimed_off e place (On r act) is = off (slice_get all_settings r) (sym (slice_get-map is_ball all_settings r) ∙ ap (λ l. slice_get l r) (sym (kinds_are rows)) ∙ is)
-  aimed_off e place Run is = tt
-  aimed_off e place Start is = tt
-  aimed_off e place Stop is = tt
-  aimed_off e place (Do act) is = tt
+  aimed_off e place _ is = tt
 
   plain_off : (c : Contribution) → IsPlain (row_kinds rows) c → W c
   plain_off (binds e place aim) is = aimed_off e place aim is

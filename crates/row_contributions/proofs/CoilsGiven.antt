@@ -77,8 +77,7 @@ module _ (rows : Rows) where
   mode_content_none : (seat : List ℕ → Option Seat) (to : List ℕ → Destination) (name : List ℕ) (content : Content) → of_rows (rows_from rows Mode seat to name content) ≡ []
   mode_content_none seat to name (entries es) = none_each (entry_row rows Mode seat to name) (λ e. entry_none Mode seat to name e (none_mode given_coil silent none rows.machine name e)) es
   mode_content_none seat to name (players ps) = none_each (player Mode name) (λ p. refl) ps
-  mode_content_none seat to name (sections.entry e) = refl
-  mode_content_none seat to name (sections.listed ws) = refl
+  mode_content_none seat to name _ = refl
 
   mode_sections_none : (seat : List ℕ → Option Seat) (to : List ℕ → Destination) (ss : List SectionRows) → of_rows (rows_in rows Mode seat to ss) ≡ []
   mode_sections_none seat to [] = refl
@@ -111,8 +110,7 @@ module _ (rows : Rows) where
     unfolding coils_in
     content_coils name (entries es) = entries_coils name es (bytes_eq name coils_name) refl
     content_coils name (players ps) = none_each (player Machine name) (λ p. refl) ps ∙ none_named (bytes_eq name coils_name)
-    content_coils name (sections.entry e) = none_named (bytes_eq name coils_name)
-    content_coils name (sections.listed ws) = none_named (bytes_eq name coils_name)
+    content_coils name _ = none_named (bytes_eq name coils_name)
 
     sections_coils : (ss : List SectionRows) → of_rows (rows_in rows Machine seat to ss) ≡ map as_given (flat_map coils_in ss)
     sections_coils [] = refl

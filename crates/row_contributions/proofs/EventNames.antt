@@ -7,9 +7,9 @@ use Rattle.mpf_config.specs.Rows.{Rows}
 use Rattle.mpf_sections.specs.Named.{IsName, IsNamed}
 use Rattle.mpf_config.specs.Named.{IsNamedMode}
 use Rattle.plan_tables.specs.declared.table.Table.{Table}
-use Rattle.plan_tables.specs.declared.table.Table.TheVariants.{Events, Switches, Coils, Variables}
-use Rattle.plan_contributions.specs.Effects.{Effect, posts, works, changes, enters, leaves, loses, arrives, requests, adds_balls}
-use Rattle.plan_contributions.specs.Contributions.{Contribution, gives, reads, active, inactive, mode, mode_event, binds, does, device, does_in, listens, mentions, unknown, coil, under, plays}
+use Rattle.plan_tables.specs.declared.table.Table.TheVariants.{Events, Switches}
+use Rattle.plan_contributions.specs.Effects.{Effect, posts, works, changes, enters}
+use Rattle.plan_contributions.specs.Contributions.{Contribution, reads, does, device, does_in, unknown, plays}
 use Rattle.row_contributions.specs.Contributions.{contributions_of}
 use Rattle.plan_contributions.specs.UsedNames.{used_by, used, uses, name_in_table}
 use Rattle.row_contributions.proofs.Before.{All-flat_map}
@@ -27,29 +27,16 @@ module _ (P : List ℕ → Type 0) where
   effect_fit (works n deed) h = h
   effect_fit (changes v action n) h = h
   effect_fit (enters e drain) h = h
-  effect_fit leaves h = tt
-  effect_fit loses h = tt
-  effect_fit arrives h = tt
-  effect_fit (requests n) h = tt
-  effect_fit (adds_balls n) h = tt
+  effect_fit _ h = tt
 
   use_fit : (c : Contribution) → IsFit P c → IsFitUse P (used c)
-  use_fit (gives t n) h = h
   use_fit (reads kind confirms) h = tt
-  use_fit (active n) h = h
-  use_fit (inactive n) h = h
-  use_fit (mode n priority game holds) h = h
-  use_fit (mode_event which n) h = h
-  use_fit (binds n place aim) h = h
   use_fit (does e) h = effect_fit e h
   use_fit (device place settings) h = tt
   use_fit (does_in k e) h = effect_fit e h
-  use_fit (listens k n) h = h
-  use_fit (mentions t n) h = h
   use_fit unknown h = tt
-  use_fit (coil n limits) h = h
-  use_fit (under c) h = h
   use_fit (plays min_balls balls_per_game max_players) h = tt
+  use_fit _ h = h
 
   -- what holds of the names of a table that are used, where it holds of each that is fit for it
   module _ (table : Table) (Q : List ℕ → Type 0) (each : (o : Option (Table × List ℕ)) → IsFitUse P o → All Q (name_in_table table o)) where
@@ -72,22 +59,6 @@ module _ (P : List ℕ → Type 0) where
       by Switches n k = All-cons IsName n [] k (All-nil IsName)
       by _ n k = All-nil IsName
 
-  coil_fit : (o : Option (Table × List ℕ)) → IsFitUse P o → All IsName (name_in_table Coils o)
-  coil_fit None h = All-nil IsName
-  coil_fit (Some u) h = by u.0 u.1 h
-    where
-      by : (t : Table) (n : List ℕ) → IsFitName P t n → All IsName (name_in_table Coils (Some (t, n)))
-      by Coils n k = All-cons IsName n [] k (All-nil IsName)
-      by _ n k = All-nil IsName
-
-  variable_fit : (o : Option (Table × List ℕ)) → IsFitUse P o → All IsName (name_in_table Variables o)
-  variable_fit None h = All-nil IsName
-  variable_fit (Some u) h = by u.0 u.1 h
-    where
-      by : (t : Table) (n : List ℕ) → IsFitName P t n → All IsName (name_in_table Variables (Some (t, n)))
-      by Variables n k = All-cons IsName n [] k (All-nil IsName)
-      by _ n k = All-nil IsName
-
   -- where the names in the rows are names, each used name of an event meets P
   pub used_names : IsOfNames P → (rows : Rows) → All IsNamed rows.machine → All IsNamedMode rows.modes → All P (uses Events (contributions_of rows))
   used_names of rows machine modes = uses_fit Events P event_fit (contributions_of rows) (rows_fit P of rows machine modes)
@@ -95,9 +66,3 @@ module _ (P : List ℕ → Type 0) where
 -- and those of switches, coils and variables are names
 pub used_switches : (rows : Rows) → All IsNamed rows.machine → All IsNamedMode rows.modes → All IsName (uses Switches (contributions_of rows))
 used_switches rows machine modes = let P : List ℕ → Type 0 = λ n. Unit {0} in uses_fit P Switches IsName (switch_fit P) (contributions_of rows) (rows_fit P any_name rows machine modes)
-
-pub used_coils : (rows : Rows) → All IsNamed rows.machine → All IsNamedMode rows.modes → All IsName (uses Coils (contributions_of rows))
-used_coils rows machine modes = let P : List ℕ → Type 0 = λ n. Unit {0} in uses_fit P Coils IsName (coil_fit P) (contributions_of rows) (rows_fit P any_name rows machine modes)
-
-pub used_variables : (rows : Rows) → All IsNamed rows.machine → All IsNamedMode rows.modes → All IsName (uses Variables (contributions_of rows))
-used_variables rows machine modes = let P : List ℕ → Type 0 = λ n. Unit {0} in uses_fit P Variables IsName (variable_fit P) (contributions_of rows) (rows_fit P any_name rows machine modes)

@@ -143,7 +143,7 @@ module _ (machine : List SectionRows) where
   plain_save s = record { settings = tt; lists = all_save IsOfNoBall s.name.text (λ ending. tt) tt; listens = omega arith }
 
   plain_multiball : (m : Multiball) → IsPlainDevice (multiball_device m)
-  plain_multiball m = record { settings = tt; lists = all_multiball IsOfNoBall m.name.text m.balls (λ ending. tt) tt; listens = omega arith }
+  plain_multiball m = record { settings = tt; lists = all_multiball IsOfNoBall m.name.text m.settings.balls (λ ending. tt) tt; listens = omega arith }
 
   plain_lone : (p : Profile) (s : Shot) → IsPlainDevice (lone_device p s)
   plain_lone p s = record { settings = tt; lists = posts_of_shot IsOfNoBall posts_nothing p s.name.text; listens = omega arith }
@@ -273,8 +273,7 @@ module _ (kinds : List Bool) (machine : List SectionRows) (B : BallDevice → Ty
   in_alone : (place : Place) (section : List ℕ) (e : Entry) → Keeps (alone_contributions machine place section e)
   unfolding alone_contributions
   in_alone Machine section e = when (bytes_eq section game_name) (game_contributions machine (game_of e)) [] (in_game (game_of e)) none
-  in_alone Control section e = none
-  in_alone Mode section e = none
+  in_alone _ section e = none
 
   in_player_entry : (place : Place) (section : List ℕ) (p : Player) → Keeps (player_entry_contributions machine place section p)
   unfolding player_entry_contributions

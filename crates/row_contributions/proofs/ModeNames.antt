@@ -22,10 +22,7 @@ marked n = cond (n == 232) WillStart (cond (n == 219) Starting (cond (n == 214) 
 
 ending_marked : (which : ModeEvent) → marked (mark which) ≡ which
 ending_marked WillStart = refl
-ending_marked Starting = refl
-ending_marked Started = refl
-ending_marked Stopping = refl
-ending_marked Stopped = refl
+ending_marked _ = refl
 
 mark_by : (before : List ℕ) (which : ModeEvent) → mark_of (before ++ event_ending which) ≡ mark which
 mark_by before WillStart = ap (λ l. get_or l 0 0 + get_or l 3 0) (reverse-append before (event_ending WillStart))

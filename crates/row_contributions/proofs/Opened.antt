@@ -3,7 +3,7 @@ use Rattle.std.proofs.Common.{ℕ, suc, ◌≤◌, List, [], ◌∷◌, ◌++◌
 use Rattle.std.specs.Prelude.{Option}
 use Rattle.mpf_values.specs.Events.{Condition}
 use Rattle.plan_contributions.specs.declared.contribution.Aim.{Aim}
-use Rattle.plan_contributions.specs.declared.contribution.Aim.TheVariants.{Run, Start, Stop, Do, On}
+use Rattle.plan_contributions.specs.declared.contribution.Aim.TheVariants.{Start, Stop}
 use Rattle.plan_rows.specs.declared.place.Place.{Place}
 use Rattle.plan_rows.specs.declared.place.Place.TheVariants.{Machine, Control, Mode}
 use Rattle.plan_contributions.specs.Effects.{Effect}
@@ -23,11 +23,9 @@ AreOpened-more (c ∷ cs) m n more h = (opened c h.0, AreOpened-more cs (modes_a
     place_open Mode is = omega (arith, more, is)
 
     aim_open : (aim : Aim) → IsOpenAim m aim → IsOpenAim n aim
-    aim_open Run is = tt
     aim_open Start is = omega (arith, more, is)
     aim_open Stop is = omega (arith, more, is)
-    aim_open (Do act) is = tt
-    aim_open (On r act) is = tt
+    aim_open _ is = tt
 
     opened : (x : Contribution) → IsOpen m x → IsOpen n x
     opened (binds e place aim) is = (place_open place is.0, aim_open aim is.1)

@@ -7,7 +7,7 @@ use Rattle.std.specs.List.{All, flat_map}
 use Rattle.std.proofs.lemmas.List.Elements.{All-nil, All-cons, All-append, All-map, All-weaker, All-head, All-tail}
 use Rattle.std.proofs.lemmas.List.Sums.{list_all-from_AllPass}
 use Rattle.mpf_values.specs.Events.{Condition, Event}
-use Rattle.mpf_sections.specs.Rows.{Written, Entry, Player, Switch, EventPlayer, CoilItem, CoilPlayer, VariablePlayer, VariableItem, GameSettings, Coil, Flipper, Autofire, Shot, ShotGroup, BallDevice, ModeSettings, Content, entries, players, SectionRows}
+use Rattle.mpf_sections.specs.Rows.{Written, Entry, Player, Switch, EventPlayer, CoilItem, CoilPlayer, VariablePlayer, VariableItem, GameSettings, Coil, Shot, ShotGroup, BallDevice, ModeSettings, Content, entries, players, SectionRows}
 use Rattle.mpf_sections.specs.TypedGame.{variable_player_name, game_name, variable_player_of, game_of, variable_players_in, min_balls_of}
 use Rattle.mpf_sections.specs.TypedBalls.{ball_devices_name, ball_device_of, ball_devices_in}
 use Rattle.machine_definitions.specs.GameEvents.{game_event_names}
@@ -246,8 +246,7 @@ module _ (P : Effect → Type 0) (S L : List ℕ → Type 0) where
         by : (g : Bool) → All D (if g then game_contributions machine (game_of e) else [])
         by true = in_game machine (game_of e)
         by false = All-nil D
-    in_alone Control section e = All-nil D
-    in_alone Mode section e = All-nil D
+    in_alone _ section e = All-nil D
 
     in_players : (place : Place) (s : SectionRows) (ps : List Player) → All (IsPlayerDoing P S L) (map event_player_of (if bytes_eq s.name event_player_name then ps else []))
         → All (IsCoilPlayerDoing P S L rows) (map coil_player_of (if bytes_eq s.name coil_player_name then ps else []))
@@ -275,8 +274,7 @@ module _ (P : Effect → Type 0) (S L : List ℕ → Type 0) where
 
         in_other : (place : Place) → IsBallEntryDoing to place section e → All D (entry_contributions machine place section e) → GivesDoing (other_row to place section e)
         in_other Machine ball h = in_machine (bytes_eq section ball_devices_name) (ball refl) h
-        in_other Control ball h = h
-        in_other Mode ball h = h
+        in_other _ ball h = h
 
         by : (s g : Bool) → Where s (IsShotDoing P S L rows (shot_of e)) → Where g (IsShotGroupDoing P S L rows (shot_group_of e)) → IsBallEntryDoing to place section e → All D (entry_contributions machine place section e)
             → GivesDoing (if s then shot_row rows place seat (shot_of e) else (if g then group_row rows place seat (shot_group_of e) else other_row to place section e))

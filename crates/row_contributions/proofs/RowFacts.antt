@@ -1,5 +1,5 @@
 -- What the contributions of a row are like: proved here once for each section, and all else follows from it.
-use Rattle.std.proofs.Common.{◌≡◌, ℕ, zero, suc, ◌<◌, ◌≤◌, Bool, true, false, if◌then◌else◌, List, [], ◌∷◌, ◌++◌, length, map, get_or, refl, sym, subst, arith, codes}
+use Rattle.std.proofs.Common.{◌≡◌, ℕ, suc, ◌<◌, ◌≤◌, Bool, true, false, if◌then◌else◌, List, [], ◌∷◌, ◌++◌, length, map, get_or, refl, sym, subst, arith, codes}
 use Rattle.std.specs.Prelude.{Option, None, Some, IfSome}
 use Rattle.std.specs.Str.{bytes_eq}
 use Rattle.std.specs.List.{All, flat_map}
@@ -7,7 +7,7 @@ use Rattle.std.proofs.lemmas.Grind.{flat_map-append}
 use Rattle.std.proofs.lemmas.List.{length-map}
 use Rattle.std.proofs.lemmas.List.Elements.{All-nil, All-cons, All-head, All-tail, All-append, All-map, All-weaker}
 use Rattle.mpf_values.specs.Events.{Event}
-use Rattle.mpf_sections.specs.Rows.{Written, Handled, Entry, Player, Switch, EventPlayer, Coil, CoilItem, CoilPlayer, VariableItem, VariablePlayer, GameSettings, Flipper, Autofire, Block, Counter, StepBlock, Control as TimerControl, Timer, Shot, ShotGroup, BallDevice, BallSave, Multiball, ModeSettings, Content, entries, players, SectionRows}
+use Rattle.mpf_sections.specs.Rows.{Written, Handled, Entry, Player, Switch, EventPlayer, Coil, CoilPlayer, VariableItem, VariablePlayer, GameSettings, Flipper, Autofire, BlockEvents, Counter, StepBlock, Control as TimerControl, Timer, Shot, ShotGroup, BallDevice, BallSave, Multiball, ModeSettings, Content, entries, players, SectionRows}
 use Rattle.mpf_config.specs.Rows.{ModeRows, Rows}
 use Rattle.mpf_sections.specs.Rows as sections
 use Rattle.mpf_sections.specs.Named.{IsName, AllNames, IsNamedHandled, AllNamedEvents, IsNamedEntry, IsNamedPlayer, IsNamedSwitch, IsNamedEventPlayer, IsNamedCoil, IsNamedCoilPlayer, IsNamedVariablePlayer, IsNamedFlipper, IsNamedAutofire, IsNamedShot, IsNamedShotGroup, IsNamedBallDevice, IsNamedBallSave, IsNamedMultiball, IsNamedBlock, IsNamedCounter, IsNamedStepBlock, IsNamedTimer, AreNamedSettings, IsNamedContent, IsNamed}
@@ -32,7 +32,7 @@ use Rattle.plan_contributions.specs.declared.contribution.Aim.{Aim}
 use Rattle.plan_contributions.specs.declared.contribution.Aim.TheVariants.{Run, Start, Stop, Do, On}
 use Rattle.plan_rows.specs.declared.place.Place.{Place}
 use Rattle.plan_rows.specs.declared.place.Place.TheVariants.{Machine, Control, Mode}
-use Rattle.plan_tables.specs.Devices.{IsAttemptsWithin, IsWithinLimits}
+use Rattle.plan_tables.specs.Devices.{IsWithinLimits}
 use Rattle.plan_tables.specs.declared.devices.Act.{Act}
 use Rattle.plan_tables.specs.declared.devices.Act.TheVariants.{Count, Step, Enable, Disable, Reset, Restart, Start as Begin}
 use Rattle.plan_tables.specs.declared.devices.Settings.{Settings}
@@ -44,7 +44,7 @@ use Rattle.row_contributions.specs.VariableEntries.{item_change}
 use Rattle.row_contributions.specs.CoilEntries.{limits_of_coil, defaults_called, own_pulse, own_hold, item_effect, flipper_on, flipper_off, flipper_device, autofire_device}
 use Rattle.plan_contributions.specs.Effects.{disable, Effect, posts, works, changes, enters, leaves, loses, arrives, requests, adds_balls}
 use Rattle.row_contributions.specs.DeviceEntries.{events, device_of, acts, block_acts, block_mentions, block_event, or_own, block_lists, counter_device, step_acts, step_settings, step_device, controlled, timer_event, timer_endings, timer_device, always}
-use Rattle.row_contributions.specs.BallEntries.{drains, ball_event, ball_endings, eject_pulse, attempt_effects, drain_mentions, attempts_of, ball_device_from, is_known}
+use Rattle.row_contributions.specs.BallEntries.{drains, ball_event, ball_endings, eject_pulse, attempt_effects, drain_mentions, ball_device_from, is_known}
 use Rattle.row_contributions.specs.SaveEntries.{save_device, multiball_device, save_device_of}
 use Rattle.row_contributions.specs.ShotEntries.{shot_events, group_events, shot_acts, lone_device, group_device}
 use Rattle.plan_rows.specs.declared.destination.Destination.{Destination}
@@ -62,7 +62,7 @@ use Rattle.row_contributions.proofs.Before.{each_before, each_alone, all_before,
 use Rattle.row_contributions.proofs.CoilFacts.{pulse_ranged, hold_ranged, item_ranged, flips_on, flips_off}
 use Rattle.row_contributions.proofs.Short.{AreShort-append, AreShort-under, AreShort-listens, AreShort-does, AreShort-changes, AreShort-lists}
 use Rattle.row_contributions.proofs.ShotFacts.{OfHandled, all_shot_acts, all_group_acts, all_shot_lists, all_group_lists, posts_of_shot, posts_of_group, IsFew, shot_lists_few, group_lists_few, IsShortProfile, IsShortGroup, flags_of, bank_within, IsNamedProfile, profile_named, members_named, profile_short, members_short}
-use Rattle.row_contributions.proofs.SaveFacts.{all_save_by, all_save, all_multiball_by, all_multiball, save_lists_few, multiball_lists_few, save_within, multiball_within}
+use Rattle.row_contributions.proofs.SaveFacts.{all_save_by, all_save, all_multiball_by, all_multiball, save_lists_few, multiball_lists_few}
 use Rattle.row_contributions.proofs.Opened.{AreOpened-append, AreOpened-under, AreOpened-listens, AreOpened-lists}
 use Rattle.row_contributions.proofs.Placed.{ArePlaced-append, ArePlaced-under, ArePlaced-listens, ArePlaced-effects}
 
@@ -179,7 +179,7 @@ short_or_own : (ws : List Written) (own : List ℕ) → length ws ≤ 1024 → l
 short_or_own [] own few = omega arith
 short_or_own (w ∷ ws) own few = omega (arith, few, length-map (w ∷ ws) (λ (x : Written). x.text))
 
-short_lists : (name : List ℕ) (b : Block) → IsShortBlock b → All IsFew (block_lists name b)
+short_lists : (name : List ℕ) (b : BlockEvents) → IsShortBlock b → All IsFew (block_lists name b)
 short_lists name b h =
     let hit = or_own b.hit (block_event name (codes "_hit")) in
     let complete = or_own b.complete (block_event name (codes "_complete")) in
@@ -188,7 +188,7 @@ short_lists name b h =
     (All-cons IsFew (map posts complete) [] (few_posts complete (short_or_own b.complete _ h.complete)) (All-nil IsFew)))
 
 -- what holds of each effect that posts holds of all effects of a block
-pub all_block : (Q : Effect → Type 0) → ((n : List ℕ) → Q (posts n)) → (name : List ℕ) (b : Block) → All (All Q) (block_lists name b)
+pub all_block : (Q : Effect → Type 0) → ((n : List ℕ) → Q (posts n)) → (name : List ℕ) (b : BlockEvents) → All (All Q) (block_lists name b)
 all_block Q each name b =
     let hit = or_own b.hit (block_event name (codes "_hit")) in
     let complete = or_own b.complete (block_event name (codes "_complete")) in
@@ -209,7 +209,7 @@ record IsRightDevice (place : Place) (d : Device) : Type 0 where
 short_counter : (place : Place) (c : Counter) → IsShortCounter c → IsRightDevice place (counter_device c)
 short_counter place c h = record {
   lists = short_lists c.name.text c.block h.block;
-  limits = h.end;
+  limits = h.settings;
   effects = all_block IsEffectInRange (λ n. tt) c.name.text c.block;
   place_of = tt;
 }
@@ -225,7 +225,7 @@ short_steps place settings b limited there h = record {
 short_timer : (place : Place) (t : Timer) → IsShortTimer t → IsRightDevice place (timer_device t)
 short_timer place t h = record {
   lists = All-map IsFew (λ ending. posts (timer_event t.name.text ending) ∷ []) timer_endings (λ i d within. omega arith);
-  limits = (h.interval, h.end);
+  limits = h;
   effects = All-map (All IsEffectInRange) (λ ending. posts (timer_event t.name.text ending) ∷ []) timer_endings
       (λ i d within. All-cons IsEffectInRange (posts (timer_event t.name.text (get_or timer_endings i d))) [] tt (All-nil IsEffectInRange));
   place_of = tt;
@@ -234,16 +234,16 @@ short_timer place t h = record {
 short_save : (place : Place) (s : BallSave) → IsShortBallSave s → IsRightDevice place (save_device s)
 short_save place s h = record {
   lists = save_lists_few s.name.text;
-  limits = save_within s h;
+  limits = h;
   effects = all_save IsEffectInRange s.name.text (λ ending. tt) tt;
   place_of = tt;
 }
 
 short_multiball : (place : Place) (m : Multiball) → IsShortMultiball m → IsRightDevice place (multiball_device m)
 short_multiball place m h = record {
-  lists = multiball_lists_few m.name.text m.balls;
-  limits = multiball_within m h;
-  effects = all_multiball IsEffectInRange m.name.text m.balls (λ ending. tt) tt;
+  lists = multiball_lists_few m.name.text m.settings.balls;
+  limits = h;
+  effects = all_multiball IsEffectInRange m.name.text m.settings.balls (λ ending. tt) tt;
   place_of = tt;
 }
 
@@ -329,7 +329,7 @@ seven R a b c d e f g ra rb rc rd re rf rg =
 short_ball_device : (machine : List SectionRows) (d : BallDevice) (to : Destination) → IsShortBallDevice d → IsRightDevice Machine (ball_device_from machine d to)
 short_ball_device machine d to h = record {
   lists = seven IsFew _ _ _ _ _ _ _ (omega arith) (few d.eject_coil) (omega arith) (omega arith) (omega arith) (omega arith) (omega arith);
-  limits = record { switches = h.switches; entrance = h.entrance_delay.0; exit = h.exit_delay.0; timeout = h.timeout.0; attempts = attempts_few d.max_attempts h.max_attempts };
+  limits = record { switches = h.switches; ejects = h.ejects };
   effects = seven (All IsEffectInRange) _ _ _ _ _ _ _ (one IsEffectInRange _ tt) (attempts machine d.name.text IsEffectInRange tt tt d.eject_coil (ranged d.eject_coil)) (one IsEffectInRange leaves tt) (one IsEffectInRange loses tt)
       (one IsEffectInRange _ tt) (one IsEffectInRange arrives tt) (one IsEffectInRange _ tt);
   place_of = refl;
@@ -342,10 +342,6 @@ short_ball_device machine d to h = record {
     ranged : (o : Option Written) → IfSome o (λ w. IsEffectInRange (works w.text (own_pulse (defaults_called machine w.text))))
     ranged None = tt
     ranged (Some w) = pulse_ranged machine w.text
-
-    attempts_few : (n : ℕ) → n ≤ 1000 → IsAttemptsWithin (attempts_of n)
-    attempts_few zero few = tt
-    attempts_few (suc n) few = (omega arith, few)
 
 module _ (machine : List SectionRows) (P : List ℕ → Type 0) (of : IsOfNames P) (n : ℕ) where
   all_names : (ws : List Written) → AllNames ws → All P (texts ws)
@@ -518,7 +514,7 @@ module _ (machine : List SectionRows) (P : List ℕ → Type 0) (of : IsOfNames 
   all_acts : (act : Act) (hs : List Handled) → AllNamedEvents hs → All (λ h. IsFitEvent P h.0) (acts act hs)
   all_acts act hs h = All-map (λ (x : Event × Act). IsFitEvent P x.0) (λ (w : Handled). (w.event, act)) hs (All-weaker IsNamedHandled (λ w. IsFitEvent P w.event) fit_handled hs h)
 
-  fit_acts : (b : Block) → IsNamedBlock b → All (λ h. IsFitEvent P h.0) (block_acts b)
+  fit_acts : (b : BlockEvents) → IsNamedBlock b → All (λ h. IsFitEvent P h.0) (block_acts b)
   fit_acts b h =
       let Q : Event × Act → Type 0 = λ x. IsFitEvent P x.0 in
       All-append Q (acts Enable b.enables ++ acts Disable b.disables ++ acts Reset b.resets) (acts Restart b.restarts)
@@ -532,7 +528,7 @@ module _ (machine : List SectionRows) (P : List ℕ → Type 0) (of : IsOfNames 
   fit_posts : (ns : List (List ℕ)) → All P ns → All (IsFitEffect P) (map posts ns)
   fit_posts ns h = All-map (IsFitEffect P) posts ns h
 
-  fit_lists : (name : List ℕ) (b : Block) → IsName name → IsNamedBlock b → All (All (IsFitEffect P)) (block_lists name b)
+  fit_lists : (name : List ℕ) (b : BlockEvents) → IsName name → IsNamedBlock b → All (All (IsFitEffect P)) (block_lists name b)
   fit_lists name b k h =
       let Q = All (IsFitEffect P) in
       let endings = of.block name k in
@@ -543,7 +539,7 @@ module _ (machine : List SectionRows) (P : List ℕ → Type 0) (of : IsOfNames 
       (All-cons Q (map posts hit) (map posts complete ∷ []) (fit_posts hit (fit_or_own b.hit _ h.hit (endings 1 [] (omega arith))))
       (All-cons Q (map posts complete) [] (fit_posts complete (fit_or_own b.complete _ h.complete (endings 2 [] (omega arith)))) (All-nil Q)))
 
-  fit_mentions : (b : Block) → IsNamedBlock b → All P (block_mentions b)
+  fit_mentions : (b : BlockEvents) → IsNamedBlock b → All P (block_mentions b)
   fit_mentions b h = All-append P (texts b.hit) (texts b.complete) (all_names b.hit h.hit) (all_names b.complete h.complete)
 
   fit_counter : (c : Counter) → IsNamedCounter c → IsFitDevice (counter_device c)
@@ -594,7 +590,7 @@ module _ (machine : List SectionRows) (P : List ℕ → Type 0) (of : IsOfNames 
     listens = All-nil IsName;
     handled = all_acts Begin m.start_events h.start_events;
     mentioned = All-nil P;
-    lists = all_multiball_by (IsFitEffect P) m.name.text m.balls (of.multiball m.name.text h.name) tt;
+    lists = all_multiball_by (IsFitEffect P) m.name.text m.settings.balls (of.multiball m.name.text h.name) tt;
   }
 
   fit_flipper : (f : Flipper) → IsNamedFlipper f → IsFitDevice (flipper_device machine f)
@@ -1028,8 +1024,7 @@ entry_such R rows place seat to section e of_shot of_group of_ball other = by (b
 
     in_other : (place : Place) → (place ≡ Machine → bytes_eq section ball_devices_name ≡ true → R (ball_device_row to (ball_device_of e))) → R (entry place section e) → R (other_row to place section e)
     in_other Machine ball rest = in_machine (bytes_eq section ball_devices_name) (ball refl) rest
-    in_other Control ball rest = rest
-    in_other Mode ball rest = rest
+    in_other _ ball rest = rest
 
     by : (s g : Bool) → R (if s then shot_row rows place seat (shot_of e) else (if g then group_row rows place seat (shot_group_of e) else other_row to place section e))
     by true g = of_shot

@@ -1,12 +1,9 @@
 -- What holds of the effects of ball saves and multiballs.
-use Rattle.std.proofs.Common.{ℕ, ◌≤◌, List, [], ◌∷◌, length, arith, codes}
+use Rattle.std.proofs.Common.{ℕ, ◌≤◌, List, [], ◌∷◌, arith, codes}
 use Rattle.std.specs.List.{All}
 use Rattle.std.proofs.lemmas.List.Elements.{All-nil, All-cons}
-use Rattle.mpf_sections.specs.Rows.{BallSave, Multiball}
-use Rattle.mpf_sections.specs.Short.{IsShortBallSave, IsShortMultiball}
-use Rattle.plan_tables.specs.Devices.{IsWithinLimits}
 use Rattle.plan_contributions.specs.Effects.{Effect, posts, requests, adds_balls}
-use Rattle.row_contributions.specs.SaveEntries.{save_event, save_endings, save_settings, save_lists, multiball_event, multiball_endings, multiball_settings, multiball_lists}
+use Rattle.row_contributions.specs.SaveEntries.{save_event, save_endings, save_lists, multiball_event, multiball_endings, multiball_lists}
 use Rattle.row_contributions.proofs.ShotFacts.{IsFew}
 
 -- what holds of each post and of the request holds of all effects of a ball save
@@ -57,10 +54,3 @@ pub multiball_lists_few : (name : List ℕ) (balls : ℕ) → All IsFew (multiba
 multiball_lists_few name balls =
     let ended = posts (multiball_event name (codes "_ended")) ∷ [] in
     All-cons IsFew (posts (multiball_event name (codes "_started")) ∷ adds_balls balls ∷ []) (ended ∷ []) (omega arith) (All-cons IsFew ended [] (omega arith) (All-nil IsFew))
-
--- the settings are within their limits
-pub save_within : (s : BallSave) → IsShortBallSave s → IsWithinLimits (save_settings s)
-save_within s h = (h.some_balls, h.few_balls)
-
-pub multiball_within : (m : Multiball) → IsShortMultiball m → IsWithinLimits (multiball_settings m)
-multiball_within m h = (h.some_balls, h.few_balls)

@@ -10,7 +10,7 @@ use Rattle.std.proofs.lemmas.List.Folds.{list_any-append}
 use Rattle.std.proofs.lemmas.Cmp.{nat_list_eq_equiv}
 use Rattle.std.proofs.lemmas.Slice.Eq.{bytes_eq-Decides}
 use Rattle.yaml_subset.specs.Keys.{is_among}
-use Rattle.mpf_sections.specs.Rows.{Written, Entry, Player, Shot, ShotGroup, Content, entries, players, SectionRows}
+use Rattle.mpf_sections.specs.Rows.{Written, Entry, Player, Content, entries, players, SectionRows}
 use Rattle.mpf_sections.specs.Rows as sections
 use Rattle.mpf_sections.specs.Typed.{entries_of, switches_name, counters_name, accruals_name, sequences_name, timers_name, entries_in, counter_of, step_block_of, timer_of}
 use Rattle.mpf_sections.specs.TypedCoils.{coils_name, flippers_name, autofire_coils_name, coil_of, flipper_of, autofire_of}
@@ -77,8 +77,7 @@ row_if b ball = if b then ball ∷ [] else []
 -- whether the entries of a section of this name are ball devices
 abbrev has_balls : Place → List ℕ → Bool
 has_balls Machine section = bytes_eq section ball_devices_name
-has_balls Control section = false
-has_balls Mode section = false
+has_balls _ section = false
 
 -- the rows of entries
 abbrev pub rows_of_entries : Place → (List ℕ → Bool) → List (List ℕ × Entry) → List Bool
@@ -95,8 +94,7 @@ among_same (k ∷ ks) name = λ i. nat_list_eq_equiv.symm k name i || among_same
 -- those of groups are among them
 groups_among : (place : Place) → is_among (row_sections place) shot_groups_name ≡ true
 groups_among Machine = refl
-groups_among Control = refl
-groups_among Mode = refl
+groups_among _ = refl
 
 -- what holds of a name holds of what has it
 named : (A : List ℕ → Type 0) (section name : List ℕ) → bytes_eq section name ≡ true → A name → A section
@@ -105,13 +103,11 @@ named A section name is h = subst A (sym ((bytes_eq-Decides section name).0 is))
 -- neither shots nor groups are ball devices
 shots_no_balls : (place : Place) → has_balls place shots_name ≡ false
 shots_no_balls Machine = refl
-shots_no_balls Control = refl
-shots_no_balls Mode = refl
+shots_no_balls _ = refl
 
 groups_no_balls : (place : Place) → has_balls place shot_groups_name ≡ false
 groups_no_balls Machine = refl
-groups_no_balls Control = refl
-groups_no_balls Mode = refl
+groups_no_balls _ = refl
 
 module _ (machine : List SectionRows) where
   -- an entry has a row where it is a ball save or a multiball
@@ -223,8 +219,7 @@ module _ (rows : Rows) (place : Place) (grouped : List ℕ → Bool) (seat : Lis
   content_is : (name : List ℕ) (content : Content) → given (rows_from rows place seat to name content) ≡ counted (section_entries (record { name = name; content = content }))
   content_is name (entries es) = entries_are name es
   content_is name (players ps) = players_give name ps
-  content_is name (sections.entry e) = refl
-  content_is name (sections.listed ws) = refl
+  content_is name _ = refl
 
   sections_are : (ss : List SectionRows) → given (rows_in rows place seat to ss) ≡ counted (text_entries ss)
   sections_are [] = refl

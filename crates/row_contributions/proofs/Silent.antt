@@ -199,8 +199,7 @@ module _ {X : Type 0} (tell : Contribution → List X) (silent : IsSilent tell) 
   in_alone : (machine : List SectionRows) (place : Place) (section : List ℕ) (e : Entry) → TellsNone (alone_contributions machine place section e)
   unfolding alone_contributions
   in_alone machine Machine section e = when (bytes_eq section game_name) (game_contributions machine (game_of e)) [] (in_game machine (game_of e)) refl
-  in_alone machine Control section e = refl
-  in_alone machine Mode section e = refl
+  in_alone machine _ section e = refl
 
   in_stopper : (holds : Bool) (name : List ℕ) → TellsNone (stopper_where holds name)
   in_stopper true name = in_bound (always name) Control Stop
@@ -271,12 +270,10 @@ module _ {X : Type 0} (tell : Contribution → List X) (silent : IsSilent tell) 
   module _ (machine : List SectionRows) where
     abbrev pub told : Row → List X
     told (entry place section e) = told_entry machine place section e
-    told (alone place section e) = []
     told (shot place s seat known p) = told_shot place s seat p
     told (group place g m) = told_row place (group_device g m)
     told (ball_device d to) = told_row Machine (ball_device_from machine d to)
-    told (player place section p) = []
-    told (of_mode name s) = []
+    told _ = []
 
     pub row_tells : (r : Row) → Tells (row_contributions machine r) (told r)
     row_tells (entry place section e) = in_entry machine place section e

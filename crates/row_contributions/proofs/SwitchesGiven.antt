@@ -7,7 +7,7 @@ use Rattle.std.proofs.lemmas.Bool.{or_cases, or_left, or_right}
 use Rattle.std.proofs.lemmas.Grind.{flat_map-append}
 use Rattle.std.proofs.lemmas.List.Folds.{list_any-append}
 use Rattle.std.proofs.lemmas.Slice.Eq.{bytes_eq-Decides}
-use Rattle.mpf_sections.specs.Rows.{Entry, Switch, Content, entries, players, SectionRows}
+use Rattle.mpf_sections.specs.Rows.{Entry, Switch, Content, entries, SectionRows}
 use Rattle.mpf_sections.specs.Rows as sections
 use Rattle.mpf_sections.specs.Typed.{switches_name, switch_of, switches_in}
 use Rattle.mpf_config.specs.Rows.{Rows}
@@ -70,9 +70,7 @@ module _ (n : List ℕ) (rows : Rows) (seat : List ℕ → Option Seat) (to : Li
       by : (b : Bool) → bytes_eq name switches_name ≡ b → list_any is_it (map switch_of (if b then es else [])) ≡ true → given_in (map (row_of name) es) ≡ true
       by true same is = subst (λ (m : List ℕ). given_in (map (row_of m) es) ≡ true) (sym ((bytes_eq-Decides name switches_name).0 same)) (of_entries es is)
       by false same is = absurd (true≢false (sym is))
-  of_content name (players ps) is = absurd (true≢false (sym is ∙ none_named (bytes_eq name switches_name)))
-  of_content name (sections.entry e) is = absurd (true≢false (sym is ∙ none_named (bytes_eq name switches_name)))
-  of_content name (sections.listed ws) is = absurd (true≢false (sym is ∙ none_named (bytes_eq name switches_name)))
+  of_content name _ is = absurd (true≢false (sym is ∙ none_named (bytes_eq name switches_name)))
 
   of_sections : (ss : List SectionRows) → list_any is_it (flat_map switches_in ss) ≡ true → given_in (rows_in rows Machine seat to ss) ≡ true
   of_sections [] is = absurd (true≢false (sym is))

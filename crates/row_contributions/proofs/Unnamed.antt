@@ -11,11 +11,11 @@ use Rattle.plan_tables.specs.declared.table.Table.{Table}
 use Rattle.plan_tables.specs.declared.table.Table.TheVariants.{Events, Bindings, Switches, Coils, Variables, Rows}
 use Rattle.plan_rows.specs.declared.place.Place.{Place}
 use Rattle.plan_rows.specs.declared.place.Place.TheVariants.{Machine, Control, Mode}
-use Rattle.plan_contributions.specs.Effects.{Effect, posts, works, changes, enters, leaves, loses, arrives, requests, adds_balls}
+use Rattle.plan_contributions.specs.Effects.{Effect, posts, works, changes, enters}
 use Rattle.row_contributions.specs.DeviceEntries.{device_of}
 use Rattle.plan_contributions.specs.Contributions.{Contribution, mode_event_name, device}
 use Rattle.row_contributions.specs.Contributions.{coil_contributions, machine_device, given_by}
-use Rattle.plan_rows.specs.Rows.{Row, entry, alone, shot, group, ball_device, player, of_mode}
+use Rattle.plan_rows.specs.Rows.{Row, entry, shot}
 use Rattle.plan_contributions.specs.UsedNames.{used_by, used, name_in_table, uses}
 use Rattle.row_contributions.proofs.Silent.{IsSilent, told_where, told_machine, told_entry, told, rows_tell, none_where, none_machine, none_shot}
 
@@ -30,11 +30,7 @@ module _ (t : Table) (no_event : (n : List ℕ) → name_in_table t (Some (Event
   no_effect (works n deed) = no_coil n
   no_effect (changes v action n) = no_variable v
   no_effect (enters e drain) = no_event e
-  no_effect leaves = refl
-  no_effect loses = refl
-  no_effect arrives = refl
-  no_effect (requests n) = refl
-  no_effect (adds_balls n) = refl
+  no_effect _ = refl
 
   silent : IsSilent name_of
   silent = record {
@@ -80,12 +76,8 @@ module _ (t : Table) (no_event : (n : List ℕ) → name_in_table t (Some (Event
 
     in_row : (r : Row) → told name_of silent machine r ≡ []
     in_row (entry place section e) = in_entry place section e
-    in_row (alone place section e) = refl
     in_row (shot place s seat known p) = none_shot name_of silent none machine place s seat p
-    in_row (group place g m) = refl
-    in_row (ball_device d to) = refl
-    in_row (player place section p) = refl
-    in_row (of_mode name s) = refl
+    in_row _ = refl
 
     in_rows : (rs : List Row) → flat_map (told name_of silent machine) rs ≡ []
     in_rows [] = refl

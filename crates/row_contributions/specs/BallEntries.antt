@@ -91,21 +91,12 @@ target_of destinations.Playfield = targets.Playfield
 target_of (destinations.Device row) = targets.Device (record { 0 = min row 65535 })
 target_of destinations.Unknown = targets.Playfield
 
--- how many attempts there may be: none stands for no limit
-abbrev pub attempts_of : ℕ → Option ℕ
-attempts_of zero = None
-attempts_of (suc n) = Some (suc n)
-
 abbrev pub ball_settings : BallDevice → Destination → Settings
 ball_settings d to = kinds.BallDevice (record {
   switches = length d.switches;
-  entrance_delay = d.entrance_delay;
-  exit_delay = d.exit_delay;
   target = target_of to;
   has_coil = is_some d.eject_coil;
-  mechanical = d.mechanical;
-  timeout = d.timeout;
-  max_attempts = attempts_of d.max_attempts;
+  ejects = d.ejects;
   trough = is_trough d;
   home = is_home d;
 })

@@ -2,8 +2,6 @@
 use Rattle.std.specs.Prelude.{ℕ, suc, Bool, true, false, not, ◌&&◌, if◌then◌else◌, List, [], ◌∷◌, ◌++◌, map, Option, None, Some, codes}
 use Rattle.std.specs.List.{flat_map, list_any}
 use Rattle.std.specs.Str.{bytes_eq}
-use Rattle.mpf_sections.specs.declared.words.Contact.{Contact as WrittenContact}
-use Rattle.mpf_sections.specs.declared.words.Contact.TheVariants as written
 use Rattle.mpf_sections.specs.declared.words.Debounce.{Debounce}
 use Rattle.mpf_sections.specs.declared.words.Debounce.TheVariants.{Auto, Quick, Normal}
 use Rattle.mpf_values.specs.Events.{Condition, Event}
@@ -14,8 +12,6 @@ use Rattle.machine_definitions.specs.Players.{player_event}
 use Rattle.row_contributions.specs.VariableEntries.{item_change}
 use Rattle.mpf_config.specs.Rows.{Rows}
 use Rattle.mpf_sections.specs.Typed.{switches_name, event_player_name, switch_of, event_player_of}
-use Rattle.plan_tables.specs.declared.entries.Contact.{Contact}
-use Rattle.plan_tables.specs.declared.entries.Contact.TheVariants.{NormallyOpen, NormallyClosed}
 use Rattle.plan_tables.specs.declared.entries.SwitchKind.{SwitchKind}
 use Rattle.plan_tables.specs.declared.entries.ModeEvent.TheVariants.{Starting, Started, Stopping, Stopped}
 use Rattle.plan_rows.specs.declared.place.Place.{Place}
@@ -58,14 +54,9 @@ is_quick machine name Auto = makes_quick machine name
 is_quick machine name Quick = true
 is_quick machine name Normal = false
 
--- the contact of a switch, in the plan
-abbrev pub contact_of : WrittenContact → Contact
-contact_of written.NormallyOpen = NormallyOpen
-contact_of written.NormallyClosed = NormallyClosed
-
 -- how a switch is read
 abbrev pub kind_of : List SectionRows → Switch → SwitchKind
-kind_of machine s = record { contact = contact_of s.contact; quick = is_quick machine s.name.text s.debounce }
+kind_of machine s = record { contact = s.contact; quick = is_quick machine s.name.text s.debounce }
 
 -- whether a ball that presses a switch with these tags is on the playfield
 abbrev pub confirms : List Written → Bool

@@ -1,18 +1,13 @@
 -- What the entries of devices say: of counters, accruals, sequences and timers; and the device of each entry.
 use Rattle.std.specs.Prelude.{ℕ, suc, ℤ, if◌then◌else◌, List, [], ◌∷◌, ◌++◌, length, map, Option, Some, codes}
 use Rattle.std.specs.Str.{bytes_eq}
-use Rattle.mpf_sections.specs.declared.words.Direction.{Direction as WrittenDirection}
-use Rattle.mpf_sections.specs.declared.words.Direction.TheVariants as written
 use Rattle.mpf_sections.specs.declared.words.ControlAction.{ControlAction}
 use Rattle.mpf_sections.specs.declared.words.ControlAction.TheVariants as actions
 use Rattle.mpf_values.specs.Events.{Event}
 use Rattle.section_tables.specs.Rows.{Handled}
-use Rattle.mpf_sections.specs.Rows.{Written, Entry, Block, Counter, StepBlock, Control, Timer}
+use Rattle.mpf_sections.specs.Rows.{Written, Entry, BlockEvents, Counter, StepBlock, Control, Timer}
 use Rattle.mpf_sections.specs.Typed.{counters_name, accruals_name, sequences_name, timers_name, counter_of, step_block_of, timer_of}
-use Rattle.plan_tables.specs.declared.devices.Direction.{Direction}
-use Rattle.plan_tables.specs.declared.devices.Direction.TheVariants.{Up, Down}
-use Rattle.plan_tables.specs.declared.devices.BlockSettings.{BlockSettings}
-use Rattle.plan_tables.specs.declared.devices.StepSettings.{StepSettings}
+use Rattle.machine_settings.specs.declared.settings.StepSettings.{StepSettings}
 use Rattle.plan_tables.specs.declared.devices.Settings.{Settings}
 use Rattle.plan_tables.specs.declared.devices.Settings.TheVariants as kinds
 use Rattle.plan_tables.specs.declared.devices.Act.{Act}
@@ -22,28 +17,14 @@ use Rattle.row_contributions.specs.SaveEntries.{save_device_of}
 pub use Rattle.row_contributions.specs.Devices.{texts, events, Device, always, acts}
 use Rattle.plan_contributions.specs.Effects.{Effect, posts}
 
--- which way a value goes, in the plan
-abbrev pub direction_in_plan : WrittenDirection → Direction
-direction_in_plan written.Up = Up
-direction_in_plan written.Down = Down
-
 -- ---- logic blocks
 
--- a block is enabled at first where no event enables it
-abbrev pub block_settings : Block → BlockSettings
-block_settings b = record {
-  enabled = is_none b.enables;
-  reset_on_complete = b.reset_on_complete;
-  disable_on_complete = b.disable_on_complete;
-  persist = b.persist;
-}
-
 -- what enables a block, disables, resets and restarts it
-abbrev pub block_acts : Block → List (Event × Act)
+abbrev pub block_acts : BlockEvents → List (Event × Act)
 block_acts b = acts Enable b.enables ++ acts Disable b.disables ++ acts Reset b.resets ++ acts Restart b.restarts
 
 -- the events that are posted in place of its own
-abbrev pub block_mentions : Block → List (List ℕ)
+abbrev pub block_mentions : BlockEvents → List (List ℕ)
 block_mentions b = texts b.hit ++ texts b.complete
 
 -- an event of the block of this name
@@ -59,26 +40,16 @@ abbrev pub or_own : List Written → List ℕ → List (List ℕ)
 or_own ws own = if is_none ws then own ∷ [] else texts ws
 
 -- what a block posts when its value changes, when it is hit, and when it completes
-abbrev pub block_lists : List ℕ → Block → List (List Effect)
+abbrev pub block_lists : List ℕ → BlockEvents → List (List Effect)
 block_lists name b =
     (posts (block_event name (codes "_updated")) ∷ [])
     ∷ map posts (or_own b.hit (block_event name (codes "_hit")))
     ∷ map posts (or_own b.complete (block_event name (codes "_complete")))
     ∷ []
 
-abbrev pub counter_settings : Counter → Settings
-counter_settings c = kinds.Counter (record {
-  block = block_settings c.block;
-  start = c.start;
-  interval = c.interval;
-  direction = direction_in_plan c.direction;
-  complete = c.end;
-  window = c.window;
-})
-
 abbrev pub counter_device : Counter → Device
 counter_device c = record {
-  settings = counter_settings c;
+  settings = kinds.Counter c.settings;
   listens = [];
   handled = acts Count c.counts ++ block_acts c.block;
   mentioned = block_mentions c.block;
@@ -91,7 +62,7 @@ step_acts i [] = []
 step_acts i (hs ∷ rest) = acts (Step i) hs ++ step_acts (suc i) rest
 
 abbrev pub step_settings : StepBlock → StepSettings
-step_settings b = record { block = block_settings b.block; steps = length b.steps }
+step_settings b = record { block = b.settings; steps = length b.steps }
 
 -- an accrual or a sequence, with these settings
 abbrev pub step_device : Settings → StepBlock → Device
@@ -127,23 +98,13 @@ timer_event name ending = codes "timer_" ++ name ++ ending
 abbrev pub timer_endings : List (List ℕ)
 timer_endings = codes "_started" ∷ codes "_stopped" ∷ codes "_paused" ∷ codes "_tick" ∷ codes "_complete" ∷ []
 
-abbrev pub timer_settings : Timer → Settings
-timer_settings t = kinds.Timer (record {
-  start = t.start;
-  end = t.end;
-  direction = direction_in_plan t.direction;
-  interval = t.interval;
-  start_running = t.start_running;
-  restart = t.restart;
-})
-
 -- each of its effect lists posts one event of its own
 abbrev pub timer_lists : List ℕ → List (List Effect)
 timer_lists name = map (λ ending. posts (timer_event name ending) ∷ []) timer_endings
 
 abbrev pub timer_device : Timer → Device
 timer_device t = record {
-  settings = timer_settings t;
+  settings = kinds.Timer t.settings;
   listens = [];
   handled = map controlled t.controls;
   mentioned = [];

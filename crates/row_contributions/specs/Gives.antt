@@ -13,7 +13,7 @@ use Rattle.mpf_sections.specs.declared.typed.HandledAt.{HandledAt}
 use Rattle.mpf_sections.specs.declared.typed.Switch as typed_switches
 use Rattle.mpf_sections.specs.declared.typed.EventPlayer as typed_players
 use Rattle.mpf_sections.specs.declared.typed.ModeSettings as typed_settings
-use Rattle.mpf_sections.specs.declared.blocks.Block as typed_blocks
+use Rattle.mpf_sections.specs.declared.blocks.BlockEvents as typed_blocks
 use Rattle.mpf_sections.specs.declared.blocks.Counter as typed_counters
 use Rattle.mpf_sections.specs.declared.blocks.StepBlock as typed_steps
 use Rattle.mpf_sections.specs.declared.timers.Timer as typed_timers
@@ -43,19 +43,19 @@ use Rattle.plan_rows.specs.declared.members.Members as members
 use Rattle.plan_rows.specs.View.{seat_view, members_view}
 use Rattle.plan_tables.specs.declared.devices.Act.{Act}
 use Rattle.plan_tables.specs.declared.devices.Settings.{Settings}
-use Rattle.plan_tables.specs.declared.devices.BlockSettings.{BlockSettings}
-use Rattle.plan_tables.specs.declared.devices.StepSettings.{StepSettings}
+use Rattle.machine_settings.specs.declared.settings.BlockSettings.{BlockSettings}
+use Rattle.machine_settings.specs.declared.settings.StepSettings.{StepSettings}
 use Rattle.plan_tables.specs.declared.entries.SwitchKind.{SwitchKind}
 use Rattle.plan_tables.specs.declared.table.Table.TheVariants.{Events}
 use Rattle.plan_contributions.specs.declared.contribution.Aim.{Aim}
 use Rattle.plan_contributions.specs.declared.contribution.Parts.{Parts}
 use Rattle.plan_contributions.specs.declared.contribution.Effect as effects
 use Rattle.plan_contributions.specs.declared.contribution.Contribution as contributions
-use Rattle.row_contributions.specs.DeviceEntries.{texts, events, acts, or_own, block_settings, block_acts, block_mentions, block_lists, counter_settings, counter_device, step_acts, step_settings, step_device, controlled, timer_settings, timer_device, device_of}
+use Rattle.row_contributions.specs.DeviceEntries.{texts, events, acts, or_own, block_acts, block_mentions, block_lists, counter_device, step_acts, step_settings, step_device, controlled, timer_device, device_of}
 use Rattle.plan_contributions.specs.Effects.{posts}
 use Rattle.row_contributions.specs.ShotEntries.{shot_acts, switch_hits, group_acts, lone_device, shot_lists, state_lists, group_lists}
 use Rattle.row_contributions.specs.BallEntries.{ball_settings, ball_lists, attempt_effects, eject_pulse}
-use Rattle.row_contributions.specs.SaveEntries.{save_settings, save_device, save_acts, multiball_settings, multiball_device, save_device_of}
+use Rattle.row_contributions.specs.SaveEntries.{save_device, save_acts, multiball_device, save_device_of}
 use Rattle.row_contributions.specs.declared.collect_coils.Defaults as defaults
 use Rattle.row_contributions.specs.CoilEntries.{Defaults, item_effect, flipper_on, flipper_off, flipper_device, autofire_device}
 use Rattle.plan_contributions.specs.Contributions.{Contribution, active, inactive, does, does_in, mentions}
@@ -65,21 +65,6 @@ use Rattle.plan_contributions.specs.View.{parts_text}
 -- ---- settings
 
 -- what the settings of a row are in the plan
-abbrev pub settings_of_block : typed_blocks.Block → BlockSettings
-settings_of_block b = block_settings (block_view b)
-
-abbrev pub settings_of_counter : typed_counters.Counter → Settings
-settings_of_counter c = counter_settings (counter_view c)
-
-abbrev pub settings_of_timer : typed_timers.Timer → Settings
-settings_of_timer t = timer_settings (timer_view t)
-
-abbrev pub settings_of_save : typed_saves.BallSave → Settings
-settings_of_save s = save_settings (ball_save_view s)
-
-abbrev pub settings_of_multiball : typed_multiballs.Multiball → Settings
-settings_of_multiball m = multiball_settings (multiball_view m)
-
 abbrev pub settings_of_steps : typed_steps.StepBlock → StepSettings
 settings_of_steps b = step_settings (step_block_view b)
 
@@ -189,13 +174,13 @@ game_gives machine g = game_contributions machine (game_view g)
 -- ---- logic blocks
 
 -- what acts on a block; what its effect lists post; that, after the events that are written
-abbrev pub block_binds : Place → typed_blocks.Block → List Contribution
+abbrev pub block_binds : Place → typed_blocks.BlockEvents → List Contribution
 block_binds place b = flat_map (act_binding place) (block_acts (block_view b))
 
-abbrev pub block_posts : List ℕ → typed_blocks.Block → List Contribution
+abbrev pub block_posts : List ℕ → typed_blocks.BlockEvents → List Contribution
 block_posts name b = effects_from 0 (block_lists name (block_view b))
 
-abbrev pub block_mentions_and_posts : List ℕ → typed_blocks.Block → List Contribution
+abbrev pub block_mentions_and_posts : List ℕ → typed_blocks.BlockEvents → List Contribution
 block_mentions_and_posts name b = map (mentions Events) (block_mentions (block_view b)) ++ block_posts name b
 
 abbrev pub counter_gives : Place → typed_counters.Counter → List Contribution

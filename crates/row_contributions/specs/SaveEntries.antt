@@ -21,9 +21,6 @@ save_event name ending = codes "ball_save_" ++ name ++ ending
 abbrev pub save_endings : List (List ℕ)
 save_endings = codes "_enabled" ∷ codes "_disabled" ∷ codes "_saving_ball" ∷ []
 
-abbrev pub save_settings : BallSave → Settings
-save_settings s = kinds.BallSave (record { active_time = s.active_time; balls = s.balls })
-
 -- what it does when it becomes active, when it is active no more, and when it saves a ball: then it asks for another
 abbrev pub save_lists : List ℕ → List (List Effect)
 save_lists name =
@@ -38,7 +35,7 @@ save_acts s = acts Enable s.enable_events ++ acts Disable s.disable_events
 
 abbrev pub save_device : BallSave → Device
 save_device s = record {
-  settings = save_settings s;
+  settings = kinds.BallSave s.settings;
   listens = [];
   handled = save_acts s;
   mentioned = [];
@@ -55,9 +52,6 @@ multiball_event name ending = codes "multiball_" ++ name ++ ending
 abbrev pub multiball_endings : List (List ℕ)
 multiball_endings = codes "_started" ∷ codes "_ended" ∷ []
 
-abbrev pub multiball_settings : Multiball → Settings
-multiball_settings m = kinds.Multiball (record { balls = m.balls })
-
 -- what it does when it starts: it adds balls to those in play; and when it ends
 abbrev pub multiball_lists : List ℕ → ℕ → List (List Effect)
 multiball_lists name balls =
@@ -67,11 +61,11 @@ multiball_lists name balls =
 
 abbrev pub multiball_device : Multiball → Device
 multiball_device m = record {
-  settings = multiball_settings m;
+  settings = kinds.Multiball m.settings;
   listens = [];
   handled = acts Start m.start_events;
   mentioned = [];
-  lists = multiball_lists m.name.text m.balls;
+  lists = multiball_lists m.name.text m.settings.balls;
 }
 
 -- ---- entries

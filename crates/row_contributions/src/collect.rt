@@ -2,7 +2,7 @@
 
 ghost use Rattle.std.specs.Prelude.{◌≡◌, map, OnOk};
 ghost use Rattle.mpf_sections.specs.View.{mode_settings_view, name_view};
-ghost use Rattle.row_contributions.specs.Contributions.{contact_of, is_quick, confirms, stopper_where, stops_at_ball_end, stops_at_game_end, later_events, row_contributions};
+ghost use Rattle.row_contributions.specs.Contributions.{is_quick, confirms, stopper_where, stops_at_ball_end, stops_at_game_end, later_events, row_contributions};
 ghost use Rattle.plan_contributions.specs.View.{contributions_view};
 ghost use Rattle.plan_rows.specs.View.{row_view};
 ghost use Rattle.plan_contributions.specs.Gains.{Gains};
@@ -16,7 +16,6 @@ use crate::collect_game::collect_game;
 use crate::collect_shots::{collect_group, collect_shot};
 use crate::collect_variables::collect_variable_player;
 use machine_definitions::Definitions;
-use mpf_config::config::Contact as WrittenContact;
 use mpf_config::{
     AUTOFIRE_COILS_NAME, COIL_PLAYER_NAME, COILS_NAME, Debounce, EVENT_PLAYER_NAME, Entry,
     EventPlayer, FLIPPERS_NAME, GAME_NAME, ModeSettings, Name, Player, SWITCHES_NAME, Switch,
@@ -25,7 +24,7 @@ use mpf_config::{
 };
 use plan_contributions::{Aim, Contribution, Effect, add, joined, whole};
 use plan_rows::{Place, Row};
-use plan_tables::entries::{Contact, ModeEvent, SwitchKind};
+use plan_tables::entries::{ModeEvent, SwitchKind};
 use plan_tables::table::Table;
 use std::alloc::AllocError;
 
@@ -182,7 +181,7 @@ fn kind_of(definitions: &Definitions<'_>, row: Switch<'_>) -> SwitchKind
     ensures { result ≡ kind_of_switch definitions.now.machine row.entry }
 {
     SwitchKind {
-        contact: contact_of(row.contact),
+        contact: row.contact,
         quick: is_quick(definitions, &row.name.text, row.debounce),
     }
 }
@@ -196,16 +195,6 @@ fn confirms(tags: &[Name]) -> bool
 {
     tags.iter()
         .any(|tag| tag.text.as_slice() == PLAYFIELD_ACTIVE)
-}
-
-/// The contact of a switch, in the plan.
-fn contact_of(contact: WrittenContact) -> Contact
-    ensures { result ≡ contact_of contact }
-{
-    match contact {
-        WrittenContact::NormallyOpen => Contact::NormallyOpen,
-        WrittenContact::NormallyClosed => Contact::NormallyClosed,
-    }
 }
 
 /// Whether a raw level of the switch of this name is accepted at once.

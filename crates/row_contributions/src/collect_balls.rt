@@ -2,7 +2,7 @@
 
 ghost use Rattle.std.specs.Prelude.{◌≡◌, ◌≤◌, [], ◌∷◌, length, map, OnOk};
 ghost use Rattle.mpf_sections.specs.View.{section_view, ball_device_view};
-ghost use Rattle.row_contributions.specs.BallEntries.{is_game, has_game, drains, ball_event, later_lists, drain_mentions, entry_mentions, target_of, attempts_of, is_known};
+ghost use Rattle.row_contributions.specs.BallEntries.{is_game, has_game, drains, ball_event, later_lists, drain_mentions, entry_mentions, target_of, is_known};
 ghost use Rattle.plan_contributions.specs.Contributions.{mentions, listens};
 ghost use Rattle.row_contributions.specs.Contributions.{effects_from};
 ghost use Rattle.machine_definitions.specs.Found.{section_rows};
@@ -118,29 +118,15 @@ fn target_of(to: Destination) -> BallTarget
     }
 }
 
-/// How many attempts there may be: none stands for no limit.
-fn attempts_of(attempts: u16) -> Option<u16>
-    ensures { result ≡ attempts_of attempts }
-{
-    match attempts {
-        0 => None,
-        _ => Some(attempts),
-    }
-}
-
 fn ball_settings(row: BallDevice<'_>, to: Destination) -> Settings
     requires few { length row.switches.now ≤ 16 }
     ensures { result ≡ settings_of_ball_device row.entry to }
 {
     Settings::BallDevice(BallSettings {
         switches: row.switches.len() as u8,
-        entrance_delay: row.entrance_delay,
-        exit_delay: row.exit_delay,
         target: target_of(to),
         has_coil: row.eject_coil.is_some(),
-        mechanical: row.mechanical,
-        timeout: row.timeout,
-        max_attempts: attempts_of(row.max_attempts),
+        ejects: row.ejects,
         trough: row.is_trough(),
         home: row.is_home(),
     })

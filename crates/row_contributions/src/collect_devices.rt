@@ -1,26 +1,25 @@
 //! What the entries of devices give to a plan: counters, accruals, sequences and timers; and those of other devices.
 
 ghost use Rattle.std.specs.Prelude.{◌≡◌, OnOk};
-ghost use Rattle.row_contributions.specs.DeviceEntries.{direction_in_plan, block_event, control_act, timer_event, timer_lists};
+ghost use Rattle.row_contributions.specs.DeviceEntries.{block_event, control_act, timer_event, timer_lists};
 ghost use Rattle.row_contributions.specs.Contributions.{effects_from};
 ghost use Rattle.plan_contributions.specs.View.{parts_text};
 ghost use Rattle.plan_contributions.specs.Gains.{Gains};
-ghost use Rattle.row_contributions.specs.Gives.{block_binds, block_mentions_and_posts, block_posts, control_binds, controls_bind, counter_gives, device_entry_gives, names_mention, names_or_own_post, names_post_in, settings_of_block, settings_of_counter, settings_of_steps, settings_of_timer, step_block_gives, steps_bind, timer_gives};
+ghost use Rattle.row_contributions.specs.Gives.{block_binds, block_mentions_and_posts, block_posts, control_binds, controls_bind, counter_gives, device_entry_gives, names_mention, names_or_own_post, names_post_in, settings_of_steps, step_block_gives, steps_bind, timer_gives};
 
 use crate::collect_bound::{collect_acts, collect_bound};
 use crate::collect_saves::collect_save_device;
-use mpf_config::config::{ControlAction, Direction as WrittenDirection};
+use machine_settings::StepSettings;
+use mpf_config::config::ControlAction;
 use mpf_config::{
-    ACCRUALS_NAME, Block, COUNTERS_NAME, Counter, Entry, Fields, Handler, Name, SEQUENCES_NAME,
-    StepBlock, TIMERS_NAME, Timer, as_control, as_counter, as_step_block, as_timer,
+    ACCRUALS_NAME, BlockEvents, COUNTERS_NAME, Counter, Entry, Fields, Handler, Name,
+    SEQUENCES_NAME, StepBlock, TIMERS_NAME, Timer, as_control, as_counter, as_step_block, as_timer,
 };
 use plan_contributions::{
     Aim, Contribution, Parts, add, collect_event, collect_post, joined, whole,
 };
 use plan_rows::{Place, is_none};
-use plan_tables::devices::{
-    Act, BlockSettings, CounterSettings, Direction, Settings, StepSettings, TimerSettings,
-};
+use plan_tables::devices::{Act, Settings};
 use std::alloc::AllocError;
 
 /// What an entry gives where it is a device, after what is there.
@@ -60,34 +59,13 @@ pub(crate) fn collect_device<'a>(
     collect_save_device(contributions, place, section, entry)
 }
 
-/// Which way a value goes, in the plan.
-pub fn direction_in_plan(direction: WrittenDirection) -> Direction
-    ensures { result ≡ direction_in_plan direction }
-{
-    match direction {
-        WrittenDirection::Up => Direction::Up,
-        WrittenDirection::Down => Direction::Down,
-    }
-}
-
 // ---- logic blocks
-
-fn block_settings(block: Block<'_>) -> BlockSettings
-    ensures { result ≡ settings_of_block block.entry }
-{
-    BlockSettings {
-        enabled: is_none(block.enables),
-        reset_on_complete: block.reset_on_complete,
-        disable_on_complete: block.disable_on_complete,
-        persist: block.persist,
-    }
-}
 
 /// What enables a block, disables, resets and restarts it.
 fn collect_block_acts<'a>(
     contributions: &mut Vec<Contribution<'a>>,
     place: Place,
-    block: Block<'a>,
+    block: BlockEvents<'a>,
 ) -> Result<(), AllocError>
     ensures { OnOk result (Gains contributions.old contributions.new (block_binds place block.entry)) }
 {
@@ -102,7 +80,7 @@ fn collect_block_acts<'a>(
 fn collect_block_posts<'a>(
     contributions: &mut Vec<Contribution<'a>>,
     name: &'a [u8],
-    block: Block<'a>,
+    block: BlockEvents<'a>,
 ) -> Result<(), AllocError>
     ensures { OnOk result (Gains contributions.old contributions.new (block_mentions_and_posts name.now block.entry)) }
 {
@@ -136,7 +114,7 @@ fn block_event<'a>(name: &'a [u8], end: &'static [u8]) -> Parts<'a>
 fn collect_block_lists<'a>(
     contributions: &mut Vec<Contribution<'a>>,
     name: &'a [u8],
-    block: Block<'a>,
+    block: BlockEvents<'a>,
 ) -> Result<(), AllocError>
     ensures { OnOk result (Gains contributions.old contributions.new (block_posts name.now block.entry)) }
 {
@@ -181,19 +159,6 @@ fn collect_written<'a>(
 
 // ---- `counters`
 
-fn counter_settings(row: Counter<'_>) -> Settings
-    ensures { result ≡ settings_of_counter row.entry }
-{
-    Settings::Counter(CounterSettings {
-        block: block_settings(row.block),
-        start: row.start,
-        interval: row.interval,
-        direction: direction_in_plan(row.direction),
-        complete: row.end,
-        window: row.window,
-    })
-}
-
 #[tactic(auto, unfolding(crate::specs::Contributions::device_contributions))]
 fn collect_counter<'a>(
     contributions: &mut Vec<Contribution<'a>>,
@@ -204,7 +169,7 @@ fn collect_counter<'a>(
 {
     add(
         contributions,
-        Contribution::Device(place, counter_settings(row)),
+        Contribution::Device(place, Settings::Counter(row.settings)),
     )?;
     collect_acts(contributions, place, Act::Count, row.counts)?;
     collect_block_acts(contributions, place, row.block)?;
@@ -218,7 +183,7 @@ fn step_settings(row: StepBlock<'_>) -> StepSettings
     ensures { result ≡ settings_of_steps row.entry }
 {
     StepSettings {
-        block: block_settings(row.block),
+        block: row.settings,
         steps: row.steps.len(),
     }
 }
@@ -256,19 +221,6 @@ fn collect_steps<'a>(
 
 // ---- `timers`
 
-fn timer_settings(row: Timer<'_>) -> Settings
-    ensures { result ≡ settings_of_timer row.entry }
-{
-    Settings::Timer(TimerSettings {
-        start: row.start,
-        end: row.end,
-        direction: direction_in_plan(row.direction),
-        interval: row.interval,
-        start_running: row.start_running,
-        restart: row.restart,
-    })
-}
-
 #[tactic(auto, unfolding(crate::specs::Contributions::device_contributions))]
 fn collect_timer<'a>(
     contributions: &mut Vec<Contribution<'a>>,
@@ -279,7 +231,7 @@ fn collect_timer<'a>(
 {
     add(
         contributions,
-        Contribution::Device(place, timer_settings(row)),
+        Contribution::Device(place, Settings::Timer(row.settings)),
     )?;
     collect_timer_acts(contributions, place, row.controls)?;
     collect_timer_lists(contributions, &row.name.text)?;

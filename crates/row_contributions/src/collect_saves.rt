@@ -5,7 +5,7 @@ ghost use Rattle.row_contributions.specs.SaveEntries.{save_event, save_lists, mu
 ghost use Rattle.row_contributions.specs.Contributions.{effects_from};
 ghost use Rattle.plan_contributions.specs.View.{parts_text};
 ghost use Rattle.plan_contributions.specs.Gains.{Gains};
-ghost use Rattle.row_contributions.specs.Gives.{ball_save_binds, ball_save_gives, multiball_gives, save_entry_gives, settings_of_multiball, settings_of_save};
+ghost use Rattle.row_contributions.specs.Gives.{ball_save_binds, ball_save_gives, multiball_gives, save_entry_gives};
 
 use crate::collect_bound::collect_acts;
 use mpf_config::{
@@ -13,7 +13,7 @@ use mpf_config::{
 };
 use plan_contributions::{Contribution, Effect, Parts, add, collect_effect, collect_post, joined};
 use plan_rows::Place;
-use plan_tables::devices::{Act, MultiballSettings, SaveSettings, Settings};
+use plan_tables::devices::{Act, Settings};
 use std::alloc::AllocError;
 
 /// What an entry gives where it is a ball save or a multiball, after what is there.
@@ -37,15 +37,6 @@ pub(crate) fn collect_save_device<'a>(
 
 // ---- `ball_saves`
 
-fn save_settings(row: BallSave<'_>) -> Settings
-    ensures { result ≡ settings_of_save row.entry }
-{
-    Settings::BallSave(SaveSettings {
-        active_time: row.active_time,
-        balls: row.balls,
-    })
-}
-
 #[tactic(auto, unfolding(crate::specs::Contributions::device_contributions))]
 fn collect_ball_save<'a>(
     contributions: &mut Vec<Contribution<'a>>,
@@ -56,7 +47,7 @@ fn collect_ball_save<'a>(
 {
     add(
         contributions,
-        Contribution::Device(place, save_settings(row)),
+        Contribution::Device(place, Settings::BallSave(row.settings)),
     )?;
     collect_save_acts(contributions, place, row)?;
     collect_save_lists(contributions, &row.name.text)?;
@@ -99,12 +90,6 @@ fn collect_save_lists<'a>(
 
 // ---- `multiballs`
 
-fn multiball_settings(row: Multiball<'_>) -> Settings
-    ensures { result ≡ settings_of_multiball row.entry }
-{
-    Settings::Multiball(MultiballSettings { balls: row.balls })
-}
-
 #[tactic(auto, unfolding(crate::specs::Contributions::device_contributions))]
 fn collect_multiball<'a>(
     contributions: &mut Vec<Contribution<'a>>,
@@ -115,10 +100,10 @@ fn collect_multiball<'a>(
 {
     add(
         contributions,
-        Contribution::Device(place, multiball_settings(row)),
+        Contribution::Device(place, Settings::Multiball(row.settings)),
     )?;
     collect_acts(contributions, place, Act::Start, row.start_events)?;
-    collect_multiball_lists(contributions, &row.name.text, row.balls)?;
+    collect_multiball_lists(contributions, &row.name.text, row.settings.balls)?;
     Ok(())
 }
 

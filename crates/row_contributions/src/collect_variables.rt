@@ -2,38 +2,22 @@
 
 ghost use Rattle.std.specs.Prelude.{◌≡◌, OnOk};
 ghost use Rattle.mpf_sections.specs.View.{variable_item_view};
-ghost use Rattle.row_contributions.specs.VariableEntries.{variable_action, item_change};
+ghost use Rattle.row_contributions.specs.VariableEntries.{item_change};
 ghost use Rattle.plan_contributions.specs.View.{effect_view};
 ghost use Rattle.plan_contributions.specs.Gains.{Gains};
 ghost use Rattle.row_contributions.specs.Gives.{variable_items_give, variable_player_gives};
 
 use crate::collect_bound::collect_bound;
-use mpf_config::config::VariableAction as WrittenAction;
 use mpf_config::{Keyed, VariableItem, VariablePlayer, as_variable_item};
 use plan_contributions::{Aim, Contribution, Effect, add, collect_event, player_event};
 use plan_rows::Place;
-use plan_tables::entries::VariableAction;
 use std::alloc::AllocError;
-
-/// What is done with a variable, in the plan.
-fn action_in_plan(action: WrittenAction) -> VariableAction
-    ensures { result ≡ variable_action action }
-{
-    match action {
-        WrittenAction::Add => VariableAction::Add,
-        WrittenAction::Set => VariableAction::Set,
-    }
-}
 
 /// What an item does.
 fn change_of(item: VariableItem<'_>) -> Effect<'_>
     ensures { effect_view result ≡ item_change (variable_item_view item.entry) }
 {
-    Effect::Variable(
-        &item.variable.text,
-        action_in_plan(item.action),
-        item.number,
-    )
+    Effect::Variable(&item.variable.text, item.action, item.number)
 }
 
 /// An entry binds an effect list to the event that it handles; the list does what the items say.

@@ -16,4 +16,3 @@ mod collect_shots;
 mod collect_variables;
 
 pub use collect::collect_row;
-pub use collect_devices::direction_in_plan;

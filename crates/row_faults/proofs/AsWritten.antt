@@ -4,7 +4,7 @@ use Rattle.std.specs.List.{All, flat_map}
 use Rattle.std.proofs.lemmas.Bool.{eqb-true}
 use Rattle.section_tables.specs.Kinds.{Setting}
 use Rattle.mpf_tables.specs.SectionTables as tables
-use Rattle.mpf_sections.specs.Rows.{Written, Switch, Block, Counter, StepBlock}
+use Rattle.mpf_sections.specs.Rows.{Written, Switch, BlockEvents, Counter, StepBlock}
 use Rattle.mpf_sections.specs.Typed.{place_of}
 use Rattle.row_faults.specs.AsWritten.{put_by, ordered_by, written_before, in_order, as_written}
 use Rattle.row_faults.specs.Reserved.{switch_posts, block_posts, counter_posts, step_posts}
@@ -41,7 +41,7 @@ module _ (P : Written → Type 0) where
       let each = written-all tables.switches s.order ((codes "events_when_activated", s.activated) ∷ (codes "events_when_deactivated", s.deactivated) ∷ []) P h in
       (each 0 no_posts (omega arith), each 1 no_posts (omega arith))
 
-  block-posts : (table : List Setting) (order : List ℕ) (b : Block) → All P (block_posts table order b) → All P b.hit × All P b.complete
+  block-posts : (table : List Setting) (order : List ℕ) (b : BlockEvents) → All P (block_posts table order b) → All P b.hit × All P b.complete
   block-posts table order b h =
       let each = written-all table order ((codes "events_when_hit", b.hit) ∷ (codes "events_when_complete", b.complete) ∷ []) P h in
       (each 0 no_posts (omega arith), each 1 no_posts (omega arith))

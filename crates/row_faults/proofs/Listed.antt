@@ -1,5 +1,5 @@
 -- What groups list, name by name.
-use Rattle.std.proofs.Common.{◌≡◌, ℕ, Bool, true, false, List, [], ◌∷◌, ◌++◌, append_assoc, refl, sym, ap, ◌∙◌}
+use Rattle.std.proofs.Common.{◌≡◌, ℕ, Bool, true, false, List, [], ◌∷◌, ◌++◌, refl, sym, ap, ◌∙◌}
 use Rattle.mpf_sections.specs.Rows.{Written}
 use Rattle.mpf_config.specs.Rows.{Rows}
 use Rattle.row_faults.specs.ShotFaults.{Listed, taken_with, taken_after, kept_if, is_misplaced, misplaced}
@@ -19,15 +19,6 @@ module _ (rows : Rows) (is_own : List ℕ → Bool) where
   misplaced-append is_taken (l ∷ ls) ms =
       ap (kept_if (is_misplaced rows is_own is_taken l) l.shot) (misplaced-append (taken_with l is_taken) ls ms)
       ∙ kept-append (is_misplaced rows is_own is_taken l) l.shot (misplaced rows is_own (taken_with l is_taken) ls) (misplaced rows is_own (taken_after (taken_with l is_taken) ls) ms)
-
-  -- the names that are noted so far and those of the rest, after some of the rest were noted
-  pub noted-more : (before after : List Written) (is_taken others : List ℕ → Bool) (ls ms : List Listed) → after ≡ before ++ misplaced rows is_own is_taken ls → others ≡ taken_after is_taken ls
-      → after ++ misplaced rows is_own others ms ≡ before ++ misplaced rows is_own is_taken (ls ++ ms)
-  noted-more before after is_taken others ls ms more taken =
-      ap (λ (ws : List Written). ws ++ misplaced rows is_own others ms) more
-      ∙ append_assoc before (misplaced rows is_own is_taken ls) (misplaced rows is_own others ms)
-      ∙ ap (λ (test : List ℕ → Bool). before ++ (misplaced rows is_own is_taken ls ++ misplaced rows is_own test ms)) taken
-      ∙ ap (λ (ws : List Written). before ++ ws) (sym (misplaced-append is_taken ls ms))
 
 -- the same of the names that are taken
 pub taken-more : (is_taken others : List ℕ → Bool) (ls ms : List Listed) → others ≡ taken_after is_taken ls → taken_after others ms ≡ taken_after is_taken (ls ++ ms)

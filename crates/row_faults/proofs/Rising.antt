@@ -22,11 +22,7 @@ use Rattle.row_faults.specs.RowFaults.{listed_once}
 number_at : (k : RowFaultKind) (rest : List ℕ) → get_or (row_title k ++ rest) 6 0 ≡ 48 + row_fault_number k
 unfolding digits
 number_at Name rest = refl
-number_at PulseLimit rest = refl
-number_at PowerLimit rest = refl
-number_at HoldNotAllowed rest = refl
-number_at TimerAtEnd rest = refl
-number_at BallRoute rest = refl
+number_at _ rest = refl
 
 -- a title as a function of its number
 abbrev name_by : ℕ → List ℕ
@@ -43,11 +39,7 @@ title_by n = codes "fault " ++ decimal n ++ spaced (name_by n)
 
 title_is : (k : RowFaultKind) → row_title k ≡ title_by (row_fault_number k)
 title_is Name = refl
-title_is PulseLimit = refl
-title_is PowerLimit = refl
-title_is HoldNotAllowed = refl
-title_is TimerAtEnd = refl
-title_is BallRoute = refl
+title_is _ = refl
 
 -- texts that begin with titles, and are one, begin with the same title
 same_title : (k m : RowFaultKind) (a b : List ℕ) → row_title k ++ a ≡ row_title m ++ b → row_title k ≡ row_title m

@@ -59,7 +59,7 @@ module _ (devices : List BallDevice) (text : List ℕ) where
   routed is_taken d e =
       let parts = or-none (not (leads_to_playfield devices d) || is_one_taken (switch_names d) is_taken) (lacks_coil d) e in
       let ways = or-none (not (leads_to_playfield devices d)) (is_one_taken (switch_names d) is_taken) parts.0 in
-      let coil = has_coil d.eject_coil d.mechanical (is_trough d) parts.1 in
+      let coil = has_coil d.eject_coil d.ejects.mechanical (is_trough d) parts.1 in
       (record { leads = not-false (leads_to_playfield devices d) ways.0; ejects = coil.0; trough = coil.1 }, ways.1)
 
   rest-none : (is_taken : List ℕ → Bool) (ds : List BallDevice) → rest_faults devices is_taken text ds ≡ [] → AreFine is_taken ds

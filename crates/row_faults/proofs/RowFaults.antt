@@ -50,18 +50,6 @@ has_name (k ∷ keys) name = by (contains_key (λ (x : List ℕ). x) (k.items �
         → (is_at (slice_cmp nat_cmp name) k.items || list_any (λ (k : Vec ℕ). is_at (slice_cmp nat_cmp name) k.items) keys) ≡ (bytes_eq k.items name || is_among (map (λ (k : Vec ℕ). k.items) keys) name)
     by e rest = rw (sym (or_false (is_at (slice_cmp nat_cmp name) k.items)) ∙ e ∙ or_false (bytes_eq k.items name), rest) refl
 
-or_around : (a b c : Bool) → ((a || b) || c) ≡ (b || (a || c))
-or_around true true c = refl
-or_around true false c = refl
-or_around false b c = refl
-
--- the names of a mode are taken
-pub took-more : (mode keys new rest : List (List ℕ)) (q : List ℕ) → is_among new q ≡ is_among (mode ++ keys) q → is_among (new ++ rest) q ≡ is_among (keys ++ (mode ++ rest)) q
-took-more mode keys new rest q took =
-    list_any-append (λ k. bytes_eq k q) new rest ∙ ap (λ (b : Bool). b || is_among rest q) (took ∙ list_any-append (λ k. bytes_eq k q) mode keys)
-    ∙ or_around (is_among mode q) (is_among keys q) (is_among rest q)
-    ∙ sym (list_any-append (λ k. bytes_eq k q) keys (mode ++ rest) ∙ ap (λ (b : Bool). is_among keys q || b) (list_any-append (λ k. bytes_eq k q) mode rest))
-
 -- one name more
 pub took-name : (name : List ℕ) (keys older new : List (List ℕ)) → ((q : List ℕ) → is_among keys q ≡ is_among older q) → ((q : List ℕ) → is_among new q ≡ is_among (name ∷ keys) q)
     → (q : List ℕ) → is_among new q ≡ is_among (name ∷ older) q

@@ -4,7 +4,7 @@ use Rattle.std.specs.List.{flat_map}
 use Rattle.yaml_subset.specs.Keys.{is_among}
 use Rattle.section_tables.specs.Kinds.{Setting}
 use Rattle.mpf_tables.specs.SectionTables as tables
-use Rattle.mpf_sections.specs.Rows.{Written, Switch, EventPlayer, Block, Counter, StepBlock, SectionRows}
+use Rattle.mpf_sections.specs.Rows.{Written, Switch, EventPlayer, BlockEvents, Counter, StepBlock, SectionRows}
 use Rattle.mpf_config.specs.Rows.{Rows}
 use Rattle.machine_definitions.specs.GameEvents.{reserved_game_events}
 use Rattle.mpf_sections.specs.Typed.{switches_in, event_players_in, counters_in, accruals_in, sequences_in, listed_modes}
@@ -46,7 +46,7 @@ abbrev pub player_posts : EventPlayer → List Written
 player_posts p = p.posts
 
 -- what a block posts in place of its own when it is hit, and when it completes
-abbrev pub block_posts : List Setting → List ℕ → Block → List Written
+abbrev pub block_posts : List Setting → List ℕ → BlockEvents → List Written
 block_posts table order b = as_written table order ((codes "events_when_hit", b.hit) ∷ (codes "events_when_complete", b.complete) ∷ [])
 
 abbrev pub counter_posts : Counter → List Written

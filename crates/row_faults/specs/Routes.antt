@@ -31,7 +31,7 @@ leads_to_playfield devices d = leads_by devices (length devices) d.target.text
 -- whether a ball device lacks a coil that ejects its balls: a trough needs one, and so does a ball device whose balls
 -- do not leave by themselves
 abbrev pub lacks_coil : BallDevice → Bool
-lacks_coil d = is_none d.eject_coil && (not d.mechanical || is_trough d)
+lacks_coil d = is_none d.eject_coil && (not d.ejects.mechanical || is_trough d)
 
 -- ---- ball switches
 

@@ -2,8 +2,7 @@
 use Rattle.std.specs.Prelude.{ℕ, ℤ, int_le, Bool, false, if◌then◌else◌, List, [], ◌∷◌, ◌++◌, Option, None, Some, map, filter}
 use Rattle.std.specs.List.{flat_map}
 use Rattle.yaml_subset.specs.Keys.{is_among}
-use Rattle.mpf_sections.specs.declared.words.Direction.{Direction}
-use Rattle.mpf_sections.specs.declared.words.Direction.TheVariants.{Up, Down}
+use Rattle.machine_settings.specs.Ends.{is_at_end}
 use Rattle.mpf_sections.specs.Rows.{Written, Timer, SectionRows}
 use Rattle.mpf_sections.specs.Typed.{timers_in}
 use Rattle.mpf_sections.specs.TypedCoils.{coils_in, coil_players_in, flippers_in, autofires_in}
@@ -28,15 +27,9 @@ use Rattle.mpf_sections.specs.TypedBalls.{ball_devices_in}
 abbrev pub name_fault : List ℕ → Written → RowFaultView
 name_fault text w = fault_at Name text w
 
--- whether a value has reached or passed its end, if it has one
-abbrev pub has_reached : Direction → Option ℤ → ℤ → Bool
-has_reached direction None value = false
-has_reached Up (Some end) value = int_le end value
-has_reached Down (Some end) value = int_le value end
-
 -- whether a timer is at its end before it runs
 abbrev pub starts_at_end : Timer → Bool
-starts_at_end t = has_reached t.direction t.end t.start
+starts_at_end t = is_at_end t.settings.direction t.settings.end t.settings.start
 
 abbrev pub timer_fault : List ℕ → Timer → RowFaultView
 timer_fault text t = fault_at TimerAtEnd text t.name

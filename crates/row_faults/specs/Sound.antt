@@ -98,7 +98,7 @@ pub record IsSectionSound (rows : Rows) (s : SectionRows) : Type 0 where
 -- themselves; a trough has a coil.
 pub record IsRouted (devices : List BallDevice) (d : BallDevice) : Type 0 where
   pub leads : leads_to_playfield devices d ≡ true
-  pub ejects : (is_some d.eject_coil || d.mechanical) ≡ true
+  pub ejects : (is_some d.eject_coil || d.ejects.mechanical) ≡ true
   pub trough : is_trough d ≡ true → IsSome d.eject_coil
 
 -- This holds of each ball device, and each ball switch is of one ball device, once.

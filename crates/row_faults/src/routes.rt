@@ -107,5 +107,5 @@ fn take_switches<'a>(taken: &mut Switches<'a>, switches: &'a [Name]) -> Result<b
 fn lacks_coil(device: BallDevice<'_>) -> bool
     ensures { result ≡ lacks_coil (ball_device_view device.entry) }
 {
-    device.eject_coil.is_none() && (!device.mechanical || device.is_trough())
+    device.eject_coil.is_none() && (!device.ejects.mechanical || device.is_trough())
 }

@@ -4,7 +4,7 @@ ghost use Rattle.std.specs.Prelude.{◌≡◌, [], IfOk, OnOk};
 ghost use Rattle.mpf_sections.specs.View.{timer_view};
 ghost use Rattle.mpf_config.specs.View.{rows_view};
 ghost use Rattle.row_faults.specs.Collected.{Gains};
-ghost use Rattle.row_faults.specs.RowFaults.{has_reached, starts_at_end, fault_line, fault_number, faults_by, row_faults};
+ghost use Rattle.row_faults.specs.RowFaults.{starts_at_end, fault_line, fault_number, faults_by, row_faults};
 ghost use Rattle.row_faults.specs.Sound.{IsSound};
 ghost use Rattle.row_faults.specs.View.{keys_view, row_faults_view};
 ghost use Rattle.row_faults.specs.FaultsOf.{GainsFaults, Sorts, Takes, faults_of_modes, faults_of_section, faults_of_sections, faults_of_text, faults_of_timers, listed_by_section, listed_by_sections};
@@ -21,8 +21,7 @@ use crate::variable_faults::add_variable_players;
 use indexmap::IndexSet;
 use machine_definitions::Definitions;
 use mpf_config::{
-    Config, Direction, MACHINE_NAME, ModeText, Section, Timer, as_timer, listed_modes,
-    mode_text_name,
+    Config, MACHINE_NAME, ModeText, Section, Timer, as_timer, listed_modes, mode_text_name,
 };
 use mpf_tables::tables::TIMERS_NAME;
 use std::alloc::{AllocError, Global};
@@ -203,16 +202,6 @@ fn add_timers(faults: &mut Faults<'_, '_>, section: &Section) -> Result<(), Allo
 fn starts_at_end(timer: Timer<'_>) -> bool
     ensures { result ≡ starts_at_end (timer_view timer.entry) }
 {
-    has_reached(timer.direction, timer.end, timer.start)
-}
-
-/// Whether a value has reached or passed its end, if it has one.
-fn has_reached(direction: Direction, end: Option<i64>, value: i64) -> bool
-    ensures { result ≡ has_reached direction end value }
-{
-    match (direction, end) {
-        (_, None) => false,
-        (Direction::Up, Some(end)) => end <= value,
-        (Direction::Down, Some(end)) => value <= end,
-    }
+    let settings = timer.settings;
+    settings.direction.is_at_end(settings.end, settings.start)
 }

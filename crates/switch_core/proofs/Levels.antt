@@ -3,7 +3,7 @@ use Rattle.std.proofs.Common.{◌≡◌, ℕ, ◌+◌, ◌≤◌, Bool, true, fa
 use Rattle.std.specs.List.{filter, list_all, last_or}
 use Rattle.std.proofs.lemmas.Bool.{false≢true, le-leb, leb-true}
 use Rattle.std.proofs.lemmas.List.Folds.{list_all-append}
-use Rattle.plan_tables.specs.declared.entries.Contact.{Contact}
+use Rattle.machine_settings.specs.declared.words.Contact.{Contact}
 use Rattle.plan_tables.specs.declared.entries.SwitchKind.{SwitchKind}
 use Rattle.switch_core.specs.SwitchStep.{is_active}
 use Rattle.switch_core.specs.AcceptedLevel.{RawChange, delay_of, standing, is_delay_over, active_after, accepted_level}
@@ -18,10 +18,9 @@ filter-cond f false xs ys = refl
 
 -- An older raw change stays among those that stand (b) just where it is over at the later one (n), and then it is over afterwards, too (o).
 kept : (p : RawChange) (fs gs end : List RawChange) (b n o : Bool) → fs ≡ gs ++ end → (n ≡ true → o ≡ true) → cond (b && n) (cond o (p ∷ fs) fs) fs ≡ cond b (cond n (p ∷ gs) gs) gs ++ end
-kept p fs gs end false n o is over = is
-kept p fs gs end true false o is over = is
 kept p fs gs end true true true is over = ap (λ xs. p ∷ xs) is
 kept p fs gs end true true false is over = absurd (false≢true (over refl))
+kept p fs gs end _ _ o is over = is
 
 -- Of those that stood, the ones that are over at the later change stand on, and it stands itself.
 pub standing-push : (delay moment : ℕ) (past : List RawChange) (c : RawChange) → c.at ≤ moment → filter (is_delay_over delay moment) (standing delay (past ++ c ∷ [])) ≡ filter (is_delay_over delay c.at) (standing delay past) ++ filter (is_delay_over delay moment) (c ∷ [])

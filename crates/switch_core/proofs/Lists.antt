@@ -75,9 +75,8 @@ complete-set kinds states i new complete =
 -- a test whether two moments differ
 pub same-moment : (a b : Option ℕ) (differ : Bool) → differ ≡ not (option_eq nat_eq a b) → differ ≡ false → a ≡ b
 same-moment None None differ is not_true = refl
-same-moment None (Some y) differ is not_true = cc
-same-moment (Some x) None differ is not_true = cc
 same-moment (Some x) (Some y) differ is not_true = ap (λ (n : ℕ). Some n) (grind (arith, is, not_true))
+same-moment _ _ differ is not_true = cc
 
 then_some-is : (b c : Bool) (x y : Change) → b ≡ c → x ≡ y → then_some b x ≡ then_some c y
 then_some-is b c x y test is = ap₂ then_some test is

@@ -1,7 +1,7 @@
 -- Which level of a switch is accepted, by its past raw changes alone.
 use Rattle.std.specs.Prelude.{ℕ, ◌+◌, Bool, false, if◌then◌else◌, Option, None, Some, List, [], ◌∷◌, nat_le, filter}
 use Rattle.std.specs.List.{list_all, last_or}
-use Rattle.plan_tables.specs.declared.entries.Contact.{Contact}
+use Rattle.machine_settings.specs.declared.words.Contact.{Contact}
 use Rattle.plan_tables.specs.declared.entries.SwitchKind.{SwitchKind}
 use Rattle.switch_core.specs.SwitchStep.{is_active}
 

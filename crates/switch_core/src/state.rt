@@ -4,7 +4,8 @@ ghost use Rattle.std.specs.Prelude.{◌≡◌, ◌<◌, ◌^◌, option_map};
 ghost use Rattle.switch_core.specs.SwitchStep.{is_active, raw_at_rest, idle, accepted, awaited, changed, is_taken, fired};
 ghost use Rattle.switch_core.specs.StateView.{state_view};
 
-use plan_tables::entries::{Contact, SwitchKind};
+use machine_settings::Contact;
+use plan_tables::entries::SwitchKind;
 
 /// How long a raw level has to stand until it is accepted, in milliseconds.
 const DELAY: u64 = 5;

@@ -30,7 +30,7 @@ use Rattle.written_machine.specs.PlanOrder.{settled}
 use Rattle.written_machine.specs.AlarmsEnd.{IsPartDone}
 use Rattle.written_machine.specs.Run.{Source, switch, device, source_due, part_due, IsNothingLate, IsNextAlarm, Stimulus, SwitchChange, Alarm, Wait, moment_of, IsAllowed, arrived, begin, IsRun}
 use Rattle.cascade_rank.specs.Cost.{Cost}
-use Rattle.written_machine.specs.Moves.{Move, Wrote, Sent, Switched, Began, Ended, Marked, Released, Turned, Asked, Booked, Varied, Stepped, AddedBalls, do_move, Does, TakesPart, Begins, IsMachine, ordinary, working, MayWork}
+use Rattle.written_machine.specs.Moves.{Move, Began, Ended, Turned, Booked, do_move, Does, TakesPart, Begins, IsMachine, ordinary, working, MayWork}
 use Rattle.written_machine.proofs.Does.{start-by, stop-by, book-by, does-keeps, due-row, off-has_coils, HasStates, moment-move, moment-does, has_states-does, switches-does}
 use Rattle.device_objects.proofs.Lists.{lists_are_of_the_row}
 use Rattle.written_machine.proofs.Parts.{does-answer, does-call, does-accepted, does-if_accepted, does-begin, does-before, does-after}
@@ -86,19 +86,11 @@ module _ (plan : PlanView) where
             ]
 
     later-move : (x : Move) (s : Machine) → IsLater s (do_move plan x s)
-    later-move (Wrote owner what) s = λ r k due is. inl is
-    later-move (Sent owner e) s = λ r k due is. inl is
-    later-move (Switched n state) s = λ r k due is. inl is
     later-move (Began m) s = start-by plan m s (IsLater s) (λ r k due is. inl is) (λ r k due is. inl is)
     later-move (Ended m) s = stop-by plan m s (IsLater s) (λ r k due is. inl is) (λ r k due is. inl is)
-    later-move (Marked m state) s = λ r k due is. inl is
     later-move (Turned call r) s = later-turned call r s
-    later-move (Asked owner command) s = λ r k due is. inl is
     later-move (Booked owner call) s = book-by owner call s (IsLater s) (λ is r k due here. inl here) (λ r k due is. inl is)
-    later-move (Released m) s = λ r k due is. inl is
-    later-move (Varied v value) s = λ r k due is. inl is
-    later-move (Stepped which) s = λ r k due is. inl is
-    later-move (AddedBalls n) s = λ r k due is. inl is
+    later-move _ s = λ r k due is. inl is
 
     later-then : (s m t : Machine) → m.moment ≡ s.moment → IsLater s m → IsLater m t → IsLater s t
     later-then s m t here one next r k due is =
@@ -177,10 +169,6 @@ module _ (plan : PlanView) where
   switches-begin (Alarm at (device r)) s =
       switches-does plan (ordinary plan (λ owner. Unit {0}) ⊥) (λ none. none) (does-call plan (λ owner. Unit {0}) ⊥ tt calls.Fire r (λ own. tt) (arrived at s))
   switches-begin (Wait at) s = refl
-
-  -- so they do the same with the same switches
-  pub switches-same : (stimulus : Stimulus) (s t : Machine) → s.switches ≡ t.switches → (begin plan stimulus s).switches ≡ (begin plan stimulus t).switches
-  switches-same stimulus s t e = switches-begin stimulus s ∙ ap (switched stimulus) e ∙ sym (switches-begin stimulus t)
 
 -- ---- the devices at the beginning
 

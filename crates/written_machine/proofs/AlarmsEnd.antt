@@ -3,7 +3,7 @@ use Rattle.std.proofs.Common.{◌≡◌, ℕ, zero, suc, ◌+◌, ◌-◌, ◌*�
 use Rattle.std.specs.Option.{option_map_or}
 use Rattle.std.specs.List.{range_with_len}
 use Rattle.std.proofs.lemmas.List.FromFn.{get_or-range_with_len}
-use Rattle.std.proofs.lemmas.Bool.{cases_lt, cond_both, leb-true, le-leb, lt-leb}
+use Rattle.std.proofs.lemmas.Bool.{cases_lt, leb-true, le-leb, lt-leb}
 use Rattle.std.proofs.lemmas.List.{length-map, get_or-map, get_or_append_left, get_or-append-add}
 use Rattle.plan_tables.specs.PlanView.{PlanView, row_numbers}
 use Rattle.plan_tables.specs.Valid.{IsValid}
@@ -327,18 +327,6 @@ module _ (plan : PlanView) (bound : ℕ) where
             let left = subst (λ (xs : List Stimulus). IsNoAlarmDueBy (state_after plan bound xs s) until) (alarms_by-more until k s at source next by) h in
             alarms_by-more until k s at source next by
             ∙ ap (λ (xs : List Stimulus). alarm ∷ xs) (alarms_by-same until k (most_alarms plan until t) t left (leaves-nothing until valid t (alarm-goes_on at source s next valid going)))
-
--- the moment of the last alarm is not after it
-pub alarms_by-moment : (plan : PlanView) (bound until k : ℕ) (s : Machine) → s.moment ≤ until → (state_after plan bound (alarms_by plan bound until k s) s).moment ≤ until
-alarms_by-moment plan bound until zero s before = before
-alarms_by-moment plan bound until (suc k) s before =
-    elim (due-cases plan bound until s) [
-      | inr nothing ↦ subst (λ (xs : List Stimulus). (state_after plan bound xs s).moment ≤ until) (sym (alarms_by-none plan bound until (suc k) s nothing)) before
-      | inl (at, source, next, by) ↦
-          let t = settled plan bound (Alarm at source) s in
-          subst (λ (xs : List Stimulus). (state_after plan bound xs s).moment ≤ until) (sym (alarms_by-more plan bound until k s at source next by))
-          (alarms_by-moment plan bound until k t (omega (arith, alarm-moment plan bound at source s next, by)))
-    ]
 
 pub alarms_end : AlarmsEnd
 alarms_end plan bound trace s valid reached until = alarms_by-all plan bound valid until trace s reached

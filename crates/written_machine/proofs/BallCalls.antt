@@ -19,9 +19,9 @@ use Rattle.plan_tables.specs.declared.entries.Action.TheVariants.{Enter, Leave, 
 use Rattle.plan_tables.specs.declared.entries.Owner.{Owner}
 use Rattle.ball_devices.specs.declared.booking.Booking.TheVariants.{Entered}
 use Rattle.ball_devices.specs.declared.booking.Origin.{Origin}
-use Rattle.ball_devices.specs.declared.booking.Origin.TheVariants.{Awaited, Found as OfPlayfield, New}
+use Rattle.ball_devices.specs.declared.booking.Origin.TheVariants.{Awaited}
 use Rattle.ball_devices.specs.Ledger.{counted_in, transit_to, origin_of}
-use Rattle.ball_devices.specs.Bookings.{LedgerCall, MayBook, after_call, booked, is_new_entry, is_entry_into, is_exit_from, is_start_for, is_end_for}
+use Rattle.ball_devices.specs.Bookings.{LedgerCall, MayBook, booked, is_new_entry, is_entry_into, is_exit_from, is_start_for, is_end_for}
 use Rattle.ball_devices.specs.Bookings as ledger_calls
 use Rattle.ball_devices.proofs.Ledgers.{origin-says, call-is}
 use Rattle.ball_devices.proofs.Booked.{one, call-told}
@@ -37,7 +37,7 @@ use Rattle.device_objects.specs.DeviceStep.{device_step}
 use Rattle.device_objects.specs.Laws.{HasBallShape}
 use Rattle.device_objects.proofs.BallShapes.{ball_step-shape}
 use Rattle.player_game.specs.GameStep.{is_ball_on}
-use Rattle.plan_tables.specs.BallRows.{BooksNothing, actions_in, BooksBalls, BooksRightly, BookingsAreRight, IsPlain}
+use Rattle.plan_tables.specs.BallRows.{actions_in, BooksBalls, BooksRightly, BookingsAreRight, IsPlain}
 use Rattle.plan_tables.specs.declared.devices.Telling.{Telling}
 use Rattle.plan_tables.specs.declared.devices.Telling.TheVariants.{Arrived, Wanted}
 use Rattle.written_machine.specs.Machine.{Machine, post, set_device, all_do, book, drain_if, after_entry, do_action_by, do_list_by, world_of, device_at, do_answer_by, call_device_by, is_device_away, first_away, tell_nobody, tell_device, tell_first, call_device}
@@ -204,8 +204,7 @@ module _ (plan : PlanView) (valid : IsValid plan) (right : BookingsAreRight plan
         origin-calm : enter → (owner : Owner) (drain : Bool) (o : Origin) (v : Machine) → IsCalm plan (λ target. one (is_end_for target (Entered r o))) v
             → IsCalm plan no_lag (after_entry plan tell owner r drain o v)
         origin-calm may owner drain Awaited v calm = tells may v calm
-        origin-calm may owner drain OfPlayfield v calm = drain-calm owner drain v calm
-        origin-calm may owner drain New v calm = drain-calm owner drain v calm
+        origin-calm may owner drain _ v calm = drain-calm owner drain v calm
 
         answer-calm : {t : BallState} {ks : List ℕ} → HasBallShape d t → Answer enter b t ks
             → IsCalm plan no_lag (do_answer_by plan tell r ks (set_device r (states.BallDevice t) s))
@@ -306,15 +305,7 @@ module _ (plan : PlanView) (valid : IsValid plan) (right : BookingsAreRight plan
   -- a trough is a ball device
   trough-ball : (settings : Settings) → is_trough settings ≡ true → (d : BallSettings) × (settings ≡ kinds.BallDevice d)
   trough-ball (kinds.BallDevice d) is = (d, refl)
-  trough-ball (kinds.Counter c) is = absurd (false≢true is)
-  trough-ball (kinds.Accrual a) is = absurd (false≢true is)
-  trough-ball (kinds.Sequence q) is = absurd (false≢true is)
-  trough-ball (kinds.Timer t) is = absurd (false≢true is)
-  trough-ball (kinds.Bank b) is = absurd (false≢true is)
-  trough-ball kinds.Flipper is = absurd (false≢true is)
-  trough-ball kinds.Autofire is = absurd (false≢true is)
-  trough-ball (kinds.BallSave b) is = absurd (false≢true is)
-  trough-ball (kinds.Multiball m) is = absurd (false≢true is)
+  trough-ball _ is = absurd (false≢true is)
 
   -- the first trough is asked for balls
   request-calm : (n : ℕ) (s : Machine) → IsCalm plan no_lag s → IsCalm plan no_lag (tell_first plan (Wanted n) s)

@@ -16,9 +16,9 @@ use Rattle.plan_tables.specs.declared.devices.Settings.{Settings}
 use Rattle.plan_tables.specs.declared.devices.Settings.TheVariants as kinds
 use Rattle.plan_tables.specs.declared.entries.Owner.{Owner}
 use Rattle.ball_devices.specs.declared.booking.Origin.{Origin}
-use Rattle.ball_devices.specs.declared.booking.Origin.TheVariants.{Awaited, Found as OfPlayfield, New}
+use Rattle.ball_devices.specs.declared.booking.Origin.TheVariants.{New}
 use Rattle.ball_devices.specs.Ledger.{Ledger, counted_in, transit_to, all_counted, all_in_transit, IsLedger}
-use Rattle.ball_devices.specs.Bookings.{LedgerCall, MayBook, after_call, booked, can_book, is_target_there, is_new, is_new_entry, is_entry_into, is_exit_from, is_start_for, is_end_for}
+use Rattle.ball_devices.specs.Bookings.{LedgerCall, MayBook, after_call, booked, can_book, is_target_there, is_new}
 use Rattle.ball_devices.specs.Bookings as ledger_calls
 use Rattle.ball_devices.proofs.Ledgers.{Says}
 use Rattle.ball_devices.proofs.Booked.{one}
@@ -89,15 +89,7 @@ pub record IsFeeder (target : BallTarget) (settings : Settings) : Type 0 where
 
 pub feeder : (target : BallTarget) (settings : Settings) → feeds target settings ≡ true → IsFeeder target settings
 feeder target (kinds.BallDevice d) is = record { d = d; is = refl; to = is_target-same target d.target is }
-feeder target (kinds.Counter c) is = absurd (false≢true is)
-feeder target (kinds.Accrual a) is = absurd (false≢true is)
-feeder target (kinds.Sequence q) is = absurd (false≢true is)
-feeder target (kinds.Timer t) is = absurd (false≢true is)
-feeder target (kinds.Bank b) is = absurd (false≢true is)
-feeder target kinds.Flipper is = absurd (false≢true is)
-feeder target kinds.Autofire is = absurd (false≢true is)
-feeder target (kinds.Multiball m) is = absurd (false≢true is)
-feeder target (kinds.BallSave b) is = absurd (false≢true is)
+feeder target _ is = absurd (false≢true is)
 
 pub one-no : (x y : Bool) → y ≡ false → one (x && y) ≡ 0
 one-no true y not = ap one not
@@ -196,12 +188,11 @@ module _ (plan : PlanView) where
     -- a new ball does not make too many known
     pub room : (o : Origin) (r : RowId) → Says o (transit_to s.ledger (Device r)) s.ledger.playfield
         → s.ledger.known + one (is_new o) ≤ limit
-    room Awaited r says = let most = h.most in omega (arith, most)
-    room OfPlayfield r says = let most = h.most in omega (arith, most)
     room New r says =
         let none = says.1 in
         let balanced = h.ledger.balanced in
         omega (arith, none, balanced, counted-few, transit-few)
+    room _ r says = let most = h.most in omega (arith, most)
 
   -- ---- one device goes on to another state, and the ledger to other numbers
 

@@ -23,15 +23,14 @@ IsFired b at t = (t.switches ≡ b.switches) ⊎ HasTurned b t at
 module _ (d : BallSettings) where
   gone-switches : (now : ℕ) (eject : Eject) (b : BallState) → (gone d now eject b).0.switches ≡ b.switches
   gone-switches now Idle b =
-      cond_both {A = BallState × List ℕ} d.mechanical (record b { eject = Away (record { number = 1; timeout = now + d.timeout }) }, left ∷ []) (b, lost ∷ [])
+      cond_both {A = BallState × List ℕ} d.ejects.mechanical (record b { eject = Away (record { number = 1; timeout = now + d.ejects.timeout }) }, left ∷ []) (b, lost ∷ [])
       (λ a. a.0.switches ≡ b.switches) (λ hand. refl) (λ none. refl)
-  gone-switches now (Pulsing a) b = refl
-  gone-switches now (Away a) b = refl
+  gone-switches now _ b = refl
 
   time_out-switches : (now : ℕ) (eject : Eject) (b : BallState) → (time_out d now eject b).0.switches ≡ b.switches
   time_out-switches now Idle b = refl
   time_out-switches now (Pulsing a) b =
-      cond_both {A = BallState × List ℕ} (may_try_again d.max_attempts a.number) (after (failed ∷ []) (attempt d (min (suc a.number) 1000) now b))
+      cond_both {A = BallState × List ℕ} (may_try_again d.ejects.max_attempts a.number) (after (failed ∷ []) (attempt d (min (suc a.number) 1000) now b))
       (record b { eject = Idle; wanted = 0 }, failed ∷ []) (λ x. x.0.switches ≡ b.switches) (λ may. refl) (λ not. refl)
   time_out-switches now (Away a) b = let begun = begin-begun d now (ended b) in begun.same.switches
 

@@ -26,7 +26,7 @@ use Rattle.written_machine.specs.SwitchLines.{changes_of}
 use Rattle.written_machine.specs.Devices.{ActsAreOwn}
 use Rattle.written_machine.specs.Machine.{Machine, set_device, all_do, world_of, device_at, do_answer_by, tell_first, tell_listener}
 use Rattle.written_machine.proofs.BallPlays.{is_ball, not_both, one_row, other-plays, IsNoCall}
-use Rattle.written_machine.proofs.BallCalm.{no_lag, IsCalm, other-calm}
+use Rattle.written_machine.proofs.BallCalm.{no_lag, IsCalm}
 use Rattle.written_machine.proofs.BallCalls.{call-calm, plays-calm, no_call-usual}
 use Rattle.written_machine.proofs.BallRuns.{usual-listener}
 use Rattle.written_machine.proofs.BallCounting.{is_for, is_heard, pairs-head, pairs-tail}

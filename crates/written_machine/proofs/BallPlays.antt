@@ -8,7 +8,7 @@ use Rattle.std.proofs.lemmas.List.Concat.{flat_map-append}
 use Rattle.std.proofs.lemmas.List.Elements.{All-head, All-tail, All-get_or, All-nil, All-map, All-filter, All-from_get_or, filter_passes}
 use Rattle.std.proofs.lemmas.List.FromFn.{length-range_with_len, get_or-range_with_len}
 use Rattle.std.proofs.lemmas.List.Sorted.{All-permutation}
-use Rattle.plan_tables.specs.PlanView.{PlanView, act_of_listener, actions_at, binding_at, coil_numbers, first_trough, game_event, may_hold_ball_end, is_owner, is_trough, list_of_row, listeners_of, mode_event, no_binding, no_row, no_switch, places_of, posts_of, row_at, row_numbers, rows_of, switch_at, work_of, is_multiball, is_save, multiball_rows, save_rows}
+use Rattle.plan_tables.specs.PlanView.{PlanView, act_of_listener, actions_at, binding_at, coil_numbers, game_event, may_hold_ball_end, is_owner, list_of_row, listeners_of, mode_event, no_binding, no_row, no_switch, places_of, posts_of, row_at, row_numbers, rows_of, switch_at, work_of, is_multiball, is_save, multiball_rows, save_rows}
 use Rattle.plan_tables.specs.Valid.{HasEntries, IsBindingWithin, IsListenerWithin, IsTargetWithin}
 use Rattle.plan_tables.specs.Devices.{list_count}
 use Rattle.plan_tables.specs.declared.devices.Act.TheVariants as acts
@@ -18,7 +18,7 @@ use Rattle.plan_tables.specs.declared.devices.RowId.{RowId}
 use Rattle.plan_tables.specs.declared.devices.Settings.{Settings}
 use Rattle.plan_tables.specs.declared.devices.Settings.TheVariants as kinds
 use Rattle.plan_tables.specs.declared.entries.Action.{Action}
-use Rattle.plan_tables.specs.declared.entries.Action.TheVariants.{Post, Pulse, Enable, Disable, Change as ChangeVariable, Enter, Leave, Lose, Arrive, Request, AddBalls}
+use Rattle.plan_tables.specs.declared.entries.Action.TheVariants.{Post, Pulse, Enable, Disable, Change as ChangeVariable, Request, AddBalls}
 use Rattle.plan_tables.specs.declared.entries.BindingId.{BindingId}
 use Rattle.plan_tables.specs.declared.entries.CoilId.{CoilId}
 use Rattle.plan_tables.specs.declared.entries.EventId.{EventId}
@@ -49,11 +49,11 @@ use Rattle.device_objects.specs.declared.state.DeviceState.{DeviceState}
 use Rattle.device_objects.specs.DeviceStep.{first_state}
 use Rattle.event_queue.specs.declared.queue.Posted.{Posted}
 use Rattle.event_queue.specs.Handlers.{runs_at, handlers, IsHandlerOrder}
-use Rattle.mode_stack.specs.ModeStep.{starts, started, stopped, stop_answer, entered, ended}
+use Rattle.mode_stack.specs.ModeStep.{starts, stopped, stop_answer, entered, ended}
 use Rattle.mode_stack.specs.Modes.{needs_game, mode_state, running_of}
 use Rattle.player_game.specs.Players.{is_met, changed_to, after_change, score_of}
 use Rattle.plan_tables.specs.declared.entries.GameEvent.TheVariants.{BallEnded, BallDrain}
-use Rattle.player_game.specs.GameStep.{GameStep, ends_ball, game_step, missing, more_balls, in_play}
+use Rattle.player_game.specs.GameStep.{GameStep, ends_ball, missing, more_balls, in_play}
 use Rattle.switch_core.specs.declared.change.Change.{Change}
 use Rattle.written_machine.specs.declared.line.Happening.{Happening}
 use Rattle.written_machine.specs.declared.line.Happening.TheVariants as lines
@@ -64,8 +64,7 @@ use Rattle.written_machine.specs.Devices.{ActsAreOwn}
 use Rattle.written_machine.proofs.Does.{begun_mode}
 use Rattle.plan_tables.specs.declared.devices.Telling.{Telling}
 use Rattle.plan_tables.specs.declared.devices.Telling.TheVariants.{Arrived, Wanted}
-use Rattle.written_machine.specs.Machine.{Machine, write, post, set_mode, set_device, set_coils, set_players, set_game, all_do, has_game, post_if, release_ball_end, drop_hold, start_mode, is_post, stop_mode, told, ask_coil, release_coil, release_coils, tell_change, do_action_by, do_list_by, world_of, device_state, device_at, called, call_device_by, tell_first, call_device, call_devices, do_target, do_handler, home_of, write_final, write_finals, ask_ball, do_step, tell_listener, tell_listeners, confirm_on_playfield, do_action, do_list, end_multiballs, first_active_save, want_balls, step_game, drain_ball, do_game}
-use Rattle.written_machine.proofs.BallFeeders.{find-found}
+use Rattle.written_machine.specs.Machine.{Machine, write, post, set_mode, set_device, set_coils, set_players, set_game, all_do, has_game, post_if, release_ball_end, drop_hold, start_mode, is_post, stop_mode, told, ask_coil, release_coil, release_coils, tell_change, do_action_by, do_list_by, world_of, device_state, device_at, called, tell_first, call_device, call_devices, do_target, do_handler, write_final, write_finals, ask_ball, do_step, tell_listener, tell_listeners, confirm_on_playfield, do_action, do_list, end_multiballs, first_active_save, want_balls, step_game, drain_ball, do_game}
 use Rattle.player_game.specs.Choices.{is_drain}
 use Rattle.written_machine.proofs.Feeding.{All-at, multiballs-within, first_active_save-is}
 use Rattle.written_machine.specs.Moves.{step_now}
@@ -102,12 +101,7 @@ IsNoChange _ = Unit {0}
 
 no_change : (n : SwitchId) (moment : ℕ) (what : Happening) → IsNoChange what → change_at n moment what ++ [] ≡ []
 no_change n moment (lines.Switch m active) none = absurd none
-no_change n moment (lines.Event e) none = refl
-no_change n moment (lines.Coil command) none = refl
-no_change n moment (lines.Skip command) none = refl
-no_change n moment (lines.Player player v value) none = refl
-no_change n moment (lines.Balls booking counts) none = refl
-no_change n moment (lines.Final player score) none = refl
+no_change n moment _ none = refl
 
 told-no_change : (command : Command) (answer : Answer) → IsNoChange (told command answer)
 told-no_change command (answers.Sent sent) = tt
@@ -116,39 +110,15 @@ told-no_change command answers.Skipped = tt
 -- whether a row is a ball device
 pub is_ball : (settings : Settings) → ((d : BallSettings) × (settings ≡ kinds.BallDevice d)) ⊎ IsNoBallDevice settings
 is_ball (kinds.BallDevice d) = inl (d, refl)
-is_ball (kinds.Counter c) = inr tt
-is_ball (kinds.Accrual a) = inr tt
-is_ball (kinds.Sequence q) = inr tt
-is_ball (kinds.Timer t) = inr tt
-is_ball (kinds.Bank b) = inr tt
-is_ball kinds.Flipper = inr tt
-is_ball kinds.Autofire = inr tt
-is_ball (kinds.BallSave b) = inr tt
-is_ball (kinds.Multiball m) = inr tt
+is_ball _ = inr tt
 
 save-no_ball : (settings : Settings) → is_save settings ≡ true → IsNoBallDevice settings
 save-no_ball (kinds.BallDevice d) is = absurd (false≢true is)
-save-no_ball (kinds.Counter c) is = tt
-save-no_ball (kinds.Accrual a) is = tt
-save-no_ball (kinds.Sequence q) is = tt
-save-no_ball (kinds.Timer t) is = tt
-save-no_ball (kinds.Bank b) is = tt
-save-no_ball kinds.Flipper is = tt
-save-no_ball kinds.Autofire is = tt
-save-no_ball (kinds.BallSave b) is = tt
-save-no_ball (kinds.Multiball m) is = tt
+save-no_ball _ is = tt
 
 multiball-no_ball : (settings : Settings) → is_multiball settings ≡ true → IsNoBallDevice settings
 multiball-no_ball (kinds.BallDevice d) is = absurd (false≢true is)
-multiball-no_ball (kinds.Counter c) is = tt
-multiball-no_ball (kinds.Accrual a) is = tt
-multiball-no_ball (kinds.Sequence q) is = tt
-multiball-no_ball (kinds.Timer t) is = tt
-multiball-no_ball (kinds.Bank b) is = tt
-multiball-no_ball kinds.Flipper is = tt
-multiball-no_ball kinds.Autofire is = tt
-multiball-no_ball (kinds.BallSave b) is = tt
-multiball-no_ball (kinds.Multiball m) is = tt
+multiball-no_ball _ is = tt
 
 pub not_both : (settings : Settings) (d : BallSettings) → settings ≡ kinds.BallDevice d → IsNoBallDevice settings → ⊥
 not_both settings d is not = subst IsNoBallDevice is not
@@ -227,12 +197,7 @@ module _ (plan : PlanView) where
       let value = changed_to plan v action n s.players in
       let changed = set_players (after_change plan v value s.players) s in
       then-other (same-other s changed refl refl refl refl) (change-other owner s.players.current v e value changed)
-  action-other confirm owner (Enter r e drain) s none = absurd none
-  action-other confirm owner (Leave r) s none = absurd none
-  action-other confirm owner (Lose r) s none = absurd none
-  action-other confirm owner (Arrive r) s none = absurd none
-  action-other confirm owner (Request n) s none = absurd none
-  action-other confirm owner (AddBalls n) s none = absurd none
+  action-other confirm owner _ s none = absurd none
 
   pub list-other : (tell : Telling → Machine → Machine) (owner : Owner) (l : ListId) → All IsPlain (actions_at plan l)
       → (s : Machine) → IsOther plan s (do_list_by plan tell owner l s)
@@ -259,14 +224,11 @@ module _ (plan : PlanView) where
     action-plays owner (Enable coil power) s none = still (action-other (tell_first plan) owner (Enable coil power) s tt)
     action-plays owner (Disable coil) s none = still (action-other (tell_first plan) owner (Disable coil) s tt)
     action-plays owner (ChangeVariable v action n e) s none = still (action-other (tell_first plan) owner (ChangeVariable v action n e) s tt)
-    action-plays owner (Enter r e drain) s none = absurd none
-    action-plays owner (Leave r) s none = absurd none
-    action-plays owner (Lose r) s none = absurd none
-    action-plays owner (Arrive r) s none = absurd none
     action-plays owner (Request n) s none = request n s
     action-plays owner (AddBalls n) s none =
         let more = set_game (more_balls n s.game) s in
         both (still (same-other s more refl refl refl refl)) (want-plays (missing n s.game) more)
+    action-plays owner _ s none = absurd none
 
     list-plays : (owner : Owner) (l : ListId) → All BooksNothing (actions_at plan l) → (s : Machine) → Plays plan may s (do_list plan owner l s)
     list-plays owner l none s = all-play (do_action plan owner) BooksNothing (action-plays owner) (actions_at plan l) none s
@@ -290,15 +252,7 @@ module _ (plan : PlanView) where
   books-nothing : (r : RowId) (settings : Settings) → IsNoBallDevice settings → BooksRightly r settings (actions_in plan r) → (k : ℕ) → k < list_count settings
       → All BooksNothing (actions_in plan r k)
   books-nothing r (kinds.BallDevice d) not books k below = absurd not
-  books-nothing r (kinds.Counter c) not books k below = books k below
-  books-nothing r (kinds.Accrual a) not books k below = books k below
-  books-nothing r (kinds.Sequence q) not books k below = books k below
-  books-nothing r (kinds.Timer t) not books k below = books k below
-  books-nothing r (kinds.Bank b) not books k below = books k below
-  books-nothing r kinds.Flipper not books k below = books k below
-  books-nothing r kinds.Autofire not books k below = books k below
-  books-nothing r (kinds.BallSave b) not books k below = books k below
-  books-nothing r (kinds.Multiball m) not books k below = books k below
+  books-nothing r _ not books k below = books k below
 
   module _ (entries : HasEntries plan) (own : ActsAreOwn plan) (right : BookingsAreRight plan) where
     -- a device that is no ball device

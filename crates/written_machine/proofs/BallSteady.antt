@@ -1,12 +1,11 @@
 -- Only the calls of switches, and alarms, concern the ball switches of a device.
-use Rattle.std.proofs.Common.{◌≡◌, ℕ, ◌+◌, ◌&&◌, inl, inr, if◌then◌else◌, nat_le, Bool, true, false, Option, Some, None, List, [], ◌∷◌, length, refl, sym, ap, ◌∙◌, subst, min, zero, suc}
+use Rattle.std.proofs.Common.{◌≡◌, ℕ, ◌+◌, ◌&&◌, inl, inr, if◌then◌else◌, Bool, true, false, Option, Some, None, List, [], ◌∷◌, length, refl, sym, ap, ◌∙◌, subst, min, zero, suc}
 use Rattle.std.proofs.lemmas.Bool.{cases_eq, cases_lt, cond_both}
 use Rattle.std.proofs.lemmas.List.{append-nil, length-set, get_or-set_same, get_or-set_other, set_past}
 use Rattle.std.proofs.lemmas.List.Concat.{flat_map-append}
 use Rattle.plan_tables.specs.PlanView.{PlanView, actions_at, game_event, list_of_row, no_row, row_at, target_of, act_told}
 use Rattle.plan_tables.specs.declared.devices.Act.TheVariants as acts
 use Rattle.plan_tables.specs.declared.devices.BallSettings.{BallSettings}
-use Rattle.plan_tables.specs.declared.devices.BallTarget.{BallTarget}
 use Rattle.plan_tables.specs.declared.devices.BallTarget.TheVariants.{Playfield, Device}
 use Rattle.plan_tables.specs.declared.devices.RowId.{RowId}
 use Rattle.plan_tables.specs.declared.devices.Settings.{Settings}
@@ -17,9 +16,9 @@ use Rattle.plan_tables.specs.declared.entries.GameEvent.TheVariants.{BallDrain}
 use Rattle.plan_tables.specs.declared.entries.Owner.{Owner}
 use Rattle.plan_tables.specs.declared.entries.SwitchId.{SwitchId}
 use Rattle.ball_devices.specs.declared.booking.Origin.{Origin}
-use Rattle.ball_devices.specs.declared.booking.Origin.TheVariants.{Awaited, Found as OfPlayfield, New}
+use Rattle.ball_devices.specs.declared.booking.Origin.TheVariants.{Awaited}
 use Rattle.ball_devices.specs.Ledger.{origin_of}
-use Rattle.ball_devices.specs.Bookings.{LedgerCall, after_call, booked, can_book}
+use Rattle.ball_devices.specs.Bookings.{LedgerCall, after_call, booked}
 use Rattle.ball_devices.specs.Bookings as ledger_calls
 use Rattle.device_objects.specs.declared.device.Call.{Call}
 use Rattle.device_objects.specs.declared.device.Call.TheVariants as calls
@@ -28,7 +27,7 @@ use Rattle.device_objects.specs.declared.state.BallSwitch.{BallSwitch}
 use Rattle.device_objects.specs.declared.state.DeviceState.{DeviceState}
 use Rattle.device_objects.specs.declared.state.DeviceState.TheVariants as states
 use Rattle.device_objects.specs.declared.state.Eject.{Eject}
-use Rattle.device_objects.specs.declared.state.Eject.TheVariants.{Idle, Pulsing, Away}
+use Rattle.device_objects.specs.declared.state.Eject.TheVariants.{Away}
 use Rattle.device_objects.specs.declared.state.World.{World}
 use Rattle.device_objects.specs.BallDevice.{begin, confirm, ended, requested, ball_step}
 use Rattle.device_objects.specs.BallDevice as balls
@@ -39,7 +38,7 @@ use Rattle.written_machine.specs.declared.line.Line.{Line}
 use Rattle.written_machine.specs.SwitchLines.{change_at, changes_of}
 use Rattle.plan_tables.specs.declared.devices.Telling.{Telling}
 use Rattle.plan_tables.specs.declared.devices.Telling.TheVariants.{Arrived, Wanted}
-use Rattle.written_machine.specs.Machine.{Machine, post, set_device, set_ledger, all_do, counts_of, book, drain_if, after_entry, do_action_by, do_list_by, world_of, device_state, device_at, called, do_answer_by, call_device_by, first_away, tell_nobody, tell_device, tell_first, told_device, want_balls, set_game}
+use Rattle.written_machine.specs.Machine.{Machine, post, set_device, set_ledger, all_do, counts_of, book, drain_if, after_entry, do_action_by, do_list_by, world_of, device_state, device_at, called, do_answer_by, call_device_by, tell_nobody, tell_device, tell_first, told_device, want_balls, set_game}
 use Rattle.written_machine.proofs.Does.{book-by}
 use Rattle.written_machine.proofs.BallSteps.{begin-begun}
 use Rattle.written_machine.proofs.BallPlays.{IsOther, one_row, post-other, action-other, Plays, still, ball, arrival, both, IsNoCall, request, same-other}
@@ -62,21 +61,17 @@ pub record IsSteady (plan : PlanView) (s t : Machine) : Type 0 where
 
 -- calls that keep the ball switches
 abbrev pub IsKeeping : Call → Type 0
-IsKeeping calls.ModeStart = ⊥
-IsKeeping calls.ModeStop = ⊥
-IsKeeping calls.Fire = ⊥
 IsKeeping (calls.Act acts.Confirm) = Unit {0}
 IsKeeping (calls.Act (acts.Request n)) = Unit {0}
-IsKeeping (calls.Act _) = ⊥
+IsKeeping _ = ⊥
 
 pub no_call-keeping : (call : Call) → IsNoCall call → IsKeeping call
 no_call-keeping call none = absurd none
 
 module _ (d : BallSettings) where
   confirm-switches : (now : ℕ) (eject : Eject) (b : BallState) → (confirm d now eject b).0.switches ≡ b.switches
-  confirm-switches now Idle b = refl
-  confirm-switches now (Pulsing a) b = refl
   confirm-switches now (Away a) b = let begun = begin-begun d now (ended b) in begun.same.switches
+  confirm-switches now _ b = refl
 
   request-switches : (n now : ℕ) (b : BallState) → (requested d n now b).0.switches ≡ b.switches
   request-switches n now b =
@@ -85,25 +80,14 @@ module _ (d : BallSettings) where
       (λ asked. let begun = begin-begun d now more in begun.same.switches) (λ not. refl)
 
   step-switches : (call : Call) (now : ℕ) (b : BallState) → IsKeeping call → (ball_step d call now b).0.switches ≡ b.switches
-  step-switches calls.ModeStart now b keeps = absurd keeps
-  step-switches calls.ModeStop now b keeps = absurd keeps
-  step-switches calls.Fire now b keeps = absurd keeps
   step-switches (calls.Act acts.Confirm) now b keeps = confirm-switches now b.eject b
   step-switches (calls.Act (acts.Request n)) now b keeps = request-switches n now b
-  step-switches (calls.Act _) now b keeps = absurd keeps
+  step-switches _ now b keeps = absurd keeps
 
   state-switches : (call : Call) (now : ℕ) (world : World) (state : DeviceState) → IsKeeping call
       → (ball_of (device_step (kinds.BallDevice d) call now world state).0).switches ≡ (ball_of state).switches
   state-switches call now world (states.BallDevice b) keeps = step-switches call now b keeps
-  state-switches call now world (states.Counter x) keeps = refl
-  state-switches call now world (states.Accrual x) keeps = refl
-  state-switches call now world (states.Sequence x) keeps = refl
-  state-switches call now world (states.Timer x) keeps = refl
-  state-switches call now world (states.Bank x) keeps = refl
-  state-switches call now world (states.Flipper x) keeps = refl
-  state-switches call now world (states.Autofire x) keeps = refl
-  state-switches call now world (states.BallSave x) keeps = refl
-  state-switches call now world (states.Multiball x) keeps = refl
+  state-switches call now world _ keeps = refl
 
 module _ (plan : PlanView) where
   pub other-steady : {s t : Machine} → IsOther plan s t → IsSteady plan s t
@@ -153,8 +137,7 @@ module _ (plan : PlanView) where
 
     entry-steady : (owner : Owner) (r : RowId) (drain : Bool) (o : Origin) (s : Machine) → IsSteady plan s (after_entry plan tell owner r drain o s)
     entry-steady owner r drain Awaited s = tells (Arrived (Device r)) s
-    entry-steady owner r drain OfPlayfield s = drain-steady owner drain s
-    entry-steady owner r drain New s = drain-steady owner drain s
+    entry-steady owner r drain _ s = drain-steady owner drain s
 
     want-steady : (n : ℕ) (s : Machine) → IsSteady plan s (want_balls tell n s)
     want-steady zero s = nothing-steady s

@@ -1,5 +1,5 @@
 -- What each call of a ball device leads to: how many balls count in it then, whether it is Away, and what its lists book.
-use Rattle.std.proofs.Common.{◌≡◌, ℕ, suc, ◌+◌, ◌<◌, ◌≤◌, min, inl, inr, ◌⊎◌, Bool, true, false, not, cond, Option, None, Some, List, [], ◌∷◌, ◌&&◌, length, nat_lt, nat_le, refl, sym, ap, ◌∙◌, arith}
+use Rattle.std.proofs.Common.{◌≡◌, ℕ, suc, ◌+◌, ◌<◌, ◌≤◌, min, inl, inr, ◌⊎◌, Bool, true, false, not, cond, Option, None, Some, List, [], ◌∷◌, ◌&&◌, length, nat_lt, refl, sym, ap, ◌∙◌, arith}
 use Rattle.std.specs.List.{count_by}
 use Rattle.std.proofs.lemmas.Bool.{and_parts, cases_lt, cond_both, false≢true}
 use Rattle.std.proofs.lemmas.List.{get_or_past, set_past}
@@ -68,11 +68,9 @@ pub record IsConfirmed (s : BallState) (a : BallState × List ℕ) : Type 0 wher
 
 -- calls that come on their own; no mode stops that has one, and only the machine confirms
 abbrev pub IsUsual : Call → Type 0
-IsUsual calls.ModeStart = Unit {0}
 IsUsual calls.ModeStop = ⊥
-IsUsual calls.Fire = Unit {0}
 IsUsual (calls.Act acts.Confirm) = ⊥
-IsUsual (calls.Act _) = Unit {0}
+IsUsual _ = Unit {0}
 
 -- ---- ejecting
 
@@ -82,9 +80,8 @@ pub record IsBegun (s : BallState) (a : BallState × List ℕ) : Type 0 where
   pub quiet : AreQuiet a.1
 
 not_away : (e : Eject) → is_idle e ≡ true → is_away e ≡ false
-not_away Idle is = refl
-not_away (Pulsing a) is = refl
 not_away (Away a) is = sym is
+not_away _ is = refl
 
 module _ (d : BallSettings) where
   pub begin-begun : (now : ℕ) (s : BallState) → IsBegun s (begin d now s)
@@ -101,10 +98,10 @@ module _ (d : BallSettings) (enter : Type 0) where
 
   stuck-answer : (now : ℕ) (a : Attempt) (s : BallState) → is_away s.eject ≡ false → IsAnswer enter s (stuck d now a s)
   stuck-answer now a s not_yet =
-      cond_both (may_try_again d.max_attempts a.number)
+      cond_both (may_try_again d.ejects.max_attempts a.number)
       (after (failed ∷ []) (attempt d (min (suc a.number) 1000) now s))
       (record s { eject = Idle; wanted = 0 }, failed ∷ []) (IsAnswer enter s)
-      (λ may. nothing (record s { eject = Pulsing (record { number = min (suc a.number) 1000; timeout = now + d.timeout }) })
+      (λ may. nothing (record s { eject = Pulsing (record { number = min (suc a.number) 1000; timeout = now + d.ejects.timeout }) })
       (failed ∷ attempted ∷ []) refl (sym not_yet) (inr (inr refl), (inl refl, tt)))
       (λ not. nothing (record s { eject = Idle; wanted = 0 }) (failed ∷ []) refl (sym not_yet) (inr (inr refl), tt))
 
@@ -131,9 +128,9 @@ module _ (d : BallSettings) (enter : Type 0) where
   gone-answer : (now : ℕ) (eject : Eject) (s t : BallState) → s.eject ≡ eject → t.eject ≡ s.eject → balls_in t + 1 ≡ balls_in s
       → IsAnswer enter s (gone d now eject t)
   gone-answer now Idle s t is same fewer =
-      cond_both d.mechanical
-      (record t { eject = Away (record { number = 1; timeout = now + d.timeout }) }, left ∷ []) (t, lost ∷ []) (IsAnswer enter s)
-      (λ hand. leaves (record t { eject = Away (record { number = 1; timeout = now + d.timeout }) }) fewer (ap is_away is) refl)
+      cond_both d.ejects.mechanical
+      (record t { eject = Away (record { number = 1; timeout = now + d.ejects.timeout }) }, left ∷ []) (t, lost ∷ []) (IsAnswer enter s)
+      (λ hand. leaves (record t { eject = Away (record { number = 1; timeout = now + d.ejects.timeout }) }) fewer (ap is_away is) refl)
       (λ none. loses t fewer (ap is_away same))
   gone-answer now (Pulsing a) s t is same fewer = leaves (record t { eject = Away a }) fewer (ap is_away is) refl
   gone-answer now (Away a) s t is same fewer = loses t fewer (ap is_away same)
@@ -186,9 +183,8 @@ module _ (d : BallSettings) (enter : Type 0) where
       device-not r is = cc
 
   to_playfield : (now : ℕ) (eject : Eject) (s : BallState) → s.eject ≡ eject → d.target ≡ Playfield → IsAnswer enter s (confirm d now eject s)
-  to_playfield now Idle s is target = nothing s [] refl refl tt
-  to_playfield now (Pulsing a) s is target = nothing s [] refl refl tt
   to_playfield now (Away a) s is target = confirmed-answer now s d.target target (ap is_away is)
+  to_playfield now _ s is target = nothing s [] refl refl tt
 
   -- where it ejects balls to the playfield
   pub confirm-answer : (now : ℕ) (s : BallState) → d.target ≡ Playfield → IsAnswer enter s (ball_step d (calls.Act acts.Confirm) now s)
@@ -243,9 +239,8 @@ module _ (d : BallSettings) where
 
   by_eject : (now : ℕ) (eject : Eject) (s : BallState) (r : RowId) → s.eject ≡ eject → is_away s.eject ≡ true → d.target ≡ Device r
       → IsConfirmed s (confirm d now eject s)
-  by_eject now Idle s r is away target = absurd (false≢true (sym (ap is_away is) ∙ away))
-  by_eject now (Pulsing a) s r is away target = absurd (false≢true (sym (ap is_away is) ∙ away))
   by_eject now (Away a) s r is away target = into_device now s d.target r target
+  by_eject now _ s r is away target = absurd (false≢true (sym (ap is_away is) ∙ away))
 
   pub step-confirmed : (now : ℕ) (s : BallState) (r : RowId) → is_away s.eject ≡ true → d.target ≡ Device r
       → IsConfirmed s (ball_step d (calls.Act acts.Confirm) now s)

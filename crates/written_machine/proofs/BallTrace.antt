@@ -1,7 +1,7 @@
 -- In every run all that the ledger books stands in the trace, with the counts that follow from it.
 use Rattle.std.proofs.Common.{◌≡◌, ℕ, ◌+◌, ◌^◌, ◌<◌, ◌⊎◌, inl, inr, nat_lt, true, ◌&&◌, List, [], ◌∷◌, ◌++◌, length, length-append, get_or, drop, refl, sym, ap, ◌∙◌, subst, append_assoc, arith}
 use Rattle.std.proofs.lemmas.Bool.{and_parts, ltb-true}
-use Rattle.std.proofs.lemmas.List.{append-nil, ext_get_or, length-replicate}
+use Rattle.std.proofs.lemmas.List.{append-nil, length-replicate}
 use Rattle.std.proofs.lemmas.List.Concat.{flat_map-append}
 use Rattle.plan_tables.specs.PlanView.{PlanView, work_of}
 use Rattle.plan_tables.specs.Valid.{IsTargetThere}
@@ -12,7 +12,7 @@ use Rattle.plan_tables.specs.declared.entries.Owner.{Owner}
 use Rattle.ball_devices.specs.declared.booking.Booking.{Booking}
 use Rattle.ball_devices.specs.declared.booking.Booking.TheVariants.{Entered}
 use Rattle.ball_devices.specs.declared.booking.Origin.{Origin}
-use Rattle.ball_devices.specs.Ledger.{Ledger, no_balls, counted_in, transit_to, all_counted, all_in_transit, total, origin_of, IsBalanced, IsLedger}
+use Rattle.ball_devices.specs.Ledger.{Ledger, no_balls, counted_in, transit_to, origin_of, IsBalanced, IsLedger}
 use Rattle.ball_devices.specs.Bookings.{LedgerCall, Enter, Leave, Lose, Arrive, MayBook, MayBookAll, after_call, after_calls, booked, booked_by, can_book, is_target_there, HasBooked, origin_after}
 use Rattle.ball_devices.proofs.Ledgers.{new-is, calls-are, call-is}
 use Rattle.ball_devices.proofs.Booked.{call-told, balls_are_somewhere, ledgers_follow_bookings, origins_are_by_bookings}
@@ -24,7 +24,7 @@ use Rattle.written_machine.specs.declared.line.Line.{Line}
 use Rattle.written_machine.specs.Counted.{booked_at, bookings, IsLedgerOf, AreOriginsRight, AreCountsRight}
 use Rattle.written_machine.specs.EventStep.{taken, EventStep}
 use Rattle.written_machine.specs.Machine.{Machine, initial, write, told, counts_of}
-use Rattle.written_machine.specs.Moves.{Move, Wrote, Sent, Switched, Began, Ended, Marked, Released, Turned, Asked, Booked as Books, Varied, Stepped, AddedBalls, do_move, Licence, MayDo, Does, IsNoBooking, TakesPart, Begins, ordinary, working}
+use Rattle.written_machine.specs.Moves.{Move, Wrote, Sent, Began, Ended, Asked, Booked as Books, do_move, Licence, MayDo, Does, IsNoBooking, TakesPart, Begins, ordinary, working}
 use Rattle.written_machine.specs.Run.{Stimulus, IsAllowed, begin, IsRun, InEveryRun}
 use Rattle.written_machine.proofs.Does.{start-by, stop-by, book-by, does-keeps}
 use Rattle.written_machine.proofs.Parts.{does-before, does-after, does-begin}
@@ -150,12 +150,7 @@ module _ (plan : PlanView) where
   -- a line that tells of no booking
   nothing_at : (what : Happening) → IsNoBooking what → booked_at what ≡ []
   nothing_at (lines.Balls booking counts) none = absurd none
-  nothing_at (lines.Switch n active) none = refl
-  nothing_at (lines.Event e) none = refl
-  nothing_at (lines.Coil command) none = refl
-  nothing_at (lines.Skip command) none = refl
-  nothing_at (lines.Player player v value) none = refl
-  nothing_at (lines.Final player score) none = refl
+  nothing_at _ none = refl
 
   not_balls : (what : Happening) (booking : Booking) (told : BallCounts) → IsNoBooking what → what ≡ lines.Balls booking told → ⊥
   not_balls what booking told none is = subst IsNoBooking is none
@@ -210,9 +205,7 @@ module _ (plan : PlanView) where
         let within : e.0 < length plan.rows = let rows = h.rows in omega (arith, may.0, rows) in
         sym from ∙ (ap (origin_of e) (sym h.is) ∙ (origins_are_by_bookings plan h.calls e h.may within
         ∙ (ap (λ bs. origin_after bs e) h.booked_is ∙ ap (λ (q : RowId). origin_after (bookings ls) q) row)))
-    origin_now (Leave e target) same r origin entered = absurd (cc)
-    origin_now (Lose e) same r origin entered = absurd (cc)
-    origin_now (Arrive target) same r origin entered = absurd (cc)
+    origin_now _ same r origin entered = absurd (cc)
 
     booking-told : IsTold (ls ++ x ∷ []) (after_call c l)
     booking-told = record {
@@ -247,12 +240,8 @@ module _ (plan : PlanView) where
 
   told-move : (licence : Licence) (before : List Line) (x : Move) (s : Machine) → MayDo plan licence x → IsToldSoFar before s → IsToldSoFar before (do_move plan x s)
   told-move licence before (Wrote owner what) s may h = write-told before owner what s may.3 h
-  told-move licence before (Sent owner e) s may h = h
-  told-move licence before (Switched n state) s may h = h
   told-move licence before (Began m) s may h = start-by plan m s (IsToldSoFar before) h h
   told-move licence before (Ended m) s may h = stop-by plan m s (IsToldSoFar before) h h
-  told-move licence before (Marked m state) s may h = h
-  told-move licence before (Turned call r) s may h = h
   told-move licence before (Asked owner command) s may h =
       write-told before owner (told command (answer_asking command owner s.moment s.coils)) (record s { coils = after_asking command owner s.moment s.coils })
       (no_booking command (answer_asking command owner s.moment s.coils)) h
@@ -261,10 +250,7 @@ module _ (plan : PlanView) where
       book-by owner call s (IsToldSoFar before)
       (λ can. subst (λ (ls : List Line). IsTold ls (after_call call s.ledger)) (append_assoc before s.lines (x ∷ []))
       (booking-told (before ++ s.lines) x s.ledger call can refl h)) h
-  told-move licence before (Released m) s may h = h
-  told-move licence before (Varied v value) s may h = h
-  told-move licence before (Stepped which) s may h = h
-  told-move licence before (AddedBalls n) s may h = h
+  told-move licence before _ s may h = h
 
   told-does : (licence : Licence) (before : List Line) {c : Cost} {s t : Machine} → Does plan (MayDo plan licence) c s t → IsToldSoFar before s → IsToldSoFar before t
   told-does licence before d h = does-keeps plan (MayDo plan licence) (IsToldSoFar before) (told-move licence before) d h

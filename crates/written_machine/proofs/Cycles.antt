@@ -6,7 +6,7 @@ use Rattle.plan_tables.specs.declared.entries.ModeId.{ModeId}
 use Rattle.plan_tables.specs.declared.entries.ModeEvent.{ModeEvent}
 use Rattle.plan_tables.specs.declared.entries.ModeEvent.TheVariants.{WillStart, Starting, Started, Stopping, Stopped}
 use Rattle.plan_tables.specs.declared.entries.Work.{Work}
-use Rattle.plan_tables.specs.declared.entries.Work.TheVariants.{Nothing, Mode, Game}
+use Rattle.plan_tables.specs.declared.entries.Work.TheVariants.{Mode}
 use Rattle.mode_stack.specs.declared.phase.Phase.{Phase}
 use Rattle.mode_stack.specs.declared.phase.Phase.TheVariants as phases
 use Rattle.mode_stack.specs.ModeStep.{is_running}
@@ -14,9 +14,8 @@ use Rattle.event_queue.specs.declared.queue.Posted.{Posted}
 
 -- those of the mode: of one event, and of the events that wait
 abbrev pub mine : ModeId → Work → List ModeEvent → List ModeEvent
-mine m Nothing rest = rest
-mine m (Game which) rest = rest
 mine m (Mode k which) rest = cond (k.0 == m.0) (which ∷ rest) rest
+mine m _ rest = rest
 
 abbrev pub waiting_of : PlanView → ModeId → List Posted → List ModeEvent
 waiting_of plan m [] = []
@@ -34,13 +33,12 @@ pub data IsTurn : Phase → List ModeEvent → Type 0 where
   stops : IsTurn phases.Stopping (Stopping ∷ [])
 
 mine-push : (m : ModeId) (w : Work) (xs ys : List ModeEvent) → mine m w (xs ++ ys) ≡ mine m w xs ++ ys
-mine-push m Nothing xs ys = refl
-mine-push m (Game which) xs ys = refl
 mine-push m (Mode k which) xs ys = pick (k.0 == m.0) which xs ys
   where
     pick : (b : Bool) (which : ModeEvent) (xs ys : List ModeEvent) → cond b (which ∷ xs ++ ys) (xs ++ ys) ≡ cond b (which ∷ xs) xs ++ ys
     pick true which xs ys = refl
     pick false which xs ys = refl
+mine-push m _ xs ys = refl
 
 -- one event more waits
 pub waiting_of-push : (plan : PlanView) (m : ModeId) (ps : List Posted) (p : Posted) → waiting_of plan m (ps ++ p ∷ []) ≡ waiting_of plan m ps ++ mine m (work_of plan p.event) []
@@ -82,11 +80,8 @@ stopped-quiet p q again = refl
 
 -- an event that is not the last of a mode's
 abbrev pub IsNoEnd : ModeEvent → Type 0
-IsNoEnd WillStart = Unit {0}
-IsNoEnd Starting = Unit {0}
-IsNoEnd Started = Unit {0}
-IsNoEnd Stopping = Unit {0}
 IsNoEnd Stopped = ⊥
+IsNoEnd _ = Unit {0}
 
 -- where the mode runs, its last event does not wait
 pub running-no_end : (p : Phase) (l : List ModeEvent) → IsTurn p l → is_running p ≡ true → AllByRecursion IsNoEnd l

@@ -1,5 +1,5 @@
 -- What one cost pays for: single changes of the machine, one after another, each by a licence.
-use Rattle.std.proofs.Common.{◌≡◌, ◌&&◌, ℕ, ℤ, zero, suc, ◌+◌, ◌-◌, ◌≤◌, ◌<◌, inl, inr, Option, None, Some, Bool, true, false, List, [], ◌∷◌, ◌++◌, length, length-append, slice_index_or, slice_set, if◌then◌else◌, map, Contains, refl, ap, sym, subst, ◌∙◌, arith}
+use Rattle.std.proofs.Common.{◌≡◌, ◌&&◌, ℕ, ℤ, ◌+◌, ◌-◌, ◌≤◌, ◌<◌, inl, inr, Option, None, Some, Bool, true, false, List, [], ◌∷◌, ◌++◌, length, length-append, slice_index_or, slice_set, if◌then◌else◌, map, refl, ap, sym, subst, ◌∙◌, arith}
 use Rattle.std.proofs.lemmas.Bool.{cases_eq, cases_lt, false≢true}
 use Rattle.std.proofs.lemmas.Option.{none-some}
 use Rattle.std.specs.List.{All, AllByRecursion}
@@ -29,7 +29,7 @@ use Rattle.player_game.specs.Choices.{AreFew}
 use Rattle.player_game.proofs.StayFew.{players_stay_few}
 use Rattle.cascade_rank.proofs.Within.{mode_event-within}
 use Rattle.switch_core.specs.Switches.{all_idle}
-use Rattle.cascade_rank.specs.Cost.{Cost, Lines, Both, price, each_of, dearest_of}
+use Rattle.cascade_rank.specs.Cost.{Cost, Lines, Both, price, each_of}
 use Rattle.event_queue.specs.declared.queue.Posted.{Posted}
 use Rattle.coil_guard.specs.declared.command.Command.{Command}
 use Rattle.coil_guard.specs.declared.command.Command.TheVariants as commands
@@ -75,12 +75,6 @@ module _ (plan : PlanView) (may : Move → Type 0) where
   pub all_do-does_now : {X : Type 0} (f : X → Machine → Machine) (cost : X → Machine → Cost) (P : X → Type 0) → ((x : X) (s : Machine) → P x → Does plan may (cost x s) s (f x s)) → (xs : List X) → All P xs → (s : Machine) → Does plan may (each_now f cost xs s) s (all_do f xs s)
   all_do-does_now f cost P each [] h s = quiet
   all_do-does_now f cost P each (x ∷ xs) h s = both (each x s (All-head P x xs h)) (all_do-does_now f cost P each xs (All-tail P x xs h) (f x s))
-
-  -- one of several costs at most the dearest
-  pub does-dearest : {X : Type 0} (f : X → Cost) (xs : List X) (x : X) (s t : Machine) → Contains xs x → Does plan may (f x) s t → Does plan may (dearest_of f xs) s t
-  does-dearest f [] x s t (k, l, is) d = absurd (omega arith)
-  does-dearest f (y ∷ ys) x s t (zero, l, is) d = less (subst (λ (z : _). Does plan may (f z) s t) (sym is) d) (λ w. omega arith)
-  does-dearest f (y ∷ ys) x s t (suc k, l, is) d = less (does-dearest f ys x s t (k, omega arith, is) d) (λ w. omega arith)
 
 -- what holds whether an event is posted or not
 pub post_if-by : (P : Machine → Type 0) (e : EventId) (s : Machine) → P (post owners.Machine e s) → P s → (b : Bool) → P (post_if b e s)
@@ -137,19 +131,13 @@ module _ (plan : PlanView) where
   potential-move : (w : EventId → ℕ) (x : Move) (s : Machine) → potential w (do_move plan x s) ≤ potential w s + price w (cost_of_move plan x)
   potential-move w (Wrote owner what) s = omega (arith, length-append s.lines (record { moment = s.moment; owner = owner; happening = what } ∷ []))
   potential-move w (Sent owner e) s = potential-post w owner e s
-  potential-move w (Switched n switch) s = omega arith
   potential-move w (Began m) s =
       start-by plan m s (λ t. potential w t ≤ potential w s + w (mode_event plan m WillStart)) (potential-post w owners.Machine (mode_event plan m WillStart) (begun_mode plan m s)) (omega arith)
   potential-move w (Ended m) s =
       stop-by plan m s (λ t. potential w t ≤ potential w s + w (mode_event plan m Stopping)) (potential-post w owners.Machine (mode_event plan m Stopping) (ended_mode plan m s)) (omega arith)
-  potential-move w (Marked m state) s = omega arith
-  potential-move w (Released m) s = omega arith
-  potential-move w (Turned call r) s = omega arith
   potential-move w (Booked owner call) s = book-by owner call s (λ t. potential w t ≤ potential w s + 1) (λ is. omega (arith, booked-length owner call s)) (omega arith)
-  potential-move w (Varied v value) s = omega arith
-  potential-move w (Stepped which) s = omega arith
-  potential-move w (AddedBalls n) s = omega arith
   potential-move w (Asked owner command) s = omega (arith, length-append s.lines (record { moment = s.moment; owner = owner; happening = told command (answer_asking command owner s.moment s.coils) } ∷ []))
+  potential-move w _ s = omega arith
 
   pub potential-does : {may : Move → Type 0} (w : EventId → ℕ) {c : Cost} {s t : Machine} → Does plan may c s t → potential w t ≤ potential w s + price w c
   potential-does w quiet = omega arith
@@ -173,32 +161,17 @@ module _ (plan : PlanView) where
   pub grows-move : (x : Move) (s : Machine) → Grows s (do_move plan x s)
   grows-move (Wrote owner what) s = (omega (arith, length-append s.lines (record { moment = s.moment; owner = owner; happening = what } ∷ [])), omega arith)
   grows-move (Sent owner e) s = (omega arith, omega (arith, length-append s.waiting (record { event = e; owner = owner } ∷ [])))
-  grows-move (Switched n switch) s = (omega arith, omega arith)
   grows-move (Began m) s = start-by plan m s (Grows s) (omega arith, omega (arith, length-append s.waiting (record { event = mode_event plan m WillStart; owner = owners.Machine } ∷ []))) (omega arith, omega arith)
   grows-move (Ended m) s = stop-by plan m s (Grows s) (omega arith, omega (arith, length-append s.waiting (record { event = mode_event plan m Stopping; owner = owners.Machine } ∷ []))) (omega arith, omega arith)
-  grows-move (Marked m state) s = (omega arith, omega arith)
-  grows-move (Released m) s = (omega arith, omega arith)
-  grows-move (Turned call r) s = (omega arith, omega arith)
   grows-move (Booked owner call) s = book-by owner call s (Grows s) (λ is. (omega (arith, booked-length owner call s), omega arith)) (omega arith, omega arith)
-  grows-move (Varied v value) s = (omega arith, omega arith)
-  grows-move (Stepped which) s = (omega arith, omega arith)
-  grows-move (AddedBalls n) s = (omega arith, omega arith)
   grows-move (Asked owner command) s = (omega (arith, length-append s.lines (record { moment = s.moment; owner = owner; happening = told command (answer_asking command owner s.moment s.coils) } ∷ [])), omega arith)
+  grows-move _ s = (omega arith, omega arith)
 
   pub moment-move : (x : Move) (s : Machine) → (do_move plan x s).moment ≡ s.moment
-  moment-move (Wrote owner what) s = refl
-  moment-move (Sent owner e) s = refl
-  moment-move (Switched n switch) s = refl
   moment-move (Began m) s = start-by plan m s (λ t. t.moment ≡ s.moment) refl refl
   moment-move (Ended m) s = stop-by plan m s (λ t. t.moment ≡ s.moment) refl refl
-  moment-move (Marked m state) s = refl
-  moment-move (Released m) s = refl
-  moment-move (Turned call r) s = refl
-  moment-move (Asked owner command) s = refl
   moment-move (Booked owner call) s = book-by owner call s (λ t. t.moment ≡ s.moment) (λ is. refl) refl
-  moment-move (Varied v value) s = refl
-  moment-move (Stepped which) s = refl
-  moment-move (AddedBalls n) s = refl
+  moment-move _ s = refl
 
   -- each coil of the plan has a state, and a mode holds only what its actions enable
   pub record HasCoils (coils : List CoilState) : Type 0 where
@@ -325,19 +298,11 @@ module _ (plan : PlanView) where
       ]
 
   pub has_devices-move : (x : Move) (s : Machine) → HasDevices plan s.devices → HasDevices plan (do_move plan x s).devices
-  has_devices-move (Wrote owner what) s h = h
-  has_devices-move (Sent owner e) s h = h
-  has_devices-move (Switched n switch) s h = h
   has_devices-move (Began m) s h = start-by plan m s (λ t. HasDevices plan t.devices) h h
   has_devices-move (Ended m) s h = stop-by plan m s (λ t. HasDevices plan t.devices) h h
-  has_devices-move (Marked m state) s h = h
-  has_devices-move (Released m) s h = h
   has_devices-move (Turned call r) s h = turned-has_devices call r s h
-  has_devices-move (Asked owner command) s h = h
   has_devices-move (Booked owner call) s h = book-by owner call s (λ t. HasDevices plan t.devices) (λ is. h) h
-  has_devices-move (Varied v value) s h = h
-  has_devices-move (Stepped which) s h = h
-  has_devices-move (AddedBalls n) s h = h
+  has_devices-move _ s h = h
 
   module _ {may : Move → Type 0} {c : Cost} {s t : Machine} where
     pub has_devices-does : Does plan may c s t → HasDevices plan s.devices → HasDevices plan t.devices
@@ -355,40 +320,24 @@ module _ (plan : PlanView) where
     has_states-does d h = does-keeps plan (MayDo plan l) HasStates (has_states-move l) d h
 
     waits-move : HasEntries plan → (x : Move) (s : Machine) → MayDo plan l x → WaitsInPlan s → WaitsInPlan (do_move plan x s)
-    waits-move entries (Wrote owner what) s may h = h
     waits-move entries (Sent owner e) s may h = of_plan-push s.waiting (record { event = e; owner = owner }) h (may.1 entries)
-    waits-move entries (Switched n switch) s may h = h
     waits-move entries (Began m) s may h =
         start-by plan m s WaitsInPlan (of_plan-push s.waiting (record { event = mode_event plan m WillStart; owner = owners.Machine }) h (mode_event-within plan entries m WillStart (may entries))) h
     waits-move entries (Ended m) s may h =
         stop-by plan m s WaitsInPlan (of_plan-push s.waiting (record { event = mode_event plan m Stopping; owner = owners.Machine }) h (mode_event-within plan entries m Stopping (may entries))) h
-    waits-move entries (Marked m state) s may h = h
-    waits-move entries (Released m) s may h = h
-    waits-move entries (Turned call r) s may h = h
-    waits-move entries (Asked owner command) s may h = h
     waits-move entries (Booked owner call) s may h = book-by owner call s WaitsInPlan (λ is. h) h
-    waits-move entries (Varied v value) s may h = h
-    waits-move entries (Stepped which) s may h = h
-    waits-move entries (AddedBalls n) s may h = h
+    waits-move entries _ s may h = h
 
     pub waits-does : HasEntries plan → {c : Cost} {s t : Machine} → Does plan (MayDo plan l) c s t → WaitsInPlan s → WaitsInPlan t
     waits-does entries d h = does-keeps plan (MayDo plan l) WaitsInPlan (waits-move entries) d h
 
     -- where no switch may change
     switches-move : (l.switches → ⊥) → (x : Move) (s : Machine) → MayDo plan l x → (do_move plan x s).switches ≡ s.switches
-    switches-move none (Wrote owner what) s may = refl
-    switches-move none (Sent owner e) s may = refl
     switches-move none (Switched n switch) s may = absurd (none may)
     switches-move none (Began m) s may = start-by plan m s (λ t. t.switches ≡ s.switches) refl refl
     switches-move none (Ended m) s may = stop-by plan m s (λ t. t.switches ≡ s.switches) refl refl
-    switches-move none (Marked m state) s may = refl
-    switches-move none (Released m) s may = refl
-    switches-move none (Turned call r) s may = refl
-    switches-move none (Asked owner command) s may = refl
     switches-move none (Booked owner call) s may = book-by owner call s (λ t. t.switches ≡ s.switches) (λ is. refl) refl
-    switches-move none (Varied v value) s may = refl
-    switches-move none (Stepped which) s may = refl
-    switches-move none (AddedBalls n) s may = refl
+    switches-move none _ s may = refl
 
     pub switches-does : (l.switches → ⊥) → {c : Cost} {s t : Machine} → Does plan (MayDo plan l) c s t → t.switches ≡ s.switches
     switches-does none {c} {s} {t} d = does-keeps plan (MayDo plan l) (λ u. u.switches ≡ s.switches) (λ x u may h. switches-move none x u may ∙ h) d refl

@@ -1,5 +1,5 @@
 -- The ball devices that may be told of a ball that has arrived, and the first trough.
-use Rattle.std.proofs.Common.{◌≡◌, suc, ◌<◌, Bool, true, false, cond, Some, List, [], ◌∷◌, length, refl, sym, subst, inl, inr, arith, if◌then◌else◌, None, Option}
+use Rattle.std.proofs.Common.{◌≡◌, suc, ◌<◌, Bool, true, false, cond, Some, List, [], ◌∷◌, length, refl, sym, subst, inl, inr, arith, if◌then◌else◌, None}
 use Rattle.std.specs.Prelude.{Contains, find}
 use Rattle.std.specs.List.{All}
 use Rattle.std.proofs.lemmas.Bool.{cases_lt, false≢true}
@@ -10,7 +10,7 @@ use Rattle.plan_tables.specs.PlanView.{PlanView, feeders_of, feeds, first_trough
 use Rattle.plan_tables.specs.declared.devices.BallTarget.{BallTarget}
 use Rattle.plan_tables.specs.declared.devices.RowId.{RowId}
 use Rattle.plan_tables.specs.declared.devices.Settings.{Settings}
-use Rattle.plan_tables.specs.declared.devices.Settings.TheVariants.{Counter, Accrual, Sequence, Timer, Bank, Flipper, Autofire, BallDevice, BallSave, Multiball}
+use Rattle.plan_tables.specs.declared.devices.Settings.TheVariants.{BallDevice}
 use Rattle.plan_tables.specs.declared.entries.Owner.{Owner}
 use Rattle.plan_tables.specs.declared.entries.Owner.TheVariants as owners
 use Rattle.plan_tables.proofs.Owners.{row_numbers-within}
@@ -45,27 +45,11 @@ All-at P xs x all (i, within, is) = subst P is (all i x within)
 -- what has a target is a ball device
 feeds-own : (target : BallTarget) (settings : Settings) (owner : Owner) → feeds target settings ≡ true → IsOwnBallDevice settings owner → owner ≡ owners.Machine
 feeds-own target (BallDevice d) owner is own = own
-feeds-own target (Counter d) owner is own = absurd (false≢true is)
-feeds-own target (Accrual d) owner is own = absurd (false≢true is)
-feeds-own target (Sequence d) owner is own = absurd (false≢true is)
-feeds-own target (Timer d) owner is own = absurd (false≢true is)
-feeds-own target (Bank d) owner is own = absurd (false≢true is)
-feeds-own target Flipper owner is own = absurd (false≢true is)
-feeds-own target Autofire owner is own = absurd (false≢true is)
-feeds-own target (BallSave d) owner is own = absurd (false≢true is)
-feeds-own target (Multiball d) owner is own = absurd (false≢true is)
+feeds-own target _ owner is own = absurd (false≢true is)
 
 trough-own : (settings : Settings) (owner : Owner) → is_trough settings ≡ true → IsOwnBallDevice settings owner → owner ≡ owners.Machine
 trough-own (BallDevice d) owner is own = own
-trough-own (Counter d) owner is own = absurd (false≢true is)
-trough-own (Accrual d) owner is own = absurd (false≢true is)
-trough-own (Sequence d) owner is own = absurd (false≢true is)
-trough-own (Timer d) owner is own = absurd (false≢true is)
-trough-own (Bank d) owner is own = absurd (false≢true is)
-trough-own Flipper owner is own = absurd (false≢true is)
-trough-own Autofire owner is own = absurd (false≢true is)
-trough-own (BallSave d) owner is own = absurd (false≢true is)
-trough-own (Multiball d) owner is own = absurd (false≢true is)
+trough-own _ owner is own = absurd (false≢true is)
 
 module _ (plan : PlanView) where
   -- a ball device is the machine's

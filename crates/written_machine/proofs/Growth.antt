@@ -1,13 +1,12 @@
 -- What the machine does only adds to its lines and waiting events.
 use Rattle.std.proofs.Common.{ℕ, ℤ, ◌≤◌, ◌<◌, Bool, true, false, if◌then◌else◌, Option, None, Some, List, [], ◌∷◌, length, length-append, arith, suc, zero}
 use Rattle.std.specs.Prelude.{◌&&◌}
-use Rattle.plan_tables.specs.PlanView.{PlanView, act_of_listener, game_event, listeners_of, posts_of, switch_at, target_of, work_of}
-use Rattle.plan_tables.specs.declared.devices.BallTarget.{BallTarget}
-use Rattle.plan_tables.specs.declared.devices.BallTarget.TheVariants.{Playfield, Device}
+use Rattle.plan_tables.specs.PlanView.{PlanView, game_event, target_of, work_of}
+use Rattle.plan_tables.specs.declared.devices.BallTarget.TheVariants.{Device}
 use Rattle.plan_tables.specs.declared.entries.GameEvent.TheVariants.{BallDrain}
 use Rattle.player_game.specs.GameStep.{is_ball_on, missing, more_balls}
 use Rattle.ball_devices.specs.declared.booking.Origin.{Origin}
-use Rattle.ball_devices.specs.declared.booking.Origin.TheVariants.{Awaited, Found, New}
+use Rattle.ball_devices.specs.declared.booking.Origin.TheVariants.{Awaited}
 use Rattle.ball_devices.specs.Ledger.{origin_of}
 use Rattle.ball_devices.specs.Bookings.{LedgerCall}
 use Rattle.ball_devices.specs.Bookings as calls_of_ledger
@@ -20,22 +19,20 @@ use Rattle.plan_tables.specs.declared.entries.Action.TheVariants.{Post, Pulse, E
 use Rattle.plan_tables.specs.declared.entries.VariableId.{VariableId}
 use Rattle.player_game.specs.Players.{changed_to, after_change}
 use Rattle.plan_tables.specs.declared.devices.RowId.{RowId}
-use Rattle.device_objects.specs.declared.device.Call.{Call}
 use Rattle.device_objects.specs.declared.device.Call.TheVariants as calls
 use Rattle.coil_guard.specs.declared.command.Command.{Command}
 use Rattle.coil_guard.specs.declared.command.Command.TheVariants as commands
 use Rattle.coil_guard.specs.Asked.{answer_asking}
-use Rattle.switch_core.specs.declared.change.Change.{Change}
 use Rattle.written_machine.specs.declared.line.Line.{Line}
 use Rattle.written_machine.specs.declared.line.Happening.TheVariants as lines
 use Rattle.event_queue.specs.declared.queue.Posted.{Posted}
 use Rattle.plan_tables.specs.declared.devices.Telling.{Telling}
 use Rattle.plan_tables.specs.declared.devices.Telling.TheVariants.{Arrived, Wanted}
-use Rattle.written_machine.specs.Machine.{Machine, write, post, ask_coil, told, all_do, set_players, tell_change, book, drain_if, after_entry, do_action_by, do_action, call_device, tell_first, want_balls, set_game, tell_listener, tell_listeners, confirm_on_playfield, ask_ball, do_handler, do_accepted}
+use Rattle.written_machine.specs.Machine.{Machine, post, ask_coil, told, all_do, set_players, tell_change, book, drain_if, after_entry, do_action_by, want_balls, set_game, do_handler}
 use Rattle.written_machine.specs.EventStep.{taken, is_kept, before_handlers, after_event}
 use Rattle.written_machine.specs.Moves.{Booked, Grows, AddedBalls}
 use Rattle.written_machine.proofs.Does.{grows-does, grows-move}
-use Rattle.written_machine.proofs.Parts.{does-telling, does-call, does-handler, does-request, does-before, does-after}
+use Rattle.written_machine.proofs.Parts.{does-handler, does-before, does-after}
 
 -- where each adds, all do
 pub all_do-grows : {X : Type 0} (f : X → Machine → Machine) → ((x : X) (s : Machine) → Grows s (f x s)) → (xs : List X) (s : Machine) → Grows s (all_do f xs s)
@@ -74,20 +71,11 @@ module _ (plan : PlanView) where
       by true = post-grows owner (game_event plan BallDrain) s
       by false = (omega arith, omega arith)
 
-  -- a device is told something
-  pub telling-grows : (telling : Telling) (s : Machine) → Grows s (tell_first plan telling s)
-  telling-grows telling s = grows-does plan (does-telling plan (λ o. Unit {0}) ⊥ tt telling s)
-
-  -- a trough is asked for a ball
-  pub request-grows : (asks : Bool) (s : Machine) → Grows s (ask_ball plan asks s)
-  request-grows asks s = grows-does plan (does-request plan (λ o. Unit {0}) tt asks s)
-
   -- where each telling adds
   module _ (tell : Telling → Machine → Machine) (tells : (telling : Telling) (s : Machine) → Grows s (tell telling s)) where
     pub entry-grows : (owner : Owner) (r : RowId) (drain : Bool) (origin : Origin) (s : Machine) → Grows s (after_entry plan tell owner r drain origin s)
     entry-grows owner r drain Awaited s = tells (Arrived (Device r)) s
-    entry-grows owner r drain Found s = drain-grows owner drain s
-    entry-grows owner r drain New s = drain-grows owner drain s
+    entry-grows owner r drain _ s = drain-grows owner drain s
 
     want-grows : (n : ℕ) (s : Machine) → Grows s (want_balls tell n s)
     want-grows zero s = (omega arith, omega arith)
@@ -114,33 +102,9 @@ module _ (plan : PlanView) where
         let more = set_game (more_balls n s.game) s in
         grows-then s more (do_action_by plan tell owner (AddBalls n) s) (grows-move plan (AddedBalls n) s) (want-grows (missing n s.game) more)
 
-  pub action-grows : (owner : Owner) (a : Action) (s : Machine) → Grows s (do_action plan owner a s)
-  action-grows = action-grows_by (tell_first plan) telling-grows
-
   -- whoever takes part
   pub handler-grows : (place : BindingId) (s : Machine) → Grows s (do_handler plan place s)
   handler-grows place s = grows-does plan (does-handler plan (λ o. Unit {0}) ⊥ tt place s tt)
-
-  pub call-grows : (call : Call) (r : RowId) (s : Machine) → Grows s (call_device plan call r s)
-  call-grows call r s = grows-does plan (does-call plan (λ o. Unit {0}) ⊥ tt call r (λ own. tt) s)
-
-  pub playfield-grows : (a : Change) (s : Machine) → Grows s (confirm_on_playfield plan a s)
-  playfield-grows a s = by (a.active && (switch_at plan a.switch).confirms_playfield)
-    where
-      by : (b : Bool) → Grows s (if b then tell_first plan (Arrived Playfield) s else s)
-      by true = telling-grows (Arrived Playfield) s
-      by false = (omega arith, omega arith)
-
-  -- an acceptance adds its line
-  pub accepted-grows : (a : Change) (s : Machine) → (length s.lines < length (do_accepted plan a s).lines) × (length s.waiting ≤ length (do_accepted plan a s).waiting)
-  accepted-grows a s =
-      let written : Line = record { moment = s.moment; owner = owners.Machine; happening = lines.Switch a.switch a.active } in
-      let begun = write owners.Machine (lines.Switch a.switch a.active) s in
-      let told = tell_listeners plan a begun in
-      let heard = all_do-grows (tell_listener plan a.active) (λ l t. call-grows (calls.Act (act_of_listener a.active l)) l.row t) (listeners_of plan a.switch) begun in
-      let pressed = playfield-grows a told in
-      let g = all_do-grows (post owners.Machine) (post-grows owners.Machine) (posts_of plan a.switch a.active) (confirm_on_playfield plan a told) in
-      (omega (arith, g.0, pressed.0, heard.0, length-append s.lines (written ∷ [])), omega (arith, g.1, pressed.1, heard.1))
 
   -- an event step adds its line, and to what waits after its event
   pub event-grows : (first : Posted) (rest : List Posted) (order : List BindingId) (s : Machine)

@@ -33,7 +33,7 @@ use Rattle.written_machine.specs.EventStep.{taken, EventStep}
 use Rattle.written_machine.specs.Run.{Stimulus, moment_of, IsAllowed, IsNothingLate, arrived, begin, IsRun}
 use Rattle.written_machine.specs.CoilActions.{ActionsKeepLimits}
 use Rattle.written_machine.specs.Sent.{sent_at, sent_in, sendings, IsIdle, AreSkippedIdle}
-use Rattle.written_machine.specs.Moves.{Move, Wrote, Sent, Switched, Began, Ended, Marked, Released, Turned, Asked, Booked, Varied, Stepped, AddedBalls, do_move, Licence, MayDo, Does, IsNoCommand, TakesPart, Begins, ordinary, working}
+use Rattle.written_machine.specs.Moves.{Move, Wrote, Sent, Began, Ended, Asked, Booked, do_move, Licence, MayDo, Does, IsNoCommand, TakesPart, Begins, ordinary, working}
 use Rattle.written_machine.proofs.Does.{start-by, stop-by, book-by, does-keeps}
 use Rattle.written_machine.proofs.Parts.{does-before, does-after, does-begin}
 use Rattle.written_machine.proofs.Held.{IsHolding}
@@ -49,13 +49,11 @@ call_for (commands.Disable coil) owner now = calls_of.Disable coil now
 
 call-moment : (command : Command) (owner : Owner) (now : ℕ) → calls_of.moment_of (call_for command owner now) ≡ now
 call-moment (commands.Pulse coil ms power) owner now = refl
-call-moment (commands.Enable coil power) owner now = refl
-call-moment (commands.Disable coil) owner now = refl
+call-moment _ owner now = refl
 
 call-after : (command : Command) (owner : Owner) (now : ℕ) (s : List CoilState) → after_call (call_for command owner now) s ≡ after_asking command owner now s
 call-after (commands.Pulse coil ms power) owner now s = refl
-call-after (commands.Enable coil power) owner now s = refl
-call-after (commands.Disable coil) owner now s = refl
+call-after _ owner now s = refl
 
 -- its line has what the call sends
 asked-sent : (command : Command) (owner : Owner) (now : ℕ) (s : List CoilState) → sent_at now owner (told command (answer_asking command owner now s)) ≡ sent_by (call_for command owner now) s
@@ -161,13 +159,9 @@ told-same command (answers.Sent sent) c is = absurd (false≢true (ap is_skip is
 told-same command answers.Skipped c is = ap (skip_of command) is
 
 no-sending : (moment : ℕ) (owner : Owner) (what : Happening) → IsNoCommand what → sent_at moment owner what ≡ []
-no-sending moment owner (lines.Switch n active) is = refl
-no-sending moment owner (lines.Event e) is = refl
 no-sending moment owner (lines.Coil command) is = absurd is
 no-sending moment owner (lines.Skip command) is = absurd is
-no-sending moment owner (lines.Player player v value) is = refl
-no-sending moment owner (lines.Balls booking counts) is = refl
-no-sending moment owner (lines.Final player score) is = refl
+no-sending moment owner _ is = refl
 
 -- ---- every move
 
@@ -219,22 +213,15 @@ module _ (plan : PlanView) (allowed : ActionsKeepLimits plan) where
 
   guarded-move : (licence : Licence) (before : List Line) (x : Move) (s : Machine) → MayDo plan licence x → IsGuarded before s → IsGuarded before (do_move plan x s)
   guarded-move licence before (Wrote owner what) s may h = quiet-guarded before owner what s may.2 h
-  guarded-move licence before (Sent owner e) s may h = record { follows = h.follows; idle = h.idle }
-  guarded-move licence before (Switched n state) s may h = record { follows = h.follows; idle = h.idle }
   guarded-move licence before (Began m) s may h =
       start-by plan m s (IsGuarded before) (record { follows = h.follows; idle = h.idle }) (record { follows = h.follows; idle = h.idle })
   guarded-move licence before (Ended m) s may h =
       stop-by plan m s (IsGuarded before) (record { follows = h.follows; idle = h.idle }) (record { follows = h.follows; idle = h.idle })
-  guarded-move licence before (Marked m state) s may h = record { follows = h.follows; idle = h.idle }
-  guarded-move licence before (Turned call r) s may h = record { follows = h.follows; idle = h.idle }
   guarded-move licence before (Booked owner call) s may h =
       book-by owner call s (IsGuarded before)
       (λ is. quiet-guarded before owner (lines.Balls (booked call s.ledger) (counts_of (after_booking call s.ledger))) (set_ledger (after_booking call s.ledger) s) tt (record { follows = h.follows; idle = h.idle })) h
-  guarded-move licence before (Released m) s may h = record { follows = h.follows; idle = h.idle }
-  guarded-move licence before (Varied v value) s may h = record { follows = h.follows; idle = h.idle }
-  guarded-move licence before (Stepped which) s may h = record { follows = h.follows; idle = h.idle }
-  guarded-move licence before (AddedBalls n) s may h = record { follows = h.follows; idle = h.idle }
   guarded-move licence before (Asked owner command) s may h = asked-guarded before owner command s (may.1 allowed) h
+  guarded-move licence before _ s may h = record { follows = h.follows; idle = h.idle }
 
   guarded-does : (licence : Licence) (before : List Line) {c : Cost} {s t : Machine} → Does plan (MayDo plan licence) c s t → IsGuarded before s → IsGuarded before t
   guarded-does licence before d h = does-keeps plan (MayDo plan licence) (IsGuarded before) (guarded-move licence before) d h

@@ -7,11 +7,11 @@ use Rattle.plan_tables.specs.PlanView.{PlanView, mode_event, work_of}
 use Rattle.plan_tables.specs.Valid.{IsValid, IsWorkAt}
 use Rattle.plan_tables.specs.declared.entries.ModeId.{ModeId}
 use Rattle.plan_tables.specs.declared.entries.ModeEvent.{ModeEvent}
-use Rattle.plan_tables.specs.declared.entries.ModeEvent.TheVariants.{WillStart, Starting, Started, Stopping, Stopped}
+use Rattle.plan_tables.specs.declared.entries.ModeEvent.TheVariants.{WillStart, Started, Stopped}
 use Rattle.plan_tables.specs.declared.entries.Owner.{Owner}
 use Rattle.plan_tables.specs.declared.entries.Owner.TheVariants as owners
 use Rattle.plan_tables.specs.declared.entries.Work.{Work}
-use Rattle.plan_tables.specs.declared.entries.Work.TheVariants.{Nothing, Mode, Game}
+use Rattle.plan_tables.specs.declared.entries.Work.TheVariants.{Nothing, Mode}
 use Rattle.plan_tables.proofs.Worked.{work_found}
 use Rattle.event_queue.specs.declared.queue.Posted.{Posted}
 use Rattle.written_machine.specs.declared.line.Line.{Line}
@@ -28,12 +28,7 @@ pub record Said : Type 0 where
 
 abbrev pub work_written : PlanView → Happening → Work
 work_written plan (lines.Event e) = work_of plan e
-work_written plan (lines.Switch n active) = Nothing
-work_written plan (lines.Coil command) = Nothing
-work_written plan (lines.Skip command) = Nothing
-work_written plan (lines.Player player v value) = Nothing
-work_written plan (lines.Balls booking counts) = Nothing
-work_written plan (lines.Final player score) = Nothing
+work_written plan _ = Nothing
 
 abbrev pub written : PlanView → Line → Said
 written plan l = record { owner = l.owner; work = work_written plan l.happening }
@@ -52,16 +47,13 @@ all_awaited plan (p ∷ ps) = awaited plan p ∷ all_awaited plan ps
 -- ---- whether a mode may be heard: from its event `started` on, and no more from `stopped` on
 
 abbrev pub heard_at : ModeEvent → Bool → Bool
-heard_at WillStart on = on
-heard_at Starting on = on
 heard_at Started on = true
-heard_at Stopping on = on
 heard_at Stopped on = false
+heard_at _ on = on
 
 abbrev pub heard_after : ModeId → Bool → Work → Bool
-heard_after m on Nothing = on
-heard_after m on (Game which) = on
 heard_after m on (Mode k which) = cond (k.0 == m.0) (heard_at which on) on
+heard_after m on _ = on
 
 abbrev pub heard : ModeId → Bool → List Said → Bool
 heard m on [] = on
@@ -100,25 +92,19 @@ module _ (plan : PlanView) (valid : IsValid plan) (m : ModeId) (within : m.0 < l
   fine-at on (l ∷ before) line after h is = fine-at (heard_after m on (work_written plan l.happening)) before line after h.1 is
 
   event-heard : (on : Bool) (which : ModeEvent) → heard_at which on ≡ true → (which ≡ Started) ⊎ ((on ≡ true) × (which ≡ Stopped → ⊥))
-  event-heard on WillStart h = inr (h, λ is. search rules)
-  event-heard on Starting h = inr (h, λ is. search rules)
   event-heard on Started h = inl refl
-  event-heard on Stopping h = inr (h, λ is. search rules)
   event-heard on Stopped h = absurd (search rules)
+  event-heard on _ h = inr (h, λ is. search rules)
 
   abbrev event_in : Work → ModeEvent
-  event_in Nothing = WillStart
-  event_in (Game which) = WillStart
   event_in (Mode k which) = which
+  event_in _ = WillStart
 
   abbrev number_in : Work → ℕ
-  number_in Nothing = 0
-  number_in (Game which) = 0
   number_in (Mode k which) = k.0
+  number_in _ = 0
 
   work-heard : (on : Bool) (w : Work) → heard_after m on w ≡ true → (w ≡ Mode m Started) ⊎ ((on ≡ true) × (w ≡ Mode m Stopped → ⊥))
-  work-heard on Nothing h = inr (h, λ is. search rules)
-  work-heard on (Game which) h = inr (h, λ is. search rules)
   work-heard on (Mode k which) h =
       elim (cases_eq k.0 m.0) [
         | inl is ↦
@@ -128,15 +114,11 @@ module _ (plan : PlanView) (valid : IsValid plan) (m : ModeId) (within : m.0 < l
             ]
         | inr other ↦ inr (subst (λ (b : Bool). cond b (heard_at which on) on ≡ true) (ne_eqb k.0 m.0 other) h, λ e. other (ap number_in e))
       ]
+  work-heard on _ h = inr (h, λ is. search rules)
 
   started_line : (h : Happening) → work_written plan h ≡ Mode m Started → h ≡ lines.Event (mode_event plan m Started)
   started_line (lines.Event e) is = let at : IsWorkAt plan e (Mode m Started) = subst (IsWorkAt plan e) is (work_found plan e) in ap lines.Event at.1
-  started_line (lines.Switch n active) is = absurd (search rules)
-  started_line (lines.Coil command) is = absurd (search rules)
-  started_line (lines.Skip command) is = absurd (search rules)
-  started_line (lines.Player player v value) is = absurd (search rules)
-  started_line (lines.Balls booking counts) is = absurd (search rules)
-  started_line (lines.Final player score) is = absurd (search rules)
+  started_line _ is = absurd (search rules)
 
   stopped_work : (h : Happening) → h ≡ lines.Event (mode_event plan m Stopped) → work_written plan h ≡ Mode m Stopped
   stopped_work h is = subst (λ (g : Happening). work_written plan g ≡ Mode m Stopped) (sym is) (valid.works m Stopped within)

@@ -176,6 +176,3 @@ module _ (owner : Owner) where
         ))
         | inr past ↦ past-not owner (release_coils plan owner s).coils coil (omega (arith, past, count, released-count (coil_numbers plan) s))
       ]
-
-  pub release-count : (plan : PlanView) (s : Machine) → length (release_coils plan owner s).coils ≡ length s.coils
-  release-count plan s = released-count (coil_numbers plan) s

@@ -15,7 +15,7 @@ use Rattle.device_objects.specs.declared.state.World.{World}
 use Rattle.device_objects.specs.DeviceStep.{device_step, first_state, multiball_answer}
 use Rattle.device_objects.specs.Laws.{HasShape}
 use Rattle.device_objects.proofs.Inactive.{IsInactive, first-inactive, stopped-inactive}
-use Rattle.written_machine.specs.Machine.{Machine, set_device, world_of, device_at, called, do_answer, call_device, is_active_save}
+use Rattle.written_machine.specs.Machine.{Machine, set_device, world_of, device_at, do_answer, call_device, is_active_save}
 
 -- whether it is an active ball save, or a running multiball
 abbrev pub is_on : DeviceState → Bool
@@ -25,27 +25,12 @@ is_on _ = false
 
 pub active-on : (state : DeviceState) → is_active_save state ≡ true → is_on state ≡ true
 active-on (states.BallSave s) is = is
-active-on (states.Counter x) is = absurd (false≢true is)
-active-on (states.Accrual x) is = absurd (false≢true is)
-active-on (states.Sequence x) is = absurd (false≢true is)
-active-on (states.Timer x) is = absurd (false≢true is)
-active-on (states.Bank x) is = absurd (false≢true is)
-active-on (states.Flipper x) is = absurd (false≢true is)
-active-on (states.Autofire x) is = absurd (false≢true is)
-active-on (states.BallDevice x) is = absurd (false≢true is)
-active-on (states.Multiball x) is = absurd (false≢true is)
+active-on _ is = absurd (false≢true is)
 
 inactive-off : (state : DeviceState) → IsInactive state → is_on state ≡ false
 inactive-off (states.BallSave s) h = h.0
 inactive-off (states.Multiball s) h = h.1
-inactive-off (states.Counter x) h = refl
-inactive-off (states.Accrual x) h = refl
-inactive-off (states.Sequence x) h = refl
-inactive-off (states.Timer x) h = refl
-inactive-off (states.Bank x) h = refl
-inactive-off (states.Flipper x) h = refl
-inactive-off (states.Autofire x) h = refl
-inactive-off (states.BallDevice x) h = refl
+inactive-off _ h = refl
 
 -- none is at first, nor where its mode has stopped
 pub first-off : (settings : Settings) → is_on (first_state settings) ≡ false
@@ -72,15 +57,7 @@ end-idle (kinds.Multiball m) now world (states.Bank x) is off = refl
 end-idle (kinds.Multiball m) now world (states.Flipper x) is off = refl
 end-idle (kinds.Multiball m) now world (states.Autofire x) is off = refl
 end-idle (kinds.Multiball m) now world (states.BallDevice x) is off = refl
-end-idle (kinds.Counter x) now world state is off = absurd (false≢true is)
-end-idle (kinds.Accrual x) now world state is off = absurd (false≢true is)
-end-idle (kinds.Sequence x) now world state is off = absurd (false≢true is)
-end-idle (kinds.Timer x) now world state is off = absurd (false≢true is)
-end-idle (kinds.Bank x) now world state is off = absurd (false≢true is)
-end-idle kinds.Flipper now world state is off = absurd (false≢true is)
-end-idle kinds.Autofire now world state is off = absurd (false≢true is)
-end-idle (kinds.BallDevice x) now world state is off = absurd (false≢true is)
-end-idle (kinds.BallSave x) now world state is off = absurd (false≢true is)
+end-idle _ now world state is off = absurd (false≢true is)
 
 -- so nothing happens where it is told to
 pub end-still : (plan : PlanView) (r : RowId) (s : Machine) → is_multiball (row_at plan r).settings ≡ true → is_on (device_at s r) ≡ false

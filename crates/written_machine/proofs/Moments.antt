@@ -1,5 +1,5 @@
 -- In every run the lines since the latest stimulus have its moment.
-use Rattle.std.proofs.Common.{◌≡◌, ℕ, List, [], refl}
+use Rattle.std.proofs.Common.{◌≡◌, List, [], refl}
 use Rattle.std.specs.List.{All}
 use Rattle.std.proofs.lemmas.List.Elements.{All-nil, All-push}
 use Rattle.plan_tables.specs.PlanView.{PlanView, work_of}
@@ -12,7 +12,7 @@ use Rattle.written_machine.specs.declared.line.Happening.TheVariants as lines
 use Rattle.written_machine.specs.declared.line.Line.{Line}
 use Rattle.written_machine.specs.EventStep.{taken, EventStep}
 use Rattle.written_machine.specs.Machine.{Machine, initial, write, told, counts_of}
-use Rattle.written_machine.specs.Moves.{Move, Wrote, Sent, Switched, Began, Ended, Marked, Released, Turned, Asked, Booked as Books, Varied, Stepped, AddedBalls, do_move, Licence, MayDo, Does, TakesPart, Begins, ordinary, working}
+use Rattle.written_machine.specs.Moves.{Move, Wrote, Began, Ended, Asked, Booked as Books, do_move, Licence, MayDo, Does, TakesPart, Begins, ordinary, working}
 use Rattle.written_machine.specs.Run.{Stimulus, IsAllowed, begin, moment_of, InEveryRun}
 use Rattle.written_machine.proofs.Does.{start-by, stop-by, book-by, does-keeps}
 use Rattle.written_machine.proofs.Parts.{does-before, does-after, does-begin}
@@ -27,21 +27,14 @@ write-timed owner what s h = All-push (λ (l : Line). l.moment ≡ s.moment) s.l
 module _ (plan : PlanView) where
   timed-move : (licence : Licence) (x : Move) (s : Machine) → MayDo plan licence x → IsTimed s → IsTimed (do_move plan x s)
   timed-move licence (Wrote owner what) s may h = write-timed owner what s h
-  timed-move licence (Sent owner e) s may h = h
-  timed-move licence (Switched n state) s may h = h
   timed-move licence (Began m) s may h = start-by plan m s IsTimed h h
   timed-move licence (Ended m) s may h = stop-by plan m s IsTimed h h
-  timed-move licence (Marked m state) s may h = h
-  timed-move licence (Turned call r) s may h = h
   timed-move licence (Asked owner command) s may h =
       write-timed owner (told command (answer_asking command owner s.moment s.coils)) (record s { coils = after_asking command owner s.moment s.coils }) h
   timed-move licence (Books owner call) s may h =
       book-by owner call s IsTimed
       (λ can. write-timed owner (lines.Balls (booked call s.ledger) (counts_of (after_call call s.ledger))) (record s { ledger = after_call call s.ledger }) h) h
-  timed-move licence (Released m) s may h = h
-  timed-move licence (Varied v value) s may h = h
-  timed-move licence (Stepped which) s may h = h
-  timed-move licence (AddedBalls n) s may h = h
+  timed-move licence _ s may h = h
 
   timed-does : (licence : Licence) {c : Cost} {s t : Machine} → Does plan (MayDo plan licence) c s t → IsTimed s → IsTimed t
   timed-does licence d h = does-keeps plan (MayDo plan licence) IsTimed (timed-move licence) d h

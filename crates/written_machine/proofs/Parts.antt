@@ -6,7 +6,7 @@ use Rattle.std.proofs.lemmas.Bool.{cases_lt}
 use Rattle.std.proofs.lemmas.List.{get_or_past}
 use Rattle.std.proofs.lemmas.List.Elements.{All-get_or, All-nil, filter_passes}
 use Rattle.std.proofs.lemmas.List.Sorted.{All-permutation}
-use Rattle.plan_tables.specs.PlanView.{PlanView, act_of_listener, actions_of, coil_numbers, listeners_of, no_row, no_switch, no_binding, switch_at, posts_of, actions_at, binding_at, is_owner, list_of_row, places_of, first_trough, game_event, may_hold_ball_end, mode_event, row_at, row_numbers, rows_of, target_of, work_of, act_told, multiball_rows}
+use Rattle.plan_tables.specs.PlanView.{PlanView, act_of_listener, actions_of, coil_numbers, listeners_of, no_row, no_switch, no_binding, switch_at, posts_of, actions_at, binding_at, is_owner, list_of_row, places_of, game_event, may_hold_ball_end, mode_event, row_at, row_numbers, rows_of, target_of, work_of, act_told, multiball_rows}
 use Rattle.plan_tables.specs.Valid.{HasEntries, HasGame, IsEventWithin, IsActionWithin, IsBindingWithin, IsTargetWithin, IsWorkAt}
 use Rattle.plan_tables.specs.declared.entries.EventId.{EventId}
 use Rattle.plan_tables.specs.declared.entries.ListId.{ListId}
@@ -29,11 +29,10 @@ use Rattle.plan_tables.specs.declared.entries.Target.{Target}
 use Rattle.plan_tables.specs.declared.entries.Target.TheVariants.{Run, Start, Stop, Act}
 use Rattle.plan_tables.specs.Devices.{list_count}
 use Rattle.plan_tables.specs.declared.devices.RowId.{RowId}
-use Rattle.plan_tables.specs.declared.devices.BallTarget.{BallTarget}
 use Rattle.plan_tables.specs.declared.devices.BallTarget.TheVariants.{Playfield, Device}
 use Rattle.plan_tables.specs.declared.devices.Act.TheVariants.{End, Save}
 use Rattle.ball_devices.specs.declared.booking.Origin.{Origin}
-use Rattle.ball_devices.specs.declared.booking.Origin.TheVariants.{Awaited, Found, New}
+use Rattle.ball_devices.specs.declared.booking.Origin.TheVariants.{Awaited}
 use Rattle.ball_devices.specs.Ledger.{origin_of}
 use Rattle.ball_devices.specs.Bookings as calls_of_ledger
 use Rattle.plan_tables.specs.declared.entries.CoilId.{CoilId}
@@ -58,7 +57,7 @@ use Rattle.cascade_rank.proofs.Within.{posts-below, mode_event-within}
 use Rattle.event_queue.specs.Handlers.{runs_at, handlers, IsHandlerOrder}
 use Rattle.plan_tables.specs.declared.devices.Telling.{Telling}
 use Rattle.plan_tables.specs.declared.devices.Telling.TheVariants.{Arrived, Wanted}
-use Rattle.written_machine.specs.Machine.{Machine, write, post, post_if, release_ball_end, drop_hold, ask_coil, release_coil, release_coils, set_switches, set_mode, set_device, set_players, all_do, tell_change, post_game, write_final, write_finals, do_game, book, drain_if, after_entry, do_action_by, do_list_by, do_answer_by, call_device_by, first_away, tell_nobody, told_device, tell_device, tell_first, do_list, do_answer, world_of, device_at, called, call_device, call_devices, tell_listener, tell_listeners, confirm_on_playfield, ask_ball, do_target, do_handler, do_accepted, do_if_accepted, want_balls, step_game, end_multiballs, drain_ball, first_active_save, set_game}
+use Rattle.written_machine.specs.Machine.{Machine, write, post, post_if, release_ball_end, drop_hold, ask_coil, release_coil, release_coils, set_switches, set_mode, set_device, set_players, all_do, tell_change, post_game, write_final, write_finals, do_game, book, drain_if, after_entry, do_action_by, do_list_by, do_answer_by, call_device_by, tell_nobody, told_device, tell_device, tell_first, do_list, do_answer, world_of, device_at, called, call_device, call_devices, tell_listener, tell_listeners, confirm_on_playfield, ask_ball, do_target, do_handler, do_accepted, do_if_accepted, want_balls, step_game, end_multiballs, drain_ball, first_active_save, set_game}
 use Rattle.written_machine.specs.EventStep.{do_before, do_after, handlers_in}
 use Rattle.written_machine.specs.Run.{switch, device, Stimulus, SwitchChange, Alarm, Wait, moment_of, arrived, begin}
 use Rattle.written_machine.specs.StimulusCost.{cost_of_stimulus}
@@ -103,9 +102,7 @@ module _ (plan : PlanView) where
 
   is_there : (t : Target) → IsTargetWithin plan t → IsThere t
   is_there (Run l) h = tt
-  is_there (Start m) h = h
-  is_there (Stop m) h = h
-  is_there (Act r act) h = h
+  is_there _ h = h
 
   pub target-there : HasEntries plan → (place : BindingId) → IsThere (binding_at plan place).target
   target-there entries place =
@@ -174,17 +171,12 @@ module _ (plan : PlanView) where
 
     abbrev pub action_now_by : Owner → Action → Machine → Cost
     action_now_by owner (Post e) s = cost_of_post e
-    action_now_by owner (Pulse coil ms power) s = Lines 1
-    action_now_by owner (Enable coil power) s = Lines 1
-    action_now_by owner (Disable coil) s = Lines 1
     action_now_by owner (ChangeVariable v action n e) s = Both (Lines 1) (cost_of_post e)
     action_now_by owner (Enter r e drain) s =
         Both (Lines 1) (Both (cost_of_post e) (Greater (cost_of_drain plan drain) (tell_now (Arrived (Device r)) (post owner e (book owner (calls_of_ledger.Enter r) s)))))
-    action_now_by owner (Leave r) s = Lines 1
-    action_now_by owner (Lose r) s = Lines 1
-    action_now_by owner (Arrive r) s = Lines 1
     action_now_by owner (Request n) s = tell_now (Wanted n) s
     action_now_by owner (AddBalls n) s = Both (Lines 0) (wanted_now (missing n s.game) (set_game (more_balls n s.game) s))
+    action_now_by owner _ s = Lines 1
 
     abbrev pub list_now_by : Owner → ListId → Machine → Cost
     list_now_by owner l s = each_now (do_action_by plan tell owner) (action_now_by owner) (actions_at plan l) s
@@ -356,8 +348,7 @@ module _ (plan : PlanView) where
       does-entry : (owner : Owner) → (ActsAreOwn plan → by owner) → (r : RowId) (drain : Bool) → (HasEntries plan → 0 < length plan.events) → (HasEntries plan → drain ≡ true → HasGame plan) → (origin : Origin) (s : Machine)
           → Does plan May (Greater (cost_of_drain plan drain) (now (Arrived (Device r)) s)) s (after_entry plan tell owner r drain origin s)
       does-entry owner may r drain some game Awaited s = less (tells (Arrived (Device r)) s) (λ w. omega arith)
-      does-entry owner may r drain some game Found s = less (does-drain owner may drain some game s) (λ w. omega arith)
-      does-entry owner may r drain some game New s = less (does-drain owner may drain some game s) (λ w. omega arith)
+      does-entry owner may r drain some game _ s = less (does-drain owner may drain some game s) (λ w. omega arith)
 
       -- balls that are wanted, if any
       does-want : (n : ℕ) (s : Machine) → Does plan May (wanted_now tell now n s) s (want_balls tell n s)

@@ -6,17 +6,16 @@ use Rattle.std.proofs.lemmas.Bool.{cases_lt}
 use Rattle.std.proofs.lemmas.List.{get_or_past}
 use Rattle.std.proofs.lemmas.List.FromFn.{length-range_with_len}
 use Rattle.std.proofs.lemmas.List.Elements.{All-get_or, All-head, All-nil, All-tail}
-use Rattle.plan_tables.specs.PlanView.{PlanView, act_of_listener, actions_at, actions_of, coil_numbers, feeders_of, first_trough, game_event, is_enable_of, list_of_row, listeners_of, no_switch, binding_at, row_at, row_numbers, rows_of, switch_at, target_of, multiball_rows, save_rows, is_save, is_multiball, act_told, work_of}
+use Rattle.plan_tables.specs.PlanView.{PlanView, act_of_listener, actions_at, actions_of, coil_numbers, feeders_of, first_trough, game_event, is_enable_of, list_of_row, listeners_of, no_switch, binding_at, row_at, row_numbers, rows_of, switch_at, target_of, multiball_rows, save_rows, act_told, work_of}
 use Rattle.plan_tables.specs.declared.entries.Action.{Action}
-use Rattle.plan_tables.specs.declared.entries.Action.TheVariants.{Post, Pulse, Enable, Disable, Change as ChangeVariable, Enter, Leave, Lose, Arrive, Request, AddBalls}
+use Rattle.plan_tables.specs.declared.entries.Action.TheVariants.{Disable, Change as ChangeVariable, Enter, Leave, Lose, Arrive, Request, AddBalls}
 use Rattle.plan_tables.specs.declared.entries.ListId.{ListId}
 use Rattle.plan_tables.specs.declared.entries.VariableId.{VariableId}
 use Rattle.plan_tables.specs.declared.entries.GameEvent.TheVariants.{BallDrain}
 use Rattle.plan_tables.specs.declared.devices.Act.TheVariants.{Save, End}
-use Rattle.plan_tables.specs.declared.devices.BallTarget.{BallTarget}
 use Rattle.plan_tables.specs.declared.devices.BallTarget.TheVariants.{Playfield, Device}
 use Rattle.ball_devices.specs.declared.booking.Origin.{Origin}
-use Rattle.ball_devices.specs.declared.booking.Origin.TheVariants.{Awaited, Found, New}
+use Rattle.ball_devices.specs.declared.booking.Origin.TheVariants.{Awaited}
 use Rattle.ball_devices.specs.Ledger.{origin_of}
 use Rattle.ball_devices.specs.Bookings as calls_of_ledger
 use Rattle.plan_tables.specs.Valid.{HasEntries, IsListenerWithin}
@@ -35,7 +34,7 @@ use Rattle.plan_tables.specs.declared.entries.BindingId.{BindingId}
 use Rattle.plan_tables.specs.declared.entries.ModeEvent.TheVariants.{WillStart, Starting, Started, Stopping, Stopped}
 use Rattle.plan_tables.specs.declared.entries.Owner.TheVariants as owners
 use Rattle.plan_tables.specs.declared.entries.Target.{Target}
-use Rattle.plan_tables.specs.declared.entries.Target.TheVariants.{Run, Start, Stop, Act}
+use Rattle.plan_tables.specs.declared.entries.Target.TheVariants.{Run, Act}
 use Rattle.plan_tables.specs.declared.entries.Work.{Work}
 use Rattle.plan_tables.specs.declared.entries.Work.TheVariants.{Nothing, Mode, Game}
 use Rattle.plan_tables.specs.declared.entries.GameEvent.{GameEvent}
@@ -61,7 +60,7 @@ use Rattle.cascade_rank.proofs.Prices.{price-dearest}
 use Rattle.cascade_rank.proofs.Rows.{length-rows, row_of}
 use Rattle.plan_tables.specs.declared.devices.Telling.{Telling}
 use Rattle.plan_tables.specs.declared.devices.Telling.TheVariants.{Arrived, Wanted}
-use Rattle.written_machine.specs.Machine.{Machine, write, post, set_switches, set_mode, set_device, set_players, all_do, ask_coil, release_coil, tell_change, book, drain_if, after_entry, do_action_by, do_list_by, do_answer_by, call_device_by, first_away, tell_nobody, tell_device, tell_first, want_balls, step_game, first_active_save, set_game, world_of, device_at, called, call_device, call_devices, tell_listener, tell_listeners, home_of, write_finals, do_handler, end_multiballs, drain_ball}
+use Rattle.written_machine.specs.Machine.{Machine, write, post, set_switches, set_mode, set_device, set_players, all_do, ask_coil, release_coil, tell_change, book, drain_if, after_entry, do_action_by, do_list_by, do_answer_by, call_device_by, first_away, tell_nobody, tell_device, tell_first, want_balls, step_game, first_active_save, set_game, world_of, device_at, called, call_device, call_devices, tell_listener, tell_listeners, home_of, write_finals, do_handler}
 use Rattle.written_machine.specs.Devices.{HasDevices}
 use Rattle.written_machine.specs.Run.{switch, device, source_due, Stimulus, SwitchChange, Alarm, Wait, arrived}
 use Rattle.written_machine.specs.StimulusCost.{cost_if_accepted, cost_of_stimulus}
@@ -107,8 +106,7 @@ module _ (plan : PlanView) (entries : HasEntries plan) (w : EventId → ℕ) whe
       (alike : (m n : ℕ) → price w (cost (Wanted m)) ≡ price w (cost (Wanted n))) where
     entry-devices : (owner : Owner) (r : RowId) (drain : Bool) (origin : Origin) (s : Machine) → HasDevices plan s.devices → HasDevices plan (after_entry plan tell owner r drain origin s).devices
     entry-devices owner r drain Awaited s has = (tells (Arrived (Device r)) s has).1
-    entry-devices owner r drain Found s has = drain-devices owner drain s has
-    entry-devices owner r drain New s has = drain-devices owner drain s has
+    entry-devices owner r drain _ s has = drain-devices owner drain s has
 
     want-priced : (n k : ℕ) (s : Machine) → HasDevices plan s.devices → (price w (wanted_now plan tell now k s) ≤ price w (cost (Wanted n))) × HasDevices plan (want_balls tell k s).devices
     want-priced n zero s has = (omega arith, has)
@@ -116,10 +114,6 @@ module _ (plan : PlanView) (entries : HasEntries plan) (w : EventId → ℕ) whe
 
     action-priced : (owner : Owner) (a : Action) (s : Machine) → HasDevices plan s.devices
         → (price w (action_now_by plan tell now owner a s) ≤ price w (cost_of_action_by plan cost a)) × HasDevices plan (do_action_by plan tell owner a s).devices
-    action-priced owner (Post e) s has = (omega arith, has)
-    action-priced owner (Pulse coil ms power) s has = (omega arith, has)
-    action-priced owner (Enable coil power) s has = (omega arith, has)
-    action-priced owner (Disable coil) s has = (omega arith, has)
     action-priced owner (ChangeVariable v action n e) s has =
         let value = changed_to plan v action n s.players in
         (omega arith, told-devices owner s.players.current v e value (set_players (players_after_change plan v value s.players) s) has)
@@ -135,6 +129,7 @@ module _ (plan : PlanView) (entries : HasEntries plan) (w : EventId → ℕ) whe
     action-priced owner (AddBalls n) s has =
         let wanted = want-priced n (missing n s.game) (set_game (more_balls n s.game) s) has in
         (omega (arith, wanted.0), wanted.1)
+    action-priced owner _ s has = (omega arith, has)
 
     list-priced_by : (owner : Owner) (l : ListId) (s : Machine) → HasDevices plan s.devices
         → (price w (list_now_by plan tell now owner l s) ≤ price w (cost_of_list_by plan cost l)) × HasDevices plan (do_list_by plan tell owner l s).devices
@@ -220,9 +215,8 @@ module _ (plan : PlanView) (entries : HasEntries plan) (w : EventId → ℕ) whe
 
   target-priced : (owner : Owner) (t : Target) (s : Machine) → IsThere plan t → HasDevices plan s.devices → price w (target_now plan owner t s) ≤ price w (cost_of_target plan t)
   target-priced owner (Run l) s there has = list-priced owner l s has
-  target-priced owner (Start m) s there has = omega arith
-  target-priced owner (Stop m) s there has = omega arith
   target-priced owner (Act r act) s there has = (call-priced (calls.Act act) r s there has tt).0
+  target-priced owner _ s there has = omega arith
 
   handler-priced : (place : BindingId) (s : Machine) → HasDevices plan s.devices → price w (handler_now plan place s) ≤ price w (cost_of_handler plan place)
   handler-priced place s has = by (is_met plan s.players (binding_at plan place).condition)

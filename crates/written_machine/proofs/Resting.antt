@@ -24,7 +24,7 @@ use Rattle.mode_stack.proofs.WhoRuns.{starting_keeps_who_runs}
 use Rattle.event_queue.specs.Handlers.{takes_part}
 use Rattle.written_machine.specs.Devices.{HasDevices, ActsAreOwn}
 use Rattle.written_machine.specs.Machine.{Machine, set_device, has_game, all_do, world_of, device_state, device_at, called, do_answer, call_device}
-use Rattle.written_machine.specs.Moves.{Move, Wrote, Sent, Switched, Began, Ended, Marked, Released, Turned, Asked, Booked, Varied, Stepped, AddedBalls, do_move, MayDo, ordinary}
+use Rattle.written_machine.specs.Moves.{Move, Wrote, Sent, Switched, Began, Ended, Turned, Asked, Booked, Varied, Stepped, AddedBalls, do_move, MayDo, ordinary}
 use Rattle.written_machine.proofs.Does.{start-by, stop-by, booked_now, book-by, due-row, has_devices-move}
 use Rattle.written_machine.proofs.Inactive.{is_on, stopped-off}
 use Rattle.written_machine.proofs.Held.{IsHolding, IsNotHolding, asked-count, asked-held}
@@ -181,8 +181,6 @@ module _ (plan : PlanView) (valid : IsValid plan) (own : ActsAreOwn plan) (m : M
     move-rests (Ended k) s may runs h =
         let same = starting_keeps_who_runs.stop s.modes k in
         stop-by plan k s (Rests plan m) (running-rests s _ same refl refl h) (running-rests s _ same refl refl h)
-    move-rests (Marked k state) s may runs h = absurd may
-    move-rests (Released k) s may runs h = absurd may
     move-rests (Turned call r) s may runs h = turned-rests call r s runs (may own) h
     move-rests (Booked owner call) s may runs h = book-by owner call s (Rests plan m) (λ is. same-rests s (booked_now owner call s) refl refl refl h) h
     move-rests (Varied v value) s may runs h = same-rests s (do_move plan (Varied v value) s) refl refl refl h
@@ -199,3 +197,4 @@ module _ (plan : PlanView) (valid : IsValid plan) (own : ActsAreOwn plan) (m : M
             | inr before ↦ h.holds coil before
           ];
     }
+    move-rests _ s may runs h = absurd may

@@ -4,7 +4,7 @@ use Rattle.std.proofs.Common.{◌≡◌, ℕ, ◌<◌, ◌⊎◌, if◌then◌el
 use Rattle.std.specs.List.{range_with_len}
 use Rattle.std.proofs.lemmas.Bool.{cases_eq, eq-eqb, ne_eqb, cases_lt}
 use Rattle.std.proofs.lemmas.List.{append-nil, get_or-replicate, length-replicate, length-set, get_or_past, get_or-map, length-map}
-use Rattle.plan_tables.specs.PlanView.{PlanView, coil_numbers, game_event, may_hold_ball_end, is_owner, mode_event, row_at, rows_of, work_of, is_multiball, multiball_rows, save_rows, is_save, row_numbers, no_row}
+use Rattle.plan_tables.specs.PlanView.{PlanView, coil_numbers, game_event, may_hold_ball_end, is_owner, mode_event, row_at, rows_of, work_of, is_multiball, multiball_rows, row_numbers, no_row}
 use Rattle.plan_tables.specs.Valid.{HasGame, IsOwnerWithin, IsValid, IsWorkAt}
 use Rattle.plan_tables.specs.declared.entries.EventId.{EventId}
 use Rattle.plan_tables.specs.declared.entries.ModeId.{ModeId}
@@ -35,7 +35,7 @@ use Rattle.plan_tables.specs.declared.entries.CoilId.{CoilId}
 use Rattle.coil_guard.specs.declared.command.Command.TheVariants as commands
 use Rattle.coil_guard.specs.CoilStep.{is_held_by}
 use Rattle.coil_guard.specs.Coils.{coil_at}
-use Rattle.device_objects.specs.DeviceStep.{due_of, first_state}
+use Rattle.device_objects.specs.DeviceStep.{first_state}
 use Rattle.cascade_rank.specs.Cost.{Cost}
 use Rattle.event_queue.specs.declared.queue.Posted.{Posted}
 use Rattle.event_queue.specs.Handlers.{takes_part}
@@ -49,7 +49,7 @@ use Rattle.written_machine.specs.Machine.{Machine, initial, post, set_mode, has_
 use Rattle.written_machine.specs.EventStep.{taken, before_handlers, handlers_in, do_before, do_after}
 use Rattle.written_machine.specs.Run.{switch, device, source_due, Stimulus, SwitchChange, Alarm, Wait, moment_of, IsAllowed, arrived, begin, IsRun}
 use Rattle.written_machine.specs.Silent.{HasStarted, IsSilent}
-use Rattle.written_machine.specs.Moves.{Move, Wrote, Sent, Switched, Began, Ended, Marked, Released, Turned, Asked, Booked, Varied, Stepped, AddedBalls, step_now, do_move, MayDo, Does, TakesPart, IsMachine, Begins, ordinary, MayHandle}
+use Rattle.written_machine.specs.Moves.{Move, Wrote, Sent, Began, Ended, Marked, Released, Asked, Booked, Stepped, step_now, do_move, MayDo, Does, TakesPart, IsMachine, Begins, ordinary, MayHandle}
 use Rattle.written_machine.proofs.Does.{start-by, stop-by, book-by, does-keeps, off-has_coils}
 use Rattle.written_machine.proofs.Parts.{does-calls, does-releases, does-request, does-order, does-begin, does-call}
 use Rattle.written_machine.proofs.Keeps.{step-keeps, run-keeps}
@@ -68,15 +68,6 @@ use Rattle.std.proofs.lemmas.List.Elements.{All-tail, All-head, filter_passes}
 
 -- ---- who runs does not change while handlers run
 
--- where coils are released, nothing changes but coils and lines
-release-modes : (owner : Owner) (cs : List CoilId) (s : Machine) → (all_do (release_coil owner) cs s).modes ≡ s.modes
-release-modes owner [] s = refl
-release-modes owner (c ∷ cs) s = release-modes owner cs (release_coil owner c s) ∙ one (is_held_by owner (coil_at s.coils c))
-  where
-    one : (held : Bool) → (if held then ask_coil owner (commands.Disable c) s else s).modes ≡ s.modes
-    one true = refl
-    one false = refl
-
 release-devices : (owner : Owner) (cs : List CoilId) (s : Machine) → (all_do (release_coil owner) cs s).devices ≡ s.devices
 release-devices owner [] s = refl
 release-devices owner (c ∷ cs) s = release-devices owner cs (release_coil owner c s) ∙ one (is_held_by owner (coil_at s.coils c))
@@ -87,9 +78,6 @@ release-devices owner (c ∷ cs) s = release-devices owner cs (release_coil owne
 
 module _ (plan : PlanView) (by : Owner → Type 0) (switches : Type 0) where
   still-move : (x : Move) (s : Machine) → MayDo plan (ordinary plan by switches) x → running_of (do_move plan x s).modes ≡ running_of s.modes
-  still-move (Wrote owner what) s may = refl
-  still-move (Sent owner e) s may = refl
-  still-move (Switched n state) s may = refl
   still-move (Began k) s may =
       let same = starting_keeps_who_runs.start s.modes k (needs_game plan k) (has_game s) in
       start-by plan k s (λ t. running_of t.modes ≡ running_of s.modes) same same
@@ -98,12 +86,8 @@ module _ (plan : PlanView) (by : Owner → Type 0) (switches : Type 0) where
       stop-by plan k s (λ t. running_of t.modes ≡ running_of s.modes) same same
   still-move (Marked k state) s may = absurd may
   still-move (Released k) s may = absurd may
-  still-move (Turned call r) s may = refl
-  still-move (Asked owner command) s may = refl
   still-move (Booked owner call) s may = book-by owner call s (λ t. running_of t.modes ≡ running_of s.modes) (λ is. refl) refl
-  still-move (Varied v value) s may = refl
-  still-move (Stepped which) s may = refl
-  still-move (AddedBalls n) s may = refl
+  still-move _ s may = refl
 
   pub still-does : {c : Cost} {s t : Machine} → Does plan (MayDo plan (ordinary plan by switches)) c s t → running_of t.modes ≡ running_of s.modes
   still-does {c} {s} {t} d =
@@ -126,9 +110,8 @@ still_due Stopping = Stopping ∷ []
 still_due Stopped = Stopped ∷ []
 
 abbrev pub handled : ModeId → Work → List ModeEvent
-handled m Nothing = []
-handled m (Game which) = []
 handled m (Mode k which) = cond (k.0 == m.0) (still_due which) []
+handled m _ = []
 
 -- an event that may be posted is none of a mode's
 free-mine : (m : ModeId) (w : Work) → IsFreeWork w ⊎ (w ≡ Game BallDrain) → mine m w [] ≡ []
@@ -162,17 +145,13 @@ module _ (plan : PlanView) (valid : IsValid plan) (free : PostsAreFree plan) (ow
     move-holds : (front : List ModeEvent) (x : Move) (s : Machine) → MayDo plan (ordinary plan by switches) x → IsKept front s → HoldsIn plan m before front (do_move plan x s)
     move-holds front (Wrote owner what) s may h = wrote-holds plan valid m within before front owner what s may.1 (λ is. own_runs front s h (subst by is (may.0 own))) h.kept
     move-holds front (Sent owner e) s may h = posted-holds plan valid m within before front owner e s (free-mine m (work_of plan e) (may.2 valid free)) (λ is. own_runs front s h (subst by is (may.0 own))) h.kept
-    move-holds front (Switched n state) s may h = record { count = h.kept.count; fine = h.kept.fine; holds = h.kept.holds }
     move-holds front (Began k) s may h = start-holds plan valid m within before front k s (may valid.entries) h.kept
     move-holds front (Ended k) s may h = stop-holds plan valid m within before front k s (may valid.entries) h.kept
     move-holds front (Marked k state) s may h = absurd may
     move-holds front (Released k) s may h = absurd may
-    move-holds front (Turned call r) s may h = record { count = h.kept.count; fine = h.kept.fine; holds = h.kept.holds }
-    move-holds front (Varied v value) s may h = record { count = h.kept.count; fine = h.kept.fine; holds = h.kept.holds }
-    move-holds front (Stepped which) s may h = record { count = h.kept.count; fine = h.kept.fine; holds = h.kept.holds }
-    move-holds front (AddedBalls n) s may h = record { count = h.kept.count; fine = h.kept.fine; holds = h.kept.holds }
     move-holds front (Booked owner call) s may h = booked-holds plan valid m within before front owner call s (λ is. own_runs front s h (subst by is (may own))) h.kept
     move-holds front (Asked owner command) s may h = asked-holds plan valid m within before front owner command s (λ is. own_runs front s h (subst by is (may.0 own))) h.kept
+    move-holds front _ s may h = record { count = h.kept.count; fine = h.kept.fine; holds = h.kept.holds }
 
     moves-hold : (front : List ModeEvent) (c : Cost) (s t : Machine) → Does plan (MayDo plan (ordinary plan by switches)) c s t → running_of s.modes ≡ running → Stays before front s → Stays before front t
     moves-hold front c s t d now h =
@@ -209,9 +188,6 @@ module _ (plan : PlanView) (valid : IsValid plan) (free : PostsAreFree plan) (ow
   post-rests : (e : EventId) (s : Machine) → Rests plan m s → Rests plan m (post owners.Machine e s)
   post-rests e s h = running-rests plan valid own m s (post owners.Machine e s) refl refl refl h
 
-  with_devices : (before : List Line) (front : List ModeEvent) (s : Machine) (new : List DeviceState) → HoldsIn plan m before front s → HoldsIn plan m before front (record s { devices = new })
-  with_devices before front s new h = record { count = h.count; fine = h.fine; holds = h.holds }
-
   -- the devices of a mode are called, of which the lines are not those of this one or may be heard
   calls-hold : (before : List Line) (front : List ModeEvent) (call : Call) (k : ModeId) (s : Machine) → (k.0 ≡ m.0 → IsTaking s) → Stays before front s → Stays before front (call_devices plan call k s)
   calls-hold before front call k s runs h =
@@ -231,10 +207,6 @@ module _ (plan : PlanView) (valid : IsValid plan) (free : PostsAreFree plan) (ow
   -- the devices of a mode stop, and the coils that it holds are released
   abbrev let_go : ModeId → Machine → Machine
   let_go k s = release_coils plan (owners.Mode k) (call_devices plan calls.ModeStop k s)
-
-  let_go-modes : (k : ModeId) (s : Machine) → (let_go k s).modes ≡ s.modes
-  let_go-modes k s =
-      release-modes (owners.Mode k) (coil_numbers plan) (call_devices plan calls.ModeStop k s) ∙ ap (λ (t : Machine). t.modes) (stops-turn plan (rows_of plan (owners.Mode k)) s).1
 
   let_go-devices : (k : ModeId) (s : Machine) → (let_go k s).devices ≡ (call_devices plan calls.ModeStop k s).devices
   let_go-devices k s = release-devices (owners.Mode k) (coil_numbers plan) (call_devices plan calls.ModeStop k s)
@@ -425,32 +397,24 @@ module _ (plan : PlanView) (valid : IsValid plan) (free : PostsAreFree plan) (ow
   -- ---- the taking of an event, and the work before its handlers
 
   speaks_after : (which : ModeEvent) (p : Phase) (q : List ModeEvent) (on : Bool) → IsTurn p (which ∷ q) → (is_running p ≡ true → on ≡ true) → is_running p ≡ true → heard_at which on ≡ true
-  speaks_after WillStart p q on c h r = h r
-  speaks_after Starting p q on c h r = h r
   speaks_after Started p q on c h r = refl
-  speaks_after Stopping p q on c h r = h r
   speaks_after Stopped p q on c h r = absurd (search (rules, stopped-quiet p q c, r))
+  speaks_after _ p q on c h r = h r
 
   own_before : (before : List Line) (which : ModeEvent) (s : Machine) (on : Bool) → heard_in plan m before s ≡ heard_at which on → Stays before (which ∷ []) s → Stays before (still_due which) (do_before plan (Mode m which) s)
-  own_before before WillStart s on is h = h
-  own_before before Starting s on is h = h
   own_before before Started s on is h =
       let active = set_mode m (in_phase phases.Active) s in
       let holds = own_set plan valid m within before (Started ∷ []) [] (in_phase phases.Active) s h.0 (turn-started (phase_in m s) (waiting_of plan m s.waiting) h.0.holds.turns) (λ r. is) in
       let runs : IsTaking active = runs-takes m active (length plan.modes) holds.count within (ap (λ (x : ModeState). is_running x.phase) (own_state plan valid m within before (in_phase phases.Active) s h.0.count)) in
       calls-hold before [] calls.ModeStart m active (λ same. runs) (holds, runs-rests plan valid own m active h.1.devices h.1.count runs)
-  own_before before Stopping s on is h = h
-  own_before before Stopped s on is h = h
+  own_before before _ s on is h = h
 
   other_before : (before : List Line) (k : ModeId) (which : ModeEvent) (s : Machine) → (k.0 ≡ m.0 → ⊥) → Stays before [] s → Stays before [] (do_before plan (Mode k which) s)
-  other_before before k WillStart s other h = h
-  other_before before k Starting s other h = h
   other_before before k Started s other h =
       let active = set_mode k (entered (mode_state s.modes k)) s in
       calls-hold before [] calls.ModeStart k active (λ same. absurd (other same))
       (other_set plan valid m within before [] k (entered (mode_state s.modes k)) s other h.0, other_set-rests k (entered (mode_state s.modes k)) s h.0.count other h.1)
-  other_before before k Stopping s other h = h
-  other_before before k Stopped s other h = h
+  other_before before k _ s other h = h
 
   before_work : (before : List Line) (w : Work) (s : Machine) (on : Bool) → length s.modes ≡ length plan.modes → Rests plan m s → IsFine m false (all_written plan (before ++ s.lines)) → heard_in plan m before s ≡ heard_after m on w
       → IsFine m (heard_after m on w) (all_awaited plan s.waiting) → IsTurn (phase_in m s) (mine m w (waiting_of plan m s.waiting)) → (IsRunning m s → on ≡ true) → Stays before (handled m w) (do_before plan w s)

@@ -9,11 +9,11 @@ use Rattle.plan_tables.specs.Valid.{IsValid}
 use Rattle.plan_tables.specs.declared.entries.EventId.{EventId}
 use Rattle.plan_tables.specs.declared.entries.ModeId.{ModeId}
 use Rattle.plan_tables.specs.declared.entries.ModeEvent.{ModeEvent}
-use Rattle.plan_tables.specs.declared.entries.ModeEvent.TheVariants.{WillStart, Starting, Started, Stopping, Stopped}
+use Rattle.plan_tables.specs.declared.entries.ModeEvent.TheVariants.{WillStart, Starting, Stopping, Stopped}
 use Rattle.plan_tables.specs.declared.entries.Owner.{Owner}
 use Rattle.plan_tables.specs.declared.entries.Owner.TheVariants as owners
 use Rattle.plan_tables.specs.declared.entries.Work.{Work}
-use Rattle.plan_tables.specs.declared.entries.Work.TheVariants.{Nothing, Mode, Game}
+use Rattle.plan_tables.specs.declared.entries.Work.TheVariants.{Nothing, Mode}
 use Rattle.player_game.specs.GameStep.{GameState, held_if}
 use Rattle.mode_stack.specs.declared.phase.Phase.{Phase}
 use Rattle.mode_stack.specs.declared.phase.Phase.TheVariants as phases
@@ -44,15 +44,10 @@ pub record Holds (plan : PlanView) (m : ModeId) (on : Bool) (front : List ModeEv
 
 module _ (plan : PlanView) (m : ModeId) where
   stays : (which : ModeEvent) → IsNoEnd which → heard_at which true ≡ true
-  stays WillStart h = refl
-  stays Starting h = refl
-  stays Started h = refl
-  stays Stopping h = refl
   stays Stopped h = absurd h
+  stays _ h = refl
 
   goes_on : (w : Work) (c : List ModeEvent) (xs : List Said) → (AllByRecursion IsNoEnd c → heard m true xs ≡ true) → AllByRecursion IsNoEnd (mine m w c) → heard m (heard_after m true w) xs ≡ true
-  goes_on Nothing c xs next h = next h
-  goes_on (Game which) c xs next h = next h
   goes_on (Mode k which) c xs next h =
       elim (cases_eq k.0 m.0) [
         | inl is ↦
@@ -62,6 +57,7 @@ module _ (plan : PlanView) (m : ModeId) where
             let all : AllByRecursion IsNoEnd c = subst (λ (b : Bool). AllByRecursion IsNoEnd (cond b (which ∷ c) c)) (ne_eqb k.0 m.0 other) h in
             subst (λ (on : Bool). heard m on xs ≡ true) (sym (ap (λ (b : Bool). cond b (heard_at which true) true) (ne_eqb k.0 m.0 other))) (next all)
       ]
+  goes_on _ c xs next h = next h
 
   -- where its last event does not wait, a mode that may be heard may still be heard after all that waits
   heard_on : (q : List Posted) → AllByRecursion IsNoEnd (waiting_of plan m q) → heard m true (all_awaited plan q) ≡ true

@@ -1,7 +1,8 @@
 //! What counters, accruals and sequences are to do.
 
 use crate::devices::plain::{Slot, first_slot, has_players, is_at_end, sum};
-use plan_tables::{CounterSettings, Direction, Settings};
+use machine_settings::{CounterSettings, Direction};
+use plan_tables::Settings;
 
 /// The value after a count, if it is not too early.
 fn counted(counter: &CounterSettings, slot: &Slot, now: u64) -> Option<i64> {

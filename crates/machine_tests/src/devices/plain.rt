@@ -8,7 +8,8 @@ use crate::devices::saves::{call_multiball, call_save};
 use crate::devices::seen::bits;
 use crate::devices::timers::call_timer;
 use device_objects::World;
-use plan_tables::{Direction, Settings};
+use machine_settings::Direction;
+use plan_tables::Settings;
 
 /// What is remembered for a player.
 #[derive(Clone, Copy)]

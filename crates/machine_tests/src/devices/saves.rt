@@ -2,7 +2,7 @@
 
 use crate::devices::calls::NOT_DUE;
 use crate::devices::plain::Slot;
-use plan_tables::SaveSettings;
+use machine_settings::SaveSettings;
 
 /// It is active no more.
 fn ended(slot: &mut Slot, answer: i64) -> i64 {

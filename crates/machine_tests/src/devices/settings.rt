@@ -1,9 +1,10 @@
 //! Settings of devices, by bits and numbers, and drawn at random.
 
-use plan_tables::{
-    BankSettings, BlockSettings, CounterSettings, Direction, MultiballSettings, SaveSettings,
-    Settings, StepSettings, TimerSettings,
+use machine_settings::{
+    BlockSettings, CounterSettings, Direction, MultiballSettings, SaveSettings, StepSettings,
+    TimerSettings,
 };
+use plan_tables::{BankSettings, Settings};
 
 /// A number below the limit. Numbers look random, and are the same in each run.
 pub(crate) fn draw(state: &mut u64, limit: u32) -> u32 {

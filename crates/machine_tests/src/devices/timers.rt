@@ -2,7 +2,7 @@
 
 use crate::devices::calls::NOT_DUE;
 use crate::devices::plain::{Slot, is_at_end, sum};
-use plan_tables::{Direction, TimerSettings};
+use machine_settings::{Direction, TimerSettings};
 
 /// The timer runs from now on.
 fn run(timer: &TimerSettings, slot: &mut Slot, now: u64) -> i64 {

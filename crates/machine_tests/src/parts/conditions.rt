@@ -3,7 +3,8 @@
 use crate::asserts::assert_right;
 use crate::parts::plans::{USUAL, game_plan};
 use crate::parts::seats::{Seats, variable};
-use plan_tables::{Comparison, Plan, VariableAction};
+use machine_settings::VariableAction;
+use plan_tables::{Comparison, Plan};
 use std::alloc::Global;
 
 /// A value, a number that it is compared with, and which of the comparisons hold, in their order.

@@ -1,6 +1,6 @@
 //! A plain model of the players: a number for each variable of each player.
 
-use plan_tables::VariableAction;
+use machine_settings::VariableAction;
 use std::alloc::Global;
 
 /// No value is further from 0.

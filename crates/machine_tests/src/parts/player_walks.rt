@@ -4,7 +4,8 @@ use crate::asserts::assert_right;
 use crate::parts::plain_players::{Book, GREATEST};
 use crate::parts::plans::{NOTHING, USUAL, draw, draw_short, game_plan, plan_of};
 use crate::parts::seats::{Seats, variable};
-use plan_tables::{Plan, VariableAction};
+use machine_settings::VariableAction;
+use plan_tables::Plan;
 use std::alloc::Global;
 
 /// How many changes there were, and how many of them ended at an end of the values.

@@ -2,7 +2,8 @@
 
 ghost use Rattle.std.specs.Prelude.{◌≡◌, length};
 
-use plan_tables::{Comparison, Condition, GameEvent, Plan, VariableAction, VariableId};
+use machine_settings::VariableAction;
+use plan_tables::{Comparison, Condition, GameEvent, Plan, VariableId};
 use player_game::{Game, GameWork, Players};
 use std::alloc::Global;
 

@@ -2,8 +2,9 @@ use Rattle.std.proofs.Common.{◌++◌, map, refl, ap, ◌∙◌}
 use Rattle.std.specs.List.{flat_map}
 use Rattle.mpf_sections.specs.View.{handler_view, block_view, counter_view}
 use Rattle.plan_tables.specs.declared.devices.Act.TheVariants.{Count}
+use Rattle.plan_tables.specs.declared.devices.Settings.TheVariants as kinds
 use Rattle.plan_tables.specs.declared.table.Table.TheVariants.{Events}
-use Rattle.row_contributions.specs.DeviceEntries.{acts, block_acts, block_mentions, block_lists, counter_settings, counter_device}
+use Rattle.row_contributions.specs.DeviceEntries.{acts, block_acts, block_mentions, block_lists, counter_device}
 use Rattle.row_contributions.specs.Contributions.{act_binding, effects_from}
 use Rattle.plan_contributions.specs.Contributions.{mentions}
 use Rattle.plan_contributions.specs.View.{contributions_view}
@@ -19,7 +20,7 @@ returns c =
     let one = contributions_view c.add.new.contributions.items in
     let counts = acts Count (map handler_view c.args.row.counts.now) in
     let others = block_acts (block_view c.args.row.block) in
-    let first = row_first old c.add.new.contributions.items place c.counter_settings.result (counter_settings row) c.in_ok-add.ensures c.counter_settings.ensures in
+    let first = row_first old c.add.new.contributions.items place (kinds.Counter row.settings) (kinds.Counter row.settings) c.in_ok-add.ensures refl in
     let acting = c.in_ok-collect_block_acts.ensures ∙ ap (λ l. l ++ flat_map f others) c.in_ok-collect_acts.ensures ∙ made_after f one counts others in
     let acted = contributions_view c.collect_block_acts.new.contributions.items in
     let block = block_view c.args.row.block in

@@ -1,0 +1,13 @@
+//! What is set of the parts of a machine, in words, numbers and flags: as a configuration says it, and as a plan has it.
+//!
+//! What is set by a name, such as a coil or an event, is not here: in a plan it is a number.
+#![tactic(auto)]
+
+pub mod settings;
+pub mod words;
+
+pub use settings::{
+    BlockSettings, CounterSettings, EjectSettings, MultiballSettings, SaveSettings, StepSettings,
+    TimerSettings,
+};
+pub use words::{Contact, Direction, VariableAction};

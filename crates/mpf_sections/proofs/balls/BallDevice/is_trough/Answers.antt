@@ -1,5 +1,0 @@
-use Rattle.std.proofs.Common.{rules}
-use Rattle.mpf_sections.proofs.balls.BallDevice.is_trough.Goals as goal
-
-pub returns : goal.returns
-returns c = search rules

@@ -1,7 +1,0 @@
-use Rattle.std.proofs.Common.{rules}
-use Rattle.mpf_sections.specs.TypedCoils.{coil_of}
-use Rattle.mpf_sections.proofs.coils.as_coil.Goals as goal
-
-pub returns : goal.returns
-unfolding coil_of
-returns c = search rules

@@ -1,5 +1,0 @@
-use Rattle.std.proofs.Common.{rules}
-use Rattle.yaml_bytes.proofs.scan.behind_blanks.Goals as goal
-
-pub returns : goal.returns
-returns c = search rules
