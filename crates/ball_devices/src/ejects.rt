@@ -1,8 +1,8 @@
 //! How a device ejects balls.
 
-ghost use Rattle.std.specs.Prelude.{◌≡◌, ◌<◌, ◌≤◌, ◌^◌, ◌++◌, length};
+ghost use Rattle.std.specs.Prelude.{◌≡◌, ◌<◌, ◌≤◌, ◌^◌, ◌++◌, length, is_some, IfSome};
 ghost use Rattle.arrayvec.specs.ArrayVec.{array_vec_len};
-ghost use Rattle.device_objects.specs.BallDevice.{attempt, begin, can_begin, confirm, confirmed, ended, overdue, gone, may_try_again, requested, stuck, time_out};
+ghost use Rattle.device_objects.specs.BallDevice.{attempt, begin, can_begin, confirm, confirmed, ended, overdue, gone, may_try_again, next_number, requested, stuck, time_out};
 
 use crate::switches::has_ball;
 use device_objects::{Attempt, BallState, Eject, Outcome};
@@ -76,13 +76,16 @@ pub(crate) fn begin(
     lists
 }
 
-/// Whether it may attempt once more after an attempt of this number.
-fn may_try_again(settings: &BallSettings, number: u16) -> bool
-    ensures { result ≡ may_try_again settings.now.ejects.max_attempts number }
+/// The number of the attempt after one of this number, if it may attempt once more. Without a limit
+/// attempts are not counted.
+fn next_attempt(settings: &BallSettings, number: u16) -> Option<u16>
+    ensures may { is_some result ≡ may_try_again settings.now.ejects.max_attempts number }
+    ensures next { IfSome result (λ next. next ≡ next_number settings.now.ejects.max_attempts number) }
 {
     match settings.ejects.max_attempts {
-        None => true,
-        Some(most) => number < most,
+        None => Some(number),
+        Some(most) if number < most => Some(number + 1),
+        Some(_) => None,
     }
 }
 
@@ -92,12 +95,7 @@ fn stuck(settings: &BallSettings, state: &mut BallState, now: u64, over: Attempt
     ensures state { state.new ≡ (stuck settings.now now over state.old).0 }
     ensures lists { result.items ≡ (stuck settings.now now over state.old).1 }
 {
-    if may_try_again(settings, over.number) {
-        let next = if over.number < 1000 {
-            over.number + 1
-        } else {
-            1000
-        };
+    if let Some(next) = next_attempt(settings, over.number) {
         attempt(settings, state, next, now);
         return answer(&[FAILED, ATTEMPTED]);
     }

@@ -17,7 +17,7 @@ use Rattle.device_objects.specs.declared.state.BallState.{BallState}
 use Rattle.device_objects.specs.declared.state.Eject.{Eject}
 use Rattle.device_objects.specs.declared.state.Eject.TheVariants.{Idle, Pulsing, Away}
 use Rattle.device_objects.specs.declared.state.DeviceState.TheVariants as states
-use Rattle.device_objects.specs.BallDevice.{empty, switch_at, set_switch, first_due, timeout_of, earlier, is_timeout_first, entered, attempted, left, lost, failed, attempt, can_begin, begin, after, ended, stuck, may_try_again, overdue, confirmed, time_out, confirm, turned, gone, count, count_due, fire, requested, act_step, ball_step}
+use Rattle.device_objects.specs.BallDevice.{empty, switch_at, set_switch, first_due, timeout_of, earlier, is_timeout_first, entered, attempted, left, lost, failed, attempt, can_begin, begin, after, ended, stuck, may_try_again, next_number, overdue, confirmed, time_out, confirm, turned, gone, count, count_due, fire, requested, act_step, ball_step}
 use Rattle.device_objects.specs.Laws.{IsAttempt, IsEjectOf, HasBallShape, MayCome}
 use Rattle.device_objects.specs.Outcomes.{only_if, may_begin, may_eject, ending, of_count, of_attempt, of_ball_fire, of_ball_act, outcomes}
 use Rattle.device_objects.proofs.Among.{In, here, there, at_last, at_left, at_right, if_holds, by, either}
@@ -109,7 +109,7 @@ module _ (d : BallSettings) where
       let again : List (List ℕ) = only_if (may_try_again d.ejects.max_attempts 1) ((failed ∷ attempted ∷ []) ∷ []) in
       let last : List (List ℕ) = only_if (is_some d.ejects.max_attempts) ((failed ∷ []) ∷ []) in
       either (may_try_again d.ejects.max_attempts a.number)
-      (after (failed ∷ []) (attempt d (min (suc a.number) 1000) now s))
+      (after (failed ∷ []) (attempt d (next_number d.ejects.max_attempts a.number) now s))
       (record s { eject = Idle; wanted = 0 }, failed ∷ [])
       (λ may. at_left last
       (if_holds (may_try_again d.ejects.max_attempts 1) (may_follow_first d.ejects.max_attempts a.number is.0 may) here))

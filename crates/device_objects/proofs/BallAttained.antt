@@ -1,7 +1,6 @@
 -- Each outcome of a ball device is the answer of some state.
-use Rattle.std.proofs.Common.{◌≡◌, ℕ, zero, suc, ◌+◌, ◌<◌, ◌≤◌, min, max, inl, inr, Bool, true, false, Option, None, Some, is_some, List, [], ◌∷◌, ◌++◌, ◌&&◌, ◌||◌, not, drop, replicate, nat_lt, refl, ap, ◌∙◌, arith}
+use Rattle.std.proofs.Common.{◌≡◌, ℕ, zero, suc, ◌+◌, ◌<◌, ◌≤◌, min, max, inl, inr, Bool, true, false, Option, None, Some, unwrap_or, is_some, List, [], ◌∷◌, ◌++◌, ◌&&◌, ◌||◌, not, drop, replicate, nat_lt, refl, ap, ◌∙◌, arith}
 use Rattle.std.specs.List.{All}
-use Rattle.std.specs.Option.{option_map_or}
 use Rattle.std.proofs.lemmas.Bool.{and_from, and_left, and_parts, cases_Bool, le-ltb, lt-ltb, ltb-true, or_cases, or_right, false≢true}
 use Rattle.std.proofs.lemmas.List.{append-nil}
 use Rattle.std.proofs.lemmas.List.Elements.{All-append, All-cons, All-drop, All-replicate}
@@ -9,7 +8,6 @@ use Rattle.plan_tables.specs.declared.devices.Act.{Act}
 use Rattle.plan_tables.specs.declared.devices.Act.TheVariants as acts
 use Rattle.plan_tables.specs.declared.devices.BallSettings.{BallSettings}
 use Rattle.plan_tables.specs.declared.devices.Settings.TheVariants as kinds
-use Rattle.machine_settings.specs.Limits.{IsAttemptsWithin}
 use Rattle.plan_tables.specs.Devices.{IsWithinLimits}
 use Rattle.device_objects.specs.declared.device.Call.{Call}
 use Rattle.device_objects.specs.declared.device.Call.TheVariants as calls
@@ -19,7 +17,7 @@ use Rattle.device_objects.specs.declared.state.BallState.{BallState}
 use Rattle.device_objects.specs.declared.state.Eject.{Eject}
 use Rattle.device_objects.specs.declared.state.Eject.TheVariants.{Idle, Pulsing, Away}
 use Rattle.device_objects.specs.declared.state.DeviceState.TheVariants as states
-use Rattle.device_objects.specs.BallDevice.{empty, first_state, set_switch, turned, entered, attempted, left, lost, failed, attempt, can_begin, begin, after, ended, may_try_again, overdue, confirmed, ball_step}
+use Rattle.device_objects.specs.BallDevice.{empty, first_state, set_switch, turned, entered, attempted, left, lost, failed, attempt, can_begin, begin, after, ended, may_try_again, next_number, overdue, confirmed, ball_step}
 use Rattle.device_objects.specs.Laws.{IsEjectOf, HasBallShape, IsAnswer, MayCome}
 use Rattle.device_objects.specs.Outcomes.{only_if, may_begin, may_eject, ending, of_count, of_attempt, of_ball_fire, of_ball_act, of_ball_device}
 use Rattle.device_objects.proofs.Among.{one, all_if, if_true, if_false}
@@ -50,10 +48,10 @@ unused zero b some = absurd (omega (arith, some))
 unused (suc n) b some = All-drop (λ c. c ≡ empty) n (replicate 15 empty) (All-replicate (λ c. c ≡ empty) 15 empty refl)
 
 -- the number of the last attempt, where there is one
-last_attempt : (most : Option ℕ) → IsAttemptsWithin most → is_some most ≡ true
-    → (n : ℕ) × (1 ≤ n) × (n ≤ max 1 (option_map_or (λ m. m) most 1000)) × (may_try_again most n ≡ false)
-last_attempt None within some = absurd (false≢true some)
-last_attempt (Some most) within some = (most, within.0, omega arith, le-ltb most most (omega arith))
+last_attempt : (most : Option ℕ) → is_some most ≡ true
+    → (n : ℕ) × (1 ≤ n) × (n ≤ max 1 (unwrap_or most 1)) × (may_try_again most n ≡ false)
+last_attempt None some = absurd (false≢true some)
+last_attempt (Some most) some = (max 1 most, omega arith, omega arith, le-ltb (max 1 most) most (omega arith))
 
 module _ (d : BallSettings) (limits : IsWithinLimits (kinds.BallDevice d)) where
   answered : (call : Call) (lists : List ℕ) (s : BallState) → HasBallShape d s → MayCome call (states.BallDevice s)
@@ -192,18 +190,18 @@ module _ (d : BallSettings) (limits : IsWithinLimits (kinds.BallDevice d)) where
       let s : BallState = bare (Pulsing (over 1)) in
       one Answer (failed ∷ attempted ∷ [])
       (answered calls.Fire (failed ∷ attempted ∷ []) s (bare-shape (Pulsing (over 1)) (coil, first_attempt d)) refl
-      (if_true (may_try_again d.ejects.max_attempts 1) (after (failed ∷ []) (attempt d 2 0 s))
+      (if_true (may_try_again d.ejects.max_attempts 1) (after (failed ∷ []) (attempt d (next_number d.ejects.max_attempts 1) 0 s))
       (record s { eject = Idle; wanted = 0 }, failed ∷ []) may))))
       (all_if Answer (is_some d.ejects.max_attempts) ((failed ∷ []) ∷ [])
-      (λ some. one Answer (failed ∷ []) (gives_up (last_attempt d.ejects.max_attempts limits.ejects.attempts some))))
+      (λ some. one Answer (failed ∷ []) (gives_up (last_attempt d.ejects.max_attempts some))))
     where
-      gives_up : (n : ℕ) × (1 ≤ n) × (n ≤ max 1 (option_map_or (λ m. m) d.ejects.max_attempts 1000))
+      gives_up : (n : ℕ) × (1 ≤ n) × (n ≤ max 1 (unwrap_or d.ejects.max_attempts 1))
           × (may_try_again d.ejects.max_attempts n ≡ false)
           → IsAnswer (kinds.BallDevice d) calls.Fire (failed ∷ [])
       gives_up last =
           let s : BallState = bare (Pulsing (over last.0)) in
           answered calls.Fire (failed ∷ []) s (bare-shape (Pulsing (over last.0)) (coil, (last.1, last.2))) refl
-          (if_false (may_try_again d.ejects.max_attempts last.0) (after (failed ∷ []) (attempt d (min (suc last.0) 1000) 0 s))
+          (if_false (may_try_again d.ejects.max_attempts last.0) (after (failed ∷ []) (attempt d (next_number d.ejects.max_attempts last.0) 0 s))
           (record s { eject = Idle; wanted = 0 }, failed ∷ []) last.3)
 
   fire-comes : All (IsAnswer (kinds.BallDevice d) calls.Fire) (of_ball_fire d)

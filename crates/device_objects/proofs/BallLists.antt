@@ -1,5 +1,5 @@
 -- Each effect list that a ball device answers is one of its seven.
-use Rattle.std.proofs.Common.{ℕ, suc, ◌+◌, ◌<◌, min, Bool, true, false, Option, None, Some, is_some, List, [], ◌∷◌, ◌++◌, ◌&&◌, nat_lt, if◌then◌else◌, arith}
+use Rattle.std.proofs.Common.{ℕ, ◌+◌, ◌<◌, min, Bool, true, false, Option, None, Some, is_some, List, [], ◌∷◌, ◌++◌, ◌&&◌, nat_lt, if◌then◌else◌, arith}
 use Rattle.std.specs.List.{All}
 use Rattle.std.proofs.lemmas.List.Elements.{All-append, All-cons}
 use Rattle.plan_tables.specs.declared.devices.Act.{Act}
@@ -13,7 +13,7 @@ use Rattle.device_objects.specs.declared.state.Attempt.{Attempt}
 use Rattle.device_objects.specs.declared.state.BallState.{BallState}
 use Rattle.device_objects.specs.declared.state.Eject.{Eject}
 use Rattle.device_objects.specs.declared.state.Eject.TheVariants.{Idle, Pulsing, Away}
-use Rattle.device_objects.specs.BallDevice.{switch_at, set_switch, first_due, timeout_of, is_timeout_first, entered, attempted, left, lost, failed, succeeded, arrived, attempt, can_begin, begin, after, ended, stuck, may_try_again, overdue, confirmed, time_out, confirm, turned, gone, count, count_due, fire, requested, act_step, ball_step}
+use Rattle.device_objects.specs.BallDevice.{switch_at, set_switch, first_due, timeout_of, is_timeout_first, entered, attempted, left, lost, failed, succeeded, arrived, attempt, can_begin, begin, after, ended, stuck, may_try_again, next_number, overdue, confirmed, time_out, confirm, turned, gone, count, count_due, fire, requested, act_step, ball_step}
 use Rattle.device_objects.specs.Outcomes.{only_if, may_begin, may_eject, ending, of_count, of_attempt, of_ball_fire, of_ball_act, of_ball_device}
 use Rattle.device_objects.proofs.Among.{none, one, all_if}
 
@@ -110,7 +110,7 @@ module _ (d : BallSettings) where
   stuck-lists : (now : ℕ) (a : Attempt) (s : BallState) → AreLists (stuck d now a s).1
   stuck-lists now a s =
       either (may_try_again d.ejects.max_attempts a.number)
-      (after (failed ∷ []) (attempt d (min (suc a.number) 1000) now s))
+      (after (failed ∷ []) (attempt d (next_number d.ejects.max_attempts a.number) now s))
       (record s { eject = Idle; wanted = 0 }, failed ∷ [])
       (two_lists failed attempted (omega arith) (omega arith)) (one_list failed (omega arith))
 

@@ -17,7 +17,7 @@ use Rattle.device_objects.specs.declared.state.Eject.{Eject}
 use Rattle.device_objects.specs.declared.state.Eject.TheVariants.{Idle, Pulsing, Away}
 use Rattle.device_objects.specs.declared.state.DeviceState.TheVariants as states
 use Rattle.device_objects.specs.declared.state.World.{World}
-use Rattle.device_objects.specs.BallDevice.{empty, switch_at, set_switch, first_due, first_due_from, timeout_of, earlier, due_of, parts, part_due, is_timeout_first, entered, left, lost, failed, attempt, can_begin, begin, after, ended, stuck, may_try_again, time_out, confirm, delay, counts_otherwise, noted, switched, turned, gone, count, count_due, fire, fire_part, requested, act_step, halted, not_due, ball_step}
+use Rattle.device_objects.specs.BallDevice.{empty, switch_at, set_switch, first_due, first_due_from, timeout_of, earlier, due_of, parts, part_due, is_timeout_first, entered, left, lost, failed, attempt, can_begin, begin, after, ended, stuck, may_try_again, next_number, time_out, confirm, delay, counts_otherwise, noted, switched, turned, gone, count, count_due, fire, fire_part, requested, act_step, halted, not_due, ball_step}
 use Rattle.device_objects.specs.DeviceStep.{ball_answer}
 use Rattle.device_objects.specs.Laws.{IsDone, IsFirstPart, FiresFirstPart}
 use Rattle.device_objects.proofs.BallDue.{not_due-none, first_due-none, first_due-is_due, first_due-is_first, first_due-is_lowest, due-inside, part-of_switch, part-of_attempt, part-past, switch-is_part, which_part}
@@ -69,7 +69,7 @@ module _ (d : BallSettings) (now : ℕ) (limits : IsBallDeviceWithin d) (old : B
   stuck-later : (a : Attempt) (s : BallState) → IsLater s → IsLater (stuck d now a s).0
   stuck-later a s h =
       either (may_try_again d.ejects.max_attempts a.number)
-      (after (failed ∷ []) (attempt d (min (suc a.number) 1000) now s))
+      (after (failed ∷ []) (attempt d (next_number d.ejects.max_attempts a.number) now s))
       (record s { eject = Idle; wanted = 0 }, failed ∷ []) (h.0, armed, h.2) (h.0, idle, h.2)
 
   time_out-later : (eject : Eject) (s : BallState) → IsLater s → IsLater (time_out d now eject s).0
@@ -223,7 +223,7 @@ module _ (d : BallSettings) (now : ℕ) (limits : IsBallDeviceWithin d) where
   time_out-after Idle s some = absurd (false≢true some)
   time_out-after (Pulsing a) s some =
       either_after (may_try_again d.ejects.max_attempts a.number)
-      (after (failed ∷ []) (attempt d (min (suc a.number) 1000) now s))
+      (after (failed ∷ []) (attempt d (next_number d.ejects.max_attempts a.number) now s))
       (record s { eject = Idle; wanted = 0 }, failed ∷ []) armed_after tt
   time_out-after (Away a) s some =
       either_after (can_begin d (ended s)) (attempt d 1 now (ended s)) (ended s, []) armed_after tt
@@ -245,7 +245,7 @@ module _ (d : BallSettings) (now : ℕ) (limits : IsBallDeviceWithin d) where
   time_out-switches Idle s = refl
   time_out-switches (Pulsing a) s =
       either_switches s.switches (may_try_again d.ejects.max_attempts a.number)
-      (after (failed ∷ []) (attempt d (min (suc a.number) 1000) now s))
+      (after (failed ∷ []) (attempt d (next_number d.ejects.max_attempts a.number) now s))
       (record s { eject = Idle; wanted = 0 }, failed ∷ []) refl refl
   time_out-switches (Away a) s =
       either_switches s.switches (can_begin d (ended s)) (attempt d 1 now (ended s)) (ended s, []) refl refl

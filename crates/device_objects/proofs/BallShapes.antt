@@ -1,7 +1,6 @@
 -- Ball devices keep their shape.
-use Rattle.std.proofs.Common.{◌≡◌, ℕ, suc, ◌+◌, ◌-◌, ◌<◌, ◌≤◌, min, max, inl, inr, Bool, true, false, Option, None, Some, List, [], ◌∷◌, length, get_or, set, drop, map, replicate, nat_lt, if◌then◌else◌, refl, sym, ap, ◌∙◌, arith}
+use Rattle.std.proofs.Common.{◌≡◌, ℕ, ◌+◌, ◌-◌, ◌<◌, ◌≤◌, min, max, inl, inr, Bool, true, false, Option, None, Some, unwrap_or, List, [], ◌∷◌, length, get_or, set, drop, map, replicate, nat_lt, if◌then◌else◌, refl, sym, ap, ◌∙◌, arith}
 use Rattle.std.specs.List.{All}
-use Rattle.std.specs.Option.{option_map_or}
 use Rattle.std.proofs.lemmas.Bool.{and_parts, cases_lt, ltb-true, or_left, or_right}
 use Rattle.std.proofs.lemmas.List.{drop-map, get_or-drop, get_or_past, length-drop, length-map, length-set, drop-set-lt}
 use Rattle.std.proofs.lemmas.List.Elements.{All-drop, All-map, All-replicate, All-same, All-weaker}
@@ -16,7 +15,7 @@ use Rattle.device_objects.specs.declared.state.BallSwitch.{BallSwitch}
 use Rattle.device_objects.specs.declared.state.BallState.{BallState}
 use Rattle.device_objects.specs.declared.state.Eject.{Eject}
 use Rattle.device_objects.specs.declared.state.Eject.TheVariants.{Idle, Pulsing, Away}
-use Rattle.device_objects.specs.BallDevice.{empty, first_state, switch_at, set_switch, has_ball, first_due, timeout_of, is_timeout_first, left, lost, failed, attempt, can_begin, is_idle, begin, after, ended, stuck, may_try_again, time_out, confirm, noted, switched, turned, gone, count, count_due, entered, fire, requested, act_step, halted, not_due, ball_step}
+use Rattle.device_objects.specs.BallDevice.{empty, first_state, switch_at, set_switch, has_ball, first_due, timeout_of, is_timeout_first, left, lost, failed, attempt, can_begin, is_idle, begin, after, ended, stuck, may_try_again, next_number, time_out, confirm, noted, switched, turned, gone, count, count_due, entered, fire, requested, act_step, halted, not_due, ball_step}
 use Rattle.device_objects.specs.Laws.{IsAttempt, IsEjectOf, HasBallShape}
 use Rattle.device_objects.proofs.BallDue.{first_due-is_due}
 
@@ -53,11 +52,15 @@ not_due-empty bs unused =
 
 -- ---- states
 
--- the number of the next attempt
-next-within : (most : Option ℕ) (number : ℕ) → may_try_again most number ≡ true
-    → min (suc number) 1000 ≤ max 1 (option_map_or (λ m. m) most 1000)
-next-within None number may = omega arith
-next-within (Some most) number may = let below : number < most = ltb-true number most may in omega (arith, below)
+-- the next attempt is one that the device can make
+next-within : (d : BallSettings) (number : ℕ) → IsAttempt d number → may_try_again d.ejects.max_attempts number ≡ true
+    → IsAttempt d (next_number d.ejects.max_attempts number)
+next-within d number is may = by d.ejects.max_attempts is may
+  where
+    by : (most : Option ℕ) → (1 ≤ number) × (number ≤ max 1 (unwrap_or most 1)) → may_try_again most number ≡ true
+        → (1 ≤ next_number most number) × (next_number most number ≤ max 1 (unwrap_or most 1))
+    by None is may = is
+    by (Some most) is may = let below : number < most = ltb-true number most may in (omega arith, omega (arith, below))
 
 module _ (d : BallSettings) where
   pub first_attempt : IsAttempt d 1
@@ -120,20 +123,20 @@ module _ (d : BallSettings) where
   pub ended-shape : (s : BallState) → HasBallShape d s → HasBallShape d (ended s)
   ended-shape s shape = with_eject s Idle (s.wanted - 1) shape tt (omega (arith, shape.wanted))
 
-  stuck-shape : (now : ℕ) (a : Attempt) (s : BallState) → d.has_coil ≡ true → HasBallShape d s
+  stuck-shape : (now : ℕ) (a : Attempt) (s : BallState) → IsEjectOf d (Pulsing a) → HasBallShape d s
       → HasBallShape d (stuck d now a s).0
-  stuck-shape now a s coil shape =
+  stuck-shape now a s is shape =
       one_answer (may_try_again d.ejects.max_attempts a.number)
-      (after (failed ∷ []) (attempt d (min (suc a.number) 1000) now s))
+      (after (failed ∷ []) (attempt d (next_number d.ejects.max_attempts a.number) now s))
       (record s { eject = Idle; wanted = 0 }, failed ∷ [])
-      (λ may. attempt-shape (min (suc a.number) 1000) now s coil
-      (omega arith, next-within d.ejects.max_attempts a.number may) shape)
+      (λ may. attempt-shape (next_number d.ejects.max_attempts a.number) now s is.0
+      (next-within d a.number is.1 may) shape)
       (with_eject s Idle 0 shape tt (omega arith))
 
   time_out-shape : (now : ℕ) (eject : Eject) (s : BallState) → IsEjectOf d eject → HasBallShape d s
       → HasBallShape d (time_out d now eject s).0
   time_out-shape now Idle s is shape = shape
-  time_out-shape now (Pulsing a) s is shape = stuck-shape now a s is.0 shape
+  time_out-shape now (Pulsing a) s is shape = stuck-shape now a s is shape
   time_out-shape now (Away a) s is shape = begin-shape now (ended s) (ended-shape s shape)
 
   confirm-shape : (now : ℕ) (eject : Eject) (s : BallState) → HasBallShape d s

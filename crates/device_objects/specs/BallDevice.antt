@@ -144,11 +144,16 @@ abbrev pub may_try_again : Option ℕ → ℕ → Bool
 may_try_again None number = true
 may_try_again (Some most) number = nat_lt number most
 
+-- the number of the attempt after the one of this number: without a limit attempts are not counted
+abbrev pub next_number : Option ℕ → ℕ → ℕ
+next_number None number = number
+next_number (Some most) number = suc number
+
 -- an attempt is over before the ball has left: it tries again, or gives up
 abbrev pub stuck : BallSettings → ℕ → Attempt → BallState → BallState × List ℕ
 stuck d now a s =
     if may_try_again d.ejects.max_attempts a.number
-    then after (failed ∷ []) (attempt d (min (suc a.number) 1000) now s)
+    then after (failed ∷ []) (attempt d (next_number d.ejects.max_attempts a.number) now s)
     else (record s { eject = Idle; wanted = 0 }, failed ∷ [])
 
 -- The ball on its way did not arrive in time: it counts as being on the playfield.

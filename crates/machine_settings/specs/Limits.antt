@@ -1,5 +1,5 @@
 -- The limits of settings.
-use Rattle.std.specs.Prelude.{ℕ, ◌≤◌, ℤ, pos, neg_ℤ, ◌≤ℤ◌, Option, IfSome}
+use Rattle.std.specs.Prelude.{◌≤◌, ℤ, pos, neg_ℤ, ◌≤ℤ◌, Option, IfSome}
 use Rattle.machine_settings.specs.declared.settings.CounterSettings.{CounterSettings}
 use Rattle.machine_settings.specs.declared.settings.StepSettings.{StepSettings}
 use Rattle.machine_settings.specs.declared.settings.TimerSettings.{TimerSettings}
@@ -15,10 +15,6 @@ IsNumberWithin n = (neg_ℤ (pos 1000000000) ≤ℤ n) × (n ≤ℤ pos 10000000
 abbrev pub IsEndWithin : Option ℤ → Type 0
 IsEndWithin end = IfSome end IsNumberWithin
 
--- how many attempts there may be
-abbrev pub IsAttemptsWithin : Option ℕ → Type 0
-IsAttemptsWithin attempts = IfSome attempts (λ n. (1 ≤ n) × (n ≤ 1000))
-
 -- the end of a counter is one that a value can pass
 abbrev pub IsCounterWithin : CounterSettings → Type 0
 IsCounterWithin c = IsEndWithin c.complete
@@ -31,12 +27,11 @@ AreStepsWithin s = s.steps ≤ 16
 abbrev pub IsTimerWithin : TimerSettings → Type 0
 IsTimerWithin t = (1 ≤ t.interval) × IsEndWithin t.end
 
--- each delay of a ball device is of at least a millisecond, and it makes at least one attempt
+-- each delay of a ball device is of at least a millisecond
 pub record IsEjectWithin (e : EjectSettings) : Type 0 where
   pub entrance : 1 ≤ e.entrance_delay
   pub exit : 1 ≤ e.exit_delay
   pub timeout : 1 ≤ e.timeout
-  pub attempts : IsAttemptsWithin e.max_attempts
 
 -- a ball save saves 1 to 99 balls
 abbrev pub IsSaveWithin : SaveSettings → Type 0

@@ -3,7 +3,7 @@
 use crate::words::Direction;
 
 /// The settings that all logic blocks have.
-#[derive(Clone, Copy)]
+#[derive(Clone, Copy, PartialEq, Eq)]
 pub struct BlockSettings {
     /// Whether the block is enabled at first: no event enables it.
     pub enabled: bool,
@@ -16,7 +16,7 @@ pub struct BlockSettings {
 }
 
 /// A counter.
-#[derive(Clone, Copy)]
+#[derive(Clone, Copy, PartialEq, Eq)]
 pub struct CounterSettings {
     pub block: BlockSettings,
     /// Its value at first.
@@ -31,7 +31,7 @@ pub struct CounterSettings {
 }
 
 /// An accrual, or a sequence.
-#[derive(Clone, Copy)]
+#[derive(Clone, Copy, PartialEq, Eq)]
 pub struct StepSettings {
     pub block: BlockSettings,
     /// How many steps it has: at most 16.
@@ -39,7 +39,7 @@ pub struct StepSettings {
 }
 
 /// A timer.
-#[derive(Clone, Copy)]
+#[derive(Clone, Copy, PartialEq, Eq)]
 pub struct TimerSettings {
     /// Its value at first.
     pub start: i64,
@@ -55,7 +55,7 @@ pub struct TimerSettings {
 }
 
 /// How a ball device counts its balls, and ejects them.
-#[derive(Clone, Copy)]
+#[derive(Clone, Copy, PartialEq, Eq)]
 pub struct EjectSettings {
     /// How many milliseconds a ball switch has to be active before its ball counts: at least 1.
     pub entrance_delay: u32,
@@ -63,7 +63,7 @@ pub struct EjectSettings {
     pub exit_delay: u32,
     /// An attempt to eject a ball is over after this many milliseconds: at least 1.
     pub timeout: u32,
-    /// How many attempts it makes to eject a ball, from 1 to 1,000; none: until the ball has left.
+    /// How many attempts it makes to eject a ball; none: until the ball has left.
     pub max_attempts: Option<u16>,
     /// Whether a ball that leaves while none is ejected counts as ejected, as from a plunger that is pulled by
     /// hand.
@@ -71,7 +71,7 @@ pub struct EjectSettings {
 }
 
 /// A ball save, which gives balls back that drain while it is active.
-#[derive(Clone, Copy)]
+#[derive(Clone, Copy, PartialEq, Eq)]
 pub struct SaveSettings {
     /// It is disabled so many milliseconds after it was enabled; 0: it has no end of its own.
     pub active_time: u32,
@@ -80,104 +80,8 @@ pub struct SaveSettings {
 }
 
 /// A multiball.
-#[derive(Clone, Copy)]
+#[derive(Clone, Copy, PartialEq, Eq)]
 pub struct MultiballSettings {
     /// At least so many balls are in play from its start on: from 2 to 99.
     pub balls: u8,
-}
-
-// ---- whether two are the same
-
-impl BlockSettings {
-    ghost use Rattle.std.specs.Prelude.{◌≡◌, ◌↔◌, IsTrue};
-
-    /// Whether the two are the same.
-    pub fn is(&self, other: &BlockSettings) -> bool
-        ensures { IsTrue result ↔ (self.now ≡ other.now) }
-    {
-        self.enabled == other.enabled
-            && self.reset_on_complete == other.reset_on_complete
-            && self.disable_on_complete == other.disable_on_complete
-            && self.persist == other.persist
-    }
-}
-
-impl CounterSettings {
-    ghost use Rattle.std.specs.Prelude.{◌≡◌, ◌↔◌, IsTrue};
-
-    /// Whether the two are the same.
-    pub fn is(&self, other: &CounterSettings) -> bool
-        ensures { IsTrue result ↔ (self.now ≡ other.now) }
-    {
-        self.block.is(&other.block)
-            && self.start == other.start
-            && self.interval == other.interval
-            && self.direction.is(other.direction)
-            && self.complete == other.complete
-            && self.window == other.window
-    }
-}
-
-impl StepSettings {
-    ghost use Rattle.std.specs.Prelude.{◌≡◌, ◌↔◌, IsTrue};
-
-    /// Whether the two are the same.
-    pub fn is(&self, other: &StepSettings) -> bool
-        ensures { IsTrue result ↔ (self.now ≡ other.now) }
-    {
-        self.block.is(&other.block) && self.steps == other.steps
-    }
-}
-
-impl TimerSettings {
-    ghost use Rattle.std.specs.Prelude.{◌≡◌, ◌↔◌, IsTrue};
-
-    /// Whether the two are the same.
-    pub fn is(&self, other: &TimerSettings) -> bool
-        ensures { IsTrue result ↔ (self.now ≡ other.now) }
-    {
-        self.start == other.start
-            && self.end == other.end
-            && self.direction.is(other.direction)
-            && self.interval == other.interval
-            && self.start_running == other.start_running
-            && self.restart == other.restart
-    }
-}
-
-impl EjectSettings {
-    ghost use Rattle.std.specs.Prelude.{◌≡◌, ◌↔◌, IsTrue};
-
-    /// Whether the two are the same.
-    pub fn is(&self, other: &EjectSettings) -> bool
-        ensures { IsTrue result ↔ (self.now ≡ other.now) }
-    {
-        self.entrance_delay == other.entrance_delay
-            && self.exit_delay == other.exit_delay
-            && self.timeout == other.timeout
-            && self.max_attempts == other.max_attempts
-            && self.mechanical == other.mechanical
-    }
-}
-
-impl SaveSettings {
-    ghost use Rattle.std.specs.Prelude.{◌≡◌, ◌↔◌, IsTrue};
-
-    /// Whether the two are the same.
-    pub fn is(&self, other: &SaveSettings) -> bool
-        ensures { IsTrue result ↔ (self.now ≡ other.now) }
-    {
-        self.active_time == other.active_time && self.balls == other.balls
-    }
-}
-
-impl MultiballSettings {
-    ghost use Rattle.std.specs.Prelude.{◌≡◌, ◌↔◌, IsTrue};
-
-    /// Whether the two are the same.
-    pub fn is(&self, other: &MultiballSettings) -> bool
-        ensures { IsTrue result ↔ (self.now ≡ other.now) }
-    {
-        self.balls == other.balls
-    }
 }

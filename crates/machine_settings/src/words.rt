@@ -1,7 +1,7 @@
 //! What the words in settings say.
 
 /// The state of a switch's contact while nothing presses it.
-#[derive(Clone, Copy, Debug)]
+#[derive(Clone, Copy, Debug, PartialEq, Eq)]
 pub enum Contact {
     /// Open: raw level 1 is active.
     NormallyOpen,
@@ -10,26 +10,15 @@ pub enum Contact {
 }
 
 /// Which way a value goes.
-#[derive(Clone, Copy, Debug)]
+#[derive(Clone, Copy, Debug, PartialEq, Eq)]
 pub enum Direction {
     Up,
     Down,
 }
 
 impl Direction {
-    ghost use Rattle.std.specs.Prelude.{◌≡◌, ◌↔◌, IsTrue};
+    ghost use Rattle.std.specs.Prelude.{◌≡◌};
     ghost use Rattle.machine_settings.specs.Ends.{is_at_end};
-
-    /// Whether the two are the same.
-    pub fn is(self, other: Direction) -> bool
-        ensures { IsTrue result ↔ (self ≡ other) }
-    {
-        match (self, other) {
-            (Direction::Up, Direction::Up) => true,
-            (Direction::Down, Direction::Down) => true,
-            _ => false,
-        }
-    }
 
     /// Whether a value that goes this way has reached or passed its end, if it has one.
     pub fn is_at_end(self, end: Option<i64>, value: i64) -> bool
@@ -44,7 +33,7 @@ impl Direction {
 }
 
 /// What is done with a variable.
-#[derive(Clone, Copy, Debug)]
+#[derive(Clone, Copy, Debug, PartialEq, Eq)]
 pub enum VariableAction {
     /// The number is added to it.
     Add,

@@ -1,5 +1,5 @@
 -- What holds of ball devices, by the names of their settings: their names are names, and their settings are in their ranges.
-use Rattle.std.proofs.Common.{◌≡◌, ℕ, zero, suc, ◌≤◌, map, slice_get, refl, arith}
+use Rattle.std.proofs.Common.{◌≡◌, map, slice_get, refl}
 use Rattle.std.specs.List.{All}
 use Rattle.section_tables.specs.Rows.{Entry}
 use Rattle.section_tables.specs.Entries.{written_at}
@@ -7,16 +7,15 @@ use Rattle.section_tables.specs.Named.{IsNamedEntry, IsShortEntry}
 use Rattle.mpf_tables.specs.SectionTables as tables
 use Rattle.mpf_sections.specs.Rows.{SectionRows}
 use Rattle.mpf_sections.specs.Typed.{text_of, listed_names, name_in, entries_of}
-use Rattle.mpf_sections.specs.TypedBalls.{ball_devices_name, playfield, attempts_of, ball_device_of, ball_devices_in}
+use Rattle.mpf_sections.specs.TypedBalls.{ball_devices_name, playfield, ball_device_of, ball_devices_in}
 use Rattle.mpf_sections.specs.Named.{IsNamedBallDevice, IsNamed}
-use Rattle.machine_settings.specs.Limits.{IsAttemptsWithin}
 use Rattle.mpf_sections.specs.Short.{IsShortBallDevice, IsShortSection}
 use Rattle.mpf_tables.proofs.TableNames.{playfield_named}
 use Rattle.mpf_sections.proofs.Each.{made_each}
 use Rattle.mpf_sections.proofs.RowNames.{is_name, value_at_named, names_named, entries_of_named}
 use Rattle.mpf_sections.proofs.ShortRows.{value_at_short, names_short, entries_of_short}
 use Rattle.mpf_sections.proofs.CoilRows.{written_named, some_named, either_named}
-use Rattle.mpf_sections.proofs.NumberRows.{natural_in_range, time_in_range}
+use Rattle.mpf_sections.proofs.NumberRows.{time_in_range}
 use Rattle.mpf_sections.proofs.ShotRows.{few_all, few_short}
 
 -- ---- names
@@ -39,10 +38,6 @@ ball_devices_named s h = made_each IsNamedBallDevice ball_device_of ball_device_
 
 -- ---- ranges
 
-attempts_in_range : (n : ℕ) → n ≤ 1000 → IsAttemptsWithin (attempts_of n)
-attempts_in_range zero few = tt
-attempts_in_range (suc n) few = (omega arith, few)
-
 -- The settings of a ball device are in their ranges.
 pub ball_device_short : (e : Entry) → IsShortEntry 1024 e → IsShortBallDevice (ball_device_of e)
 unfolding ball_device_of
@@ -52,7 +47,6 @@ ball_device_short e h = record {
     entrance = (time_in_range (slice_get tables.ball_devices 4) (slice_get e.values 4) refl).0;
     exit = (time_in_range (slice_get tables.ball_devices 5) (slice_get e.values 5) refl).0;
     timeout = (time_in_range (slice_get tables.ball_devices 3) (slice_get e.values 3) refl).0;
-    attempts = attempts_in_range _ (natural_in_range (slice_get tables.ball_devices 7) (slice_get e.values 7) refl).1;
   };
   tags = names_short (slice_get e.values 8) (value_at_short e.values 8 h);
 }

@@ -6,11 +6,11 @@ use machine_settings::{
 };
 
 /// A device, by the number of its row in plan order: below 1,024.
-#[derive(Clone, Copy, Debug)]
+#[derive(Clone, Copy, Debug, PartialEq, Eq)]
 pub struct RowId(pub u16);
 
 /// A bank of shots: a group, or a lone shot. All its shots have the same profile.
-#[derive(Clone, Copy)]
+#[derive(Clone, Copy, PartialEq, Eq)]
 pub struct BankSettings {
     /// How many shots it has: at most 16.
     pub shots: u8,
@@ -27,7 +27,7 @@ pub struct BankSettings {
 }
 
 /// Where a ball device ejects its balls to.
-#[derive(Clone, Copy, Debug)]
+#[derive(Clone, Copy, Debug, PartialEq, Eq)]
 pub enum BallTarget {
     /// Onto the playfield.
     Playfield,
@@ -52,7 +52,7 @@ impl BallTarget {
 }
 
 /// A ball device, such as a trough or a plunger: it has room for a ball at each of its ball switches.
-#[derive(Clone, Copy)]
+#[derive(Clone, Copy, PartialEq, Eq)]
 pub struct BallSettings {
     /// How many ball switches it has: at most 16.
     pub switches: u8,
@@ -69,7 +69,7 @@ pub struct BallSettings {
 }
 
 /// Of which kind a device is, and its settings.
-#[derive(Clone, Copy)]
+#[derive(Clone, Copy, PartialEq, Eq)]
 pub enum Settings {
     Counter(CounterSettings),
     Accrual(StepSettings),
@@ -178,7 +178,7 @@ impl BankSettings {
 }
 
 /// A device of a plan.
-#[derive(Clone, Copy)]
+#[derive(Clone, Copy, PartialEq, Eq)]
 pub struct DeviceRow {
     /// The number of its row.
     pub number: RowId,

@@ -59,7 +59,7 @@ pub struct ListId(pub u32);
 pub struct BindingId(pub u16);
 
 /// A mode, by its place in the list of the machine's modes: below 64.
-#[derive(Clone, Copy, Debug)]
+#[derive(Clone, Copy, Debug, PartialEq, Eq)]
 pub struct ModeId(pub u16);
 
 /// Which of the five events of a mode.
@@ -191,7 +191,7 @@ pub enum Work {
 }
 
 /// Who acts.
-#[derive(Clone, Copy, Debug)]
+#[derive(Clone, Copy, Debug, PartialEq, Eq)]
 pub enum Owner {
     /// What the machine text has.
     Machine,

@@ -1,12 +1,12 @@
 -- What the alarm of a ball device does with its ball switches.
-use Rattle.std.proofs.Common.{◌≡◌, ℕ, suc, ◌+◌, ◌≤◌, min, inl, inr, ◌⊎◌, false, Option, Some, None, List, [], ◌∷◌, slice_set, get_or, option_map, refl, ap, ◌∙◌, subst, arith}
+use Rattle.std.proofs.Common.{◌≡◌, ℕ, ◌+◌, ◌≤◌, min, inl, inr, ◌⊎◌, false, Option, Some, None, List, [], ◌∷◌, slice_set, get_or, option_map, refl, ap, ◌∙◌, subst, arith}
 use Rattle.std.proofs.lemmas.Bool.{cond_both, ltb-false}
 use Rattle.std.proofs.lemmas.Option.{same_Some}
 use Rattle.plan_tables.specs.declared.devices.BallSettings.{BallSettings}
 use Rattle.device_objects.specs.declared.state.BallState.{BallState}
 use Rattle.device_objects.specs.declared.state.Eject.{Eject}
 use Rattle.device_objects.specs.declared.state.Eject.TheVariants.{Idle, Pulsing, Away}
-use Rattle.device_objects.specs.BallDevice.{empty, switch_at, set_switch, first_due, timeout_of, earlier, is_timeout_first, entered, left, lost, failed, attempt, begin, after, ended, may_try_again, time_out, turned, gone, count, count_due, fire, due_of}
+use Rattle.device_objects.specs.BallDevice.{empty, switch_at, set_switch, first_due, timeout_of, earlier, is_timeout_first, entered, left, lost, failed, attempt, begin, after, ended, may_try_again, next_number, time_out, turned, gone, count, count_due, fire, due_of}
 use Rattle.device_objects.proofs.BallDue.{first_due-is_due}
 use Rattle.written_machine.proofs.BallSteps.{begin-begun}
 
@@ -30,7 +30,7 @@ module _ (d : BallSettings) where
   time_out-switches : (now : ℕ) (eject : Eject) (b : BallState) → (time_out d now eject b).0.switches ≡ b.switches
   time_out-switches now Idle b = refl
   time_out-switches now (Pulsing a) b =
-      cond_both {A = BallState × List ℕ} (may_try_again d.ejects.max_attempts a.number) (after (failed ∷ []) (attempt d (min (suc a.number) 1000) now b))
+      cond_both {A = BallState × List ℕ} (may_try_again d.ejects.max_attempts a.number) (after (failed ∷ []) (attempt d (next_number d.ejects.max_attempts a.number) now b))
       (record b { eject = Idle; wanted = 0 }, failed ∷ []) (λ x. x.0.switches ≡ b.switches) (λ may. refl) (λ not. refl)
   time_out-switches now (Away a) b = let begun = begin-begun d now (ended b) in begun.same.switches
 

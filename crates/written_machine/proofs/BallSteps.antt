@@ -1,5 +1,5 @@
 -- What each call of a ball device leads to: how many balls count in it then, whether it is Away, and what its lists book.
-use Rattle.std.proofs.Common.{◌≡◌, ℕ, suc, ◌+◌, ◌<◌, ◌≤◌, min, inl, inr, ◌⊎◌, Bool, true, false, not, cond, Option, None, Some, List, [], ◌∷◌, ◌&&◌, length, nat_lt, refl, sym, ap, ◌∙◌, arith}
+use Rattle.std.proofs.Common.{◌≡◌, ℕ, ◌+◌, ◌<◌, ◌≤◌, min, inl, inr, ◌⊎◌, Bool, true, false, not, cond, Option, None, Some, List, [], ◌∷◌, ◌&&◌, length, nat_lt, refl, sym, ap, ◌∙◌, arith}
 use Rattle.std.specs.List.{count_by}
 use Rattle.std.proofs.lemmas.Bool.{and_parts, cases_lt, cond_both, false≢true}
 use Rattle.std.proofs.lemmas.List.{get_or_past, set_past}
@@ -18,7 +18,7 @@ use Rattle.device_objects.specs.declared.state.BallSwitch.{BallSwitch}
 use Rattle.device_objects.specs.declared.state.BallState.{BallState}
 use Rattle.device_objects.specs.declared.state.Eject.{Eject}
 use Rattle.device_objects.specs.declared.state.Eject.TheVariants.{Idle, Pulsing, Away}
-use Rattle.device_objects.specs.BallDevice.{empty, switch_at, set_switch, first_due, timeout_of, is_timeout_first, entered, attempted, left, lost, succeeded, arrived, failed, attempt, can_begin, is_idle, is_away, begin, after, ended, stuck, may_try_again, overdue, confirmed, time_out, confirm, noted, switched, turned, gone, count, count_due, fire, requested, act_step, ball_step}
+use Rattle.device_objects.specs.BallDevice.{empty, switch_at, set_switch, first_due, timeout_of, is_timeout_first, entered, attempted, left, lost, succeeded, arrived, failed, attempt, can_begin, is_idle, is_away, begin, after, ended, stuck, may_try_again, next_number, overdue, confirmed, time_out, confirm, noted, switched, turned, gone, count, count_due, fire, requested, act_step, ball_step}
 use Rattle.device_objects.proofs.BallDue.{first_due-is_due}
 use Rattle.ball_devices.proofs.Booked.{one}
 
@@ -99,9 +99,9 @@ module _ (d : BallSettings) (enter : Type 0) where
   stuck-answer : (now : ℕ) (a : Attempt) (s : BallState) → is_away s.eject ≡ false → IsAnswer enter s (stuck d now a s)
   stuck-answer now a s not_yet =
       cond_both (may_try_again d.ejects.max_attempts a.number)
-      (after (failed ∷ []) (attempt d (min (suc a.number) 1000) now s))
+      (after (failed ∷ []) (attempt d (next_number d.ejects.max_attempts a.number) now s))
       (record s { eject = Idle; wanted = 0 }, failed ∷ []) (IsAnswer enter s)
-      (λ may. nothing (record s { eject = Pulsing (record { number = min (suc a.number) 1000; timeout = now + d.ejects.timeout }) })
+      (λ may. nothing (record s { eject = Pulsing (record { number = next_number d.ejects.max_attempts a.number; timeout = now + d.ejects.timeout }) })
       (failed ∷ attempted ∷ []) refl (sym not_yet) (inr (inr refl), (inl refl, tt)))
       (λ not. nothing (record s { eject = Idle; wanted = 0 }) (failed ∷ []) refl (sym not_yet) (inr (inr refl), tt))
 
