@@ -88,16 +88,6 @@ adds-posts leader c old new adds = record {
 
 -- ---- all events
 
-pub leaders_start : (plan : PlanView) (leaders : List (List EventId)) → leaders ≡ replicate (length plan.events) [] → HasLeaders plan 0 leaders []
-leaders_start plan leaders is = record {
-  count = ap length is ∙ length-replicate (length plan.events) [];
-  left_count = refl;
-  leads = λ f e l.
-      ap (λ (ds : List EventId). times ds e) (ap (λ (ls : List (List EventId)). leaders_to ls f) is ∙ get_or-replicate (length plan.events) f.0 [] [] l)
-      ∙ sym (ap (λ (b : Bool). cond b (occurrences f (cost_of_event plan e)) 0) (le-ltb e.0 0 (omega arith)));
-  left_is = λ e l. absurd (omega (arith, l));
-}
-
 pub leaders_more : (plan : PlanView) (n posts : ℕ) (leaders new : List (List EventId)) (left : List ℕ) → HasLeaders plan n leaders left → AddsLeader (event n) (each_of cost_of_post (weights_in (cost_of_event plan (event n)))) leaders new →
     posts ≡ length (weights_in (cost_of_event plan (event n))) → HasLeaders plan (n + 1) new (left ++ posts ∷ [])
 leaders_more plan n posts leaders new left has posted is = let adds = adds-posts (event n) (cost_of_event plan (event n)) leaders new posted in record {

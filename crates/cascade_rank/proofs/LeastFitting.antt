@@ -9,21 +9,9 @@ use Rattle.cascade_rank.specs.Cost.{cost_of_event, cost_of_stimuli}
 use Rattle.cascade_rank.specs.Weights.{need, IsLeastFitting, bound_of}
 use Rattle.cascade_rank.proofs.Events.{event}
 use Rattle.cascade_rank.proofs.Prices.{price_agrees}
-use Rattle.cascade_rank.proofs.Within.{IsBelow-mentioned, IsBelow-event, IsBelow-stimuli}
+use Rattle.cascade_rank.proofs.Within.{IsBelow-mentioned, IsBelow-event}
 
 module _ (plan : PlanView) (valid : HasEntries plan) (w v : EventId → ℕ) (same : (e : EventId) → e.0 < length plan.events → w e ≡ v e) where
   -- weights that agree on the events of a valid plan give each event the same need, and the same bound
   pub need-agrees : (e : EventId) → need plan w e ≡ need plan v e
   need-agrees e = price_agrees w v (cost_of_event plan e) (λ f m. same f (IsBelow-mentioned (length plan.events) (cost_of_event plan e) f (IsBelow-event plan valid e) m))
-
-  pub bound-agrees : bound_of plan w ≡ bound_of plan v
-  bound-agrees = price_agrees w v (cost_of_stimuli plan) (λ f m. same f (IsBelow-mentioned (length plan.events) (cost_of_stimuli plan) f (IsBelow-stimuli plan valid) m))
-
--- there is one list of least fitting weights at most
-pub least_fitting-unique : (plan : PlanView) (ws vs : List ℕ) → IsLeastFitting plan ws → IsLeastFitting plan vs → ws ≡ vs
-least_fitting-unique plan ws vs a b =
-    ext_get_or 0 ws vs (a.count ∙ sym b.count) (λ n l.
-    let within : n < length plan.events = let count = a.count in omega arith in
-    let below = a.least (weight_of vs) b.fits (event n) within in
-    let above = b.least (weight_of ws) a.fits (event n) within in
-    omega (arith, below, above))

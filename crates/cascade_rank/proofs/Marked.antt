@@ -21,17 +21,9 @@ use Rattle.plan_tables.specs.declared.entries.CoilId.{CoilId}
 use Rattle.plan_tables.specs.declared.entries.Owner.{Owner}
 use Rattle.cascade_rank.specs.Marks.{mark_of, numbered, IsCoilMarked, AreMarked}
 
-or-nothing : (b : Bool) → b ≡ (b || false)
-or-nothing true = refl
-or-nothing false = refl
-
 or-regroup : (a b c : Bool) → ((a || b) || c) ≡ (a || (b || c))
 or-regroup true b c = refl
 or-regroup false b c = refl
-
--- no action marks anything
-pub marked-none : (marks : List Bool) → AreMarked marks [] marks
-marked-none marks = record { count = refl; marks = λ coil l. or-nothing (mark_of marks coil) }
 
 -- some actions, and then others
 pub marked-then : (old mid new : List Bool) (first later : List Action) → AreMarked old first mid → AreMarked mid later new → AreMarked old (first ++ later) new
@@ -51,30 +43,6 @@ marked-more f xs n d old mid new within h k =
     let more : flat_map f (take (n + 1) xs) ≡ flat_map f (take n xs) ++ f (get_or xs n d) =
     ap (flat_map f) (take_more xs n d within) ∙ flat_map-append f (take n xs) (get_or xs n d ∷ []) ∙ ap (λ ys. flat_map f (take n xs) ++ ys) (append-nil (f (get_or xs n d))) in
     subst (λ acts. AreMarked old acts new) (sym more) (marked-then old mid new (flat_map f (take n xs)) (f (get_or xs n d)) h k)
-
--- one more action
-pub marked-action : (actions : List Action) (n : ℕ) (d : Action) (old mid new : List Bool) → n < length actions
-    → AreMarked old (take n actions) mid → AreMarked mid (get_or actions n d ∷ []) new → AreMarked old (take (n + 1) actions) new
-marked-action actions n d old mid new within h k =
-    subst (λ acts. AreMarked old acts new) (sym (take_more actions n d within)) (marked-then old mid new (take n actions) (get_or actions n d ∷ []) h k)
-
--- there are marks for the coils of a plan's actions
-pub coils-marked : (plan : PlanView) → IsValid plan → (l : ListId) → l.0 < length plan.lists → All IsCoilMarked (actions_at plan l)
-coils-marked plan valid l within =
-    All-weaker (IsActionWithin plan) IsCoilMarked there (actions_at plan l) (All-get_or (All (IsActionWithin plan)) plan.lists l.0 [] within valid.entries.lists)
-  where
-    there : (a : Action) → IsActionWithin plan a → IsCoilMarked a
-    there (Post e) h = tt
-    there (Pulse coil ms power) h = tt
-    there (Enable coil power) h = omega (arith, h, valid.coil_limit)
-    there (Disable coil) h = tt
-    there (Change v action n e) h = tt
-    there (Enter r e drain) h = tt
-    there (Leave r) h = tt
-    there (Lose r) h = tt
-    there (Arrive r) h = tt
-    there (Request n) h = tt
-    there (AddBalls n) h = tt
 
 -- ---- the actions of an owner, by the places of its bindings and by its rows
 

@@ -104,30 +104,12 @@ module _ (plan : PlanView) (left : List ℕ) (length_is : length left ≡ length
       room = omega (arith, s.room, count_by_more_yes (λ n. nat_lt 0 n) left x.0 0 inside (lt-ltb 0 (left_of left x) some));
     }
 
-  pub start_all : (order : List EventId) → IsStart plan left (length plan.events) order → IsOrdering plan 0 [] left order
-  start_all order s =
-      let whole = take_all (length plan.events) left (omega (arith, length_is)) in
-      let counted = ap (count_by (λ n. nat_lt 0 n)) whole in
-      record {
-        length_is = length_is;
-        within = omega arith;
-        below = s.below;
-        apart = s.apart;
-        grounds = s.grounds;
-        left_is = λ e l. omega (arith, left_is e l);
-        listed = s.listed;
-        room = omega (arith, s.room, counted);
-      }
-
 -- ---- the next event of the order is gone through
 
 module _ (plan : PlanView) (taken : ℕ) (order : List EventId) (leaders : List EventId) (turn : taken < length order)
     (leaders_are : (e : EventId) → e.0 < length plan.events → times leaders e ≡ occurrences (nth_event order taken) (cost_of_event plan e)) where
   met : EventId → Bool
   met = is_in (take taken order)
-
-  then_met : EventId → Bool
-  then_met = is_in (take (taken + 1) order)
 
   module _ (left : List ℕ) (apart : EachAfter (λ before e. is_in before e ≡ false) order) where
     fresh : is_in (take taken order) (nth_event order taken) ≡ false

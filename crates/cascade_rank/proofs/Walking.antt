@@ -164,9 +164,6 @@ module _ (plan : PlanView) (start : EventId) (first : IsFirst (is_open plan) sta
         by true = refl
         by false = refl
 
-    pub walk_falls : count_by not (set passed at.0 true) < count_by not passed
-    walk_falls = omega (arith, fewer)
-
   -- ---- it comes again to an event
   module _ (again : slice_index_or passed at.0 false ≡ true) where
     pub comes_again : list_any (λ d. d.0 == at.0) path ≡ true

@@ -300,15 +300,6 @@ module _ (plan : PlanView) (valid : HasEntries plan) where
     ),
   )
 
-  pub IsBelow-switch : (s : SwitchId) → IsBelow (length plan.events) (cost_of_switch plan s)
-  IsBelow-switch s = (IsBelow-acceptance s true, IsBelow-acceptance s false)
-
-  pub IsBelow-stimuli : IsBelow (length plan.events) (cost_of_stimuli plan)
-  IsBelow-stimuli = (
-    dearest_below (length plan.events) (cost_of_switch plan) IsBelow-switch (switches_of plan),
-    dearest_within (length plan.events) (λ r. cost_of_call plan r calls.Fire) (λ r. r.0 < length plan.rows) (λ r. IsBelow-call r calls.Fire) (row_numbers plan) (rows-within plan),
-  )
-
 -- the same of as many events as the plan has
 pub posts-within : (plan : PlanView) → HasEntries plan → (s : SwitchId) (active : Bool) (n : ℕ) (es : List EventId) → n ≡ length plan.events → es ≡ posts_of plan s active → All (IsEventWithin n) es
 posts-within plan valid s active n es count is =

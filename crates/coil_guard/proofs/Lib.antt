@@ -1,6 +1,6 @@
 mod Lasting
 mod OneCoil
-mod Lowest
+pub mod Lowest
 mod Told
 mod BoardLaws
 pub mod Following

@@ -70,7 +70,7 @@ next-lowest test n None false is here = λ coil within.
       | inr earlier ↦ is coil (omega (arith, within, earlier))
     ]
 
-lowest-is : (test : CoilId → Bool) (n : ℕ) → IsLowest test n (lowest test n)
+pub lowest-is : (test : CoilId → Bool) (n : ℕ) → IsLowest test n (lowest test n)
 lowest-is test zero = λ coil within. absurd (omega (arith, within))
 lowest-is test (suc n) = next-lowest test n (lowest test n) (test (record { 0 = n })) (lowest-is test n) refl
 

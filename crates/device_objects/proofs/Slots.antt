@@ -38,20 +38,6 @@ pub step_in_use-all : {S : Type 0} (P : S → Type 0) (step : S → S × List �
 step_in_use-all P step keeps slots None all = all
 step_in_use-all P step keeps slots (Some i) all = step_at-all P step keeps i slots (slice_get slots i) (λ s is. All-at P slots i s is all) all
 
--- what every slot of these answers, and what is answered where no slot is in use, is what the slots answer
-step_at-answers : {S : Type 0} (Q : S → Type 0) (P : List ℕ → Type 0) (step : S → S × List ℕ)
-    → ((s : S) → Q s → P (step s).1) → (i : ℕ) (slots : List S) (slot : Option S)
-    → ((s : S) → slot ≡ Some s → Q s) → P [] → P (step_at step i slots slot).1
-step_at-answers Q P step each i slots None held none = none
-step_at-answers Q P step each i slots (Some s) held none = each s (held s refl)
-
-pub step_in_use-answers : {S : Type 0} (Q : S → Type 0) (P : List ℕ → Type 0) (step : S → S × List ℕ)
-    → ((s : S) → Q s → P (step s).1) → (slots : List S) (at : Option ℕ)
-    → All Q slots → P [] → P (step_in_use step slots at).1
-step_in_use-answers Q P step each slots None all none = none
-step_in_use-answers Q P step each slots (Some i) all none =
-    step_at-answers Q P step each i slots (slice_get slots i) (λ s is. All-at Q slots i s is all) none
-
 -- what every slot answers, and what no slot answers where each player has one, is what the slots answer
 module _ {S : Type 0} (P : List ℕ → Type 0) (step : S → S × List ℕ) (each : (s : S) → P (step s).1) where
   at_slot : (i : ℕ) (slots : List S) (slot : Option S) → P [] → P (step_at step i slots slot).1

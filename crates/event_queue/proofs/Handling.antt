@@ -130,9 +130,6 @@ module _ (plan : PlanView) where
     pub count : length orders ≡ n
     pub each : (e : ℕ) (d : Vec BindingId Global) → e < n → IsOrderOf plan (λ p. false) (record { 0 = e }) (get_or orders e d)
 
-  pub rooms-none : HasFirstRooms 0 []
-  rooms-none = record { count = refl; each = λ e d within. absurd (omega arith) }
-
   pub rooms-more : (n : ℕ) (orders : List (Vec BindingId Global)) (v : Vec BindingId Global) → HasFirstRooms n orders → v.items ≡ [] → length (places_of plan (record { 0 = n })) ≤ vec_capacity v → HasFirstRooms (n + 1) (orders ++ v ∷ [])
   rooms-more n orders v has empty room = record {
     count = let one = length_push orders v in let count = has.count in omega arith;
@@ -146,9 +143,6 @@ module _ (plan : PlanView) where
               (record { places = empty ∙ sym (ap (by_priority plan) (none-pass (places_of plan (event n)))); room = room }))
         ];
   }
-
-  pub rooms-all : (orders : List (Vec BindingId Global)) → HasFirstRooms (length plan.events) orders → HasOrders plan (λ p. false) orders
-  rooms-all orders has = record { count = has.count; each = has.each }
 
   -- ---- what takes part from the start on
 

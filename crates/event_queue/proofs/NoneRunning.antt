@@ -16,11 +16,3 @@ never n i =
       | inl within ↦ get_or-replicate n i false false within
       | inr past ↦ get_or_past (replicate n false) i false (omega (arith, length-replicate n false))
     ]
-
-takes_part-none : (plan : PlanView) (owner : Owner) → takes_part [] owner ≡ takes_part (none_running plan) owner
-takes_part-none plan owners.Machine = refl
-takes_part-none plan (owners.Mode m) = sym (never (length plan.modes) m.0)
-
-pub in_order-none : (plan : PlanView) (e : EventId) → in_order plan [] e ≡ in_order plan (none_running plan) e
-in_order-none plan e =
-    ap (by_priority plan) (filter_agree (runs_at plan []) (runs_at plan (none_running plan)) (λ p. takes_part-none plan (binding_at plan p).owner) (places_of plan e))

@@ -128,10 +128,6 @@ or-none : (b : Bool) → b ≡ (b || false)
 or-none true = refl
 or-none false = refl
 
-and-all : (b : Bool) → b ≡ (b && true)
-and-all true = refl
-and-all false = refl
-
 module _ (plan : PlanView) (running : List Bool) (m : ModeId) where
   -- so many of the mode's bindings have joined what takes part, or left it
   abbrev pub joining : ℕ → BindingId → Bool
@@ -139,12 +135,6 @@ module _ (plan : PlanView) (running : List Bool) (m : ModeId) where
 
   abbrev pub leaving : ℕ → BindingId → Bool
   leaving k p = runs_at plan running p && not (has (take k (places_in plan m)) p)
-
-  pub joining-none : (p : BindingId) → runs_at plan running p ≡ joining 0 p
-  joining-none p = or-none (runs_at plan running p)
-
-  pub leaving-none : (p : BindingId) → runs_at plan running p ≡ leaving 0 p
-  leaving-none p = and-all (runs_at plan running p)
 
   module _ (k : ℕ) (d : BindingId) (within : k < length (places_in plan m)) where
     abbrev pub next : BindingId
@@ -212,11 +202,6 @@ pub record HasFirstOwned (plan : PlanView) (n : ℕ) (lists : List (Vec BindingI
 module _ (plan : PlanView) where
   pub owned-none : (lists : List (Vec BindingId Global)) → length lists ≡ length plan.modes → All (λ v. v.items ≡ []) lists → HasFirstOwned plan 0 lists
   owned-none lists count empty = record { within = omega arith; count = count; each = λ m d within. empty m d (omega (arith, within, count)) }
-
-  pub owned-all : (n : ℕ) (lists : List (Vec BindingId Global)) → length plan.bindings ≤ n → HasFirstOwned plan n lists → HasOwned plan lists
-  owned-all n lists all has =
-      let same : n ≡ length plan.bindings = omega (arith, has.within) in
-      record { count = has.count; each = λ m d within. has.each m d within ∙ ap (λ k. filter (is_own plan (mode m)) (map place (range_with_len 0 k))) same }
 
   module _ (n : ℕ) (lists : List (Vec BindingId Global)) (has : HasFirstOwned plan n lists) (within : n < length plan.bindings) where
     one_more-in : (m : ModeId) (b : Bool) → is_owner (Mode m) (binding_at plan (place n)).owner ≡ b → filter (is_own plan m) (map place (range_with_len 0 (n + 1))) ≡ filter (is_own plan m) (map place (range_with_len 0 n)) ++ cond b (place n ∷ []) []

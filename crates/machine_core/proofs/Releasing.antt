@@ -1,6 +1,6 @@
 -- The coils that an owner holds are put off, the lowest first.
-use Rattle.std.proofs.Common.{◌≡◌, ℕ, zero, suc, ◌+◌, ◌-◌, ◌<◌, ◌≤◌, inl, inr, Bool, true, false, if◌then◌else◌, Option, None, Some, option_map, List, [], ◌∷◌, ◌++◌, length, take, drop, get_or, refl, sym, ap, ◌∙◌, subst, length-append, arith}
-use Rattle.std.proofs.lemmas.Bool.{cases_eq, cond-true, cond-false, or_right}
+use Rattle.std.proofs.Common.{◌≡◌, ℕ, zero, suc, ◌+◌, ◌-◌, ◌<◌, ◌≤◌, Bool, true, false, if◌then◌else◌, Option, None, Some, option_map, List, [], ◌∷◌, ◌++◌, length, take, drop, get_or, refl, sym, ap, ◌∙◌, subst, length-append, arith}
+use Rattle.std.proofs.lemmas.Bool.{cond-true, cond-false, or_right}
 use Rattle.std.proofs.lemmas.List.{take-append-drop, drop_more, take_more, take_all, length-set, get_or-set_same, get_or-set_other}
 use Rattle.std.proofs.lemmas.List.FromFn.{length-map-range_with_len, get_or-map-range_with_len}
 use Rattle.std.proofs.lemmas.Option.{same_Some}
@@ -20,7 +20,8 @@ use Rattle.coil_guard.specs.declared.command.Answer.TheVariants.{Sent, Skipped}
 use Rattle.coil_guard.specs.declared.state.CoilState.{CoilState}
 use Rattle.coil_guard.specs.Limits.{no_limits}
 use Rattle.coil_guard.specs.CoilStep.{off, is_on_at, is_held_by, disabled}
-use Rattle.coil_guard.specs.Lowest.{first_of_two, lowest, IsLowest}
+use Rattle.coil_guard.specs.Lowest.{lowest, IsLowest}
+use Rattle.coil_guard.proofs.Lowest.{lowest-is}
 use Rattle.coil_guard.specs.Coils.{coil_at, set_coil, put_off, next_held, after_release, answer_release}
 use Rattle.coil_guard.specs.Owners.{is_holder}
 use Rattle.written_machine.specs.declared.line.Happening.TheVariants as lines
@@ -31,22 +32,6 @@ use Rattle.written_machine.proofs.Growth.{asked-grows, all_do-grows}
 use Rattle.machine_core.specs.Core.{CoreView, CanCall, HasRoom, after}
 use Rattle.machine_core.proofs.Callable.{can-does}
 use Rattle.machine_core.proofs.Room.{Grows}
-
--- ---- the lowest coil
-
-next-lowest : (test : CoilId → Bool) (n : ℕ) (a : Option CoilId) (b : Bool) → IsLowest test n a → test (record { 0 = n }) ≡ b
-    → IsLowest test (suc n) (first_of_two a (if b then Some (record { 0 = n }) else None))
-next-lowest test n (Some c) b is here = let h = is.0 in (omega arith, is.1, is.2)
-next-lowest test n None true is here = (omega arith, here, is)
-next-lowest test n None false is here = λ coil within.
-    elim (cases_eq coil.0 n) [
-      | inl last ↦ ap (λ (k : ℕ). test (record { 0 = k })) last ∙ here
-      | inr earlier ↦ is coil (omega (arith, within, earlier))
-    ]
-
-lowest-is : (test : CoilId → Bool) (n : ℕ) → IsLowest test n (lowest test n)
-lowest-is test zero = λ coil within. absurd (omega (arith, within))
-lowest-is test (suc n) = next-lowest test n (lowest test n) (test (record { 0 = n })) (lowest-is test n) refl
 
 all_do-append : {X : Type 0} (f : X → Machine → Machine) (xs ys : List X) (s : Machine) → all_do f (xs ++ ys) s ≡ all_do f ys (all_do f xs s)
 all_do-append f [] ys s = refl
@@ -196,9 +181,6 @@ module _ (plan : PlanView) (owner : Owner) where
 
       abbrev gone : Machine
       gone = let_go now.machine h.all next.coil next.first
-
-      coils-are : released.machine ≡ set_coils (set_coil next.coil (disabled (coil_at now.machine.coils next.coil)) now.machine.coils) now.machine
-      coils-are = ap (λ (v : CoreView). v.machine) released_is ∙ ap (λ (o : Option CoilId). set_coils (put_off o now.machine.coils) now.machine) (sym next.first)
 
       module _ (written : CoreView) (written_is : written ≡ after (write owner (lines.Coil command)) released) where
         gone-is : written ≡ after (λ s. gone) now

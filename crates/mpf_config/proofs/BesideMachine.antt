@@ -25,13 +25,6 @@ none_here s ss all view rows is are empty =
     let nothing : [] ≡ entries_in s.content = ap (map view) (sym none) ∙ are in
     ap (λ (es : List Entry). map (named_entry s.name) es ++ entry_names ss) nothing ∙ ap entry_names (sym is)
 
--- where there are no entries, each of them is new, and none is taken
-pub none_new : (text : List ℕ) (keys : List (List ℕ)) (es : List EntryName) → es ≡ [] → entries_new_at text keys es ≡ Ok tt
-none_new text keys es e = rw e refl
-
-pub none_gained : (keys : List (List ℕ)) (es : List EntryName) → es ≡ [] → (q : List ℕ) → is_among keys q ≡ (is_among (map entry_key es) q || is_among keys q)
-none_gained keys es e q = rw e refl
-
 -- the entries of the machine text are new where none is taken, so they fail only if memory runs out
 pub only_memory : (e : ConfigFault) (text : List ℕ) (keys : List (List ℕ)) (es : List EntryName) → keys ≡ [] → AreDistinct es → FailsRows e (entries_new_at text keys es) → e ≡ faults.NoMemory
 only_memory faults.NoMemory text keys es none distinct h = refl

@@ -209,13 +209,6 @@ in-refuses rig inputs.Alarm = by (next_alarm rig.machine)
     by (Some a) = late a (is_too_late a.0)
 in-refuses rig (inputs.Wait at) = timely-refuses rig.machine at (Wait at)
 
-refuses : (rig : RigView) (input : Input) → Refuses (stimulus_at rig input)
-refuses rig input = by rig.faulted
-  where
-    by : (halted : Option CoilId) → Refuses (unless_halted halted (stimulus_in rig.checked rig.machine input))
-    by None = in-refuses rig input
-    by (Some coil) = tt
-
 -- ---- the alarm that is due next
 
 next-from : (s : Machine) (next : Option (ℕ × Source)) → next_alarm s ≡ next → IsNextMoment s (option_map (λ a. a.0) next)

@@ -85,12 +85,6 @@ module _ (plan : PlanView) (bound : ℕ) where
   none_refused [] = refl
   none_refused (l ∷ ls) = none_refused ls
 
-  pub refused-printed : (number : ℕ) (refusal : Refusal) (s : RigView) (a b : Option (List ℕ)) → s.faulted ≡ None → Appends a b (refused_text number refusal) → IsPrinted plan (Refused number refusal ∷ []) s s a b
-  refused-printed number refusal s a b running text = record {
-    served = served-none s (Refused number refusal ∷ []) running refl;
-    text = subst (Appends a b) (sym (append-nil (refused_text number refusal))) text;
-  }
-
   module _ (number : ℕ) (line : List ℕ) (s : RigView) where
     line-is : (given : Result (Option Stimulus) Refusal) (t : RigView) (a b : Option (List ℕ)) (v : Verdict) → given_by_line plan s.machine.moment (said line) ≡ given → t.machine ≡ after_line plan bound s.machine given
         → IsPrinted plan (printed_for_line plan bound number s.machine given) s t a b → v ≡ log_verdict (printed_for_line plan bound number s.machine given) → IsLinePlayed plan bound number line s t a b v
@@ -99,12 +93,6 @@ module _ (plan : PlanView) (bound : ℕ) where
       printed = subst (λ (g : Result (Option Stimulus) Refusal). IsPrinted plan (printed_for_line plan bound number s.machine g) s t a b) (sym is) printed;
       verdict_is = subst (λ (g : Result (Option Stimulus) Refusal). v ≡ log_verdict (printed_for_line plan bound number s.machine g)) (sym is) verdict;
     }
-
-    pub line-skipped : (a : Option (List ℕ)) → s.faulted ≡ None → given_by_line plan s.machine.moment (said line) ≡ Ok None → IsLinePlayed plan bound number line s s a a verdicts.Yes
-    line-skipped a running is = line-is (Ok None) s a a verdicts.Yes is refl (printed-none plan s a running) refl
-
-    pub line-refused : (refusal : Refusal) (a b : Option (List ℕ)) → s.faulted ≡ None → given_by_line plan s.machine.moment (said line) ≡ Err refusal → Appends a b (refused_text number refusal) → IsLinePlayed plan bound number line s s a b verdicts.Refused
-    line-refused refusal a b running is text = line-is (Err refusal) s a b verdicts.Refused is refl (refused-printed number refusal s a b running text) refl
 
     module _ (stimulus : Stimulus) (until : ℕ) (t u : RigView) (a b c : Option (List ℕ)) (is : given_by_line plan s.machine.moment (said line) ≡ Ok (Some stimulus)) (same : until ≡ moment_of stimulus) where
       pub line-played : IsPlayed plan bound (all_alarms_by plan bound until s.machine) s t a b → IsPlayed plan bound (stimulus ∷ []) t u b c → IsLinePlayed plan bound number line s u a c verdicts.Yes

@@ -58,10 +58,6 @@ module _ (plan : PlanView) (name : List ℕ) where
   pub switch_within : (s : SwitchId) → switch_named plan name ≡ Some s → s.0 < length plan.switches
   switch_within s named = found_within (λ (x : PlanSwitch). x.name) name plan.switches s.0 (switch_place s named)
 
-  -- where a name has no switch, no switch has the name
-  pub switch_absent : switch_named plan name ≡ None → (i : ℕ) (d : PlanSwitch) → i < length plan.switches → (slice_index_or plan.switches i d).name ≢ name
-  switch_absent none = absent (λ (x : PlanSwitch). x.name) name plan.switches (unnumbered (λ n. record { 0 = n }) (λ (x : SwitchId). x.0) (λ n. refl) (position (λ s. bytes_eq name s.name) plan.switches) none)
-
   coil_place : (c : CoilId) → coil_named plan name ≡ Some c → position (λ c. bytes_eq name c.name) plan.coils ≡ Some c.0
   coil_place c = numbered (λ n. record { 0 = n }) (λ (x : CoilId). x.0) (λ n. refl) (position (λ c. bytes_eq name c.name) plan.coils) c
 

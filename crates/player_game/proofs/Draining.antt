@@ -43,9 +43,3 @@ drain-finals None plan home g p = refl
 drain-finals (Some rules) plan home g p = steps_are_choices.finals rules plan BallDrain home g p
 
 -- ---- balls are added
-
--- where none is missing, nothing changes
-pub none-missing : (n : ℕ) (g : GameState) → missing n g ≡ 0 → more_balls n g ≡ g
-none-missing n g none =
-    let same : g.balls + missing n g ≡ g.balls = omega (arith, none) in
-    ap (λ (balls : ℕ). record g { balls = balls }) same

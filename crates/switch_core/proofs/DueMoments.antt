@@ -70,17 +70,6 @@ module _ (s : SwitchesView) (set : SwitchId) (x : SwitchState) where
             ]
       ]
 
-  pub set-count : length (set_state set x s).states ≡ length s.states
-  set-count = length-set s.states set.0 x
-
-  pub set-complete : IsComplete s → IsComplete (set_state set x s)
-  set-complete complete = record { states = set-count ∙ complete.states; limit = complete.limit }
-
-pub idle-complete : (plan : PlanView) → length plan.switches ≤ 256 → IsComplete (all_idle plan)
-idle-complete plan limit =
-    let kinds = length-map plan.switches (λ (s : PlanSwitch). s.kind) in
-    record { states = length-map plan.switches (λ (s : PlanSwitch). idle s.kind) ∙ sym kinds; limit = omega arith }
-
 pub idle-kind : (plan : PlanView) (n : SwitchId) → kind_at (all_idle plan) n ≡ (switch_at plan n).kind
 idle-kind plan n = get_or-map (λ (s : PlanSwitch). s.kind) plan.switches n.0 no_switch
 
@@ -120,27 +109,6 @@ module _ (switch : SwitchId) (level : Bool) (now : ℕ) (s : SwitchesView) where
   pub change-other : (n : SwitchId) → n.0 ≢ switch.0 → due_of (after_change switch level now s) n ≡ due_of s n
   change-other n = due-other s switch (changed (kind_at s switch) now level (state_at s switch)) n
 
-  -- nothing is armed for its own moment
-  pub change-quiet : IsNothingDueBy s now → IsNothingDueBy (after_change switch level now s) now
-  change-quiet quiet n due is =
-      elim (changes_arm_later switch level now s n due is) [
-        | inl old ↦ quiet n due old
-        | inr later ↦ later
-      ]
-
-  pub change-count : length (after_change switch level now s).states ≡ length s.states
-  change-count = set-count s switch (changed (kind_at s switch) now level (state_at s switch))
-
-  pub change-complete : IsComplete s → IsComplete (after_change switch level now s)
-  change-complete = set-complete s switch (changed (kind_at s switch) now level (state_at s switch))
-
-  -- what is reported of a change is reported of its switch
-  pub change-reported : (a : Change) → reported_by_change switch level now s ≡ Some a → a ≡ reported (after_change switch level now s) switch
-  change-reported a =
-      cond_both (is_taken (kind_at s switch) level (state_at s switch)) (Some (reported (after_change switch level now s) switch)) None (λ o. o ≡ Some a → a ≡ reported (after_change switch level now s) switch)
-      (λ _ is. sym (same_Some (reported (after_change switch level now s) switch) a is))
-      (λ _ is. absurd (none-some a is))
-
 -- ---- what is due is accepted
 
 module _ (switch : SwitchId) (s : SwitchesView) where
@@ -157,12 +125,6 @@ module _ (switch : SwitchId) (s : SwitchesView) where
         | inl old ↦ old
         | inr new ↦ absurd (none-some due new.1)
       ]
-
-  pub accept-count : length (accept switch s).states ≡ length s.states
-  accept-count = set-count s switch (fired (kind_at s switch) (state_at s switch))
-
-  pub accept-complete : IsComplete s → IsComplete (accept switch s)
-  accept-complete = set-complete s switch (fired (kind_at s switch) (state_at s switch))
 
   module _ (at : ℕ) (next : IsNextDue s at switch) where
     -- what is due then comes later, or at the same moment with a greater number
@@ -182,6 +144,3 @@ module _ (switch : SwitchId) (s : SwitchesView) where
     -- it is what a fire accepts and reports
     pub fire-accepts : after_fire s ≡ accept switch s
     fire-accepts = ap (λ d. accept_due d s) (next_due-is s at switch next)
-
-    pub fire-reports : reported_by_fire s ≡ Some (reported (accept switch s) switch)
-    fire-reports = ap (option_map (λ d. reported (after_fire s) d.1)) (next_due-is s at switch next) ∙ ap (λ (t : SwitchesView). Some (reported t switch)) fire-accepts

@@ -143,9 +143,6 @@ module _ (s t : SwitchesView) (same : (n : SwitchId) → due_of t n ≡ due_of s
 pub next_due-least : (s : SwitchesView) (at : ℕ) (n : SwitchId) → next_due s ≡ Some (at, n) → IsNextDue s at n
 next_due-least s at n is = subst (IsDueIn s) is (next_due-is_due s)
 
-pub next_due-none : (s : SwitchesView) → next_due s ≡ None → IsNothingDue s
-next_due-none s is = subst (IsDueIn s) is (next_due-is_due s)
-
 -- ---- nothing is due at or before a moment
 
 pub nothing_due-quiet : (s : SwitchesView) (moment : ℕ) → IsNothingDue s → IsNothingDueBy s moment
@@ -169,6 +166,3 @@ not_due-where s moment (Some d) next quiet = lt-leb d.0 moment (quiet d.1 d.0 ne
 -- as what is due next says it
 pub not_due-quiet : (s : SwitchesView) (moment : ℕ) → option_map_or (λ d. nat_le d.0 moment) (next_due s) false ≡ false → IsNothingDueBy s moment
 not_due-quiet s moment = quiet-where s moment (next_due s) (next_due-is_due s)
-
-pub quiet-not_due : (s : SwitchesView) (moment : ℕ) → IsNothingDueBy s moment → option_map_or (λ d. nat_le d.0 moment) (next_due s) false ≡ false
-quiet-not_due s moment = not_due-where s moment (next_due s) (next_due-is_due s)

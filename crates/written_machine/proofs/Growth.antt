@@ -56,10 +56,6 @@ told-grows owner player v e (Some value) s = (
   omega (arith, length-append s.waiting (record { event = e; owner = owner } ∷ [])),
 )
 
--- first one, then the other
-pub grows-then : (s m t : Machine) → Grows s m → Grows m t → Grows s t
-grows-then s m t one next = (omega (arith, one.0, next.0), omega (arith, one.1, next.1))
-
 module _ (plan : PlanView) where
   pub book-grows : (owner : Owner) (call : LedgerCall) (s : Machine) → Grows s (book owner call s)
   book-grows owner call s = grows-move plan (Booked owner call) s
@@ -76,31 +72,6 @@ module _ (plan : PlanView) where
     pub entry-grows : (owner : Owner) (r : RowId) (drain : Bool) (origin : Origin) (s : Machine) → Grows s (after_entry plan tell owner r drain origin s)
     entry-grows owner r drain Awaited s = tells (Arrived (Device r)) s
     entry-grows owner r drain _ s = drain-grows owner drain s
-
-    want-grows : (n : ℕ) (s : Machine) → Grows s (want_balls tell n s)
-    want-grows zero s = (omega arith, omega arith)
-    want-grows (suc n) s = tells (Wanted (suc n)) s
-
-    pub action-grows_by : (owner : Owner) (a : Action) (s : Machine) → Grows s (do_action_by plan tell owner a s)
-    action-grows_by owner (Post e) s = post-grows owner e s
-    action-grows_by owner (Pulse coil ms power) s = asked-grows owner (commands.Pulse coil ms power) s
-    action-grows_by owner (Enable coil power) s = asked-grows owner (commands.Enable coil power) s
-    action-grows_by owner (Disable coil) s = asked-grows owner (commands.Disable coil) s
-    action-grows_by owner (ChangeVariable v action n e) s =
-        let value = changed_to plan v action n s.players in
-        told-grows owner s.players.current v e value (set_players (after_change plan v value s.players) s)
-    action-grows_by owner (Enter r e drain) s =
-        let booked = book owner (calls_of_ledger.Enter r) s in
-        let posted = post owner e booked in
-        grows-then s posted (do_action_by plan tell owner (Enter r e drain) s) (grows-then s booked posted (book-grows owner (calls_of_ledger.Enter r) s) (post-grows owner e booked))
-        (entry-grows owner r drain (origin_of r s.ledger) posted)
-    action-grows_by owner (Leave r) s = book-grows owner (calls_of_ledger.Leave r (target_of plan r)) s
-    action-grows_by owner (Lose r) s = book-grows owner (calls_of_ledger.Lose r) s
-    action-grows_by owner (Arrive r) s = book-grows owner (calls_of_ledger.Arrive (target_of plan r)) s
-    action-grows_by owner (Request n) s = tells (Wanted n) s
-    action-grows_by owner (AddBalls n) s =
-        let more = set_game (more_balls n s.game) s in
-        grows-then s more (do_action_by plan tell owner (AddBalls n) s) (grows-move plan (AddedBalls n) s) (want-grows (missing n s.game) more)
 
   -- whoever takes part
   pub handler-grows : (place : BindingId) (s : Machine) → Grows s (do_handler plan place s)

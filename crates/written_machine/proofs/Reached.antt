@@ -29,9 +29,6 @@ module _ (plan : PlanView) where
     pub reached-kinds : s.switches.kinds ≡ (all_idle plan).kinds
     reached-kinds = reached-has_states.kinds
 
-    pub reached-states : length s.switches.states ≡ length plan.switches
-    reached-states = reached-has_states.switches
-
     -- and so has each mode
     pub reached-modes : length s.modes ≡ length plan.modes
     reached-modes = reached-has_states.modes
@@ -42,10 +39,6 @@ module _ (plan : PlanView) where
     -- each device has a state of its shape
     pub reached-devices : HasDevices plan s.devices
     reached-devices = reached-has_states.devices
-
-    -- there are no more players than there can be
-    pub reached-players : AreFew plan s.players
-    reached-players = reached-has_states.players
 
     -- and no alarm is late
     pub reached-not_late : IsValid plan → IsNothingLate s
