@@ -592,33 +592,15 @@ autofire_acts (acts.SwitchOn i) = switch_comes kinds.Autofire (acts.SwitchOn i) 
 autofire_acts act = one (IsAnswer kinds.Autofire (calls.Act act)) [] (autofire_answer act [] false refl)
 
 pub outcomes_come_about : OutcomesComeAbout
-outcomes_come_about (kinds.Counter c) (calls.Act act) limits = counter_acts c act limits
-outcomes_come_about (kinds.Counter c) calls.ModeStart limits = one (IsAnswer (kinds.Counter c) calls.ModeStart) [] (first_answer (kinds.Counter c) calls.ModeStart [] tt refl)
-outcomes_come_about (kinds.Counter c) calls.ModeStop limits = one (IsAnswer (kinds.Counter c) calls.ModeStop) [] (first_answer (kinds.Counter c) calls.ModeStop [] tt refl)
-outcomes_come_about (kinds.Counter c) calls.Fire limits = none (IsAnswer (kinds.Counter c) calls.Fire)
-outcomes_come_about (kinds.Accrual a) (calls.Act act) limits = accrual_acts a act limits
-outcomes_come_about (kinds.Accrual a) calls.ModeStart limits = one (IsAnswer (kinds.Accrual a) calls.ModeStart) [] (first_answer (kinds.Accrual a) calls.ModeStart [] tt refl)
-outcomes_come_about (kinds.Accrual a) calls.ModeStop limits = one (IsAnswer (kinds.Accrual a) calls.ModeStop) [] (first_answer (kinds.Accrual a) calls.ModeStop [] tt refl)
-outcomes_come_about (kinds.Accrual a) calls.Fire limits = none (IsAnswer (kinds.Accrual a) calls.Fire)
-outcomes_come_about (kinds.Sequence q) (calls.Act act) limits = sequence_acts q act
-outcomes_come_about (kinds.Sequence q) calls.ModeStart limits = one (IsAnswer (kinds.Sequence q) calls.ModeStart) [] (first_answer (kinds.Sequence q) calls.ModeStart [] tt refl)
-outcomes_come_about (kinds.Sequence q) calls.ModeStop limits = one (IsAnswer (kinds.Sequence q) calls.ModeStop) [] (first_answer (kinds.Sequence q) calls.ModeStop [] tt refl)
-outcomes_come_about (kinds.Sequence q) calls.Fire limits = none (IsAnswer (kinds.Sequence q) calls.Fire)
 outcomes_come_about (kinds.Timer t) call limits = timer_come_about t call limits.1
-outcomes_come_about (kinds.Bank b) (calls.Act act) limits = bank_acts b limits act
-outcomes_come_about (kinds.Bank b) calls.ModeStart limits =
-    one (IsAnswer (kinds.Bank b) calls.ModeStart) [] (first_answer (kinds.Bank b) calls.ModeStart [] tt refl)
-outcomes_come_about (kinds.Bank b) calls.ModeStop limits =
-    one (IsAnswer (kinds.Bank b) calls.ModeStop) [] (first_answer (kinds.Bank b) calls.ModeStop [] tt refl)
-outcomes_come_about (kinds.Bank b) calls.Fire limits = none (IsAnswer (kinds.Bank b) calls.Fire)
-outcomes_come_about kinds.Flipper (calls.Act act) limits = flipper_acts act
-outcomes_come_about kinds.Flipper calls.ModeStart limits = one (IsAnswer kinds.Flipper calls.ModeStart) [] (first_answer kinds.Flipper calls.ModeStart [] tt refl)
-outcomes_come_about kinds.Flipper calls.ModeStop limits = one (IsAnswer kinds.Flipper calls.ModeStop) [] (first_answer kinds.Flipper calls.ModeStop [] tt refl)
-outcomes_come_about kinds.Flipper calls.Fire limits = none (IsAnswer kinds.Flipper calls.Fire)
-outcomes_come_about kinds.Autofire (calls.Act act) limits = autofire_acts act
-outcomes_come_about kinds.Autofire calls.ModeStart limits = one (IsAnswer kinds.Autofire calls.ModeStart) [] (first_answer kinds.Autofire calls.ModeStart [] tt refl)
-outcomes_come_about kinds.Autofire calls.ModeStop limits = one (IsAnswer kinds.Autofire calls.ModeStop) [] (first_answer kinds.Autofire calls.ModeStop [] tt refl)
-outcomes_come_about kinds.Autofire calls.Fire limits = none (IsAnswer kinds.Autofire calls.Fire)
 outcomes_come_about (kinds.BallDevice d) call limits = ball-comes d limits call
 outcomes_come_about (kinds.BallSave b) call limits = save-comes b call
 outcomes_come_about (kinds.Multiball m) call limits = multiball-comes m call
+outcomes_come_about (kinds.Counter c) (calls.Act act) limits = counter_acts c act limits
+outcomes_come_about (kinds.Accrual a) (calls.Act act) limits = accrual_acts a act limits
+outcomes_come_about (kinds.Sequence q) (calls.Act act) limits = sequence_acts q act
+outcomes_come_about (kinds.Bank b) (calls.Act act) limits = bank_acts b limits act
+outcomes_come_about kinds.Flipper (calls.Act act) limits = flipper_acts act
+outcomes_come_about kinds.Autofire (calls.Act act) limits = autofire_acts act
+outcomes_come_about settings calls.Fire limits = none (IsAnswer settings calls.Fire)
+outcomes_come_about settings call limits = one (IsAnswer settings call) [] (first_answer settings call [] tt refl)

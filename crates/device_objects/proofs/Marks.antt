@@ -1,8 +1,5 @@
 -- Marks are equal where the test says so.
-use Rattle.std.proofs.Common.{◌≡◌, Bool, true, false, [], refl}
-use mathlib.Core.Bool.{beq}
-use Rattle.std.specs.Bool.{Decides}
-use Rattle.std.proofs.lemmas.Bool.{false≢true, true≢false}
+use Rattle.std.proofs.Common.{false, []}
 use Rattle.device_objects.specs.declared.state.AccrualSlot.{AccrualSlot}
 
 -- a slot of an accrual, to look for the others

@@ -1,5 +1,6 @@
 -- When devices are due.
 use Rattle.std.proofs.Common.{◌≡◌, ℕ, zero, suc, ◌+◌, ◌<◌, ◌≤◌, ◌⊎◌, inl, inr, Bool, true, false, if◌then◌else◌, Option, None, Some, IfSome, List, [], ◌∷◌, pos, ◌+ℤ◌, ◌-ℤ◌, refl, sym, ◌∙◌, arith}
+use Rattle.std.proofs.lemmas.Bool.{false≢true}
 use Rattle.std.proofs.lemmas.Option.{IfSome_then, none-some, same_Some}
 use Rattle.plan_tables.specs.declared.devices.Act.{Act}
 use Rattle.plan_tables.specs.declared.devices.Act.TheVariants as acts
@@ -66,6 +67,38 @@ module _ (t : TimerSettings) (now : ℕ) (some : 1 ≤ t.interval) (Before : ℕ
 
 -- ---- what a step arms
 
+-- whether parts of a device of these settings, in this state, can be due
+abbrev is_alarmed : Settings → DeviceState → Bool
+is_alarmed (kinds.Timer t) (states.Timer s) = true
+is_alarmed (kinds.BallDevice d) (states.BallDevice s) = true
+is_alarmed (kinds.BallSave b) (states.BallSave s) = true
+is_alarmed _ _ = false
+
+-- where none can, a step arms none
+unarmed : (settings : Settings) (call : Call) (now : ℕ) (world : World) (state : DeviceState) → is_alarmed settings state ≡ false
+    → (k due : ℕ) → part_due (device_step settings call now world state).0 k ≡ Some due → part_due state k ≡ Some due
+unarmed (kinds.Timer t) call now world (states.Timer s) not k due is = absurd (false≢true (sym not))
+unarmed (kinds.BallDevice d) call now world (states.BallDevice s) not k due is = absurd (false≢true (sym not))
+unarmed (kinds.BallSave b) call now world (states.BallSave s) not k due is = absurd (false≢true (sym not))
+unarmed (kinds.Multiball m) call now world (states.Multiball s) not k due is = absurd (none-some due is)
+unarmed (kinds.Counter c) call now world (states.Counter slots) not k due is = absurd (none-some due is)
+unarmed (kinds.Accrual a) call now world (states.Accrual slots) not k due is = absurd (none-some due is)
+unarmed (kinds.Bank b) call now world (states.Bank slots) not k due is = absurd (none-some due is)
+unarmed (kinds.Sequence q) call now world (states.Sequence slots) not k due is = absurd (none-some due is)
+unarmed kinds.Flipper call now world (states.Flipper s) not k due is = absurd (none-some due is)
+unarmed kinds.Autofire call now world (states.Autofire s) not k due is = absurd (none-some due is)
+unarmed _ call now world _ not k due is = is
+
+-- nor is the device due
+not_due-unarmed : (settings : Settings) (state : DeviceState) → HasShape settings state → is_alarmed settings state ≡ false → due_of state ≡ None
+not_due-unarmed (kinds.Timer t) (states.Timer s) shape not = absurd (false≢true (sym not))
+not_due-unarmed (kinds.BallDevice d) (states.BallDevice s) shape not = absurd (false≢true (sym not))
+not_due-unarmed (kinds.BallSave b) (states.BallSave s) shape not = absurd (false≢true (sym not))
+not_due-unarmed _ (states.Timer s) shape not = elim shape [ ]
+not_due-unarmed _ (states.BallDevice s) shape not = elim shape [ ]
+not_due-unarmed _ (states.BallSave s) shape not = elim shape [ ]
+not_due-unarmed _ _ shape not = refl
+
 -- a part is due after the moment of the step, or was due before it
 pub arms-later : (settings : Settings) (call : Call) (now : ℕ) (world : World) (state : DeviceState)
     → IsWithinLimits settings → (k due : ℕ) → part_due (device_step settings call now world state).0 k ≡ Some due
@@ -78,20 +111,17 @@ arms-later (kinds.BallDevice d) call now world (states.BallDevice s) limits k du
 arms-later (kinds.BallSave b) call now world (states.BallSave s) limits zero due is =
     save-later b now (λ d. s.due ≡ Some d) call s (λ d same. inl same) due is
 arms-later (kinds.BallSave b) call now world (states.BallSave s) limits (suc k) due is = absurd (none-some due is)
-arms-later (kinds.Multiball m) call now world (states.Multiball s) limits k due is = absurd (none-some due is)
-arms-later (kinds.Counter c) call now world (states.Counter slots) limits k due is = absurd (none-some due is)
-arms-later (kinds.Accrual a) call now world (states.Accrual slots) limits k due is = absurd (none-some due is)
-arms-later (kinds.Bank b) call now world (states.Bank slots) limits k due is = absurd (none-some due is)
-arms-later (kinds.Sequence q) call now world (states.Sequence slots) limits k due is = absurd (none-some due is)
-arms-later kinds.Flipper call now world (states.Flipper s) limits k due is = absurd (none-some due is)
-arms-later kinds.Autofire call now world (states.Autofire s) limits k due is = absurd (none-some due is)
-arms-later _ call now world _ limits k due is = inl is
+arms-later settings call now world state limits k due is = inl (unarmed settings call now world state refl k due is)
 
 -- ---- what is done when a device fires
 
 if_some : (o : Option ℕ) (P : ℕ → Type 0) → ((m : ℕ) → o ≡ Some m → P m) → IfSome o P
 if_some None P each = tt
 if_some (Some m) P each = each m refl
+
+IfSome-none : (o : Option ℕ) (P : ℕ → Type 0) → o ≡ None → IfSome o P
+IfSome-none None P is = tt
+IfSome-none (Some m) P is = absurd (none-some m (sym is))
 
 -- a timer that has ticked is due later, if at all
 timer-fired : (t : TimerSettings) (now : ℕ) (s : TimerState) → 1 ≤ t.interval
@@ -112,14 +142,9 @@ pub fired-done : (settings : Settings) (now : ℕ) (world : World) (state : Devi
 fired-done (kinds.Timer t) now world (states.Timer s) limits shape = timer-fired t now s limits.0
 fired-done (kinds.BallDevice d) now world (states.BallDevice s) limits shape = ball-fired d now s limits
 fired-done (kinds.BallSave b) now world (states.BallSave s) limits shape = save-fired b now s shape
-fired-done (kinds.Multiball m) now world (states.Multiball s) limits shape = tt
-fired-done (kinds.Counter c) now world (states.Counter slots) limits shape = tt
-fired-done (kinds.Accrual a) now world (states.Accrual slots) limits shape = tt
-fired-done (kinds.Bank b) now world (states.Bank slots) limits shape = tt
-fired-done (kinds.Sequence q) now world (states.Sequence slots) limits shape = tt
-fired-done kinds.Flipper now world (states.Flipper s) limits shape = tt
-fired-done kinds.Autofire now world (states.Autofire s) limits shape = tt
-fired-done _ now world _ limits shape = elim shape [ ]
+fired-done settings now world state limits shape =
+    IfSome-none (due_of state) (λ due. IsDone now due state (device_step settings calls.Fire now world state).0)
+    (not_due-unarmed settings state shape refl)
 
 -- ---- which part fires
 
@@ -142,14 +167,8 @@ first_parts_fire (kinds.BallDevice d) now world (states.BallDevice s) shape = ba
 first_parts_fire (kinds.BallSave b) now world (states.BallSave s) shape =
     if_some s.due (FiresFirstPart (kinds.BallSave b) now world (states.BallSave s))
     (λ due is. record { part = 0; first = save-first s due is; step = refl })
-first_parts_fire (kinds.Multiball m) now world (states.Multiball s) shape = tt
-first_parts_fire (kinds.Counter c) now world (states.Counter slots) shape = tt
-first_parts_fire (kinds.Accrual a) now world (states.Accrual slots) shape = tt
-first_parts_fire (kinds.Bank b) now world (states.Bank slots) shape = tt
-first_parts_fire (kinds.Sequence q) now world (states.Sequence slots) shape = tt
-first_parts_fire kinds.Flipper now world (states.Flipper s) shape = tt
-first_parts_fire kinds.Autofire now world (states.Autofire s) shape = tt
-first_parts_fire _ now world _ shape = elim shape [ ]
+first_parts_fire settings now world state shape =
+    IfSome-none (due_of state) (FiresFirstPart settings now world state) (not_due-unarmed settings state shape refl)
 
 pub arms_later_moments : ArmsLaterMoments
 arms_later_moments = record { step = arms-later; fired = fired-done }
@@ -193,19 +212,13 @@ parts-first _ = tt
 -- no part from 17 on is due
 pub parts-few : (settings : Settings) (state : DeviceState) (k : ℕ) → HasShape settings state → 17 ≤ k
     → part_due state k ≡ None
-parts-few (kinds.Timer t) (states.Timer s) zero shape past = absurd (omega (arith, past))
-parts-few (kinds.Timer t) (states.Timer s) (suc k) shape past = refl
+parts-few settings (states.Timer s) zero shape past = absurd (omega (arith, past))
+parts-few settings (states.Timer s) (suc k) shape past = refl
 parts-few (kinds.BallDevice d) (states.BallDevice s) k shape past = ball-parts_few s k shape.switches past
-parts-few (kinds.BallSave b) (states.BallSave s) zero shape past = absurd (omega (arith, past))
-parts-few (kinds.BallSave b) (states.BallSave s) (suc k) shape past = refl
-parts-few (kinds.Multiball m) (states.Multiball s) k shape past = refl
-parts-few (kinds.Counter c) (states.Counter slots) k shape past = refl
-parts-few (kinds.Accrual a) (states.Accrual slots) k shape past = refl
-parts-few (kinds.Bank b) (states.Bank slots) k shape past = refl
-parts-few (kinds.Sequence q) (states.Sequence slots) k shape past = refl
-parts-few kinds.Flipper (states.Flipper s) k shape past = refl
-parts-few kinds.Autofire (states.Autofire s) k shape past = refl
-parts-few _ _ k shape past = elim shape [ ]
+parts-few _ (states.BallDevice s) k shape past = elim shape [ ]
+parts-few settings (states.BallSave s) zero shape past = absurd (omega (arith, past))
+parts-few settings (states.BallSave s) (suc k) shape past = refl
+parts-few _ _ k shape past = refl
 
 pub devices_are_due_with_their_parts : DevicesAreDueWithTheirParts
 devices_are_due_with_their_parts = record { none = parts-none; one = parts-one; first = parts-first; few = parts-few }

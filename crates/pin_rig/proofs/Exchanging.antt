@@ -26,16 +26,7 @@ use Rattle.pin_rig.proofs.Acting.{rig_of}
 
 -- a device that has stopped ejects no ball
 pub stopped-ejects_nothing : (settings : Settings) (now : ℕ) (world : World) (state : DeviceState) → HasShape settings state → EjectsNothing (device_step settings calls_of.ModeStop now world state).0
-stopped-ejects_nothing (kinds.Counter c) now world (states.Counter slots) shape = tt
-stopped-ejects_nothing (kinds.Accrual a) now world (states.Accrual slots) shape = tt
-stopped-ejects_nothing (kinds.Sequence q) now world (states.Sequence slots) shape = tt
-stopped-ejects_nothing (kinds.Timer t) now world (states.Timer s) shape = tt
-stopped-ejects_nothing (kinds.Bank b) now world (states.Bank slots) shape = tt
-stopped-ejects_nothing kinds.Flipper now world (states.Flipper s) shape = tt
-stopped-ejects_nothing kinds.Autofire now world (states.Autofire s) shape = tt
 stopped-ejects_nothing (kinds.BallDevice d) now world (states.BallDevice s) shape = refl
-stopped-ejects_nothing (kinds.BallSave b) now world (states.BallSave s) shape = tt
-stopped-ejects_nothing (kinds.Multiball m) now world (states.Multiball s) shape = tt
 stopped-ejects_nothing _ now world _ shape = elim shape [ ]
 
 module _ (checked : CheckedView) (core : CoreView) (driver : DriverView) (shown : ℕ) (held : IsHeld checked core driver shown)

@@ -55,16 +55,8 @@ IsRefused rig number row state WrongState = HasPlace rig number × (row ≡ row_
 
 -- it ejects no ball, which only a ball device does
 abbrev pub EjectsNothing : DeviceState → Type 0
-EjectsNothing (states.Counter slots) = Unit {0}
-EjectsNothing (states.Accrual slots) = Unit {0}
-EjectsNothing (states.Sequence slots) = Unit {0}
-EjectsNothing (states.Timer s) = Unit {0}
-EjectsNothing (states.Bank slots) = Unit {0}
-EjectsNothing (states.Flipper s) = Unit {0}
-EjectsNothing (states.Autofire s) = Unit {0}
 EjectsNothing (states.BallDevice s) = s.eject ≡ Idle
-EjectsNothing (states.BallSave s) = Unit {0}
-EjectsNothing (states.Multiball s) = Unit {0}
+EjectsNothing _ = Unit {0}
 
 -- A device of this row, in this state, may be the one that was there, once it has stopped: it has the same row, and
 -- the state to which the stop of its mode leads at the moment of the latest stimulus. Nothing of it is due, and it

@@ -48,15 +48,7 @@ idle-end false is s = refl
 end-idle : (settings : Settings) (now : ℕ) (world : World) (state : DeviceState) → is_multiball settings ≡ true → is_on state ≡ false
     → device_step settings (calls.Act acts.End) now world state ≡ (state, [])
 end-idle (kinds.Multiball m) now world (states.Multiball s) is off = idle-end s.running off s
-end-idle (kinds.Multiball m) now world (states.BallSave x) is off = refl
-end-idle (kinds.Multiball m) now world (states.Counter x) is off = refl
-end-idle (kinds.Multiball m) now world (states.Accrual x) is off = refl
-end-idle (kinds.Multiball m) now world (states.Sequence x) is off = refl
-end-idle (kinds.Multiball m) now world (states.Timer x) is off = refl
-end-idle (kinds.Multiball m) now world (states.Bank x) is off = refl
-end-idle (kinds.Multiball m) now world (states.Flipper x) is off = refl
-end-idle (kinds.Multiball m) now world (states.Autofire x) is off = refl
-end-idle (kinds.Multiball m) now world (states.BallDevice x) is off = refl
+end-idle (kinds.Multiball m) now world _ is off = refl
 end-idle _ now world state is off = absurd (false≢true is)
 
 -- so nothing happens where it is told to
