@@ -69,7 +69,7 @@ hit-in c slot = either (is_at_end c.direction c.complete slot.value) (counter.co
     (λ ends. there (there (if_holds (is_some c.complete) (at_end-some c.direction c.complete slot.value ends) here)))
     (λ goes_on. there here)
 
-counter_slot-in : (c : CounterSettings) (act : Act) (now : ℕ) (slot : CounterSlot) → In (counter.slot_step c act now slot).1 (of_counter c act)
+pub counter_slot-in : (c : CounterSettings) (act : Act) (now : ℕ) (slot : CounterSlot) → In (counter.slot_step c act now slot).1 (of_counter c act)
 counter_slot-in c acts.Count now slot =
     let moves : CounterSlot = record slot { value = moved c.direction c.interval slot.value; last_hit = Some now } in
     either (slot.enabled && not (counter.is_early c.window slot.last_hit now)) (counter.counted c moves) (slot, [])
@@ -123,7 +123,7 @@ step-in a i slot within opens =
     (λ all. at_last (only_if (nat_lt 1 a.steps) (going_on ∷ [])))
     (λ some. goes_on-in (nat_lt 1 a.steps) (λ one. true≢false (sym (alone a.steps i slot.done within one opens) ∙ some)))))
 
-accrual_slot-in : (a : StepSettings) (act : Act) (slot : AccrualSlot) → In (accrual.slot_step a act slot).1 (of_accrual a act)
+pub accrual_slot-in : (a : StepSettings) (act : Act) (slot : AccrualSlot) → In (accrual.slot_step a act slot).1 (of_accrual a act)
 accrual_slot-in a (acts.Step i) slot =
     either (slot.enabled && accrual.is_step_open a i slot.done) (accrual.stepped a (record slot { done = slice_set slot.done i true })) (slot, [])
     (λ is. let parts = and_parts slot.enabled (accrual.is_step_open a i slot.done) is in
@@ -153,7 +153,7 @@ takes-in : (last : Bool) (done going : SequenceSlot × List ℕ) → done.1 ≡ 
 takes-in true done going completes goes_on = by completes here
 takes-in false done going completes goes_on = by goes_on here
 
-sequence_slot-in : (q : StepSettings) (act : Act) (slot : SequenceSlot) → In (sequence.slot_step q act slot).1 (of_sequence q act)
+pub sequence_slot-in : (q : StepSettings) (act : Act) (slot : SequenceSlot) → In (sequence.slot_step q act slot).1 (of_sequence q act)
 sequence_slot-in q (acts.Step i) slot =
     let next : SequenceSlot = record slot { next = suc i } in
     either (slot.enabled && (i == slot.next) && nat_lt i q.steps) (sequence.stepped q next) (slot, [])
@@ -223,7 +223,7 @@ timer_act-in t (acts.Subtract n) now s = more-in (timer_completing t) (is_at_end
 timer_act-in t (acts.Jump n) now s = changed-in t now (record s { value = clamped n })
 timer_act-in t _ now s = here
 
-timer-in : (t : TimerSettings) (call : Call) (now : ℕ) (s : TimerState) → In (timer.timer_step t call now s).1 (of_timer t call)
+pub timer-in : (t : TimerSettings) (call : Call) (now : ℕ) (s : TimerState) → In (timer.timer_step t call now s).1 (of_timer t call)
 timer-in t calls.ModeStart now s = begins-in t now s
 timer-in t calls.ModeStop now s = here
 timer-in t calls.Fire now s =
@@ -299,7 +299,7 @@ bank-in b _ world slots four may = here
 switch-in : {S : Type 0} (ready : Bool) (i list : ℕ) (new old : S) → In (if◌then◌else◌ {A = S × List ℕ} (ready && (i == 0)) (new, list ∷ []) (old, [])).1 (of_switch i list)
 switch-in ready i list new old = either (ready && (i == 0)) (new, list ∷ []) (old, []) (λ is. there (if_holds (i == 0) (and_parts ready (i == 0) is).1 here)) (λ not. here)
 
-flipper_act-in : (act : Act) (s : FlipperState) → In (flipper.act_step act s).1 (of_flipper act)
+pub flipper_act-in : (act : Act) (s : FlipperState) → In (flipper.act_step act s).1 (of_flipper act)
 flipper_act-in acts.Disable s = stops-in s.on (record s { enabled = false }) (record s { enabled = false; on = false }) flipper.off
 flipper_act-in (acts.SwitchOn i) s = switch-in s.enabled i flipper.on (record s { on = true }) s
 flipper_act-in (acts.SwitchOff i) s = switch-in s.on i flipper.off (record s { on = false }) s
@@ -310,7 +310,7 @@ flipper-in calls.Fire s may = absurd (false≢true may)
 flipper-in (calls.Act act) s may = flipper_act-in act s
 flipper-in _ s may = here
 
-autofire_act-in : (act : Act) (s : AutofireState) → In (autofire.act_step act s).1 (of_autofire act)
+pub autofire_act-in : (act : Act) (s : AutofireState) → In (autofire.act_step act s).1 (of_autofire act)
 autofire_act-in (acts.SwitchOn i) s = switch-in s.enabled i autofire.fires s s
 autofire_act-in _ s = here
 
