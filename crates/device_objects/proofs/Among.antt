@@ -63,6 +63,9 @@ none P k d below = absurd (omega (arith, below))
 pub one : {X : Type 0} (P : X → Type 0) (x : X) → P x → All P (x ∷ [])
 one P x holds = All-cons P x [] holds (none P)
 
+pub two : {X : Type 0} (P : X → Type 0) (x y : X) → P x → P y → All P (x ∷ y ∷ [])
+two P x y first second = All-cons P x (y ∷ []) first (one P y second)
+
 pub all_if : (P : List ℕ → Type 0) (holds : Bool) (xs : List (List ℕ)) → (holds ≡ true → All P xs)
     → All P (only_if holds xs)
 all_if P true xs all = all refl

@@ -46,7 +46,7 @@ use Rattle.device_objects.proofs.Flat.{All-flat_map_range}
 use Rattle.device_objects.proofs.Among.{none, one, all_if, by_test, if_true, if_false}
 use Rattle.device_objects.proofs.BallAttained.{ball-comes}
 use Rattle.device_objects.proofs.Saves.{save-comes}
-use Rattle.device_objects.proofs.Multiballs.{multiball-comes}
+use Rattle.device_objects.proofs.Multiballs.{multiball_acts}
 use Rattle.device_objects.proofs.Shapes.{first-shape, next-within}
 use Rattle.device_objects.proofs.Answered.{completed-is}
 use Rattle.device_objects.specs.Laws.{HasBankShape, IsAnswer, MayCome, OutcomesComeAbout}
@@ -595,12 +595,12 @@ pub outcomes_come_about : OutcomesComeAbout
 outcomes_come_about (kinds.Timer t) call limits = timer_come_about t call limits.1
 outcomes_come_about (kinds.BallDevice d) call limits = ball-comes d limits call
 outcomes_come_about (kinds.BallSave b) call limits = save-comes b call
-outcomes_come_about (kinds.Multiball m) call limits = multiball-comes m call
 outcomes_come_about (kinds.Counter c) (calls.Act act) limits = counter_acts c act limits
 outcomes_come_about (kinds.Accrual a) (calls.Act act) limits = accrual_acts a act limits
 outcomes_come_about (kinds.Sequence q) (calls.Act act) limits = sequence_acts q act
 outcomes_come_about (kinds.Bank b) (calls.Act act) limits = bank_acts b limits act
 outcomes_come_about kinds.Flipper (calls.Act act) limits = flipper_acts act
 outcomes_come_about kinds.Autofire (calls.Act act) limits = autofire_acts act
+outcomes_come_about (kinds.Multiball m) (calls.Act act) limits = multiball_acts m act
 outcomes_come_about settings calls.Fire limits = none (IsAnswer settings calls.Fire)
 outcomes_come_about settings call limits = one (IsAnswer settings call) [] (first_answer settings call [] tt refl)

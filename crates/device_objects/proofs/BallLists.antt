@@ -41,65 +41,9 @@ confirmed-lists : (target : BallTarget) → AreLists (confirmed target)
 confirmed-lists targets.Playfield = two_lists arrived succeeded (omega arith) (omega arith)
 confirmed-lists (targets.Device r) = one_list succeeded (omega arith)
 
--- ---- outcomes
+-- ---- answers
 
 module _ (d : BallSettings) where
-  ending-lists : (lists : List ℕ) → AreLists lists → All AreLists (ending d lists)
-  ending-lists lists are =
-      All-cons AreLists lists (only_if (may_begin d) ((lists ++ attempted ∷ []) ∷ [])) are
-      (all_if AreLists (may_begin d) ((lists ++ attempted ∷ []) ∷ [])
-      (λ may. one AreLists (lists ++ attempted ∷ [])
-      (and_then lists (attempted ∷ []) are (one_list attempted (omega arith)))))
-
-  count-lists : All AreLists (of_count d)
-  count-lists =
-      let leaves : List (List ℕ) = only_if (may_eject d) ((left ∷ []) ∷ []) in
-      All-append AreLists (ending d (entered ∷ []) ++ leaves) ((lost ∷ []) ∷ [])
-      (All-append AreLists (ending d (entered ∷ [])) leaves
-      (ending-lists (entered ∷ []) (one_list entered (omega arith)))
-      (all_if AreLists (may_eject d) ((left ∷ []) ∷ [])
-      (λ may. one AreLists (left ∷ []) (one_list left (omega arith)))))
-      (one AreLists (lost ∷ []) (one_list lost (omega arith)))
-
-  attempt-lists : All AreLists (of_attempt d)
-  attempt-lists =
-      All-append AreLists (only_if (may_try_again d.ejects.max_attempts 1) ((failed ∷ attempted ∷ []) ∷ []))
-      (only_if (is_some d.ejects.max_attempts) ((failed ∷ []) ∷ []))
-      (all_if AreLists (may_try_again d.ejects.max_attempts 1) ((failed ∷ attempted ∷ []) ∷ [])
-      (λ may. one AreLists (failed ∷ attempted ∷ []) (two_lists failed attempted (omega arith) (omega arith))))
-      (all_if AreLists (is_some d.ejects.max_attempts) ((failed ∷ []) ∷ [])
-      (λ some. one AreLists (failed ∷ []) (one_list failed (omega arith))))
-
-  fire_outcomes-lists : All AreLists (of_ball_fire d)
-  fire_outcomes-lists =
-      let counts : List (List ℕ) = only_if (nat_lt 0 d.switches) (of_count d) in
-      let attempts : List (List ℕ) = only_if d.has_coil (of_attempt d) in
-      All-append AreLists (counts ++ attempts) (only_if (may_eject d) (ending d (overdue d.target)))
-      (All-append AreLists counts attempts
-      (all_if AreLists (nat_lt 0 d.switches) (of_count d) (λ some. count-lists))
-      (all_if AreLists d.has_coil (of_attempt d) (λ coil. attempt-lists)))
-      (all_if AreLists (may_eject d) (ending d (overdue d.target))
-      (λ may. ending-lists (overdue d.target) (overdue-lists d.target)))
-
-  act_outcomes-lists : (act : Act) → All AreLists (of_ball_act d act)
-  act_outcomes-lists acts.Confirm =
-      All-cons AreLists [] (only_if (may_eject d) (ending d (confirmed d.target))) no_list
-      (all_if AreLists (may_eject d) (ending d (confirmed d.target))
-      (λ may. ending-lists (confirmed d.target) (confirmed-lists d.target)))
-  act_outcomes-lists (acts.Request n) =
-      let begins : Bool = d.trough && may_begin d in
-      All-cons AreLists [] (only_if begins ((attempted ∷ []) ∷ [])) no_list
-      (all_if AreLists begins ((attempted ∷ []) ∷ [])
-      (λ is. one AreLists (attempted ∷ []) (one_list attempted (omega arith))))
-  act_outcomes-lists _ = one AreLists [] no_list
-
-  pub ball_outcomes-lists : (call : Call) → All AreLists (of_ball_device d call)
-  ball_outcomes-lists calls.Fire = fire_outcomes-lists
-  ball_outcomes-lists (calls.Act act) = act_outcomes-lists act
-  ball_outcomes-lists _ = one AreLists [] no_list
-
-  -- ---- answers
-
   either : (test : Bool) (x y : BallState × List ℕ) → AreLists x.1 → AreLists y.1 → AreLists (if test then x else y).1
   either true x y first second = first
   either false x y first second = second

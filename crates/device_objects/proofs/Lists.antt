@@ -10,6 +10,7 @@ use Rattle.plan_tables.specs.declared.devices.Act.TheVariants as acts
 use Rattle.plan_tables.specs.declared.devices.BankSettings.{BankSettings}
 use Rattle.machine_settings.specs.declared.settings.CounterSettings.{CounterSettings}
 use Rattle.machine_settings.specs.declared.settings.StepSettings.{StepSettings}
+use Rattle.machine_settings.specs.declared.settings.MultiballSettings.{MultiballSettings}
 use Rattle.plan_tables.specs.declared.devices.Settings.{Settings}
 use Rattle.plan_tables.specs.declared.devices.Settings.TheVariants as kinds
 use Rattle.device_objects.specs.declared.device.Call.{Call}
@@ -20,6 +21,7 @@ use Rattle.device_objects.specs.declared.state.SequenceSlot.{SequenceSlot}
 use Rattle.device_objects.specs.declared.state.BankSlot.{BankSlot}
 use Rattle.device_objects.specs.declared.state.FlipperState.{FlipperState}
 use Rattle.device_objects.specs.declared.state.AutofireState.{AutofireState}
+use Rattle.device_objects.specs.declared.state.MultiballState.{MultiballState}
 use Rattle.device_objects.specs.declared.state.DeviceState.{DeviceState}
 use Rattle.device_objects.specs.declared.state.DeviceState.TheVariants as states
 use Rattle.device_objects.specs.declared.state.World.{World}
@@ -30,15 +32,16 @@ use Rattle.device_objects.specs.Sequence as sequence
 use Rattle.device_objects.specs.Flipper as flipper
 use Rattle.device_objects.specs.Autofire as autofire
 use Rattle.device_objects.specs.Bank as bank
+use Rattle.device_objects.specs.Multiball as multiball
 use Rattle.device_objects.specs.Bank.{next_state, shot_hit, group_hit, group_complete, hit_lists}
 use Rattle.device_objects.specs.DeviceStep.{device_step}
 use Rattle.device_objects.specs.Laws.{OutcomesAreOfTheRow}
 use Rattle.device_objects.specs.Outcomes.{only_if, can_complete, hit_completing, of_hit_in, of_hit, of_bank, outcomes}
 use Rattle.device_objects.proofs.Among.{In, contains}
 use Rattle.device_objects.proofs.Answered.{counter_slot-in, accrual_slot-in, sequence_slot-in, timer-in, bank_slot-in, flipper_act-in, autofire_act-in}
-use Rattle.device_objects.proofs.BallLists.{ball_outcomes-lists, ball_step-lists}
-use Rattle.device_objects.proofs.Saves.{save_outcomes-lists, save_step-lists}
-use Rattle.device_objects.proofs.Multiballs.{multiball_outcomes-lists, multiball_step-lists}
+use Rattle.device_objects.proofs.BallLists.{ball_step-lists}
+use Rattle.device_objects.proofs.Saves.{save_step-lists}
+use Rattle.device_objects.proofs.Multiballs.{multiball_act-in}
 use Rattle.device_objects.proofs.Flat.{All-flat_map_range}
 use Rattle.device_objects.proofs.Shapes.{next-within}
 
@@ -155,9 +158,6 @@ module _ (b : BankSettings) where
 -- each outcome of a call
 pub outcomes_of_row : OutcomesAreOfTheRow
 outcomes_of_row (kinds.Bank b) call = bank-all_below b call
-outcomes_of_row (kinds.BallDevice d) call = ball_outcomes-lists d call
-outcomes_of_row (kinds.BallSave b) call = save_outcomes-lists b call
-outcomes_of_row (kinds.Multiball m) call = multiball_outcomes-lists call
 outcomes_of_row _ call = search rules
 
 -- so is what is one of the outcomes
@@ -197,6 +197,10 @@ autofire-below : (call : Call) (s : AutofireState) → AreBelow 1 (autofire.auto
 autofire-below (calls.Act act) s = outcome-below kinds.Autofire (calls.Act act) _ (autofire_act-in act s)
 autofire-below _ s = none 1
 
+multiball-below : (m : MultiballSettings) (call : Call) (world : World) (s : MultiballState) → AreBelow 2 (multiball.multiball_step call world s).1
+multiball-below m (calls.Act act) world s = outcome-below (kinds.Multiball m) (calls.Act act) _ (multiball_act-in act world s)
+multiball-below m _ world s = none 2
+
 -- and what a device answers
 pub lists_are_of_the_row : (settings : Settings) (call : Call) (now : ℕ) (world : World) (state : DeviceState) → All (λ k. k < list_count settings) (device_step settings call now world state).1
 lists_are_of_the_row (kinds.Counter c) call now world (states.Counter slots) = counter-below c call now world slots
@@ -208,5 +212,5 @@ lists_are_of_the_row kinds.Flipper call now world (states.Flipper s) = flipper-b
 lists_are_of_the_row kinds.Autofire call now world (states.Autofire s) = autofire-below call s
 lists_are_of_the_row (kinds.BallDevice d) call now world (states.BallDevice s) = ball_step-lists d call now s
 lists_are_of_the_row (kinds.BallSave b) call now world (states.BallSave s) = save_step-lists b call now s
-lists_are_of_the_row (kinds.Multiball m) call now world (states.Multiball s) = multiball_step-lists call world s
+lists_are_of_the_row (kinds.Multiball m) call now world (states.Multiball s) = multiball-below m call world s
 lists_are_of_the_row settings call now world state = none (list_count settings)

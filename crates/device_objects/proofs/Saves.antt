@@ -15,7 +15,7 @@ use Rattle.device_objects.specs.declared.state.DeviceState.TheVariants as states
 use Rattle.device_objects.specs.BallSave.{enabled, disabled, saving, first_state, end_of, disable, saved, act_step, save_step}
 use Rattle.device_objects.specs.Laws.{HasSaveShape, IsAnswer, IsDone, IsFirstPart, MayCome}
 use Rattle.device_objects.specs.Outcomes.{only_if, of_save, of_save_act}
-use Rattle.device_objects.proofs.Among.{In, here, there, at_last, at_left, if_holds, by, either, none, one, all_if, if_true}
+use Rattle.device_objects.proofs.Among.{In, here, there, at_last, at_left, if_holds, by, either, none, one, all_if, if_true, two}
 
 -- the state of a ball save that is active no more
 abbrev shut : SaveState → SaveState
@@ -135,13 +135,6 @@ module _ (b : SaveSettings) where
   from_active act lists left low answers =
       answered (calls.Act act) lists (active_with left) (active-shape left low) tt answers
 
-  two : (act : Act) (lists : List ℕ) → IsAnswer (kinds.BallSave b) (calls.Act act) []
-      → IsAnswer (kinds.BallSave b) (calls.Act act) lists
-      → All (IsAnswer (kinds.BallSave b) (calls.Act act)) ([] ∷ lists ∷ [])
-  two act lists first second =
-      All-cons (IsAnswer (kinds.BallSave b) (calls.Act act)) [] (lists ∷ []) first
-      (one (IsAnswer (kinds.BallSave b) (calls.Act act)) lists second)
-
   saves : All (IsAnswer (kinds.BallSave b) (calls.Act acts.Save)) (of_save_act b acts.Save)
   saves =
       let Answer : List ℕ → Type 0 = IsAnswer (kinds.BallSave b) (calls.Act acts.Save) in
@@ -157,10 +150,10 @@ module _ (b : SaveSettings) where
 
   acts-come : (act : Act) → All (IsAnswer (kinds.BallSave b) (calls.Act act)) (of_save_act b act)
   acts-come acts.Enable =
-      two acts.Enable (enabled ∷ []) (from_active acts.Enable [] 0 (omega arith) refl)
+      two (IsAnswer (kinds.BallSave b) (calls.Act acts.Enable)) [] (enabled ∷ []) (from_active acts.Enable [] 0 (omega arith) refl)
       (answered (calls.Act acts.Enable) (enabled ∷ []) first_state (first_save-shape b) tt refl)
   acts-come acts.Disable =
-      two acts.Disable (disabled ∷ []) (quiet (calls.Act acts.Disable) tt refl)
+      two (IsAnswer (kinds.BallSave b) (calls.Act acts.Disable)) [] (disabled ∷ []) (quiet (calls.Act acts.Disable) tt refl)
       (from_active acts.Disable (disabled ∷ []) 0 (omega arith) refl)
   acts-come acts.Save = saves
   acts-come act = one (IsAnswer (kinds.BallSave b) (calls.Act act)) [] (quiet (calls.Act act) tt refl)
@@ -196,30 +189,6 @@ two_lists : AreLists (saving ∷ disabled ∷ [])
 two_lists = All-cons (λ j. j < 3) saving (disabled ∷ []) (omega arith) (one_list disabled (omega arith))
 
 module _ (b : SaveSettings) where
-  act_outcomes-lists : (act : Act) → All AreLists (of_save_act b act)
-  act_outcomes-lists acts.Enable =
-      All-cons AreLists [] ((enabled ∷ []) ∷ []) no_list
-      (one AreLists (enabled ∷ []) (one_list enabled (omega arith)))
-  act_outcomes-lists acts.Disable =
-      All-cons AreLists [] ((disabled ∷ []) ∷ []) no_list
-      (one AreLists (disabled ∷ []) (one_list disabled (omega arith)))
-  act_outcomes-lists acts.Save =
-      let goes_on : List (List ℕ) = only_if (nat_lt 1 b.balls) ((saving ∷ []) ∷ []) in
-      let last : List (List ℕ) = (saving ∷ disabled ∷ []) ∷ [] in
-      All-cons AreLists [] (goes_on ++ last) no_list
-      (All-append AreLists goes_on last
-      (all_if AreLists (nat_lt 1 b.balls) ((saving ∷ []) ∷ [])
-      (λ several. one AreLists (saving ∷ []) (one_list saving (omega arith))))
-      (one AreLists (saving ∷ disabled ∷ []) two_lists))
-  act_outcomes-lists _ = one AreLists [] no_list
-
-  pub save_outcomes-lists : (call : Call) → All AreLists (of_save b call)
-  save_outcomes-lists calls.Fire =
-      all_if AreLists (nat_lt 0 b.active_time) ((disabled ∷ []) ∷ [])
-      (λ some. one AreLists (disabled ∷ []) (one_list disabled (omega arith)))
-  save_outcomes-lists (calls.Act act) = act_outcomes-lists act
-  save_outcomes-lists _ = one AreLists [] no_list
-
   one_answer : (test : Bool) (x y : SaveState × List ℕ) → AreLists x.1 → AreLists y.1
       → AreLists (if test then x else y).1
   one_answer true x y first second = first
