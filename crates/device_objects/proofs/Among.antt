@@ -1,7 +1,7 @@
 -- Lists of answers: what is among them, and what holds of each.
-use Rattle.std.proofs.Common.{◌≡◌, ℕ, zero, suc, ◌+◌, ◌<◌, ◌≤◌, Bool, true, false, List, [], ◌∷◌, ◌++◌, if◌then◌else◌, refl, sym, subst, inl, inr, zero-le, suc-le-suc, arith}
+use Rattle.std.proofs.Common.{rules, ◌≡◌, ℕ, zero, suc, ◌+◌, ◌<◌, ◌≤◌, Bool, true, false, List, [], ◌∷◌, ◌++◌, if◌then◌else◌, refl, sym, subst, inl, inr, zero-le, suc-le-suc, arith}
 use Rattle.std.specs.List.{All, Contains, flat_map, range_with_len}
-use Rattle.std.proofs.lemmas.Bool.{cases_eq, false≢true, true≢false}
+use Rattle.std.proofs.lemmas.Bool.{cases_eq}
 use Rattle.std.proofs.lemmas.List.Elements.{All-cons}
 use Rattle.device_objects.specs.Outcomes.{only_if}
 
@@ -42,8 +42,7 @@ in_flat_map f {among = b ∷ bs} here at = at_left (flat_map f bs) at
 in_flat_map f {among = b ∷ bs} (there found) at = at_right (f b) (in_flat_map f found at)
 
 pub if_holds : {x : List ℕ} {xs : List (List ℕ)} (holds : Bool) → holds ≡ true → In x xs → In x (only_if holds xs)
-if_holds true is at = at
-if_holds false is at = absurd (false≢true is)
+if_holds holds is at = search rules
 
 pub by : {x y : List ℕ} {xs : List (List ℕ)} → x ≡ y → In y xs → In x xs
 by is at = rw is at
@@ -52,8 +51,7 @@ by is at = rw is at
 pub either : {S : Type 0} {xs : List (List ℕ)} (test : Bool) (x y : S × List ℕ) → (test ≡ true → In x.1 xs)
     → (test ≡ false → In y.1 xs)
     → In (if test then x else y).1 xs
-either true x y first second = first refl
-either false x y first second = second refl
+either test x y first second = search rules
 
 -- ---- what holds of each
 
@@ -68,21 +66,17 @@ two P x y first second = All-cons P x (y ∷ []) first (one P y second)
 
 pub all_if : (P : List ℕ → Type 0) (holds : Bool) (xs : List (List ℕ)) → (holds ≡ true → All P xs)
     → All P (only_if holds xs)
-all_if P true xs all = all refl
-all_if P false xs all = none P
+all_if P holds xs all = search rules
 
 pub by_test : (P : List ℕ → Type 0) (test : Bool) (xs ys : List (List ℕ)) → (test ≡ true → All P xs)
     → (test ≡ false → All P ys)
     → All P (if test then xs else ys)
-by_test P true xs ys first second = first refl
-by_test P false xs ys first second = second refl
+by_test P test xs ys first second = search rules
 
 -- ---- an answer that is one of two
 
 pub if_true : {S : Type 0} (test : Bool) (x y : S × List ℕ) → test ≡ true → (if test then x else y).1 ≡ x.1
-if_true true x y is = refl
-if_true false x y is = absurd (false≢true is)
+if_true test x y is = search rules
 
 pub if_false : {S : Type 0} (test : Bool) (x y : S × List ℕ) → test ≡ false → (if test then x else y).1 ≡ y.1
-if_false true x y is = absurd (true≢false is)
-if_false false x y is = refl
+if_false test x y is = search rules

@@ -1,5 +1,5 @@
 -- What devices answer is among their outcomes.
-use Rattle.std.proofs.Common.{◌≡◌, ℕ, zero, ◌==◌, suc, nat_lt, nat_le, ◌<◌, Bool, true, false, Option, None, Some, List, [], ◌∷◌, ◌++◌, length, take, slice_get, slice_set, if◌then◌else◌, is_some, refl, sym, ap, ◌∙◌, ◌&&◌, not, ℤ, pos, ◌+ℤ◌, ◌-ℤ◌, arith}
+use Rattle.std.proofs.Common.{rules, ◌≡◌, ℕ, zero, ◌==◌, suc, nat_lt, nat_le, ◌<◌, Bool, true, false, Option, Some, List, [], ◌∷◌, ◌++◌, length, take, slice_get, slice_set, if◌then◌else◌, is_some, refl, sym, ap, ◌∙◌, ◌&&◌, not, ℤ, pos, ◌+ℤ◌, ◌-ℤ◌, arith}
 use Rattle.std.specs.List.{list_all, range_with_len}
 use Rattle.std.proofs.lemmas.List.{append-nil}
 use Rattle.std.proofs.lemmas.Option.{none-some}
@@ -47,8 +47,7 @@ use Rattle.device_objects.proofs.Multiballs.{multiball-in}
 
 -- a value is at its end only where there is one
 at_end-some : (direction : Direction) (end : Option ℤ) (value : ℤ) → is_at_end direction end value ≡ true → is_some end ≡ true
-at_end-some direction None value is = absurd (false≢true is)
-at_end-some direction (Some end) value is = refl
+at_end-some direction end value is = search rules
 
 -- ---- blocks
 
@@ -180,8 +179,7 @@ sequence-in q _ world slots four may = here
 -- ---- timers
 
 second : {S : Type 0} (test : Bool) (x y : S × List ℕ) → (if test then x else y).1 ≡ (if test then x.1 else y.1)
-second true x y = refl
-second false x y = refl
+second test x y = search rules
 
 pub completed-is : (t : TimerSettings) (now : ℕ) (s : TimerState) → (timer.completed t now s).1 ≡ timer_completing t
 completed-is t now s = second t.restart (timer.run t now (timer.first_state t), timer.complete ∷ timer.started ∷ []) (timer.halt s, timer.complete ∷ [])

@@ -1,14 +1,14 @@
 -- Each outcome is the answer of some state.
-use Rattle.std.proofs.Common.{◌≡◌, ◌≢◌, ◌⊎◌, inl, inr, ℕ, zero, ◌==◌, suc, nat_lt, nat_le, ◌<◌, ◌≤◌, Bool, true, false, Option, None, Some, List, [], ◌∷◌, ◌++◌, length, replicate, take, get_or, slice_get, slice_set, if◌then◌else◌, is_some, refl, sym, ap, not, ◌∙◌, ◌&&◌, ℤ, pos, neg_ℤ, ◌+ℤ◌, ◌-ℤ◌, arith}
+use Rattle.std.proofs.Common.{rules, ◌≡◌, ◌≢◌, ◌⊎◌, inl, inr, ℕ, zero, ◌==◌, suc, nat_lt, ◌<◌, ◌≤◌, Bool, true, false, Option, None, Some, List, [], ◌∷◌, ◌++◌, length, replicate, take, get_or, slice_get, slice_set, if◌then◌else◌, is_some, refl, sym, ap, not, ◌∙◌, ◌&&◌, ℤ, pos, neg_ℤ, ◌+ℤ◌, ◌-ℤ◌, arith}
 use Rattle.std.specs.List.{All, list_all}
 use Rattle.std.specs.Prelude.{int_le}
 use Rattle.std.specs.Prelude.{◌≤ℤ◌}
 use Rattle.std.proofs.lemmas.Int.{ints}
 use Rattle.std.proofs.lemmas.List.Elements.{All-cons, All-append, All-replicate, All-set}
 use Rattle.std.proofs.lemmas.List.Folds.{list_all_at}
-use Rattle.std.proofs.lemmas.List.{append-nil, get_or-replicate, get_or-set_other, get_or-set_same, get_or-take, length-replicate, length-set, length-take, set-set, take-replicate}
+use Rattle.std.proofs.lemmas.List.{get_or-replicate, get_or-set_other, get_or-set_same, get_or-take, length-replicate, length-set, length-take, set-set, take-replicate}
 use Rattle.std.proofs.lemmas.Option.{slice_get-get_or}
-use Rattle.std.proofs.lemmas.Bool.{and_from, and_parts, cases_Bool, eq-eqb, eqb-false, le-leb, ltb-true, ne_eqb, false≢true, true≢false}
+use Rattle.std.proofs.lemmas.Bool.{and_from, and_parts, cases_Bool, eq-eqb, eqb-false, ltb-true, ne_eqb, false≢true}
 use Rattle.plan_tables.specs.declared.devices.BankSettings.{BankSettings}
 use Rattle.machine_settings.specs.declared.settings.CounterSettings.{CounterSettings}
 use Rattle.machine_settings.specs.declared.settings.StepSettings.{StepSettings}
@@ -94,16 +94,13 @@ abbrev nobody : World
 nobody = record { games = 0; player = 0; in_play = 0 }
 
 in_use : {S : Type 0} (step : S → S × List ℕ) (slot : S) (persist : Bool) → (step_in_use step (replicate 4 slot) (slot_in_use persist alone)).1 ≡ (step slot).1
-in_use step slot true = refl
-in_use step slot false = refl
+in_use step slot persist = search rules
 
 by_nobody : {S : Type 0} (step : S → S × List ℕ) (slots : List S) (persist : Bool) → persist ≡ true → (step_in_use step slots (slot_in_use persist nobody)).1 ≡ []
-by_nobody step slots true is = refl
-by_nobody step slots false is = absurd (false≢true is)
+by_nobody step slots persist is = search rules
 
 same_game : {S : Type 0} (persist : Bool) (other slot : S) → (if is_of_other_game persist alone 0 then other else slot) ≡ slot
-same_game true other slot = refl
-same_game false other slot = refl
+same_game persist other slot = search rules
 
 -- ---- counters
 
@@ -275,8 +272,7 @@ sequence_by_nobody q act persist = record {
 }
 
 halves : {S : Type 0} (test : Bool) (x y : S) (a b : List ℕ) → (if◌then◌else◌ {A = S × List ℕ} test (x, a) (y, b)).1 ≡ (if test then a else b)
-halves true x y a b = refl
-halves false x y a b = refl
+halves test x y a b = search rules
 
 sequence_takes : (q : StepSettings) (i : ℕ) → nat_lt i q.steps ≡ true → IsAnswer (kinds.Sequence q) (calls.Act (acts.Step i)) (if suc i == q.steps then completing else going_on)
 sequence_takes q i below =
@@ -394,28 +390,16 @@ bank_by_nobody b act = record {
   answer = by_nobody (λ slot. bank.slot_step b act (bank.current b nobody slot)) (bank.first_slots b) true refl;
 }
 
--- what a hit answers where it completes no group, and where it completes one
-not_complete : (group advance moves all : Bool) → (group && (advance && moves)) ≡ false → advance ≡ true
-    → (group && (moves && all)) ≡ false
-not_complete true false moves all is on = absurd (false≢true on)
-not_complete true true true all is on = absurd (true≢false is)
-not_complete _ _ _ all is on = refl
-
 none_differs : (group moves all : Bool) → all ≡ false → (group && (moves && all)) ≡ false
-none_differs true true all is = is
-none_differs _ _ all is = refl
+none_differs group moves all is = search rules
 
 quiet_hit : {S : Type 0} (x y : S) (advance complete : Bool) (hits done : List ℕ) → (advance ≡ true → complete ≡ false)
     → (if◌then◌else◌ {A = S × List ℕ} advance (x, hits ++ (if complete then done else [])) (y, hits)).1 ≡ hits
-quiet_hit x y false complete hits done is = refl
-quiet_hit x y true false hits done is = append-nil hits
-quiet_hit x y true true hits done is = absurd (true≢false (is refl))
+quiet_hit x y advance complete hits done is = search rules
 
 full_hit : {S : Type 0} (x y : S) (advance complete : Bool) (hits done : List ℕ) → advance ≡ true → complete ≡ true
     → (if◌then◌else◌ {A = S × List ℕ} advance (x, hits ++ (if complete then done else [])) (y, hits)).1 ≡ hits ++ done
-full_hit x y true true hits done on is = refl
-full_hit x y false complete hits done on is = absurd (false≢true on)
-full_hit x y true false hits done on is = absurd (false≢true is)
+full_hit x y advance complete hits done on is = search rules
 
 -- some shot, of several, but this one
 another : ℕ → ℕ
@@ -424,8 +408,7 @@ another (suc i) = 0
 
 another-is : (i : ℕ) → (another i ≢ i) × (another i < 2)
 unfolding another
-another-is zero = (omega arith, omega arith)
-another-is (suc i) = (omega arith, omega arith)
+another-is i = search rules
 
 all_same : (n s : ℕ) → list_all (λ x. x == s) (replicate n s) ≡ true
 all_same zero s = refl
@@ -440,8 +423,7 @@ slice_get-replicate n i x l =
     slice_get-get_or (replicate n x) i x (omega (arith, l, length-replicate n x)) ∙ ap Some (get_or-replicate n i x x l)
 
 none_moves : (group all same : Bool) → same ≡ true → (group && (not same && all)) ≡ false
-none_moves true all false is = absurd (false≢true is)
-none_moves _ all _ is = refl
+none_moves group all same is = search rules
 
 -- of several shots that were in one state, one has moved
 one_moved : (n i s next : ℕ) → nat_lt 1 n ≡ true → n ≤ 16 → (next ≡ s → ⊥)
@@ -468,24 +450,12 @@ module _ (b : BankSettings) (limits : IsWithinLimits (kinds.Bank b)) where
   -- a hit of a shot in this state
   bank_hit : (i s : ℕ) (shots : List ℕ) → nat_lt i b.shots ≡ true → s ≤ b.last_state → slice_get shots i ≡ Some s
       → (bank.slot_step b (acts.Hit i) (bank_slot shots)).1 ≡ (bank.hit b i s (bank_slot shots)).1
-  bank_hit i s shots within low is =
-      let i-low : i < b.shots = ltb-true i b.shots within in
-      let on : slice_get (replicate 16 true) i ≡ Some true =
-      slice_get-replicate 16 i true (omega (arith, limits.0, i-low)) in
-      if_true (nat_lt i b.shots)
-      (bank.hit_where b i (slice_get (replicate 16 true) i) (slice_get shots i) (bank_slot shots))
-      (bank_slot shots, []) within
-      ∙ ap (λ enabled. (bank.hit_where b i enabled (slice_get shots i) (bank_slot shots)).1) on
-      ∙ ap (λ state. (bank.hit_where b i (Some true) state (bank_slot shots)).1) is
-      ∙ if_true (nat_le s b.last_state) (bank.hit b i s (bank_slot shots)) (bank_slot shots, []) (le-leb s b.last_state low)
+  bank_hit i s shots within low is = search rules
 
   -- a shot is hit in this state, as all others are in
   stays-incomplete : (i s : ℕ) → (can_complete b s ≡ false) ⊎ (nat_lt 1 b.shots ≡ true) → b.advance_on_hit ≡ true
       → bank.is_complete b s (bank.gone_on b i s (replicate 16 s)) ≡ false
-  stays-incomplete i s (inl cannot) on =
-      let next = bank.next_state b s in
-      not_complete b.group b.advance_on_hit (not (next == s))
-      (bank.are_all_in b next (bank.gone_on b i s (replicate 16 s))) cannot on
+  stays-incomplete i s (inl cannot) on = search rules
   stays-incomplete i s (inr several) on =
       let next = bank.next_state b s in
       let all = bank.are_all_in b next (bank.gone_on b i s (replicate 16 s)) in
@@ -562,9 +532,7 @@ module _ (b : BankSettings) (limits : IsWithinLimits (kinds.Bank b)) where
 -- ---- flippers and autofire coils
 
 switch_comes : (settings : Settings) (act : Act) (i list : ℕ) → IsAnswer settings (calls.Act act) [] → ((i == 0) ≡ true → IsAnswer settings (calls.Act act) (list ∷ [])) → All (IsAnswer settings (calls.Act act)) (of_switch i list)
-switch_comes settings act i list quiet told =
-    let Answer : List ℕ → Type 0 = IsAnswer settings (calls.Act act) in
-    All-cons Answer [] (only_if (i == 0) ((list ∷ []) ∷ [])) quiet (all_if Answer (i == 0) ((list ∷ []) ∷ []) (λ is. one Answer (list ∷ []) (told is)))
+switch_comes settings act i list quiet told = search rules
 
 flipper_answer : (act : Act) (lists : List ℕ) (s : FlipperState) → (flipper.act_step act s).1 ≡ lists → IsAnswer kinds.Flipper (calls.Act act) lists
 flipper_answer act lists s answers = record { now = 0; world = alone; state = states.Flipper s; shape = tt; may_come = tt; answer = answers }

@@ -1,7 +1,7 @@
 -- What ball devices answer is among their outcomes.
-use Rattle.std.proofs.Common.{◌≡◌, ℕ, zero, suc, ◌+◌, ◌<◌, ◌≤◌, min, Bool, true, false, Option, None, Some, is_some, List, [], ◌∷◌, ◌++◌, ◌&&◌, drop, option_map, nat_lt, if◌then◌else◌, refl, sym, ap, ◌∙◌, arith}
+use Rattle.std.proofs.Common.{rules, ◌≡◌, ℕ, zero, suc, ◌+◌, ◌<◌, ◌≤◌, min, Bool, true, false, Option, None, Some, is_some, List, [], ◌∷◌, ◌++◌, ◌&&◌, drop, option_map, nat_lt, if◌then◌else◌, refl, sym, ap, ◌∙◌, arith}
 use Rattle.std.specs.List.{All, list_any}
-use Rattle.std.proofs.lemmas.Bool.{and_from, lt-ltb, ltb-true, or_left, or_right, false≢true, true≢false}
+use Rattle.std.proofs.lemmas.Bool.{and_from, lt-ltb, or_left, or_right, false≢true, true≢false}
 use Rattle.std.proofs.lemmas.List.{append-nil}
 use Rattle.std.proofs.lemmas.List.Elements.{All-weaker}
 use Rattle.std.proofs.lemmas.List.Folds.{list_any_none}
@@ -28,14 +28,11 @@ use Rattle.device_objects.proofs.BallShapes.{can_begin-parts, ended-shape, first
 -- what is due first is there
 timeout-some : (first : Option (ℕ × ℕ)) (timeout : Option ℕ) → is_timeout_first first timeout ≡ true
     → is_some timeout ≡ true
-timeout-some first None is = absurd (false≢true is)
-timeout-some first (Some t) is = refl
+timeout-some first timeout is = search rules
 
 first-some : (first : Option (ℕ × ℕ)) (timeout : Option ℕ) → is_timeout_first first timeout ≡ false
     → is_some (earlier (option_map (λ a. a.0) first) timeout) ≡ true → is_some first ≡ true
-first-some None None is may = may
-first-some None (Some t) is may = absurd (true≢false is)
-first-some (Some a) timeout is may = refl
+first-some first timeout is may = search rules
 
 -- ---- balls and attempts
 
@@ -52,13 +49,10 @@ some_switch (suc n) bs unused counts = lt-ltb 0 (suc n) (omega arith)
 -- an attempt may follow one of this number, so also the first; or there is a last one
 may_follow_first : (most : Option ℕ) (number : ℕ) → 1 ≤ number → may_try_again most number ≡ true
     → may_try_again most 1 ≡ true
-may_follow_first None number low may = refl
-may_follow_first (Some most) number low may =
-    let below : number < most = ltb-true number most may in lt-ltb 1 most (omega (arith, low, below))
+may_follow_first most number low may = search rules
 
 has_last : (most : Option ℕ) (number : ℕ) → may_try_again most number ≡ false → is_some most ≡ true
-has_last None number may = absurd (true≢false may)
-has_last (Some most) number may = refl
+has_last most number may = search rules
 
 module _ (d : BallSettings) where
   -- these lists, after which it begins to eject a ball, or not

@@ -1,7 +1,7 @@
 -- Each outcome of a ball device is the answer of some state.
-use Rattle.std.proofs.Common.{◌≡◌, ℕ, zero, suc, ◌+◌, ◌<◌, ◌≤◌, min, max, inl, inr, Bool, true, false, Option, None, Some, unwrap_or, is_some, List, [], ◌∷◌, ◌++◌, ◌&&◌, ◌||◌, not, drop, replicate, nat_lt, refl, ap, ◌∙◌, arith}
+use Rattle.std.proofs.Common.{rules, ◌≡◌, ℕ, zero, suc, ◌+◌, ◌<◌, ◌≤◌, min, max, inl, inr, Bool, true, false, Option, None, Some, unwrap_or, is_some, List, [], ◌∷◌, ◌++◌, ◌&&◌, ◌||◌, not, drop, replicate, nat_lt, refl, ap, ◌∙◌, arith}
 use Rattle.std.specs.List.{All}
-use Rattle.std.proofs.lemmas.Bool.{and_from, and_left, and_parts, cases_Bool, le-ltb, lt-ltb, ltb-true, or_cases, or_right, false≢true}
+use Rattle.std.proofs.lemmas.Bool.{and_from, and_left, and_parts, cases_Bool, lt-ltb, ltb-true, or_cases, or_right}
 use Rattle.std.proofs.lemmas.List.{append-nil}
 use Rattle.std.proofs.lemmas.List.Elements.{All-append, All-cons, All-drop, All-replicate}
 use Rattle.plan_tables.specs.declared.devices.Act.{Act}
@@ -50,20 +50,12 @@ unused (suc n) b some = All-drop (λ c. c ≡ empty) n (replicate 15 empty) (All
 -- the number of the last attempt, where there is one
 last_attempt : (most : Option ℕ) → is_some most ≡ true
     → (n : ℕ) × (1 ≤ n) × (n ≤ max 1 (unwrap_or most 1)) × (may_try_again most n ≡ false)
-last_attempt None some = absurd (false≢true some)
-last_attempt (Some most) some = (max 1 most, omega arith, omega arith, le-ltb (max 1 most) most (omega arith))
+last_attempt most some = search rules
 
 module _ (d : BallSettings) (limits : IsWithinLimits (kinds.BallDevice d)) where
   answered : (call : Call) (lists : List ℕ) (s : BallState) → HasBallShape d s → MayCome call (states.BallDevice s)
       → (ball_step d call 0 s).1 ≡ lists → IsAnswer (kinds.BallDevice d) call lists
-  answered call lists s shape may answers = record {
-    now = 0;
-    world = record { games = 0; player = 0; in_play = 0 };
-    state = states.BallDevice s;
-    shape = shape;
-    may_come = may;
-    answer = answers;
-  }
+  answered call lists s shape may answers = search rules
 
   shape_with : (b : BallSwitch) (eject : Eject) (wanted : ℕ) → 0 < d.switches → IsEjectOf d eject → wanted ≤ 255
       → HasBallShape d (state_with b eject wanted)

@@ -1,5 +1,5 @@
 -- Which part of a ball device is due first.
-use Rattle.std.proofs.Common.{◌≡◌, ℕ, zero, suc, ◌+◌, ◌<◌, ◌≤◌, ◌⊎◌, inl, inr, Bool, true, false, Option, None, Some, List, [], ◌∷◌, length, map, option_map, get_or, nat_le, if◌then◌else◌, refl, sym, ap, ◌∙◌, arith}
+use Rattle.std.proofs.Common.{rules, ◌≡◌, ℕ, zero, suc, ◌+◌, ◌<◌, ◌≤◌, ◌⊎◌, inl, inr, Bool, true, false, Option, None, Some, List, [], ◌∷◌, length, map, option_map, get_or, nat_le, if◌then◌else◌, refl, sym, ap, ◌∙◌, arith}
 use Rattle.std.proofs.lemmas.Bool.{cases_lt, leb-true, leb-false}
 use Rattle.std.proofs.lemmas.List.{get_or_past}
 use Rattle.std.proofs.lemmas.Option.{none-some, same_Some}
@@ -10,19 +10,10 @@ use Rattle.device_objects.specs.BallDevice.{empty, sooner, first_due_from, parts
 
 -- of two moments the sooner is one of them
 sooner-is_one : (x y : Option (ℕ × ℕ)) (a : ℕ × ℕ) → sooner x y ≡ Some a → (x ≡ Some a) ⊎ (y ≡ Some a)
-sooner-is_one None y a is = inr is
-sooner-is_one (Some x) None a is = inl is
-sooner-is_one (Some x) (Some y) a is = one_of (nat_le x.0 y.0) is
-  where
-    one_of : (test : Bool) → (if test then Some x else Some y) ≡ Some a → (Some x ≡ Some a) ⊎ (Some y ≡ Some a)
-    one_of true same = inl same
-    one_of false same = inr same
+sooner-is_one x y a is = search rules
 
 first_here : (i : ℕ) (due : Option ℕ) (a : ℕ × ℕ) → option_map (λ t. (t, i)) due ≡ Some a → (a.1 ≡ i) × (due ≡ Some a.0)
-first_here i None a is = absurd (none-some a is)
-first_here i (Some t) a is =
-    let same : (t, i) ≡ a = same_Some (t, i) a is in
-    (ap (λ p. p.1) (sym same), ap (λ p. Some p.0) same)
+first_here i due a is = search rules
 
 -- the ball switch of this number is due at this moment, where they are numbered from i on
 abbrev pub IsDueAt : ℕ → List BallSwitch → ℕ × ℕ → Type 0
@@ -40,27 +31,10 @@ first_due-is_due i (b ∷ bs) a is =
 
 -- ---- no ball switch of a lower number is due at the same moment
 
--- the first argument stays the sooner where both moments are one
-sooner-keeps_first : (m i : ℕ) (y : Option (ℕ × ℕ)) (a : ℕ × ℕ) → sooner (Some (m, i)) y ≡ Some a → m ≡ a.0 → a.1 ≡ i
-sooner-keeps_first m i None a is same = ap (λ p. p.1) (sym (same_Some (m, i) a is))
-sooner-keeps_first m i (Some r) a is same = one_of (nat_le m r.0) refl is
-  where
-    one_of : (test : Bool) → nat_le m r.0 ≡ test → (if test then Some (m, i) else Some r) ≡ Some a → a.1 ≡ i
-    one_of true le first = ap (λ p. p.1) (sym (same_Some (m, i) a first))
-    one_of false le second =
-        let moment : r.0 ≡ a.0 = ap (λ p. p.0) (same_Some r a second) in
-        absurd (omega (arith, leb-false m r.0 le, moment, same))
-
-lowest_here : (i : ℕ) (due : Option ℕ) (y : Option (ℕ × ℕ)) (a : ℕ × ℕ) → sooner (option_map (λ t. (t, i)) due) y ≡ Some a
-    → due ≡ Some a.0 → a.1 ≡ i
-lowest_here i None y a is at = absurd (none-some a.0 at)
-lowest_here i (Some t) y a is at = sooner-keeps_first t i y a is (same_Some t a.0 at)
-
 pub first_due-is_lowest : (i : ℕ) (bs : List BallSwitch) (j : ℕ) (a : ℕ × ℕ) → first_due_from i bs ≡ Some a
     → (get_or bs j empty).due ≡ Some a.0 → a.1 ≤ i + j
 first_due-is_lowest i [] j a is at = absurd (none-some a is)
-first_due-is_lowest i (b ∷ bs) zero a is at =
-    let here : a.1 ≡ i = lowest_here i b.due (first_due_from (suc i) bs) a is at in omega (arith, here)
+first_due-is_lowest i (b ∷ bs) zero a is at = search rules
 first_due-is_lowest i (b ∷ bs) (suc j) a is at =
     elim (sooner-is_one (option_map (λ due. (due, i)) b.due) (first_due_from (suc i) bs) a is) [
       | inl here ↦ (let found = first_here i b.due a here in omega (arith, found.0))

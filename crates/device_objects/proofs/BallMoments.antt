@@ -1,6 +1,6 @@
 -- When ball devices are due.
-use Rattle.std.proofs.Common.{◌≡◌, ℕ, zero, suc, ◌+◌, ◌<◌, ◌≤◌, min, ◌⊎◌, inl, inr, Bool, true, false, Option, None, Some, IfSome, is_some, List, [], ◌∷◌, length, get_or, set, option_map, nat_lt, if◌then◌else◌, refl, sym, ap, ◌∙◌, subst, arith}
-use Rattle.std.proofs.lemmas.Bool.{cases_lt, le-ltb, lt-ltb, ltb-true, ltb-false, false≢true}
+use Rattle.std.proofs.Common.{rules, ◌≡◌, ℕ, zero, suc, ◌+◌, ◌<◌, ◌≤◌, min, ◌⊎◌, inl, inr, Bool, true, false, Option, None, Some, IfSome, is_some, List, [], ◌∷◌, length, get_or, set, option_map, nat_lt, if◌then◌else◌, refl, sym, ap, ◌∙◌, subst, arith}
+use Rattle.std.proofs.lemmas.Bool.{cases_lt, le-ltb, lt-ltb, ltb-true, ltb-false}
 use Rattle.std.proofs.lemmas.List.{length-map, length-set}
 use Rattle.std.proofs.lemmas.Option.{IfSome_then, MatchOption-from_none, none-some, same_Some}
 use Rattle.plan_tables.specs.declared.devices.Act.{Act}
@@ -10,14 +10,13 @@ use Rattle.plan_tables.specs.declared.devices.Settings.TheVariants as kinds
 use Rattle.plan_tables.specs.Devices.{IsBallDeviceWithin}
 use Rattle.device_objects.specs.declared.device.Call.{Call}
 use Rattle.device_objects.specs.declared.device.Call.TheVariants as calls
-use Rattle.device_objects.specs.declared.state.Attempt.{Attempt}
 use Rattle.device_objects.specs.declared.state.BallSwitch.{BallSwitch}
 use Rattle.device_objects.specs.declared.state.BallState.{BallState}
 use Rattle.device_objects.specs.declared.state.Eject.{Eject}
-use Rattle.device_objects.specs.declared.state.Eject.TheVariants.{Idle, Pulsing, Away}
+use Rattle.device_objects.specs.declared.state.Eject.TheVariants.{Idle}
 use Rattle.device_objects.specs.declared.state.DeviceState.TheVariants as states
 use Rattle.device_objects.specs.declared.state.World.{World}
-use Rattle.device_objects.specs.BallDevice.{empty, switch_at, set_switch, first_due, first_due_from, timeout_of, earlier, due_of, parts, part_due, is_timeout_first, entered, left, lost, failed, attempt, can_begin, begin, after, ended, stuck, may_try_again, next_number, time_out, confirm, delay, counts_otherwise, noted, switched, turned, gone, count, count_due, fire, fire_part, requested, act_step, halted, not_due, ball_step}
+use Rattle.device_objects.specs.BallDevice.{empty, switch_at, set_switch, first_due, first_due_from, timeout_of, earlier, due_of, parts, part_due, is_timeout_first, entered, attempt, can_begin, begin, after, time_out, confirm, delay, counts_otherwise, noted, switched, turned, gone, count, count_due, fire, fire_part, requested, act_step, halted, not_due, ball_step}
 use Rattle.device_objects.specs.DeviceStep.{ball_answer}
 use Rattle.device_objects.specs.Laws.{IsDone, IsFirstPart, FiresFirstPart}
 use Rattle.device_objects.proofs.BallDue.{not_due-none, first_due-none, first_due-is_due, first_due-is_first, first_due-is_lowest, due-inside, part-of_switch, part-of_attempt, part-past, switch-is_part, which_part}
@@ -49,44 +48,28 @@ module _ (d : BallSettings) (now : ℕ) (limits : IsBallDeviceWithin d) (old : B
   IsLater s = AreSwitchesLater s.switches × IsEjectLater s.eject × (length s.switches ≡ length old.switches)
 
   either : (test : Bool) (x y : BallState × List ℕ) → IsLater x.0 → IsLater y.0 → IsLater (if test then x else y).0
-  either true x y first second = first
-  either false x y first second = second
+  either test x y first second = search rules
 
   one_state : (test : Bool) (x y : BallState) → IsLater x → IsLater y → IsLater (if test then x else y)
-  one_state true x y first second = first
-  one_state false x y first second = second
+  one_state test x y first second = search rules
 
   idle : IsEjectLater Idle
   idle due is = absurd (none-some due is)
 
   armed : (due : ℕ) → Some (now + d.ejects.timeout) ≡ Some due → (timeout_of old.eject ≡ Some due) ⊎ (now < due)
-  armed due is =
-      inr (let same : now + d.ejects.timeout ≡ due = same_Some (now + d.ejects.timeout) due is in omega (arith, limits.ejects.timeout, same))
+  armed due is = search rules
 
   begin-later : (s : BallState) → IsLater s → IsLater (begin d now s).0
   begin-later s h = either (can_begin d s) (attempt d 1 now s) (s, []) (h.0, armed, h.2) h
 
-  stuck-later : (a : Attempt) (s : BallState) → IsLater s → IsLater (stuck d now a s).0
-  stuck-later a s h =
-      either (may_try_again d.ejects.max_attempts a.number)
-      (after (failed ∷ []) (attempt d (next_number d.ejects.max_attempts a.number) now s))
-      (record s { eject = Idle; wanted = 0 }, failed ∷ []) (h.0, armed, h.2) (h.0, idle, h.2)
-
   time_out-later : (eject : Eject) (s : BallState) → IsLater s → IsLater (time_out d now eject s).0
-  time_out-later Idle s h = h
-  time_out-later (Pulsing a) s h = stuck-later a s h
-  time_out-later (Away a) s h = begin-later (ended s) (h.0, idle, h.2)
+  time_out-later eject s h = search rules
 
   confirm-later : (eject : Eject) (s : BallState) → IsLater s → IsLater (confirm d now eject s).0
-  confirm-later (Away a) s h = begin-later (ended s) (h.0, idle, h.2)
-  confirm-later _ s h = h
+  confirm-later eject s h = search rules
 
   gone-later : (eject : Eject) (s : BallState) → IsEjectLater eject → IsLater s → IsLater (gone d now eject s).0
-  gone-later Idle s e h =
-      let first : Attempt = record { number = 1; timeout = now + d.ejects.timeout } in
-      either d.ejects.mechanical (record s { eject = Away first }, left ∷ []) (s, lost ∷ []) (h.0, armed, h.2) h
-  gone-later (Pulsing a) s e h = (h.0, e, h.2)
-  gone-later (Away a) s e h = h
+  gone-later eject s e h = search rules
 
   set-later : (i : ℕ) (b : BallSwitch) (bs : List BallSwitch) → ((due : ℕ) → b.due ≡ Some due → now < due)
       → AreSwitchesLater bs → AreSwitchesLater (set bs i b)
@@ -114,16 +97,9 @@ module _ (d : BallSettings) (now : ℕ) (limits : IsBallDeviceWithin d) (old : B
       either (is_timeout_first (first_due s) (timeout_of s.eject)) (time_out d now s.eject s)
       (count_due d now (first_due s) s) (time_out-later s.eject s h) (count_due-later (first_due s) s h)
 
-  delay-some : (active : Bool) → 1 ≤ delay d active
-  delay-some true = limits.ejects.entrance
-  delay-some false = limits.ejects.exit
-
   noted-later : (active otherwise : Bool) (due : ℕ)
       → (if otherwise then Some (now + delay d active) else None) ≡ Some due → now < due
-  noted-later active true due is =
-      let same : now + delay d active ≡ due = same_Some (now + delay d active) due is in
-      omega (arith, delay-some active, same)
-  noted-later active false due is = absurd (none-some due is)
+  noted-later active otherwise due is = search rules
 
   switched-later : (i : ℕ) (active : Bool) (s : BallState) → IsLater s → IsLater (switched d i active now s)
   switched-later i active s h =
@@ -133,9 +109,7 @@ module _ (d : BallSettings) (now : ℕ) (limits : IsBallDeviceWithin d) (old : B
       h
 
   requested-later : (n : ℕ) (s : BallState) → IsLater s → IsLater (requested d n now s).0
-  requested-later n s h =
-      let t : BallState = record s { wanted = min (s.wanted + n) 255 } in
-      either d.trough (begin d now t) (s, []) (begin-later t h) h
+  requested-later n s h = search rules
 
   act-later : (act : Act) (s : BallState) → IsLater s → IsLater (act_step d act now s).0
   act-later (acts.SwitchOn i) s h = switched-later i true s h
@@ -210,51 +184,18 @@ module _ (d : BallSettings) (now : ℕ) (limits : IsBallDeviceWithin d) where
   abbrev IsAfter : Eject → Type 0
   IsAfter e = IfSome (timeout_of e) (λ later. now < later)
 
-  either_after : (test : Bool) (x y : BallState × List ℕ) → IsAfter x.0.eject → IsAfter y.0.eject
-      → IsAfter (if test then x else y).0.eject
-  either_after true x y first second = first
-  either_after false x y first second = second
-
-  armed_after : now < now + d.ejects.timeout
-  armed_after = omega (arith, limits.ejects.timeout)
-
   time_out-after : (eject : Eject) (s : BallState) → is_some (timeout_of eject) ≡ true
       → IsAfter (time_out d now eject s).0.eject
-  time_out-after Idle s some = absurd (false≢true some)
-  time_out-after (Pulsing a) s some =
-      either_after (may_try_again d.ejects.max_attempts a.number)
-      (after (failed ∷ []) (attempt d (next_number d.ejects.max_attempts a.number) now s))
-      (record s { eject = Idle; wanted = 0 }, failed ∷ []) armed_after tt
-  time_out-after (Away a) s some =
-      either_after (can_begin d (ended s)) (attempt d 1 now (ended s)) (ended s, []) armed_after tt
-
-  -- no step but the switch's own writes to it
-  either_switches : (bs : List BallSwitch) (test : Bool) (x y : BallState × List ℕ) → x.0.switches ≡ bs
-      → y.0.switches ≡ bs
-      → (if test then x else y).0.switches ≡ bs
-  either_switches bs true x y first second = first
-  either_switches bs false x y first second = second
+  time_out-after eject s some = search rules
 
   gone-switches : (eject : Eject) (s : BallState) → (gone d now eject s).0.switches ≡ s.switches
-  gone-switches Idle s =
-      let first : Attempt = record { number = 1; timeout = now + d.ejects.timeout } in
-      either_switches s.switches d.ejects.mechanical (record s { eject = Away first }, left ∷ []) (s, lost ∷ []) refl refl
-  gone-switches _ s = refl
+  gone-switches eject s = search rules
 
   time_out-switches : (eject : Eject) (s : BallState) → (time_out d now eject s).0.switches ≡ s.switches
-  time_out-switches Idle s = refl
-  time_out-switches (Pulsing a) s =
-      either_switches s.switches (may_try_again d.ejects.max_attempts a.number)
-      (after (failed ∷ []) (attempt d (next_number d.ejects.max_attempts a.number) now s))
-      (record s { eject = Idle; wanted = 0 }, failed ∷ []) refl refl
-  time_out-switches (Away a) s =
-      either_switches s.switches (can_begin d (ended s)) (attempt d 1 now (ended s)) (ended s, []) refl refl
+  time_out-switches eject s = search rules
 
   counted-switches : (i : ℕ) (s : BallState) → (count d now i s).0.switches ≡ set s.switches i (turned (switch_at s i))
-  counted-switches i s =
-      let t : BallState = set_switch i (turned (switch_at s i)) s in
-      either_switches t.switches (switch_at s i).counted (gone d now s.eject t) (after (entered ∷ []) (begin d now t))
-      (gone-switches s.eject t) (either_switches t.switches (can_begin d t) (attempt d 1 now t) (t, []) refl refl)
+  counted-switches i s = search rules
 
   timeout-done : (s : BallState) (t due : ℕ) → timeout_of s.eject ≡ Some t → due ≡ t
       → IsDone now due (states.BallDevice s) (states.BallDevice (time_out d now s.eject s).0)
@@ -312,13 +253,10 @@ ball-fired d now s limits = first-done d now limits s (first_due s) (timeout_of 
 -- ---- its parts
 
 earlier-none : (x y : Option ℕ) → earlier x y ≡ None → (x ≡ None) × (y ≡ None)
-earlier-none None y is = (refl, is)
-earlier-none (Some a) None is = absurd (none-some a (sym is))
-earlier-none (Some a) (Some b) is = absurd (none-some (min a b) (sym is))
+earlier-none x y is = search rules
 
 no_moment : (first : Option (ℕ × ℕ)) → option_map (λ a. a.0) first ≡ None → first ≡ None
-no_moment None is = refl
-no_moment (Some a) is = absurd (none-some a.0 (sym is))
+no_moment first is = search rules
 
 none-due : (bs : List BallSwitch) (i : ℕ) (due : Option ℕ) → first_due_from 0 bs ≡ None → (get_or bs i empty).due ≡ due
     → due ≡ None
@@ -354,19 +292,7 @@ part-is s k other is =
 first-is_least : (first : Option (ℕ × ℕ)) (timeout : Option ℕ)
     → IfSome (earlier (option_map (λ a. a.0) first) timeout)
     (λ due. (other : ℕ) → IsPart first timeout other → due ≤ other)
-first-is_least None None = tt
-first-is_least None (Some t) = λ other part. elim part [
-  | inl is ↦ (let same : t ≡ other = same_Some t other is in omega (arith, same))
-  | inr at ↦ absurd (none-some at.0 at.1)
-]
-first-is_least (Some a) None = λ other part. elim part [
-  | inl is ↦ absurd (none-some other is)
-  | inr at ↦ (let same : a.0 ≡ at.0.0 = ap (λ p. p.0) (same_Some a at.0 at.1) in omega (arith, same, at.2))
-]
-first-is_least (Some a) (Some t) = λ other part. elim part [
-  | inl is ↦ (let same : t ≡ other = same_Some t other is in omega (arith, same))
-  | inr at ↦ (let same : a.0 ≡ at.0.0 = ap (λ p. p.0) (same_Some a at.0 at.1) in omega (arith, same, at.2))
-]
+first-is_least first timeout = search rules
 
 pub ball-parts_first : (s : BallState)
     → IfSome (due_of s) (λ due. (k other : ℕ) → part_due s k ≡ Some other → due ≤ other)

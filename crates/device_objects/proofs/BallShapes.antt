@@ -1,7 +1,7 @@
 -- Ball devices keep their shape.
-use Rattle.std.proofs.Common.{◌≡◌, ℕ, ◌+◌, ◌-◌, ◌<◌, ◌≤◌, min, max, inl, inr, Bool, true, false, Option, None, Some, unwrap_or, List, [], ◌∷◌, length, get_or, set, drop, map, replicate, nat_lt, if◌then◌else◌, refl, sym, ap, ◌∙◌, arith}
+use Rattle.std.proofs.Common.{rules, ◌≡◌, ℕ, ◌+◌, ◌-◌, ◌<◌, ◌≤◌, inl, inr, Bool, true, false, Option, None, Some, List, [], ◌∷◌, length, get_or, set, drop, map, replicate, nat_lt, if◌then◌else◌, refl, sym, ap, ◌∙◌, arith}
 use Rattle.std.specs.List.{All}
-use Rattle.std.proofs.lemmas.Bool.{and_parts, cases_lt, ltb-true, or_left, or_right}
+use Rattle.std.proofs.lemmas.Bool.{cases_lt, ltb-true}
 use Rattle.std.proofs.lemmas.List.{drop-map, get_or-drop, get_or_past, length-drop, length-map, length-set, drop-set-lt}
 use Rattle.std.proofs.lemmas.List.Elements.{All-drop, All-map, All-replicate, All-same, All-weaker}
 use Rattle.std.proofs.lemmas.Option.{none-some}
@@ -10,12 +10,11 @@ use Rattle.plan_tables.specs.declared.devices.Act.TheVariants as acts
 use Rattle.plan_tables.specs.declared.devices.BallSettings.{BallSettings}
 use Rattle.device_objects.specs.declared.device.Call.{Call}
 use Rattle.device_objects.specs.declared.device.Call.TheVariants as calls
-use Rattle.device_objects.specs.declared.state.Attempt.{Attempt}
 use Rattle.device_objects.specs.declared.state.BallSwitch.{BallSwitch}
 use Rattle.device_objects.specs.declared.state.BallState.{BallState}
 use Rattle.device_objects.specs.declared.state.Eject.{Eject}
-use Rattle.device_objects.specs.declared.state.Eject.TheVariants.{Idle, Pulsing, Away}
-use Rattle.device_objects.specs.BallDevice.{empty, first_state, switch_at, set_switch, has_ball, first_due, timeout_of, is_timeout_first, left, lost, failed, attempt, can_begin, is_idle, begin, after, ended, stuck, may_try_again, next_number, time_out, confirm, noted, switched, turned, gone, count, count_due, entered, fire, requested, act_step, halted, not_due, ball_step}
+use Rattle.device_objects.specs.declared.state.Eject.TheVariants.{Idle}
+use Rattle.device_objects.specs.BallDevice.{empty, first_state, switch_at, set_switch, has_ball, first_due, timeout_of, is_timeout_first, can_begin, begin, after, ended, may_try_again, next_number, time_out, confirm, noted, switched, turned, gone, count, count_due, entered, fire, requested, act_step, halted, not_due, ball_step}
 use Rattle.device_objects.specs.Laws.{IsAttempt, IsEjectOf, HasBallShape}
 use Rattle.device_objects.proofs.BallDue.{first_due-is_due}
 
@@ -55,12 +54,7 @@ not_due-empty bs unused =
 -- the next attempt is one that the device can make
 next-within : (d : BallSettings) (number : ℕ) → IsAttempt d number → may_try_again d.ejects.max_attempts number ≡ true
     → IsAttempt d (next_number d.ejects.max_attempts number)
-next-within d number is may = by d.ejects.max_attempts is may
-  where
-    by : (most : Option ℕ) → (1 ≤ number) × (number ≤ max 1 (unwrap_or most 1)) → may_try_again most number ≡ true
-        → (1 ≤ next_number most number) × (next_number most number ≤ max 1 (unwrap_or most 1))
-    by None is may = is
-    by (Some most) is may = let below : number < most = ltb-true number most may in (omega arith, omega (arith, below))
+next-within d number is may = search rules
 
 module _ (d : BallSettings) where
   pub first_attempt : IsAttempt d 1
@@ -68,8 +62,7 @@ module _ (d : BallSettings) where
 
   with_eject : (s : BallState) (eject : Eject) (wanted : ℕ) → HasBallShape d s → IsEjectOf d eject → wanted ≤ 255
       → HasBallShape d (record s { eject = eject; wanted = wanted })
-  with_eject s eject wanted shape of few =
-      record { switches = shape.switches; unused = shape.unused; eject = of; wanted = few }
+  with_eject s eject wanted shape of few = search rules
 
   pub with_switch : (i : ℕ) (b : BallSwitch) (s : BallState) → i < d.switches → HasBallShape d s
       → HasBallShape d (set_switch i b s)
@@ -92,77 +85,40 @@ module _ (d : BallSettings) where
   -- a state, and an answer, that is one of two
   one_state : (test : Bool) (x y : BallState) → (test ≡ true → HasBallShape d x) → HasBallShape d y
       → HasBallShape d (if test then x else y)
-  one_state true x y first second = first refl
-  one_state false x y first second = second
+  one_state test x y first second = search rules
 
   one_answer : (test : Bool) (x y : BallState × List ℕ) → (test ≡ true → HasBallShape d x.0) → HasBallShape d y.0
       → HasBallShape d (if test then x else y).0
-  one_answer true x y first second = first refl
-  one_answer false x y first second = second
+  one_answer test x y first second = search rules
 
   -- ---- ejecting
 
   -- what can begin to eject a ball has a ball and a coil
   pub can_begin-parts : (s : BallState) → can_begin d s ≡ true → (has_ball s ≡ true) × (d.has_coil ≡ true)
-  can_begin-parts s can =
-      let rest = and_parts (is_idle s.eject) _ can in
-      let ball = and_parts (has_ball s) _ rest.1 in
-      (ball.0, (and_parts d.has_coil _ ball.1).0)
-
-  attempt-shape : (number now : ℕ) (s : BallState) → d.has_coil ≡ true → IsAttempt d number → HasBallShape d s
-      → HasBallShape d (attempt d number now s).0
-  attempt-shape number now s coil is shape =
-      with_eject s (Pulsing (record { number = number; timeout = now + d.ejects.timeout })) s.wanted shape (coil, is)
-      shape.wanted
+  can_begin-parts s can = search rules
 
   begin-shape : (now : ℕ) (s : BallState) → HasBallShape d s → HasBallShape d (begin d now s).0
-  begin-shape now s shape =
-      one_answer (can_begin d s) (attempt d 1 now s) (s, [])
-      (λ can. attempt-shape 1 now s (can_begin-parts s can).1 first_attempt shape) shape
+  begin-shape now s shape = search rules
 
   pub ended-shape : (s : BallState) → HasBallShape d s → HasBallShape d (ended s)
   ended-shape s shape = with_eject s Idle (s.wanted - 1) shape tt (omega (arith, shape.wanted))
 
-  stuck-shape : (now : ℕ) (a : Attempt) (s : BallState) → IsEjectOf d (Pulsing a) → HasBallShape d s
-      → HasBallShape d (stuck d now a s).0
-  stuck-shape now a s is shape =
-      one_answer (may_try_again d.ejects.max_attempts a.number)
-      (after (failed ∷ []) (attempt d (next_number d.ejects.max_attempts a.number) now s))
-      (record s { eject = Idle; wanted = 0 }, failed ∷ [])
-      (λ may. attempt-shape (next_number d.ejects.max_attempts a.number) now s is.0
-      (next-within d a.number is.1 may) shape)
-      (with_eject s Idle 0 shape tt (omega arith))
-
   time_out-shape : (now : ℕ) (eject : Eject) (s : BallState) → IsEjectOf d eject → HasBallShape d s
       → HasBallShape d (time_out d now eject s).0
-  time_out-shape now Idle s is shape = shape
-  time_out-shape now (Pulsing a) s is shape = stuck-shape now a s is shape
-  time_out-shape now (Away a) s is shape = begin-shape now (ended s) (ended-shape s shape)
+  time_out-shape now eject s is shape = search rules
 
   confirm-shape : (now : ℕ) (eject : Eject) (s : BallState) → HasBallShape d s
       → HasBallShape d (confirm d now eject s).0
-  confirm-shape now (Away a) s shape = begin-shape now (ended s) (ended-shape s shape)
-  confirm-shape now _ s shape = shape
+  confirm-shape now eject s shape = search rules
 
   requested-shape : (n now : ℕ) (s : BallState) → HasBallShape d s → HasBallShape d (requested d n now s).0
-  requested-shape n now s shape =
-      let most : ℕ = min (s.wanted + n) 255 in
-      let t : BallState = record s { wanted = most } in
-      one_answer d.trough (begin d now t) (s, [])
-      (λ trough. begin-shape now t (with_eject s s.eject most shape shape.eject (omega arith))) shape
+  requested-shape n now s shape = search rules
 
   -- ---- ball switches
 
   gone-shape : (now : ℕ) (eject : Eject) (s : BallState) → IsEjectOf d eject → HasBallShape d s
       → HasBallShape d (gone d now eject s).0
-  gone-shape now Idle s is shape =
-      let first : Attempt = record { number = 1; timeout = now + d.ejects.timeout } in
-      one_answer d.ejects.mechanical (record s { eject = Away first }, left ∷ []) (s, lost ∷ [])
-      (λ hand. with_eject s (Away first) s.wanted shape (or_right d.has_coil d.ejects.mechanical hand, first_attempt)
-      shape.wanted) shape
-  gone-shape now (Pulsing a) s is shape =
-      with_eject s (Away a) s.wanted shape (or_left d.has_coil d.ejects.mechanical is.0, is.1) shape.wanted
-  gone-shape now (Away a) s is shape = shape
+  gone-shape now eject s is shape = search rules
 
   count-shape : (now i : ℕ) (s : BallState) → i < d.switches → HasBallShape d s → HasBallShape d (count d now i s).0
   count-shape now i s within shape =

@@ -1,8 +1,8 @@
 -- Each effect list that a device answers is one of its row.
-use Rattle.std.proofs.Common.{rules, ◌≡◌, ℕ, suc, ◌+◌, ◌*◌, nat_lt, ◌<◌, ◌≤◌, Bool, true, false, Option, None, Some, List, [], ◌∷◌, ◌++◌, if◌then◌else◌, slice_get, refl, arith}
+use Rattle.std.proofs.Common.{rules, ◌≡◌, ℕ, suc, ◌+◌, ◌*◌, nat_lt, ◌<◌, ◌≤◌, Bool, true, Option, List, [], ◌∷◌, ◌++◌, if◌then◌else◌, arith}
 use Rattle.std.specs.List.{All}
 use Rattle.std.proofs.Math.Nat.{mul-le-mul_left}
-use Rattle.std.proofs.lemmas.Bool.{and_parts, ltb-true, false≢true}
+use Rattle.std.proofs.lemmas.Bool.{and_parts, ltb-true}
 use Rattle.std.proofs.lemmas.List.Elements.{All-nil, All-cons, All-append, All-contains}
 use Rattle.plan_tables.specs.Devices.{state_count, list_count}
 use Rattle.plan_tables.specs.declared.devices.Act.{Act}
@@ -38,10 +38,9 @@ use Rattle.device_objects.specs.DeviceStep.{device_step}
 use Rattle.device_objects.specs.Laws.{OutcomesAreOfTheRow}
 use Rattle.device_objects.specs.Outcomes.{only_if, can_complete, hit_completing, of_hit_in, of_hit, of_bank, outcomes}
 use Rattle.device_objects.proofs.Among.{In, contains}
-use Rattle.device_objects.proofs.Answered.{counter_slot-in, accrual_slot-in, sequence_slot-in, timer-in, bank_slot-in, flipper_act-in, autofire_act-in}
+use Rattle.device_objects.proofs.Answered.{counter_slot-in, accrual_slot-in, timer-in, bank_slot-in}
 use Rattle.device_objects.proofs.BallLists.{ball_step-lists}
 use Rattle.device_objects.proofs.Saves.{save_step-lists}
-use Rattle.device_objects.proofs.Multiballs.{multiball_act-in}
 use Rattle.device_objects.proofs.Flat.{All-flat_map_range}
 use Rattle.device_objects.proofs.Shapes.{next-within}
 
@@ -63,24 +62,16 @@ one n k l = more n k [] l (none n)
 -- of the slot in use
 module _ {S : Type 0} (n : ℕ) (step : S → S × List ℕ) (each : (slot : S) → AreBelow n (step slot).1) where
   at-below : (i : ℕ) (slots : List S) (o : Option S) → AreBelow n (step_at step i slots o).1
-  at-below i slots None = none n
-  at-below i slots (Some slot) = each slot
+  at-below i slots o = search rules
 
   in_use-below : (slots : List S) (o : Option ℕ) → AreBelow n (step_in_use step slots o).1
-  in_use-below slots None = none n
-  in_use-below slots (Some i) = at-below i slots (slice_get slots i)
+  in_use-below slots o = search rules
 
 -- ---- banks
 
 -- one of the lists of the shots, of the hits and of the completions of a group, of n shots with c states
 shot-below : (i n c m s : ℕ) → i < n → s < c → i * c + s < c * (n + m)
 shot-below i n c m s l low = let more : c * suc i ≤ c * n = mul-le-mul_left c l in omega (arith, more, low)
-
-group-below : (n c s : ℕ) → s < c → n * c + s < c * (n + 2)
-group-below n c s low = omega (arith, low)
-
-complete-below : (n c s : ℕ) → s < c → suc n * c + s < c * (n + 2)
-complete-below n c s low = omega (arith, low)
 
 -- answers of so many lists, each one of n
 abbrev AreAllBelow : ℕ → List (List ℕ) → Type 0
@@ -91,24 +82,20 @@ only n lists h = All-cons (AreBelow n) lists [] h (All-nil (AreBelow n))
 
 below_if : (n : ℕ) (holds : Bool) (answers : List (List ℕ)) → (holds ≡ true → AreAllBelow n answers)
     → AreAllBelow n (only_if holds answers)
-below_if n true answers all = all refl
-below_if n false answers all = All-nil (AreBelow n)
+below_if n holds answers all = search rules
 
 all_one_of : (n : ℕ) (test : Bool) (xs ys : List (List ℕ)) → (test ≡ true → AreAllBelow n xs) → AreAllBelow n ys
     → AreAllBelow n (if test then xs else ys)
-all_one_of n true xs ys first second = first refl
-all_one_of n false xs ys first second = second
+all_one_of n test xs ys first second = search rules
 
 -- the lists of a group, where the bank is one
 group_if : (group : Bool) (n c s : ℕ) → s < c
     → AreBelow (c * (n + (if group then 2 else 0))) (if group then (n * c + s) ∷ [] else [])
-group_if true n c s low = one (c * (n + 2)) (n * c + s) (group-below n c s low)
-group_if false n c s low = none (c * (n + 0))
+group_if group n c s low = search rules
 
 complete_if : (group : Bool) (n c s : ℕ) → group ≡ true → s < c
     → AreBelow (c * (n + (if group then 2 else 0))) ((suc n * c + s) ∷ [])
-complete_if true n c s is low = one (c * (n + 2)) (suc n * c + s) (complete-below n c s low)
-complete_if false n c s is low = absurd (false≢true is)
+complete_if group n c s is low = search rules
 
 module _ (b : BankSettings) where
   abbrev count : ℕ
@@ -178,10 +165,7 @@ accrual-below a (calls.Act act) world slots =
 accrual-below a _ world slots = none 3
 
 sequence-below : (q : StepSettings) (call : Call) (world : World) (slots : List SequenceSlot) → AreBelow 3 (sequence.sequence_step q call world slots).1
-sequence-below q (calls.Act act) world slots =
-    in_use-below 3 (λ slot. sequence.slot_step q act (sequence.current q world slot))
-    (λ slot. outcome-below (kinds.Sequence q) (calls.Act act) _ (sequence_slot-in q act (sequence.current q world slot))) slots (slot_in_use q.block.persist world)
-sequence-below q _ world slots = none 3
+sequence-below q call world slots = search rules
 
 bank-below : (b : BankSettings) (call : Call) (world : World) (slots : List BankSlot) → AreBelow (list_count (kinds.Bank b)) (bank.bank_step b call world slots).1
 bank-below b (calls.Act act) world slots =
@@ -190,16 +174,13 @@ bank-below b (calls.Act act) world slots =
 bank-below b _ world slots = none (list_count (kinds.Bank b))
 
 flipper-below : (call : Call) (s : FlipperState) → AreBelow 2 (flipper.flipper_step call s).1
-flipper-below (calls.Act act) s = outcome-below kinds.Flipper (calls.Act act) _ (flipper_act-in act s)
-flipper-below _ s = none 2
+flipper-below call s = search rules
 
 autofire-below : (call : Call) (s : AutofireState) → AreBelow 1 (autofire.autofire_step call s).1
-autofire-below (calls.Act act) s = outcome-below kinds.Autofire (calls.Act act) _ (autofire_act-in act s)
-autofire-below _ s = none 1
+autofire-below call s = search rules
 
 multiball-below : (m : MultiballSettings) (call : Call) (world : World) (s : MultiballState) → AreBelow 2 (multiball.multiball_step call world s).1
-multiball-below m (calls.Act act) world s = outcome-below (kinds.Multiball m) (calls.Act act) _ (multiball_act-in act world s)
-multiball-below m _ world s = none 2
+multiball-below m call world s = search rules
 
 -- and what a device answers
 pub lists_are_of_the_row : (settings : Settings) (call : Call) (now : ℕ) (world : World) (state : DeviceState) → All (λ k. k < list_count settings) (device_step settings call now world state).1

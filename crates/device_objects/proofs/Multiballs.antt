@@ -1,8 +1,7 @@
 -- Multiballs: what they answer.
-use Rattle.std.proofs.Common.{◌≡◌, ℕ, ◌<◌, nat_lt, Bool, true, false, not, ◌&&◌, if◌then◌else◌, List, [], ◌∷◌, refl, arith}
+use Rattle.std.proofs.Common.{rules, ◌≡◌, ℕ, nat_lt, Bool, true, false, not, ◌&&◌, List, [], ◌∷◌, refl}
 use Rattle.std.specs.List.{All}
 use Rattle.std.proofs.lemmas.Bool.{false≢true}
-use Rattle.std.proofs.lemmas.List.Elements.{All-cons}
 use Rattle.plan_tables.specs.declared.devices.Act.{Act}
 use Rattle.plan_tables.specs.declared.devices.Act.TheVariants as acts
 use Rattle.machine_settings.specs.declared.settings.MultiballSettings.{MultiballSettings}
@@ -14,7 +13,7 @@ use Rattle.device_objects.specs.declared.state.DeviceState.TheVariants as states
 use Rattle.device_objects.specs.declared.state.World.{World}
 use Rattle.device_objects.specs.Multiball.{started, ended, act_step, multiball_step}
 use Rattle.device_objects.specs.Laws.{IsAnswer, MayCome}
-use Rattle.device_objects.specs.Outcomes.{of_multiball, by_act, outcomes}
+use Rattle.device_objects.specs.Outcomes.{of_multiball, outcomes}
 use Rattle.device_objects.proofs.Among.{In, here, there, either, one, two}
 
 -- ---- answers are outcomes
@@ -40,14 +39,7 @@ module _ (m : MultiballSettings) where
   answered : (call : Call) (lists : List ℕ) (running : Bool) → MayCome call (states.Multiball (record { running = running }))
       → (multiball_step call (record { games = 0; player = 1; in_play = 1 }) (record { running = running })).1 ≡ lists
       → IsAnswer (kinds.Multiball m) call lists
-  answered call lists running may answers = record {
-    now = 0;
-    world = record { games = 0; player = 1; in_play = 1 };
-    state = states.Multiball (record { running = running });
-    shape = tt;
-    may_come = may;
-    answer = answers;
-  }
+  answered call lists running may answers = search rules
 
   pub multiball_acts : (act : Act) → All (IsAnswer (kinds.Multiball m) (calls.Act act)) (of_multiball act)
   multiball_acts acts.Start =

@@ -1,9 +1,9 @@
 -- Ball saves: their states, what they answer, and when they are due.
-use Rattle.std.proofs.Common.{◌≡◌, ℕ, zero, suc, ◌+◌, ◌-◌, ◌==◌, ◌<◌, ◌≤◌, ◌⊎◌, inr, nat_lt, Bool, true, false, if◌then◌else◌, Option, None, Some, is_some, IfSome, List, [], ◌∷◌, ◌++◌, refl, sym, ◌∙◌, arith}
+use Rattle.std.proofs.Common.{rules, ◌≡◌, ℕ, ◌-◌, ◌==◌, ◌<◌, ◌≤◌, ◌⊎◌, nat_lt, Bool, true, false, if◌then◌else◌, Option, None, Some, is_some, IfSome, List, [], ◌∷◌, ◌++◌, refl, sym, ◌∙◌, arith}
 use Rattle.std.specs.List.{All}
 use Rattle.std.proofs.lemmas.Bool.{eqb-false, lt-ltb, ltb-true, false≢true}
 use Rattle.std.proofs.lemmas.List.Elements.{All-append, All-cons}
-use Rattle.std.proofs.lemmas.Option.{none-some, same_Some}
+use Rattle.std.proofs.lemmas.Option.{none-some}
 use Rattle.plan_tables.specs.declared.devices.Act.{Act}
 use Rattle.plan_tables.specs.declared.devices.Act.TheVariants as acts
 use Rattle.machine_settings.specs.declared.settings.SaveSettings.{SaveSettings}
@@ -12,8 +12,8 @@ use Rattle.device_objects.specs.declared.device.Call.{Call}
 use Rattle.device_objects.specs.declared.device.Call.TheVariants as calls
 use Rattle.device_objects.specs.declared.state.SaveState.{SaveState}
 use Rattle.device_objects.specs.declared.state.DeviceState.TheVariants as states
-use Rattle.device_objects.specs.BallSave.{enabled, disabled, saving, first_state, end_of, disable, saved, act_step, save_step}
-use Rattle.device_objects.specs.Laws.{HasSaveShape, IsAnswer, IsDone, IsFirstPart, MayCome}
+use Rattle.device_objects.specs.BallSave.{enabled, disabled, saving, first_state, end_of, saved, act_step, save_step}
+use Rattle.device_objects.specs.Laws.{HasSaveShape, IsAnswer, IsDone, MayCome}
 use Rattle.device_objects.specs.Outcomes.{only_if, of_save, of_save_act}
 use Rattle.device_objects.proofs.Among.{In, here, there, at_last, at_left, if_holds, by, either, none, one, all_if, if_true, two}
 
@@ -31,48 +31,20 @@ with_fewer s = record s { left = s.left - 1 }
 
 -- ---- states keep their shape
 
--- one that is due some time has an end
-has_end : (time now : ℕ) → is_some (if◌then◌else◌ {A = Option ℕ} (time == 0) None (Some (now + time))) ≡ true → 0 < time
-has_end zero now some = absurd (false≢true some)
-has_end (suc n) now some = omega arith
-
 module _ (b : SaveSettings) where
   -- an answer that is one of two
   one_of : (test : Bool) (x y : SaveState × List ℕ) → HasSaveShape b x.0 → HasSaveShape b y.0
       → HasSaveShape b (if test then x else y).0
-  one_of true x y first second = first
-  one_of false x y first second = second
+  one_of test x y first second = search rules
 
   pub first_save-shape : HasSaveShape b first_state
   first_save-shape = record { left = omega arith; due = λ some. absurd (false≢true some) }
 
-  shut-shape : (s : SaveState) → HasSaveShape b s → HasSaveShape b (shut s)
-  shut-shape s shape = record { left = shape.left; due = λ some. absurd (false≢true some) }
-
-  opened-shape : (now : ℕ) → HasSaveShape b (opened b now)
-  opened-shape now = record { left = omega arith; due = λ some. (refl, has_end b.active_time now some) }
-
-  with_fewer-shape : (s : SaveState) → HasSaveShape b s → HasSaveShape b (with_fewer s)
-  with_fewer-shape s shape = record { left = omega (arith, shape.left); due = shape.due }
-
-  disable-shape : (s : SaveState) → HasSaveShape b s → HasSaveShape b (disable s).0
-  disable-shape s shape = one_of s.active (shut s, disabled ∷ []) (s, []) (shut-shape s shape) shape
-
-  saved-shape : (s : SaveState) → HasSaveShape b s → HasSaveShape b (saved s).0
-  saved-shape s shape =
-      one_of (s.left == 0) (shut s, saving ∷ disabled ∷ []) (s, saving ∷ []) (shut-shape s shape) shape
-
   act-shape : (act : Act) (now : ℕ) (s : SaveState) → HasSaveShape b s → HasSaveShape b (act_step b act now s).0
-  act-shape acts.Enable now s shape = one_of s.active (s, []) (opened b now, enabled ∷ []) shape (opened-shape now)
-  act-shape acts.Disable now s shape = disable-shape s shape
-  act-shape acts.Save now s shape =
-      one_of s.active (saved (with_fewer s)) (s, []) (saved-shape (with_fewer s) (with_fewer-shape s shape)) shape
-  act-shape _ now s shape = shape
+  act-shape act now s shape = search rules
 
   pub save_step-shape : (call : Call) (now : ℕ) (s : SaveState) → HasSaveShape b s → HasSaveShape b (save_step b call now s).0
-  save_step-shape calls.Fire now s shape = disable-shape s shape
-  save_step-shape (calls.Act act) now s shape = act-shape act now s shape
-  save_step-shape _ now s shape = first_save-shape
+  save_step-shape call now s shape = search rules
 
 -- ---- answers are outcomes
 
@@ -110,14 +82,7 @@ module _ (b : SaveSettings) where
 module _ (b : SaveSettings) where
   answered : (call : Call) (lists : List ℕ) (s : SaveState) → HasSaveShape b s → MayCome call (states.BallSave s)
       → (save_step b call 0 s).1 ≡ lists → IsAnswer (kinds.BallSave b) call lists
-  answered call lists s shape may answers = record {
-    now = 0;
-    world = record { games = 0; player = 0; in_play = 0 };
-    state = states.BallSave s;
-    shape = shape;
-    may_come = may;
-    answer = answers;
-  }
+  answered call lists s shape may answers = search rules
 
   -- one that is active, with so many balls left and without an end
   abbrev active_with : ℕ → SaveState
@@ -191,40 +156,15 @@ two_lists = All-cons (λ j. j < 3) saving (disabled ∷ []) (omega arith) (one_l
 module _ (b : SaveSettings) where
   one_answer : (test : Bool) (x y : SaveState × List ℕ) → AreLists x.1 → AreLists y.1
       → AreLists (if test then x else y).1
-  one_answer true x y first second = first
-  one_answer false x y first second = second
-
-  disable-lists : (s : SaveState) → AreLists (disable s).1
-  disable-lists s = one_answer s.active (shut s, disabled ∷ []) (s, []) (one_list disabled (omega arith)) no_list
-
-  saved-lists : (s : SaveState) → AreLists (saved s).1
-  saved-lists s =
-      one_answer (s.left == 0) (shut s, saving ∷ disabled ∷ []) (s, saving ∷ []) two_lists
-      (one_list saving (omega arith))
+  one_answer test x y first second = search rules
 
   act-lists : (act : Act) (now : ℕ) (s : SaveState) → AreLists (act_step b act now s).1
-  act-lists acts.Enable now s =
-      one_answer s.active (s, []) (opened b now, enabled ∷ []) no_list (one_list enabled (omega arith))
-  act-lists acts.Disable now s = disable-lists s
-  act-lists acts.Save now s =
-      one_answer s.active (saved (with_fewer s)) (s, []) (saved-lists (with_fewer s)) no_list
-  act-lists _ now s = no_list
+  act-lists act now s = search rules
 
   pub save_step-lists : (call : Call) (now : ℕ) (s : SaveState) → AreLists (save_step b call now s).1
-  save_step-lists calls.Fire now s = disable-lists s
-  save_step-lists (calls.Act act) now s = act-lists act now s
-  save_step-lists _ now s = no_list
+  save_step-lists call now s = search rules
 
 -- ---- moments
-
--- the end of one that is enabled now is later
-end-later : (endless : Bool) (time now due : ℕ) → (endless ≡ false → 0 < time)
-    → if◌then◌else◌ {A = Option ℕ} endless None (Some (now + time)) ≡ Some due → now < due
-end-later true time now due some is = absurd (none-some due is)
-end-later false time now due some is =
-    let lasts : 0 < time = some refl in
-    let same : now + time ≡ due = same_Some (now + time) due is in
-    omega (arith, lasts, same)
 
 -- due at a moment at which it was due before, or later than now
 module _ (b : SaveSettings) (now : ℕ) (Before : ℕ → Type 0) where
@@ -234,63 +174,16 @@ module _ (b : SaveSettings) (now : ℕ) (Before : ℕ → Type 0) where
   not_due : (s : SaveState) → s.due ≡ None → IsLater s
   not_due s never due is = absurd (none-some due (sym never ∙ is))
 
-  one_later : (test : Bool) (x y : SaveState × List ℕ) → IsLater x.0 → IsLater y.0 → IsLater (if test then x else y).0
-  one_later true x y first second = first
-  one_later false x y first second = second
-
-  opened-later : IsLater (opened b now)
-  opened-later due is =
-      inr (end-later (b.active_time == 0) b.active_time now due
-      (λ lasts. omega (arith, eqb-false b.active_time 0 lasts)) is)
-
-  disable-later : (s : SaveState) → IsLater s → IsLater (disable s).0
-  disable-later s h = one_later s.active (shut s, disabled ∷ []) (s, []) (not_due (shut s) refl) h
-
-  saved-later : (s : SaveState) → IsLater s → IsLater (saved s).0
-  saved-later s h =
-      one_later (s.left == 0) (shut s, saving ∷ disabled ∷ []) (s, saving ∷ []) (not_due (shut s) refl) h
-
   act-later : (act : Act) (s : SaveState) → IsLater s → IsLater (act_step b act now s).0
-  act-later acts.Enable s h = one_later s.active (s, []) (opened b now, enabled ∷ []) h opened-later
-  act-later acts.Disable s h = disable-later s h
-  act-later acts.Save s h = one_later s.active (saved (with_fewer s)) (s, []) (saved-later (with_fewer s) h) h
-  act-later _ s h = h
-
-  pub save-later : (call : Call) (s : SaveState) → IsLater s → IsLater (save_step b call now s).0
-  save-later calls.Fire s h = disable-later s h
-  save-later (calls.Act act) s h = act-later act s h
-  save-later _ s h = not_due first_state refl
+  act-later act s h = search rules
 
 if_some : (o : Option ℕ) (P : ℕ → Type 0) → ((m : ℕ) → o ≡ Some m → P m) → IfSome o P
-if_some None P each = tt
-if_some (Some m) P each = each m refl
+if_some o P each = search rules
 
 is_due : (o : Option ℕ) (m : ℕ) → o ≡ Some m → is_some o ≡ true
-is_due None m is = absurd (none-some m is)
-is_due (Some n) m is = refl
-
-shut-when : (active : Bool) (s : SaveState) → active ≡ true
-    → (if◌then◌else◌ {A = SaveState × List ℕ} active (shut s, disabled ∷ []) (s, [])).0.due ≡ None
-shut-when true s is = refl
-shut-when false s is = absurd (false≢true is)
+is_due o m is = search rules
 
 -- one that was disabled at its end is due no more
 pub save-fired : (b : SaveSettings) (now : ℕ) (s : SaveState) → HasSaveShape b s
     → IfSome s.due (λ due. IsDone now due (states.BallSave s) (states.BallSave (save_step b calls.Fire now s).0))
-save-fired b now s shape =
-    let next : SaveState = (disable s).0 in
-    if_some s.due (λ due. IsDone now due (states.BallSave s) (states.BallSave next))
-    (λ due is.
-    let never : next.due ≡ None = shut-when s.active s (shape.due (is_due s.due due is)).0 in
-    record { part = 0; due = is; done = if_some next.due (λ m. now < m) (λ m at. absurd (none-some m (sym never ∙ at))) })
-
--- it has one part
-pub save-first : (s : SaveState) (due : ℕ) → s.due ≡ Some due → IsFirstPart (states.BallSave s) due 0
-save-first s due is = record {
-  due = is;
-  earliest = elim [
-    | zero ↦ (λ at found. let same : due ≡ at = same_Some due at (sym is ∙ found) in omega (arith, same))
-    | suc k ↦ (λ at found. absurd (none-some at found))
-  ];
-  lowest = λ other found. omega arith;
-}
+save-fired b now s shape = search rules

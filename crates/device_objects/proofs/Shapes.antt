@@ -1,9 +1,8 @@
 -- States keep their kind.
-use Rattle.std.proofs.Common.{◌≡◌, ℕ, suc, ◌-◌, ◌<◌, ◌≤◌, Bool, true, false, Option, None, Some, List, [], ◌++◌, length, take, drop, replicate, slice_get, slice_set, nat_lt, nat_le, if◌then◌else◌, refl, ◌∙◌, ◌&&◌, arith}
+use Rattle.std.proofs.Common.{rules, ◌≡◌, ℕ, ◌-◌, ◌≤◌, Bool, true, Option, Some, List, [], ◌++◌, length, take, drop, slice_get, slice_set, nat_lt, if◌then◌else◌, refl, ◌∙◌, arith}
 use Rattle.std.specs.List.{All}
-use Rattle.std.proofs.lemmas.Bool.{ltb-true}
 use Rattle.std.proofs.lemmas.List.{length-set, length-take, length-drop, length-append}
-use Rattle.std.proofs.lemmas.List.Elements.{All-replicate, All-set, All-append, All-take, All-drop}
+use Rattle.std.proofs.lemmas.List.Elements.{All-replicate, All-append, All-take, All-drop}
 use Rattle.plan_tables.specs.declared.devices.BankSettings.{BankSettings}
 use Rattle.machine_settings.specs.declared.settings.CounterSettings.{CounterSettings}
 use Rattle.machine_settings.specs.declared.settings.StepSettings.{StepSettings}
@@ -27,49 +26,27 @@ use Rattle.device_objects.specs.Sequence as sequence
 use Rattle.device_objects.specs.Bank as bank
 use Rattle.device_objects.specs.DeviceStep.{first_state, device_step}
 use Rattle.device_objects.specs.Laws.{HasBankShape, HasMarks, HasShape, StatesKeepTheirShape}
-use Rattle.device_objects.proofs.Slots.{step_in_use-length, step_in_use-all, All-at}
+use Rattle.device_objects.proofs.Slots.{step_in_use-all, All-at}
 use Rattle.device_objects.proofs.BallShapes.{first_ball-shape, ball_step-shape}
 use Rattle.device_objects.proofs.Saves.{first_save-shape, save_step-shape}
 
--- slots of which the first may begin anew
-pub anew-length : {S : Type 0} (keep : Bool) (slots : List S) (first : S) → length (if keep then slots else slice_set slots 0 first) ≡ length slots
-anew-length true slots first = refl
-anew-length false slots first = length-set slots 0 first
-
 counter_step-length : (c : CounterSettings) (call : Call) (now : ℕ) (world : World) (slots : List CounterSlot) → length (counter.counter_step c call now world slots).0 ≡ length slots
-counter_step-length c calls.ModeStart now world slots = anew-length c.block.persist slots (counter.first_slot c 0)
-counter_step-length c (calls.Act act) now world slots = step_in_use-length (λ slot. counter.slot_step c act now (counter.current c world slot)) slots (slot_in_use c.block.persist world)
-counter_step-length c _ now world slots = refl
+counter_step-length c call now world slots = search rules
 
 -- each accrual slot keeps its 16 marks
 
-completed-marks : (a : StepSettings) (slot : AccrualSlot) (reset : Bool) → HasMarks slot → length (if reset then accrual.none_done else slot.done) ≡ 16
-completed-marks a slot true marks = refl
-completed-marks a slot false marks = marks
-
 -- a slot that is one of two
 either : (test : Bool) (x y : AccrualSlot × List ℕ) → HasMarks x.0 → HasMarks y.0 → HasMarks (if test then x else y).0
-either true x y first second = first
-either false x y first second = second
+either test x y first second = search rules
 
 slot_step-marks : (a : StepSettings) (act : Act) (slot : AccrualSlot) → HasMarks slot → HasMarks (accrual.slot_step a act slot).0
-slot_step-marks a (acts.Step i) slot marks =
-    let stepped : AccrualSlot = record slot { done = slice_set slot.done i true } in
-    let still : HasMarks stepped = length-set slot.done i true ∙ marks in
-    either (slot.enabled && accrual.is_step_open a i slot.done) (accrual.stepped a stepped) (slot, [])
-    (either (accrual.are_all_done a stepped.done) (accrual.completed a stepped, _) (stepped, _) (completed-marks a stepped a.block.reset_on_complete still) still)
-    marks
-slot_step-marks a acts.Reset slot marks = refl
-slot_step-marks a acts.Restart slot marks = refl
-slot_step-marks a _ slot marks = marks
+slot_step-marks a act slot marks = search rules
 
 current-marks : (a : StepSettings) (world : World) (slot : AccrualSlot) (other : Bool) → HasMarks slot → HasMarks (if other then accrual.first_slot a world.games else slot)
-current-marks a world slot true marks = refl
-current-marks a world slot false marks = marks
+current-marks a world slot other marks = search rules
 
 anew-marks : (a : StepSettings) (keep : Bool) (slots : List AccrualSlot) → All HasMarks slots → All HasMarks (if keep then slots else slice_set slots 0 (accrual.first_slot a 0))
-anew-marks a true slots all = all
-anew-marks a false slots all = All-set HasMarks slots 0 (accrual.first_slot a 0) refl all
+anew-marks a keep slots all = search rules
 
 accrual_step-marks : (a : StepSettings) (call : Call) (world : World) (slots : List AccrualSlot) → All HasMarks slots → All HasMarks (accrual.accrual_step a call world slots).0
 accrual_step-marks a calls.ModeStart world slots all = anew-marks a a.block.persist slots all
@@ -80,14 +57,10 @@ accrual_step-marks a (calls.Act act) world slots all =
 accrual_step-marks a _ world slots all = all
 
 accrual_step-length : (a : StepSettings) (call : Call) (world : World) (slots : List AccrualSlot) → length (accrual.accrual_step a call world slots).0 ≡ length slots
-accrual_step-length a calls.ModeStart world slots = anew-length a.block.persist slots (accrual.first_slot a 0)
-accrual_step-length a (calls.Act act) world slots = step_in_use-length (λ slot. accrual.slot_step a act (accrual.current a world slot)) slots (slot_in_use a.block.persist world)
-accrual_step-length a _ world slots = refl
+accrual_step-length a call world slots = search rules
 
 sequence_step-length : (q : StepSettings) (call : Call) (world : World) (slots : List SequenceSlot) → length (sequence.sequence_step q call world slots).0 ≡ length slots
-sequence_step-length q calls.ModeStart world slots = anew-length q.block.persist slots (sequence.first_slot q 0)
-sequence_step-length q (calls.Act act) world slots = step_in_use-length (λ slot. sequence.slot_step q act (sequence.current q world slot)) slots (slot_in_use q.block.persist world)
-sequence_step-length q _ world slots = refl
+sequence_step-length q call world slots = search rules
 
 -- ---- banks
 
@@ -97,13 +70,7 @@ module _ (b : BankSettings) where
   AreWithin states = All (λ s. s ≤ b.last_state) states
 
   pub next-within : (state : ℕ) → state ≤ b.last_state → bank.next_state b state ≤ b.last_state
-  next-within state l = one_of (nat_lt state b.last_state) b.loops (λ is. ltb-true state b.last_state is)
-    where
-      one_of : (goes loops : Bool) → (goes ≡ true → state < b.last_state)
-          → (if goes then suc state else (if loops then 0 else state)) ≤ b.last_state
-      one_of true loops below = let lt : state < b.last_state = below refl in omega (arith, lt)
-      one_of false true below = omega arith
-      one_of false false below = l
+  next-within state l = search rules
 
   pub with_states : (slot : BankSlot) (states : List ℕ) → HasBankShape b slot → length states ≡ 16 → AreWithin states
       → HasBankShape b (record slot { states = states })
@@ -115,9 +82,7 @@ module _ (b : BankSettings) where
 
   pub with_state : (slot : BankSlot) (i state : ℕ) → HasBankShape b slot → state ≤ b.last_state
       → HasBankShape b (record slot { states = slice_set slot.states i state })
-  with_state slot i state shape within =
-      with_states slot (slice_set slot.states i state) shape (length-set slot.states i state ∙ shape.1)
-      (All-set (λ s. s ≤ b.last_state) slot.states i state within shape.2)
+  with_state slot i state shape within = search rules
 
   turned-length : (k : ℕ) (states : List ℕ) → length (bank.turned b.shots k states) ≡ length states
   turned-length k states =
@@ -149,29 +114,20 @@ module _ (b : BankSettings) where
   -- a slot that is one of two
   one_slot : (test : Bool) (x y : BankSlot) → HasBankShape b x → HasBankShape b y
       → HasBankShape b (if test then x else y)
-  one_slot true x y first second = first
-  one_slot false x y first second = second
+  one_slot test x y first second = search rules
 
   one_answer : (test : Bool) (x y : BankSlot × List ℕ) → HasBankShape b x.0 → HasBankShape b y.0
       → HasBankShape b (if test then x else y).0
-  one_answer true x y first second = first
-  one_answer false x y first second = second
+  one_answer test x y first second = search rules
 
   hit_where-shape : (i : ℕ) (slot : BankSlot) (enabled : Option Bool) (state : Option ℕ)
       → ((s : ℕ) → state ≡ Some s → s ≤ b.last_state) → HasBankShape b slot
       → HasBankShape b (bank.hit_where b i enabled state slot).0
-  hit_where-shape i slot (Some true) (Some s) within shape =
-      one_answer (nat_le s b.last_state) (bank.hit b i s slot) (slot, [])
-      (one_answer b.advance_on_hit (record slot { states = bank.gone_on b i s slot.states }, _) (slot, _)
-      (with_state slot i (bank.next_state b s) shape (next-within s (within s refl))) shape)
-      shape
-  hit_where-shape i slot _ _ within shape = shape
+  hit_where-shape i slot enabled state within shape = search rules
 
   advance_where-shape : (i : ℕ) (slot : BankSlot) (state : Option ℕ) → ((s : ℕ) → state ≡ Some s → s ≤ b.last_state)
       → HasBankShape b slot → HasBankShape b (bank.advance_where b i state slot)
-  advance_where-shape i slot None within shape = shape
-  advance_where-shape i slot (Some s) within shape =
-      with_state slot i (bank.next_state b s) shape (next-within s (within s refl))
+  advance_where-shape i slot state within shape = search rules
 
   bank_slot-shape : (act : Act) (slot : BankSlot) → HasBankShape b slot → HasBankShape b (bank.slot_step b act slot).0
   bank_slot-shape (acts.Hit i) slot shape =
@@ -183,26 +139,17 @@ module _ (b : BankSettings) where
       one_slot (nat_lt i b.shots) (bank.advance_where b i (slice_get slot.states i) slot) slot
       (advance_where-shape i slot (slice_get slot.states i)
       (λ s is. All-at (λ n. n ≤ b.last_state) slot.states i s is shape.2) shape) shape
-  bank_slot-shape (acts.ResetShot i) slot shape =
-      one_slot (nat_lt i b.shots) (record slot { states = slice_set slot.states i 0 }) slot
-      (with_state slot i 0 shape (omega arith)) shape
-  bank_slot-shape (acts.EnableShot i) slot shape =
-      one_slot (nat_lt i b.shots) (record slot { enabled = slice_set slot.enabled i true }) slot
-      (with_flag slot i true shape) shape
-  bank_slot-shape (acts.DisableShot i) slot shape =
-      one_slot (nat_lt i b.shots) (record slot { enabled = slice_set slot.enabled i false }) slot
-      (with_flag slot i false shape) shape
-  bank_slot-shape acts.Reset slot shape =
-      with_states slot (replicate 16 0) shape refl (All-replicate (λ s. s ≤ b.last_state) 16 0 (omega arith))
+  bank_slot-shape (acts.ResetShot i) slot shape = search rules
+  bank_slot-shape (acts.EnableShot i) slot shape = search rules
+  bank_slot-shape (acts.DisableShot i) slot shape = search rules
+  bank_slot-shape acts.Reset slot shape = search rules
   bank_slot-shape acts.RotateRight slot shape = turned-shape slot (b.shots - 1) shape
   bank_slot-shape acts.RotateLeft slot shape = turned-shape slot 1 shape
   bank_slot-shape _ slot shape = shape
 
   pub current-shape : (world : World) (slot : BankSlot) → HasBankShape b slot
       → HasBankShape b (bank.current b world slot)
-  current-shape world slot shape =
-      one_slot (is_of_other_game true world slot.game) (bank.first_slot b world.games) slot
-      (first_slot-shape world.games) shape
+  current-shape world slot shape = search rules
 
   bank_step-shape : (call : Call) (world : World) (slots : List BankSlot) → All (HasBankShape b) slots
       → All (HasBankShape b) (bank.bank_step b call world slots).0
@@ -214,9 +161,7 @@ module _ (b : BankSettings) where
 
   bank_step-length : (call : Call) (world : World) (slots : List BankSlot)
       → length (bank.bank_step b call world slots).0 ≡ length slots
-  bank_step-length (calls.Act act) world slots =
-      step_in_use-length (λ slot. bank.slot_step b act (bank.current b world slot)) slots (slot_in_use true world)
-  bank_step-length _ world slots = refl
+  bank_step-length call world slots = search rules
 
 -- ---- all kinds
 

@@ -1,20 +1,10 @@
 -- Steps of slots.
-use Rattle.std.proofs.Common.{◌≡◌, ℕ, ◌-◌, ◌≤◌, ◌==◌, Bool, true, false, Option, None, Some, List, [], ◌∷◌, length, map, option_map, set, slice_get, if◌then◌else◌, get_or, refl, sym, ap, subst, ◌∙◌, arith}
+use Rattle.std.proofs.Common.{rules, ◌≡◌, ℕ, ◌-◌, ◌≤◌, ◌==◌, Bool, true, false, Option, None, Some, List, [], ◌∷◌, length, map, option_map, set, slice_get, if◌then◌else◌, get_or, refl, sym, ap, subst, ◌∙◌, arith}
 use Rattle.std.specs.List.{All}
-use Rattle.std.proofs.lemmas.List.{length-map, length-set, map-set}
+use Rattle.std.proofs.lemmas.List.{length-map, map-set}
 use Rattle.std.proofs.lemmas.Option.{slice_get_past, slice_get_within, slice_get-get_or, slice_get-map}
-use Rattle.std.proofs.lemmas.List.Elements.{All-set}
 use Rattle.device_objects.specs.declared.state.World.{World}
 use Rattle.device_objects.specs.Slots.{slot_in_use, put_at, step_at, step_in_use}
-
--- a step of a slot leaves their number
-step_at-length : {S : Type 0} (step : S → S × List ℕ) (i : ℕ) (slots : List S) (slot : Option S) → length (step_at step i slots slot).0 ≡ length slots
-step_at-length step i slots None = refl
-step_at-length step i slots (Some s) = length-set slots i (step s).0
-
-pub step_in_use-length : {S : Type 0} (step : S → S × List ℕ) (slots : List S) (at : Option ℕ) → length (step_in_use step slots at).0 ≡ length slots
-step_in_use-length step slots None = refl
-step_in_use-length step slots (Some i) = step_at-length step i slots (slice_get slots i)
 
 abbrev value_or : {S : Type 0} → S → Option S → S
 value_or d None = d
@@ -30,8 +20,7 @@ All-at P slots i s is all =
 -- what holds of every slot after a step, and held before, holds of all
 step_at-all : {S : Type 0} (P : S → Type 0) (step : S → S × List ℕ) → ((s : S) → P s → P (step s).0) → (i : ℕ) (slots : List S) (slot : Option S)
     → ((s : S) → slot ≡ Some s → P s) → All P slots → All P (step_at step i slots slot).0
-step_at-all P step keeps i slots None held all = all
-step_at-all P step keeps i slots (Some s) held all = All-set P slots i (step s).0 (keeps s (held s refl)) all
+step_at-all P step keeps i slots slot held all = search rules
 
 pub step_in_use-all : {S : Type 0} (P : S → Type 0) (step : S → S × List ℕ) → ((s : S) → P s → P (step s).0) → (slots : List S) (at : Option ℕ) → All P slots
     → All P (step_in_use step slots at).0
@@ -41,12 +30,10 @@ step_in_use-all P step keeps slots (Some i) all = step_at-all P step keeps i slo
 -- what every slot answers, and what no slot answers where each player has one, is what the slots answer
 module _ {S : Type 0} (P : List ℕ → Type 0) (step : S → S × List ℕ) (each : (s : S) → P (step s).1) where
   at_slot : (i : ℕ) (slots : List S) (slot : Option S) → P [] → P (step_at step i slots slot).1
-  at_slot i slots None none = none
-  at_slot i slots (Some s) none = each s
+  at_slot i slots slot none = search rules
 
   of_player : (is_none : Bool) (slots : List S) (i : ℕ) → P [] → P (step_in_use step slots (if is_none then None else Some i)).1
-  of_player true slots i none = none
-  of_player false slots i none = at_slot i slots (slice_get slots i) none
+  of_player is_none slots i none = search rules
 
   at_first : (slots : List S) → length slots ≡ 4 → P (step_at step 0 slots (slice_get slots 0)).1
   at_first [] four = absurd (omega (arith, four))
