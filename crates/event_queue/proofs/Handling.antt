@@ -1,5 +1,5 @@
 -- For each event the order of what takes part: as it is made, and where one more takes part, or one less.
-use Rattle.std.proofs.Common.{◌≡◌, ◌≢◌, ℕ, ◌+◌, ◌<◌, ◌≤◌, nat_lt, ◌==◌, ◌&&◌, Bool, true, false, List, [], ◌∷◌, ◌++◌, Some, length, filter, get_or, slice_get, slice_set, Vec, Global, vec_capacity, refl, ap, sym, subst, ◌∙◌, inl, inr, arith}
+use Rattle.std.proofs.Common.{rules, ◌≡◌, ◌≢◌, ℕ, ◌+◌, ◌<◌, ◌≤◌, nat_lt, ◌==◌, ◌&&◌, Bool, true, false, List, [], ◌∷◌, ◌++◌, Some, length, filter, get_or, slice_get, slice_set, Vec, Global, vec_capacity, refl, ap, sym, subst, ◌∙◌, inl, inr, arith}
 use Rattle.std.specs.List.{All}
 use Rattle.std.proofs.lemmas.Bool.{cases_eq, cases_lt, eq-eqb, lt-ltb, le-ltb, and_from, and_left, and_right, or_right}
 use Rattle.std.proofs.lemmas.Bool.Decides.{nat_tests}
@@ -155,11 +155,7 @@ module _ (plan : PlanView) where
     first-none p = sym (and_right (runs_at plan running p) (nat_lt p.0 0) (le-ltb p.0 0 (omega arith)))
 
     pub first-all : (n : ℕ) (p : BindingId) → length plan.bindings ≤ n → p.0 < length plan.bindings → first_of n p ≡ runs_at plan running p
-    first-all n p all within = ap (λ b. runs_at plan running p && b) (lt-ltb p.0 n (omega arith)) ∙ by (runs_at plan running p)
-      where
-        by : (b : Bool) → (b && true) ≡ b
-        by true = refl
-        by false = refl
+    first-all n p all within = search rules
 
     module _ (n : ℕ) where
       abbrev here : BindingId
@@ -172,19 +168,7 @@ module _ (plan : PlanView) where
       apart p other = let same : nat_lt p.0 n ≡ nat_lt p.0 (n + 1) = grind (arith, nat_tests) in ap (λ b. runs_at plan running p && b) same
 
       pub first-more : runs_at plan running here ≡ true → (p : BindingId) → also (first_of n) here p ≡ first_of (n + 1) p
-      first-more runs p =
-          elim (cases_eq p.0 n) [
-            | inl same ↦
-                or_right (first_of n p) (n == p.0) (eq-eqb n p.0 (sym same))
-                ∙ sym (and_from (runs_at plan running p) (nat_lt p.0 (n + 1)) (ap (runs_at plan running) (place-same p here same) ∙ runs) (lt-ltb p.0 (n + 1) (omega arith)))
-            | inr other ↦ also-other (first_of n) here p other ∙ apart p other
-          ]
+      first-more runs p = search rules
 
       pub first-same : runs_at plan running here ≡ false → (p : BindingId) → first_of n p ≡ first_of (n + 1) p
-      first-same rests p =
-          elim (cases_eq p.0 n) [
-            | inl same ↦
-                let no = ap (runs_at plan running) (place-same p here same) ∙ rests in
-                and_left (runs_at plan running p) (nat_lt p.0 n) no ∙ sym (and_left (runs_at plan running p) (nat_lt p.0 (n + 1)) no)
-            | inr other ↦ apart p other
-          ]
+      first-same rests p = search rules

@@ -1,5 +1,5 @@
 -- Alarms in order: the first is the least, and where a row's due moment is set, its alarm is taken out and another put in.
-use Rattle.std.proofs.Common.{◌≡◌, ℕ, zero, suc, ◌+◌, ◌<◌, ◌≤◌, nat_lt, ◌==◌, ◌&&◌, ◌||◌, Bool, true, false, cond, Option, Some, None, List, [], ◌∷◌, length, replicate, get_or, slice_get, slice_set, Bor, refl, ap, ap₂, sym, ◌∙◌, arith}
+use Rattle.std.proofs.Common.{rules, ◌≡◌, ℕ, zero, suc, ◌+◌, ◌<◌, ◌≤◌, nat_lt, ◌==◌, ◌&&◌, ◌||◌, Bool, true, false, cond, Option, Some, None, List, [], ◌∷◌, length, replicate, get_or, slice_get, slice_set, Bor, refl, ap, ap₂, sym, ◌∙◌, arith}
 use Rattle.std.specs.Cmp.{IsStrictWeakOrder}
 use Rattle.std.specs.List.{HoldsAt}
 use Rattle.std.specs.Option.{MatchOption, option_copied}
@@ -34,23 +34,15 @@ same-row : (t r u s : ℕ) → lower t r u s ≡ false → lower u s t r ≡ fal
 same-row t r u s not neither = grind (arith, nat_tests)
 
 pub before-order : IsStrictWeakOrder comes_before
-before-order = record {
-  one_way = λ a b. one_way a.0 a.1.0 b.0 b.1.0;
-  chain = λ a b c. chain a.0 a.1.0 b.0 b.1.0 c.0 c.1.0;
-}
+before-order = search rules
 
 before-same : (a b : Alarm) → comes_before a b ≡ false → comes_before b a ≡ false → a ≡ b
-before-same a b not neither =
-    ap₂ (λ (moment number : ℕ). (moment, row_of number)) (same-moment a.0 a.1.0 b.0 b.1.0 not neither) (same-row a.0 a.1.0 b.0 b.1.0 not neither)
+before-same a b not neither = search rules
 
 -- ---- the first is the least
 
 first_of-put : (alarm : Option Alarm) (alarms : List Alarm) → slice_get (put_alarm alarm alarms) 0 ≡ first_of alarm (slice_get alarms 0)
-first_of-put (Some a) (b ∷ bs) = by (comes_before b a)
-  where
-    by : (is : Bool) → slice_get (cond is (b ∷ put comes_before a bs) (a ∷ b ∷ bs)) 0 ≡ cond is (Some b) (Some a)
-    by true = refl
-    by false = refl
+first_of-put (Some a) (b ∷ bs) = search rules
 first_of-put _ _ = refl
 
 first_from : (number : ℕ) (dues : List (Option ℕ)) → slice_get (ordered_from number dues) 0 ≡ least_from number dues
@@ -106,9 +98,7 @@ put_alarm-comm _ _ alarms = refl
 
 from-set : (number r : ℕ) (dues : List (Option ℕ)) (due : Option ℕ) → r < length dues → ordered_from number (slice_set dues r due) ≡ put_alarm (alarm_of (row_of (number + r)) due) (ordered_from number (slice_set dues r None))
 from-set number r [] due within = absurd (omega arith)
-from-set number zero (d ∷ ds) due within =
-    let here : number ≡ number + zero = omega arith in
-    ap (λ n. put_alarm (alarm_of (row_of n) due) (ordered_from (number + 1) ds)) here
+from-set number zero (d ∷ ds) due within = search rules
 from-set number (suc r) (d ∷ ds) due within =
     let here : (number + 1) + r ≡ number + suc r = omega arith in
     let rest = ordered_from (number + 1) (slice_set ds r None) in

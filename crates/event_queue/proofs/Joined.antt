@@ -1,5 +1,5 @@
 -- Plan order of places where one more takes part: it is put into the order.
-use Rattle.std.proofs.Common.{◌≡◌, ◌≢◌, ℕ, suc, ◌<◌, nat_lt, ◌==◌, ◌&&◌, ◌||◌, not, Bool, true, false, true≢false, cond, List, [], ◌∷◌, filter, get_or, refl, ap, sym, subst, ◌∙◌, inl, inr, arith}
+use Rattle.std.proofs.Common.{rules, ◌≡◌, ◌≢◌, ℕ, suc, ◌<◌, nat_lt, ◌==◌, ◌&&◌, ◌||◌, not, Bool, true, false, true≢false, cond, List, [], ◌∷◌, filter, get_or, refl, ap, sym, subst, ◌∙◌, inl, inr, arith}
 use Rattle.std.specs.List.{All, AllPairs, list_any}
 use Rattle.std.specs.Cmp.{IsStrictWeakOrder}
 use Rattle.std.proofs.lemmas.Bool.{cases_eq, eq-eqb, ne_eqb, or_right, and_right, not_from_true}
@@ -25,8 +25,7 @@ filter-agree p q (x ∷ xs) agree =
     λ i. cond (first i) (x ∷ rest i) (rest i)
 
 or-false : (b : Bool) → (b || false) ≡ b
-or-false true = refl
-or-false false = refl
+or-false b = search rules
 
 pub place-same : (p q : BindingId) → p.0 ≡ q.0 → p ≡ q
 place-same p q same = ap (λ n. record { 0 = n }) same
@@ -40,11 +39,7 @@ module _ (takes : BindingId → Bool) (q : BindingId) where
   also-other p other = ap (λ b. takes p || b) (ne_eqb q.0 p.0 (λ same. other (sym same))) ∙ or-false (takes p)
 
   pub without-other : (p : BindingId) → p.0 ≢ q.0 → without takes q p ≡ takes p
-  without-other p other = ap (λ b. takes p && not b) (ne_eqb q.0 p.0 (λ same. other (sym same))) ∙ by (takes p)
-    where
-      by : (b : Bool) → (b && true) ≡ b
-      by true = refl
-      by false = refl
+  without-other p other = search rules
 
   also-itself : (p : BindingId) → p.0 ≡ q.0 → also takes q p ≡ true
   also-itself p same = or_right (takes p) (q.0 == p.0) (eq-eqb q.0 p.0 (sym same))
@@ -54,11 +49,7 @@ module _ (takes : BindingId → Bool) (q : BindingId) where
 
 -- where it took part, it does so again if it is taken out and joins once more
 pub without-also : (takes : BindingId → Bool) (q : BindingId) → takes q ≡ true → (p : BindingId) → takes p ≡ also (without takes q) q p
-without-also takes q took p =
-    elim (cases_eq p.0 q.0) [
-      | inl same ↦ ap takes (place-same p q same) ∙ took ∙ sym (also-itself (without takes q) q p same)
-      | inr other ↦ sym (also-other (without takes q) q p other ∙ without-other takes q p other)
-    ]
+without-also takes q took p = search rules
 
 module _ (plan : PlanView) where
   -- ---- one place before another
@@ -73,10 +64,7 @@ module _ (plan : PlanView) where
   higher-same t r u s not neither = grind (arith, nat_tests)
 
   pub runs-order : IsStrictWeakOrder (runs_before plan)
-  runs-order = record {
-    one_way = λ p q. higher-one_way (priority_at plan p) p.0 (priority_at plan q) q.0;
-    chain = λ p q r. higher-chain (priority_at plan p) p.0 (priority_at plan q) q.0 (priority_at plan r) r.0;
-  }
+  runs-order = search rules
 
   runs-same : (p q : BindingId) → runs_before plan p q ≡ false → runs_before plan q p ≡ false → p ≡ q
   runs-same p q not neither = place-same p q (higher-same (priority_at plan p) p.0 (priority_at plan q) q.0 not neither)

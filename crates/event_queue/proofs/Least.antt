@@ -1,5 +1,5 @@
 -- The least alarm is the one that the definition computes.
-use Rattle.std.proofs.Common.{◌≡◌, ℕ, zero, suc, ◌+◌, ◌<◌, ◌≤◌, ◌⊎◌, true, false, Option, Some, None, MatchOption, IfSome, List, [], ◌∷◌, length, slice_index_or, refl, ap, sym, subst, ◌∙◌, inl, inr, arith}
+use Rattle.std.proofs.Common.{rules, ◌≡◌, ℕ, zero, suc, ◌+◌, ◌<◌, ◌≤◌, ◌⊎◌, true, false, Option, Some, None, MatchOption, IfSome, List, [], ◌∷◌, length, slice_index_or, refl, ap, sym, subst, ◌∙◌, inl, inr, arith}
 use Rattle.std.proofs.lemmas.Bool.{cases_lt, cond_both}
 use Rattle.std.proofs.lemmas.Bool.Decides.{nat_tests}
 use Rattle.std.proofs.lemmas.Option.{none-some, same_Some}
@@ -21,12 +21,7 @@ LeastAmong Is o = MatchOption o ((r t : ℕ) → Is r t → ⊥) (λ a. IsLeastO
 
 -- it is the least among the same ones, said in another way
 agree : (P R : ℕ → ℕ → Type 0) (o : Option (ℕ × RowId)) → ((r t : ℕ) → P r t → R r t) → ((r t : ℕ) → R r t → P r t) → LeastAmong P o → LeastAmong R o
-agree P R None to from p = λ r t h. p r t (from r t h)
-agree P R (Some a) to from p = record {
-  is = to a.1.0 a.0 p.is;
-  earliest = λ r t h. p.earliest r t (from r t h);
-  lowest = λ r t h. p.lowest r t (from r t h);
-}
+agree P R o to from p = search rules
 
 -- ---- of two alarms the one that comes first
 
@@ -38,46 +33,22 @@ before-not t u r s is = (grind (arith, nat_tests), λ same. grind (arith, nat_te
 
 -- all of `R` is in `P` or in `Q`, and the least of `P` does not come after any of `Q`
 first-is : (P Q R : ℕ → ℕ → Type 0) (moment row : ℕ) → ((r t : ℕ) → P r t → R r t) → ((r t : ℕ) → R r t → P r t ⊎ Q r t) → IsLeastOf P moment row → ((r t : ℕ) → Q r t → moment ≤ t) → ((r t : ℕ) → Q r t → moment ≡ t → row ≤ r) → IsLeastOf R moment row
-first-is P Q R moment row to split p early low = record {
-  is = to row moment p.is;
-  earliest = λ r t h. elim (split r t h) [ inl x ↦ p.earliest r t x | inr y ↦ early r t y ];
-  lowest = λ r t h. elim (split r t h) [ inl x ↦ p.lowest r t x | inr y ↦ low r t y ];
-}
+first-is P Q R moment row to split p early low = search rules
 
 swap : (A B : Type 0) → A ⊎ B → B ⊎ A
-swap A B (inl a) = inr a
-swap A B (inr b) = inl b
+swap A B x1 = search rules
 
 -- all of `P` and of `Q` is in `R`, and nothing else
 module _ (P Q R : ℕ → ℕ → Type 0) (from_P : (r t : ℕ) → P r t → R r t) (from_Q : (r t : ℕ) → Q r t → R r t) (split : (r t : ℕ) → R r t → P r t ⊎ Q r t) where
   chosen : (a b : ℕ × RowId) → IsLeastOf P a.0 a.1.0 → IsLeastOf Q b.0 b.1.0 → LeastAmong R (first_of (Some a) (Some b))
-  chosen a b p q =
-      cond_both (comes_before b a) (Some b) (Some a) (LeastAmong R)
-      (λ e.
-      let first = before-is b.0 a.0 b.1.0 a.1.0 e in
-      first-is Q P R b.0 b.1.0 from_Q (λ r t h. swap (P r t) (Q r t) (split r t h)) q
-      (λ r t h. let le = p.earliest r t h in let ge = first.0 in omega arith)
-      (λ r t h same. let le = p.earliest r t h in let ge = first.0 in let lower = p.lowest r t h (omega arith) in let row = first.1 (omega arith) in omega arith))
-      (λ e.
-      let first = before-not b.0 a.0 b.1.0 a.1.0 e in
-      first-is P Q R a.0 a.1.0 from_P split p
-      (λ r t h. let le = q.earliest r t h in let ge = first.0 in omega arith)
-      (λ r t h same. let le = q.earliest r t h in let ge = first.0 in let lower = q.lowest r t h (omega arith) in let row = first.1 (omega arith) in omega arith))
+  chosen a b p q = search rules
 
   first_of-least : (a b : Option (ℕ × RowId)) → LeastAmong P a → LeastAmong Q b → LeastAmong R (first_of a b)
-  first_of-least None None p q = λ r t h. elim (split r t h) [ inl x ↦ p r t x | inr y ↦ q r t y ]
-  first_of-least None (Some b) p q = first-is Q P R b.0 b.1.0 from_Q (λ r t h. swap (P r t) (Q r t) (split r t h)) q (λ r t h. absurd (p r t h)) (λ r t h same. absurd (p r t h))
-  first_of-least (Some a) None p q = first-is P Q R a.0 a.1.0 from_P split p (λ r t h. absurd (q r t h)) (λ r t h same. absurd (q r t h))
-  first_of-least (Some a) (Some b) p q = chosen a b p q
+  first_of-least a b p q = search rules
 
 -- the alarm of one row
 alarm_of-least : (row : RowId) (due : Option ℕ) → LeastAmong (λ r t. (r ≡ row.0) × (due ≡ Some t)) (alarm_of row due)
-alarm_of-least row None = λ r t h. none-some t h.1
-alarm_of-least row (Some moment) = record {
-  is = (refl, refl);
-  earliest = λ r t h. let same = same_Some moment t h.1 in omega arith;
-  lowest = λ r t h same. let here = h.0 in omega arith;
-}
+alarm_of-least row due = search rules
 
 -- ---- among all rows
 
@@ -98,8 +69,7 @@ record IsFrom (k : ℕ) (dues : List (Option ℕ)) (r t : ℕ) : Type 0 where
   due : IsDue dues place t
 
 from-cons : (k : ℕ) (due : Option ℕ) (dues : List (Option ℕ)) (r t place : ℕ) → r ≡ k + place → IsDue (due ∷ dues) place t → ((r ≡ k) × (due ≡ Some t)) ⊎ IsFrom (k + 1) dues r t
-from-cons k due dues r t zero at is = inl (omega arith, is)
-from-cons k due dues r t (suc place) at is = inr (record { place = place; at = omega arith; due = is })
+from-cons k due dues r t place at is = search rules
 
 least_from-least : (k : ℕ) (dues : List (Option ℕ)) → LeastAmong (IsFrom k dues) (least_from k dues)
 least_from-least k [] = λ r t h. none-some t h.due
@@ -129,8 +99,7 @@ least-within dues o is = answer-within dues o (subst (LeastAmong (IsDue dues)) (
 -- ---- the law
 
 nothing_due : (o : Option ℕ) → ((t : ℕ) → o ≡ Some t → ⊥) → o ≡ None
-nothing_due None h = refl
-nothing_due (Some t) h = absurd (h t refl)
+nothing_due o h = search rules
 
 none_due : (dues : List (Option ℕ)) → least_of dues ≡ None → (row : RowId) → due_of dues row ≡ None
 none_due dues is row =

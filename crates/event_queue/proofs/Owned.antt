@@ -1,5 +1,5 @@
 -- The places of bindings: which of them an event and a mode have, and who takes part while a mode's bindings join or leave.
-use Rattle.std.proofs.Common.{◌≡◌, ℕ, ◌+◌, ◌<◌, ◌≤◌, ◌==◌, ◌&&◌, ◌||◌, not, Bool, true, false, true≢false, cond, List, [], ◌∷◌, ◌++◌, length, map, filter, take, get_or, slice_set, Vec, Global, refl, ap, sym, subst, ◌∙◌, inl, inr, append-nil, arith}
+use Rattle.std.proofs.Common.{rules, ◌≡◌, ℕ, ◌+◌, ◌<◌, ◌≤◌, ◌==◌, ◌&&◌, ◌||◌, not, Bool, true, false, true≢false, cond, List, [], ◌∷◌, ◌++◌, length, map, filter, take, get_or, slice_set, Vec, Global, refl, ap, sym, subst, ◌∙◌, inl, inr, append-nil, arith}
 use Rattle.std.specs.List.{All, AllPairs, range_with_len}
 use Rattle.std.proofs.lemmas.Bool.{cases_eq, cond-true, cond-false, eqb-true, eq-eqb, ne_eqb, and_from, and_right, or_from, not_from_false}
 use Rattle.std.proofs.lemmas.List.{length-set, get_or-set_same, get_or-set_other, get_or-take, get_or_default, length-take-le, take_all}
@@ -24,14 +24,10 @@ place n = record { 0 = n }
 -- ---- whether a place is among those that pass
 
 joins : (r : BindingId) (rs : List BindingId) (q : BindingId) (b : Bool) → has (cond b (r ∷ rs) rs) q ≡ ((b && (r.0 == q.0)) || has rs q)
-joins r rs q true = refl
-joins r rs q false = refl
+joins r rs q b = search rules
 
 passes : (b s among all c : Bool) → among ≡ (all && c) → (s ≡ true → b ≡ c) → ((b && s) || among) ≡ ((s || all) && c)
-passes true true among all c is same = same refl
-passes false true among all c is same = is ∙ and_right all c (sym (same refl)) ∙ same refl
-passes true false among all c is same = is
-passes false false among all c is same = is
+passes b s among all c is same = search rules
 
 has-filter : (p : BindingId → Bool) (ps : List BindingId) (q : BindingId) → has (filter p ps) q ≡ (has ps q && p q)
 has-filter p [] q = refl
@@ -88,45 +84,25 @@ module _ (plan : PlanView) where
 -- ---- who takes part where a mode runs, or does not
 
 part-own : (running : List Bool) (m : ModeId) (owner : Owner) → is_owner (Mode m) owner ≡ true → takes_part running owner ≡ get_or running m.0 false
-part-own running m Machine is = absurd (true≢false (sym is))
-part-own running m (Mode n) is = ap (λ k. get_or running k false) (sym (eqb-true m.0 n.0 is))
+part-own running m owner is = search rules
 
 part-set : (running : List Bool) (m : ModeId) (runs : Bool) (owner : Owner) → m.0 < length running → takes_part (slice_set running m.0 runs) owner ≡ cond (is_owner (Mode m) owner) runs (takes_part running owner)
-part-set running m runs Machine within = refl
-part-set running m runs (Mode n) within =
-    elim (cases_eq n.0 m.0) [
-      | inl same ↦
-          ap (λ k. get_or (slice_set running m.0 runs) k false) same ∙ get_or-set_same running m.0 runs false within
-          ∙ sym (cond-true (m.0 == n.0) runs (get_or running n.0 false) (eq-eqb m.0 n.0 (sym same)))
-      | inr other ↦
-          get_or-set_other running m.0 n.0 runs false other
-          ∙ sym (cond-false (m.0 == n.0) runs (get_or running n.0 false) (ne_eqb m.0 n.0 (λ same. other (sym same))))
-    ]
+part-set running m runs owner within = search rules
 
 or-cond : (b c : Bool) → (b || c) ≡ cond c true b
-or-cond true true = refl
-or-cond true false = refl
-or-cond false true = refl
-or-cond false false = refl
+or-cond b c = search rules
 
 and-cond : (b c : Bool) → (b && not c) ≡ cond c false b
-and-cond true true = refl
-and-cond true false = refl
-and-cond false true = refl
-and-cond false false = refl
+and-cond b c = search rules
 
 or-assoc : (a b c : Bool) → ((a || b) || c) ≡ (a || (b || c))
-or-assoc true b c = refl
-or-assoc false b c = refl
+or-assoc a b c = search rules
 
 and-not : (a b c : Bool) → ((a && not b) && not c) ≡ (a && not (b || c))
-and-not true true c = refl
-and-not true false c = refl
-and-not false b c = refl
+and-not a b c = search rules
 
 or-none : (b : Bool) → b ≡ (b || false)
-or-none true = refl
-or-none false = refl
+or-none b = search rules
 
 module _ (plan : PlanView) (running : List Bool) (m : ModeId) where
   -- so many of the mode's bindings have joined what takes part, or left it
@@ -187,8 +163,7 @@ module _ (plan : PlanView) (running : List Bool) (m : ModeId) where
 -- ---- the lists of all modes, as they are made
 
 pub machine-is : (owner : Owner) → ((m : ModeId) → owner ≡ Mode m → ⊥) → owner ≡ Machine
-machine-is Machine not = refl
-machine-is (Mode m) not = absurd (not m refl)
+machine-is owner not = search rules
 
 abbrev mode : ℕ → ModeId
 mode n = record { 0 = n }

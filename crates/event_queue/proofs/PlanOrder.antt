@@ -1,5 +1,5 @@
 -- Handlers by priority are in plan order, and no other order of them is.
-use Rattle.std.proofs.Common.{◌≡◌, ℕ, zero, suc, ◌+◌, ◌<◌, ◌≤◌, ◌⊎◌, nat_lt, Bool, ◌==◌, List, [], ◌∷◌, length, map, filter, get_or, refl, ap₂, sym, subst, ◌∙◌, inl, inr, arith}
+use Rattle.std.proofs.Common.{rules, ◌≡◌, ℕ, zero, suc, ◌+◌, ◌<◌, ◌≤◌, ◌⊎◌, nat_lt, Bool, ◌==◌, List, [], ◌∷◌, length, map, filter, get_or, refl, ap₂, sym, subst, ◌∙◌, inl, inr, arith}
 use Rattle.std.specs.List.{All, AllPairs, range_with_len}
 use Rattle.std.proofs.lemmas.Bool.{cases_lt, cond_both, ltb-true, ltb-false}
 use Rattle.std.proofs.lemmas.List.Elements.{All-cons, All-map}
@@ -53,17 +53,10 @@ handlers-increase plan running e = AllPairs-filter IsBelow (runs_at plan running
 
 module _ (plan : PlanView) where
   before-trans : (p q r : BindingId) → RunsBefore plan p q → RunsBefore plan q r → RunsBefore plan p r
-  before-trans p q r (inl a) (inl b) = inl (omega arith)
-  before-trans p q r (inl a) (inr b) = let same = b.0 in inl (omega arith)
-  before-trans p q r (inr a) (inl b) = let same = a.0 in inl (omega arith)
-  before-trans p q r (inr a) (inr b) = let x = a.0 in let y = b.0 in let z = a.1 in let w = b.1 in inr (omega arith, omega arith)
+  before-trans p q r x1 x2 = search rules
 
   pub before-or : (p q : BindingId) → priority_at plan q ≤ priority_at plan p → IsBelow p q → RunsBefore plan p q
-  before-or p q le below =
-      elim (cases_lt (priority_at plan q) (priority_at plan p)) [
-        | inl less ↦ inl less
-        | inr reached ↦ inr (omega arith, below)
-      ]
+  before-or p q le below = search rules
 
   tail : (R : BindingId → BindingId → Type 0) (p : BindingId) (ps : List BindingId) → AllPairs R (p ∷ ps) → AllPairs R ps
   tail R p ps h i j d before within = h (suc i) (suc j) d (omega arith) (omega arith)
@@ -96,10 +89,7 @@ module _ (plan : PlanView) where
   -- ---- there is one such order
 
   one_way : {A : Type 0} (p q : BindingId) → RunsBefore plan p q → RunsBefore plan q p → A
-  one_way p q (inl a) (inl b) = absurd (omega arith)
-  one_way p q (inl a) (inr b) = let same = b.0 in absurd (omega arith)
-  one_way p q (inr a) (inl b) = let same = a.0 in absurd (omega arith)
-  one_way p q (inr a) (inr b) = let x = a.1 in let y = b.1 in absurd (omega arith)
+  one_way p q x1 x2 = search rules
 
   -- what holds of all these places holds of all those
   abbrev pub AreAmong : List BindingId → List BindingId → Type 1
@@ -109,9 +99,7 @@ module _ (plan : PlanView) where
   starts p ps h = All-cons (λ r. (p ≡ r) ⊎ RunsBefore plan p r) p ps (inl refl) (λ k d within. inr (h 0 (suc k) d (omega arith) (omega arith)))
 
   same-start : (p q : BindingId) → (p ≡ q) ⊎ RunsBefore plan p q → (q ≡ p) ⊎ RunsBefore plan q p → p ≡ q
-  same-start p q (inl is) b = is
-  same-start p q (inr a) (inl is) = sym is
-  same-start p q (inr a) (inr b) = one_way p q a b
+  same-start p q x1 x2 = search rules
 
   among-rest : (p q : BindingId) (ps qs : List BindingId) → p ≡ q → AllPairs (RunsBefore plan) (q ∷ qs) → AreAmong (p ∷ ps) (q ∷ qs) → AreAmong ps qs
   among-rest p q ps qs same h among P all k d within =

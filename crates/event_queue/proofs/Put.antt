@@ -1,5 +1,5 @@
 -- An item put into a list in order, and taken out of it.
-use Rattle.std.proofs.Common.{◌≡◌, ℕ, zero, suc, ◌-◌, ◌<◌, ◌≤◌, Bool, true, false, true≢false, Option, Some, None, is_some, OnSome, List, [], ◌∷◌, length, get_or, refl, ap, sym, ◌∙◌, inl, inr, arith}
+use Rattle.std.proofs.Common.{rules, ◌≡◌, ℕ, zero, suc, ◌-◌, ◌<◌, ◌≤◌, Bool, true, false, true≢false, Option, Some, None, is_some, OnSome, List, [], ◌∷◌, length, get_or, refl, ap, sym, ◌∙◌, inl, inr, arith}
 use Rattle.std.specs.List.{All, AllPairs, AllWithin, insert, remove}
 use Rattle.std.specs.List.Sorted.{IsPartitionedBy}
 use Rattle.std.specs.Cmp.{IsStrictWeakOrder}
@@ -90,11 +90,7 @@ module _ {X : Type 0} (before : X → X → Bool) where
 
     -- so a search by halving finds the place
     pub ordered-parted : (x : X) (ys : List X) → IsOrdered before ys → IsPartitionedBy (λ y. before y x) ys
-    ordered-parted x ys ordered i j d le within is =
-        elim (cases_lt i j) [
-          | inl low ↦ true_from_ne_false _ (λ not. true≢false (sym is ∙ order.chain _ _ _ (ordered i j d low within) not))
-          | inr high ↦ let same : i ≡ j = omega arith in rw same is
-        ]
+    ordered-parted x ys ordered i j d le within is = search rules
 
     -- ---- where the place is seen at an end
 
@@ -132,15 +128,7 @@ module _ {X : Type 0} (before : X → X → Bool) where
 
       -- both are put in front
       both-first : (x y : X) (ws : List X) → put before x ws ≡ x ∷ ws → put before y ws ≡ y ∷ ws → put before x (y ∷ ws) ≡ put before y (x ∷ ws)
-      both-first x y ws for_x for_y =
-          elim (cases_Bool (before y x)) [
-            | inl is ↦ put-later x y ws is ∙ ap (λ vs. y ∷ vs) for_x ∙ sym (put-first y x ws (order.one_way y x is))
-            | inr not ↦
-                elim (cases_Bool (before x y)) [
-                  | inl is ↦ put-first x y ws not ∙ sym (put-later y x ws is ∙ ap (λ vs. x ∷ vs) for_y)
-                  | inr neither ↦ ap (λ z. put before z (y ∷ ws)) (same x y neither not) ∙ ap (λ z. put before y (z ∷ ws)) (sym (same x y neither not))
-                ]
-          ]
+      both-first x y ws for_x for_y = search rules
 
       pub put_comm : (x y : X) (zs : List X) → put before x (put before y zs) ≡ put before y (put before x zs)
       put_comm x y [] = both-first x y [] refl refl
@@ -169,5 +157,4 @@ module _ {X : Type 0} (before : X → X → Bool) where
 -- ---- what an `OnSome` says of a value that is there
 
 pub on_some : {A : Type 0} (o : Option A) (P : Type 0) → is_some o ≡ true → OnSome o P → P
-on_some None P some h = cc
-on_some (Some a) P some h = h
+on_some o P some h = search rules

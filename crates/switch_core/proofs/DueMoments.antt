@@ -1,5 +1,5 @@
 -- What each call does with the due moments: a change arms its own switch alone, and later than its moment; what is accepted is not due any more.
-use Rattle.std.proofs.Common.{◌≡◌, ◌≢◌, ℕ, ◌+◌, ◌<◌, ◌≤◌, ◌⊎◌, Bool, if◌then◌else◌, Some, None, option_map, List, length, map, slice_set, slice_index_or, refl, ap, sym, subst, ◌∙◌, inl, inr, arith}
+use Rattle.std.proofs.Common.{rules, ◌≡◌, ◌≢◌, ℕ, ◌+◌, ◌<◌, ◌≤◌, ◌⊎◌, Bool, if◌then◌else◌, Some, None, option_map, List, length, map, slice_set, slice_index_or, refl, ap, sym, subst, ◌∙◌, inl, inr, arith}
 use Rattle.std.proofs.lemmas.Bool.{cases_lt, cases_eq, cond_both}
 use Rattle.std.proofs.Math.ListN.{get_or-map}
 use Rattle.std.proofs.lemmas.Option.{none-some, same_Some}
@@ -85,14 +85,7 @@ idle-nothing_due plan n = idle_list-nothing_due (all_idle plan).kinds plan.switc
 -- ---- a change
 
 changed-due : (kind : SwitchKind) (now due : ℕ) (level : Bool) (x : SwitchState) → (changed kind now level x).due ≡ Some due → (x.due ≡ Some due) ⊎ (now < due)
-changed-due kind now due level x =
-    cond_both (same_level level x.raw) x (if kind.quick then accepted kind level else awaited kind now level x) (λ y. y.due ≡ Some due → (x.due ≡ Some due) ⊎ (now < due))
-    (λ _ is. inl is)
-    (λ _. cond_both kind.quick (accepted kind level) (awaited kind now level x) (λ y. y.due ≡ Some due → (x.due ≡ Some due) ⊎ (now < due))
-    (λ _ is. absurd (none-some due is))
-    (λ _. cond_both (same_level (is_active kind.contact level) x.active) None (Some (now + 5)) (λ o. o ≡ Some due → (x.due ≡ Some due) ⊎ (now < due))
-    (λ _ is. absurd (none-some due is))
-    (λ _ is. let e = same_Some (now + 5) due is in inr (omega arith))))
+changed-due kind now due level x = search rules
 
 pub changes_arm_later : ChangesArmLater
 changes_arm_later switch level now s other due is =

@@ -1,5 +1,5 @@
 -- Each step keeps to the accepted level of the raw changes so far.
-use Rattle.std.proofs.Common.{◌≡◌, ◌≢◌, ℕ, ◌+◌, ◌<◌, ◌≤◌, ◌==◌, Bool, true, false, not, cond, ◌&&◌, Option, Some, None, List, [], ◌∷◌, ◌++◌, length, nat_le, slice_index_or, slice_set, refl, ap, sym, subst, ◌∙◌, inl, inr, append-nil, append_assoc, arith}
+use Rattle.std.proofs.Common.{rules, ◌≡◌, ◌≢◌, ℕ, ◌+◌, ◌<◌, ◌≤◌, ◌==◌, Bool, true, false, not, cond, ◌&&◌, Option, Some, None, List, [], ◌∷◌, ◌++◌, length, nat_le, slice_index_or, slice_set, refl, ap, sym, subst, ◌∙◌, inl, inr, append-nil, append_assoc, arith}
 use Rattle.std.proofs.lemmas.Bool.{cases_Bool, cases_eq, cond-true, cond-false, and_left, not-true, le-leb, lt-leb, ne_eqb, eq-eqb}
 use Rattle.std.proofs.lemmas.Option.{none-some, same_Some}
 use Rattle.std.proofs.lemmas.List.{length-set, length-map, get_or-map, get_or-set_same, get_or-set_other}
@@ -26,16 +26,13 @@ record IsFollowed (kind : SwitchKind) (past : List RawChange) (x : SwitchState) 
   ahead : (due : ℕ) → x.due ≡ Some due → moment ≤ due
 
 level-quiet : (kind : SwitchKind) (x : SwitchState) (moment : ℕ) (o : Option ℕ) → ((due : ℕ) → o ≡ Some due → moment < due) → level_by kind x moment o ≡ x.active
-level-quiet kind x moment None quiet = refl
-level-quiet kind x moment (Some due) quiet = cond-false (nat_le due moment) (is_active kind.contact x.raw) x.active (lt-leb due moment (quiet due refl))
+level-quiet kind x moment o quiet = search rules
 
 cond-same : (b x y : Bool) → x ≡ y → cond b x y ≡ y
-cond-same true x y is = is
-cond-same false x y is = refl
+cond-same b x y is = search rules
 
 same_level-true : (x y : Bool) → same_level x y ≡ true → x ≡ y
-same_level-true true y is = sym is
-same_level-true false y is = sym (not-true y is)
+same_level-true x y is = search rules
 
 followed-idle : (kind : SwitchKind) → IsFollowed kind [] (idle kind) 0
 followed-idle kind = record { levels = λ later h. refl; ahead = λ due is. omega arith }
@@ -45,21 +42,15 @@ module _ (kind : SwitchKind) (past : List RawChange) (x : SwitchState) (moment n
   followed-later forward ahead f = record { levels = λ later h. f.levels later (omega arith); ahead = ahead }
 
   followed-fired : x.due ≡ Some now → moment ≤ now → IsFollowed kind past x moment → IsFollowed kind past (fired kind x) now
-  followed-fired due forward f = record {
-    levels = λ later h.
-        f.levels later (omega arith) ∙ ap (level_by kind x later) due ∙ cond-true (nat_le now later) (is_active kind.contact x.raw) x.active (le-leb now later h);
-    ahead = λ other is. absurd (none-some other is);
-  }
+  followed-fired due forward f = search rules
 
 -- a raw change that waits is foretold, where s says whether it says nothing new
 awaited-level : (kind : SwitchKind) (now later : ℕ) (level : Bool) (x : SwitchState) (s : Bool) → (s ≡ true → is_active kind.contact level ≡ x.active)
     → cond (nat_le (now + 5) later) (is_active kind.contact level) x.active ≡ level_by kind (awaited kind now level x) later (cond s None (Some (now + 5)))
-awaited-level kind now later level x true same = cond-same (nat_le (now + 5) later) (is_active kind.contact level) x.active (same refl)
-awaited-level kind now later level x false same = refl
+awaited-level kind now later level x s same = search rules
 
 awaited-ahead : (now due : ℕ) (s : Bool) → cond s None (Some (now + 5)) ≡ Some due → now ≤ due
-awaited-ahead now due true is = absurd (none-some due is)
-awaited-ahead now due false is = let e = same_Some (now + 5) due is in omega arith
+awaited-ahead now due s is = search rules
 
 -- the state after another raw level, where q says whether the switch is quick
 abbrev taken : Bool → SwitchKind → ℕ → Bool → SwitchState → SwitchState
@@ -67,17 +58,13 @@ taken q kind now level x = cond q (accepted kind level) (awaited kind now level 
 
 taken-level : (kind : SwitchKind) (now later : ℕ) (level : Bool) (x : SwitchState) (q : Bool) → now ≤ later
     → cond (nat_le (now + cond q 0 5) later) (is_active kind.contact level) x.active ≡ level_by kind (taken q kind now level x) later (taken q kind now level x).due
-taken-level kind now later level x true h = cond-true (nat_le (now + 0) later) (is_active kind.contact level) x.active (le-leb (now + 0) later (omega arith))
-taken-level kind now later level x false h =
-    awaited-level kind now later level x (same_level (is_active kind.contact level) x.active) (same_level-true (is_active kind.contact level) x.active)
+taken-level kind now later level x q h = search rules
 
 taken-ahead : (kind : SwitchKind) (now due : ℕ) (level : Bool) (x : SwitchState) (q : Bool) → (taken q kind now level x).due ≡ Some due → now ≤ due
-taken-ahead kind now due level x true is = absurd (none-some due is)
-taken-ahead kind now due level x false is = awaited-ahead now due (same_level (is_active kind.contact level) x.active) is
+taken-ahead kind now due level x q is = search rules
 
 taken-raw : (kind : SwitchKind) (now : ℕ) (level : Bool) (x : SwitchState) (q : Bool) → (taken q kind now level x).raw ≡ level
-taken-raw kind now level x true = refl
-taken-raw kind now level x false = refl
+taken-raw kind now level x q = search rules
 
 changed-is : (kind : SwitchKind) (now : ℕ) (level : Bool) (x : SwitchState) → same_level level x.raw ≡ false → changed kind now level x ≡ taken kind.quick kind now level x
 changed-is kind now level x other = cond-false (same_level level x.raw) x (taken kind.quick kind now level x) other
@@ -106,45 +93,18 @@ module _ (switch : SwitchId) (kind : SwitchKind) (raw : Bool) (past : List RawCh
   -- Another switch's state is set.
   follows-other : (other : SwitchId) (x : SwitchState) → switch.0 ≢ other.0 → moment ≤ now → ((due : ℕ) → due_of s switch ≡ Some due → now ≤ due)
       → Follows switch kind raw past s moment → Follows switch kind raw past (set_state other x s) now
-  follows-other other x apart forward ahead f =
-      let is : state_at (set_state other x s) switch ≡ state_at s switch = get_or-set_other s.states other.0 switch.0 x (idle no_kind) apart in
-      let count = length-set s.states other.0 x in
-      let there = f.within in
-      record {
-        within = omega arith;
-        kind_is = f.kind_is;
-        raw_is = ap (λ (y : SwitchState). y.raw) is ∙ f.raw_is;
-        followed = subst (λ (y : SwitchState). IsFollowed kind past y now) (sym is) (followed-later kind past (state_at s switch) moment now forward ahead f.followed);
-      }
+  follows-other other x apart forward ahead f = search rules
 
   -- Its own state is set, by what is made of its kind and its state.
   follows-own : (other : SwitchId) (make : SwitchKind → SwitchState → SwitchState) (level : Bool) (changes : List RawChange) → other.0 ≡ switch.0
       → (make kind (state_at s switch)).raw ≡ level → IsFollowed kind changes (make kind (state_at s switch)) now
       → Follows switch kind raw past s moment → Follows switch kind level changes (set_state other (make (kind_at s other) (state_at s other)) s) now
-  follows-own other make level changes own is_level new f =
-      let made : ℕ → SwitchState = λ n. make (slice_index_or s.kinds n no_kind) (slice_index_or s.states n (idle no_kind)) in
-      let here : slice_index_or (slice_set s.states switch.0 (made switch.0)) switch.0 (idle no_kind) ≡ make kind (state_at s switch) =
-      get_or-set_same s.states switch.0 (made switch.0) (idle no_kind) f.within ∙ ap (λ (k : SwitchKind). make k (state_at s switch)) f.kind_is in
-      let is : state_at (set_state other (made other.0) s) switch ≡ make kind (state_at s switch) =
-      subst (λ (n : ℕ). slice_index_or (slice_set s.states n (made n)) switch.0 (idle no_kind) ≡ make kind (state_at s switch)) (sym own) here in
-      let count = length-set s.states other.0 (made other.0) in
-      let there = f.within in
-      record {
-        within = omega arith;
-        kind_is = f.kind_is;
-        raw_is = ap (λ (y : SwitchState). y.raw) is ∙ is_level;
-        followed = subst (λ (y : SwitchState). IsFollowed kind changes y now) (sym is) new;
-      }
+  follows-own other make level changes own is_level new f = search rules
 
   -- Its raw level changes to the one that is there already.
   follows-unchanged : (other : SwitchId) (level : Bool) → other.0 ≡ switch.0 → same_level level raw ≡ true → moment ≤ now → IsNothingDueBy s now
       → Follows switch kind raw past s moment → Follows switch kind raw past (after_change other level now s) now
-  follows-unchanged other level own same forward quiet f =
-      let x = state_at s switch in
-      let stays : changed kind now level x ≡ x = cond-true (same_level level x.raw) x (taken kind.quick kind now level x) (ap (same_level level) f.raw_is ∙ same) in
-      let later : IsFollowed kind past x now = followed-later kind past x moment now forward (λ due is. let h = quiet switch due is in omega arith) f.followed in
-      follows-own other (λ k y. changed k now level y) raw past own (ap (λ (y : SwitchState). y.raw) stays ∙ f.raw_is)
-      (subst (λ (y : SwitchState). IsFollowed kind past y now) (sym stays) later) f
+  follows-unchanged other level own same forward quiet f = search rules
 
   -- Its raw level changes to another one.
   follows-changed : (other : SwitchId) (level : Bool) → other.0 ≡ switch.0 → same_level level raw ≡ false → moment ≤ now → IsNothingDueBy s now
@@ -177,12 +137,10 @@ module _ (switch : SwitchId) (kind : SwitchKind) (raw : Bool) (past : List RawCh
 
 -- what a change adds to a switch's raw changes
 changes-none : (switch other : SwitchId) (level raw : Bool) (now : ℕ) (calls : List SwitchCall) → ((other.0 == switch.0) && not (same_level level raw)) ≡ false → raw_changes switch raw (Change other level now ∷ calls) ≡ raw_changes switch raw calls
-changes-none switch other level raw now calls is =
-    cond-false ((other.0 == switch.0) && not (same_level level raw)) (record { at = now; level = level } ∷ raw_changes switch level calls) (raw_changes switch raw calls) is
+changes-none switch other level raw now calls is = search rules
 
 changes-one : (switch other : SwitchId) (level raw : Bool) (now : ℕ) (calls : List SwitchCall) → ((other.0 == switch.0) && not (same_level level raw)) ≡ true → raw_changes switch raw (Change other level now ∷ calls) ≡ record { at = now; level = level } ∷ raw_changes switch level calls
-changes-one switch other level raw now calls is =
-    cond-true ((other.0 == switch.0) && not (same_level level raw)) (record { at = now; level = level } ∷ raw_changes switch level calls) (raw_changes switch raw calls) is
+changes-one switch other level raw now calls is = search rules
 
 test_of : (x y b same : Bool) → x ≡ true → same ≡ b → (x && not same) ≡ not b
 test_of x y b same own is = ap (λ c. c && not same) own ∙ ap not is

@@ -1,5 +1,5 @@
 -- The accepted level after one more raw change.
-use Rattle.std.proofs.Common.{◌≡◌, ℕ, ◌+◌, ◌≤◌, Bool, true, false, cond, ◌&&◌, Option, Some, None, List, [], ◌∷◌, ◌++◌, nat_le, refl, ap, sym, ◌∙◌, append-nil, arith}
+use Rattle.std.proofs.Common.{rules, ◌≡◌, ℕ, ◌+◌, ◌≤◌, Bool, true, false, cond, ◌&&◌, Option, Some, None, List, [], ◌∷◌, ◌++◌, nat_le, refl, ap, sym, ◌∙◌, append-nil, arith}
 use Rattle.std.specs.List.{filter, list_all, last_or}
 use Rattle.std.proofs.lemmas.Bool.{false≢true, le-leb, leb-true}
 use Rattle.std.proofs.lemmas.List.Folds.{list_all-append}
@@ -9,18 +9,14 @@ use Rattle.switch_core.specs.SwitchStep.{is_active}
 use Rattle.switch_core.specs.AcceptedLevel.{RawChange, delay_of, standing, is_delay_over, active_after, accepted_level}
 
 and-true : (b : Bool) → (b && true) ≡ b
-and-true true = refl
-and-true false = refl
+and-true b = search rules
 
 filter-cond : (f : RawChange → Bool) (b : Bool) (xs ys : List RawChange) → filter f (cond b xs ys) ≡ cond b (filter f xs) (filter f ys)
-filter-cond f true xs ys = refl
-filter-cond f false xs ys = refl
+filter-cond f b xs ys = search rules
 
 -- An older raw change stays among those that stand (b) just where it is over at the later one (n), and then it is over afterwards, too (o).
 kept : (p : RawChange) (fs gs end : List RawChange) (b n o : Bool) → fs ≡ gs ++ end → (n ≡ true → o ≡ true) → cond (b && n) (cond o (p ∷ fs) fs) fs ≡ cond b (cond n (p ∷ gs) gs) gs ++ end
-kept p fs gs end true true true is over = ap (λ xs. p ∷ xs) is
-kept p fs gs end true true false is over = absurd (false≢true (over refl))
-kept p fs gs end _ _ o is over = is
+kept p fs gs end b n o is over = search rules
 
 -- Of those that stood, the ones that are over at the later change stand on, and it stands itself.
 pub standing-push : (delay moment : ℕ) (past : List RawChange) (c : RawChange) → c.at ≤ moment → filter (is_delay_over delay moment) (standing delay (past ++ c ∷ [])) ≡ filter (is_delay_over delay c.at) (standing delay past) ++ filter (is_delay_over delay moment) (c ∷ [])

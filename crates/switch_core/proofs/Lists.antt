@@ -1,5 +1,5 @@
 -- The fields of `Switches`, and the switches that they are.
-use Rattle.std.proofs.Common.{◌≡◌, ℕ, ◌<◌, ◌≤◌, Bool, true, false, not, if◌then◌else◌, Option, Some, None, option_map, IfSome, List, [], length, map, nat_eq, slice_index_or, slice_set, Vec, Global, vec_capacity, refl, ap, ap₂, sym, ◌∙◌, inl, inr, arith}
+use Rattle.std.proofs.Common.{rules, ◌≡◌, ℕ, ◌<◌, ◌≤◌, Bool, true, false, not, if◌then◌else◌, Option, Some, None, option_map, IfSome, List, [], length, map, nat_eq, slice_index_or, slice_set, Vec, Global, vec_capacity, refl, ap, ap₂, sym, ◌∙◌, inl, inr, arith}
 use Rattle.std.specs.Bool.{then_some}
 use Rattle.std.specs.Option.{option_eq}
 use Rattle.std.proofs.lemmas.Bool.{cases_lt}
@@ -74,16 +74,13 @@ complete-set kinds states i new complete =
 
 -- a test whether two moments differ
 pub same-moment : (a b : Option ℕ) (differ : Bool) → differ ≡ not (option_eq nat_eq a b) → differ ≡ false → a ≡ b
-same-moment None None differ is not_true = refl
-same-moment (Some x) (Some y) differ is not_true = ap (λ (n : ℕ). Some n) (grind (arith, is, not_true))
-same-moment _ _ differ is not_true = cc
+same-moment a b differ is not_true = search rules
 
 then_some-is : (b c : Bool) (x y : Change) → b ≡ c → x ≡ y → then_some b x ≡ then_some c y
 then_some-is b c x y test is = ap₂ then_some test is
 
 then_some-cond : (b : Bool) (x : Change) → then_some b x ≡ (if b then Some x else None)
-then_some-cond true x = refl
-then_some-cond false x = refl
+then_some-cond b x = search rules
 
 module _ (kinds : List SwitchKind) (states : List State) (switch : SwitchId) (kind : SwitchKind) (old new : State)
     (in_kinds : switch.0 < length kinds) (in_states : switch.0 < length states) (kind_is : kind ≡ slice_index_or kinds switch.0 kind) (old_is : old ≡ slice_index_or states switch.0 old) where

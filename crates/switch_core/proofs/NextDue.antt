@@ -1,5 +1,5 @@
 -- What is due next is what has the least moment, and of equal moments the least number.
-use Rattle.std.proofs.Common.{◌≡◌, ℕ, zero, suc, ◌+◌, ◌<◌, ◌≤◌, ◌⊎◌, false, Option, Some, None, option_map, MatchOption, IfSome, IfNone, List, [], ◌∷◌, nat_le, slice_index_or, refl, ap, ap₂, sym, subst, ◌∙◌, inl, inr, arith}
+use Rattle.std.proofs.Common.{rules, ◌≡◌, ℕ, zero, suc, ◌+◌, ◌<◌, ◌≤◌, ◌⊎◌, false, Option, Some, None, option_map, MatchOption, IfSome, IfNone, List, [], ◌∷◌, nat_le, slice_index_or, refl, ap, ap₂, sym, subst, ◌∙◌, inl, inr, arith}
 use Rattle.std.specs.Option.{option_map_or}
 use Rattle.std.proofs.lemmas.Bool.{cases_lt, cond_both, leb-true, leb-false, lt-leb}
 use Rattle.std.proofs.lemmas.Option.{none-some, same_Some}
@@ -26,31 +26,19 @@ absurd_due : {A : Type 0} (o : Option ℕ) (at : ℕ) → o ≡ None → o ≡ S
 absurd_due o at none some = absurd (none-some at (sym none ∙ some))
 
 none-cons : (x : SwitchState) (xs : List SwitchState) → x.due ≡ None → ((j : ℕ) → due_in xs j ≡ None) → (j : ℕ) → due_in (x ∷ xs) j ≡ None
-none-cons x xs here rest zero = here
-none-cons x xs here rest (suc j) = rest j
+none-cons x xs here rest j = search rules
 
 module _ (k : ℕ) (x : SwitchState) (xs : List SwitchState) where
   -- the first of the rest is the first of all, where the state before them is not due or due later
   least-rest : (at n : ℕ) → ((moment : ℕ) → x.due ≡ Some moment → at < moment) → IsFirst (k + 1) xs at n → (j moment : ℕ) → due_in (x ∷ xs) j ≡ Some moment → (at < moment) ⊎ ((at ≡ moment) × (n ≤ k + j))
-  least-rest at n later f zero moment is = inl (later moment is)
-  least-rest at n later f (suc j) moment is =
-      elim (f.least j moment is) [
-        | inl less ↦ inl less
-        | inr same ↦ let above = same.1 in inr (same.0, omega arith)
-      ]
+  least-rest at n later f j moment is = search rules
 
   first-rest : (at n : ℕ) → ((moment : ℕ) → x.due ≡ Some moment → at < moment) → IsFirst (k + 1) xs at n → IsFirst k (x ∷ xs) at n
   first-rest at n later f = let is = f.is_at in record { place = suc f.place; is_at = omega arith; due = f.due; least = least-rest at n later f }
 
   -- the state before the rest is the first, where none of them is due earlier
   least-here : (at : ℕ) → x.due ≡ Some at → ((j moment : ℕ) → due_in xs j ≡ Some moment → at ≤ moment) → (j moment : ℕ) → due_in (x ∷ xs) j ≡ Some moment → (at < moment) ⊎ ((at ≡ moment) × (k ≤ k + j))
-  least-here at here later zero moment is = let same = same_Some at moment (sym here ∙ is) in inr (same, omega arith)
-  least-here at here later (suc j) moment is =
-      let above = later j moment is in
-      elim (cases_lt at moment) [
-        | inl less ↦ inl less
-        | inr reached ↦ inr (omega arith, omega arith)
-      ]
+  least-here at here later j moment is = search rules
 
   first-here : (at : ℕ) → x.due ≡ Some at → ((j moment : ℕ) → due_in xs j ≡ Some moment → at ≤ moment) → IsFirst k (x ∷ xs) at k
   first-here at here later = record { place = 0; is_at = omega arith; due = here; least = least-here at here later }
@@ -72,25 +60,17 @@ abbrev IsDueIn : SwitchesView → Option (ℕ × SwitchId) → Type 0
 IsDueIn s o = MatchOption o (IsNothingDue s) (λ d. IsNextDue s d.0 d.1)
 
 is_due : (s : SwitchesView) (o : Option (ℕ × SwitchId)) → FirstIn 0 s.states o → IsDueIn s o
-is_due s None none = λ switch. none switch.0
-is_due s (Some d) f =
-    let at : d.1.0 ≡ f.place = let is = f.is_at in omega arith in
-    record {
-      due = ap (due_in s.states) at ∙ f.due;
-      least = λ other moment is. elim (f.least other.0 moment is) [ inl less ↦ inl less | inr same ↦ let above = same.1 in inr (same.0, omega arith) ];
-    }
+is_due s o x1 = search rules
 
 pub next_due-is_due : (s : SwitchesView) → MatchOption (next_due s) (IsNothingDue s) (λ d. IsNextDue s d.0 d.1)
 next_due-is_due s = is_due s (next_due s) (first 0 s.states)
 
 -- as the clauses of `due` say it
 some_of : (s : SwitchesView) (o : Option (ℕ × SwitchId)) → IsDueIn s o → IfSome o (λ d. IsNextDue s d.0 d.1)
-some_of s None is = tt
-some_of s (Some d) is = is
+some_of s o is = search rules
 
 none_of : (s : SwitchesView) (o : Option (ℕ × SwitchId)) → IsDueIn s o → IfNone o (IsNothingDue s)
-none_of s None is = is
-none_of s (Some d) is = tt
+none_of s o is = search rules
 
 pub answer-least : (s : SwitchesView) (o : Option (ℕ × SwitchId)) → o ≡ next_due s → IfSome o (λ d. IsNextDue s d.0 d.1)
 answer-least s o is = some_of s o (subst (IsDueIn s) (sym is) (next_due-is_due s))
@@ -101,21 +81,10 @@ answer-none s o is = none_of s o (subst (IsDueIn s) (sym is) (next_due-is_due s)
 -- ---- there is one at most
 
 pub next_due-unique : (s : SwitchesView) (at other : ℕ) (n m : SwitchId) → IsNextDue s at n → IsNextDue s other m → (at ≡ other) × (n.0 ≡ m.0)
-next_due-unique s at other n m a b =
-    elim (a.least m other b.due) [
-      | inl before ↦ elim (b.least n at a.due) [ inl after ↦ absurd (omega arith) | inr same ↦ let is = same.0 in absurd (omega arith) ]
-      | inr same ↦
-          elim (b.least n at a.due) [
-            | inl after ↦ let is = same.0 in absurd (omega arith)
-            | inr again ↦ let lower = same.1 in let upper = again.1 in (same.0, omega arith)
-          ]
-    ]
+next_due-unique s at other n m a b = search rules
 
 is_next : (s : SwitchesView) (at : ℕ) (n : SwitchId) (o : Option (ℕ × SwitchId)) → IsDueIn s o → IsNextDue s at n → o ≡ Some (at, n)
-is_next s at n None none a = absurd_due (due_of s n) at (none n) a.due
-is_next s at n (Some d) b a =
-    let same = next_due-unique s d.0 at d.1 n b a in
-    ap₂ (λ (moment number : ℕ). Some (moment, record { 0 = number })) same.0 same.1
+is_next s at n o x1 a = search rules
 
 pub next_due-is : (s : SwitchesView) (at : ℕ) (n : SwitchId) → IsNextDue s at n → next_due s ≡ Some (at, n)
 next_due-is s at n a = is_next s at n (next_due s) (next_due-is_due s) a
@@ -123,8 +92,7 @@ next_due-is s at n a = is_next s at n (next_due s) (next_due-is_due s) a
 -- ---- and the other way round
 
 nothing_in : (s : SwitchesView) (o : Option (ℕ × SwitchId)) → IsNothingDue s → IsDueIn s o → o ≡ None
-nothing_in s None none is = refl
-nothing_in s (Some d) none next = absurd_due (due_of s d.1) d.0 (none d.1) next.due
+nothing_in s o none x1 = search rules
 
 pub nothing_due-is : (s : SwitchesView) → IsNothingDue s → next_due s ≡ None
 nothing_due-is s none = nothing_in s (next_due s) none (next_due-is_due s)
@@ -149,19 +117,13 @@ pub nothing_due-quiet : (s : SwitchesView) (moment : ℕ) → IsNothingDue s →
 nothing_due-quiet s moment none n due is = absurd_due (due_of s n) due (none n) is
 
 pub next_due-quiet : (s : SwitchesView) (moment at : ℕ) (n : SwitchId) → IsNextDue s at n → moment < at → IsNothingDueBy s moment
-next_due-quiet s moment at n next before other due is =
-    elim (next.least other due is) [
-      | inl later ↦ omega arith
-      | inr same ↦ let e = same.0 in omega arith
-    ]
+next_due-quiet s moment at n next before other due is = search rules
 
 quiet-where : (s : SwitchesView) (moment : ℕ) (o : Option (ℕ × SwitchId)) → IsDueIn s o → option_map_or (λ d. nat_le d.0 moment) o false ≡ false → IsNothingDueBy s moment
-quiet-where s moment None none later = nothing_due-quiet s moment none
-quiet-where s moment (Some d) next later = next_due-quiet s moment d.0 d.1 next (leb-false d.0 moment later)
+quiet-where s moment o x1 later = search rules
 
 not_due-where : (s : SwitchesView) (moment : ℕ) (o : Option (ℕ × SwitchId)) → IsDueIn s o → IsNothingDueBy s moment → option_map_or (λ d. nat_le d.0 moment) o false ≡ false
-not_due-where s moment None none quiet = refl
-not_due-where s moment (Some d) next quiet = lt-leb d.0 moment (quiet d.1 d.0 next.due)
+not_due-where s moment o x1 quiet = search rules
 
 -- as what is due next says it
 pub not_due-quiet : (s : SwitchesView) (moment : ℕ) → option_map_or (λ d. nat_le d.0 moment) (next_due s) false ≡ false → IsNothingDueBy s moment

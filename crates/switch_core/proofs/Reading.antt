@@ -1,6 +1,6 @@
 -- What the state of a switch says of its raw level: it was accepted, or is due and says the other level than that which
 -- was accepted last. So each level that is accepted is another one than before.
-use Rattle.std.proofs.Common.{◌≡◌, ◌≢◌, ℕ, ◌+◌, ◌<◌, Bool, true, false, not, ◌&&◌, cond, if◌then◌else◌, Option, Some, None, length, refl, sym, ap, subst, ◌∙◌, true≢false, inl, inr}
+use Rattle.std.proofs.Common.{rules, ◌≡◌, ◌≢◌, ℕ, ◌+◌, ◌<◌, Bool, true, false, not, ◌&&◌, cond, if◌then◌else◌, Option, Some, None, length, refl, sym, ap, subst, ◌∙◌, true≢false, inl, inr}
 use Rattle.std.proofs.lemmas.Bool.{and_parts, cases_lt, cases_eq, cond_both}
 use Rattle.machine_settings.specs.declared.words.Contact.{Contact}
 use Rattle.machine_settings.specs.declared.words.Contact.TheVariants.{NormallyOpen, NormallyClosed}
@@ -22,67 +22,39 @@ abbrev pub IsRead : SwitchKind → SwitchState → Type 0
 IsRead kind x = IsReadBy kind x x.due
 
 same-true : (a b : Bool) → same_level a b ≡ true → b ≡ a
-same-true true b is = is
-same-true false true is = absurd (true≢false (sym is))
-same-true false false is = refl
+same-true a b is = search rules
 
 same-false : (a b : Bool) → same_level a b ≡ false → b ≡ not a
-same-false true b is = is
-same-false false true is = refl
-same-false false false is = absurd (true≢false is)
+same-false a b is = search rules
 
 twice : (a : Bool) → not (not a) ≡ a
-twice true = refl
-twice false = refl
+twice a = search rules
 
 other-active : (contact : Contact) (level : Bool) → is_active contact (not level) ≡ not (is_active contact level)
-other-active NormallyOpen level = refl
-other-active NormallyClosed level = refl
+other-active contact level = search rules
 
 rest-inactive : (contact : Contact) → false ≡ is_active contact (raw_at_rest contact)
-rest-inactive NormallyOpen = refl
-rest-inactive NormallyClosed = refl
+rest-inactive contact = search rules
 
 pub idle-read : (kind : SwitchKind) → IsRead kind (idle kind)
 idle-read kind = rest-inactive kind.contact
 
 awaited-read : (kind : SwitchKind) (now : ℕ) (level : Bool) (x : SwitchState) → kind.quick ≡ false → IsRead kind (awaited kind now level x)
-awaited-read kind now level x normal =
-    cond_both (same_level (is_active kind.contact level) x.active) None (Some (now + 5)) (λ due. IsReadBy kind (awaited kind now level x) due)
-    (λ same. same-true (is_active kind.contact level) x.active same) (λ other. (normal, same-false (is_active kind.contact level) x.active other))
+awaited-read kind now level x normal = search rules
 
 changed-read : (kind : SwitchKind) (now : ℕ) (level : Bool) (x : SwitchState) → IsRead kind x → IsRead kind (changed kind now level x)
-changed-read kind now level x h =
-    cond_both (same_level level x.raw) x (if kind.quick then accepted kind level else awaited kind now level x) (IsRead kind) (λ same. h)
-    (λ new. cond_both kind.quick (accepted kind level) (awaited kind now level x) (IsRead kind) (λ quick. refl) (λ normal. awaited-read kind now level x normal))
+changed-read kind now level x h = search rules
 
 -- what is accepted is another level than before
 taken-other : (kind : SwitchKind) (now : ℕ) (level : Bool) (x : SwitchState) → IsRead kind x → is_taken kind level x ≡ true → (changed kind now level x).active ≡ not x.active
-taken-other kind now level x h is =
-    let parts = and_parts kind.quick (not (same_level level x.raw)) is in
-    let new : same_level level x.raw ≡ false = sym (twice (same_level level x.raw)) ∙ ap not parts.1 in
-    ap (λ (b : Bool). (cond b x (cond kind.quick (accepted kind level) (awaited kind now level x))).active) new
-    ∙ (ap (λ (b : Bool). (cond b (accepted kind level) (awaited kind now level x)).active) parts.0
-    ∙ by x.due h parts.0 (same-false level x.raw new))
-  where
-    by : (due : Option ℕ) → IsReadBy kind x due → kind.quick ≡ true → x.raw ≡ not level → is_active kind.contact level ≡ not x.active
-    by None read quick raw =
-        sym (twice (is_active kind.contact level))
-        ∙ ap not (sym (other-active kind.contact level) ∙ (ap (is_active kind.contact) (sym raw) ∙ sym read))
-    by (Some at) read quick raw = absurd (true≢false (sym quick ∙ read.0))
+taken-other kind now level x h is = search rules
 
 -- a change that is not accepted at once changes no level
 untaken-same : (kind : SwitchKind) (now : ℕ) (level : Bool) (x : SwitchState) → is_taken kind level x ≡ false → (changed kind now level x).active ≡ x.active
-untaken-same kind now level x is =
-    cond_both (same_level level x.raw) x (if kind.quick then accepted kind level else awaited kind now level x) (λ y. y.active ≡ x.active) (λ same. refl)
-    (λ new. cond_both kind.quick (accepted kind level) (awaited kind now level x) (λ y. y.active ≡ x.active)
-    (λ quick. absurd (true≢false (sym (ap (λ (b : Bool). b && not (same_level level x.raw)) quick ∙ ap not new) ∙ is)))
-    (λ normal. refl))
+untaken-same kind now level x is = search rules
 
 fired-other : (kind : SwitchKind) (at : ℕ) (x : SwitchState) → IsRead kind x → x.due ≡ Some at → (fired kind x).active ≡ not x.active
-fired-other kind at x h due =
-    let read : IsReadBy kind x (Some at) = subst (IsReadBy kind x) due h in
-    sym (twice (is_active kind.contact x.raw)) ∙ ap not (sym read.1)
+fired-other kind at x h due = search rules
 
 -- ---- all switches
 
@@ -125,14 +97,10 @@ module _ (s : SwitchesView) (n : SwitchId) where
   -- a level that is accepted at once, or that was due, is another one than before
   pub change-other_level : (level : Bool) (now : ℕ) → AreRead s → n.0 < length s.states → is_taken (kind_at s n) level (state_at s n) ≡ true
       → active_at (after_change n level now s) n ≡ not (active_at s n)
-  change-other_level level now h within is =
-      ap (λ (y : SwitchState). y.active) (state-same s n (changed (kind_at s n) now level (state_at s n)) within)
-      ∙ taken-other (kind_at s n) now level (state_at s n) (h n) is
+  change-other_level level now h within is = search rules
 
   pub accept-other_level : (at : ℕ) → AreRead s → n.0 < length s.states → due_of s n ≡ Some at → active_at (accept n s) n ≡ not (active_at s n)
-  accept-other_level at h within due =
-      ap (λ (y : SwitchState). y.active) (state-same s n (fired (kind_at s n) (state_at s n)) within)
-      ∙ fired-other (kind_at s n) at (state_at s n) (h n) due
+  accept-other_level at h within due = search rules
 
   -- where a change is not accepted at once, all levels are as before
   pub change-same_levels : (level : Bool) (now : ℕ) → is_taken (kind_at s n) level (state_at s n) ≡ false → (m : SwitchId)

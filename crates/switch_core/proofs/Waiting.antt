@@ -1,6 +1,6 @@
 -- The switches that wait: the soonest of them is what is due next, and where a switch's due moment is set, it is taken
 -- out at its place, or put in there.
-use Rattle.std.proofs.Common.{◌≡◌, ℕ, zero, suc, ◌+◌, ◌-◌, ◌<◌, ◌≤◌, nat_lt, Bool, true, false, true≢false, if◌then◌else◌, Option, Some, None, MatchOption, option_map, is_some, List, [], ◌∷◌, ◌++◌, length, map, take, drop, get_or, slice_set, refl, ap, ap₂, sym, subst, ◌∙◌, inl, inr, arith}
+use Rattle.std.proofs.Common.{rules, ◌≡◌, ℕ, zero, suc, ◌+◌, ◌-◌, ◌<◌, ◌≤◌, nat_lt, Bool, true, false, true≢false, if◌then◌else◌, Option, Some, None, MatchOption, option_map, is_some, List, [], ◌∷◌, ◌++◌, length, map, take, drop, get_or, slice_set, refl, ap, ap₂, sym, subst, ◌∙◌, inl, inr, arith}
 use Rattle.std.specs.List.{All, insert, remove}
 use Rattle.std.specs.List.Sorted.{IsPartitionedBy, IsPartitionPoint}
 use Rattle.std.proofs.lemmas.Bool.{cases_lt, lt-ltb, le-ltb}
@@ -18,8 +18,7 @@ Due = ℕ × SwitchId
 -- ---- the soonest is what is due next
 
 soonest-in_front : (o : Option Due) (ds : List Due) → soonest (in_front o ds) ≡ sooner o (soonest ds)
-soonest-in_front None ds = refl
-soonest-in_front (Some d) ds = refl
+soonest-in_front o ds = search rules
 
 pub soonest-is : (number : ℕ) (states : List SwitchState) → soonest (waiting_from number states) ≡ next_due_from number states
 soonest-is number [] = refl
@@ -28,8 +27,7 @@ soonest-is number (s ∷ ss) = soonest-in_front (due_as number s) (waiting_from 
 -- ---- no more wait than there are states
 
 length-in_front : (o : Option Due) (ds : List Due) → length (in_front o ds) ≤ suc (length ds)
-length-in_front None ds = omega arith
-length-in_front (Some d) ds = omega arith
+length-in_front o ds = search rules
 
 pub length-waiting : (number : ℕ) (states : List SwitchState) → length (waiting_from number states) ≤ length states
 length-waiting number [] = omega arith
@@ -46,11 +44,7 @@ idle-waiting number (s ∷ ss) = idle-waiting (number + 1) ss
 -- ---- their numbers
 
 numbered-in_front : (P : Due → Type 0) (number : ℕ) (s : SwitchState) (ds : List Due) → ((at : ℕ) → P (at, record { 0 = number })) → All P ds → All P (in_front (due_as number s) ds)
-numbered-in_front P number s ds here all = by s.due
-  where
-    by : (o : Option ℕ) → All P (in_front (option_map (λ at. (at, record { 0 = number })) o) ds)
-    by None = all
-    by (Some at) = All-cons P (at, record { 0 = number }) ds (here at) all
+numbered-in_front P number s ds here all = search rules
 
 numbered : (number : ℕ) (states : List SwitchState) → All (λ (d : Due). (number ≤ d.1.0) × (d.1.0 < number + length states)) (waiting_from number states)
 numbered number [] = λ k d within. absurd (omega arith)
@@ -62,8 +56,7 @@ numbered number (s ∷ ss) =
 -- ---- those before a switch and those after it
 
 in_front-append : (o : Option Due) (xs ys : List Due) → in_front o (xs ++ ys) ≡ in_front o xs ++ ys
-in_front-append None xs ys = refl
-in_front-append (Some d) xs ys = refl
+in_front-append o xs ys = search rules
 
 from-split : (number i : ℕ) (states : List SwitchState) → waiting_from number states ≡ waiting_from number (take i states) ++ waiting_from (number + i) (drop i states)
 from-split number zero states = let same : number ≡ number + zero = omega arith in ap (λ n. waiting_from n states) same
@@ -75,10 +68,7 @@ from-split number (suc i) (s ∷ ss) =
 
 from-set : (number i : ℕ) (states : List SwitchState) (x : SwitchState) → i < length states → waiting_from number (slice_set states i x) ≡ waiting_from number (take i states) ++ in_front (due_as (number + i) x) (waiting_from (number + suc i) (drop (suc i) states))
 from-set number i [] x within = absurd (omega arith)
-from-set number zero (s ∷ ss) x within =
-    let here : number ≡ number + zero = omega arith in
-    let next : number + 1 ≡ number + suc zero = omega arith in
-    ap₂ (λ n m. in_front (due_as n x) (waiting_from m ss)) here next
+from-set number zero (s ∷ ss) x within = search rules
 from-set number (suc i) (s ∷ ss) x within =
     let here : (number + 1) + i ≡ number + suc i = omega arith in
     let next : (number + 1) + suc i ≡ number + suc (suc i) = omega arith in
