@@ -1,5 +1,5 @@
 -- What the boards of this crate do over every list of commands.
-use Rattle.std.proofs.Common.{◌≡◌, ℕ, ◌+◌, ◌-◌, ◌≤◌, ◌==◌, zero, suc, Bool, ◌&&◌, ◌||◌, if◌then◌else◌, Some, None, List, [], ◌∷◌, ◌++◌, length, drop, min, nat_le, refl, ap, ap₂, sym, ◌∙◌, inl, inr, append-nil, append_assoc, arith}
+use Rattle.std.proofs.Common.{rules, ◌≡◌, ℕ, ◌+◌, ◌-◌, ◌≤◌, ◌==◌, zero, suc, Bool, ◌&&◌, ◌||◌, if◌then◌else◌, Some, None, List, [], ◌∷◌, ◌++◌, length, drop, min, nat_le, refl, ap, ap₂, sym, ◌∙◌, inl, inr, append-nil, append_assoc, arith}
 use Rattle.std.proofs.lemmas.Bool.{eq-eqb, ne_eqb, le-leb, lt-leb, cases_lt}
 use Rattle.std.proofs.lemmas.List.{length-append, length-drop, drop-drop, drop-append-le}
 use Rattle.circular_buffer.specs.Buffer.{keep_last}
@@ -68,23 +68,7 @@ module _ (k n : ℕ) (onwards : Bool) where
 
   -- before the k-th command, after it, and at it
   fault-is : (((k - n) == 1) || (onwards && ((k - n) == 0))) ≡ is_fault_at k onwards (n + 1)
-  fault-is =
-      elim (cases_lt k (n + 1)) [
-        | inl past ↦
-            fault-test ((k - n) == 1) ((k - n) == 0) ((n + 1) == k) (nat_le k (n + 1))
-            (ne_eqb (k - n) 1 (λ e. omega arith) ∙ sym (ne_eqb (n + 1) k (λ e. omega arith)))
-            (eq-eqb (k - n) 0 (omega arith) ∙ sym (le-leb k (n + 1) (omega arith)))
-        | inr due ↦
-            elim (cases_lt (n + 1) k) [
-              | inl coming ↦
-                  fault-test ((k - n) == 1) ((k - n) == 0) ((n + 1) == k) (nat_le k (n + 1))
-                  (ne_eqb (k - n) 1 (λ e. omega arith) ∙ sym (ne_eqb (n + 1) k (λ e. omega arith)))
-                  (ne_eqb (k - n) 0 (λ e. omega arith) ∙ sym (lt-leb k (n + 1) coming))
-              | inr now ↦
-                  ap (λ (a : Bool). a || (onwards && ((k - n) == 0))) (eq-eqb (k - n) 1 (omega arith))
-                  ∙ sym (ap (λ (a : Bool). a || (onwards && nat_le k (n + 1))) (eq-eqb (n + 1) k (omega arith)))
-            ]
-      ]
+  fault-is = search rules
 
 pub fuse_faults_from_kth : FuseFaultsFromKth
 fuse_faults_from_kth k onwards n =

@@ -1,5 +1,5 @@
 -- Each call keeps what a guard's state and the sent commands have to do with each other.
-use Rattle.std.proofs.Common.{◌≡◌, ℕ, ◌<◌, ◌≤◌, ◌==◌, Bool, true, false, not, ◌&&◌, if◌then◌else◌, option_map, Option, Some, None, List, [], ◌∷◌, ◌++◌, length, map, nat_le, nat_lt, refl, ap, ap₂, sym, subst, ◌∙◌, inl, inr, append-nil, arith}
+use Rattle.std.proofs.Common.{rules, ◌≡◌, ℕ, ◌<◌, ◌≤◌, ◌==◌, Bool, true, false, not, ◌&&◌, if◌then◌else◌, option_map, Option, Some, None, List, [], ◌∷◌, ◌++◌, length, map, nat_le, nat_lt, refl, ap, ap₂, sym, subst, ◌∙◌, inl, inr, append-nil, arith}
 use Rattle.std.proofs.lemmas.Bool.{false≢true, leb-true, ltb-true, cases_lt, cases_eq, ne_eqb, and_parts, or_cases}
 use Rattle.std.proofs.lemmas.List.{length-set, length-map, get_or_past, get_or-map, get_or-set_same, get_or-set_other}
 use Rattle.std.proofs.lemmas.List.Elements.{All-nil, All-push}
@@ -49,32 +49,21 @@ is-there s coil test taken never =
     ]
 
 never-pulsed : (ms power now : ℕ) → takes_pulse ms power now (off no_limits) ≡ true → ⊥
-never-pulsed ms power now taken =
-    let within = (and_parts (nat_le 0 now) (is_pulse_within no_limits ms power) taken).1 in
-    let sizes = and_parts (nat_le 1 ms) (nat_le ms 0 && nat_le power 0) within in
-    let h = leb-true 1 ms sizes.0 in
-    let k = leb-true ms 0 (and_parts (nat_le ms 0) (nat_le power 0) sizes.1).0 in
-    omega arith
+never-pulsed ms power now taken = search rules
 
 never-enabled : (power : ℕ) → takes_enable power (off no_limits) ≡ true → ⊥
 never-enabled power taken = false≢true taken
 
 never-on : (now : ℕ) → is_on_at now (off no_limits) ≡ true → ⊥
-never-on now taken =
-    elim (or_cases (nat_lt now 0) false taken) [
-      | inl less ↦ let h = ltb-true now 0 less in omega arith
-      | inr held ↦ false≢true held
-    ]
+never-on now taken = search rules
 
 -- ---- what an answer says was sent, by the test that the answer was made of
 
 sent-if : (b : Bool) (command : Command) (owner : Option Owner) (now : ℕ) → sent_as (if b then Sent command else Skipped) owner now ≡ sent_if b (record { at = now; command = command; owner = owner })
-sent-if true command owner now = refl
-sent-if false command owner now = refl
+sent-if b command owner now = search rules
 
 sent-release : (o : Option CoilId) (now : ℕ) → released_as (option_map commands.Disable o) now ≡ disables_sent o now
-sent-release None now = refl
-sent-release (Some coil) now = refl
+sent-release o now = search rules
 
 abbrev tested : CoilCall → List CoilState → List Sending
 tested (Pulse coil ms power now) s = sent_if (takes_pulse ms power now (coil_at s coil)) (pulse_sent coil ms power now)
@@ -83,10 +72,7 @@ tested (Disable coil now) s = sent_if (is_on_at now (coil_at s coil)) (disable_s
 tested (Release owner now) s = disables_sent (next_held owner s) now
 
 sent-tested : (call : CoilCall) (s : List CoilState) → sent_by call s ≡ tested call s
-sent-tested (Pulse coil ms power now) s = sent-if (takes_pulse ms power now (coil_at s coil)) (commands.Pulse coil ms power) None now
-sent-tested (Enable coil power owner now) s = sent-if (takes_enable power (coil_at s coil)) (commands.Enable coil power) (Some owner) now
-sent-tested (Disable coil now) s = sent-if (is_on_at now (coil_at s coil)) (commands.Disable coil) None now
-sent-tested (Release owner now) s = sent-release (next_held owner s) now
+sent-tested call s = search rules
 
 -- ---- a call
 
@@ -118,8 +104,7 @@ module _ (limits : List CoilLimits) (sent : List Sending) (s : List CoilState) (
 
   -- Something is sent, or nothing happens.
   follows-if : (b : Bool) (p : Sending) (t : List CoilState) → (b ≡ true → Follows limits (sent ++ p ∷ []) t now) → Follows limits (sent ++ sent_if b p) (if b then t else s) now
-  follows-if true p t taken = taken refl
-  follows-if false p t taken = subst (λ (ss : List Sending). Follows limits ss s now) (sym (append-nil sent)) follows-later
+  follows-if b p t taken = search rules
 
   follows-pulse : (coil : CoilId) (ms power : ℕ) → Follows limits (sent ++ tested (Pulse coil ms power now) s) (after_call (Pulse coil ms power now) s) now
   follows-pulse coil ms power =
@@ -169,16 +154,8 @@ later_follows limits sent s moment now forward f = follows-later limits sent s m
 -- ---- what follows
 
 tested-due : (limits : List CoilLimits) (sent : List Sending) (s : List CoilState) (moment : ℕ) (call : CoilCall) → moment ≤ moment_of call → Follows limits sent s moment → tested call s ≡ due_by limits sent call
-tested-due limits sent s moment (Pulse coil ms power now) forward f =
-    let g = f.each coil in
-    let c = coil_at s coil in
-    let rests : nat_le c.ready now ≡ not (is_resting sent coil now) = sym (ap not (g.resting now) ∙ not-lt now c.ready) in
-    let tests : (nat_le c.ready now && is_pulse_within c.limits ms power) ≡ (not (is_resting sent coil now) && is_pulse_within (limits_at limits coil) ms power) =
-    ap₂ (λ a (l : CoilLimits). a && is_pulse_within l ms power) rests g.limits_are in
-    ap₂ (λ a b. sent_if (not a && b) (pulse_sent coil ms power now)) (sym g.held) tests
-tested-due limits sent s moment (Enable coil power owner now) forward f =
-    let g = f.each coil in
-    ap₂ (λ a (l : CoilLimits). sent_if (not a && is_hold_within l power) (enable_sent coil power owner now)) (sym g.held) g.limits_are
+tested-due limits sent s moment (Pulse coil ms power now) forward f = search rules
+tested-due limits sent s moment (Enable coil power owner now) forward f = search rules
 tested-due limits sent s moment (Disable coil now) forward f = ap (λ b. sent_if b (disable_sent coil now)) (sym ((f.each coil).on now forward))
 tested-due limits sent s moment (Release owner now) forward f =
     ap (λ o. disables_sent o now)

@@ -1,29 +1,22 @@
 -- One more sending: what lasts after it, and what rests after it.
-use Rattle.std.proofs.Common.{◌≡◌, ℕ, ◌≤◌, Bool, true, false, not, ◌&&◌, ◌||◌, List, [], ◌∷◌, ◌++◌, nat_le, nat_lt, refl, ap, ap₂, sym, ◌∙◌, inl, inr, arith}
+use Rattle.std.proofs.Common.{rules, ◌≡◌, ℕ, ◌≤◌, Bool, true, false, not, ◌&&◌, ◌||◌, List, [], ◌∷◌, ◌++◌, nat_le, nat_lt, refl, ap, ap₂, sym, ◌∙◌, inl, inr, arith}
 use Rattle.std.specs.List.{list_all, list_any}
 use Rattle.std.proofs.lemmas.Bool.{cases_lt, le-ltb, lt-ltb, le-leb, lt-leb, or_right}
 use Rattle.std.proofs.lemmas.List.Folds.{list_all-append, list_any-append}
 use Rattle.coil_guard.specs.SentCommands.{Sending, lasts}
 
 pub or-false : (b : Bool) → (b || false) ≡ b
-or-false true = refl
-or-false false = refl
+or-false b = search rules
 
 and-true : (b : Bool) → (b && true) ≡ b
-and-true true = refl
-and-true false = refl
+and-true b = search rules
 
 and-false : (b : Bool) → (b && false) ≡ false
-and-false true = refl
-and-false false = refl
+and-false b = search rules
 
 -- a: the first one begins; l: none of the later ones ends it; n: the new one does not; r: one of the later ones lasts; b: the new one begins
 regroup : (a l n r b : Bool) → ((a && (l && n)) || ((r && n) || b)) ≡ ((((a && l) || r) && n) || b)
-regroup false l n r b = refl
-regroup true false n r b = refl
-regroup true true false true b = refl
-regroup true true false false b = refl
-regroup true true true r b = refl
+regroup a l n r b = search rules
 
 -- What lasted goes on unless the new one ends it, and the new one may begin it.
 pub lasts-push : (begins ends : Sending → Bool) (sent : List Sending) (s : Sending) → lasts begins ends (sent ++ s ∷ []) ≡ ((lasts begins ends sent && not (ends s)) || begins s)
@@ -51,15 +44,7 @@ any-push p sent s b is = list_any-append p sent (s ∷ []) ∙ ap (λ c. list_an
 
 -- before one of two moments is before the later one
 pub lt-either : (t a b : ℕ) → a ≤ b → (nat_lt t a || nat_lt t b) ≡ nat_lt t b
-lt-either t a b le =
-    elim (cases_lt t b) [
-      | inl before ↦ or_right (nat_lt t a) (nat_lt t b) (lt-ltb t b before) ∙ sym (lt-ltb t b before)
-      | inr after ↦ ap (λ c. c || nat_lt t b) (le-ltb t a (omega arith))
-    ]
+lt-either t a b le = search rules
 
 pub not-lt : (a b : ℕ) → not (nat_lt a b) ≡ nat_le b a
-not-lt a b =
-    elim (cases_lt a b) [
-      | inl less ↦ ap not (lt-ltb a b less) ∙ sym (lt-leb b a less)
-      | inr more ↦ ap not (le-ltb a b more) ∙ sym (le-leb b a more)
-    ]
+not-lt a b = search rules

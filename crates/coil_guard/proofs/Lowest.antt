@@ -1,5 +1,5 @@
 -- The lowest coil of which something is true.
-use Rattle.std.proofs.Common.{◌≡◌, ℕ, ◌<◌, zero, suc, Bool, true, false, if◌then◌else◌, Option, Some, None, IfSome, List, [], ◌∷◌, length, slice_index_or, refl, ap, ap₂, sym, subst, ◌∙◌, inl, inr, arith}
+use Rattle.std.proofs.Common.{rules, ◌≡◌, ℕ, ◌<◌, zero, suc, Bool, true, false, if◌then◌else◌, Option, Some, None, IfSome, List, [], ◌∷◌, length, slice_index_or, refl, ap, ap₂, sym, subst, ◌∙◌, inl, inr, arith}
 use Rattle.std.proofs.lemmas.Bool.{cases_eq}
 use Rattle.std.proofs.lemmas.Option.{none-some, same_Some}
 use Rattle.plan_tables.specs.declared.entries.CoilId.{CoilId}
@@ -10,19 +10,15 @@ use Rattle.coil_guard.specs.Lowest.{first_of_two, lowest, IsLowest}
 use Rattle.coil_guard.specs.Coils.{coil_at}
 
 pub lowest-same : (p q : CoilId → Bool) (n : ℕ) → ((coil : CoilId) → p coil ≡ q coil) → lowest p n ≡ lowest q n
-lowest-same p q zero same = refl
-lowest-same p q (suc n) same =
-    ap₂ (λ a b. first_of_two a (if b then Some (record { 0 = n }) else None)) (lowest-same p q n same) (same (record { 0 = n }))
+lowest-same p q n same = search rules
 
 -- ---- it is one of them
 
 last-within : (n : ℕ) (b : Bool) (c : CoilId) → (if b then Some (record { 0 = n }) else None) ≡ Some c → c.0 < suc n
-last-within n true c is = let e : n ≡ c.0 = ap (λ (x : CoilId). x.0) (same_Some (record { 0 = n }) c is) in omega arith
-last-within n false c is = absurd (none-some c is)
+last-within n b c is = search rules
 
 first-within : (n : ℕ) (a : Option CoilId) (b : Bool) (c : CoilId) → ((d : CoilId) → a ≡ Some d → d.0 < n) → first_of_two a (if b then Some (record { 0 = n }) else None) ≡ Some c → c.0 < suc n
-first-within n None b c first is = last-within n b c is
-first-within n (Some d) b c first is = let h = first c is in omega arith
+first-within n a b c first is = search rules
 
 pub lowest-within : (test : CoilId → Bool) (n : ℕ) (c : CoilId) → lowest test n ≡ Some c → c.0 < n
 lowest-within test zero c is = absurd (none-some c is)
@@ -62,13 +58,7 @@ found-at test items fields s n d b items_are fields_are within none is holds =
 -- ---- it is the lowest
 
 next-lowest : (test : CoilId → Bool) (n : ℕ) (a : Option CoilId) (b : Bool) → IsLowest test n a → test (record { 0 = n }) ≡ b → IsLowest test (suc n) (first_of_two a (if b then Some (record { 0 = n }) else None))
-next-lowest test n (Some c) b is here = let h = is.0 in (omega arith, is.1, is.2)
-next-lowest test n None true is here = (omega arith, here, is)
-next-lowest test n None false is here = λ coil within.
-    elim (cases_eq coil.0 n) [
-      | inl last ↦ ap (λ (k : ℕ). test (record { 0 = k })) last ∙ here
-      | inr earlier ↦ is coil (omega (arith, within, earlier))
-    ]
+next-lowest test n a b is here = search rules
 
 pub lowest-is : (test : CoilId → Bool) (n : ℕ) → IsLowest test n (lowest test n)
 lowest-is test zero = λ coil within. absurd (omega (arith, within))

@@ -1,5 +1,5 @@
 -- One coil: after each command its state says what the sent commands say of it.
-use Rattle.std.proofs.Common.{◌≡◌, ◌⊎◌, ℕ, ◌+◌, ◌*◌, ◌<◌, ◌≤◌, ◌==◌, zero, suc, true, false, not, ◌&&◌, ◌||◌, Option, Some, None, is_some, List, [], ◌∷◌, ◌++◌, nat_le, nat_lt, refl, ap, ap₂, sym, ◌∙◌, inl, inr, arith}
+use Rattle.std.proofs.Common.{rules, ◌≡◌, ◌⊎◌, ℕ, ◌+◌, ◌*◌, ◌<◌, ◌≤◌, ◌==◌, zero, suc, true, false, not, ◌&&◌, ◌||◌, Option, Some, None, is_some, List, [], ◌∷◌, ◌++◌, nat_le, nat_lt, refl, ap, ap₂, sym, ◌∙◌, inl, inr, arith}
 use Rattle.std.proofs.lemmas.Bool.{false≢true, not-true, ltb-true, leb-true, le-ltb, le-leb, eq-eqb, cases_lt, and_parts, and_from, and_left, and_right, or_cases, or_from, or_right}
 use Rattle.plan_tables.specs.declared.entries.Owner.{Owner}
 use Rattle.plan_tables.specs.declared.entries.CoilId.{CoilId}
@@ -14,25 +14,15 @@ use Rattle.coil_guard.specs.Follows.{IsApart, IsFollowed}
 use Rattle.coil_guard.proofs.Lasting.{or-false, lasts-push, lasts-begun, lasts-kept, lasts-ended, any-push, lt-either}
 
 not-owner : (owner : Owner) (o : Option Owner) → is_some o ≡ false → is_holder owner o ≡ false
-not-owner owner None free = refl
-not-owner owner (Some holder) free = absurd (false≢true (sym free))
+not-owner owner o free = search rules
 
 -- ---- nothing has been sent
 
 empty-runs : (coil : CoilId) (first count max : ℕ) → IsOnThroughout [] coil first count → count ≤ max
-empty-runs coil first zero max all = omega arith
-empty-runs coil first (suc n) max all = absurd (false≢true (all first (omega arith) (omega arith)))
+empty-runs coil first count max all = search rules
 
 pub followed-off : (coil : CoilId) (limits : CoilLimits) → IsFollowed coil limits [] (off limits) 0
-followed-off coil limits = record {
-  limits_are = refl;
-  on = λ later h. sym (or_from (nat_lt later 0) false (le-ltb later 0 (omega arith)) refl);
-  held = refl;
-  held_for = λ owner. refl;
-  resting = λ t. sym (le-ltb t 0 (omega arith));
-  ends = omega arith;
-  apart = λ barred. record { before = λ t is. absurd (false≢true is); runs = λ first count all. empty-runs coil first count limits.max_pulse_ms all };
-}
+followed-off coil limits = search rules
 
 -- ---- a command is sent now
 
@@ -84,16 +74,10 @@ module _ (coil : CoilId) (limits : CoilLimits) (sent : List Sending) (c : CoilSt
     sizes = (and_parts (nat_le 1 ms) (nat_le ms c.limits.max_pulse_ms && nat_le power c.limits.max_pulse_power) within).1
 
     pub short : ms ≤ limits.max_pulse_ms
-    short =
-        let h = leb-true ms c.limits.max_pulse_ms (and_parts (nat_le ms c.limits.max_pulse_ms) (nat_le power c.limits.max_pulse_power) sizes).0 in
-        let e = ap (λ (l : CoilLimits). l.max_pulse_ms) f.limits_are in
-        omega arith
+    short = search rules
 
     pub weak : power ≤ limits.max_pulse_power
-    weak =
-        let h = leb-true power c.limits.max_pulse_power (and_parts (nat_le ms c.limits.max_pulse_ms) (nat_le power c.limits.max_pulse_power) sizes).1 in
-        let e = ap (λ (l : CoilLimits). l.max_pulse_power) f.limits_are in
-        omega arith
+    weak = search rules
 
     -- It adds its own moments to those at which the coil is on.
     on-pulsed : (t : ℕ) → is_on (sent ++ pulse_sent coil ms power now ∷ []) coil t ≡ (is_on sent coil t || (nat_le now t && nat_lt t (now + ms)))
@@ -184,10 +168,7 @@ module _ (coil : CoilId) (limits : CoilLimits) (sent : List Sending) (c : CoilSt
     permitted = sym (ap (λ (l : CoilLimits). l.may_hold) f.limits_are) ∙ (and_parts c.limits.may_hold (nat_le power c.limits.max_hold_power) hold).0
 
     pub weak_hold : power ≤ limits.max_hold_power
-    weak_hold =
-        let h = leb-true power c.limits.max_hold_power (and_parts c.limits.may_hold (nat_le power c.limits.max_hold_power) hold).1 in
-        let e = ap (λ (l : CoilLimits). l.max_hold_power) f.limits_are in
-        omega arith
+    weak_hold = search rules
 
     pub followed-enable : IsFollowed coil limits (sent ++ enable_sent coil power owner now ∷ []) (enabled owner c) now
     followed-enable = record {

@@ -1,5 +1,5 @@
 -- A board in memory tells a list that has grown by the command, or tells none any more.
-use Rattle.std.proofs.Common.{◌≡◌, ℕ, ◌+◌, ◌-◌, ◌≤◌, Bool, true, false, if◌then◌else◌, Some, None, Ok, List, [], ◌∷◌, ◌++◌, length, drop, min, nat_le, refl, ap, ap₂, sym, subst, ◌∙◌, inl, inr, arith}
+use Rattle.std.proofs.Common.{rules, ◌≡◌, ℕ, ◌+◌, ◌-◌, ◌≤◌, Bool, true, false, if◌then◌else◌, Some, None, Ok, List, [], ◌∷◌, ◌++◌, length, drop, min, nat_le, refl, ap, ap₂, sym, subst, ◌∙◌, inl, inr, arith}
 use Rattle.std.proofs.lemmas.Bool.{false≢true, le-leb, cases_lt}
 use Rattle.std.proofs.Math.Nat.{min-eq_left, min-eq_right}
 use Rattle.std.proofs.lemmas.List.{length-append}
@@ -10,10 +10,7 @@ use Rattle.coil_guard.specs.Inside.{IsMemory}
 
 by-tests : (command : Command) (kept new : List Command) (b d : Bool) → (b ≡ false → d ≡ false) → (d ≡ true → new ≡ kept ++ command ∷ [])
     → IsToldAfter command (Ok tt) (if b then Some kept else None) (if d then Some new else None)
-by-tests command kept new true true less grown = grown refl
-by-tests command kept new true false less grown = tt
-by-tests command kept new false true less grown = absurd (false≢true (sym (less refl)))
-by-tests command kept new false false less grown = refl
+by-tests command kept new b d less grown = search rules
 
 told-taken : (command : Command) (b : MemoryView) → length b.kept ≡ min b.count 1024 → IsToldAfter command (Ok tt) (told_by_memory b) (told_by_memory (after_taking command b))
 told-taken command b kept_is = by-tests command b.kept (keep_last 1024 (b.kept ++ command ∷ [])) (nat_le b.count 1024) (nat_le (min (b.count + 1) 1025) 1024) full grown
