@@ -10,9 +10,8 @@ use Rattle.section_tables.specs.Named.{IsNamedKeyed, IsNamedValue, IsNamedEntry,
 use Rattle.mpf_tables.specs.SectionTables as tables
 use Rattle.mpf_sections.specs.Rows.{Written, CoilItem, SectionRows}
 use Rattle.mpf_sections.specs.Typed.{text_of, flag_of, listed_keyed, name_in, pulse_in, power_in, entries_of, players_of}
-use Rattle.mpf_sections.specs.TypedCoils.{coils_name, coil_player_name, flippers_name, autofire_coils_name, max_hold_power, coil_of, coil_item_of, coil_player_of, flipper_of, autofire_of, coils_in, coil_players_in, flippers_in, autofires_in}
+use Rattle.mpf_sections.specs.TypedCoils.{coils_name, coil_player_name, flippers_name, autofire_coils_name, max_hold_power, coil_of, coil_item_of, coil_player_of, needed_at, flipper_of, autofire_of, coils_in, coil_players_in, flippers_in, autofires_in}
 use Rattle.mpf_sections.specs.TypedNumbers.{time_under}
-use Rattle.mpf_sections.specs.Inside.{needed_at}
 use Rattle.mpf_sections.specs.Named.{IsNamedCoil, IsNamedCoilPlayer, IsNamedFlipper, IsNamedAutofire, IsNamed}
 use Rattle.mpf_sections.specs.Short.{IsPulseInRange, IsPowerInRange, IsCoilInRange, IsItemInRange, IsShortCoilPlayer, IsCoilPlayerInRange, IsShortFlipper, IsShortAutofire, IsShortSection}
 use Rattle.mpf_sections.proofs.Each.{all_mapped, made_each}

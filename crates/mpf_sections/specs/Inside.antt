@@ -11,7 +11,7 @@ use Rattle.section_tables.specs.declared.rows.Value as value_rows
 use Rattle.section_tables.specs.declared.rows.Fields as field_rows
 use Rattle.section_tables.specs.declared.rows.Keyed as keyed_rows
 use Rattle.section_tables.specs.declared.rows.Entry as entry_rows
-use Rattle.section_tables.specs.Rows.{Written, Plain, Value, Entry, name as named}
+use Rattle.section_tables.specs.Rows.{Plain, Value, Entry, name as named}
 use Rattle.section_tables.specs.Entries.{written_at}
 use Rattle.section_tables.specs.View.{value_view, plains_view}
 use Rattle.mpf_sections.specs.declared.section.Content as contents
@@ -45,17 +45,9 @@ block_at first row = record {
   complete = listed_posts (slice_get row (first + 8));
 }
 
--- the name at a place of an entry; its own in a row that has none there
-abbrev pub needed_at : ℕ → Entry → Written
-needed_at place e = unwrap_or (name_in (text_of (slice_get e.values place))) e.name
-
 -- the events of a logic block, whose settings are from this place on in a row of the program
 abbrev pub IsBlockAt : ℕ → entry_rows.Entry → typed_blocks.BlockEvents → Type 0
 IsBlockAt first entry block = block_view block ≡ block_at first (entry_view entry).values
-
--- the name at a place of an entry of the program; its own where there is none
-abbrev pub IsNeededAt : ℕ → entry_rows.Entry → NameAt → Type 0
-IsNeededAt place entry name = name_at_view name ≡ needed_at place (entry_view entry)
 
 -- ---- rows
 

@@ -1,10 +1,12 @@
 //! The entries of `flippers` and `autofire_coils`, by the names of their settings.
 
-ghost use Rattle.mpf_sections.specs.Inside.{IsNeededAt};
-ghost use Rattle.mpf_sections.specs.TypedOf.{IsFlipperOf, IsAutofireOf};
+ghost use Rattle.std.specs.Prelude.{◌≡◌};
+ghost use Rattle.mpf_sections.specs.TypedCoils.{quick_place};
+ghost use Rattle.mpf_sections.specs.TypedOf.{IsNeededAt, IsFlipperOf, IsAutofireOf};
 
 use crate::typed::NameAt;
 use crate::values::{handlers, name, text};
+use mpf_tables::tables::{AUTOFIRE_COILS_NAME, FLIPPERS_NAME};
 use section_tables::rows::{Entry, Handler, Name};
 
 /// An entry of `flippers`.
@@ -67,8 +69,23 @@ const AUTOFIRE_ENABLES: usize = 2;
 
 const AUTOFIRE_DISABLES: usize = 3;
 
-// A name that has to be written; the entry's own in a row that no table gives.
-fn needed_name(entry: &Entry, at: usize) -> NameAt<'_>
+/// The place, in the table of the section of this name, of the setting that names the switch which
+/// an entry makes quick: the entries of `flippers` and `autofire_coils` do so.
+pub fn quick_switch(section: &[u8]) -> Option<usize>
+    ensures { result ≡ quick_place section.now }
+{
+    if section == FLIPPERS_NAME {
+        return Some(ACTIVATION_SWITCH);
+    }
+    if section == AUTOFIRE_COILS_NAME {
+        return Some(SWITCH);
+    }
+    None
+}
+
+/// The name at a place of an entry, where one has to be written; the entry's own in a row that no
+/// table gives.
+pub fn needed_name(entry: &Entry, at: usize) -> NameAt<'_>
     ensures { IsNeededAt at entry.now result }
 {
     match name(text(entry, at)) {
