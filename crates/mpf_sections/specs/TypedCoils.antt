@@ -9,7 +9,7 @@ use Rattle.mpf_tables.specs.SectionTables as tables
 pub use Rattle.mpf_tables.specs.SectionTables.{coils_name, coil_player_name, flippers_name, autofire_coils_name}
 use Rattle.mpf_sections.specs.Typed.{setting_of, field_of, text_of, flag_of, listed_events, listed_keyed, handled_in, name_in, word_in, pulse_in, power_in, place_of, entries_in, entries_of, players_of}
 use Rattle.mpf_sections.specs.TypedNumbers.{time_setting}
-use Rattle.mpf_sections.specs.Rows.{Coil, CoilItem, CoilPlayer, Flipper, Autofire, SectionRows}
+use Rattle.mpf_sections.specs.Rows.{Coil, CoilItem, CoilPlayer, Rule, Flipper, Autofire, SectionRows}
 
 -- ---- `coils`
 
@@ -75,26 +75,25 @@ needed_name table key e = unwrap_or (name_in (text_of (setting_of table key e.va
 abbrev pub needed_at : ℕ → Entry → Written
 needed_at place e = unwrap_or (name_in (text_of (slice_get e.values place))) e.name
 
-unfoldable pub flipper_of : Entry → Flipper
-flipper_of e = record {
+-- what all coil rules have, where the setting of this key names the switch
+abbrev pub rule_of : List Setting → List ℕ → Entry → Rule
+rule_of table switch e = record {
   name = e.name;
-  main_coil = needed_name tables.flippers (codes "main_coil") e;
-  hold_coil = name_in (text_of (setting_of tables.flippers (codes "hold_coil") e.values));
-  switch = needed_name tables.flippers (codes "activation_switch") e;
-  enables = listed_events (setting_of tables.flippers (codes "enable_events") e.values);
-  disables = listed_events (setting_of tables.flippers (codes "disable_events") e.values);
+  switch = needed_name table switch e;
+  enables = listed_events (setting_of table (codes "enable_events") e.values);
+  disables = listed_events (setting_of table (codes "disable_events") e.values);
   order = e.order;
 }
 
-unfoldable pub autofire_of : Entry → Autofire
-autofire_of e = record {
-  name = e.name;
-  coil = needed_name tables.autofire_coils (codes "coil") e;
-  switch = needed_name tables.autofire_coils (codes "switch") e;
-  enables = listed_events (setting_of tables.autofire_coils (codes "enable_events") e.values);
-  disables = listed_events (setting_of tables.autofire_coils (codes "disable_events") e.values);
-  order = e.order;
+unfoldable pub flipper_of : Entry → Flipper
+flipper_of e = record {
+  main_coil = needed_name tables.flippers (codes "main_coil") e;
+  hold_coil = name_in (text_of (setting_of tables.flippers (codes "hold_coil") e.values));
+  rule = rule_of tables.flippers (codes "activation_switch") e;
 }
+
+unfoldable pub autofire_of : Entry → Autofire
+autofire_of e = record { coil = needed_name tables.autofire_coils (codes "coil") e; rule = rule_of tables.autofire_coils (codes "switch") e }
 
 -- ---- sections
 
