@@ -7,7 +7,7 @@ use Rattle.std.specs.Str.{bytes_eq}
 use Rattle.std.specs.List.{All, AllPairs, flat_map, list_any}
 use Rattle.std.proofs.lemmas.List.{get_or_append_left}
 use Rattle.std.proofs.lemmas.List.Elements.{All-nil, All-cons, All-head, All-tail, All-append, All-map, All-weaker, All-from_get_or, All-from_recursion}
-use Rattle.mpf_sections.specs.Rows.{Written, Entry, Switch, CoilPlayer, VariablePlayer, BlockEvents, Flipper, Autofire, Shot, ShotGroup, BallDevice, SectionRows}
+use Rattle.mpf_sections.specs.Rows.{Written, Entry, Switch, CoilPlayer, VariablePlayer, BlockEvents, Rule, Flipper, Autofire, Shot, ShotGroup, BallDevice, SectionRows}
 use Rattle.mpf_sections.specs.TypedGame.{variable_players_in}
 use Rattle.machine_definitions.specs.Players.{player_event, is_set_by_game}
 use Rattle.row_contributions.specs.VariableEntries.{item_change}
@@ -24,7 +24,7 @@ use Rattle.machine_definitions.specs.Definitions.{has_switch, ball_devices_of, l
 use Rattle.machine_definitions.specs.Shots.{Profile, profile_of_name}
 use Rattle.plan_contributions.specs.Effects.{Effect, posts, works, changes, enters, leaves, loses, arrives}
 use Rattle.row_contributions.specs.DeviceEntries.{Device, counter_device, step_device, step_settings, timer_device, device_of, block_event, or_own, block_lists, timer_event, timer_endings, timer_lists}
-use Rattle.row_contributions.specs.CoilEntries.{defaults_called, own_pulse, item_effect, flipper_device, autofire_device}
+use Rattle.row_contributions.specs.CoilEntries.{defaults_called, own_pulse, item_effect, rule_device, flipper_device, autofire_device}
 use Rattle.row_contributions.specs.BallEntries.{drains, ball_event, eject_pulse, ball_lists}
 use Rattle.row_contributions.specs.SaveEntries.{save_device, multiball_device, save_device_of}
 use Rattle.row_contributions.specs.ShotEntries.{shot_events, group_events, shot_lists, state_lists, group_lists}
@@ -202,17 +202,14 @@ module _ (rows : Rows) where
       by false false false true hc ha hq = λ i d within. record { lists = timer-all (timer_of (get_or es i d)).name.text; listens = All-nil IsThere }
       by false false false false hc ha hq = λ i d within. saves-doing s.name (get_or es i d)
 
+  rule-doing : (settings : Settings) (r : Rule) (lists : List (List Effect)) → IsThere r.switch.text → All (All IsFine) lists → IsDeviceDoing IsFine IsUnreserved IsThere (rule_device settings r lists)
+  rule-doing settings r lists there all = record { lists = all; listens = All-cons IsThere r.switch.text [] there (All-nil IsThere) }
+
   flipper-doing : (f : Flipper) → IsFlipperSound rows.machine f → IsDeviceDoing IsFine IsUnreserved IsThere (flipper_device rows.machine f)
-  flipper-doing f h = record {
-    lists = flipper_doing rows.machine IsFine (λ name deed sound. sound) f h;
-    listens = All-cons IsThere f.switch.text [] h.switch (All-nil IsThere);
-  }
+  flipper-doing f h = rule-doing kinds.Flipper f.rule _ h.switch (flipper_doing rows.machine IsFine (λ name deed sound. sound) f h)
 
   autofire-doing : (a : Autofire) → IsAutofireSound rows.machine a → IsDeviceDoing IsFine IsUnreserved IsThere (autofire_device rows.machine a)
-  autofire-doing a h = record {
-    lists = autofire_doing rows.machine IsFine (λ name deed sound. sound) a h;
-    listens = All-cons IsThere a.switch.text [] h.switch (All-nil IsThere);
-  }
+  autofire-doing a h = rule-doing kinds.Autofire a.rule _ h.switch (autofire_doing rows.machine IsFine (λ name deed sound. sound) a h)
 
   -- ---- ball devices
 

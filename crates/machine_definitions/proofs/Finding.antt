@@ -1,5 +1,5 @@
 -- What is found by a name, after a key was taken.
-use Rattle.std.proofs.Common.{◌≡◌, ℕ, if◌then◌else◌, ◌+◌, ◌<◌, length, drop, get_or, Bool, true, false, cond, ◌||◌, List, [], ◌∷◌, Option, Some, option_map, refl, sym, ap, ◌∙◌}
+use Rattle.std.proofs.Common.{◌≡◌, ℕ, if◌then◌else◌, ◌+◌, ◌<◌, length, drop, get_or, Bool, true, false, cond, ◌||◌, List, ◌∷◌, Option, Some, option_map, refl, sym, ap, ◌∙◌}
 use Rattle.std.specs.List.{list_any}
 use Rattle.std.specs.Str.{bytes_eq}
 use Rattle.std.specs.Borrow.{Bor}

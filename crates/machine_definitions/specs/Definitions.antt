@@ -1,10 +1,10 @@
 -- What the entries of the machine text say of others, by name. Here `machine` is the sections of that text.
-use Rattle.std.specs.Prelude.{ℕ, Bool, false, if◌then◌else◌, List, [], ◌++◌, Option, None, Some, fold, map, unwrap_or}
+use Rattle.std.specs.Prelude.{ℕ, Bool, false, if◌then◌else◌, List, [], Option, None, Some, fold, unwrap_or}
 use Rattle.std.specs.List.{flat_map, list_any}
 use Rattle.std.specs.Str.{bytes_eq}
 use Rattle.mpf_sections.specs.Rows.{Coil, BallDevice, SectionRows}
 use Rattle.mpf_sections.specs.Typed.{switches_in}
-use Rattle.mpf_sections.specs.TypedCoils.{coils_in, flippers_in, autofires_in}
+use Rattle.mpf_sections.specs.TypedCoils.{coils_in, quick_switches}
 use Rattle.mpf_sections.specs.TypedBalls.{ball_devices_in}
 
 -- the coil of this name, if there is one; of two the later
@@ -34,13 +34,9 @@ coil_of_name machine name = unwrap_or (coil_called machine name) no_coil
 abbrev pub has_switch : List SectionRows → List ℕ → Bool
 has_switch machine name = list_any (λ s. bytes_eq name s.name.text) (flat_map switches_in machine)
 
--- the switches of the flippers and the autofire coils of a section
-abbrev pub rule_switches : SectionRows → List (List ℕ)
-rule_switches s = map (λ f. f.switch.text) (flippers_in s) ++ map (λ a. a.switch.text) (autofires_in s)
-
--- whether one of them has this name
+-- whether an entry, as that of a flipper or an autofire coil, makes the switch of this name quick
 abbrev pub makes_quick : List SectionRows → List ℕ → Bool
-makes_quick machine name = list_any (bytes_eq name) (flat_map rule_switches machine)
+makes_quick machine name = list_any (bytes_eq name) (flat_map quick_switches machine)
 
 -- the ball devices of sections, in plan order
 abbrev pub ball_devices_of : List SectionRows → List BallDevice

@@ -1,5 +1,5 @@
 -- What the maps of `Definitions` hold and gain, and what entries are read as.
-use Rattle.std.specs.Prelude.{◌≡◌, ◌||◌, ℕ, Bool, List, fold, map, Option, option_map}
+use Rattle.std.specs.Prelude.{◌≡◌, ◌||◌, ℕ, Bool, List, fold, map, Option, Some, option_map}
 use Rattle.std.specs.List.{filter_map, flat_map, list_any}
 use Rattle.std.specs.Str.{bytes_eq}
 use Rattle.std.specs.Borrow.{Bor}
@@ -14,7 +14,7 @@ use Rattle.section_tables.specs.declared.rows.Fields as field_rows
 use Rattle.mpf_sections.specs.declared.section.Section.{Section}
 use Rattle.mpf_sections.specs.View.{entry_view, fields_view, section_view}
 use Rattle.mpf_sections.specs.Typed.{switch_of}
-use Rattle.mpf_sections.specs.TypedCoils.{coil_of, flipper_of, autofire_of}
+use Rattle.mpf_sections.specs.TypedCoils.{coil_of, names_at, quick_switches}
 use Rattle.mpf_sections.specs.TypedBalls.{ball_device_of}
 use Rattle.mpf_sections.specs.TypedShots.{shot_of, state_of, shot_profile_of, shots_in, shot_profiles_in}
 use Rattle.mpf_config.specs.Rows.{Rows}
@@ -121,15 +121,16 @@ as_profiles entries = map profile_of (map shot_profile_of (map entry_view entrie
 abbrev pub as_states : List field_rows.Fields → List (List ℕ)
 as_states maps = map (λ w. w.text) (filter_map state_of (map fields_view maps))
 
--- whether one of them defines a switch of this name; whether one of these flippers, or autofire coils, uses it
+-- whether one of them defines a switch of this name; whether one has this name at a place
 abbrev pub defines_switch : List entry_rows.Entry → List ℕ → Bool
 defines_switch entries name = list_any (λ s. bytes_eq name s.name.text) (map switch_of (map entry_view entries))
 
-abbrev pub is_used_by_flippers : List entry_rows.Entry → List ℕ → Bool
-is_used_by_flippers entries name = list_any (bytes_eq name) (map (λ f. f.switch.text) (map flipper_of (map entry_view entries)))
+abbrev pub is_named_at : ℕ → List entry_rows.Entry → List ℕ → Bool
+is_named_at place entries name = list_any (bytes_eq name) (names_at (Some place) (map entry_view entries))
 
-abbrev pub is_used_by_autofires : List entry_rows.Entry → List ℕ → Bool
-is_used_by_autofires entries name = list_any (bytes_eq name) (map (λ a. a.switch.text) (map autofire_of (map entry_view entries)))
+-- whether the entries of a section make the switch of this name quick
+abbrev pub is_made_quick : Section → List ℕ → Bool
+is_made_quick s name = list_any (bytes_eq name) (quick_switches (section_view s))
 
 -- ---- sections of the program
 

@@ -6,28 +6,24 @@ ghost use Rattle.mpf_sections.specs.View.{coil_view, shot_view, ball_device_view
 ghost use Rattle.mpf_config.specs.View.{rows_view};
 ghost use Rattle.machine_definitions.specs.Definitions.{coil_called, has_switch, makes_quick, ball_device_called};
 ghost use Rattle.machine_definitions.specs.Shots.{shot_called, has_profile, profile_of_name};
-ghost use Rattle.machine_definitions.specs.Found.{profile_view, HasCoils, HasSwitches, HasQuick, HasBallDevices, GainsBallDevices, GainsCoils, GainsNames, as_ball_devices, as_coils, defines_switch, is_used_by_autofires, is_used_by_flippers, section_rows};
+ghost use Rattle.machine_definitions.specs.Found.{profile_view, HasCoils, HasSwitches, HasQuick, HasBallDevices, GainsBallDevices, GainsCoils, GainsNames, as_ball_devices, as_coils, defines_switch, is_made_quick, is_named_at, section_rows};
 
 use crate::by_name::{ByName, Names};
 use crate::profile::Profile;
 use crate::shots::{profiles_of, shots_of, standard_profile};
 use indexmap::{IndexMap, IndexSet};
 use mpf_config::config::Config;
-use mpf_config::{
-    Coil, Entry, Section, Shot, as_autofire, as_coil, as_flipper, as_shot, min_balls,
-};
+use mpf_config::{Coil, Entry, Section, Shot, as_coil, as_shot, min_balls};
+use mpf_sections::coil_rules::{needed_name, quick_switch};
 use mpf_sections::{BallDevice, as_ball_device};
-use mpf_tables::tables::{
-    AUTOFIRE_COILS_NAME, BALL_DEVICES_NAME, COILS_NAME, DEFAULT_PROFILE, FLIPPERS_NAME,
-    SWITCHES_NAME,
-};
+use mpf_tables::tables::{BALL_DEVICES_NAME, COILS_NAME, DEFAULT_PROFILE, SWITCHES_NAME};
 use std::alloc::{AllocError, Global};
 use std::marker::Model;
 use yaml_subset::keys::KeyHashing;
 
 /// What the entries of a configuration define: the coils of the machine text, the names of its
-/// switches, the names of those that flippers and autofire coils use, its ball devices, and the shots
-/// and the profiles of all texts.
+/// switches, the names of those that are made quick, its ball devices, and the shots and the profiles
+/// of all texts.
 #[derive(Drop)]
 pub struct Definitions<'a> {
     config: &'a Config,
@@ -261,8 +257,7 @@ fn add_switches<'a>(names: &mut Names<'a>, entries: &'a [Entry]) -> Result<(), A
     Ok(())
 }
 
-/// The names of the switches of all flippers and autofire coils.
-#[tactic(auto, unfolding(mpf_sections::specs::TypedCoils::flippers_in, mpf_sections::specs::TypedCoils::autofires_in))]
+/// The names of the switches that the entries of all sections make quick.
 fn quick_of<'a>(
     alloc: Global,
     hashing: KeyHashing,
@@ -272,26 +267,26 @@ fn quick_of<'a>(
 {
     let mut names = IndexSet::with_hasher(alloc, hashing);
     for section in sections {
-        add_flippers(&mut names, section.entries_of(FLIPPERS_NAME))?;
-        add_autofires(&mut names, section.entries_of(AUTOFIRE_COILS_NAME))?;
+        add_quick(&mut names, section)?;
     }
     Ok(names)
 }
 
-fn add_flippers<'a>(names: &mut Names<'a>, entries: &'a [Entry]) -> Result<(), AllocError>
-    ensures { OnOk result (GainsNames names.old names.new (is_used_by_flippers entries.now)) }
+fn add_quick<'a>(names: &mut Names<'a>, section: &'a Section) -> Result<(), AllocError>
+    ensures { OnOk result (GainsNames names.old names.new (is_made_quick section.now)) }
 {
-    for entry in entries {
-        names.insert(as_flipper(entry).switch.text)?;
+    match quick_switch(&section.name) {
+        Some(at) => add_names(names, section.content.entries(), at),
+        None => Ok(()),
     }
-    Ok(())
 }
 
-fn add_autofires<'a>(names: &mut Names<'a>, entries: &'a [Entry]) -> Result<(), AllocError>
-    ensures { OnOk result (GainsNames names.old names.new (is_used_by_autofires entries.now)) }
+/// Adds the name that each entry has at a place.
+fn add_names<'a>(names: &mut Names<'a>, entries: &'a [Entry], at: usize) -> Result<(), AllocError>
+    ensures { OnOk result (GainsNames names.old names.new (is_named_at at entries.now)) }
 {
     for entry in entries {
-        names.insert(as_autofire(entry).switch.text)?;
+        names.insert(needed_name(entry, at).text)?;
     }
     Ok(())
 }

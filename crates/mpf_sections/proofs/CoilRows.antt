@@ -1,5 +1,5 @@
 -- What holds of coils, coil players, flippers and autofire coils, by the names of their settings: their names are names, and their settings are in their ranges.
-use Rattle.std.proofs.Common.{◌≡◌, ℕ, ◌≤◌, nat_le, Bool, true, false, ◌&&◌, if◌then◌else◌, map, List, [], ◌∷◌, length, Option, Some, None, IfSome, unwrap_or, slice_get, refl, arith}
+use Rattle.std.proofs.Common.{◌≡◌, ℕ, ◌≤◌, ◌+◌, nat_le, Bool, true, false, ◌&&◌, if◌then◌else◌, map, List, [], ◌∷◌, length, Option, Some, None, IfSome, unwrap_or, slice_get, refl, arith}
 use Rattle.std.specs.List.{All, AllByRecursion}
 use Rattle.std.proofs.lemmas.Bool.{leb-true}
 use Rattle.std.proofs.lemmas.List.{length-map}
@@ -10,14 +10,14 @@ use Rattle.section_tables.specs.Named.{IsNamedKeyed, IsNamedValue, IsNamedEntry,
 use Rattle.mpf_tables.specs.SectionTables as tables
 use Rattle.mpf_sections.specs.Rows.{Written, CoilItem, SectionRows}
 use Rattle.mpf_sections.specs.Typed.{text_of, flag_of, listed_keyed, name_in, pulse_in, power_in, entries_of, players_of}
-use Rattle.mpf_sections.specs.TypedCoils.{coils_name, coil_player_name, flippers_name, autofire_coils_name, max_hold_power, coil_of, coil_item_of, coil_player_of, flipper_of, autofire_of, coils_in, coil_players_in, flippers_in, autofires_in}
+use Rattle.mpf_sections.specs.TypedCoils.{coils_name, coil_player_name, max_hold_power, coil_of, coil_item_of, coil_player_of, needed_at, flipper_of, autofire_of, coils_in, coil_players_in}
 use Rattle.mpf_sections.specs.TypedNumbers.{time_under}
-use Rattle.mpf_sections.specs.Inside.{needed_at}
-use Rattle.mpf_sections.specs.Named.{IsNamedCoil, IsNamedCoilPlayer, IsNamedFlipper, IsNamedAutofire, IsNamed}
-use Rattle.mpf_sections.specs.Short.{IsPulseInRange, IsPowerInRange, IsCoilInRange, IsItemInRange, IsShortCoilPlayer, IsCoilPlayerInRange, IsShortFlipper, IsShortAutofire, IsShortSection}
+use Rattle.mpf_sections.specs.Inside.{rule_at}
+use Rattle.mpf_sections.specs.Named.{IsNamedCoil, IsNamedCoilPlayer, IsNamedRule, IsNamedFlipper, IsNamedAutofire, IsNamed}
+use Rattle.mpf_sections.specs.Short.{IsPulseInRange, IsPowerInRange, IsCoilInRange, IsItemInRange, IsShortCoilPlayer, IsCoilPlayerInRange, IsShortRule, IsShortSection}
 use Rattle.mpf_sections.proofs.Each.{all_mapped, made_each}
 use Rattle.mpf_sections.proofs.RowNames.{IsNamedOption, value_at_named, events_named, event_named, entries_of_named, players_of_named}
-use Rattle.mpf_sections.proofs.ShortRows.{IsShortOption, none_short, value_at_short, events_short, entries_of_short, players_of_short}
+use Rattle.mpf_sections.proofs.ShortRows.{IsShortOption, none_short, value_at_short, events_short, players_of_short}
 use Rattle.mpf_sections.proofs.DeviceRows.{IsNamedText, IsNamedWritten, name_in_named}
 use Rattle.mpf_sections.proofs.NumberRows.{time_in_range}
 
@@ -62,28 +62,28 @@ either_named (Some w) other h is = h
 needed_named : (e : Entry) (i : ℕ) → IsNamedEntry e → IsName (needed_at i e).text
 needed_named e i h = either_named (name_in (text_of (slice_get e.values i))) e.name (written_named e i h) h.name
 
--- Those in an entry of `flippers` are, too.
+-- Those of a coil rule are, too, whichever setting names its switch.
+rule_named : (switch : ℕ) (e : Entry) → IsNamedEntry e → IsNamedRule (rule_at switch e)
+rule_named switch e h = record {
+  name = h.name;
+  switch = needed_named e switch h;
+  enables = events_named (slice_get e.values (switch + 1)) (value_at_named e.values (switch + 1) h.values);
+  disables = events_named (slice_get e.values (switch + 2)) (value_at_named e.values (switch + 2) h.values);
+}
+
+-- And those in an entry of `flippers`.
 pub flipper_named : (e : Entry) → IsNamedEntry e → IsNamedFlipper (flipper_of e)
 unfolding flipper_of
 flipper_named e h = record {
-  name = h.name;
   main_coil = needed_named e 0 h;
   hold_coil = some_named (name_in (text_of (slice_get e.values 1))) (written_named e 1 h);
-  switch = needed_named e 2 h;
-  enables = events_named (slice_get e.values 3) (value_at_named e.values 3 h.values);
-  disables = events_named (slice_get e.values 4) (value_at_named e.values 4 h.values);
+  rule = rule_named 2 e h;
 }
 
 -- And those in an entry of `autofire_coils`.
 pub autofire_named : (e : Entry) → IsNamedEntry e → IsNamedAutofire (autofire_of e)
 unfolding autofire_of
-autofire_named e h = record {
-  name = h.name;
-  coil = needed_named e 0 h;
-  switch = needed_named e 1 h;
-  enables = events_named (slice_get e.values 2) (value_at_named e.values 2 h.values);
-  disables = events_named (slice_get e.values 3) (value_at_named e.values 3 h.values);
-}
+autofire_named e h = record { coil = needed_named e 0 h; rule = rule_named 1 e h }
 
 -- so they are in a section
 pub coils_named : (s : SectionRows) → IsNamed s → All IsNamedCoil (coils_in s)
@@ -93,14 +93,6 @@ coils_named s h = made_each IsNamedCoil coil_of coil_named (entries_of coils_nam
 pub coil_players_named : (s : SectionRows) → IsNamed s → All IsNamedCoilPlayer (coil_players_in s)
 unfolding coil_players_in
 coil_players_named s h = made_each IsNamedCoilPlayer coil_player_of coil_player_named (players_of coil_player_name s) (players_of_named coil_player_name s h)
-
-pub flippers_named : (s : SectionRows) → IsNamed s → All IsNamedFlipper (flippers_in s)
-unfolding flippers_in
-flippers_named s h = made_each IsNamedFlipper flipper_of flipper_named (entries_of flippers_name s) (entries_of_named flippers_name s h)
-
-pub autofires_named : (s : SectionRows) → IsNamed s → All IsNamedAutofire (autofires_in s)
-unfolding autofires_in
-autofires_named s h = made_each IsNamedAutofire autofire_of autofire_named (entries_of autofire_coils_name s) (entries_of_named autofire_coils_name s h)
 
 -- ---- ranges
 
@@ -180,19 +172,11 @@ coil_player_short p h =
     let few : length (listed_keyed (Some p.value)) ≤ 1024 = keyed_short (Some p.value) h in
     rw (length-map (listed_keyed (Some p.value)) coil_item_of) few
 
--- No list of a flipper or of an autofire coil has more than 1,024 items.
-pub flipper_short : (e : Entry) → IsShortEntry 1024 e → IsShortFlipper (flipper_of e)
-unfolding flipper_of
-flipper_short e h = record {
-  enables = events_short (slice_get e.values 3) (value_at_short e.values 3 h);
-  disables = events_short (slice_get e.values 4) (value_at_short e.values 4 h);
-}
-
-pub autofire_short : (e : Entry) → IsShortEntry 1024 e → IsShortAutofire (autofire_of e)
-unfolding autofire_of
-autofire_short e h = record {
-  enables = events_short (slice_get e.values 2) (value_at_short e.values 2 h);
-  disables = events_short (slice_get e.values 3) (value_at_short e.values 3 h);
+-- No list of a coil rule has more than 1,024 items.
+pub rule_short : (switch : ℕ) (e : Entry) → IsShortEntry 1024 e → IsShortRule (rule_at switch e)
+rule_short switch e h = record {
+  enables = events_short (slice_get e.values (switch + 1)) (value_at_short e.values (switch + 1) h);
+  disables = events_short (slice_get e.values (switch + 2)) (value_at_short e.values (switch + 2) h);
 }
 
 -- so it is with those of a section
@@ -207,11 +191,3 @@ coil_players_in_range s = all_mapped IsCoilPlayerInRange coil_player_of coil_pla
 pub coil_players_short : (s : SectionRows) → IsShortSection s → All IsShortCoilPlayer (coil_players_in s)
 unfolding coil_players_in
 coil_players_short s h = made_each IsShortCoilPlayer coil_player_of coil_player_short (players_of coil_player_name s) (players_of_short coil_player_name s h)
-
-pub flippers_short : (s : SectionRows) → IsShortSection s → All IsShortFlipper (flippers_in s)
-unfolding flippers_in
-flippers_short s h = made_each IsShortFlipper flipper_of flipper_short (entries_of flippers_name s) (entries_of_short flippers_name s h)
-
-pub autofires_short : (s : SectionRows) → IsShortSection s → All IsShortAutofire (autofires_in s)
-unfolding autofires_in
-autofires_short s h = made_each IsShortAutofire autofire_of autofire_short (entries_of autofire_coils_name s) (entries_of_short autofire_coils_name s h)

@@ -11,7 +11,7 @@ use Rattle.section_tables.specs.declared.rows.Value as value_rows
 use Rattle.section_tables.specs.declared.rows.Fields as field_rows
 use Rattle.section_tables.specs.declared.rows.Keyed as keyed_rows
 use Rattle.section_tables.specs.declared.rows.Entry as entry_rows
-use Rattle.section_tables.specs.Rows.{Written, Plain, Value, Entry, name as named}
+use Rattle.section_tables.specs.Rows.{Plain, Value, Entry, name as named}
 use Rattle.section_tables.specs.Entries.{written_at}
 use Rattle.section_tables.specs.View.{value_view, plains_view}
 use Rattle.mpf_sections.specs.declared.section.Content as contents
@@ -19,11 +19,13 @@ use Rattle.mpf_sections.specs.declared.section.Section.{Section}
 use Rattle.mpf_sections.specs.declared.typed.NameAt.{NameAt}
 use Rattle.mpf_sections.specs.declared.typed.HandledAt.{HandledAt}
 use Rattle.mpf_sections.specs.declared.blocks.BlockEvents as typed_blocks
+use Rattle.mpf_sections.specs.declared.coil_rules.Rule as typed_rules
 use Rattle.machine_settings.specs.declared.settings.BlockSettings.{BlockSettings}
-use Rattle.mpf_sections.specs.Rows.{BlockEvents}
+use Rattle.mpf_sections.specs.Rows.{Rule, BlockEvents}
 use Rattle.mpf_sections.specs.Typed.{text_of, flag_of, listed_names, listed_events, listed_posts, listed_steps, listed_maps, listed_keyed, name_in, handled_in, event_in, pulse_in, power_in, ball_ending, content_named}
+use Rattle.mpf_sections.specs.TypedCoils.{needed_at}
 use Rattle.mpf_sections.specs.TypedShots.{few}
-use Rattle.mpf_sections.specs.View.{name_view, handler_view, handlers_view, plain_view, fields_view, keyed_view, entry_view, content_view, section_view, name_at_view, handled_at_view, plain_option_view, block_view}
+use Rattle.mpf_sections.specs.View.{name_view, handler_view, handlers_view, plain_view, fields_view, keyed_view, entry_view, content_view, section_view, name_at_view, handled_at_view, plain_option_view, block_view, rule_view}
 
 -- the settings that all logic blocks have, from this place on in a row
 abbrev pub block_settings_at : ℕ → List Value → BlockSettings
@@ -45,17 +47,23 @@ block_at first row = record {
   complete = listed_posts (slice_get row (first + 8));
 }
 
--- the name at a place of an entry; its own in a row that has none there
-abbrev pub needed_at : ℕ → Entry → Written
-needed_at place e = unwrap_or (name_in (text_of (slice_get e.values place))) e.name
+-- a coil rule, with its switch at this place and the events that enable and disable it after that
+abbrev pub rule_at : ℕ → Entry → Rule
+rule_at switch e = record {
+  name = e.name;
+  switch = needed_at switch e;
+  enables = listed_events (slice_get e.values (switch + 1));
+  disables = listed_events (slice_get e.values (switch + 2));
+  order = e.order;
+}
+
+-- the coil rule of this entry of the program
+abbrev pub IsRuleAt : ℕ → entry_rows.Entry → typed_rules.Rule → Type 0
+IsRuleAt switch entry rule = rule_view rule ≡ rule_at switch (entry_view entry)
 
 -- the events of a logic block, whose settings are from this place on in a row of the program
 abbrev pub IsBlockAt : ℕ → entry_rows.Entry → typed_blocks.BlockEvents → Type 0
 IsBlockAt first entry block = block_view block ≡ block_at first (entry_view entry).values
-
--- the name at a place of an entry of the program; its own where there is none
-abbrev pub IsNeededAt : ℕ → entry_rows.Entry → NameAt → Type 0
-IsNeededAt place entry name = name_at_view name ≡ needed_at place (entry_view entry)
 
 -- ---- rows
 

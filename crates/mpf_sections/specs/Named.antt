@@ -2,7 +2,7 @@
 use Rattle.std.specs.Prelude.{List, IfSome}
 use Rattle.std.specs.List.{All}
 pub use Rattle.section_tables.specs.Named.{IsNamedHandled, IsNamedEntry, IsNamedPlayer}
-use Rattle.mpf_sections.specs.Rows.{Written, Handled, Switch, EventPlayer, Coil, CoilPlayer, VariablePlayer, Flipper, Autofire, Shot, ShotGroup, ShotProfile, BallDevice, BallSave, Multiball, BlockEvents, Counter, StepBlock, Timer, ModeSettings, Content, entries, players, entry, listed, SectionRows}
+use Rattle.mpf_sections.specs.Rows.{Written, Handled, Switch, EventPlayer, Coil, CoilPlayer, VariablePlayer, Rule, Flipper, Autofire, Shot, ShotGroup, ShotProfile, BallDevice, BallSave, Multiball, BlockEvents, Counter, StepBlock, Timer, ModeSettings, Content, entries, players, entry, listed, SectionRows}
 pub use Rattle.mpf_values.specs.Names.{IsName}
 
 -- each name in a list is one
@@ -39,24 +39,24 @@ pub record IsNamedVariablePlayer (p : VariablePlayer) : Type 0 where
   pub event : IsNamedHandled p.event
   pub items : All (λ i. IsName i.variable.text) p.items
 
--- the name of a flipper is one, and so are those of its coils, its switch and its events
+-- the name of a flipper or an autofire coil is one, and so are those of its switch and its events
+pub record IsNamedRule (r : Rule) : Type 0 where
+  pub name : IsName r.name.text
+  pub switch : IsName r.switch.text
+  pub enables : AllNamedEvents r.enables
+  pub disables : AllNamedEvents r.disables
+
+-- those of its coils are, too
 pub record IsNamedFlipper (f : Flipper) : Type 0 where
-  pub name : IsName f.name.text
   pub main_coil : IsName f.main_coil.text
   pub hold_coil : IfSome f.hold_coil (λ w. IsName w.text)
-  pub switch : IsName f.switch.text
-  pub enables : AllNamedEvents f.enables
-  pub disables : AllNamedEvents f.disables
+  pub rule : IsNamedRule f.rule
 
--- those of an autofire coil, too
 pub record IsNamedAutofire (a : Autofire) : Type 0 where
-  pub name : IsName a.name.text
   pub coil : IsName a.coil.text
-  pub switch : IsName a.switch.text
-  pub enables : AllNamedEvents a.enables
-  pub disables : AllNamedEvents a.disables
+  pub rule : IsNamedRule a.rule
 
--- those of a shot, too, with that of its profile
+-- the name of a shot is one, and so are those of its switch, its profile and its events
 pub record IsNamedShot (s : Shot) : Type 0 where
   pub name : IsName s.name.text
   pub switch : IfSome s.switch (λ w. IsName w.text)

@@ -71,25 +71,24 @@ pub record GameSettings : Type 0 where
   pub balls_per_game : ℕ
   pub max_players : ℕ
 
--- an entry of `flippers`: its coil, the one that holds it if there is another for that, its switch, and the events that
--- enable and disable it
-pub record Flipper : Type 0 where
+-- what flippers and autofire coils have in common: the switch, and the events that enable and disable it
+pub record Rule : Type 0 where
   pub name : Written
-  pub main_coil : Written
-  pub hold_coil : Option Written
   pub switch : Written
   pub enables : List Handled
   pub disables : List Handled
   pub order : List ℕ
 
--- an entry of `autofire_coils`: its coil, its switch, and the events that enable and disable it
+-- an entry of `flippers`: its coil, the one that holds it if there is another for that, and its rule
+pub record Flipper : Type 0 where
+  pub main_coil : Written
+  pub hold_coil : Option Written
+  pub rule : Rule
+
+-- an entry of `autofire_coils`: its coil, and its rule
 pub record Autofire : Type 0 where
-  pub name : Written
   pub coil : Written
-  pub switch : Written
-  pub enables : List Handled
-  pub disables : List Handled
-  pub order : List ℕ
+  pub rule : Rule
 
 -- an entry of `ball_devices`: its ball switches, the coil that ejects a ball, if there is one, where it ejects its balls
 -- to, how it counts and ejects them, and its tags

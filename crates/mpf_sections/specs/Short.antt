@@ -3,7 +3,7 @@ use Rattle.std.specs.Prelude.{ℕ, ◌≤◌, IfSome, length}
 use Rattle.std.specs.List.{All}
 pub use Rattle.section_tables.specs.Named.{IsShortEntry, IsShortPlayer}
 use Rattle.machine_settings.specs.Limits.{IsNumberWithin, IsCounterWithin, IsTimerWithin, IsEjectWithin, IsSaveWithin, IsMultiballWithin}
-use Rattle.mpf_sections.specs.Rows.{Switch, EventPlayer, Coil, CoilItem, CoilPlayer, VariableItem, VariablePlayer, GameSettings, Flipper, Autofire, Shot, ShotGroup, ShotProfile, BallDevice, BallSave, Multiball, BlockEvents, Counter, StepBlock, Timer, Content, SectionRows}
+use Rattle.mpf_sections.specs.Rows.{Switch, EventPlayer, Coil, CoilItem, CoilPlayer, VariableItem, VariablePlayer, GameSettings, Rule, Shot, ShotGroup, ShotProfile, BallDevice, BallSave, Multiball, BlockEvents, Counter, StepBlock, Timer, Content, SectionRows}
 use Rattle.mpf_sections.specs.Typed.{entries_in, players_in, entry_in, names_in}
 
 -- No list in a section is longer, whatever its settings are; the coils of an entry of `coil_player` are such a list, and
@@ -70,13 +70,9 @@ pub record IsItemInRange (i : CoilItem) : Type 0 where
 abbrev pub IsCoilPlayerInRange : CoilPlayer → Type 0
 IsCoilPlayerInRange p = All IsItemInRange p.items
 
-pub record IsShortFlipper (f : Flipper) : Type 0 where
-  pub enables : length f.enables ≤ 1024
-  pub disables : length f.disables ≤ 1024
-
-pub record IsShortAutofire (a : Autofire) : Type 0 where
-  pub enables : length a.enables ≤ 1024
-  pub disables : length a.disables ≤ 1024
+pub record IsShortRule (r : Rule) : Type 0 where
+  pub enables : length r.enables ≤ 1024
+  pub disables : length r.disables ≤ 1024
 
 pub record IsShortShot (s : Shot) : Type 0 where
   pub hits : length s.hits ≤ 1024

@@ -1,5 +1,5 @@
 -- The entries of `coils`, `coil_player`, `flippers` and `autofire_coils`, by the names of their settings.
-use Rattle.std.specs.Prelude.{ℕ, nat_lt, Bool, true, false, ◌||◌, if◌then◌else◌, List, map, Option, Some, None, unwrap_or, codes}
+use Rattle.std.specs.Prelude.{ℕ, nat_lt, Bool, true, false, ◌||◌, if◌then◌else◌, List, [], map, Option, Some, None, slice_get, unwrap_or, codes}
 use Rattle.std.specs.Str.{bytes_eq}
 use Rattle.mpf_sections.specs.declared.words.CoilAction.{CoilAction}
 use Rattle.mpf_sections.specs.declared.words.CoilAction.TheVariants.{Pulse, Enable, Disable}
@@ -7,9 +7,9 @@ use Rattle.section_tables.specs.Rows.{Written, Plain, Keyed, Entry, Player}
 use Rattle.section_tables.specs.Kinds.{Setting}
 use Rattle.mpf_tables.specs.SectionTables as tables
 pub use Rattle.mpf_tables.specs.SectionTables.{coils_name, coil_player_name, flippers_name, autofire_coils_name}
-use Rattle.mpf_sections.specs.Typed.{setting_of, field_of, text_of, flag_of, listed_events, listed_keyed, handled_in, name_in, word_in, pulse_in, power_in, entries_of, players_of}
+use Rattle.mpf_sections.specs.Typed.{setting_of, field_of, text_of, flag_of, listed_events, listed_keyed, handled_in, name_in, word_in, pulse_in, power_in, place_of, entries_in, entries_of, players_of}
 use Rattle.mpf_sections.specs.TypedNumbers.{time_setting}
-use Rattle.mpf_sections.specs.Rows.{Coil, CoilItem, CoilPlayer, Flipper, Autofire, SectionRows}
+use Rattle.mpf_sections.specs.Rows.{Coil, CoilItem, CoilPlayer, Rule, Flipper, Autofire, SectionRows}
 
 -- ---- `coils`
 
@@ -71,26 +71,29 @@ coil_player_of p = record { event = handled_in p.event; items = map coil_item_of
 abbrev pub needed_name : List Setting → List ℕ → Entry → Written
 needed_name table key e = unwrap_or (name_in (text_of (setting_of table key e.values))) e.name
 
-unfoldable pub flipper_of : Entry → Flipper
-flipper_of e = record {
+-- the name at a place of an entry; its own in a row that has none there
+abbrev pub needed_at : ℕ → Entry → Written
+needed_at place e = unwrap_or (name_in (text_of (slice_get e.values place))) e.name
+
+-- what all coil rules have, where the setting of this key names the switch
+abbrev pub rule_of : List Setting → List ℕ → Entry → Rule
+rule_of table switch e = record {
   name = e.name;
-  main_coil = needed_name tables.flippers (codes "main_coil") e;
-  hold_coil = name_in (text_of (setting_of tables.flippers (codes "hold_coil") e.values));
-  switch = needed_name tables.flippers (codes "activation_switch") e;
-  enables = listed_events (setting_of tables.flippers (codes "enable_events") e.values);
-  disables = listed_events (setting_of tables.flippers (codes "disable_events") e.values);
+  switch = needed_name table switch e;
+  enables = listed_events (setting_of table (codes "enable_events") e.values);
+  disables = listed_events (setting_of table (codes "disable_events") e.values);
   order = e.order;
 }
 
-unfoldable pub autofire_of : Entry → Autofire
-autofire_of e = record {
-  name = e.name;
-  coil = needed_name tables.autofire_coils (codes "coil") e;
-  switch = needed_name tables.autofire_coils (codes "switch") e;
-  enables = listed_events (setting_of tables.autofire_coils (codes "enable_events") e.values);
-  disables = listed_events (setting_of tables.autofire_coils (codes "disable_events") e.values);
-  order = e.order;
+unfoldable pub flipper_of : Entry → Flipper
+flipper_of e = record {
+  main_coil = needed_name tables.flippers (codes "main_coil") e;
+  hold_coil = name_in (text_of (setting_of tables.flippers (codes "hold_coil") e.values));
+  rule = rule_of tables.flippers (codes "activation_switch") e;
 }
+
+unfoldable pub autofire_of : Entry → Autofire
+autofire_of e = record { coil = needed_name tables.autofire_coils (codes "coil") e; rule = rule_of tables.autofire_coils (codes "switch") e }
 
 -- ---- sections
 
@@ -107,3 +110,21 @@ flippers_in s = map flipper_of (entries_of flippers_name s)
 
 unfoldable pub autofires_in : SectionRows → List Autofire
 autofires_in s = map autofire_of (entries_of autofire_coils_name s)
+
+-- ---- quick switches
+
+-- The place of the setting that names a switch in entries of the section of this name, where they make that switch
+-- quick: those of flippers and autofire coils do.
+abbrev pub quick_place : List ℕ → Option ℕ
+quick_place section =
+    if bytes_eq section flippers_name then Some (place_of tables.flippers (codes "activation_switch"))
+    else (if bytes_eq section autofire_coils_name then Some (place_of tables.autofire_coils (codes "switch")) else None)
+
+-- the names of the switches that these entries have at a place
+abbrev pub names_at : Option ℕ → List Entry → List (List ℕ)
+names_at None es = []
+names_at (Some place) es = map (λ e. (needed_at place e).text) es
+
+-- the names of the switches that a section makes quick
+abbrev pub quick_switches : SectionRows → List (List ℕ)
+quick_switches s = names_at (quick_place s.name) (entries_in s.content)

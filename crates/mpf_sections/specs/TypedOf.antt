@@ -1,6 +1,5 @@
 -- What is read of entries and sections, as the program has them: each entry by the names of its settings.
 use Rattle.std.specs.Prelude.{◌≡◌, ℕ, List, map, Option, option_map}
-use Rattle.std.specs.Borrow.{Bor}
 use Rattle.section_tables.specs.declared.rows.Name.{Name}
 use Rattle.section_tables.specs.declared.rows.Handler.{Handler}
 use Rattle.section_tables.specs.declared.rows.Fields as field_rows
@@ -33,7 +32,7 @@ use Rattle.mpf_sections.specs.declared.balls.BallDevice as typed_balls
 use Rattle.mpf_sections.specs.declared.saves.BallSave as typed_saves
 use Rattle.mpf_sections.specs.declared.saves.Multiball as typed_multiballs
 use Rattle.mpf_sections.specs.Typed.{switch_of, event_player_of, mode_settings_of, mode_settings, listed_modes, counter_of, step_block_of, control_of, timer_of, entries_in, players_in, entries_of, players_of}
-use Rattle.mpf_sections.specs.TypedCoils.{coil_of, coil_item_of, coil_player_of, flipper_of, autofire_of}
+use Rattle.mpf_sections.specs.TypedCoils.{coil_of, coil_item_of, coil_player_of, needed_at, flipper_of, autofire_of}
 use Rattle.mpf_sections.specs.TypedGame.{variable_item_of, variable_player_of, game_of, min_balls_of}
 use Rattle.mpf_sections.specs.TypedShots.{shot_of, shot_group_of, state_of, shot_profile_of}
 use Rattle.mpf_sections.specs.TypedBalls.{ball_device_of}
@@ -75,6 +74,10 @@ IsVariableItemOf keyed item = variable_item_view item ≡ variable_item_of (keye
 -- the coil of this entry of `coils`
 abbrev pub IsCoilOf : entry_rows.Entry → typed_coils.Coil → Type 0
 IsCoilOf entry coil = coil_view coil ≡ coil_of (entry_view entry)
+
+-- the name at a place of this entry; its own where there is none
+abbrev pub IsNeededAt : ℕ → entry_rows.Entry → NameAt → Type 0
+IsNeededAt place entry name = name_at_view name ≡ needed_at place (entry_view entry)
 
 -- the flipper of this entry of `flippers`
 abbrev pub IsFlipperOf : entry_rows.Entry → typed_flippers.Flipper → Type 0

@@ -21,6 +21,7 @@ use Rattle.mpf_sections.specs.declared.coils.CoilItem as typed_coil_items
 use Rattle.mpf_sections.specs.declared.game.VariablePlayer as typed_variable_players
 use Rattle.mpf_sections.specs.declared.game.VariableItem as typed_variable_items
 use Rattle.mpf_sections.specs.declared.game.GameSettings as typed_games
+use Rattle.mpf_sections.specs.declared.coil_rules.Rule as typed_rules
 use Rattle.mpf_sections.specs.declared.coil_rules.Flipper as typed_flippers
 use Rattle.mpf_sections.specs.declared.coil_rules.Autofire as typed_autofires
 use Rattle.mpf_sections.specs.declared.shots.Shot as typed_shots
@@ -29,7 +30,7 @@ use Rattle.mpf_sections.specs.declared.shots.ShotProfile as typed_profiles
 use Rattle.mpf_sections.specs.declared.balls.BallDevice as typed_balls
 use Rattle.mpf_sections.specs.declared.saves.BallSave as typed_saves
 use Rattle.mpf_sections.specs.declared.saves.Multiball as typed_multiballs
-use Rattle.mpf_sections.specs.Rows.{Written, Handled, Switch, EventPlayer, Coil, CoilItem, CoilPlayer, VariableItem, VariablePlayer, GameSettings, Flipper, Autofire, Shot, ShotGroup, ShotProfile, BallDevice, BallSave, Multiball, BlockEvents, Counter, StepBlock, Control, Timer, ModeSettings}
+use Rattle.mpf_sections.specs.Rows.{Written, Handled, Switch, EventPlayer, Coil, CoilItem, CoilPlayer, VariableItem, VariablePlayer, GameSettings, Rule, Flipper, Autofire, Shot, ShotGroup, ShotProfile, BallDevice, BallSave, Multiball, BlockEvents, Counter, StepBlock, Control, Timer, ModeSettings}
 use Rattle.mpf_sections.specs.Typed.{controls_of}
 use Rattle.mpf_sections.specs.TypedCoils.{coil_item_of}
 use Rattle.mpf_sections.specs.TypedGame.{variable_item_of}
@@ -138,26 +139,20 @@ variable_player_view p = record { event = handled_at_view p.event; items = map v
 abbrev pub game_view : typed_games.GameSettings → GameSettings
 game_view g = record { balls_per_game = g.balls_per_game; max_players = g.max_players }
 
-abbrev pub flipper_view : typed_flippers.Flipper → Flipper
-flipper_view f = record {
-  name = name_view f.name.now;
-  main_coil = name_at_view f.main_coil;
-  hold_coil = option_map name_at_view f.hold_coil;
-  switch = name_at_view f.switch;
-  enables = map handler_view f.enables.now;
-  disables = map handler_view f.disables.now;
-  order = f.order.now;
+abbrev pub rule_view : typed_rules.Rule → Rule
+rule_view r = record {
+  name = name_view r.name.now;
+  switch = name_at_view r.switch;
+  enables = map handler_view r.enables.now;
+  disables = map handler_view r.disables.now;
+  order = r.order.now;
 }
 
+abbrev pub flipper_view : typed_flippers.Flipper → Flipper
+flipper_view f = record { main_coil = name_at_view f.main_coil; hold_coil = option_map name_at_view f.hold_coil; rule = rule_view f.rule }
+
 abbrev pub autofire_view : typed_autofires.Autofire → Autofire
-autofire_view a = record {
-  name = name_view a.name.now;
-  coil = name_at_view a.coil;
-  switch = name_at_view a.switch;
-  enables = map handler_view a.enables.now;
-  disables = map handler_view a.disables.now;
-  order = a.order.now;
-}
+autofire_view a = record { coil = name_at_view a.coil; rule = rule_view a.rule }
 
 abbrev pub shot_view : typed_shots.Shot → Shot
 shot_view s = record {

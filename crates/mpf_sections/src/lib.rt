@@ -24,7 +24,7 @@ pub mod words;
 
 pub use balls::{BallDevice, as_ball_device};
 pub use blocks::{BlockEvents, Counter, StepBlock, as_counter, as_step_block};
-pub use coil_rules::{Autofire, Flipper, as_autofire, as_flipper};
+pub use coil_rules::{Autofire, Flipper, Rule, as_autofire, as_flipper};
 pub use coils::{Coil, CoilItem, CoilPlayer, as_coil, as_coil_item, as_coil_player};
 pub use game::{
     GameSettings, VariableItem, VariablePlayer, as_game, as_variable_item, as_variable_player,

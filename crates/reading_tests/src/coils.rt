@@ -2,6 +2,7 @@
 
 use crate::pen::Pen;
 use mpf_config::{Keyed, Section, as_autofire, as_coil, as_coil_item, as_coil_player, as_flipper};
+use mpf_sections::Rule;
 use mpf_tables::tables::{AUTOFIRE_COILS_NAME, COIL_PLAYER_NAME, COILS_NAME, FLIPPERS_NAME};
 
 /// Texts, and what is read of them. A coil is shown by its name, the length of its pulse and the greatest
@@ -58,28 +59,29 @@ fn show_coil_players(pen: &mut Pen, section: &Section) {
     }
 }
 
+fn show_rule(pen: &mut Pen, rule: Rule<'_>) {
+    pen.name_at(Some(rule.switch));
+    pen.events(rule.enables);
+    pen.events(rule.disables);
+    pen.put(";\n");
+}
+
 fn show_flippers(pen: &mut Pen, section: &Section) {
     for entry in section.entries_of(FLIPPERS_NAME) {
         let flipper = as_flipper(entry);
-        pen.entry(flipper.name);
+        pen.entry(flipper.rule.name);
         pen.name_at(Some(flipper.main_coil));
         pen.name_at(flipper.hold_coil);
-        pen.name_at(Some(flipper.switch));
-        pen.events(flipper.enables);
-        pen.events(flipper.disables);
-        pen.put(";\n");
+        show_rule(pen, flipper.rule);
     }
 }
 
 fn show_autofires(pen: &mut Pen, section: &Section) {
     for entry in section.entries_of(AUTOFIRE_COILS_NAME) {
         let autofire = as_autofire(entry);
-        pen.entry(autofire.name);
+        pen.entry(autofire.rule.name);
         pen.name_at(Some(autofire.coil));
-        pen.name_at(Some(autofire.switch));
-        pen.events(autofire.enables);
-        pen.events(autofire.disables);
-        pen.put(";\n");
+        show_rule(pen, autofire.rule);
     }
 }
 

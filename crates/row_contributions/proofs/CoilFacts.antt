@@ -6,12 +6,12 @@ use Rattle.std.specs.List.{All, flat_map}
 use Rattle.std.proofs.lemmas.List.Elements.{All-nil, All-cons, All-head, All-tail}
 use Rattle.mpf_sections.specs.declared.words.CoilAction.{CoilAction}
 use Rattle.mpf_sections.specs.declared.words.CoilAction.TheVariants as actions
-use Rattle.mpf_sections.specs.Rows.{Written, Coil, CoilItem, SectionRows}
+use Rattle.mpf_sections.specs.Rows.{Written, Coil, CoilItem, Flipper, Autofire, SectionRows}
 use Rattle.mpf_sections.specs.TypedCoils.{coils_in}
 use Rattle.mpf_sections.specs.Short.{IsPulseInRange, IsPowerInRange, IsCoilInRange, IsItemInRange}
 use Rattle.mpf_sections.proofs.CoilRows.{coils_in_range}
 use Rattle.machine_definitions.specs.Definitions.{latest_coil, no_coil, coil_of_name}
-use Rattle.row_contributions.specs.CoilEntries.{defaults_called, own_pulse, own_hold, deed_by, item_effect, flipper_on, flipper_off}
+use Rattle.row_contributions.specs.CoilEntries.{defaults_called, own_pulse, own_hold, deed_by, item_effect, flipper_on, flipper_off, flipper_device, autofire_device}
 use Rattle.plan_contributions.specs.Effects.{Deed, disable, Effect, works}
 use Rattle.row_contributions.specs.Facts.{IsDeedInRange, IsEffectInRange}
 use Rattle.row_contributions.proofs.Before.{All-flat_map, or_else}
@@ -67,7 +67,7 @@ module _ (Q : Effect → Type 0) (machine : List SectionRows) (main : Written) w
   one_of_two true x y h k = h
   one_of_two false x y h k = k
 
-  pub flips_on : (hold : Option Written) → Q (works main.text (own_pulse (defaults_called machine main.text))) → Q (works main.text (own_hold (defaults_called machine main.text)))
+  flips_on : (hold : Option Written) → Q (works main.text (own_pulse (defaults_called machine main.text))) → Q (works main.text (own_hold (defaults_called machine main.text)))
       → IfSome hold (λ w. Q (works w.text (own_hold (defaults_called machine w.text)))) → All Q (flipper_on machine main hold)
   flips_on (Some hold) pulsed held other =
       All-cons Q (works main.text (own_pulse (defaults_called machine main.text))) (works hold.text (own_hold (defaults_called machine hold.text)) ∷ []) pulsed
@@ -76,10 +76,22 @@ module _ (Q : Effect → Type 0) (machine : List SectionRows) (main : Written) w
       let c = defaults_called machine main.text in
       All-cons Q (works main.text (if c.may_hold then own_hold c else own_pulse c)) [] (one_of_two c.may_hold (own_hold c) (own_pulse c) held pulsed) (All-nil Q)
 
-  pub flips_off : (hold : Option Written) → Q (works main.text disable) → IfSome hold (λ w. Q (works w.text disable)) → All Q (flipper_off machine main hold)
+  flips_off : (hold : Option Written) → Q (works main.text disable) → IfSome hold (λ w. Q (works w.text disable)) → All Q (flipper_off machine main hold)
   flips_off (Some hold) own other = All-cons Q (works hold.text disable) [] other (All-nil Q)
   flips_off None own other = by (let c = defaults_called machine main.text in c.may_hold)
     where
       by : (b : Bool) → All Q (if b then works main.text disable ∷ [] else [])
       by true = All-cons Q (works main.text disable) [] own (All-nil Q)
       by false = All-nil Q
+
+module _ (Q : Effect → Type 0) (machine : List SectionRows) where
+  pub all_flips : (f : Flipper) → (let main = f.main_coil.text in Q (works main (own_pulse (defaults_called machine main))) × Q (works main (own_hold (defaults_called machine main))) × Q (works main disable))
+      → IfSome f.hold_coil (λ w. Q (works w.text (own_hold (defaults_called machine w.text)))) → IfSome f.hold_coil (λ w. Q (works w.text disable)) → All (All Q) (flipper_device machine f).lists
+  all_flips f main held disabled =
+      let on = flipper_on machine f.main_coil f.hold_coil in
+      let off = flipper_off machine f.main_coil f.hold_coil in
+      All-cons (All Q) on (off ∷ []) (flips_on Q machine f.main_coil f.hold_coil main.0 main.1 held) (All-cons (All Q) off [] (flips_off Q machine f.main_coil f.hold_coil main.2 disabled) (All-nil (All Q)))
+
+  -- and of an autofire coil
+  pub fires : (a : Autofire) → Q (works a.coil.text (own_pulse (defaults_called machine a.coil.text))) → All (All Q) (autofire_device machine a).lists
+  fires a h = let own = works a.coil.text (own_pulse (defaults_called machine a.coil.text)) in All-cons (All Q) (own ∷ []) [] (All-cons Q own [] h (All-nil Q)) (All-nil (All Q))

@@ -35,8 +35,8 @@ use Rattle.plan_rows.specs.Rows.{Row, entry, alone, shot, group, ball_device, pl
 use Rattle.plan_contributions.specs.declared.contribution.Aim.{Aim}
 use Rattle.plan_contributions.specs.declared.contribution.Aim.TheVariants.{Run, Start, Stop, Do, On}
 use Rattle.row_contributions.specs.VariableEntries.{item_change}
-use Rattle.row_contributions.specs.CoilEntries.{limits_of_coil, defaults_called, own_pulse, item_effect, flipper_on, flipper_off, flipper_device, autofire_device}
-use Rattle.plan_contributions.specs.Effects.{posts, works}
+use Rattle.row_contributions.specs.CoilEntries.{limits_of_coil, item_effect, flipper_device, autofire_device}
+use Rattle.plan_contributions.specs.Effects.{posts}
 use Rattle.row_contributions.specs.DeviceEntries.{texts, events, device_of, step_settings, step_device, counter_device, timer_event, timer_endings, timer_device, always}
 use Rattle.row_contributions.specs.ShotEntries.{shot_acts, lone_device, group_device}
 use Rattle.row_contributions.specs.BallEntries.{is_known, ball_device_from}
@@ -45,7 +45,7 @@ use Rattle.plan_contributions.specs.Contributions.{Contribution, gives, reads, a
 use Rattle.row_contributions.specs.Contributions.{under_where, bound, kind_of, confirms, active_posts, inactive_posts, switch_contributions, player_contributions, coil_contributions, coil_player_contributions, item_contributions, variable_player_contributions, game_contributions, starter, stopper, stopper_where, later_events, stops_at_ball_end, stops_at_game_end, controls, mode_contributions, Device, device_contributions, where_device, machine_device, unknown_unless, shot_switch, act_at, seated, shot_contributions, group_contributions, ball_device_contributions, machine_entry_contributions, entry_contributions, alone_contributions, player_entry_contributions, row_contributions, given_by, contributions_of}
 use Rattle.plan_tables.specs.BallRows.{IsNoBallDevice}
 use Rattle.row_contributions.specs.BallFacts.{IsOfNoBall}
-use Rattle.row_contributions.proofs.CoilFacts.{flips_on, flips_off}
+use Rattle.row_contributions.proofs.CoilFacts.{all_flips, fires}
 use Rattle.row_contributions.proofs.ShotFacts.{posts_of_shot, posts_of_group}
 use Rattle.row_contributions.proofs.SaveFacts.{all_save, all_multiball}
 use Rattle.row_contributions.proofs.RowFacts.{all_block, entry_such, sections_each}
@@ -120,24 +120,14 @@ module _ (machine : List SectionRows) where
   }
 
   plain_flipper : (f : Flipper) → IsPlainDevice (flipper_device machine f)
-  plain_flipper f =
-      let on = flipper_on machine f.main_coil f.hold_coil in
-      let off = flipper_off machine f.main_coil f.hold_coil in
-      record {
-        settings = tt;
-        lists = All-cons (All IsOfNoBall) on (off ∷ []) (flips_on IsOfNoBall machine f.main_coil f.hold_coil tt tt (any f.hold_coil))
-            (All-cons (All IsOfNoBall) off [] (flips_off IsOfNoBall machine f.main_coil f.hold_coil tt (any f.hold_coil)) (All-nil (All IsOfNoBall)));
-        listens = omega arith;
-      }
+  plain_flipper f = record { settings = tt; lists = all_flips IsOfNoBall machine f (tt, tt, tt) (any f.hold_coil) (any f.hold_coil); listens = omega arith }
     where
       any : (o : Option Written) → IfSome o (λ w. Unit {0})
       any None = tt
       any (Some w) = tt
 
   plain_autofire : (a : Autofire) → IsPlainDevice (autofire_device machine a)
-  plain_autofire a =
-      let own = works a.coil.text (own_pulse (defaults_called machine a.coil.text)) in
-      record { settings = tt; lists = All-cons (All IsOfNoBall) (own ∷ []) [] (All-cons IsOfNoBall own [] tt (All-nil IsOfNoBall)) (All-nil (All IsOfNoBall)); listens = omega arith }
+  plain_autofire a = record { settings = tt; lists = fires IsOfNoBall machine a tt; listens = omega arith }
 
   plain_save : (s : BallSave) → IsPlainDevice (save_device s)
   plain_save s = record { settings = tt; lists = all_save IsOfNoBall s.name.text (λ ending. tt) tt; listens = omega arith }

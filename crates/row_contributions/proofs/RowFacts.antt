@@ -7,10 +7,10 @@ use Rattle.std.proofs.lemmas.Grind.{flat_map-append}
 use Rattle.std.proofs.lemmas.List.{length-map}
 use Rattle.std.proofs.lemmas.List.Elements.{All-nil, All-cons, All-head, All-tail, All-append, All-map, All-weaker}
 use Rattle.mpf_values.specs.Events.{Event}
-use Rattle.mpf_sections.specs.Rows.{Written, Handled, Entry, Player, Switch, EventPlayer, Coil, CoilPlayer, VariableItem, VariablePlayer, GameSettings, Flipper, Autofire, BlockEvents, Counter, StepBlock, Control as TimerControl, Timer, Shot, ShotGroup, BallDevice, BallSave, Multiball, ModeSettings, Content, entries, players, SectionRows}
+use Rattle.mpf_sections.specs.Rows.{Written, Handled, Entry, Player, Switch, EventPlayer, Coil, CoilPlayer, VariableItem, VariablePlayer, GameSettings, Rule, Flipper, Autofire, BlockEvents, Counter, StepBlock, Control as TimerControl, Timer, Shot, ShotGroup, BallDevice, BallSave, Multiball, ModeSettings, Content, entries, players, SectionRows}
 use Rattle.mpf_config.specs.Rows.{ModeRows, Rows}
 use Rattle.mpf_sections.specs.Rows as sections
-use Rattle.mpf_sections.specs.Named.{IsName, AllNames, IsNamedHandled, AllNamedEvents, IsNamedEntry, IsNamedPlayer, IsNamedSwitch, IsNamedEventPlayer, IsNamedCoil, IsNamedCoilPlayer, IsNamedVariablePlayer, IsNamedFlipper, IsNamedAutofire, IsNamedShot, IsNamedShotGroup, IsNamedBallDevice, IsNamedBallSave, IsNamedMultiball, IsNamedBlock, IsNamedCounter, IsNamedStepBlock, IsNamedTimer, AreNamedSettings, IsNamedContent, IsNamed}
+use Rattle.mpf_sections.specs.Named.{IsName, AllNames, IsNamedHandled, AllNamedEvents, IsNamedEntry, IsNamedPlayer, IsNamedSwitch, IsNamedEventPlayer, IsNamedCoil, IsNamedCoilPlayer, IsNamedVariablePlayer, IsNamedRule, IsNamedFlipper, IsNamedAutofire, IsNamedShot, IsNamedShotGroup, IsNamedBallDevice, IsNamedBallSave, IsNamedMultiball, IsNamedBlock, IsNamedCounter, IsNamedStepBlock, IsNamedTimer, AreNamedSettings, IsNamedContent, IsNamed}
 use Rattle.mpf_config.specs.Named.{IsNamedMode}
 use Rattle.mpf_sections.specs.Typed.{switches_name, event_player_name, counters_name, accruals_name, sequences_name, timers_name, switch_of, event_player_of, counter_of, step_block_of, timer_of, mode_settings}
 use Rattle.mpf_sections.specs.TypedCoils.{coils_name, coil_player_name, flippers_name, autofire_coils_name, coil_of, coil_player_of, flipper_of, autofire_of}
@@ -41,7 +41,7 @@ use Rattle.machine_definitions.specs.GameEvents.{game_event_names}
 use Rattle.machine_definitions.specs.Players.{player_event}
 use Rattle.machine_definitions.specs.Shots.{Profile}
 use Rattle.row_contributions.specs.VariableEntries.{item_change}
-use Rattle.row_contributions.specs.CoilEntries.{limits_of_coil, defaults_called, own_pulse, own_hold, item_effect, flipper_on, flipper_off, flipper_device, autofire_device}
+use Rattle.row_contributions.specs.CoilEntries.{limits_of_coil, defaults_called, own_pulse, own_hold, item_effect, flipper_on, flipper_off, rule_device, flipper_device, autofire_device}
 use Rattle.plan_contributions.specs.Effects.{disable, Effect, posts, works, changes, enters, leaves, loses, arrives, requests, adds_balls}
 use Rattle.row_contributions.specs.DeviceEntries.{events, device_of, acts, block_acts, block_mentions, block_event, or_own, block_lists, counter_device, step_acts, step_settings, step_device, controlled, timer_event, timer_endings, timer_device, always}
 use Rattle.row_contributions.specs.BallEntries.{drains, ball_event, ball_endings, eject_pulse, attempt_effects, drain_mentions, ball_device_from, is_known}
@@ -59,7 +59,7 @@ use Rattle.row_contributions.specs.Contributions.{bound, texts, kind_of, confirm
 use Rattle.plan_rows.specs.Rows.{Row, entry, alone, shot, group, ball_device, player, of_mode, shot_row, group_row, ball_device_row, other_row, entry_row, rows_from, rows_in, mode_rows, modes_rows, rows_of}
 use Rattle.row_contributions.specs.Facts.{ArePlaced, IsOfNames, effects_in_after, full, IsRoomy, AreShort, AreLimits, AreRules, IsDeedInRange, IsEffectInRange, IsLimited, IsPlaceOf, IsOfMachine, IsPlaced, IsOpenPlace, IsOpen, AreOpened}
 use Rattle.row_contributions.proofs.Before.{each_before, each_alone, all_before, all_alone, All-bound, each_some, All-flat_map}
-use Rattle.row_contributions.proofs.CoilFacts.{pulse_ranged, hold_ranged, item_ranged, flips_on, flips_off}
+use Rattle.row_contributions.proofs.CoilFacts.{pulse_ranged, hold_ranged, item_ranged, all_flips, fires}
 use Rattle.row_contributions.proofs.Short.{AreShort-append, AreShort-under, AreShort-listens, AreShort-does, AreShort-changes, AreShort-lists}
 use Rattle.row_contributions.proofs.ShotFacts.{OfHandled, all_shot_acts, all_group_acts, all_shot_lists, all_group_lists, posts_of_shot, posts_of_group, IsFew, shot_lists_few, group_lists_few, IsShortProfile, IsShortGroup, flags_of, bank_within, IsNamedProfile, profile_named, members_named, profile_short, members_short}
 use Rattle.row_contributions.proofs.SaveFacts.{all_save_by, all_save, all_multiball_by, all_multiball, save_lists_few, multiball_lists_few}
@@ -251,12 +251,11 @@ short_flipper : (machine : List SectionRows) (f : Flipper) → IsRightDevice Mac
 short_flipper machine f =
     let on = flipper_on machine f.main_coil f.hold_coil in
     let off = flipper_off machine f.main_coil f.hold_coil in
+    let main = f.main_coil.text in
     record {
       lists = All-cons IsFew on (off ∷ []) (few_on f.hold_coil) (All-cons IsFew off [] (few_off f.hold_coil) (All-nil IsFew));
       limits = tt;
-      effects = All-cons (All IsEffectInRange) on (off ∷ [])
-          (flips_on IsEffectInRange machine f.main_coil f.hold_coil (pulse_ranged machine f.main_coil.text) (hold_ranged machine f.main_coil.text) (held f.hold_coil))
-          (All-cons (All IsEffectInRange) off [] (flips_off IsEffectInRange machine f.main_coil f.hold_coil tt (disabled f.hold_coil)) (All-nil (All IsEffectInRange)));
+      effects = all_flips IsEffectInRange machine f (pulse_ranged machine main, hold_ranged machine main, tt) (held f.hold_coil) (disabled f.hold_coil);
       place_of = refl;
     }
   where
@@ -281,14 +280,12 @@ short_flipper machine f =
     disabled (Some hold) = tt
 
 short_autofire : (machine : List SectionRows) (a : Autofire) → IsRightDevice Machine (autofire_device machine a)
-short_autofire machine a =
-    let own = works a.coil.text (own_pulse (defaults_called machine a.coil.text)) in
-    record {
-      lists = All-cons IsFew (own ∷ []) [] (omega arith) (All-nil IsFew);
-      limits = tt;
-      effects = All-cons (All IsEffectInRange) (own ∷ []) [] (All-cons IsEffectInRange own [] (pulse_ranged machine a.coil.text) (All-nil IsEffectInRange)) (All-nil (All IsEffectInRange));
-      place_of = refl;
-    }
+short_autofire machine a = record {
+  lists = All-cons IsFew _ [] (omega arith) (All-nil IsFew);
+  limits = tt;
+  effects = fires IsEffectInRange machine a (pulse_ranged machine a.coil.text);
+  place_of = refl;
+}
 
 short_lone : (place : Place) (p : Profile) (s : Shot) → IsShortProfile p → IsRightDevice place (lone_device p s)
 short_lone place p s short = record {
@@ -593,29 +590,19 @@ module _ (machine : List SectionRows) (P : List ℕ → Type 0) (of : IsOfNames 
     lists = all_multiball_by (IsFitEffect P) m.name.text m.settings.balls (of.multiball m.name.text h.name) tt;
   }
 
+  fit_rule_device : (settings : Settings) (r : Rule) (lists : List (List Effect)) → IsNamedRule r → All (All (IsFitEffect P)) lists → IsFitDevice (rule_device settings r lists)
+  fit_rule_device settings r lists h all = record {
+    listens = All-cons IsName r.switch.text [] h.switch (All-nil IsName);
+    handled = fit_rule r.enables r.disables h.enables h.disables;
+    mentioned = All-nil P;
+    lists = all;
+  }
+
   fit_flipper : (f : Flipper) → IsNamedFlipper f → IsFitDevice (flipper_device machine f)
-  fit_flipper f h =
-      let Q = IsFitEffect P in
-      let on = flipper_on machine f.main_coil f.hold_coil in
-      let off = flipper_off machine f.main_coil f.hold_coil in
-      record {
-        listens = All-cons IsName f.switch.text [] h.switch (All-nil IsName);
-        handled = fit_rule f.enables f.disables h.enables h.disables;
-        mentioned = All-nil P;
-        lists = All-cons (All Q) on (off ∷ []) (flips_on Q machine f.main_coil f.hold_coil h.main_coil h.main_coil h.hold_coil)
-            (All-cons (All Q) off [] (flips_off Q machine f.main_coil f.hold_coil h.main_coil h.hold_coil) (All-nil (All Q)));
-      }
+  fit_flipper f h = fit_rule_device kinds.Flipper f.rule _ h.rule (all_flips (IsFitEffect P) machine f (h.main_coil, h.main_coil, h.main_coil) h.hold_coil h.hold_coil)
 
   fit_autofire : (a : Autofire) → IsNamedAutofire a → IsFitDevice (autofire_device machine a)
-  fit_autofire a h =
-      let Q = IsFitEffect P in
-      let own = works a.coil.text (own_pulse (defaults_called machine a.coil.text)) in
-      record {
-        listens = All-cons IsName a.switch.text [] h.switch (All-nil IsName);
-        handled = fit_rule a.enables a.disables h.enables h.disables;
-        mentioned = All-nil P;
-        lists = All-cons (All Q) (own ∷ []) [] (All-cons Q own [] h.coil (All-nil Q)) (All-nil (All Q));
-      }
+  fit_autofire a h = fit_rule_device kinds.Autofire a.rule _ h.rule (fires (IsFitEffect P) machine a h.coil)
 
   -- what acts on a shot and on a group
   fit_each : (hs : List Handled) → AllNamedEvents hs → All (OfHandled (IsFitEvent P)) hs
@@ -816,9 +803,9 @@ module _ (machine : List SectionRows) (P : List ℕ → Type 0) (of : IsOfNames 
   good_machine section e =
       let flipper = flipper_of e in
       let autofire = autofire_of e in
-      good_where Machine e (bytes_eq section flippers_name) (Some (flipper_device machine flipper)) _ (λ h. fit_flipper flipper (flipper_named e h), λ h. short_flipper machine flipper, own_listener flipper.switch.text)
+      good_where Machine e (bytes_eq section flippers_name) (Some (flipper_device machine flipper)) _ (λ h. fit_flipper flipper (flipper_named e h), λ h. short_flipper machine flipper, own_listener flipper.rule.switch.text)
       (good_where Machine e (bytes_eq section autofire_coils_name) (Some (autofire_device machine autofire)) (device_of section e)
-      (λ h. fit_autofire autofire (autofire_named e h), λ h. short_autofire machine autofire, own_listener autofire.switch.text) (good_device Machine section e))
+      (λ h. fit_autofire autofire (autofire_named e h), λ h. short_autofire machine autofire, own_listener autofire.rule.switch.text) (good_device Machine section e))
 
   where_facts : (place : Place) (e : Entry) (o : Option Device) → IsGood place e o → Facts P n (IsNamedEntry e) (IsShortEntry 1024 e) (IsOpenPlace n place) (where_device place o)
   where_facts place e None good = none_facts (IsNamedEntry e) (IsShortEntry 1024 e) (IsOpenPlace n place)

@@ -3,8 +3,9 @@
 use Rattle.std.specs.Prelude.{ℕ, Bool, if◌then◌else◌, List, [], ◌∷◌, ◌++◌, Option, None, Some, unwrap_or}
 use Rattle.mpf_sections.specs.declared.words.CoilAction.{CoilAction}
 use Rattle.mpf_sections.specs.declared.words.CoilAction.TheVariants as actions
-use Rattle.mpf_sections.specs.Rows.{Written, Coil, CoilItem, Flipper, Autofire, SectionRows}
+use Rattle.mpf_sections.specs.Rows.{Written, Coil, CoilItem, Rule, Flipper, Autofire, SectionRows}
 use Rattle.plan_tables.specs.declared.entries.CoilLimits.{CoilLimits}
+use Rattle.plan_tables.specs.declared.devices.Settings.{Settings}
 use Rattle.plan_tables.specs.declared.devices.Settings.TheVariants as kinds
 use Rattle.plan_tables.specs.declared.devices.Act.TheVariants.{Enable, Disable}
 use Rattle.machine_definitions.specs.Definitions.{coil_of_name}
@@ -69,20 +70,18 @@ abbrev pub flipper_off : List SectionRows → Written → Option Written → Lis
 flipper_off machine main (Some hold) = works hold.text disable ∷ []
 flipper_off machine main None = if (defaults_called machine main.text).may_hold then works main.text disable ∷ [] else []
 
-abbrev pub flipper_device : List SectionRows → Flipper → Device
-flipper_device machine f = record {
-  settings = kinds.Flipper;
-  listens = f.switch.text ∷ [];
-  handled = acts Enable f.enables ++ acts Disable f.disables;
+-- the device of a coil rule, with these settings and effect lists
+abbrev pub rule_device : Settings → Rule → List (List Effect) → Device
+rule_device settings r lists = record {
+  settings = settings;
+  listens = r.switch.text ∷ [];
+  handled = acts Enable r.enables ++ acts Disable r.disables;
   mentioned = [];
-  lists = flipper_on machine f.main_coil f.hold_coil ∷ flipper_off machine f.main_coil f.hold_coil ∷ [];
+  lists = lists;
 }
 
+abbrev pub flipper_device : List SectionRows → Flipper → Device
+flipper_device machine f = rule_device kinds.Flipper f.rule (flipper_on machine f.main_coil f.hold_coil ∷ flipper_off machine f.main_coil f.hold_coil ∷ [])
+
 abbrev pub autofire_device : List SectionRows → Autofire → Device
-autofire_device machine a = record {
-  settings = kinds.Autofire;
-  listens = a.switch.text ∷ [];
-  handled = acts Enable a.enables ++ acts Disable a.disables;
-  mentioned = [];
-  lists = (works a.coil.text (own_pulse (defaults_called machine a.coil.text)) ∷ []) ∷ [];
-}
+autofire_device machine a = rule_device kinds.Autofire a.rule ((works a.coil.text (own_pulse (defaults_called machine a.coil.text)) ∷ []) ∷ [])

@@ -19,6 +19,7 @@ use Rattle.mpf_sections.specs.declared.blocks.StepBlock as typed_steps
 use Rattle.mpf_sections.specs.declared.timers.Timer as typed_timers
 use Rattle.mpf_sections.specs.declared.coils.Coil as typed_coils
 use Rattle.mpf_sections.specs.declared.coils.CoilPlayer as typed_coil_players
+use Rattle.mpf_sections.specs.declared.coil_rules.Rule as typed_rules
 use Rattle.mpf_sections.specs.declared.coil_rules.Flipper as typed_flippers
 use Rattle.mpf_sections.specs.declared.coil_rules.Autofire as typed_autofires
 use Rattle.mpf_sections.specs.declared.game.VariablePlayer as typed_variable_players
@@ -32,7 +33,7 @@ use Rattle.mpf_sections.specs.Rows.{SectionRows}
 use Rattle.mpf_sections.specs.Typed.{controls_of, control_of, with_control}
 use Rattle.mpf_sections.specs.TypedCoils.{coil_item_of}
 use Rattle.mpf_sections.specs.TypedGame.{variable_item_of}
-use Rattle.mpf_sections.specs.View.{name_view, name_at_view, handler_view, handlers_view, handled_at_view, entry_view, player_view, keyed_view, fields_view, switch_view, event_player_view, mode_settings_view, block_view, counter_view, step_block_view, timer_view, coil_view, coil_player_view, flipper_view, autofire_view, variable_player_view, game_view, shot_view, shot_group_view, ball_device_view, ball_save_view, multiball_view}
+use Rattle.mpf_sections.specs.View.{name_view, name_at_view, handler_view, handlers_view, handled_at_view, entry_view, player_view, keyed_view, fields_view, switch_view, event_player_view, mode_settings_view, block_view, counter_view, step_block_view, timer_view, coil_view, coil_player_view, rule_view, flipper_view, autofire_view, variable_player_view, game_view, shot_view, shot_group_view, ball_device_view, ball_save_view, multiball_view}
 use Rattle.machine_definitions.specs.declared.profile.Profile as profiles
 use Rattle.machine_definitions.specs.Found.{profile_view}
 use Rattle.plan_rows.specs.declared.place.Place.{Place}
@@ -57,7 +58,7 @@ use Rattle.row_contributions.specs.ShotEntries.{shot_acts, switch_hits, group_ac
 use Rattle.row_contributions.specs.BallEntries.{ball_settings, ball_lists, attempt_effects, eject_pulse}
 use Rattle.row_contributions.specs.SaveEntries.{save_device, save_acts, multiball_device, save_device_of}
 use Rattle.row_contributions.specs.declared.collect_coils.Defaults as defaults
-use Rattle.row_contributions.specs.CoilEntries.{Defaults, item_effect, flipper_on, flipper_off, flipper_device, autofire_device}
+use Rattle.row_contributions.specs.CoilEntries.{Defaults, item_effect, flipper_on, flipper_off, rule_device, flipper_device, autofire_device}
 use Rattle.plan_contributions.specs.Contributions.{Contribution, active, inactive, does, does_in, mentions}
 use Rattle.row_contributions.specs.Contributions.{kind_of, bound, act_binding, act_at, effects_from, listens_from, tag_event, active_posts, inactive_posts, switch_contributions, player_contributions, coil_contributions, coil_player_contributions, item_contributions, variable_player_contributions, game_contributions, mode_contributions, controls, device_contributions, where_device, shot_switch, shot_contributions, group_contributions, ball_device_contributions, machine_entry_contributions, entry_contributions, alone_contributions, player_entry_contributions}
 use Rattle.plan_contributions.specs.View.{parts_text}
@@ -241,6 +242,10 @@ defaults_view d = record { pulse_ms = d.pulse_ms; pulse_power = d.pulse_power; h
 
 abbrev pub coil_gives : typed_coils.Coil → List Contribution
 coil_gives c = coil_contributions (coil_view c)
+
+-- what all coil rules give
+abbrev pub rule_gives : Settings → typed_rules.Rule → List Contribution
+rule_gives settings r = device_contributions Machine (rule_device settings (rule_view r) [])
 
 abbrev pub flipper_gives : List SectionRows → typed_flippers.Flipper → List Contribution
 flipper_gives machine f = device_contributions Machine (flipper_device machine (flipper_view f))

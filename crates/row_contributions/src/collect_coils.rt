@@ -5,13 +5,14 @@ ghost use Rattle.mpf_sections.specs.View.{coil_view, coil_item_view};
 ghost use Rattle.row_contributions.specs.CoilEntries.{limits_of_coil, defaults_called, own_pulse, own_hold, deed_by};
 ghost use Rattle.plan_contributions.specs.View.{deed_view};
 ghost use Rattle.plan_contributions.specs.Gains.{Gains};
-ghost use Rattle.row_contributions.specs.Gives.{defaults_view, autofire_gives, coil_gives, coil_items_give, coil_player_gives, flipper_does, flipper_gives};
+ghost use Rattle.row_contributions.specs.Gives.{defaults_view, autofire_gives, coil_gives, coil_items_give, coil_player_gives, flipper_does, flipper_gives, rule_gives};
 
 use crate::collect_bound::{collect_acts, collect_bound};
 use machine_definitions::Definitions;
 use mpf_config::{
     Autofire, Coil, CoilAction, CoilItem, CoilPlayer, Flipper, Keyed, NameAt, as_coil_item,
 };
+use mpf_sections::Rule;
 use plan_contributions::{Aim, Contribution, Deed, Effect, add, collect_effect};
 use plan_rows::Place;
 use plan_tables::devices::{Act, Settings};
@@ -145,6 +146,26 @@ fn own_hold(coil: Defaults) -> Deed
     }
 }
 
+/// What all coil rules give: a row of the machine, its switch, and the events that enable and
+/// disable it.
+#[tactic(auto, unfolding(crate::specs::Contributions::device_contributions))]
+fn collect_rule<'a>(
+    contributions: &mut Vec<Contribution<'a>>,
+    settings: Settings,
+    row: Rule<'a>,
+) -> Result<(), AllocError>
+    ensures { OnOk result (Gains contributions.old contributions.new (rule_gives settings row.entry)) }
+{
+    add(
+        contributions,
+        Contribution::Device(Place::Machine, settings),
+    )?;
+    add(contributions, Contribution::Listens(0, row.switch.text))?;
+    collect_acts(contributions, Place::Machine, Act::Enable, row.enables)?;
+    collect_acts(contributions, Place::Machine, Act::Disable, row.disables)?;
+    Ok(())
+}
+
 /// A flipper, which is the machine's.
 #[tactic(auto, unfolding(crate::specs::Contributions::device_contributions))]
 pub(crate) fn collect_flipper<'a>(
@@ -154,13 +175,7 @@ pub(crate) fn collect_flipper<'a>(
 ) -> Result<(), AllocError>
     ensures { OnOk result (Gains contributions.old contributions.new (flipper_gives definitions.now.machine row.entry)) }
 {
-    add(
-        contributions,
-        Contribution::Device(Place::Machine, Settings::Flipper),
-    )?;
-    add(contributions, Contribution::Listens(0, row.switch.text))?;
-    collect_acts(contributions, Place::Machine, Act::Enable, row.enables)?;
-    collect_acts(contributions, Place::Machine, Act::Disable, row.disables)?;
+    collect_rule(contributions, Settings::Flipper, row.rule)?;
     match row.hold_coil {
         Some(hold) => collect_two_coils(contributions, definitions, row.main_coil, hold),
         None => collect_main_coil(contributions, definitions, row.main_coil),
@@ -208,13 +223,7 @@ pub(crate) fn collect_autofire<'a>(
 ) -> Result<(), AllocError>
     ensures { OnOk result (Gains contributions.old contributions.new (autofire_gives definitions.now.machine row.entry)) }
 {
+    collect_rule(contributions, Settings::Autofire, row.rule)?;
     let pulse = own_pulse(defaults_of(definitions, row.coil.text));
-    add(
-        contributions,
-        Contribution::Device(Place::Machine, Settings::Autofire),
-    )?;
-    add(contributions, Contribution::Listens(0, row.switch.text))?;
-    collect_acts(contributions, Place::Machine, Act::Enable, row.enables)?;
-    collect_acts(contributions, Place::Machine, Act::Disable, row.disables)?;
     collect_effect(contributions, 0, Effect::Coil(row.coil.text, pulse))
 }

@@ -137,19 +137,19 @@ module _ (machine : List SectionRows) (all : All IsCoilSound (flat_map coils_in 
 
   flipper-sound : (f : Flipper) → flipper_faults machine text f ≡ [] → IsFlipperSound machine f
   flipper-sound f e =
-      let parts = (codes "main_coil", coil_name_faults machine text f.main_coil) ∷ (codes "hold_coil", hold_faults machine text f f.hold_coil) ∷ (codes "activation_switch", switch_name_faults machine text f.switch) ∷ [] in
-      let none = written-none tables.flippers f.order parts e in
+      let parts = (codes "main_coil", coil_name_faults machine text f.main_coil) ∷ (codes "hold_coil", hold_faults machine text f f.hold_coil) ∷ (codes "activation_switch", switch_name_faults machine text f.rule.switch) ∷ [] in
+      let none = written-none tables.flippers f.rule.order parts e in
       record {
         main_coil = named-sound f.main_coil (none 0 no_part (omega arith));
         hold_coil = hold-sound f f.hold_coil (none 1 no_part (omega arith));
-        switch = switch-sound f.switch (none 2 no_part (omega arith));
+        switch = switch-sound f.rule.switch (none 2 no_part (omega arith));
       }
 
   autofire-sound : (a : Autofire) → autofire_faults machine text a ≡ [] → IsAutofireSound machine a
   autofire-sound a e =
-      let parts = (codes "coil", coil_name_faults machine text a.coil) ∷ (codes "switch", switch_name_faults machine text a.switch) ∷ [] in
-      let none = written-none tables.autofire_coils a.order parts e in
-      record { coil = named-sound a.coil (none 0 no_part (omega arith)); switch = switch-sound a.switch (none 1 no_part (omega arith)) }
+      let parts = (codes "coil", coil_name_faults machine text a.coil) ∷ (codes "switch", switch_name_faults machine text a.rule.switch) ∷ [] in
+      let none = written-none tables.autofire_coils a.rule.order parts e in
+      record { coil = named-sound a.coil (none 0 no_part (omega arith)); switch = switch-sound a.rule.switch (none 1 no_part (omega arith)) }
 
   -- ---- ball devices
 

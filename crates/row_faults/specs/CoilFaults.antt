@@ -70,7 +70,7 @@ coil_player_faults machine text p = flat_map (item_faults machine text) p.items
 -- a hold coil that may not be held is at fault at the line of the flipper
 abbrev pub hold_faults_by : List ℕ → Flipper → Written → Option Coil → List RowFaultView
 hold_faults_by text f w None = fault_at Name text w ∷ []
-hold_faults_by text f w (Some c) = fault_if (not c.may_hold) HoldNotAllowed text (record { line = f.name.line; text = w.text })
+hold_faults_by text f w (Some c) = fault_if (not c.may_hold) HoldNotAllowed text (record { line = f.rule.name.line; text = w.text })
 
 abbrev pub hold_faults : List SectionRows → List ℕ → Flipper → Option Written → List RowFaultView
 hold_faults machine text f None = []
@@ -79,12 +79,12 @@ hold_faults machine text f (Some w) = hold_faults_by text f w (coil_called machi
 -- what is wrong with the settings of an entry, in the order in which they are written
 abbrev pub flipper_faults : List SectionRows → List ℕ → Flipper → List RowFaultView
 flipper_faults machine text f =
-    as_written tables.flippers f.order
+    as_written tables.flippers f.rule.order
     ((codes "main_coil", coil_name_faults machine text f.main_coil)
     ∷ (codes "hold_coil", hold_faults machine text f f.hold_coil)
-    ∷ (codes "activation_switch", switch_name_faults machine text f.switch)
+    ∷ (codes "activation_switch", switch_name_faults machine text f.rule.switch)
     ∷ [])
 
 abbrev pub autofire_faults : List SectionRows → List ℕ → Autofire → List RowFaultView
 autofire_faults machine text a =
-    as_written tables.autofire_coils a.order ((codes "coil", coil_name_faults machine text a.coil) ∷ (codes "switch", switch_name_faults machine text a.switch) ∷ [])
+    as_written tables.autofire_coils a.rule.order ((codes "coil", coil_name_faults machine text a.coil) ∷ (codes "switch", switch_name_faults machine text a.rule.switch) ∷ [])

@@ -61,11 +61,11 @@ IsCoilPlayerSound machine p = All (IsItemSound machine) p.items
 pub record IsFlipperSound (machine : List SectionRows) (f : Flipper) : Type 0 where
   pub main_coil : IsCoilSuch machine f.main_coil.text IsCoilSound
   pub hold_coil : IfSome f.hold_coil (λ w. IsCoilSuch machine w.text (λ c. IsHoldWithin c c.hold_power))
-  pub switch : has_switch machine f.switch.text ≡ true
+  pub switch : has_switch machine f.rule.switch.text ≡ true
 
 pub record IsAutofireSound (machine : List SectionRows) (a : Autofire) : Type 0 where
   pub coil : IsCoilSuch machine a.coil.text IsCoilSound
-  pub switch : has_switch machine a.switch.text ≡ true
+  pub switch : has_switch machine a.rule.switch.text ≡ true
 
 -- the switch of a shot is defined, if it has one, and so is its profile
 pub record IsShotSound (rows : Rows) (s : Shot) : Type 0 where

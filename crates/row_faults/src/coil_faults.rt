@@ -196,9 +196,9 @@ fn add_flipper(faults: &mut Faults<'_, '_>, flipper: Flipper<'_>) -> Result<(), 
     let parts = [
         (MAIN_COIL, Named::Coil(Some(flipper.main_coil))),
         (HOLD_COIL, Named::HoldCoil(flipper)),
-        (ACTIVATION_SWITCH, Named::Switch(Some(flipper.switch))),
+        (ACTIVATION_SWITCH, Named::Switch(Some(flipper.rule.switch))),
     ];
-    add_as_written(faults, flipper.order, &parts)
+    add_as_written(faults, flipper.rule.order, &parts)
 }
 
 /// Adds the fault of a flipper's hold coil, if it has one.
@@ -230,7 +230,7 @@ fn add_hold(
         Some(coil) => {
             let refused = !coil.may_hold;
             let place = NameAt {
-                line: flipper.name.line,
+                line: flipper.rule.name.line,
                 text: hold.text,
             };
             add_if(faults, refused, RowFaultKind::HoldNotAllowed, place)
@@ -257,7 +257,7 @@ fn add_autofire(faults: &mut Faults<'_, '_>, autofire: Autofire<'_>) -> Result<(
 {
     let parts = [
         (COIL, Named::Coil(Some(autofire.coil))),
-        (SWITCH, Named::Switch(Some(autofire.switch))),
+        (SWITCH, Named::Switch(Some(autofire.rule.switch))),
     ];
-    add_as_written(faults, autofire.order, &parts)
+    add_as_written(faults, autofire.rule.order, &parts)
 }

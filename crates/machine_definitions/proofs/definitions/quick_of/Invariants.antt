@@ -1,12 +1,13 @@
 use Rattle.std.proofs.Common.{◌≡◌, ◌||◌, ℕ, List, map, drop}
 use Rattle.std.specs.List.{list_any, flat_map}
 use Rattle.std.specs.Str.{bytes_eq}
+use Rattle.mpf_sections.specs.TypedCoils.{quick_switches}
 use Rattle.mpf_sections.specs.View.{section_view}
-use Rattle.machine_definitions.specs.Definitions.{rule_switches, makes_quick}
+use Rattle.machine_definitions.specs.Definitions.{makes_quick}
 use Rattle.machine_definitions.specs.Found.{is_found}
 use Rattle.machine_definitions.proofs.definitions.quick_of.Given as goal
 
 abbrev pub invariant-loop-section : goal.invariant-loop-section
 invariant-loop-section l =
-    (name : List ℕ) → (is_found l.names name || list_any (bytes_eq name) (flat_map rule_switches (map section_view (drop l.section-index l.sections))))
+    (name : List ℕ) → (is_found l.names name || list_any (bytes_eq name) (flat_map quick_switches (map section_view (drop l.section-index l.sections))))
     ≡ makes_quick (map section_view l.sections) name
