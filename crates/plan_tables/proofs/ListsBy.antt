@@ -1,6 +1,6 @@
 -- Adding the number of one entry after the other to the list of its place: of a row or a binding to that of its mode, and
 -- of a ball device to that of its target.
-use Rattle.std.proofs.Common.{◌≡◌, ℕ, zero, suc, ◌+◌, ◌<◌, ◌==◌, Bool, false, cond, inl, inr, List, [], ◌∷◌, ◌++◌, length, map, get_or, set, Option, Some, None, Vec, Global, refl, sym, ◌∙◌, ap, subst, arith}
+use Rattle.std.proofs.Common.{rules, ◌≡◌, ℕ, zero, suc, ◌+◌, ◌<◌, ◌==◌, Bool, false, cond, inl, inr, List, [], ◌∷◌, ◌++◌, length, map, get_or, set, Option, Some, None, Vec, Global, refl, sym, ◌∙◌, ap, subst, arith}
 use Rattle.std.specs.Prelude.{IfSome, unwrap_or}
 use Rattle.std.specs.List.{All, filter, range_with_len}
 use Rattle.std.specs.Option.{option_map, option_map_or}
@@ -31,8 +31,7 @@ is_at e (Some place) = e == place
 
 -- a list more has an item more, and there are as many lists
 length-added : {Y : Type 0} (lists : List (List Y)) (at : Option ℕ) (y : Y) → length (added lists at y) ≡ length lists
-length-added lists None y = refl
-length-added lists (Some p) y = length-set lists p (get_or lists p [] ++ y ∷ [])
+length-added lists at y = search rules
 
 module _ {X Y : Type 0} (make : ℕ → Y) (number : Y → ℕ) (back : (n : ℕ) → number (make n) ≡ n) (place : X → Option ℕ) (d : X) (items : List X) where
   -- of the first i items, the numbers of those whose place is e
@@ -115,8 +114,7 @@ binding_mode b = mode_place b.owner
 
 -- an owner is the machine, or a mode of the plan
 owner_placed : (plan : PlanView) (o : Owner) → IsOwnerWithin plan o → IfSome (mode_place o) (λ p. p < length plan.modes)
-owner_placed plan Machine h = tt
-owner_placed plan (Mode m) h = h
+owner_placed plan o h = search rules
 
 pub rows_placed : (plan : PlanView) → IsValid plan → All (λ row. IfSome (row_mode row) (λ p. p < length plan.modes)) plan.rows
 rows_placed plan valid =
@@ -124,17 +122,14 @@ rows_placed plan valid =
     owner_placed plan (row_at plan (record { 0 = n })).owner (valid.entries.rows (record { 0 = n }) within).owner)
 
 pub bindings_placed : (plan : PlanView) → IsValid plan → All (λ b. IfSome (binding_mode b) (λ p. p < length plan.modes)) plan.bindings
-bindings_placed plan valid =
-    All-weaker (IsBindingWithin plan) (λ b. IfSome (binding_mode b) (λ p. p < length plan.modes)) (λ b h. owner_placed plan b.owner h.1) plan.bindings valid.entries.bindings
+bindings_placed plan valid = search rules
 
 pub target_within : (rows : ℕ) (t : BallTarget) → IsTargetThere rows t → target_place t < rows + 1
-target_within rows Playfield there = omega arith
-target_within rows (Device r) there = omega arith
+target_within rows t there = search rules
 
 -- the target of a ball device is the playfield, or a row of the plan
 target_found : (rows : ℕ) (o : Option BallTarget) → IsTargetThere rows (unwrap_or o Playfield) → IfSome (option_map target_place o) (λ p. p < rows + 1)
-target_found rows None there = tt
-target_found rows (Some t) there = target_within rows t there
+target_found rows o there = search rules
 
 pub targets_placed : (plan : PlanView) → IsValid plan → All (λ row. IfSome (row_target row) (λ p. p < length plan.rows + 1)) plan.rows
 targets_placed plan valid =
@@ -156,8 +151,7 @@ abbrev pub BindingsListed : List Binding → ℕ → List (List BindingId) → T
 BindingsListed bindings i lists = AreListed binding_number (λ b. b.0) (λ n. refl) binding_mode no_binding bindings i lists
 
 of_mode : (m : ℕ) (o : Owner) → is_at m (mode_place o) ≡ is_owner (Mode (record { 0 = m })) o
-of_mode m Machine = refl
-of_mode m (Mode n) = refl
+of_mode m o = search rules
 
 -- the bindings of each mode
 pub mode_bindings_whole : (plan : PlanView) (bindings : List Binding) → plan.bindings ≡ bindings → (lists : List (Vec BindingId Global)) → length lists ≡ length plan.modes
@@ -180,17 +174,10 @@ module _ (plan : PlanView) (rows : List DeviceRow) (same : plan.rows ≡ rows) (
       all m (omega arith) ∙ sym (ap (λ (rs : List DeviceRow). listed row_number (λ r. r.0) (λ n. refl) row_mode no_row rs m (length rs)) same) ∙ own)
 
   at_target : (n : ℕ) (t : BallTarget) → n == target_place t ≡ is_target (target_at n) t
-  at_target zero Playfield = refl
-  at_target zero (Device q) = ne_eqb 0 (suc q.0) (λ is. omega arith)
-  at_target (suc n) Playfield = ne_eqb (suc n) 0 (λ is. omega arith)
-  at_target (suc n) (Device q) = elim (eqb_tells n q.0) [
-    | inl same ↦ eq-eqb (suc n) (suc q.0) (ap suc same.1) ∙ sym same.0
-    | inr other ↦ ne_eqb (suc n) (suc q.0) (λ is. other.1 (omega arith)) ∙ sym other.0
-  ]
+  at_target n t = search rules
 
   of_target : (n : ℕ) (t : Option BallTarget) → is_at n (option_map target_place t) ≡ option_map_or (is_target (target_at n)) t false
-  of_target n None = refl
-  of_target n (Some t) = at_target n t
+  of_target n t = search rules
 
   -- the ball devices of each target
   pub feeders_whole : length lists ≡ length rows + 1 → RowsListed row_target rows (length rows) (lists_view lists) → HasFeeders plan lists
@@ -227,8 +214,7 @@ module _ (inside plan : PlanView) (is : inside ≡ plan) where
       ∙ ap (λ (p : PlanView). rows_of p (Mode m)) is
 
   target_placed : (t : BallTarget) → target_at (target_place t) ≡ t
-  target_placed Playfield = refl
-  target_placed (Device r) = refl
+  target_placed t = search rules
 
   pub feeders_read : (lists : List (Vec RowId Global)) (t : BallTarget) (place : ℕ) (v : Vec RowId Global) → HasFeeders inside lists → IsTargetThere (length plan.rows) t → place ≡ target_place t → v ≡ get_or lists place v
       → v.items ≡ feeders_of plan t

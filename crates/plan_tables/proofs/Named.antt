@@ -1,5 +1,5 @@
 -- What the events, variables, switches and coils of a name are.
-use Rattle.std.proofs.Common.{◌≡◌, ℕ, ◌<◌, ◌≢◌, List, [], length, slice_get, slice_index_or, Option, Some, None, Contains, refl, sym, ◌∙◌, ap}
+use Rattle.std.proofs.Common.{rules, ◌≡◌, ℕ, ◌<◌, ◌≢◌, List, [], length, slice_get, slice_index_or, Option, Some, None, Contains, refl, sym, ◌∙◌, ap}
 use Rattle.std.specs.Str.{bytes_eq}
 use Rattle.std.specs.List.{position}
 use Rattle.std.specs.Option.{option_map}
@@ -13,12 +13,10 @@ use Rattle.plan_tables.proofs.Places.{found_at, found_within, absent}
 
 module _ {X : Type 0} (number : ℕ → X) (place : X → ℕ) (back : (n : ℕ) → place (number n) ≡ n) where
   numbered : (o : Option ℕ) (x : X) → option_map number o ≡ Some x → o ≡ Some (place x)
-  numbered None x e = absurd (none-some x e)
-  numbered (Some n) x e = ap Some (sym (back n) ∙ ap place (same_Some (number n) x e))
+  numbered o x e = search rules
 
   unnumbered : (o : Option ℕ) → option_map number o ≡ None → o ≡ None
-  unnumbered None e = refl
-  unnumbered (Some n) e = absurd (none-some (number n) (sym e))
+  unnumbered o e = search rules
 
   -- among names at their numbers, what is found has the name
   found : (names : List (List ℕ)) (name : List ℕ) (x : X) → option_map number (position (bytes_eq name) names) ≡ Some x → slice_get names (place x) ≡ Some name

@@ -1,5 +1,5 @@
 -- The works of modes, set one after the other, the first mode last.
-use Rattle.std.proofs.Common.{◌≡◌, ℕ, ◌<◌, ◌==◌, Bool, true, false, cond, inl, inr, List, length, map, get_or, set, Option, Some, None, refl, sym, ◌∙◌, ap, subst, arith}
+use Rattle.std.proofs.Common.{rules, ◌≡◌, ℕ, ◌<◌, ◌==◌, Bool, true, false, cond, inl, inr, List, length, map, get_or, set, Option, Some, None, refl, sym, ◌∙◌, ap, subst, arith}
 use Rattle.std.specs.List.{range_with_len}
 use Rattle.std.proofs.lemmas.Bool.Decides.{eqb_tells}
 use Rattle.std.proofs.lemmas.List.{get_or-set_same, get_or-set_other, length-set}
@@ -16,15 +16,7 @@ use Rattle.plan_tables.specs.Inside.{work_at, AreModeWorks, AreWorksFrom, HasWor
 
 -- one event has another work
 set_at : (old new : List Work) (f e : EventId) (w : Work) → new ≡ set old f.0 w → e.0 < length old → work_at new e ≡ cond (e.0 == f.0) w (work_at old e)
-set_at old new f e w is within =
-    ap (λ ws. work_at ws e) is
-    ∙ elim (eqb_tells e.0 f.0) as (λ _. work_at (set old f.0 w) e ≡ cond (e.0 == f.0) w (work_at old e)) [
-      | inl same ↦
-          ap (λ n. get_or (set old f.0 w) n works.Nothing) same.1
-          ∙ get_or-set_same old f.0 w works.Nothing (subst (λ n. n < length old) same.1 within)
-          ∙ sym (ap (λ b. cond b w (work_at old e)) same.0)
-      | inr other ↦ get_or-set_other old f.0 e.0 w works.Nothing other.1 ∙ sym (ap (λ b. cond b w (work_at old e)) other.0)
-    ]
+set_at old new f e w is within = search rules
 
 module _ (number : ℕ) (events : ModeEvents) where
   abbrev pub of : ModeEvent → Work
@@ -33,12 +25,7 @@ module _ (number : ℕ) (events : ModeEvents) where
   chosen : (a b c d f : Bool) (old : Work)
       → cond a (of WillStart) (cond b (of Starting) (cond c (of Started) (cond d (of Stopping) (cond f (of Stopped) old))))
       ≡ work_or number (cond a (Some WillStart) (cond b (Some Starting) (cond c (Some Started) (cond d (Some Stopping) (cond f (Some Stopped) None))))) old
-  chosen true b c d f old = refl
-  chosen false true c d f old = refl
-  chosen false false true d f old = refl
-  chosen false false false true f old = refl
-  chosen false false false false true old = refl
-  chosen false false false false false old = refl
+  chosen a b c d f old = search rules
 
   -- the five events of a mode, the first one last
   pub mode_works : (w0 w1 w2 w3 w4 w5 : List Work) → w1 ≡ set w0 events.stopped.0 (of Stopped) → w2 ≡ set w1 events.stopping.0 (of Stopping) → w3 ≡ set w2 events.started.0 (of Started)

@@ -1,5 +1,5 @@
 -- Owners, and their rows of devices.
-use Rattle.std.proofs.Common.{◌≡◌, ◌<◌, zero, suc, Bool, true, false, cond, List, [], ◌∷◌, length, filter, refl, sym, ap, ◌∙◌, subst, arith}
+use Rattle.std.proofs.Common.{rules, ◌≡◌, ◌<◌, zero, suc, Bool, true, false, cond, List, [], ◌∷◌, length, filter, refl, sym, ap, ◌∙◌, subst, arith}
 use Rattle.std.specs.Prelude.{Contains}
 use Rattle.std.specs.List.{All}
 use Rattle.std.proofs.lemmas.Bool.{eqb-true}
@@ -12,9 +12,7 @@ use Rattle.plan_tables.specs.PlanView.{PlanView, is_owner, row_at, row_numbers, 
 
 -- owners that are found to be the same are the same
 pub is_owner-same : (a b : Owner) → is_owner a b ≡ true → a ≡ b
-is_owner-same Machine Machine is = refl
-is_owner-same (Mode m) (Mode n) is = ap (λ k. Mode (record { 0 = k })) (eqb-true m.0 n.0 is)
-is_owner-same _ _ is = cc
+is_owner-same a b is = search rules
 
 -- what passes a test is among those that do
 filter-there : {X : Type 0} (p : X → Bool) (xs : List X) (x : X) → Contains xs x → p x ≡ true → Contains (filter p xs) x

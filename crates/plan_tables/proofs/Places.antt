@@ -1,5 +1,5 @@
 -- The place of a name among named things: it is there, and nothing else has the name.
-use Rattle.std.proofs.Common.{◌≡◌, ℕ, ◌+◌, ◌<◌, ◌≤◌, ◌≢◌, Bool, true, false, cond, not, List, [], ◌∷◌, length, map, get_or, Some, None, nat_lt, refl, sym, ◌∙◌, ap, true≢false, arith}
+use Rattle.std.proofs.Common.{rules, ◌≡◌, ℕ, ◌+◌, ◌<◌, ◌≤◌, ◌≢◌, Bool, true, false, cond, not, List, [], ◌∷◌, length, map, get_or, Some, None, nat_lt, refl, sym, ◌∙◌, ap, true≢false, arith}
 use Rattle.std.specs.Str.{bytes_eq}
 use Rattle.std.specs.List.{position, position_or_len}
 use Rattle.std.proofs.lemmas.Bool.{ltb-false}
@@ -27,11 +27,7 @@ position-or_len p xs = by (nat_lt (position_or_len p xs) (length xs)) (ltb-false
     by false past = omega (arith, past refl, prefix_len-le-length (λ x. not (p x)) xs)
 
 none_within : (place count : ℕ) → cond (nat_lt place count) (Some place) None ≡ None → count ≤ place
-none_within place count = by (nat_lt place count) (ltb-false place count)
-  where
-    by : (b : Bool) → (b ≡ false → count ≤ place) → cond b (Some place) None ≡ None → count ≤ place
-    by true past e = absurd (none-some place (sym e))
-    by false past e = past refl
+none_within place count = search rules
 
 module _ {X : Type 0} (key : X → List ℕ) (name : List ℕ) where
   -- where a name is found, it stands
@@ -39,8 +35,7 @@ module _ {X : Type 0} (key : X → List ℕ) (name : List ℕ) where
   found_at xs i d at = sym ((bytes_eq-Decides name (key (get_or xs i d))).0 (position-Some (λ x. bytes_eq name (key x)) xs i d at).1)
 
   pub found_within : (xs : List X) (i : ℕ) → position (λ x. bytes_eq name (key x)) xs ≡ Some i → i < length xs
-  found_within [] i at = absurd (none-some i at)
-  found_within (x ∷ xs) i at = (position-Some (λ y. bytes_eq name (key y)) (x ∷ xs) i x at).0
+  found_within xs i at = search rules
 
   -- where it is not found, nothing has it
   pub absent : (xs : List X) → position (λ x. bytes_eq name (key x)) xs ≡ None → (i : ℕ) (d : X) → i < length xs → key (get_or xs i d) ≢ name

@@ -43,16 +43,10 @@ number_same e f is = ap numbered (eqb-true e.0 f.0 is)
 module _ (events : ModeEvents) (e : EventId) (which : ModeEvent) where
   which-among : (a b c d f : Bool) → (e.0 == events.will_start.0) ≡ a → (e.0 == events.starting.0) ≡ b → (e.0 == events.started.0) ≡ c → (e.0 == events.stopping.0) ≡ d → (e.0 == events.stopped.0) ≡ f
       → cond a (Some WillStart) (cond b (Some Starting) (cond c (Some Started) (cond d (Some Stopping) (cond f (Some Stopped) None)))) ≡ Some which → e ≡ event_among events which
-  which-among true b c d f ha hb hc hd hf is = number_same e events.will_start ha ∙ ap (event_among events) (same_some WillStart which is)
-  which-among false true c d f ha hb hc hd hf is = number_same e events.starting hb ∙ ap (event_among events) (same_some Starting which is)
-  which-among false false true d f ha hb hc hd hf is = number_same e events.started hc ∙ ap (event_among events) (same_some Started which is)
-  which-among false false false true f ha hb hc hd hf is = number_same e events.stopping hd ∙ ap (event_among events) (same_some Stopping which is)
-  which-among false false false false true ha hb hc hd hf is = number_same e events.stopped hf ∙ ap (event_among events) (same_some Stopped which is)
-  which-among false false false false false ha hb hc hd hf is = absurd (search (rules, is))
+  which-among a b c d f ha hb hc hd hf is = search rules
 
   which-is : which_event events e ≡ Some which → e ≡ event_among events which
-  which-is is =
-      which-among (e.0 == events.will_start.0) (e.0 == events.starting.0) (e.0 == events.started.0) (e.0 == events.stopping.0) (e.0 == events.stopped.0) refl refl refl refl refl is
+  which-is is = search rules
 
 -- the mode of this number among those from number n on
 abbrev mode_from : ℕ → List PlanMode → ModeId → PlanMode
@@ -67,22 +61,11 @@ IsFoundFrom n modes e (works.Mode m which) = (n ≤ m.0) × (m.0 < n + length mo
 found-later : (n : ℕ) (x : PlanMode) (modes : List PlanMode) (e : EventId) (w : Work) → IsFoundFrom (suc n) modes e w → IsFoundFrom n (x ∷ modes) e w
 found-later n x modes e works.Nothing h = tt
 found-later n x modes e (works.Game which) h = h
-found-later n x modes e (works.Mode m which) h =
-    let least = h.0 in
-    let most = h.1 in
-    (omega (arith, least), omega (arith, most), h.2 ∙ ap (λ (y : PlanMode). event_among y.mode.events which) (later (m.0 - suc n) (m.0 - n) (omega (arith, least))))
-  where
-    later : (i j : ℕ) → suc i ≡ j → get_or modes i no_mode ≡ get_or (x ∷ modes) j no_mode
-    later i j is = ap (λ k. get_or (x ∷ modes) k no_mode) is
+found-later n x modes e (works.Mode m which) h = search rules
 
 found-first : (n : ℕ) (x : PlanMode) (modes : List PlanMode) (e : EventId) (o : Option ModeEvent) (rest : Work) → ((which : ModeEvent) → o ≡ Some which → e ≡ event_among x.mode.events which)
     → IsFoundFrom n (x ∷ modes) e rest → IsFoundFrom n (x ∷ modes) e (work_or n o rest)
-found-first n x modes e None rest here h = h
-found-first n x modes e (Some which) rest here h =
-    (omega arith, omega arith, here which refl ∙ ap (λ k. event_among (get_or (x ∷ modes) k no_mode).mode.events which) (none n))
-  where
-    none : (k : ℕ) → 0 ≡ k - k
-    none k = omega arith
+found-first n x modes e o rest here h = search rules
 
 found_from : (n : ℕ) (modes : List PlanMode) (e : EventId) → IsFoundFrom n modes e (work_from n modes e)
 found_from n [] e = tt

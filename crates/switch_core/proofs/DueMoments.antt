@@ -28,47 +28,19 @@ module _ (s : SwitchesView) (set : SwitchId) (x : SwitchState) where
 
   -- a number that no switch has changes nothing
   pub set-past : length s.states ≤ set.0 → set_state set x s ≡ s
-  set-past past = ap with_states (set_past s.states set.0 x past)
-    where
-      with_states : List SwitchState → SwitchesView
-      with_states states = record { kinds = s.kinds; states = states }
+  set-past past = search (rules, set_past)
 
   -- a due moment is an old one, or that of the new state
   pub due-set : (n : SwitchId) (at : ℕ) → due_of (set_state set x s) n ≡ Some at → (due_of s n ≡ Some at) ⊎ ((n.0 ≡ set.0) × (x.due ≡ Some at))
-  due-set n at is =
-      elim (cases_eq n.0 set.0) [
-        | inr other ↦ inl (sym (due-other n other) ∙ is)
-        | inl same ↦
-            elim (cases_lt set.0 (length s.states)) [
-              | inl there ↦
-                  let here : due_of (set_state set x s) set ≡ Some at = subst (λ (k : ℕ). (slice_index_or (slice_set s.states set.0 x) k (idle no_kind)).due ≡ Some at) same is in
-                  inr (same, sym (ap (λ (y : SwitchState). y.due) (state-same there)) ∙ here)
-              | inr past ↦ inl (sym (ap (λ (t : SwitchesView). due_of t n) (set-past past)) ∙ is)
-            ]
-      ]
+  due-set n at is = search (rules, cases_eq, due-other, cases_lt, slice_index_or, slice_set, state-same, set-past)
 
   -- it is not due where the new state is not
   pub due-none : x.due ≡ None → due_of (set_state set x s) set ≡ None
-  due-none none =
-      elim (cases_lt set.0 (length s.states)) [
-        | inl there ↦ ap (λ (y : SwitchState). y.due) (state-same there) ∙ none
-        | inr past ↦
-            ap (λ (t : SwitchesView). due_of t set) (set-past past) ∙ ap (λ (y : SwitchState). y.due) (get_or_past s.states set.0 (idle no_kind) past)
-      ]
+  due-none none = search (rules, cases_lt, state-same, set-past, get_or_past)
 
   -- where the new state is due as the old one was, all are
   pub due-kept : x.due ≡ due_of s set → (n : SwitchId) → due_of (set_state set x s) n ≡ due_of s n
-  due-kept kept n =
-      elim (cases_eq n.0 set.0) [
-        | inr other ↦ due-other n other
-        | inl same ↦
-            elim (cases_lt set.0 (length s.states)) [
-              | inl there ↦
-                  subst (λ (k : ℕ). (slice_index_or (slice_set s.states set.0 x) k (idle no_kind)).due ≡ (slice_index_or s.states k (idle no_kind)).due) (sym same)
-                  (ap (λ (y : SwitchState). y.due) (state-same there) ∙ kept)
-              | inr past ↦ ap (λ (t : SwitchesView). due_of t n) (set-past past)
-            ]
-      ]
+  due-kept kept n = search (rules, cases_eq, due-other, cases_lt, slice_index_or, slice_set, state-same, set-past)
 
 pub idle-kind : (plan : PlanView) (n : SwitchId) → kind_at (all_idle plan) n ≡ (switch_at plan n).kind
 idle-kind plan n = get_or-map (λ (s : PlanSwitch). s.kind) plan.switches n.0 no_switch
@@ -113,26 +85,12 @@ module _ (switch : SwitchId) (s : SwitchesView) where
 
   -- nothing is due then that was not before
   pub accept-due : (n : SwitchId) (due : ℕ) → due_of (accept switch s) n ≡ Some due → due_of s n ≡ Some due
-  accept-due n due is =
-      elim (due-set s switch (fired (kind_at s switch) (state_at s switch)) n due is) [
-        | inl old ↦ old
-        | inr new ↦ absurd (none-some due new.1)
-      ]
+  accept-due n due is = search (rules, due-set, none-some)
 
   module _ (at : ℕ) (next : IsNextDue s at switch) where
     -- what is due then comes later, or at the same moment with a greater number
     pub accept-later : (n : SwitchId) (due : ℕ) → due_of (accept switch s) n ≡ Some due → (at < due) ⊎ ((at ≡ due) × (switch.0 < n.0))
-    accept-later n due is =
-        elim (next.least n due (accept-due n due is)) [
-          | inl later ↦ inl later
-          | inr same ↦
-              elim (cases_eq n.0 switch.0) [
-                | inr other ↦ let above = same.1 in inr (same.0, omega arith)
-                | inl own ↦
-                    let here : due_of (accept switch s) switch ≡ Some due = subst (λ (k : ℕ). (slice_index_or (accept switch s).states k (idle no_kind)).due ≡ Some due) own is in
-                    absurd (none-some due (sym accept-done ∙ here))
-              ]
-        ]
+    accept-later n due is = search (rules, accept-due, cases_eq, slice_index_or, none-some, accept-done)
 
     -- it is what a fire accepts and reports
     pub fire-accepts : after_fire s ≡ accept switch s

@@ -72,14 +72,7 @@ changed-is kind now level x other = cond-false (same_level level x.raw) x (taken
 -- one more raw change
 followed-taken : (kind : SwitchKind) (past : List RawChange) (x : SwitchState) (moment now : ℕ) (level : Bool) → moment ≤ now → ((due : ℕ) → x.due ≡ Some due → now < due)
     → IsFollowed kind past x moment → IsFollowed kind (past ++ record { at = now; level = level } ∷ []) (taken kind.quick kind now level x) now
-followed-taken kind past x moment now level forward quiet f = record {
-  levels = λ later h.
-      let before : accepted_level kind now past ≡ x.active = f.levels now forward ∙ level-quiet kind x now x.due quiet in
-      accepted-push kind later past (record { at = now; level = level }) h
-      ∙ ap (λ b. cond (nat_le (now + delay_of kind) later) (is_active kind.contact level) b) before
-      ∙ taken-level kind now later level x kind.quick h;
-  ahead = λ due is. taken-ahead kind now due level x kind.quick is;
-}
+followed-taken kind past x moment now level forward quiet f = search (rules, level-quiet, accepted-push, nat_le, taken-level, taken-ahead)
 
 -- ---- a switch among all
 
@@ -182,16 +175,7 @@ module _ (switch : SwitchId) (kind : SwitchKind) where
 
 module _ (plan : PlanView) (switch : SwitchId) (within : switch.0 < length plan.switches) where
   follows-new : Follows switch (switch_at plan switch).kind (raw_at_rest (switch_at plan switch).kind.contact) [] (all_idle plan) 0
-  follows-new =
-      let kind = (switch_at plan switch).kind in
-      let is : state_at (all_idle plan) switch ≡ idle kind = get_or-map (λ (s : PlanSwitch). idle s.kind) plan.switches switch.0 no_switch (idle no_kind) within in
-      let count = length-map plan.switches (λ (s : PlanSwitch). idle s.kind) in
-      record {
-        within = omega arith;
-        kind_is = get_or-map (λ (s : PlanSwitch). s.kind) plan.switches switch.0 no_switch no_kind within;
-        raw_is = ap (λ (y : SwitchState). y.raw) is;
-        followed = subst (λ (y : SwitchState). IsFollowed kind [] y 0) (sym is) (followed-idle kind);
-      }
+  follows-new = search (rules, get_or-map, length-map, followed-idle)
 
   followed-new : (calls : List SwitchCall) → AreInTime 0 (all_idle plan) calls
       → IsFollowed (switch_at plan switch).kind (raw_changes switch (raw_at_rest (switch_at plan switch).kind.contact) calls) (state_at (after_calls calls (all_idle plan)) switch) (last_moment 0 calls)

@@ -39,11 +39,8 @@ last-push o [] x = refl
 last-push o (y ∷ ys) x = last-push (Some y) ys x
 
 active-push : (contact : Contact) (xs : List RawChange) (c : RawChange) (b : Bool) → active_after contact (last_or None (xs ++ cond b (c ∷ []) [])) ≡ cond b (is_active contact c.level) (active_after contact (last_or None xs))
-active-push contact xs c true = ap (active_after contact) (last-push None xs c)
-active-push contact xs c false = ap (λ (ys : List RawChange). active_after contact (last_or None ys)) (append-nil xs)
+active-push contact xs c b = search (rules, last-push, append-nil)
 
 -- The later change is accepted once its delay is over; until then the level is the one at its moment.
 pub accepted-push : (kind : SwitchKind) (moment : ℕ) (past : List RawChange) (c : RawChange) → c.at ≤ moment → accepted_level kind moment (past ++ c ∷ []) ≡ cond (is_delay_over (delay_of kind) moment c) (is_active kind.contact c.level) (accepted_level kind c.at past)
-accepted-push kind moment past c before =
-    let changes = filter (is_delay_over (delay_of kind) c.at) (standing (delay_of kind) past) in
-    ap (λ (cs : List RawChange). active_after kind.contact (last_or None cs)) (standing-push (delay_of kind) moment past c before) ∙ active-push kind.contact changes c (is_delay_over (delay_of kind) moment c)
+accepted-push kind moment past c before = search (rules, standing-push, active-push)

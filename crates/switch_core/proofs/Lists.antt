@@ -25,15 +25,10 @@ lists_view kinds states = record { kinds = kinds; states = map state_view states
 -- ---- what is due is one of the switches
 
 pub due-within : (s : SwitchesView) (switch : SwitchId) (at : ℕ) → due_of s switch ≡ Some at → switch.0 < length s.states
-due-within s switch at is =
-    elim (cases_lt switch.0 (length s.states)) [
-      | inl within ↦ within
-      | inr past ↦ absurd (none-some at (sym (ap (λ (x : SwitchState). x.due) (get_or_past s.states switch.0 (idle no_kind) past)) ∙ is))
-    ]
+due-within s switch at is = search (rules, cases_lt, none-some, get_or_past)
 
 pub answer-within : (s : SwitchesView) (o : Option (ℕ × SwitchId)) → IsComplete s → IfSome o (λ d. IsNextDue s d.0 d.1) → IfSome o (λ d. d.1.0 < length s.kinds)
-answer-within s None complete is = tt
-answer-within s (Some d) complete is = let within = due-within s d.1 d.0 is.due in let same = complete.states in omega arith
+answer-within s o complete is = search (rules, due-within)
 
 module _ (kinds : List SwitchKind) (states : List State) (next : Option (ℕ × SwitchId)) (waiting : Vec (ℕ × SwitchId) Global) (kept : IsKept next waiting (lists_view kinds states)) (at : ℕ) (switch : SwitchId) (is : next ≡ Some (at, switch)) where
   pub kept-next : next_due (lists_view kinds states) ≡ Some (at, switch)
@@ -65,12 +60,7 @@ module _ (kinds : List SwitchKind) (states : List State) (s : SwitchesView) (is 
 -- ---- one state is set
 
 pub complete-set : (kinds : List SwitchKind) (states : List State) (i : ℕ) (new : State) → IsComplete (lists_view kinds states) → IsComplete (lists_view kinds (slice_set states i new))
-complete-set kinds states i new complete =
-    let same = complete.states in
-    record {
-      states = length-map (slice_set states i new) state_view ∙ (length-set states i new ∙ (sym (length-map states state_view) ∙ same));
-      limit = complete.limit;
-    }
+complete-set kinds states i new complete = search (rules, length-map, slice_set, length-set)
 
 -- a test whether two moments differ
 pub same-moment : (a b : Option ℕ) (differ : Bool) → differ ≡ not (option_eq nat_eq a b) → differ ≡ false → a ≡ b
@@ -95,22 +85,10 @@ module _ (kinds : List SwitchKind) (states : List State) (switch : SwitchId) (ki
     makes = ap₂ make read-kind read-state ∙ sym made
 
     set-made : lists_view kinds (slice_set states switch.0 new) ≡ set_state switch (make (kind_at (lists_view kinds states) switch) (state_at (lists_view kinds states) switch)) (lists_view kinds states)
-    set-made =
-        let views : map state_view (slice_set states switch.0 new) ≡ slice_set (map state_view states) switch.0 (state_view new) = map-set state_view states switch.0 new in
-        ap (λ (xs : List SwitchState). lists_of kinds xs) (views ∙ ap (slice_set (map state_view states) switch.0) (sym makes))
-      where
-        lists_of : List SwitchKind → List SwitchState → SwitchesView
-        lists_of ks xs = record { kinds = ks; states = xs }
+    set-made = search (rules, slice_set, map-set, makes)
 
     reported-made : reported (set_state switch (make (kind_at (lists_view kinds states) switch) (state_at (lists_view kinds states) switch)) (lists_view kinds states)) switch ≡ record { switch = switch; active = new.active }
-    reported-made =
-        let x = make (kind_at (lists_view kinds states) switch) (state_at (lists_view kinds states) switch) in
-        let count = length-map states state_view in
-        let set : slice_index_or (slice_set (map state_view states) switch.0 x) switch.0 (idle no_kind) ≡ x = get_or-set_same (map state_view states) switch.0 x (idle no_kind) (omega arith) in
-        ap (λ (y : SwitchState). reported_as y.active) (set ∙ makes)
-      where
-        reported_as : Bool → Change
-        reported_as b = record { switch = switch; active = b }
+    reported-made = search (rules, length-map, slice_index_or, slice_set, get_or-set_same, makes)
 
   -- what is due next is the same, where the new state is due as the old one was
   pub set-next : new.due ≡ old.due → next_due (lists_view kinds (slice_set states switch.0 new)) ≡ next_due (lists_view kinds states)
@@ -122,47 +100,23 @@ module _ (kinds : List SwitchKind) (states : List State) (switch : SwitchId) (ki
   -- the switch waits as the old state says
   module _ (next : Option (ℕ × SwitchId)) (waiting : Vec (ℕ × SwitchId) Global) (kept : IsKept next waiting (lists_view kinds states)) where
     pub kept-waits : IsWaiting switch old.due (map state_view states) waiting.items
-    kept-waits = record {
-      within = omega (arith, in_states, length-map states state_view);
-      due_is = ap (λ (x : SwitchState). x.due) read-state;
-      waiting_is = kept.waiting_is;
-    }
+    kept-waits = search (rules, length-map, read-state)
 
     set_views : slice_set (map state_view states) switch.0 (state_view new) ≡ map state_view (slice_set states switch.0 new)
     set_views = sym (map-set state_view states switch.0 new)
 
     set_room : length (map state_view (slice_set states switch.0 new)) ≤ vec_capacity waiting
-    set_room =
-        let count = length-map states state_view in
-        let long = length-map (slice_set states switch.0 new) state_view in
-        let set = length-set states switch.0 new in
-        let room = kept.room in
-        omega arith
+    set_room = search (rules, length-map, slice_set, length-set)
 
     -- the due moment is set
     pub kept-set : (new_next : Option (ℕ × SwitchId)) (after : Vec (ℕ × SwitchId) Global)
         → ((xs : List SwitchState) (x : SwitchState) → IsWaiting switch old.due xs waiting.items → x.due ≡ new.due → after.items ≡ waiting_from 0 (slice_set xs switch.0 x))
         → vec_capacity waiting ≤ vec_capacity after → new_next ≡ soonest after.items → IsKept new_next after (lists_view kinds (slice_set states switch.0 new))
-    kept-set new_next after set grown is =
-        let waits : after.items ≡ waiting_from 0 (map state_view (slice_set states switch.0 new)) = set (map state_view states) (state_view new) kept-waits refl ∙ ap (waiting_from 0) set_views in
-        record {
-          complete = complete-set kinds states switch.0 new kept.complete;
-          next_is = is ∙ ap soonest waits ∙ soonest-is 0 (map state_view (slice_set states switch.0 new));
-          waiting_is = waits;
-          room = let fits = set_room in omega arith;
-        }
+    kept-set new_next after set grown is = search (rules, slice_set, kept-waits, set_views, complete-set, soonest-is, set_room)
 
     -- or stays the same
     pub kept-same : new.due ≡ old.due → IsKept next waiting (lists_view kinds (slice_set states switch.0 new))
-    kept-same same = record {
-      complete = complete-set kinds states switch.0 new kept.complete;
-      next_is = kept.next_is ∙ sym (set-next same);
-      waiting_is =
-          waiting-was switch old.due (map state_view states) waiting.items kept-waits
-          ∙ sym (waiting-set switch (map state_view states) (state_view new) old.due kept-waits.within same)
-          ∙ ap (waiting_from 0) set_views;
-      room = set_room;
-    }
+    kept-same same = search (rules, complete-set, set-next, waiting-was, kept-waits, waiting-set, set_views, set_room)
 
   -- a change
   pub change-set : (level : Bool) (now : ℕ) → state_view new ≡ changed kind now level (state_view old) → lists_view kinds (slice_set states switch.0 new) ≡ after_change switch level now (lists_view kinds states)

@@ -1,6 +1,6 @@
 -- What the state of a switch says of its raw level: it was accepted, or is due and says the other level than that which
 -- was accepted last. So each level that is accepted is another one than before.
-use Rattle.std.proofs.Common.{rules, ◌≡◌, ◌≢◌, ℕ, ◌+◌, ◌<◌, Bool, true, false, not, ◌&&◌, cond, if◌then◌else◌, Option, Some, None, length, refl, sym, ap, subst, ◌∙◌, true≢false, inl, inr}
+use Rattle.std.proofs.Common.{arith, rules, ◌≡◌, ◌≢◌, ℕ, ◌+◌, ◌<◌, Bool, true, false, not, ◌&&◌, cond, if◌then◌else◌, Option, Some, None, length, refl, sym, ap, subst, ◌∙◌, true≢false, inl, inr}
 use Rattle.std.proofs.lemmas.Bool.{and_parts, cases_lt, cases_eq, cond_both}
 use Rattle.machine_settings.specs.declared.words.Contact.{Contact}
 use Rattle.machine_settings.specs.declared.words.Contact.TheVariants.{NormallyOpen, NormallyClosed}
@@ -62,9 +62,7 @@ abbrev pub AreRead : SwitchesView → Type 0
 AreRead s = (n : SwitchId) → IsRead (kind_at s n) (state_at s n)
 
 pub idle-all_read : (plan : PlanView) → AreRead (all_idle plan)
-idle-all_read plan n =
-    subst (λ (kind : SwitchKind). IsRead kind (state_at (all_idle plan) n)) (sym (idle-kind plan n))
-    (subst (IsRead (switch_at plan n).kind) (sym (idle-state plan n)) (idle-read (switch_at plan n).kind))
+idle-all_read plan n = search (rules, idle-kind, idle-state, idle-read)
 
 pub idle-inactive : (plan : PlanView) (n : SwitchId) → active_at (all_idle plan) n ≡ false
 idle-inactive plan n = ap (λ (x : SwitchState). x.active) (idle-state plan n)
@@ -88,8 +86,7 @@ module _ (s : SwitchesView) (set : SwitchId) (x : SwitchState) where
 
 module _ (s : SwitchesView) (n : SwitchId) where
   pub change-read : (level : Bool) (now : ℕ) → AreRead s → AreRead (after_change n level now s)
-  change-read level now h =
-      set-read s n (changed (kind_at s n) now level (state_at s n)) (changed-read (kind_at s n) now level (state_at s n) (h n)) h
+  change-read level now h = search (rules, set-read, changed-read)
 
   pub accept-read : AreRead s → AreRead (accept n s)
   accept-read h = set-read s n (fired (kind_at s n) (state_at s n)) refl h

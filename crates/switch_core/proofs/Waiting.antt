@@ -83,16 +83,10 @@ module _ {X : Type 0} (p : X → Bool) (front back : List X) (low : All (λ x. p
   at-front k d within = ap p (get_or_append_left front back d k within) ∙ low k d within
 
   at-back : (k : ℕ) (d : X) → length front ≤ k → k < length (front ++ back) → p (get_or (front ++ back) k d) ≡ false
-  at-back k d from within =
-      let long = length-append front back in
-      ap p (get_or-append_right front back (length front) k d refl from) ∙ high (k - length front) d (omega arith)
+  at-back k d from within = search (rules, length-append, get_or-append_right)
 
   pub parted : IsPartitionedBy p (front ++ back)
-  parted i j d le within is =
-      elim (cases_lt j (length front)) [
-        | inl before ↦ at-front i d (omega arith)
-        | inr after ↦ absurd (true≢false (sym is ∙ at-back j d after within))
-      ]
+  parted i j d le within is = search (rules, cases_lt, at-front, at-back)
 
   pub point : (d : X) (k : ℕ) → k ≤ length (front ++ back) → IsPartitionPoint (λ x. p x ≡ true) (λ x. p x ≡ false) (front ++ back) k → k ≡ length front
   point d k le is =
@@ -128,17 +122,10 @@ is_lower switch d = nat_lt d.1.0 switch.0
 
 module _ (switch : SwitchId) (states : List SwitchState) where
   lower-low : All (λ d. is_lower switch d ≡ true) (lower switch states)
-  lower-low k d within =
-      let h = numbered 0 (take switch.0 states) k d within in
-      let high = h.1 in
-      let long = length-take switch.0 states in
-      lt-ltb _ switch.0 (omega arith)
+  lower-low k d within = search (rules, numbered, length-take, lt-ltb)
 
   others-high : All (λ d. is_lower switch d ≡ false) (others switch states)
-  others-high k d within =
-      let h = numbered (0 + switch.0) (drop switch.0 states) k d within in
-      let low = h.0 in
-      le-ltb _ switch.0 (omega arith)
+  others-high k d within = search (rules, numbered, le-ltb)
 
   pub waiting-parted : IsPartitionedBy (is_lower switch) (waiting_from 0 states)
   waiting-parted =
@@ -162,12 +149,7 @@ abbrev pub higher : SwitchId → List SwitchState → List Due
 higher switch states = waiting_from (suc switch.0) (drop (suc switch.0) states)
 
 pub waiting-set : (switch : SwitchId) (states : List SwitchState) (x : SwitchState) (due : Option ℕ) → switch.0 < length states → x.due ≡ due → waiting_from 0 (slice_set states switch.0 x) ≡ lower switch states ++ in_front (due_at switch due) (higher switch states)
-waiting-set switch states x due within is =
-    let here : 0 + switch.0 ≡ switch.0 = omega arith in
-    let next : 0 + suc switch.0 ≡ suc switch.0 = omega arith in
-    from-set 0 switch.0 states x within
-    ∙ ap₂ (λ n m. lower switch states ++ in_front (due_as n x) (waiting_from m (drop (suc switch.0) states))) here next
-    ∙ ap (λ o. lower switch states ++ in_front (due_at switch o) (higher switch states)) is
+waiting-set switch states x due within is = search (rules, from-set)
 
 module _ (switch : SwitchId) (was : Option ℕ) (states : List SwitchState) (waiting : List Due) (is : IsWaiting switch was states waiting) where
   pub waiting-was : waiting ≡ lower switch states ++ in_front (due_at switch was) (higher switch states)
@@ -177,40 +159,18 @@ module _ (switch : SwitchId) (was : Option ℕ) (states : List SwitchState) (wai
 
   -- so there is room for it among the others
   pub others-room : length (lower switch states ++ higher switch states) < length states
-  others-room =
-      let within = is.within in
-      let sum = length-append (lower switch states) (higher switch states) in
-      let front = length-waiting 0 (take switch.0 states) in
-      let back = length-waiting (suc switch.0) (drop (suc switch.0) states) in
-      let short = length-take switch.0 states in
-      let long = length-drop (suc switch.0) states in
-      omega arith
+  others-room = search (rules, length-append, length-waiting, length-take, length-drop)
 
   module _ (at : ℕ) (here : at ≡ length (lower switch states)) where
     -- if it waits, it is at its place
     pub place-within : is_some was ≡ true → at < length waiting
-    place-within = by was waiting-was
-      where
-        by : (o : Option ℕ) → waiting ≡ lower switch states ++ in_front (due_at switch o) (higher switch states) → is_some o ≡ true → at < length waiting
-        by None with_it is = absurd (true≢false (sym is))
-        by (Some moment) with_it is =
-            let sum = length-append (lower switch states) ((moment, switch) ∷ higher switch states) in
-            let long = ap length with_it in
-            omega arith
+    place-within = search (rules, waiting-was, is_some, length-append)
 
     -- it is taken out, and the others are left
     pub others-left : (left : List Due) → left ≡ (if is_some was then remove waiting at else waiting) → left ≡ lower switch states ++ higher switch states
-    others-left left = by was waiting-was
-      where
-        by : (o : Option ℕ) → waiting ≡ lower switch states ++ in_front (due_at switch o) (higher switch states) → left ≡ (if is_some o then remove waiting at else waiting) → left ≡ lower switch states ++ higher switch states
-        by None without_it is = is ∙ without_it
-        by (Some moment) with_it is = is ∙ ap₂ remove with_it here ∙ remove-between (lower switch states) (moment, switch) (higher switch states)
+    others-left left = search (rules, waiting-was, is_some, remove-between)
 
     -- it is put in among them
     pub put-again : (left after : List Due) (x : SwitchState) (due : Option ℕ) → left ≡ lower switch states ++ higher switch states → x.due ≡ due
         → MatchOption due (after ≡ left) (λ moment. after ≡ insert left at (moment, switch)) → after ≡ waiting_from 0 (slice_set states switch.0 x)
-    put-again left after x due left_is due_is put = by due put ∙ sym (waiting-set switch states x due is.within due_is)
-      where
-        by : (o : Option ℕ) → MatchOption o (after ≡ left) (λ moment. after ≡ insert left at (moment, switch)) → after ≡ lower switch states ++ in_front (due_at switch o) (higher switch states)
-        by None same = same ∙ left_is
-        by (Some moment) more = more ∙ ap₂ (λ ds k. insert ds k (moment, switch)) left_is here ∙ insert-between (lower switch states) (moment, switch) (higher switch states)
+    put-again left after x due left_is due_is put = search (rules, waiting-set, insert-between)
