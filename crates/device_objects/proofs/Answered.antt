@@ -224,9 +224,7 @@ timer_act-in t _ now s = here
 pub timer-in : (t : TimerSettings) (call : Call) (now : ℕ) (s : TimerState) → In (timer.timer_step t call now s).1 (of_timer t call)
 timer-in t calls.ModeStart now s = begins-in t now s
 timer-in t calls.ModeStop now s = here
-timer-in t calls.Fire now s =
-    let next : TimerState = record s { value = moved t.direction (pos 1) s.value } in
-    ticked-in t (is_at_end t.direction t.end next.value) (timer.completed t now next) (timer.run t now next, []) (at_end-some t.direction t.end next.value) (completed-is t now next) refl
+timer-in t calls.Fire now s = search (rules, ticked-in, at_end-some, completed-is)
 timer-in t (calls.Act act) now s = timer_act-in t act now s
 
 -- ---- banks
@@ -255,11 +253,7 @@ hit-comes x y _ true _ _ _ hits done only = by (append-nil hits) here
 
 hit_now-in : (b : BankSettings) (i s : ℕ) (slot : BankSlot) → nat_lt i b.shots ≡ true → slice_get slot.states i ≡ Some s
     → In (bank.hit b i s slot).1 (of_hit_in b i s)
-hit_now-in b i s slot within is =
-    let next = bank.next_state b s in
-    hit-comes (record slot { states = bank.gone_on b i s slot.states }) slot b.group b.advance_on_hit (not (next == s))
-    (bank.are_all_in b next (bank.gone_on b i s slot.states)) (nat_lt 1 b.shots) (bank.hit_lists b i s)
-    (bank.group_complete b next) (λ one. only_shot b.shots i s next slot.states within one is)
+hit_now-in b i s slot within is = search (rules, hit-comes, nat_lt, only_shot)
 
 hit_where-in : (b : BankSettings) (i : ℕ) (slot : BankSlot) (enabled : Option Bool) (state : Option ℕ)
     → nat_lt i b.shots ≡ true → slice_get slot.states i ≡ state
@@ -287,9 +281,7 @@ bank_none-in b _ = here
 bank-in : (b : BankSettings) (call : Call) (world : World) (slots : List BankSlot) → length slots ≡ 4 → MayCome call (states.Bank slots)
     → In (bank.bank_step b call world slots).1 (outcomes (kinds.Bank b) call)
 bank-in b calls.Fire world slots four may = absurd (false≢true may)
-bank-in b (calls.Act act) world slots four may =
-    in_use-answers (λ answer. In answer (of_bank b act)) (λ slot. bank.slot_step b act (bank.current b world slot))
-    (λ slot. bank_slot-in b act (bank.current b world slot)) true world slots four (λ is. bank_none-in b act)
+bank-in b (calls.Act act) world slots four may = search (rules, in_use-answers, bank_slot-in, bank_none-in)
 bank-in b _ world slots four may = here
 
 -- ---- flippers and autofire coils

@@ -143,9 +143,7 @@ counter_hits c within =
     (All-cons Answer going_on (only_if (is_some c.complete) (completing ∷ [])) going (all_if Answer (is_some c.complete) (completing ∷ []) (λ some. one Answer completing (done some))))
 
 counter_resets : (c : CounterSettings) (act : Act) → IsAnswer (kinds.Counter c) (calls.Act act) (updated ∷ []) → All (IsAnswer (kinds.Counter c) (calls.Act act)) (resetting c.block)
-counter_resets c act resets = All-append (IsAnswer (kinds.Counter c) (calls.Act act)) (only_if c.block.persist silent) ((updated ∷ []) ∷ [])
-    (all_if (IsAnswer (kinds.Counter c) (calls.Act act)) c.block.persist silent (λ persist. one (IsAnswer (kinds.Counter c) (calls.Act act)) [] (counter_by_nobody c act persist)))
-    (one (IsAnswer (kinds.Counter c) (calls.Act act)) (updated ∷ []) resets)
+counter_resets c act resets = search (rules, All-append, all_if, counter_by_nobody)
 
 counter_acts : (c : CounterSettings) (act : Act) → IsEndWithin c.complete → All (IsAnswer (kinds.Counter c) (calls.Act act)) (of_counter c act)
 counter_acts c acts.Count within = counter_hits c within
@@ -229,9 +227,7 @@ accrual_completes a i within below =
     (ap (λ marks. list_all (λ d. d) (take a.steps marks)) (filled 16 i) ∙ ap (list_all (λ d. d)) (take-replicate a.steps 16 true within) ∙ all_set a.steps))
 
 accrual_resets : (a : StepSettings) (act : Act) → IsAnswer (kinds.Accrual a) (calls.Act act) (updated ∷ []) → All (IsAnswer (kinds.Accrual a) (calls.Act act)) (resetting a.block)
-accrual_resets a act resets = All-append (IsAnswer (kinds.Accrual a) (calls.Act act)) (only_if a.block.persist silent) ((updated ∷ []) ∷ [])
-    (all_if (IsAnswer (kinds.Accrual a) (calls.Act act)) a.block.persist silent (λ persist. one (IsAnswer (kinds.Accrual a) (calls.Act act)) [] (accrual_by_nobody a act persist)))
-    (one (IsAnswer (kinds.Accrual a) (calls.Act act)) (updated ∷ []) resets)
+accrual_resets a act resets = search (rules, All-append, all_if, accrual_by_nobody)
 
 accrual_acts : (a : StepSettings) (act : Act) → a.steps ≤ 16 → All (IsAnswer (kinds.Accrual a) (calls.Act act)) (of_accrual a act)
 accrual_acts a (acts.Step i) within =
@@ -282,9 +278,7 @@ sequence_takes q i below =
     ∙ halves (suc i == q.steps) (sequence.completed q next) next completing going_on)
 
 sequence_resets : (q : StepSettings) (act : Act) → IsAnswer (kinds.Sequence q) (calls.Act act) (updated ∷ []) → All (IsAnswer (kinds.Sequence q) (calls.Act act)) (resetting q.block)
-sequence_resets q act resets = All-append (IsAnswer (kinds.Sequence q) (calls.Act act)) (only_if q.block.persist silent) ((updated ∷ []) ∷ [])
-    (all_if (IsAnswer (kinds.Sequence q) (calls.Act act)) q.block.persist silent (λ persist. one (IsAnswer (kinds.Sequence q) (calls.Act act)) [] (sequence_by_nobody q act persist)))
-    (one (IsAnswer (kinds.Sequence q) (calls.Act act)) (updated ∷ []) resets)
+sequence_resets q act resets = search (rules, All-append, all_if, sequence_by_nobody)
 
 sequence_acts : (q : StepSettings) (act : Act) → All (IsAnswer (kinds.Sequence q) (calls.Act act)) (of_sequence q act)
 sequence_acts q (acts.Step i) =

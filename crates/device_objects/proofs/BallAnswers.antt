@@ -39,11 +39,7 @@ first-some first timeout is may = search rules
 -- where a ball counts, the device has a ball switch
 some_switch : (n : ℕ) (bs : List BallSwitch) → All (λ b. b ≡ empty) (drop n bs) → list_any (λ b. b.counted) bs ≡ true
     → nat_lt 0 n ≡ true
-some_switch zero bs unused counts =
-    let nowhere : list_any (λ (b : BallSwitch). b.counted) bs ≡ false =
-    list_any_none (λ b. b.counted) bs
-    (All-weaker (λ b. b ≡ empty) (λ b. b.counted ≡ false) (λ b is. ap (λ c. c.counted) is) bs unused) in
-    absurd (true≢false (sym counts ∙ nowhere))
+some_switch zero bs unused counts = search (rules, list_any_none, All-weaker)
 some_switch (suc n) bs unused counts = lt-ltb 0 (suc n) (omega arith)
 
 -- an attempt may follow one of this number, so also the first; or there is a last one
@@ -62,9 +58,7 @@ module _ (d : BallSettings) where
   either_ending lists false x y may = by (append-nil lists) here
 
   may_begin-from : (s : BallState) → HasBallShape d s → can_begin d s ≡ true → may_begin d ≡ true
-  may_begin-from s shape can =
-      let parts = can_begin-parts d s can in
-      and_from d.has_coil (nat_lt 0 d.switches) parts.1 (some_switch d.switches s.switches shape.unused parts.0)
+  may_begin-from s shape can = search (rules, can_begin-parts, and_from, nat_lt, some_switch)
 
   ending-in : (lists : List ℕ) (now : ℕ) (s : BallState) → (can_begin d s ≡ true → may_begin d ≡ true)
       → In (after lists (begin d now s)).1 (ending d lists)
@@ -80,12 +74,7 @@ module _ (d : BallSettings) where
   lost-in = at_last (ending d (entered ∷ []) ++ only_if (may_eject d) ((left ∷ []) ∷ []))
 
   gone-in : (now : ℕ) (eject : Eject) (s : BallState) → IsEjectOf d eject → In (gone d now eject s).1 (of_count d)
-  gone-in now Idle s is =
-      let first : Attempt = record { number = 1; timeout = now + d.ejects.timeout } in
-      either d.ejects.mechanical (record s { eject = Away first }, left ∷ []) (s, lost ∷ [])
-      (λ hand. left-in (or_right d.has_coil d.ejects.mechanical hand)) (λ none. lost-in)
-  gone-in now (Pulsing a) s is = left-in (or_left d.has_coil d.ejects.mechanical is.0)
-  gone-in now (Away a) s is = lost-in
+  gone-in now eject s is = search (rules, left-in, or_right, lost-in, or_left)
 
   count-in : (now i : ℕ) (s : BallState) → i < d.switches → HasBallShape d s → In (count d now i s).1 (of_count d)
   count-in now i s within shape =
@@ -112,12 +101,8 @@ module _ (d : BallSettings) where
   time_out-in : (now : ℕ) (eject : Eject) (s : BallState) → IsEjectOf d eject → is_some (timeout_of eject) ≡ true
       → HasBallShape d (ended s) → In (time_out d now eject s).1 (of_ball_fire d)
   time_out-in now Idle s is due shape = absurd (false≢true due)
-  time_out-in now (Pulsing a) s is due shape =
-      at_left (only_if (may_eject d) (ending d (overdue d.target)))
-      (at_right (only_if (nat_lt 0 d.switches) (of_count d)) (if_holds d.has_coil is.0 (stuck-in now a s is.1)))
-  time_out-in now (Away a) s is due shape =
-      at_right (only_if (nat_lt 0 d.switches) (of_count d) ++ only_if d.has_coil (of_attempt d))
-      (if_holds (may_eject d) is.0 (ending-in (overdue d.target) now (ended s) (may_begin-from (ended s) shape)))
+  time_out-in now (Pulsing a) s is due shape = search (rules, at_left, at_right, nat_lt, if_holds, stuck-in)
+  time_out-in now (Away a) s is due shape = search (rules, at_right, nat_lt, if_holds, ending-in, may_begin-from)
 
   count_due-in : (now : ℕ) (first : Option (ℕ × ℕ)) (s : BallState) → first_due s ≡ first → is_some first ≡ true
       → HasBallShape d s → In (count_due d now first s).1 (of_ball_fire d)
@@ -130,12 +115,7 @@ module _ (d : BallSettings) where
 
   fire-in : (now : ℕ) (s : BallState) → HasBallShape d s → MayCome calls.Fire (states.BallDevice s)
       → In (fire d now s).1 (of_ball_fire d)
-  fire-in now s shape may =
-      let first : Option (ℕ × ℕ) = first_due s in
-      let timeout : Option ℕ = timeout_of s.eject in
-      either (is_timeout_first first timeout) (time_out d now s.eject s) (count_due d now first s)
-      (λ is. time_out-in now s.eject s shape.eject (timeout-some first timeout is) (ended-shape d s shape))
-      (λ is. count_due-in now first s refl (first-some first timeout is may) shape)
+  fire-in now s shape may = search (rules, time_out-in, timeout-some, ended-shape, count_due-in, first-some)
 
   -- ---- acts
 

@@ -59,20 +59,14 @@ module _ (d : BallSettings) (limits : IsWithinLimits (kinds.BallDevice d)) where
 
   shape_with : (b : BallSwitch) (eject : Eject) (wanted : ℕ) → 0 < d.switches → IsEjectOf d eject → wanted ≤ 255
       → HasBallShape d (state_with b eject wanted)
-  shape_with b eject wanted some of few =
-      record { switches = refl; unused = unused d.switches b some; eject = of; wanted = few }
+  shape_with b eject wanted some of few = search (rules, unused)
 
   -- a device with no ball
   abbrev bare : Eject → BallState
   bare eject = state_with empty eject 0
 
   bare-shape : (eject : Eject) → IsEjectOf d eject → HasBallShape d (bare eject)
-  bare-shape eject of = record {
-    switches = refl;
-    unused = All-drop (λ c. c ≡ empty) d.switches (replicate 16 empty) (All-replicate (λ c. c ≡ empty) 16 empty refl);
-    eject = of;
-    wanted = omega arith;
-  }
+  bare-shape eject of = search (rules, unused, All-drop, All-replicate)
 
   began : (s : BallState) → can_begin d s ≡ true → (begin d 0 s).1 ≡ attempted ∷ []
   began s can = if_true (can_begin d s) (attempt d 1 0 s) (s, []) can
@@ -197,16 +191,7 @@ module _ (d : BallSettings) (limits : IsWithinLimits (kinds.BallDevice d)) where
           (record s { eject = Idle; wanted = 0 }, failed ∷ []) last.3)
 
   fire-comes : All (IsAnswer (kinds.BallDevice d) calls.Fire) (of_ball_fire d)
-  fire-comes =
-      let Answer : List ℕ → Type 0 = IsAnswer (kinds.BallDevice d) calls.Fire in
-      let counts : List (List ℕ) = only_if (nat_lt 0 d.switches) (of_count d) in
-      let attempts : List (List ℕ) = only_if d.has_coil (of_attempt d) in
-      All-append Answer (counts ++ attempts) (only_if (may_eject d) (ending d (overdue d.target)))
-      (All-append Answer counts attempts
-      (all_if Answer (nat_lt 0 d.switches) (of_count d) (λ some. count-comes (ltb-true 0 d.switches some)))
-      (all_if Answer d.has_coil (of_attempt d) (λ coil. attempt-comes coil)))
-      (all_if Answer (may_eject d) (ending d (overdue d.target))
-      (λ may. ending-comes calls.Fire (overdue d.target) may refl refl refl refl))
+  fire-comes = search (rules, nat_lt, All-append, all_if, count-comes, ltb-true, attempt-comes, ending-comes)
 
   -- ---- acts
 
@@ -216,12 +201,7 @@ module _ (d : BallSettings) (limits : IsWithinLimits (kinds.BallDevice d)) where
 
   -- a request that changes nothing, as there is no ball
   refused : (n : ℕ) → IsAnswer (kinds.BallDevice d) (calls.Act (acts.Request n)) []
-  refused n =
-      let t : BallState = record first_state { wanted = min (0 + n) 255 } in
-      elim (cases_Bool d.trough) [
-        | inl is ↦ quiet (calls.Act (acts.Request n)) tt (if_true d.trough (begin d 0 t) (first_state, []) is)
-        | inr is ↦ quiet (calls.Act (acts.Request n)) tt (if_false d.trough (begin d 0 t) (first_state, []) is)
-      ]
+  refused n = search (rules, cases_Bool, quiet, if_true, if_false)
 
   -- a request of any number of balls, before which one is wanted
   request-comes : (n : ℕ) → (d.trough && may_begin d) ≡ true
@@ -238,27 +218,7 @@ module _ (d : BallSettings) (limits : IsWithinLimits (kinds.BallDevice d)) where
       ∙ began t (can parts.0 (nat_lt 0 most) (lt-ltb 0 most (omega arith))))
 
   act-comes : (act : Act) → All (IsAnswer (kinds.BallDevice d) (calls.Act act)) (of_ball_act d act)
-  act-comes acts.Confirm =
-      let Answer : List ℕ → Type 0 = IsAnswer (kinds.BallDevice d) (calls.Act acts.Confirm) in
-      All-cons Answer [] (only_if (may_eject d) (ending d (confirmed d.target)))
-      (quiet (calls.Act acts.Confirm) tt refl)
-      (all_if Answer (may_eject d) (ending d (confirmed d.target))
-      (λ may. ending-comes (calls.Act acts.Confirm) (confirmed d.target) may tt tt refl refl))
-  act-comes (acts.Request n) =
-      let Answer : List ℕ → Type 0 = IsAnswer (kinds.BallDevice d) (calls.Act (acts.Request n)) in
-      let begins : Bool = d.trough && may_begin d in
-      All-cons Answer [] (only_if begins ((attempted ∷ []) ∷ [])) (refused n)
-      (all_if Answer begins ((attempted ∷ []) ∷ []) (λ is. one Answer (attempted ∷ []) (request-comes n is)))
-  act-comes (acts.SwitchOn i) =
-      one (IsAnswer (kinds.BallDevice d) (calls.Act (acts.SwitchOn i))) []
-      (quiet (calls.Act (acts.SwitchOn i)) tt refl)
-  act-comes (acts.SwitchOff i) =
-      one (IsAnswer (kinds.BallDevice d) (calls.Act (acts.SwitchOff i))) []
-      (quiet (calls.Act (acts.SwitchOff i)) tt refl)
-  act-comes act = one (IsAnswer (kinds.BallDevice d) (calls.Act act)) [] (quiet (calls.Act act) tt refl)
+  act-comes act = search (rules, All-cons, quiet, all_if, ending-comes, refused, request-comes)
 
   pub ball-comes : (call : Call) → All (IsAnswer (kinds.BallDevice d) call) (of_ball_device d call)
-  ball-comes calls.ModeStart = one (IsAnswer (kinds.BallDevice d) calls.ModeStart) [] (quiet calls.ModeStart tt refl)
-  ball-comes calls.ModeStop = one (IsAnswer (kinds.BallDevice d) calls.ModeStop) [] (quiet calls.ModeStop tt refl)
-  ball-comes calls.Fire = fire-comes
-  ball-comes (calls.Act act) = act-comes act
+  ball-comes call = search (rules, quiet, fire-comes, act-comes)

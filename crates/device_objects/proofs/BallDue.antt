@@ -92,11 +92,7 @@ not_due-none _ _ = refl
 
 -- one that is due is there
 pub due-inside : (bs : List BallSwitch) (i t : ℕ) → (get_or bs i empty).due ≡ Some t → i < length bs
-due-inside bs i t is =
-    elim (cases_lt i (length bs)) [
-      | inl within ↦ within
-      | inr past ↦ absurd (none-some t (sym (ap (λ b. b.due) (get_or_past bs i empty past)) ∙ is))
-    ]
+due-inside bs i t is = search (rules, cases_lt, none-some, get_or_past)
 
 pub part-of_switch : (bs : List BallSwitch) (timeout : Option ℕ) (i : ℕ) → i < length bs
     → get_or (parts bs timeout) i None ≡ (get_or bs i empty).due

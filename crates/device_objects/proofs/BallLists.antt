@@ -1,5 +1,5 @@
 -- Each effect list that a ball device answers is one of its seven.
-use Rattle.std.proofs.Common.{rules, ℕ, ◌<◌, Bool, Option, List, [], ◌∷◌, if◌then◌else◌}
+use Rattle.std.proofs.Common.{arith, rules, ℕ, ◌<◌, Bool, Option, List, [], ◌∷◌, if◌then◌else◌}
 use Rattle.std.specs.List.{All}
 use Rattle.std.proofs.lemmas.List.Elements.{All-cons}
 use Rattle.plan_tables.specs.declared.devices.Act.{Act}
@@ -37,14 +37,10 @@ module _ (d : BallSettings) where
   count_due-lists now first s = search rules
 
   fire-lists : (now : ℕ) (s : BallState) → AreLists (fire d now s).1
-  fire-lists now s =
-      either (is_timeout_first (first_due s) (timeout_of s.eject)) (time_out d now s.eject s)
-      (count_due d now (first_due s) s) (time_out-lists now s.eject s) (count_due-lists now (first_due s) s)
+  fire-lists now s = search (rules, either, time_out-lists, count_due-lists)
 
   act-lists : (act : Act) (now : ℕ) (s : BallState) → AreLists (act_step d act now s).1
   act-lists act now s = search rules
 
   pub ball_step-lists : (call : Call) (now : ℕ) (s : BallState) → AreLists (ball_step d call now s).1
-  ball_step-lists calls.Fire now s = fire-lists now s
-  ball_step-lists (calls.Act act) now s = act-lists act now s
-  ball_step-lists _ now s = no_list
+  ball_step-lists call now s = search (rules, fire-lists, act-lists, no_list)

@@ -32,8 +32,7 @@ after_set _ _ _ b = inr refl
 
 -- the part after the last ball switch is the attempt
 part-at_attempt : (s : BallState) (k : ℕ) → k ≡ length s.switches → part_due s k ≡ timeout_of s.eject
-part-at_attempt s k is =
-    ap (λ n. get_or (parts s.switches (timeout_of s.eject)) n None) is ∙ part-of_attempt s.switches (timeout_of s.eject)
+part-at_attempt s k is = search (rules, get_or, part-of_attempt)
 
 module _ (d : BallSettings) (now : ℕ) (limits : IsBallDeviceWithin d) (old : BallState) where
   -- the parts are due when they were before, or later than now
@@ -73,11 +72,7 @@ module _ (d : BallSettings) (now : ℕ) (limits : IsBallDeviceWithin d) (old : B
 
   set-later : (i : ℕ) (b : BallSwitch) (bs : List BallSwitch) → ((due : ℕ) → b.due ≡ Some due → now < due)
       → AreSwitchesLater bs → AreSwitchesLater (set bs i b)
-  set-later i b bs later h j due is =
-      elim (after_set bs i j b) [
-        | inl new ↦ inr (later due (sym (ap (λ c. c.due) new) ∙ is))
-        | inr same ↦ h j due (sym (ap (λ c. c.due) same) ∙ is)
-      ]
+  set-later i b bs later h j due is = search (rules, after_set)
 
   count-later : (i : ℕ) (s : BallState) → IsLater s → IsLater (count d now i s).0
   count-later i s h =
@@ -93,20 +88,14 @@ module _ (d : BallSettings) (now : ℕ) (limits : IsBallDeviceWithin d) (old : B
   count_due-later (Some a) s h = count-later a.1 s h
 
   fire-later : (s : BallState) → IsLater s → IsLater (fire d now s).0
-  fire-later s h =
-      either (is_timeout_first (first_due s) (timeout_of s.eject)) (time_out d now s.eject s)
-      (count_due d now (first_due s) s) (time_out-later s.eject s h) (count_due-later (first_due s) s h)
+  fire-later s h = search (rules, either, time_out-later, count_due-later)
 
   noted-later : (active otherwise : Bool) (due : ℕ)
       → (if otherwise then Some (now + delay d active) else None) ≡ Some due → now < due
   noted-later active otherwise due is = search rules
 
   switched-later : (i : ℕ) (active : Bool) (s : BallState) → IsLater s → IsLater (switched d i active now s)
-  switched-later i active s h =
-      let b : BallSwitch = noted d active now (switch_at s i) in
-      one_state (nat_lt i d.switches) (set_switch i b s) s
-      (set-later i b s.switches (noted-later active (counts_otherwise active (switch_at s i))) h.0, h.1, length-set s.switches i b ∙ h.2)
-      h
+  switched-later i active s h = search (rules, one_state, nat_lt, set-later, noted-later, length-set)
 
   requested-later : (n : ℕ) (s : BallState) → IsLater s → IsLater (requested d n now s).0
   requested-later n s h = search rules
@@ -119,8 +108,7 @@ module _ (d : BallSettings) (now : ℕ) (limits : IsBallDeviceWithin d) (old : B
   act-later _ s h = h
 
   halted-later : (s : BallState) → IsLater s → IsLater (halted s)
-  halted-later s h =
-      ((λ i due is. absurd (none-some due (sym (not_due-none s.switches i) ∙ is))), idle, length-map s.switches not_due ∙ h.2)
+  halted-later s h = search (rules, none-some, not_due-none, idle, length-map)
 
   step-later : (call : Call) (s : BallState) → IsLater s → IsLater (ball_step d call now s).0
   step-later calls.ModeStart s h = h
@@ -147,10 +135,7 @@ ball-arms_later d call now s limits k due is =
 -- ---- what is due first is a part
 
 switch-is_due : (s : BallState) (a : ℕ × ℕ) → first_due s ≡ Some a → (switch_at s a.1).due ≡ Some a.0
-switch-is_due s a is =
-    let at = first_due-is_due 0 s.switches a is in
-    let number : a.1 ≡ at.0 = omega (arith, at.1) in
-    ap (λ k. (get_or s.switches k empty).due) number ∙ at.2
+switch-is_due s a is = search (rules, first_due-is_due, get_or)
 
 first-is_part : (s : BallState) (a : ℕ × ℕ) → first_due s ≡ Some a → part_due s a.1 ≡ Some a.0
 first-is_part s a is = switch-is_part s.switches (timeout_of s.eject) a.1 a.0 (switch-is_due s a is)
@@ -233,18 +218,7 @@ module _ (d : BallSettings) (now : ℕ) (limits : IsBallDeviceWithin d) where
       (λ due. IsDone now due (states.BallDevice s)
       (states.BallDevice
       (if is_timeout_first first timeout then time_out d now s.eject s else count_due d now first s).0))
-  first-done s None None at over = tt
-  first-done s None (Some t) at over = timeout-done s t t over refl
-  first-done s (Some a) None at over = count-done s a a.0 at refl
-  first-done s (Some a) (Some t) at over = one_of (nat_lt t a.0) refl
-    where
-      one_of : (test : Bool) → nat_lt t a.0 ≡ test
-          → IsDone now (min a.0 t) (states.BallDevice s)
-          (states.BallDevice (if test then time_out d now s.eject s else count d now a.1 s).0)
-      one_of true is =
-          timeout-done s t (min a.0 t) over (let before : t < a.0 = ltb-true t a.0 is in omega (arith, before))
-      one_of false is =
-          count-done s a (min a.0 t) at (let before : a.0 ≤ t = ltb-false t a.0 is in omega (arith, before))
+  first-done s first timeout at over = search (rules, timeout-done, count-done, nat_lt, ltb-true, ltb-false)
 
 pub ball-fired : (d : BallSettings) (now : ℕ) (s : BallState) → IsBallDeviceWithin d
     → IfSome (due_of s) (λ due. IsDone now due (states.BallDevice s) (states.BallDevice (fire d now s).0))
@@ -264,19 +238,7 @@ none-due bs i None none is = refl
 none-due bs i (Some t) none is = let c = first_due-is_first 0 bs i t is in absurd (none-some c.0 (sym none ∙ c.1))
 
 pub ball-parts_none : (s : BallState) → due_of s ≡ None → (k : ℕ) → part_due s k ≡ None
-ball-parts_none s is k = none_of (part_due s k) refl
-  where
-    neither : (option_map (λ a. a.0) (first_due s) ≡ None) × (timeout_of s.eject ≡ None)
-    neither = earlier-none (option_map (λ a. a.0) (first_due s)) (timeout_of s.eject) is
-
-    none_of : (due : Option ℕ) → part_due s k ≡ due → due ≡ None
-    none_of None at = refl
-    none_of (Some t) at =
-        elim (which_part s.switches (timeout_of s.eject) k t at) [
-          | inl switch ↦
-              absurd (none-some t (sym (none-due s.switches k (switch_at s k).due (no_moment (first_due s) neither.0) refl) ∙ switch.1))
-          | inr attempt ↦ absurd (none-some t (sym neither.1 ∙ attempt.1))
-        ]
+ball-parts_none s is k = search (rules, option_map, earlier-none, which_part, none-some, none-due, no_moment)
 
 -- a part that is due is the attempt, or is due when the first ball switch is, or later
 abbrev IsPart : Option (ℕ × ℕ) → Option ℕ → ℕ → Type 0
@@ -296,9 +258,7 @@ first-is_least first timeout = search rules
 
 pub ball-parts_first : (s : BallState)
     → IfSome (due_of s) (λ due. (k other : ℕ) → part_due s k ≡ Some other → due ≤ other)
-ball-parts_first s =
-    IfSome_then (due_of s) (first-is_least (first_due s) (timeout_of s.eject))
-    (λ due least k other is. least other (part-is s k other is))
+ball-parts_first s = search (rules, IfSome_then, first-is_least, part-is)
 
 pub ball-parts_few : (s : BallState) (k : ℕ) → length s.switches ≡ 16 → 17 ≤ k → part_due s k ≡ None
 ball-parts_few s k long past = part-past s.switches (timeout_of s.eject) k (omega (arith, long, past))
@@ -328,17 +288,7 @@ module _ (d : BallSettings) (now : ℕ) (s : BallState) where
   -- the attempt is the first part if it is over before any ball switch is due
   attempt-first : (t : ℕ) → timeout_of s.eject ≡ Some t → ((i at : ℕ) → (switch_at s i).due ≡ Some at → t < at)
       → IsFirstPart (states.BallDevice s) t (length s.switches)
-  attempt-first t is before = record {
-    due = part-at_attempt s (length s.switches) refl ∙ is;
-    earliest = λ other at found. elim (which_part s.switches (timeout_of s.eject) other at found) [
-      | inl switch ↦ (let later = before other at switch.1 in omega (arith, later))
-      | inr attempt ↦ (let same : t ≡ at = same_Some t at (sym is ∙ attempt.1) in omega (arith, same))
-    ];
-    lowest = λ other found. elim (which_part s.switches (timeout_of s.eject) other t found) [
-      | inl switch ↦ (let later = before other t switch.1 in absurd (omega (arith, later)))
-      | inr attempt ↦ omega (arith, attempt.0)
-    ];
-  }
+  attempt-first t is before = search (rules, part-at_attempt, which_part, same_Some)
 
   of_test : (k : ℕ) (test : Bool) → nat_lt k (length s.switches) ≡ test
       → fire_part d k now s ≡ (if test then count d now k s else time_out d now s.eject s)
@@ -348,8 +298,7 @@ module _ (d : BallSettings) (now : ℕ) (s : BallState) where
   attempt-fires = sym (of_test (length s.switches) false (le-ltb (length s.switches) (length s.switches) (omega arith)))
 
   switch-fires : (a : ℕ × ℕ) → first_due s ≡ Some a → count d now a.1 s ≡ fire_part d a.1 now s
-  switch-fires a is =
-      sym (of_test a.1 true (lt-ltb a.1 (length s.switches) (due-inside s.switches a.1 a.0 (switch-is_due s a is))))
+  switch-fires a is = search (rules, of_test, lt-ltb, due-inside, switch-is_due)
 
   -- what is done, if the first ball switch and the attempt are due then, is what the first part does
   abbrev DoesFirst : BallState × List ℕ → ℕ → Type 0

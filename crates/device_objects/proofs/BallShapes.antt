@@ -66,21 +66,10 @@ module _ (d : BallSettings) where
 
   pub with_switch : (i : ℕ) (b : BallSwitch) (s : BallState) → i < d.switches → HasBallShape d s
       → HasBallShape d (set_switch i b s)
-  with_switch i b s within shape = record {
-    switches = length-set s.switches i b ∙ shape.switches;
-    unused = All-same (λ c. c ≡ empty) (drop d.switches (set s.switches i b)) (drop d.switches s.switches)
-        (drop-set-lt d.switches s.switches i b within) shape.unused;
-    eject = shape.eject;
-    wanted = shape.wanted;
-  }
+  with_switch i b s within shape = search (rules, length-set, All-same, drop-set-lt)
 
   pub first_ball-shape : HasBallShape d first_state
-  first_ball-shape = record {
-    switches = refl;
-    unused = All-drop (λ b. b ≡ empty) d.switches (replicate 16 empty) (All-replicate (λ b. b ≡ empty) 16 empty refl);
-    eject = tt;
-    wanted = omega arith;
-  }
+  first_ball-shape = search (rules, All-drop, All-replicate)
 
   -- a state, and an answer, that is one of two
   one_state : (test : Bool) (x y : BallState) → (test ≡ true → HasBallShape d x) → HasBallShape d y
@@ -121,11 +110,7 @@ module _ (d : BallSettings) where
   gone-shape now eject s is shape = search rules
 
   count-shape : (now i : ℕ) (s : BallState) → i < d.switches → HasBallShape d s → HasBallShape d (count d now i s).0
-  count-shape now i s within shape =
-      let t : BallState = set_switch i (turned (switch_at s i)) s in
-      let still : HasBallShape d t = with_switch i (turned (switch_at s i)) s within shape in
-      one_answer (switch_at s i).counted (gone d now s.eject t) (after (entered ∷ []) (begin d now t))
-      (λ counted. gone-shape now s.eject t shape.eject still) (begin-shape now t still)
+  count-shape now i s within shape = search (rules, with_switch, one_answer, gone-shape, begin-shape)
 
   -- the ball switch that is due first is one that the device has
   pub first_due-within : (s : BallState) (a : ℕ × ℕ) → HasBallShape d s → first_due s ≡ Some a → a.1 < d.switches
@@ -136,32 +121,19 @@ module _ (d : BallSettings) where
 
   count_due-shape : (now : ℕ) (first : Option (ℕ × ℕ)) (s : BallState) → first_due s ≡ first → HasBallShape d s
       → HasBallShape d (count_due d now first s).0
-  count_due-shape now None s is shape = shape
-  count_due-shape now (Some a) s is shape = count-shape now a.1 s (first_due-within s a shape is) shape
+  count_due-shape now first s is shape = search (rules, count-shape, first_due-within)
 
   fire-shape : (now : ℕ) (s : BallState) → HasBallShape d s → HasBallShape d (fire d now s).0
-  fire-shape now s shape =
-      one_answer (is_timeout_first (first_due s) (timeout_of s.eject)) (time_out d now s.eject s)
-      (count_due d now (first_due s) s) (λ is. time_out-shape now s.eject s shape.eject shape)
-      (count_due-shape now (first_due s) s refl shape)
+  fire-shape now s shape = search (rules, one_answer, time_out-shape, count_due-shape)
 
   switched-shape : (i : ℕ) (active : Bool) (now : ℕ) (s : BallState) → HasBallShape d s
       → HasBallShape d (switched d i active now s)
-  switched-shape i active now s shape =
-      let b : BallSwitch = noted d active now (switch_at s i) in
-      one_state (nat_lt i d.switches) (set_switch i b s) s
-      (λ within. with_switch i b s (ltb-true i d.switches within) shape) shape
+  switched-shape i active now s shape = search (rules, one_state, nat_lt, with_switch, ltb-true)
 
   -- ---- steps
 
   halted-shape : (s : BallState) → HasBallShape d s → HasBallShape d (halted s)
-  halted-shape s shape = record {
-    switches = length-map s.switches not_due ∙ shape.switches;
-    unused = All-same (λ b. b ≡ empty) (drop d.switches (map not_due s.switches))
-        (map not_due (drop d.switches s.switches)) (drop-map not_due d.switches s.switches) (not_due-empty (drop d.switches s.switches) shape.unused);
-    eject = tt;
-    wanted = omega arith;
-  }
+  halted-shape s shape = search (rules, length-map, All-same, drop-map, not_due-empty)
 
   act-shape : (act : Act) (now : ℕ) (s : BallState) → HasBallShape d s → HasBallShape d (act_step d act now s).0
   act-shape (acts.SwitchOn i) now s shape = switched-shape i true now s shape

@@ -1,5 +1,5 @@
 -- Sixteen flags, and the bits of the number that keeps them.
-use Rattle.std.proofs.Common.{◌≡◌, ◌≢◌, ℕ, zero, suc, ◌+◌, ◌^◌, ◌<◌, ◌≤◌, ◌==◌, nat_le, min, inl, inr, Bool, true, false, None, Some, List, [], ◌∷◌, length, take, replicate, set, get_or, slice_get, refl, sym, ap, ◌∙◌, subst, arith}
+use Rattle.std.proofs.Common.{rules, ◌≡◌, ◌≢◌, ℕ, zero, suc, ◌+◌, ◌^◌, ◌<◌, ◌≤◌, ◌==◌, nat_le, min, inl, inr, Bool, true, false, None, Some, List, [], ◌∷◌, length, take, replicate, set, get_or, slice_get, refl, sym, ap, ◌∙◌, subst, arith}
 use Rattle.std.specs.Int.{bit_at, trailing_ones, w16}
 use lib.Count.{count_trailing_zeros}
 use Rattle.std.specs.List.{list_all}
@@ -67,9 +67,7 @@ all_set (d ∷ all) (suc n) each =
 
 one_clear : (all : List Bool) (n k : ℕ) → k < n → k < length all → get_or all k false ≡ false
     → list_all (λ d. d) (take n all) ≡ false
-one_clear all n k below within clear =
-    list_all_at (λ d. d) (take n all) k false (omega (arith, below, within, length-take n all))
-    (get_or-take n all k false below ∙ clear)
+one_clear all n k below within clear = search (rules, list_all_at, length-take, get_or-take)
 
 full_ones : trailing_ones w16 65535 ≡ 16
 unfolding count_trailing_zeros

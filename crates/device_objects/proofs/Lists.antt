@@ -105,10 +105,7 @@ module _ (b : BankSettings) where
   of_group = if b.group then 2 else 0
 
   hits-below : (i s : ℕ) → i < b.shots → s ≤ b.last_state → AreBelow count (hit_lists b i s)
-  hits-below i s within low =
-      more count (shot_hit b i s) (if b.group then group_hit b s ∷ [] else [])
-      (shot-below i b.shots (state_count b) of_group s within (omega (arith, low)))
-      (group_if b.group b.shots (state_count b) s (omega (arith, low)))
+  hits-below i s within low = search (rules, more, shot-below, group_if)
 
   completing-below : (i s : ℕ) → i < b.shots → s ≤ b.last_state → b.group ≡ true → AreBelow count (hit_completing b i s)
   completing-below i s within low is =
@@ -117,15 +114,7 @@ module _ (b : BankSettings) where
       (complete_if b.group b.shots (state_count b) (next_state b s) is (omega (arith, next-low)))
 
   hit_in-below : (i s : ℕ) → i < b.shots → s ≤ b.last_state → AreAllBelow count (of_hit_in b i s)
-  hit_in-below i s within low =
-      let hits : AreAllBelow count (hit_lists b i s ∷ []) = only count (hit_lists b i s) (hits-below i s within low) in
-      all_one_of count (can_complete b s)
-      (only_if (nat_lt 1 b.shots) (hit_lists b i s ∷ []) ++ hit_completing b i s ∷ []) (hit_lists b i s ∷ [])
-      (λ can. All-append (AreBelow count) (only_if (nat_lt 1 b.shots) (hit_lists b i s ∷ []))
-      (hit_completing b i s ∷ [])
-      (below_if count (nat_lt 1 b.shots) (hit_lists b i s ∷ []) (λ several. hits))
-      (only count (hit_completing b i s) (completing-below i s within low (and_parts b.group _ can).0)))
-      hits
+  hit_in-below i s within low = search (rules, only, hits-below, all_one_of, nat_lt, All-append, below_if, completing-below, and_parts)
 
   bank_act-below : (act : Act) → AreAllBelow count (of_bank b act)
   bank_act-below (acts.Hit i) =
@@ -136,9 +125,7 @@ module _ (b : BankSettings) where
   bank_act-below _ = only count [] (none count)
 
   bank-all_below : (call : Call) → AreAllBelow count (outcomes (kinds.Bank b) call)
-  bank-all_below calls.Fire = All-nil (AreBelow count)
-  bank-all_below (calls.Act act) = bank_act-below act
-  bank-all_below _ = only count [] (none count)
+  bank-all_below call = search (rules, All-nil, bank_act-below, only, none)
 
 -- ---- every kind
 
@@ -159,10 +146,7 @@ counter-below c (calls.Act act) now world slots =
 counter-below c _ now world slots = none 3
 
 accrual-below : (a : StepSettings) (call : Call) (world : World) (slots : List AccrualSlot) → AreBelow 3 (accrual.accrual_step a call world slots).1
-accrual-below a (calls.Act act) world slots =
-    in_use-below 3 (λ slot. accrual.slot_step a act (accrual.current a world slot))
-    (λ slot. outcome-below (kinds.Accrual a) (calls.Act act) _ (accrual_slot-in a act (accrual.current a world slot))) slots (slot_in_use a.block.persist world)
-accrual-below a _ world slots = none 3
+accrual-below a call world slots = search (rules, in_use-below, outcome-below, accrual_slot-in, none)
 
 sequence-below : (q : StepSettings) (call : Call) (world : World) (slots : List SequenceSlot) → AreBelow 3 (sequence.sequence_step q call world slots).1
 sequence-below q call world slots = search rules

@@ -53,13 +53,7 @@ unarmed settings call now world state not k due is = search rules
 pub arms-later : (settings : Settings) (call : Call) (now : ℕ) (world : World) (state : DeviceState)
     → IsWithinLimits settings → (k due : ℕ) → part_due (device_step settings call now world state).0 k ≡ Some due
     → (part_due state k ≡ Some due) ⊎ (now < due)
-arms-later (kinds.Timer t) call now world (states.Timer s) limits zero due is = search rules
-arms-later (kinds.Timer t) call now world (states.Timer s) limits (suc k) due is = absurd (none-some due is)
-arms-later (kinds.BallDevice d) call now world (states.BallDevice s) limits k due is =
-    ball-arms_later d call now s limits k due is
-arms-later (kinds.BallSave b) call now world (states.BallSave s) limits zero due is = search rules
-arms-later (kinds.BallSave b) call now world (states.BallSave s) limits (suc k) due is = absurd (none-some due is)
-arms-later settings call now world state limits k due is = inl (unarmed settings call now world state refl k due is)
+arms-later settings call now world state limits k due is = search (rules, none-some, ball-arms_later, unarmed)
 
 -- ---- what is done when a device fires
 
@@ -74,18 +68,12 @@ timer-fired t now s some = search rules
 pub fired-done : (settings : Settings) (now : ℕ) (world : World) (state : DeviceState) → IsWithinLimits settings
     → HasShape settings state
     → IfSome (due_of state) (λ due. IsDone now due state (device_step settings calls.Fire now world state).0)
-fired-done (kinds.Timer t) now world (states.Timer s) limits shape = timer-fired t now s limits.0
-fired-done (kinds.BallDevice d) now world (states.BallDevice s) limits shape = ball-fired d now s limits
-fired-done (kinds.BallSave b) now world (states.BallSave s) limits shape = save-fired b now s shape
-fired-done settings now world state limits shape = search rules
+fired-done settings now world state limits shape = search (rules, timer-fired, ball-fired, save-fired)
 
 -- ---- which part fires
 
 pub first_parts_fire : FirstPartsFire
-first_parts_fire (kinds.Timer t) now world (states.Timer s) shape = search rules
-first_parts_fire (kinds.BallDevice d) now world (states.BallDevice s) shape = ball-fires_first d now world s
-first_parts_fire (kinds.BallSave b) now world (states.BallSave s) shape = search rules
-first_parts_fire settings now world state shape = search rules
+first_parts_fire x1 now world x2 shape = search (rules, ball-fires_first)
 
 pub arms_later_moments : ArmsLaterMoments
 arms_later_moments = record { step = arms-later; fired = fired-done }
@@ -94,10 +82,7 @@ arms_later_moments = record { step = arms-later; fired = fired-done }
 
 -- while a device is not due, none of its parts is
 pub parts-none : (state : DeviceState) → due_of state ≡ None → (k : ℕ) → part_due state k ≡ None
-parts-none (states.Timer s) is zero = is
-parts-none (states.BallDevice s) is k = ball-parts_none s is k
-parts-none (states.BallSave s) is zero = is
-parts-none _ is _ = refl
+parts-none state is k = search (rules, ball-parts_none)
 
 -- while it is, one is due at the same moment
 pub parts-one : (state : DeviceState) → IfSome (due_of state) (λ due. (k : ℕ) × (part_due state k ≡ Some due))
@@ -117,13 +102,7 @@ parts-first _ = tt
 -- no part from 17 on is due
 pub parts-few : (settings : Settings) (state : DeviceState) (k : ℕ) → HasShape settings state → 17 ≤ k
     → part_due state k ≡ None
-parts-few settings (states.Timer s) zero shape past = absurd (omega (arith, past))
-parts-few settings (states.Timer s) (suc k) shape past = refl
-parts-few (kinds.BallDevice d) (states.BallDevice s) k shape past = ball-parts_few s k shape.switches past
-parts-few _ (states.BallDevice s) k shape past = elim shape [ ]
-parts-few settings (states.BallSave s) zero shape past = absurd (omega (arith, past))
-parts-few settings (states.BallSave s) (suc k) shape past = refl
-parts-few _ _ k shape past = refl
+parts-few settings state k shape past = search (rules, ball-parts_few)
 
 pub devices_are_due_with_their_parts : DevicesAreDueWithTheirParts
 devices_are_due_with_their_parts = record { none = parts-none; one = parts-one; first = parts-first; few = parts-few }
@@ -136,17 +115,7 @@ first-quiet settings = search rules
 
 -- nor when the device's mode has stopped; and to that it answers nothing
 pub stopped-quiet : (settings : Settings) (now : ℕ) (world : World) (state : DeviceState) → HasShape settings state → due_of (device_step settings calls.ModeStop now world state).0 ≡ None
-stopped-quiet (kinds.Timer t) now world (states.Timer s) shape = refl
-stopped-quiet (kinds.Counter c) now world (states.Counter slots) shape = refl
-stopped-quiet (kinds.Accrual a) now world (states.Accrual slots) shape = refl
-stopped-quiet (kinds.Bank b) now world (states.Bank slots) shape = refl
-stopped-quiet (kinds.Sequence q) now world (states.Sequence slots) shape = refl
-stopped-quiet kinds.Flipper now world (states.Flipper s) shape = refl
-stopped-quiet kinds.Autofire now world (states.Autofire s) shape = refl
-stopped-quiet (kinds.BallDevice d) now world (states.BallDevice s) shape = ball-stopped_quiet s
-stopped-quiet (kinds.BallSave b) now world (states.BallSave s) shape = refl
-stopped-quiet (kinds.Multiball m) now world (states.Multiball s) shape = refl
-stopped-quiet _ now world _ shape = elim shape [ ]
+stopped-quiet settings now world state shape = search (rules, ball-stopped_quiet)
 
 pub stopped-silent : (settings : Settings) (now : ℕ) (world : World) (state : DeviceState) → (device_step settings calls.ModeStop now world state).1 ≡ []
 stopped-silent settings now world state = search rules

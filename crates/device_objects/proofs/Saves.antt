@@ -97,8 +97,7 @@ module _ (b : SaveSettings) where
 
   from_active : (act : Act) (lists : List ℕ) (left : ℕ) → left ≤ b.balls → (act_step b act 0 (active_with left)).1 ≡ lists
       → IsAnswer (kinds.BallSave b) (calls.Act act) lists
-  from_active act lists left low answers =
-      answered (calls.Act act) lists (active_with left) (active-shape left low) tt answers
+  from_active act lists left low answers = search (rules, answered, active-shape)
 
   saves : All (IsAnswer (kinds.BallSave b) (calls.Act acts.Save)) (of_save_act b acts.Save)
   saves =
@@ -117,9 +116,7 @@ module _ (b : SaveSettings) where
   acts-come acts.Enable =
       two (IsAnswer (kinds.BallSave b) (calls.Act acts.Enable)) [] (enabled ∷ []) (from_active acts.Enable [] 0 (omega arith) refl)
       (answered (calls.Act acts.Enable) (enabled ∷ []) first_state (first_save-shape b) tt refl)
-  acts-come acts.Disable =
-      two (IsAnswer (kinds.BallSave b) (calls.Act acts.Disable)) [] (disabled ∷ []) (quiet (calls.Act acts.Disable) tt refl)
-      (from_active acts.Disable (disabled ∷ []) 0 (omega arith) refl)
+  acts-come acts.Disable = search (rules, quiet, from_active)
   acts-come acts.Save = saves
   acts-come act = one (IsAnswer (kinds.BallSave b) (calls.Act act)) [] (quiet (calls.Act act) tt refl)
 
@@ -134,10 +131,7 @@ module _ (b : SaveSettings) where
       (record { left = omega arith; due = λ is. (refl, ltb-true 0 b.active_time some) }) refl refl))
 
   pub save-comes : (call : Call) → All (IsAnswer (kinds.BallSave b) call) (of_save b call)
-  save-comes calls.ModeStart = one (IsAnswer (kinds.BallSave b) calls.ModeStart) [] (quiet calls.ModeStart tt refl)
-  save-comes calls.ModeStop = one (IsAnswer (kinds.BallSave b) calls.ModeStop) [] (quiet calls.ModeStop tt refl)
-  save-comes calls.Fire = ends
-  save-comes (calls.Act act) = acts-come act
+  save-comes call = search (rules, quiet, ends, acts-come)
 
 -- ---- lists
 

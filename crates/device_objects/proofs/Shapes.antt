@@ -50,10 +50,7 @@ anew-marks a keep slots all = search rules
 
 accrual_step-marks : (a : StepSettings) (call : Call) (world : World) (slots : List AccrualSlot) → All HasMarks slots → All HasMarks (accrual.accrual_step a call world slots).0
 accrual_step-marks a calls.ModeStart world slots all = anew-marks a a.block.persist slots all
-accrual_step-marks a (calls.Act act) world slots all =
-    step_in_use-all HasMarks (λ slot. accrual.slot_step a act (accrual.current a world slot))
-    (λ slot marks. slot_step-marks a act (accrual.current a world slot) (current-marks a world slot (is_of_other_game a.block.persist world slot.game) marks))
-    slots (slot_in_use a.block.persist world) all
+accrual_step-marks a (calls.Act act) world slots all = search (rules, step_in_use-all, slot_step-marks, current-marks)
 accrual_step-marks a _ world slots all = all
 
 accrual_step-length : (a : StepSettings) (call : Call) (world : World) (slots : List AccrualSlot) → length (accrual.accrual_step a call world slots).0 ≡ length slots
@@ -85,28 +82,11 @@ module _ (b : BankSettings) where
   with_state slot i state shape within = search rules
 
   turned-length : (k : ℕ) (states : List ℕ) → length (bank.turned b.shots k states) ≡ length states
-  turned-length k states =
-      let turning : List ℕ = take b.shots states in
-      omega (
-        arith,
-        length-append (drop k turning ++ take k turning) (drop b.shots states),
-        length-append (drop k turning) (take k turning),
-        length-drop k turning,
-        length-take k turning,
-        length-take b.shots states,
-        length-drop b.shots states,
-      )
+  turned-length k states = search (rules, length-append, length-drop, length-take)
 
   turned-shape : (slot : BankSlot) (k : ℕ) → HasBankShape b slot
       → HasBankShape b (record slot { states = bank.turned b.shots k slot.states })
-  turned-shape slot k shape =
-      let P : ℕ → Type 0 = λ s. s ≤ b.last_state in
-      let turning : List ℕ = take b.shots slot.states in
-      let all : All P turning = All-take P b.shots slot.states shape.2 in
-      with_states slot (bank.turned b.shots k slot.states) shape (turned-length k slot.states ∙ shape.1)
-      (All-append P (drop k turning ++ take k turning) (drop b.shots slot.states)
-      (All-append P (drop k turning) (take k turning) (All-drop P k turning all) (All-take P k turning all))
-      (All-drop P b.shots slot.states shape.2))
+  turned-shape slot k shape = search (rules, All-take, with_states, turned-length, All-append, All-drop)
 
   first_slot-shape : (game : ℕ) → HasBankShape b (bank.first_slot b game)
   first_slot-shape game = (refl, refl, All-replicate (λ s. s ≤ b.last_state) 16 0 (omega arith))
@@ -153,10 +133,7 @@ module _ (b : BankSettings) where
 
   bank_step-shape : (call : Call) (world : World) (slots : List BankSlot) → All (HasBankShape b) slots
       → All (HasBankShape b) (bank.bank_step b call world slots).0
-  bank_step-shape (calls.Act act) world slots all =
-      step_in_use-all (HasBankShape b) (λ slot. bank.slot_step b act (bank.current b world slot))
-      (λ slot shape. bank_slot-shape act (bank.current b world slot) (current-shape world slot shape)) slots
-      (slot_in_use true world) all
+  bank_step-shape (calls.Act act) world slots all = search (rules, step_in_use-all, bank_slot-shape, current-shape)
   bank_step-shape _ world slots all = all
 
   bank_step-length : (call : Call) (world : World) (slots : List BankSlot)
@@ -179,8 +156,7 @@ step-shape (kinds.Counter c) call now world (states.Counter slots) four = counte
 step-shape (kinds.Accrual a) call now world (states.Accrual slots) shape = (accrual_step-length a call world slots ∙ shape.0, accrual_step-marks a call world slots shape.1)
 step-shape (kinds.Sequence q) call now world (states.Sequence slots) four = sequence_step-length q call world slots ∙ four
 step-shape (kinds.Timer t) call now world (states.Timer s) shape = tt
-step-shape (kinds.Bank b) call now world (states.Bank slots) shape =
-    (bank_step-length b call world slots ∙ shape.0, bank_step-shape b call world slots shape.1)
+step-shape (kinds.Bank b) call now world (states.Bank slots) shape = search (rules, bank_step-length, bank_step-shape)
 step-shape kinds.Flipper call now world (states.Flipper s) shape = tt
 step-shape kinds.Autofire call now world (states.Autofire s) shape = tt
 step-shape (kinds.BallDevice d) call now world (states.BallDevice s) shape = ball_step-shape d call now s shape

@@ -40,8 +40,7 @@ module _ {S : Type 0} (P : List ℕ → Type 0) (step : S → S × List ℕ) (ea
   at_first (s ∷ ss) four = each s
 
   pub in_use-answers : (persist : Bool) (world : World) (slots : List S) → length slots ≡ 4 → (persist ≡ true → P []) → P (step_in_use step slots (slot_in_use persist world)).1
-  in_use-answers true world slots four none = of_player (world.player == 0) slots (world.player - 1) (none refl)
-  in_use-answers false world slots four none = at_first slots four
+  in_use-answers persist world slots four none = search (rules, of_player, at_first)
 
 -- ---- slots that are seen otherwise than they are kept
 
@@ -51,17 +50,9 @@ module _ {S V : Type 0} (seen : S → V) (step : V → V × List ℕ) where
       → slice_get slots i ≡ Some slot → seen new ≡ (step (seen slot)).0 → lists ≡ (step (seen slot)).1
       → (map seen (set slots i new) ≡ (step_in_use step (map seen slots) at).0)
       × (lists ≡ (step_in_use step (map seen slots) at).1)
-  seen-step slots at i slot new lists is here becomes answers =
-      let there : slice_get (map seen slots) i ≡ Some (seen slot) = slice_get-map seen slots i ∙ ap (option_map seen) here in
-      let steps : step_in_use step (map seen slots) at ≡ put_at i (map seen slots) (step (seen slot)) =
-      ap (step_in_use step (map seen slots)) is ∙ ap (step_at step i (map seen slots)) there in (
-        map-set seen slots i new ∙ ap (set (map seen slots) i) becomes ∙ sym (ap (λ a. a.0) steps),
-        answers ∙ sym (ap (λ a. a.1) steps),
-      )
+  seen-step slots at i slot new lists is here becomes answers = search (rules, slice_get, slice_get-map, option_map, map-set)
 
   -- where there is no such slot, nothing is done
   pub seen-past : (slots : List S) (at : Option ℕ) (i : ℕ) → at ≡ Some i → length slots ≤ i
       → step_in_use step (map seen slots) at ≡ (map seen slots, [])
-  seen-past slots at i is past =
-      ap (step_in_use step (map seen slots)) is
-      ∙ ap (step_at step i (map seen slots)) (slice_get_past (map seen slots) i (omega (arith, past, length-map slots seen)))
+  seen-past slots at i is past = search (rules, slice_get_past, length-map)

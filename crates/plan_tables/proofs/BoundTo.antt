@@ -1,5 +1,5 @@
 -- The places of what is bound to an event: what stands at them is what is bound to it, in plan order.
-use Rattle.std.proofs.Common.{◌≡◌, ℕ, suc, ◌+◌, ◌<◌, Bool, true, false, cond, ◌==◌, List, [], ◌∷◌, ◌++◌, length, map, filter, get_or, refl, ◌∙◌, ap, arith}
+use Rattle.std.proofs.Common.{rules, ◌≡◌, ℕ, suc, ◌+◌, ◌<◌, Bool, true, false, cond, ◌==◌, List, [], ◌∷◌, ◌++◌, length, map, filter, get_or, refl, ◌∙◌, ap, arith}
 use Rattle.std.specs.List.{All, range_with_len}
 use Rattle.std.proofs.lemmas.Bool.{eqb-true}
 use Rattle.std.proofs.lemmas.List.{map-append}
@@ -68,16 +68,7 @@ places_among bindings e = map (λ n. record { 0 = n }) (numbers_from (on e) 0 bi
 
 -- one binding more has its place where it is on the event
 pub places_among-more : (bindings : List Binding) (b : Binding) (e : EventId) → places_among (bindings ++ b ∷ []) e ≡ places_among bindings e ++ cond (b.event.0 == e.0) (record { 0 = length bindings } ∷ []) []
-places_among-more bindings b e =
-    let place : ℕ → BindingId = λ n. record { 0 = n } in
-    let here : 0 + length bindings ≡ length bindings = omega arith in
-    ap (map place) (numbers-append (on e) 0 bindings (b ∷ []) ∙ ap (λ n. numbers_from (on e) 0 bindings ++ numbers_from (on e) n (b ∷ [])) here)
-    ∙ map-append place (numbers_from (on e) 0 bindings) (cond (on e b) (length bindings ∷ []) [])
-    ∙ ap (λ ps. places_among bindings e ++ ps) (by (on e b))
-  where
-    by : (passes : Bool) → map {B = BindingId} (λ n. record { 0 = n }) (cond passes (length bindings ∷ []) []) ≡ cond passes (record { 0 = length bindings } ∷ []) []
-    by true = refl
-    by false = refl
+places_among-more bindings b e = search (rules, numbers-append, map-append)
 
 -- ---- the places of what is bound to an event of a plan
 

@@ -51,30 +51,7 @@ module _ {X Y : Type 0} (make : ℕ → Y) (number : Y → ℕ) (back : (n : ℕ
 
   -- one item more
   pub listed_more : (i : ℕ) (lists : List (List Y)) (at : Option ℕ) → place (get_or items i d) ≡ at → IfSome at (λ p. p < length lists) → AreListed i lists → AreListed (i + 1) (added lists at (make i))
-  listed_more i lists None is known so_far e within =
-      so_far e within
-      ∙ sym (append-nil (listed e i))
-      ∙ sym (ap (λ o. listed e i ++ alone (is_at e o) i) is)
-      ∙ sym (one_more e i)
-  listed_more i lists (Some p) is known so_far e within =
-      let more : List Y = get_or lists p [] ++ make i ∷ [] in
-      elim (eqb_tells e p) [
-        | inl same ↦
-            ap (λ n. get_or (set lists p more) n []) same.1
-            ∙ get_or-set_same lists p more [] known
-            ∙ ap (λ ys. ys ++ make i ∷ []) (so_far p known)
-            ∙ ap (λ n. listed n i ++ make i ∷ []) (sym same.1)
-            ∙ sym (ap (λ b. listed e i ++ alone b i) same.0)
-            ∙ sym (ap (λ o. listed e i ++ alone (is_at e o) i) is)
-            ∙ sym (one_more e i)
-        | inr other ↦
-            get_or-set_other lists p e more [] other.1
-            ∙ so_far e (omega (arith, within, length-set lists p more))
-            ∙ sym (append-nil (listed e i))
-            ∙ sym (ap (λ b. listed e i ++ alone b i) other.0)
-            ∙ sym (ap (λ o. listed e i ++ alone (is_at e o) i) is)
-            ∙ sym (one_more e i)
-      ]
+  listed_more i lists at is known so_far e within = search (rules, append-nil, one_more, get_or, eqb_tells, get_or-set_same, get_or-set_other, length-set)
 
   -- where each list is empty, nothing is listed
   pub listed_none : (lists : List (Vec Y Global)) → All (λ v. v.items ≡ []) lists → AreListed 0 (lists_view lists)
@@ -83,23 +60,13 @@ module _ {X Y : Type 0} (make : ℕ → Y) (number : Y → ℕ) (back : (n : ℕ
   -- one item more in the lists as they lie in memory
   pub item_listed : (n : ℕ) (old new : List (Vec Y Global)) (at : Option ℕ) (count : ℕ) → lists_view new ≡ added (lists_view old) at (make n) → at ≡ place (get_or items n d)
       → IfSome (place (get_or items n d)) (λ p. p < count) → length old ≡ count → AreListed n (lists_view old) → (length new ≡ count) × AreListed (n + 1) (lists_view new)
-  item_listed n old new at count is at_is known many so_far =
-      let shown : Vec Y Global → List Y = λ v. v.items in
-      let old_count : length (lists_view old) ≡ length old = length-map old shown in
-      let new_count : length (lists_view new) ≡ length new = length-map new shown in
-      let same : length (lists_view new) ≡ length (lists_view old) = ap length is ∙ length-added (lists_view old) at (make n) in
-      let there : IfSome at (λ p. p < length (lists_view old)) =
-      subst (λ m. IfSome at (λ p. p < m)) (sym (old_count ∙ many)) (subst (λ o. IfSome o (λ p. p < count)) (sym at_is) known) in
-      (sym new_count ∙ same ∙ old_count ∙ many, subst (AreListed (n + 1)) (sym is) (listed_more n (lists_view old) at (sym at_is) there so_far))
+  item_listed n old new at count is at_is known many so_far = search (rules, length-map, length-added, listed_more)
 
 module _ {Y : Type 0} where
   -- an item is pushed to the list at a place
   pub lists_pushed : (lists : List (Vec Y Global)) (place : ℕ) (old new : Vec Y Global) (y : Y) → place < length lists → old ≡ get_or lists place old → new.items ≡ old.items ++ y ∷ []
       → lists_view (set lists place new) ≡ added (lists_view lists) (Some place) y
-  lists_pushed lists place old new y known is pushed =
-      let shown : Vec Y Global → List Y = λ v. v.items in
-      let there : old.items ≡ get_or (lists_view lists) place [] = ap shown is ∙ sym (get_or-map shown lists place old [] known) in
-      map-set shown lists place new ∙ ap (set (lists_view lists) place) (pushed ∙ ap (λ ys. ys ++ y ∷ []) there)
+  lists_pushed lists place old new y known is pushed = search (rules, get_or, get_or-map, map-set)
 
 -- ---- the places of a plan's rows and bindings
 
@@ -204,27 +171,17 @@ module _ {Y : Type 0} (lists : List (Vec Y Global)) (f : ℕ → List Y) (count 
 -- the list of a mode, and that of a target
 module _ (inside plan : PlanView) (is : inside ≡ plan) where
   pub mode_bindings_read : (lists : List (Vec BindingId Global)) (m : ModeId) (v : Vec BindingId Global) → HasModeBindings inside lists → m.0 < length plan.modes → v ≡ get_or lists m.0 v → v.items ≡ bindings_of_owner plan (Mode m)
-  mode_bindings_read lists m v has within at =
-      list_at lists (λ n. bindings_of_owner inside (Mode (record { 0 = n }))) (length inside.modes) has m.0 v (subst (λ (p : PlanView). m.0 < length p.modes) (sym is) within) at
-      ∙ ap (λ (p : PlanView). bindings_of_owner p (Mode m)) is
+  mode_bindings_read lists m v has within at = search (rules, list_at)
 
   pub mode_rows_read : (lists : List (Vec RowId Global)) (m : ModeId) (v : Vec RowId Global) → HasModeRows inside lists → m.0 < length plan.modes → v ≡ get_or lists m.0 v → v.items ≡ rows_of plan (Mode m)
-  mode_rows_read lists m v has within at =
-      list_at lists (λ n. rows_of inside (Mode (record { 0 = n }))) (length inside.modes) has m.0 v (subst (λ (p : PlanView). m.0 < length p.modes) (sym is) within) at
-      ∙ ap (λ (p : PlanView). rows_of p (Mode m)) is
+  mode_rows_read lists m v has within at = search (rules, list_at)
 
   target_placed : (t : BallTarget) → target_at (target_place t) ≡ t
   target_placed t = search rules
 
   pub feeders_read : (lists : List (Vec RowId Global)) (t : BallTarget) (place : ℕ) (v : Vec RowId Global) → HasFeeders inside lists → IsTargetThere (length plan.rows) t → place ≡ target_place t → v ≡ get_or lists place v
       → v.items ≡ feeders_of plan t
-  feeders_read lists t place v has there placed at =
-      let within : place < length inside.rows + 1 =
-      subst (λ n. n < length inside.rows + 1) (sym placed) (target_within (length inside.rows) t (subst (λ (p : PlanView). IsTargetThere (length p.rows) t) (sym is) there)) in
-      list_at lists (λ n. feeders_of inside (target_at n)) (length inside.rows + 1) has place v within at
-      ∙ ap (λ n. feeders_of inside (target_at n)) placed
-      ∙ ap (feeders_of inside) (target_placed t)
-      ∙ ap (λ (p : PlanView). feeders_of p t) is
+  feeders_read lists t place v has there placed at = search (rules, target_within, list_at, target_placed)
 
 -- each feeder is a row
 pub feeders-within : (plan : PlanView) (target : BallTarget) → All (λ r. r.0 < length plan.rows) (feeders_of plan target)

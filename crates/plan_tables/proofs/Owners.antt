@@ -27,9 +27,7 @@ filter-there p (y ∷ xs) x (suc i, within, is) passes = by (p y) (filter-there 
 module _ (plan : PlanView) where
   -- every number is that of a row
   pub row_numbers-within : All (λ r. r.0 < length plan.rows) (row_numbers plan)
-  row_numbers-within k d there =
-      let inside : k < length plan.rows = omega (arith, there, length-map-range_with_len {X = RowId} (λ n. record { 0 = n }) 0 (length plan.rows)) in
-      subst (λ (r : RowId). r.0 < length plan.rows) (sym (get_or-map-range_with_len {X = RowId} (λ n. record { 0 = n }) 0 (length plan.rows) k k d inside (omega arith))) inside
+  row_numbers-within k d there = search (rules, length-map-range_with_len, get_or-map-range_with_len)
 
   pub rows_of-within : (owner : Owner) → All (λ r. r.0 < length plan.rows) (rows_of plan owner)
   rows_of-within owner = All-filter (λ r. is_owner owner (row_at plan r).owner) (λ r. r.0 < length plan.rows) (row_numbers plan) row_numbers-within

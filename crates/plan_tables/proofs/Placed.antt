@@ -1,5 +1,5 @@
 -- Adding the place of one binding after the other to its event's list.
-use Rattle.std.proofs.Common.{◌≡◌, ℕ, ◌+◌, ◌<◌, ◌==◌, inl, inr, cond, List, [], ◌∷◌, ◌++◌, length, map, get_or, set, take, Vec, Global, sym, ◌∙◌, ap, subst, arith}
+use Rattle.std.proofs.Common.{rules, ◌≡◌, ℕ, ◌+◌, ◌<◌, ◌==◌, inl, inr, cond, List, [], ◌∷◌, ◌++◌, length, map, get_or, set, take, Vec, Global, sym, ◌∙◌, ap, subst, arith}
 use Rattle.std.proofs.lemmas.Bool.Decides.{eqb_tells}
 use Rattle.std.proofs.lemmas.List.{append-nil, get_or-map, length-map, length-set, map-set, length-take-le, get_or-set_same, get_or-set_other, take_more}
 use Rattle.std.specs.List.{All}
@@ -32,23 +32,7 @@ module _ (bindings : List Binding) (i : ℕ) (d : Binding) (within : i < length 
 
   -- one binding more, whose place is added to the list of its event
   placed_more : (places : List (List BindingId)) → at < length places → ArePlaced (take i bindings) places → ArePlaced (take (i + 1) bindings) (set places at (get_or places at [] ++ record { 0 = i } ∷ []))
-  placed_more places known placed e inside =
-      let added = get_or places at [] ++ record { 0 = i } ∷ [] in
-      elim (eqb_tells at e) [
-        | inl same ↦
-            ap (λ n. get_or (set places at added) n []) (sym same.1)
-            ∙ get_or-set_same places at added [] known
-            ∙ ap (λ ps. ps ++ record { 0 = i } ∷ []) (placed at known)
-            ∙ ap (λ n. places_among (take i bindings) (event n) ++ record { 0 = i } ∷ []) same.1
-            ∙ ap (λ t. places_among (take i bindings) (event e) ++ cond t (record { 0 = i } ∷ []) []) (sym same.0)
-            ∙ sym (more e)
-        | inr other ↦
-            get_or-set_other places at e added [] (λ is. other.1 (sym is))
-            ∙ placed e (omega (arith, inside, length-set places at added))
-            ∙ sym (append-nil (places_among (take i bindings) (event e)))
-            ∙ ap (λ t. places_among (take i bindings) (event e) ++ cond t (record { 0 = i } ∷ []) []) (sym other.0)
-            ∙ sym (more e)
-      ]
+  placed_more places known placed e inside = search (rules, get_or, eqb_tells, get_or-set_same, places_among, more, get_or-set_other, length-set, append-nil)
 
   pub placed_pushed : (lists : List (Vec BindingId Global)) (old new : Vec BindingId Global) → at < length lists → old ≡ get_or lists at old → new.items ≡ old.items ++ record { 0 = i } ∷ []
       → ArePlaced (take i bindings) (map (λ v. v.items) lists) → ArePlaced (take (i + 1) bindings) (map (λ v. v.items) (set lists at new))
@@ -80,10 +64,7 @@ module _ (lists : List (Vec BindingId Global)) where
 module _ (plan : PlanView) (lists : List (Vec BindingId Global)) where
   -- each event of the plan has a list
   pub places_count : HasPlaces plan lists → length lists ≡ length plan.events
-  places_count has =
-      sym (length-map lists (λ (v : Vec BindingId Global). v.items))
-      ∙ ap length has
-      ∙ length-map-range_with_len (λ e. places_of plan (event e)) 0 (length plan.events)
+  places_count has = search (rules, length-map, length-map-range_with_len)
 
   -- it is that of the event's places
   pub places_at : (e : EventId) (v : Vec BindingId Global) → HasPlaces plan lists → e.0 < length plan.events → v ≡ get_or lists e.0 v → v.items ≡ places_of plan e

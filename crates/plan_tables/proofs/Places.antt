@@ -20,11 +20,7 @@ position-map f p xs = rw (position_or_len-map f p xs, length-map xs f) refl
 
 -- the place, or the length where there is none
 pub position-or_len : {X : Type 0} (p : X → Bool) (xs : List X) → unwrap_or (position p xs) (length xs) ≡ position_or_len p xs
-position-or_len p xs = by (nat_lt (position_or_len p xs) (length xs)) (ltb-false (position_or_len p xs) (length xs))
-  where
-    by : (b : Bool) → (b ≡ false → length xs ≤ position_or_len p xs) → unwrap_or (cond b (Some (position_or_len p xs)) None) (length xs) ≡ position_or_len p xs
-    by true past = refl
-    by false past = omega (arith, past refl, prefix_len-le-length (λ x. not (p x)) xs)
+position-or_len p xs = search (rules, nat_lt, ltb-false, prefix_len-le-length)
 
 none_within : (place count : ℕ) → cond (nat_lt place count) (Some place) None ≡ None → count ≤ place
 none_within place count = search rules
@@ -39,7 +35,4 @@ module _ {X : Type 0} (key : X → List ℕ) (name : List ℕ) where
 
   -- where it is not found, nothing has it
   pub absent : (xs : List X) → position (λ x. bytes_eq name (key x)) xs ≡ None → (i : ℕ) (d : X) → i < length xs → key (get_or xs i d) ≢ name
-  absent xs none i d within same =
-      let past : length xs ≤ position_or_len (λ x. bytes_eq name (key x)) xs = none_within (position_or_len (λ x. bytes_eq name (key x)) xs) (length xs) none in
-      let at : i < position_or_len (λ x. bytes_eq name (key x)) xs = omega arith in
-      true≢false (sym ((bytes_eq-Decides name (key (get_or xs i d))).1 (sym same)) ∙ fails_before_first (λ x. bytes_eq name (key x)) xs i d at)
+  absent xs none i d within same = search (rules, none_within, bytes_eq-Decides, get_or, fails_before_first)

@@ -1,5 +1,5 @@
 -- The first row that passes a test, by its place.
-use Rattle.std.proofs.Common.{◌≡◌, ℕ, suc, ◌+◌, ◌<◌, Bool, cond, not, nat_lt, List, [], ◌∷◌, length, map, get_or, Some, None, refl, ◌∙◌, sym, ap, inl, inr, arith}
+use Rattle.std.proofs.Common.{rules, ◌≡◌, ℕ, suc, ◌+◌, ◌<◌, Bool, cond, not, nat_lt, List, [], ◌∷◌, length, map, get_or, Some, None, refl, ◌∙◌, sym, ap, inl, inr, arith}
 use Rattle.std.specs.List.{find, position, position_or_len, range_with_len, slice_get}
 use Rattle.std.specs.Option.{option_map}
 use Rattle.std.proofs.lemmas.Bool.{cases_lt, cond-true, cond-false, lt-ltb, le-ltb}
@@ -33,11 +33,7 @@ module _ {X Y : Type 0} (p : X → Bool) (item : Y → X) (make : ℕ → Y) (d 
 
   found : (xs : List X) → ((i : ℕ) → i < length xs → item (make (0 + i)) ≡ get_or xs i d)
       → find (λ y. p (item y)) (map make (range_with_len 0 (length xs))) ≡ option_map make (position p xs)
-  found xs stand =
-      find_at (λ y. p (item y)) (map make (range_with_len 0 (length xs)))
-      ∙ ap (slice_get (map make (range_with_len 0 (length xs)))) (place 0 xs stand)
-      ∙ slice_get-map make (range_with_len 0 (length xs)) (position_or_len p xs)
-      ∙ ap (option_map make) (numbered (length xs) (position_or_len p xs))
+  found xs stand = search (rules, find_at, place, slice_get-map, numbered)
 
 -- the first trough is at the place of the first row that is one
 pub trough_place : (plan : PlanView) → first_trough plan ≡ option_map (λ n. record { 0 = n }) (position (λ r. is_trough r.settings) plan.rows)

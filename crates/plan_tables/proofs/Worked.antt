@@ -107,8 +107,7 @@ module _ (plan : PlanView) (e : EventId) where
   game_found-placed rules has (Some i) at = game_found-where rules has i at (slice_get game_events i) refl
 
   game_found : (game : Option GameRules) → plan.game ≡ game → IsWorkAt plan e (game_work game e)
-  game_found None has = tt
-  game_found (Some rules) has = game_found-placed rules has (position (λ f. f.0 == e.0) rules.events) refl
+  game_found game has = search (rules, game_found-placed)
 
 -- work is found at the event that it names
 pub work_found : (plan : PlanView) (e : EventId) → IsWorkAt plan e (work_of plan e)
