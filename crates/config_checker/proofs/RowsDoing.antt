@@ -7,13 +7,13 @@ use Rattle.std.specs.Str.{bytes_eq}
 use Rattle.std.specs.List.{All, AllPairs, flat_map, list_any}
 use Rattle.std.proofs.lemmas.List.{get_or_append_left}
 use Rattle.std.proofs.lemmas.List.Elements.{All-nil, All-cons, All-head, All-tail, All-append, All-map, All-weaker, All-from_get_or, All-from_recursion}
-use Rattle.mpf_sections.specs.Rows.{Written, Entry, Switch, CoilPlayer, VariablePlayer, BlockEvents, Rule, Flipper, Autofire, Shot, ShotGroup, BallDevice, SectionRows}
+use Rattle.mpf_sections.specs.Rows.{Written, Entry, Switch, CoilPlayer, VariablePlayer, BlockEvents, Rule, CoilRule, flipper, autofire, Shot, ShotGroup, BallDevice, SectionRows}
 use Rattle.mpf_sections.specs.TypedGame.{variable_players_in}
 use Rattle.machine_definitions.specs.Players.{player_event, is_set_by_game}
 use Rattle.row_contributions.specs.VariableEntries.{item_change}
 use Rattle.mpf_config.specs.Rows.{Rows}
 use Rattle.mpf_sections.specs.Typed.{counters_name, accruals_name, sequences_name, timers_name, counter_of, step_block_of, timer_of, entries_in, switches_in, event_players_in, counters_in, accruals_in, sequences_in}
-use Rattle.mpf_sections.specs.TypedCoils.{coil_players_in, flippers_in, autofires_in}
+use Rattle.mpf_sections.specs.TypedCoils.{coil_players_in, coil_rule_of}
 use Rattle.mpf_sections.specs.TypedShots.{shots_in, shot_groups_in}
 use Rattle.mpf_sections.specs.TypedBalls.{playfield, ball_devices_in}
 use Rattle.mpf_sections.specs.TypedSaves.{ball_saves_name, multiballs_name, ball_save_of, multiball_of}
@@ -24,7 +24,7 @@ use Rattle.machine_definitions.specs.Definitions.{has_switch, ball_devices_of, l
 use Rattle.machine_definitions.specs.Shots.{Profile, profile_of_name}
 use Rattle.plan_contributions.specs.Effects.{Effect, posts, works, changes, enters, leaves, loses, arrives}
 use Rattle.row_contributions.specs.DeviceEntries.{Device, counter_device, step_device, step_settings, timer_device, device_of, block_event, or_own, block_lists, timer_event, timer_endings, timer_lists}
-use Rattle.row_contributions.specs.CoilEntries.{defaults_called, own_pulse, item_effect, rule_device, flipper_device, autofire_device}
+use Rattle.row_contributions.specs.CoilEntries.{defaults_called, own_pulse, item_effect, rule_device, rule_device_of}
 use Rattle.row_contributions.specs.BallEntries.{drains, ball_event, eject_pulse, ball_lists}
 use Rattle.row_contributions.specs.SaveEntries.{save_device, multiball_device, save_device_of}
 use Rattle.row_contributions.specs.ShotEntries.{shot_events, group_events, shot_lists, state_lists, group_lists}
@@ -34,7 +34,7 @@ use Rattle.row_contributions.specs.Doing.{IsSwitchDoing, IsPlayerDoing, IsDevice
 use Rattle.row_contributions.proofs.Before.{All-flat_map}
 use Rattle.row_contributions.proofs.SaveFacts.{all_save, all_multiball}
 use Rattle.row_faults.specs.Reserved.{is_reserved, switch_posts, player_posts, counter_posts, step_posts, posts_in, posts_of}
-use Rattle.row_faults.specs.Sound.{ChangesNothingBarred, IsChangeFree, IsItemSound, IsCoilSound, IsCoilSuch, IsCoilPlayerSound, IsFlipperSound, IsAutofireSound, IsShotSound, IsShotGroupSound, IsBallDeviceSound, IsSectionSound, IsSound}
+use Rattle.row_faults.specs.Sound.{ChangesNothingBarred, IsChangeFree, IsItemSound, IsCoilSound, IsCoilSuch, IsCoilPlayerSound, IsRuleSound, IsShotSound, IsShotGroupSound, IsBallDeviceSound, IsSectionSound, IsSound}
 use Rattle.row_faults.specs.Routes.{switch_names}
 use Rattle.row_faults.proofs.AsWritten.{switch-posts, counter-posts, step-posts}
 use Rattle.row_faults.specs.BallFaults.{is_place}
@@ -205,11 +205,10 @@ module _ (rows : Rows) where
   rule-doing : (settings : Settings) (r : Rule) (lists : List (List Effect)) → IsThere r.switch.text → All (All IsFine) lists → IsDeviceDoing IsFine IsUnreserved IsThere (rule_device settings r lists)
   rule-doing settings r lists there all = record { lists = all; listens = All-cons IsThere r.switch.text [] there (All-nil IsThere) }
 
-  flipper-doing : (f : Flipper) → IsFlipperSound rows.machine f → IsDeviceDoing IsFine IsUnreserved IsThere (flipper_device rows.machine f)
-  flipper-doing f h = rule-doing kinds.Flipper f.rule _ h.switch (flipper_doing rows.machine IsFine (λ name deed sound. sound) f h)
-
-  autofire-doing : (a : Autofire) → IsAutofireSound rows.machine a → IsDeviceDoing IsFine IsUnreserved IsThere (autofire_device rows.machine a)
-  autofire-doing a h = rule-doing kinds.Autofire a.rule _ h.switch (autofire_doing rows.machine IsFine (λ name deed sound. sound) a h)
+  rules-doing : (o : Option CoilRule) → IsRuleSound rows.machine o → IsEntryDoing IsFine IsUnreserved IsThere (rule_device_of rows.machine o)
+  rules-doing None h = tt
+  rules-doing (Some (flipper f)) h = rule-doing kinds.Flipper f.rule _ h.switch (flipper_doing rows.machine IsFine (λ name deed sound. sound) f h)
+  rules-doing (Some (autofire a)) h = rule-doing kinds.Autofire a.rule _ h.switch (autofire_doing rows.machine IsFine (λ name deed sound. sound) a h)
 
   -- ---- ball devices
 
@@ -336,8 +335,7 @@ module _ (rows : Rows) where
     machine-doing apart = record {
       all = section-doing;
       switches = All-weaker (λ x. All IsFreePost (switch_posts x)) (IsSwitchDoing IsFine IsUnreserved IsThere) switch-doing (switches_in s) (all-each IsFreePost switch_posts (switches_in s) section-parts.0);
-      flippers = All-weaker (IsFlipperSound rows.machine) (λ f. IsDeviceDoing IsFine IsUnreserved IsThere (flipper_device rows.machine f)) flipper-doing (flippers_in s) sound.flippers;
-      autofires = All-weaker (IsAutofireSound rows.machine) (λ a. IsDeviceDoing IsFine IsUnreserved IsThere (autofire_device rows.machine a)) autofire-doing (autofires_in s) sound.autofires;
+      rules = λ i d within. rules-doing (coil_rule_of s.name (get_or (entries_in s.content) i d)) (sound.rules i d within);
       ball_devices = λ i d within. ball_device-doing (get_or (ball_devices_in s) i d) (apart i d within) (sound.ball_devices i d within);
     }
 

@@ -9,7 +9,7 @@ use Rattle.mpf_tables.specs.SectionTables as tables
 pub use Rattle.mpf_tables.specs.SectionTables.{coils_name, coil_player_name, flippers_name, autofire_coils_name}
 use Rattle.mpf_sections.specs.Typed.{setting_of, field_of, text_of, flag_of, listed_events, listed_keyed, handled_in, name_in, word_in, pulse_in, power_in, place_of, entries_in, entries_of, players_of}
 use Rattle.mpf_sections.specs.TypedNumbers.{time_setting}
-use Rattle.mpf_sections.specs.Rows.{Coil, CoilItem, CoilPlayer, Rule, Flipper, Autofire, SectionRows}
+use Rattle.mpf_sections.specs.Rows.{Coil, CoilItem, CoilPlayer, Rule, Flipper, Autofire, CoilRule, flipper, autofire, SectionRows}
 
 -- ---- `coils`
 
@@ -95,21 +95,21 @@ flipper_of e = record {
 unfoldable pub autofire_of : Entry → Autofire
 autofire_of e = record { coil = needed_name tables.autofire_coils (codes "coil") e; rule = rule_of tables.autofire_coils (codes "switch") e }
 
+-- the flipper or the autofire coil that an entry of the section of this name is; none where it is neither
+abbrev pub coil_rule_of : List ℕ → Entry → Option CoilRule
+coil_rule_of section e =
+    if bytes_eq section flippers_name then Some (flipper (flipper_of e))
+    else (if bytes_eq section autofire_coils_name then Some (autofire (autofire_of e)) else None)
+
 -- ---- sections
 
 -- the coils of a section: of `coils` its entries, of any other none
 unfoldable pub coils_in : SectionRows → List Coil
 coils_in s = map coil_of (entries_of coils_name s)
 
--- the same for `coil_player`, `flippers` and `autofire_coils`
+-- the same for `coil_player`
 unfoldable pub coil_players_in : SectionRows → List CoilPlayer
 coil_players_in s = map coil_player_of (players_of coil_player_name s)
-
-unfoldable pub flippers_in : SectionRows → List Flipper
-flippers_in s = map flipper_of (entries_of flippers_name s)
-
-unfoldable pub autofires_in : SectionRows → List Autofire
-autofires_in s = map autofire_of (entries_of autofire_coils_name s)
 
 -- ---- quick switches
 

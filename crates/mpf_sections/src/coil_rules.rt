@@ -3,7 +3,7 @@
 ghost use Rattle.std.specs.Prelude.{◌≡◌, ◌≤◌};
 ghost use Rattle.mpf_sections.specs.Inside.{IsRuleAt};
 ghost use Rattle.mpf_sections.specs.TypedCoils.{quick_place};
-ghost use Rattle.mpf_sections.specs.TypedOf.{IsNeededAt, IsFlipperOf, IsAutofireOf};
+ghost use Rattle.mpf_sections.specs.TypedOf.{IsNeededAt, IsFlipperOf, IsAutofireOf, IsCoilRuleOf};
 
 use crate::typed::NameAt;
 use crate::values::{handlers, name, text};
@@ -43,6 +43,13 @@ pub struct Autofire<'a> {
     pub coil: NameAt<'a>,
     /// Its switch fires the coil.
     pub rule: Rule<'a>,
+}
+
+/// A flipper or an autofire coil.
+#[derive(Clone, Copy)]
+pub enum CoilRule<'a> {
+    Flipper(Flipper<'a>),
+    Autofire(Autofire<'a>),
 }
 
 // The places of the settings in the two tables. The events that enable and disable a rule come after
@@ -126,4 +133,18 @@ pub fn as_autofire(entry: &Entry) -> Autofire<'_>
         coil: needed_name(entry, COIL),
         rule: as_rule(entry, SWITCH),
     }
+}
+
+/// The flipper or the autofire coil that an entry of the section of this name is; none where it is
+/// neither.
+pub fn as_coil_rule<'a>(section: &[u8], entry: &'a Entry) -> Option<CoilRule<'a>>
+    ensures { IsCoilRuleOf section.now entry.now result }
+{
+    if section == FLIPPERS_NAME {
+        return Some(CoilRule::Flipper(as_flipper(entry)));
+    }
+    if section == AUTOFIRE_COILS_NAME {
+        return Some(CoilRule::Autofire(as_autofire(entry)));
+    }
+    None
 }

@@ -7,7 +7,7 @@ use Rattle.std.specs.List.{All, flat_map}
 use Rattle.std.proofs.lemmas.List.Elements.{All-nil, All-cons, All-append, All-map, All-weaker, All-head, All-tail}
 use Rattle.std.proofs.lemmas.List.Sums.{list_all-from_AllPass}
 use Rattle.mpf_values.specs.Events.{Condition, Event}
-use Rattle.mpf_sections.specs.Rows.{Written, Entry, Player, Switch, EventPlayer, CoilItem, CoilPlayer, VariablePlayer, VariableItem, GameSettings, Coil, Shot, ShotGroup, BallDevice, ModeSettings, Content, entries, players, SectionRows}
+use Rattle.mpf_sections.specs.Rows.{Written, Entry, Player, Switch, EventPlayer, CoilItem, CoilPlayer, VariablePlayer, VariableItem, GameSettings, Coil, flipper, autofire, Shot, ShotGroup, BallDevice, ModeSettings, Content, entries, players, SectionRows}
 use Rattle.mpf_sections.specs.TypedGame.{variable_player_name, game_name, variable_player_of, game_of, variable_players_in, min_balls_of}
 use Rattle.mpf_sections.specs.TypedBalls.{ball_devices_name, ball_device_of, ball_devices_in}
 use Rattle.machine_definitions.specs.GameEvents.{game_event_names}
@@ -20,12 +20,12 @@ use Rattle.row_contributions.specs.VariableEntries.{item_change}
 use Rattle.mpf_config.specs.Rows.{ModeRows, Rows}
 use Rattle.mpf_sections.specs.Rows as sections
 use Rattle.mpf_sections.specs.Typed.{switches_name, event_player_name, switch_of, event_player_of, mode_settings, switches_in, event_players_in}
-use Rattle.mpf_sections.specs.TypedCoils.{coils_name, coil_player_name, flippers_name, autofire_coils_name, coil_of, coil_player_of, flipper_of, autofire_of, coil_players_in, flippers_in, autofires_in}
+use Rattle.mpf_sections.specs.TypedCoils.{coils_name, coil_player_name, flippers_name, autofire_coils_name, coil_of, coil_player_of, flipper_of, autofire_of, coil_players_in, coil_rule_of}
 use Rattle.plan_rows.specs.declared.place.Place.{Place}
 use Rattle.plan_rows.specs.declared.place.Place.TheVariants.{Machine, Control, Mode}
 use Rattle.plan_contributions.specs.declared.contribution.Aim.{Aim}
 use Rattle.plan_contributions.specs.declared.contribution.Aim.TheVariants.{Run, Start, Stop, Do, On}
-use Rattle.row_contributions.specs.CoilEntries.{limits_of_coil, item_effect, flipper_device, autofire_device}
+use Rattle.row_contributions.specs.CoilEntries.{limits_of_coil, item_effect, flipper_device, autofire_device, rule_device_of}
 use Rattle.plan_contributions.specs.Effects.{Effect, posts}
 use Rattle.row_contributions.specs.BallEntries.{ball_device_from, is_known}
 use Rattle.row_contributions.specs.ShotEntries.{shot_lists, shot_acts, lone_device, group_device}
@@ -206,15 +206,14 @@ module _ (P : Effect → Type 0) (S L : List ℕ → Type 0) where
     abbrev GivesDoing : Row → Type 0
     GivesDoing r = All D (row_contributions machine r)
 
-    in_machine_device : (section : List ℕ) (e : Entry) → Where (bytes_eq section flippers_name) (IsDeviceDoing P S L (flipper_device machine (flipper_of e))) → Where (bytes_eq section autofire_coils_name) (IsDeviceDoing P S L (autofire_device machine (autofire_of e)))
-        → IsEntryDoing P S L (device_of section e) → IsEntryDoing P S L (machine_device machine section e)
+    in_machine_device : (section : List ℕ) (e : Entry) → IsEntryDoing P S L (rule_device_of machine (coil_rule_of section e)) → IsEntryDoing P S L (device_of section e) → IsEntryDoing P S L (machine_device machine section e)
     in_machine_device section e = by (bytes_eq section flippers_name) (bytes_eq section autofire_coils_name)
       where
-        by : (f a : Bool) → Where f (IsDeviceDoing P S L (flipper_device machine (flipper_of e))) → Where a (IsDeviceDoing P S L (autofire_device machine (autofire_of e))) → IsEntryDoing P S L (device_of section e)
+        by : (f a : Bool) → IsEntryDoing P S L (rule_device_of machine (if f then Some (flipper (flipper_of e)) else (if a then Some (autofire (autofire_of e)) else None))) → IsEntryDoing P S L (device_of section e)
             → IsEntryDoing P S L (if f then Some (flipper_device machine (flipper_of e)) else (if a then Some (autofire_device machine (autofire_of e)) else device_of section e))
-        by true a hf ha h = hf
-        by false true hf ha h = ha
-        by false false hf ha h = h
+        by true a own h = own
+        by false true own h = own
+        by false false own h = h
 
     in_machine_entry : (section : List ℕ) (e : Entry) → Where (bytes_eq section switches_name) (IsSwitchDoing P S L (switch_of e)) → IsEntryDoing P S L (machine_device machine section e) → All D (machine_entry_contributions machine section e)
     unfolding machine_entry_contributions
@@ -304,11 +303,9 @@ module _ (P : Effect → Type 0) (S L : List ℕ → Type 0) where
 
     -- and of one of the machine
     in_machine_content : (seat : List ℕ → Option Seat) (to : List ℕ → Destination) → AreKnown to → (s : SectionRows) (content : Content) → IsMachineDoing P S L rows (record { name = s.name; content = content }) → All GivesDoing (rows_from rows Machine seat to s.name content)
-    unfolding switches_in event_players_in coil_players_in variable_players_in flippers_in autofires_in shots_in shot_groups_in ball_devices_in entry_contributions
+    unfolding switches_in event_players_in coil_players_in variable_players_in shots_in shot_groups_in ball_devices_in entry_contributions
     in_machine_content seat to known s (entries es) h =
         let switches = where_named (IsSwitchDoing P S L) switch_of (bytes_eq s.name switches_name) es h.switches in
-        let flippers = where_named (λ f. IsDeviceDoing P S L (flipper_device machine f)) flipper_of (bytes_eq s.name flippers_name) es h.flippers in
-        let autofires = where_named (λ a. IsDeviceDoing P S L (autofire_device machine a)) autofire_of (bytes_eq s.name autofire_coils_name) es h.autofires in
         let all : IsDoing P S L rows (record { name = s.name; content = entries es }) = h.all in
         let balls = where_named (IsBallDeviceDoing P S L rows) ball_device_of (bytes_eq s.name ball_devices_name) es h.ball_devices in
         in_entries Machine seat to s es all.shots all.groups
@@ -317,7 +314,7 @@ module _ (P : Effect → Type 0) (S L : List ℕ → Type 0) where
         (ball, known (ball_device_of (get_or es i d)).target.text ball.target))
         (λ i d within.
         let e = get_or es i d in
-        in_machine_entry s.name e (switches i d within) (in_machine_device s.name e (flippers i d within) (autofires i d within) (all.devices i d within)))
+        in_machine_entry s.name e (switches i d within) (in_machine_device s.name e (h.rules i d within) (all.devices i d within)))
     in_machine_content seat to known s (players ps) h = let all : IsDoing P S L rows (record { name = s.name; content = players ps }) = h.all in in_players Machine s ps all.players all.coil_players all.variable_players
     in_machine_content seat to known s (sections.entry e) h = All-cons GivesDoing (alone Machine s.name e) [] (in_alone Machine s.name e) (All-nil GivesDoing)
     in_machine_content seat to known s (sections.listed ws) h = All-nil GivesDoing

@@ -3,7 +3,7 @@
 use Rattle.std.specs.Prelude.{ℕ, Bool, if◌then◌else◌, List, [], ◌∷◌, ◌++◌, Option, None, Some, unwrap_or}
 use Rattle.mpf_sections.specs.declared.words.CoilAction.{CoilAction}
 use Rattle.mpf_sections.specs.declared.words.CoilAction.TheVariants as actions
-use Rattle.mpf_sections.specs.Rows.{Written, Coil, CoilItem, Rule, Flipper, Autofire, SectionRows}
+use Rattle.mpf_sections.specs.Rows.{Written, Coil, CoilItem, Rule, Flipper, Autofire, CoilRule, flipper, autofire, SectionRows}
 use Rattle.plan_tables.specs.declared.entries.CoilLimits.{CoilLimits}
 use Rattle.plan_tables.specs.declared.devices.Settings.{Settings}
 use Rattle.plan_tables.specs.declared.devices.Settings.TheVariants as kinds
@@ -85,3 +85,9 @@ flipper_device machine f = rule_device kinds.Flipper f.rule (flipper_on machine 
 
 abbrev pub autofire_device : List SectionRows → Autofire → Device
 autofire_device machine a = rule_device kinds.Autofire a.rule ((works a.coil.text (own_pulse (defaults_called machine a.coil.text)) ∷ []) ∷ [])
+
+-- that of an entry that may be either
+abbrev pub rule_device_of : List SectionRows → Option CoilRule → Option Device
+rule_device_of machine None = None
+rule_device_of machine (Some (flipper f)) = Some (flipper_device machine f)
+rule_device_of machine (Some (autofire a)) = Some (autofire_device machine a)

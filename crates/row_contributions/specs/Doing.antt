@@ -9,7 +9,7 @@ use Rattle.mpf_sections.specs.TypedGame.{variable_players_in}
 use Rattle.row_contributions.specs.VariableEntries.{item_change}
 use Rattle.mpf_config.specs.Rows.{ModeRows, Rows}
 use Rattle.mpf_sections.specs.Typed.{entries_in, switches_in, event_players_in}
-use Rattle.mpf_sections.specs.TypedCoils.{coil_players_in, flippers_in, autofires_in}
+use Rattle.mpf_sections.specs.TypedCoils.{coil_players_in, coil_rule_of}
 use Rattle.mpf_sections.specs.TypedShots.{shots_in, shot_groups_in}
 use Rattle.machine_definitions.specs.Shots.{shot_called, has_profile, profile_of_name}
 use Rattle.plan_tables.specs.declared.table.Table.{Table}
@@ -19,7 +19,7 @@ use Rattle.plan_contributions.specs.Effects.{Effect, posts}
 use Rattle.row_contributions.specs.ShotEntries.{shot_lists, group_lists}
 use Rattle.row_contributions.specs.BallEntries.{ball_lists}
 use Rattle.plan_rows.specs.Members.{members_of}
-use Rattle.row_contributions.specs.CoilEntries.{item_effect, flipper_device, autofire_device}
+use Rattle.row_contributions.specs.CoilEntries.{item_effect, rule_device_of}
 use Rattle.plan_contributions.specs.Contributions.{Contribution, active, inactive, does, does_in, listens, mentions, unknown}
 use Rattle.row_contributions.specs.Contributions.{active_posts, inactive_posts}
 
@@ -88,8 +88,7 @@ module _ (P : Effect → Type 0) (S L : List ℕ → Type 0) where
     pub record IsMachineDoing (s : SectionRows) : Type 0 where
       pub all : IsDoing s
       pub switches : All IsSwitchDoing (switches_in s)
-      pub flippers : All (λ f. IsDeviceDoing (flipper_device rows.machine f)) (flippers_in s)
-      pub autofires : All (λ a. IsDeviceDoing (autofire_device rows.machine a)) (autofires_in s)
+      pub rules : All (λ e. IsEntryDoing (rule_device_of rows.machine (coil_rule_of s.name e))) (entries_in s.content)
       pub ball_devices : All IsBallDeviceDoing (ball_devices_in s)
 
   -- each section of the machine and of the modes

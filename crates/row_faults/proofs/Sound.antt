@@ -7,9 +7,9 @@ use Rattle.std.proofs.lemmas.List.Elements.{All-nil, All-cons, All-weaker}
 use Rattle.mpf_tables.specs.SectionTables as tables
 use Rattle.mpf_sections.specs.declared.words.CoilAction.{CoilAction}
 use Rattle.mpf_sections.specs.declared.words.CoilAction.TheVariants.{Pulse, Enable, Disable}
-use Rattle.mpf_sections.specs.Rows.{Written, Coil, CoilItem, CoilPlayer, Flipper, Autofire, VariableItem, VariablePlayer, Shot, ShotGroup, BallDevice, SectionRows}
-use Rattle.mpf_sections.specs.Typed.{timers_in}
-use Rattle.mpf_sections.specs.TypedCoils.{coils_in, coil_players_in, flippers_in, autofires_in}
+use Rattle.mpf_sections.specs.Rows.{Written, Coil, CoilItem, CoilPlayer, Flipper, Autofire, CoilRule, flipper, autofire, VariableItem, VariablePlayer, Shot, ShotGroup, BallDevice, SectionRows}
+use Rattle.mpf_sections.specs.Typed.{entries_in, timers_in}
+use Rattle.mpf_sections.specs.TypedCoils.{coils_in, coil_players_in, coil_rule_of}
 use Rattle.mpf_sections.specs.TypedGame.{variable_players_in}
 use Rattle.mpf_sections.specs.TypedShots.{shots_in, shot_groups_in}
 use Rattle.mpf_sections.specs.TypedBalls.{ball_devices_in}
@@ -24,12 +24,12 @@ use Rattle.machine_definitions.proofs.Called.{called-such}
 use Rattle.row_faults.specs.FaultView.{RowFaultView}
 use Rattle.row_faults.specs.declared.fault.RowFaultKind.TheVariants.{Name, PulseLimit, PowerLimit, HoldNotAllowed}
 use Rattle.row_faults.specs.Reserved.{events_of_modes, mode_names, is_reserved_by, posts_in, posts_of, reserved_among}
-use Rattle.row_faults.specs.CoilFaults.{fault_at, fault_if, is_above, is_enable, coil_name_faults, switch_name_faults, coil_faults, item_faults_by, item_faults, coil_player_faults, hold_faults_by, hold_faults, flipper_faults, autofire_faults}
+use Rattle.row_faults.specs.CoilFaults.{fault_at, fault_if, is_above, is_enable, coil_name_faults, switch_name_faults, coil_faults, item_faults_by, item_faults, coil_player_faults, hold_faults_by, hold_faults, flipper_faults, autofire_faults, rule_faults}
 use Rattle.row_faults.specs.AsWritten.{ordered_by}
 use Rattle.row_faults.specs.RowFaults.{fault_line, fault_number, name_fault, starts_at_end, timer_fault, coil_faults_in, section_faults, written_faults, all_faults, text_faults, mode_faults, is_none_taken, faults_by, row_faults}
 use Rattle.row_faults.specs.BallFaults.{is_place, eject_coil_faults, target_faults, ball_device_faults, route_faults}
 use Rattle.row_faults.specs.ShotFaults.{shot_switch_faults, profile_faults, shot_faults, Listed, first_shot, listed_by, listed_in, listed_of, is_own_shot, are_of_two_profiles, is_misplaced, taken_with, taken_after, kept_if, misplaced}
-use Rattle.row_faults.specs.Sound.{ChangesNothingBarred, IsHoldWithin, IsCoilSound, IsCoilSuch, IsActionWithin, IsItemSound, IsCoilPlayerSound, IsFlipperSound, IsAutofireSound, IsShotSound, IsShotGroupSound, IsBallDeviceSound, IsSectionSound, IsSound}
+use Rattle.row_faults.specs.Sound.{ChangesNothingBarred, IsHoldWithin, IsCoilSound, IsCoilSuch, IsActionWithin, IsItemSound, IsCoilPlayerSound, IsFlipperSound, IsAutofireSound, IsRuleSound, IsShotSound, IsShotGroupSound, IsBallDeviceSound, IsSectionSound, IsSound}
 use Rattle.row_faults.proofs.None.{filled, fault_if-none, or-none, map-none, append-none, flat_map-none, filter-none, ordered-none, once-none, All-each, each-All, map-All}
 use Rattle.row_faults.proofs.Called.{machine-called, mode-called}
 use Rattle.row_faults.proofs.AsWritten.{written-none}
@@ -151,6 +151,11 @@ module _ (machine : List SectionRows) (all : All IsCoilSound (flat_map coils_in 
       let none = written-none tables.autofire_coils a.rule.order parts e in
       record { coil = named-sound a.coil (none 0 no_part (omega arith)); switch = switch-sound a.rule.switch (none 1 no_part (omega arith)) }
 
+  rule-sound : (o : Option CoilRule) → rule_faults machine text o ≡ [] → IsRuleSound machine o
+  rule-sound None e = tt
+  rule-sound (Some (flipper f)) e = flipper-sound f e
+  rule-sound (Some (autofire a)) e = autofire-sound a e
+
   -- ---- ball devices
 
   eject-sound : (o : Option Written) → eject_coil_faults machine text o ≡ [] → IfSome o (λ w. IsCoilSuch machine w.text IsCoilSound)
@@ -217,8 +222,7 @@ module _ (modes : List (List ℕ)) (rows : Rows) (is_own : List ℕ → Bool) (t
     pub variables : All (λ p. variable_player_faults modes text p ≡ []) (variable_players_in s)
     pub coils : All (λ c. coil_faults text c ≡ []) (coils_in s)
     pub players : All (λ p. coil_player_faults rows.machine text p ≡ []) (coil_players_in s)
-    pub flippers : All (λ f. flipper_faults rows.machine text f ≡ []) (flippers_in s)
-    pub autofires : All (λ a. autofire_faults rows.machine text a ≡ []) (autofires_in s)
+    pub rules : All (λ e. rule_faults rows.machine text (coil_rule_of s.name e) ≡ []) (entries_in s.content)
     pub devices : All (λ d. ball_device_faults rows.machine text d ≡ []) (ball_devices_in s)
     pub shots : All (λ t. shot_faults rows text t ≡ []) (shots_in s)
     pub listed : All (λ l. is_own l.shot.text ≡ true) (listed_in rows s)
@@ -229,8 +233,7 @@ module _ (modes : List (List ℕ)) (rows : Rows) (is_own : List ℕ → Bool) (t
       let posts = map (name_fault text) (reserved_among modes (posts_in s)) in
       let coils = flat_map (coil_faults text) (coils_in s) in
       let players = flat_map (coil_player_faults machine text) (coil_players_in s) in
-      let flippers = flat_map (flipper_faults machine text) (flippers_in s) in
-      let autofires = flat_map (autofire_faults machine text) (autofires_in s) in
+      let rules = flat_map (λ e. rule_faults machine text (coil_rule_of s.name e)) (entries_in s.content) in
       let variables = variable_faults modes text s in
       let devices = flat_map (ball_device_faults machine text) (ball_devices_in s) in
       let shots = flat_map (shot_faults rows text) (shots_in s) in
@@ -241,16 +244,14 @@ module _ (modes : List (List ℕ)) (rows : Rows) (is_own : List ℕ → Bool) (t
       let rest = append-none ((posts ++ variables) ++ coil_faults_in machine text s) devices more.0 in
       let front = append-none (posts ++ variables) (coil_faults_in machine text s) rest.0 in
       let events = append-none posts variables front.0 in
-      let last = append-none ((coils ++ players) ++ flippers) autofires front.1 in
-      let third = append-none (coils ++ players) flippers last.0 in
-      let first = append-none coils players third.0 in
+      let last = append-none (coils ++ players) rules front.1 in
+      let first = append-none coils players last.0 in
       record {
         posts = map-none (name_fault text) (reserved_among modes (posts_in s)) events.0;
         variables = flat_map-none (variable_player_faults modes text) (variable_players_in s) events.1;
         coils = flat_map-none (coil_faults text) (coils_in s) first.0;
         players = flat_map-none (coil_player_faults machine text) (coil_players_in s) first.1;
-        flippers = flat_map-none (flipper_faults machine text) (flippers_in s) third.1;
-        autofires = flat_map-none (autofire_faults machine text) (autofires_in s) last.1;
+        rules = flat_map-none (λ e. rule_faults machine text (coil_rule_of s.name e)) (entries_in s.content) last.1;
         devices = flat_map-none (ball_device_faults machine text) (ball_devices_in s) rest.1;
         shots = flat_map-none (shot_faults rows text) (shots_in s) more.1;
         listed = listed-own rows is_own is_taken (listed_in rows s) (map-none (name_fault text) names most.1);
@@ -265,8 +266,7 @@ module _ (modes : List (List ℕ)) (rows : Rows) (is_own : List ℕ → Bool) (t
       record {
         coils = coils-sound s h;
         coil_players = λ i d within. player-sound machine all text (get_or (coil_players_in s) i d) (coil_players_in_range s i d within) (h.players i d within);
-        flippers = λ i d within. flipper-sound machine all text (get_or (flippers_in s) i d) (h.flippers i d within);
-        autofires = λ i d within. autofire-sound machine all text (get_or (autofires_in s) i d) (h.autofires i d within);
+        rules = λ i d within. rule-sound machine all text (coil_rule_of s.name (get_or (entries_in s.content) i d)) (h.rules i d within);
         shots = λ i d within. shot-sound rows text (get_or (shots_in s) i d) (h.shots i d within);
         groups = groups-sound rows is_own called s h.listed;
         ball_devices = λ i d within. ball_device-sound machine all text (get_or (ball_devices_in s) i d) (h.devices i d within);

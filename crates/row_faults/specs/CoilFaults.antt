@@ -6,7 +6,7 @@ use Rattle.std.specs.Option.{is_none}
 use Rattle.mpf_tables.specs.SectionTables as tables
 use Rattle.mpf_sections.specs.declared.words.CoilAction.{CoilAction}
 use Rattle.mpf_sections.specs.declared.words.CoilAction.TheVariants.{Pulse, Enable, Disable}
-use Rattle.mpf_sections.specs.Rows.{Written, Coil, CoilItem, CoilPlayer, Flipper, Autofire, SectionRows}
+use Rattle.mpf_sections.specs.Rows.{Written, Coil, CoilItem, CoilPlayer, Flipper, Autofire, CoilRule, flipper, autofire, SectionRows}
 use Rattle.machine_definitions.specs.Definitions.{coil_called, has_switch}
 use Rattle.row_faults.specs.declared.fault.RowFaultKind.{RowFaultKind}
 use Rattle.row_faults.specs.declared.fault.RowFaultKind.TheVariants.{Name, PulseLimit, PowerLimit, HoldNotAllowed}
@@ -88,3 +88,9 @@ flipper_faults machine text f =
 abbrev pub autofire_faults : List SectionRows → List ℕ → Autofire → List RowFaultView
 autofire_faults machine text a =
     as_written tables.autofire_coils a.rule.order ((codes "coil", coil_name_faults machine text a.coil) ∷ (codes "switch", switch_name_faults machine text a.rule.switch) ∷ [])
+
+-- of an entry that may be either
+abbrev pub rule_faults : List SectionRows → List ℕ → Option CoilRule → List RowFaultView
+rule_faults machine text None = []
+rule_faults machine text (Some (flipper f)) = flipper_faults machine text f
+rule_faults machine text (Some (autofire a)) = autofire_faults machine text a

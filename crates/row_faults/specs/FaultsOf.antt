@@ -23,12 +23,12 @@ use Rattle.mpf_sections.specs.declared.game.VariableItem as typed_variable_items
 use Rattle.mpf_sections.specs.declared.shots.Shot as typed_shots
 use Rattle.mpf_sections.specs.declared.shots.ShotGroup as typed_groups
 use Rattle.mpf_sections.specs.Rows.{Written, BallDevice, ShotGroup}
-use Rattle.mpf_sections.specs.Typed.{step_block_of, switches_in, event_players_in, counters_in, timers_in}
-use Rattle.mpf_sections.specs.TypedCoils.{coils_in, coil_item_of, coil_players_in, flippers_in, autofires_in}
+use Rattle.mpf_sections.specs.Typed.{step_block_of, entries_in, switches_in, event_players_in, counters_in, timers_in}
+use Rattle.mpf_sections.specs.TypedCoils.{coils_in, coil_item_of, coil_players_in, coil_rule_of}
 use Rattle.mpf_sections.specs.TypedBalls.{ball_devices_in}
 use Rattle.mpf_sections.specs.TypedGame.{variable_item_of}
 use Rattle.mpf_sections.specs.TypedShots.{shot_of, shots_in, shot_groups_in}
-use Rattle.mpf_sections.specs.View.{name_view, name_at_view, entry_view, keyed_view, section_view, coil_view, coil_item_view, flipper_view, autofire_view, ball_device_view, variable_item_view, shot_view, shot_group_view}
+use Rattle.mpf_sections.specs.View.{name_view, name_at_view, entry_view, keyed_view, content_view, section_view, coil_view, coil_item_view, flipper_view, autofire_view, ball_device_view, variable_item_view, shot_view, shot_group_view}
 use Rattle.mpf_config.specs.declared.config.ModeText.{ModeText}
 use Rattle.mpf_config.specs.Rows.{Rows}
 use Rattle.mpf_config.specs.View.{mode_view}
@@ -42,7 +42,7 @@ use Rattle.row_faults.specs.FaultText.{row_fault_line}
 use Rattle.row_faults.specs.AsWritten.{ordered_by, in_order}
 use Rattle.row_faults.specs.Reserved.{events_of_modes, switch_posts, player_posts, counter_posts, step_posts, posts_in}
 use Rattle.row_faults.specs.VariableFaults.{variable_item_faults, variable_faults}
-use Rattle.row_faults.specs.CoilFaults.{fault_if, coil_name_faults, switch_name_faults, coil_faults, item_faults_by, item_faults, coil_player_faults, hold_faults_by, hold_faults, flipper_faults, autofire_faults}
+use Rattle.row_faults.specs.CoilFaults.{fault_if, coil_name_faults, switch_name_faults, coil_faults, item_faults_by, item_faults, coil_player_faults, hold_faults_by, hold_faults, flipper_faults, autofire_faults, rule_faults}
 use Rattle.row_faults.specs.ShotFaults.{shot_switch_faults, profile_faults, shot_faults, Listed, listed_with, listed_by, listed_in, listed_of, is_own_shot, is_misplaced, taken_after}
 use Rattle.row_faults.specs.BallFaults.{eject_coil_faults, target_faults, ball_device_faults, route_faults}
 use Rattle.row_faults.specs.RowFaults.{starts_at_end, timer_fault, coil_faults_in, section_faults, written_faults, text_faults, mode_faults}
@@ -82,8 +82,12 @@ faults_of_coil_item f item = item_faults f.rows.machine f.text (coil_item_view i
 abbrev pub faults_by_limits : FaultsView → typed_coil_items.CoilItem → typed_coils.Coil → List RowFaultView
 faults_by_limits f item c = item_faults_by f.text (coil_item_view item) (Some (coil_view c))
 
-abbrev pub faults_of_flippers : FaultsView → Section → List RowFaultView
-faults_of_flippers f s = flat_map (flipper_faults f.rows.machine f.text) (flippers_in (section_view s))
+-- of the flippers and the autofire coils of a section, and of this entry of a section of this name
+abbrev pub faults_of_rules : FaultsView → Section → List RowFaultView
+faults_of_rules f s = flat_map (λ e. rule_faults f.rows.machine f.text (coil_rule_of s.name.items e)) (entries_in (content_view s.content))
+
+abbrev pub faults_of_rule : FaultsView → List ℕ → entry_rows.Entry → List RowFaultView
+faults_of_rule f section entry = rule_faults f.rows.machine f.text (coil_rule_of section (entry_view entry))
 
 abbrev pub faults_of_flipper : FaultsView → typed_flippers.Flipper → List RowFaultView
 faults_of_flipper f flipper = flipper_faults f.rows.machine f.text (flipper_view flipper)
@@ -94,9 +98,6 @@ faults_of_hold_coil f flipper = hold_faults f.rows.machine f.text (flipper_view 
 
 abbrev pub faults_by_hold_limits : FaultsView → typed_flippers.Flipper → NameAt → Option typed_coils.Coil → List RowFaultView
 faults_by_hold_limits f flipper hold c = hold_faults_by f.text (flipper_view flipper) (name_at_view hold) (option_map coil_view c)
-
-abbrev pub faults_of_autofires : FaultsView → Section → List RowFaultView
-faults_of_autofires f s = flat_map (autofire_faults f.rows.machine f.text) (autofires_in (section_view s))
 
 abbrev pub faults_of_autofire : FaultsView → typed_autofires.Autofire → List RowFaultView
 faults_of_autofire f a = autofire_faults f.rows.machine f.text (autofire_view a)

@@ -1,11 +1,11 @@
 -- The faults of rows, in the order in which a report lists them.
-use Rattle.std.specs.Prelude.{ℕ, ℤ, int_le, Bool, false, if◌then◌else◌, List, [], ◌∷◌, ◌++◌, Option, None, Some, map, filter}
+use Rattle.std.specs.Prelude.{ℕ, Bool, false, if◌then◌else◌, List, [], ◌∷◌, ◌++◌, map, filter}
 use Rattle.std.specs.List.{flat_map}
 use Rattle.yaml_subset.specs.Keys.{is_among}
 use Rattle.machine_settings.specs.Ends.{is_at_end}
 use Rattle.mpf_sections.specs.Rows.{Written, Timer, SectionRows}
-use Rattle.mpf_sections.specs.Typed.{timers_in}
-use Rattle.mpf_sections.specs.TypedCoils.{coils_in, coil_players_in, flippers_in, autofires_in}
+use Rattle.mpf_sections.specs.Typed.{entries_in, timers_in}
+use Rattle.mpf_sections.specs.TypedCoils.{coils_in, coil_players_in, coil_rule_of}
 use Rattle.mpf_config.specs.Rows.{ModeRows, Rows}
 use Rattle.mpf_config.specs.BundleText.{machine_name, mode_text_name}
 use Rattle.row_faults.specs.declared.fault.RowFaultKind.TheVariants.{Name, TimerAtEnd}
@@ -14,7 +14,7 @@ use Rattle.row_faults.specs.FaultText.{row_fault_number, row_fault_line}
 use Rattle.row_faults.specs.AsWritten.{ordered_by}
 use Rattle.row_faults.specs.Reserved.{events_of_modes, mode_names, posts_in, reserved_among}
 use Rattle.row_faults.specs.VariableFaults.{variable_faults}
-use Rattle.row_faults.specs.CoilFaults.{fault_at, coil_faults, coil_player_faults, flipper_faults, autofire_faults}
+use Rattle.row_faults.specs.CoilFaults.{fault_at, coil_faults, coil_player_faults, rule_faults}
 use Rattle.machine_definitions.specs.Definitions.{ball_devices_of}
 use Rattle.row_faults.specs.BallFaults.{ball_device_faults, route_faults}
 use Rattle.row_faults.specs.ShotFaults.{shot_faults, listed_in, listed_of, is_own_shot, taken_after, misplaced}
@@ -39,8 +39,7 @@ abbrev pub coil_faults_in : List SectionRows → List ℕ → SectionRows → Li
 coil_faults_in machine text s =
     flat_map (coil_faults text) (coils_in s)
     ++ flat_map (coil_player_faults machine text) (coil_players_in s)
-    ++ flat_map (flipper_faults machine text) (flippers_in s)
-    ++ flat_map (autofire_faults machine text) (autofires_in s)
+    ++ flat_map (λ e. rule_faults machine text (coil_rule_of s.name e)) (entries_in s.content)
 
 -- The faults of a section of a text, as written: its posts of reserved events, those of what it says of variables, of
 -- coils, of ball devices and of shots, the shots that its groups may not list, and its timers that start at their end.

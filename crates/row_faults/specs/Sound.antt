@@ -1,12 +1,13 @@
 -- What holds of rows without faults: nothing that they say of a coil goes past its limits; the coils, switches, shots,
 -- profiles and ball devices of which they speak are defined; the balls of each ball device come to the playfield; and
 -- each ball switch is of one ball device, once. Here `machine` is the sections of the machine text.
-use Rattle.std.specs.Prelude.{◌≡◌, ◌≢◌, ℕ, ◌≤◌, true, false, ◌||◌, Some, IfSome, IsSome, is_some, List, unwrap_or}
+use Rattle.std.specs.Prelude.{◌≡◌, ◌≢◌, ℕ, ◌≤◌, true, false, ◌||◌, Option, None, Some, IfSome, IsSome, is_some, List, unwrap_or}
 use Rattle.std.specs.List.{All, AllPairs, flat_map}
 use Rattle.mpf_sections.specs.declared.words.CoilAction.{CoilAction}
 use Rattle.mpf_sections.specs.declared.words.CoilAction.TheVariants.{Pulse, Enable, Disable}
-use Rattle.mpf_sections.specs.Rows.{Coil, CoilItem, CoilPlayer, Flipper, Autofire, VariableItem, Shot, ShotGroup, BallDevice, SectionRows}
-use Rattle.mpf_sections.specs.TypedCoils.{coils_in, coil_players_in, flippers_in, autofires_in}
+use Rattle.mpf_sections.specs.Rows.{Coil, CoilItem, CoilPlayer, Flipper, Autofire, CoilRule, flipper, autofire, VariableItem, Shot, ShotGroup, BallDevice, SectionRows}
+use Rattle.mpf_sections.specs.Typed.{entries_in}
+use Rattle.mpf_sections.specs.TypedCoils.{coils_in, coil_players_in, coil_rule_of}
 use Rattle.mpf_config.specs.Rows.{Rows}
 use Rattle.mpf_sections.specs.TypedBalls.{is_trough, ball_devices_in}
 use Rattle.machine_definitions.specs.Definitions.{coil_called, has_switch, ball_devices_of}
@@ -67,6 +68,12 @@ pub record IsAutofireSound (machine : List SectionRows) (a : Autofire) : Type 0 
   pub coil : IsCoilSuch machine a.coil.text IsCoilSound
   pub switch : has_switch machine a.rule.switch.text ≡ true
 
+-- so it is with an entry that may be either
+abbrev pub IsRuleSound : List SectionRows → Option CoilRule → Type 0
+IsRuleSound machine None = Unit {0}
+IsRuleSound machine (Some (flipper f)) = IsFlipperSound machine f
+IsRuleSound machine (Some (autofire a)) = IsAutofireSound machine a
+
 -- the switch of a shot is defined, if it has one, and so is its profile
 pub record IsShotSound (rows : Rows) (s : Shot) : Type 0 where
   pub switch : IfSome s.switch (λ w. has_switch rows.machine w.text ≡ true)
@@ -86,8 +93,7 @@ pub record IsBallDeviceSound (machine : List SectionRows) (d : BallDevice) : Typ
 pub record IsSectionSound (rows : Rows) (s : SectionRows) : Type 0 where
   pub coils : All IsCoilSound (coils_in s)
   pub coil_players : All (IsCoilPlayerSound rows.machine) (coil_players_in s)
-  pub flippers : All (IsFlipperSound rows.machine) (flippers_in s)
-  pub autofires : All (IsAutofireSound rows.machine) (autofires_in s)
+  pub rules : All (λ e. IsRuleSound rows.machine (coil_rule_of s.name e)) (entries_in s.content)
   pub shots : All (IsShotSound rows) (shots_in s)
   pub groups : All (IsShotGroupSound rows) (shot_groups_in s)
   pub ball_devices : All (IsBallDeviceSound rows.machine) (ball_devices_in s)

@@ -3,17 +3,18 @@
 ghost use Rattle.std.specs.Prelude.{◌≡◌, ◌||◌, ◌&&◌, not, nat_lt, OnOk};
 ghost use Rattle.row_faults.specs.CoilFaults.{is_above, is_enable};
 ghost use Rattle.row_faults.specs.Collected.{Gains};
-ghost use Rattle.row_faults.specs.FaultsOf.{faults_by_limits, faults_of_autofire, faults_of_autofires, faults_of_coil, faults_of_coil_item, faults_of_coil_items, faults_of_coil_name, faults_of_coil_players, faults_of_coils, faults_about_coils, faults_of_flipper, faults_of_flippers, faults_by_hold_limits, faults_of_hold_coil, faults_of_switch_name};
+ghost use Rattle.row_faults.specs.FaultsOf.{faults_by_limits, faults_of_autofire, faults_of_coil, faults_of_coil_item, faults_of_coil_items, faults_of_coil_name, faults_of_coil_players, faults_of_coils, faults_about_coils, faults_of_flipper, faults_of_rule, faults_of_rules, faults_by_hold_limits, faults_of_hold_coil, faults_of_switch_name};
 
 use crate::as_written::{Named, add_as_written};
 use crate::collector::{Faults, add_if, at};
 use crate::fault::RowFaultKind;
 use mpf_config::{
-    Autofire, Coil, CoilAction, CoilItem, Flipper, Keyed, NameAt, Section, as_autofire, as_coil,
-    as_coil_item, as_coil_player, as_flipper,
+    Autofire, Coil, CoilAction, CoilItem, Entry, Flipper, Keyed, NameAt, Section, as_coil,
+    as_coil_item, as_coil_player,
 };
 use mpf_sections::coil_rules::{ACTIVATION_SWITCH, COIL, HOLD_COIL, MAIN_COIL, SWITCH};
-use mpf_tables::tables::{AUTOFIRE_COILS_NAME, COIL_PLAYER_NAME, COILS_NAME, FLIPPERS_NAME};
+use mpf_sections::{CoilRule, as_coil_rule};
+use mpf_tables::tables::{COIL_PLAYER_NAME, COILS_NAME};
 use std::alloc::AllocError;
 
 /// Adds the faults of what a section says of coils, as written.
@@ -25,8 +26,7 @@ pub(crate) fn add_coil_faults(
 {
     add_coils(faults, section)?;
     add_coil_players(faults, section)?;
-    add_flippers(faults, section)?;
-    add_autofires(faults, section)
+    add_rules(faults, section)
 }
 
 // ---- names
@@ -177,16 +177,27 @@ fn may_not_hold(action: CoilAction, coil: Coil<'_>) -> bool
 
 // ---- `flippers` and `autofire_coils`
 
-/// Adds the faults of the flippers of a section.
-#[tactic(auto, unfolding(mpf_sections::specs::TypedCoils::flippers_in))]
-fn add_flippers(faults: &mut Faults<'_, '_>, section: &Section) -> Result<(), AllocError>
-    ensures { OnOk result (Gains faults.old faults.new (faults_of_flippers faults.old section.now)) }
+/// Adds the faults of the flippers and the autofire coils of a section.
+fn add_rules(faults: &mut Faults<'_, '_>, section: &Section) -> Result<(), AllocError>
+    ensures { OnOk result (Gains faults.old faults.new (faults_of_rules faults.old section.now)) }
 {
-    let entries = section.entries_of(FLIPPERS_NAME);
+    let entries = section.content.entries();
     for entry in entries {
-        add_flipper(faults, as_flipper(entry))?;
+        add_rule(faults, &section.name, entry)?;
     }
     Ok(())
+}
+
+/// Adds the faults of an entry of the section of this name, where it is a flipper or an autofire
+/// coil.
+fn add_rule(faults: &mut Faults<'_, '_>, section: &[u8], entry: &Entry) -> Result<(), AllocError>
+    ensures { OnOk result (Gains faults.old faults.new (faults_of_rule faults.old section.now entry.now)) }
+{
+    match as_coil_rule(section, entry) {
+        Some(CoilRule::Flipper(flipper)) => add_flipper(faults, flipper),
+        Some(CoilRule::Autofire(autofire)) => add_autofire(faults, autofire),
+        None => Ok(()),
+    }
 }
 
 /// Adds the faults of a flipper.
@@ -237,18 +248,6 @@ fn add_hold(
         }
         None => add_if(faults, true, RowFaultKind::Name, hold),
     }
-}
-
-/// Adds the faults of the autofire coils of a section.
-#[tactic(auto, unfolding(mpf_sections::specs::TypedCoils::autofires_in))]
-fn add_autofires(faults: &mut Faults<'_, '_>, section: &Section) -> Result<(), AllocError>
-    ensures { OnOk result (Gains faults.old faults.new (faults_of_autofires faults.old section.now)) }
-{
-    let entries = section.entries_of(AUTOFIRE_COILS_NAME);
-    for entry in entries {
-        add_autofire(faults, as_autofire(entry))?;
-    }
-    Ok(())
 }
 
 /// Adds the faults of an autofire coil.
