@@ -49,17 +49,12 @@ module _ (plan : PlanView) where
     binding-event = ap (λ (c : Binding). c.event.0) (get_or_from_slice_get plan.bindings q.0 b no_binding is)
 
     pub event-known : b.event.0 < length plan.events
-    event-known =
-        let on = binding-event in
-        let known = (valid.entries.bindings q.0 no_binding there).0 in
-        omega arith
+    event-known = search (rules, binding-event)
 
   module _ (q : BindingId) (e : EventId) (there : q.0 < length plan.bindings) (on : (binding_at plan q).event.0 ≡ e.0) (known : e.0 < length plan.events) where
     -- it is bound to no other event
     elsewhere : (n : ℕ) → n ≢ e.0 → All (λ p. p.0 ≢ q.0) (places_of plan (event n))
-    elsewhere n other k d within same =
-        let p = get_or (places_of plan (event n)) k d in
-        other (sym (places_of-on plan (event n) k d within) ∙ ap (λ (r : BindingId). (binding_at plan r).event.0) (place-same p q same) ∙ on)
+    elsewhere n other k d within same = search (rules, get_or, places_of-on, place-same)
 
     joins-event : (takes : BindingId → Bool) → takes q ≡ false → put (runs_before plan) q (by_priority plan (filter takes (places_of plan e))) ≡ by_priority plan (filter (also takes q) (places_of plan e))
     joins-event takes fresh = joined plan takes q fresh (places_of plan e) (places_of-increase plan e) (has-event plan e q there on)
@@ -77,14 +72,10 @@ module _ (plan : PlanView) where
 
     -- and where it takes part, is this put into the order of the others
     pub others-in_order : (takes : BindingId → Bool) → IsOrdered (runs_before plan) (by_priority plan (filter (without takes q) (places_of plan e)))
-    others-in_order takes =
-        by_priority-in_order plan (filter (without takes q) (places_of plan e)) (AllPairs-filter IsBelow (without takes q) (places_of plan e) (places_of-increase plan e))
+    others-in_order takes = search (rules, by_priority-in_order, AllPairs-filter, places_of-increase)
 
     pub order-with : (takes : BindingId → Bool) (orders : List (Vec BindingId Global)) → HasOrders plan takes orders → (d : Vec BindingId Global) → takes q ≡ true → (get_or orders e.0 d).items ≡ put (runs_before plan) q (by_priority plan (filter (without takes q) (places_of plan e)))
-    order-with takes orders has d took =
-        (has.each e.0 d known).places
-        ∙ ap (by_priority plan) (filter-agree takes (also (without takes q) q) (places_of plan e) (λ k c inside. without-also takes q took (get_or (places_of plan e) k c)))
-        ∙ sym (joins-event (without takes q) (without-itself takes q))
+    order-with takes orders has d took = search (rules, filter-agree, without-also, get_or, joins-event, without-itself)
 
     module _ (orders : List (Vec BindingId Global)) (v : Vec BindingId Global) where
       -- another order at the event alone
@@ -115,9 +106,7 @@ module _ (plan : PlanView) where
 
         -- the binding takes part no more
         pub order-dropped : takes q ≡ true → ((rest : List BindingId) → (get_or orders e.0 d).items ≡ put (runs_before plan) q rest → v.items ≡ rest) → HasOrders plan (without takes q) (slice_set orders e.0 v)
-        order-dropped took is =
-            changed takes (without takes q) has (without-other takes q)
-            (record { places = is (by_priority plan (filter (without takes q) (places_of plan e))) (order-with takes orders has d took); room = room })
+        order-dropped took is = search (rules, changed, without-other, order-with, room)
 
   -- ---- no binding takes part
 
@@ -131,18 +120,7 @@ module _ (plan : PlanView) where
     pub each : (e : ℕ) (d : Vec BindingId Global) → e < n → IsOrderOf plan (λ p. false) (record { 0 = e }) (get_or orders e d)
 
   pub rooms-more : (n : ℕ) (orders : List (Vec BindingId Global)) (v : Vec BindingId Global) → HasFirstRooms n orders → v.items ≡ [] → length (places_of plan (record { 0 = n })) ≤ vec_capacity v → HasFirstRooms (n + 1) (orders ++ v ∷ [])
-  rooms-more n orders v has empty room = record {
-    count = let one = length_push orders v in let count = has.count in omega arith;
-    each = λ e d within.
-        elim (cases_lt e n) [
-          | inl less ↦ subst (IsOrderOf plan (λ p. false) (event e)) (sym (get_or_append_left orders (v ∷ []) d e (omega (arith, less, has.count)))) (has.each e d less)
-          | inr reached ↦
-              let same : e ≡ n = omega arith in
-              subst (λ (k : ℕ). IsOrderOf plan (λ p. false) (event k) (get_or (orders ++ v ∷ []) k d)) (sym same)
-              (subst (IsOrderOf plan (λ p. false) (event n)) (sym (get_or_push orders v d n has.count))
-              (record { places = empty ∙ sym (ap (by_priority plan) (none-pass (places_of plan (event n)))); room = room }))
-        ];
-  }
+  rooms-more n orders v has empty room = search (rules, room, length_push, cases_lt, get_or_append_left, get_or, get_or_push, none-pass)
 
   -- ---- what takes part from the start on
 

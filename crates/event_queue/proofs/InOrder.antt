@@ -63,16 +63,14 @@ front-is (a ∷ alarms) (Some x) h = ap (λ y. Some y) (h.1 a)
 -- ---- they are in order, and no more than the rows
 
 put_alarm-ordered : (alarm : Option Alarm) (alarms : List Alarm) → IsOrdered comes_before alarms → IsOrdered comes_before (put_alarm alarm alarms)
-put_alarm-ordered None alarms ordered = ordered
-put_alarm-ordered (Some a) alarms ordered = ordered-put comes_before before-order a alarms ordered
+put_alarm-ordered alarm alarms ordered = search (rules, ordered-put, before-order)
 
 from-ordered : (number : ℕ) (dues : List (Option ℕ)) → IsOrdered comes_before (ordered_from number dues)
 from-ordered number [] = λ i j d low high. absurd (omega arith)
 from-ordered number (due ∷ dues) = put_alarm-ordered (alarm_of (row_of number) due) (ordered_from (number + 1) dues) (from-ordered (number + 1) dues)
 
 put_alarm-length : (alarm : Option Alarm) (alarms : List Alarm) → length (put_alarm alarm alarms) ≤ suc (length alarms)
-put_alarm-length None alarms = omega arith
-put_alarm-length (Some a) alarms = let one = length-put comes_before a alarms in omega arith
+put_alarm-length alarm alarms = search (rules, length-put)
 
 from-length : (number : ℕ) (dues : List (Option ℕ)) → length (ordered_from number dues) ≤ length dues
 from-length number [] = omega arith
@@ -115,9 +113,7 @@ module _ (dues : List (Option ℕ)) (row : RowId) (within : row.0 < length dues)
   others-ordered = from-ordered 0 (slice_set dues row.0 None)
 
   pub others-put : (due : Option ℕ) → put_alarm (alarm_of row due) others ≡ ordered_alarms (slice_set dues row.0 due)
-  others-put due =
-      let here : row.0 ≡ 0 + row.0 = omega arith in
-      ap (λ n. put_alarm (alarm_of (row_of n) due) others) here ∙ sym (from-set 0 row.0 dues due within)
+  others-put due = search (rules, from-set)
 
   -- the row's alarm, as it was, is put into those of all others
   pub others-was : (was : Option ℕ) → was ≡ get_or dues row.0 was → ordered_alarms dues ≡ put_alarm (alarm_of row was) others

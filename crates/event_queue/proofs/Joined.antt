@@ -129,7 +129,4 @@ module _ (plan : PlanView) where
         by p more less false is = is
 
     pub joined : (ps : List BindingId) → AllPairs IsBelow ps → has ps q ≡ true → put (runs_before plan) q (by_priority plan (filter takes ps)) ≡ by_priority plan (filter (also takes q) ps)
-    joined ps below there =
-        ap (put (runs_before plan) q) (by_priority-in_turn (filter takes ps) (AllPairs-filter IsBelow takes ps below))
-        ∙ sym (joins ps below there)
-        ∙ sym (by_priority-in_turn (filter (also takes q) ps) (AllPairs-filter IsBelow (also takes q) ps below))
+    joined ps below there = search (rules, by_priority-in_turn, AllPairs-filter, joins)

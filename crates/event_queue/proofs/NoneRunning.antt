@@ -1,5 +1,5 @@
 -- Where no mode runs, the handlers are the machine's, whether the list has the modes or not.
-use Rattle.std.proofs.Common.{◌≡◌, ℕ, false, [], length, get_or, replicate, refl, ap, sym, inl, inr, arith}
+use Rattle.std.proofs.Common.{rules, ◌≡◌, ℕ, false, [], length, get_or, replicate, refl, ap, sym, inl, inr, arith}
 use Rattle.std.proofs.lemmas.Bool.{cases_lt}
 use Rattle.std.proofs.lemmas.List.{get_or-replicate, get_or_past, length-replicate}
 use Rattle.std.proofs.lemmas.List.Elements.{filter_agree}
@@ -11,8 +11,4 @@ use Rattle.event_queue.specs.Handlers.{none_running, takes_part, runs_at}
 use Rattle.event_queue.specs.PlanOrder.{by_priority, in_order}
 
 never : (n i : ℕ) → get_or (replicate n false) i false ≡ false
-never n i =
-    elim (cases_lt i n) [
-      | inl within ↦ get_or-replicate n i false false within
-      | inr past ↦ get_or_past (replicate n false) i false (omega (arith, length-replicate n false))
-    ]
+never n i = search (rules, cases_lt, get_or-replicate, get_or_past, length-replicate)

@@ -120,16 +120,7 @@ module _ (plan : PlanView) (running : List Bool) (m : ModeId) where
     runs-next = part-own running m (binding_at plan next).owner (places_in-own plan m k d within)
 
     not-yet : has (take k (places_in plan m)) next ≡ false
-    not-yet = list_any_none (λ p. p.0 == next.0) (take k (places_in plan m)) before
-      where
-        before : All (λ p. (p.0 == next.0) ≡ false) (take k (places_in plan m))
-        before i e there =
-            let long = length-take-le k (places_in plan m) (omega arith) in
-            let low : i < k = omega (arith, there, long) in
-            let below : IsBelow (get_or (places_in plan m) i e) (get_or (places_in plan m) k e) = places_in-increase plan m i k e low within in
-            let at = ap (λ (p : BindingId). p.0) (get_or-take k (places_in plan m) i e low) in
-            let here = ap (λ (p : BindingId). p.0) (get_or_default (places_in plan m) k e d within) in
-            ne_eqb (get_or (take k (places_in plan m)) i e).0 next.0 (λ same. absurd (omega arith))
+    not-yet = search (rules, list_any_none, length-take-le, get_or, places_in-increase, get_or-take, get_or_default, ne_eqb)
 
     pub joining-next : get_or running m.0 false ≡ false → joining k next ≡ false
     joining-next rests = or_from (runs_at plan running next) (has (take k (places_in plan m)) next) (runs-next ∙ rests) not-yet
@@ -151,14 +142,10 @@ module _ (plan : PlanView) (running : List Bool) (m : ModeId) where
     among = ap (λ ps. has ps p) (take_all k (places_in plan m) all) ∙ has-owned plan m p within
 
     pub joining-all : joining k p ≡ runs_at plan (slice_set running m.0 true) p
-    joining-all =
-        ap (λ b. runs_at plan running p || b) among ∙ or-cond (runs_at plan running p) (is_owner (Mode m) (binding_at plan p).owner)
-        ∙ sym (part-set running m true (binding_at plan p).owner there)
+    joining-all = search (rules, among, or-cond, part-set)
 
     pub leaving-all : leaving k p ≡ runs_at plan (slice_set running m.0 false) p
-    leaving-all =
-        ap (λ b. runs_at plan running p && not b) among ∙ and-cond (runs_at plan running p) (is_owner (Mode m) (binding_at plan p).owner)
-        ∙ sym (part-set running m false (binding_at plan p).owner there)
+    leaving-all = search (rules, among, and-cond, part-set)
 
 -- ---- the lists of all modes, as they are made
 

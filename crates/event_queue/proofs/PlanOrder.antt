@@ -41,10 +41,7 @@ pub all_places-increase : (plan : PlanView) → AllPairs IsBelow (all_places pla
 all_places-increase plan = places-increase (range_with_len 0 (length plan.bindings)) (range-increases (length plan.bindings) 0)
 
 pub places_of-increase : (plan : PlanView) (e : EventId) → AllPairs IsBelow (places_of plan e)
-places_of-increase plan e =
-    let on : ℕ → Bool = λ n. (binding_at plan (record { 0 = n })).event.0 == e.0 in
-    let all = range_with_len 0 (length plan.bindings) in
-    places-increase (filter on all) (AllPairs-filter (λ x y. x < y) on all (range-increases (length plan.bindings) 0))
+places_of-increase plan e = search (rules, places-increase, AllPairs-filter, range-increases)
 
 handlers-increase : (plan : PlanView) (running : List Bool) (e : EventId) → AllPairs IsBelow (handlers plan running e)
 handlers-increase plan running e = AllPairs-filter IsBelow (runs_at plan running) (places_of plan e) (places_of-increase plan e)
@@ -123,21 +120,14 @@ module _ (plan : PlanView) where
       (one_order ps qs (tail (RunsBefore plan) p ps h) (tail (RunsBefore plan) q qs k) (among-rest p q ps qs same k there) (among-rest q p qs ps (sym same) h back))
 
   pub plan_order-only : (places ps qs : List BindingId) → IsPlanOrder plan places ps → IsPlanOrder plan places qs → ps ≡ qs
-  plan_order-only places ps qs a b =
-      one_order ps qs a.ordered b.ordered
-      (λ P all. All-permutation P places qs b.permutation (All-permutation P ps places (IsPermutation-sym places ps a.permutation) all))
-      (λ P all. All-permutation P places ps a.permutation (All-permutation P qs places (IsPermutation-sym places qs b.permutation) all))
+  plan_order-only places ps qs a b = search (rules, one_order, All-permutation, IsPermutation-sym)
 
   -- an event's handlers are in plan order
   pub in_order-is : (running : List Bool) (e : EventId) → IsPlanOrder plan (handlers plan running e) (in_order plan running e)
   in_order-is running e = record { permutation = by_priority-permutes plan (handlers plan running e); ordered = by_priority-ordered (handlers plan running e) (handlers-increase plan running e) }
 
 pub handlers_are_in_plan_order : HandlersAreInPlanOrder
-handlers_are_in_plan_order = record {
-  is = in_order-is;
-  only = λ plan running e order is. plan_order-only plan (handlers plan running e) order (in_order plan running e) is (in_order-is plan running e);
-  descends = λ plan running e. by_priority-is_order plan (handlers plan running e);
-}
+handlers_are_in_plan_order = search (rules, in_order-is, plan_order-only, by_priority-is_order)
 
 -- ---- an event has no more handlers than the plan has bindings
 
@@ -152,11 +142,4 @@ module _ (plan : PlanView) where
   priority-length ps = length_permutation ps (by_priority plan ps) (by_priority-permutes plan ps)
 
   pub in_order-count : (running : List Bool) (e : EventId) → length (in_order plan running e) ≤ length plan.bindings
-  in_order-count running e =
-      let all = priority-length (handlers plan running e) in
-      let running-of = filter-shorter (runs_at plan running) (places_of plan e) in
-      let on : ℕ → Bool = λ n. (binding_at plan (record { 0 = n })).event.0 == e.0 in
-      let places = length-map {B = BindingId} (filter on (range_with_len 0 (length plan.bindings))) (λ n. record { 0 = n }) in
-      let bound = filter-shorter on (range_with_len 0 (length plan.bindings)) in
-      let count = length-range_with_len 0 (length plan.bindings) in
-      omega arith
+  in_order-count running e = search (rules, priority-length, filter-shorter, length-map, length-range_with_len)
