@@ -36,21 +36,10 @@ counted-all [] b few = omega arith
 counted-all (command ∷ later) b few = let h = counted-all later (after_taking command b) (omega arith) in omega arith
 
 pub memory_keeps_latest : MemoryKeepsLatest
-memory_keeps_latest commands =
-    let counted : (after_taking_all commands empty_memory).count ≡ min (length commands) 1025 = let h = counted-all commands empty_memory (omega arith) in omega arith in
-    ap₂ (λ (xs : List Command) (n : ℕ). record { kept = xs; count = n }) (kept-all commands empty_memory (omega arith)) counted
+memory_keeps_latest commands = search (rules, counted-all, kept-all)
 
 pub memory_tells_all : MemoryTellsAll
-memory_tells_all commands =
-    ap told_by_memory (memory_keeps_latest commands)
-    ∙ elim (cases_lt 1024 (length commands)) [
-      | inl more ↦
-          ap (λ (b : Bool). if b then Some (keep_last 1024 commands) else None) (lt-leb (min (length commands) 1025) 1024 (omega arith))
-          ∙ sym (ap (λ (b : Bool). if b then Some commands else None) (lt-leb (length commands) 1024 more))
-      | inr few ↦
-          ap (λ (b : Bool). if b then Some (keep_last 1024 commands) else None) (le-leb (min (length commands) 1025) 1024 (omega arith))
-          ∙ (ap (λ (xs : List Command). Some xs) (keeps-all commands few) ∙ sym (ap (λ (b : Bool). if b then Some commands else None) (le-leb (length commands) 1024 few)))
-    ]
+memory_tells_all commands = search (rules, memory_keeps_latest, cases_lt, lt-leb, le-leb, keeps-all)
 
 -- ---- the board that faults
 
@@ -71,5 +60,4 @@ module _ (k n : ℕ) (onwards : Bool) where
   fault-is = search rules
 
 pub fuse_faults_from_kth : FuseFaultsFromKth
-fuse_faults_from_kth k onwards n =
-    ap₂ (λ (left : ℕ) (on : Bool). (left == 1) || (on && (left == 0))) (left-after n (new_fuse k onwards)) (onwards-after n (new_fuse k onwards)) ∙ fault-is k n onwards
+fuse_faults_from_kth k onwards n = search (rules, left-after, onwards-after, fault-is)

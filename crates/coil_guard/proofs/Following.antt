@@ -42,11 +42,7 @@ new_follows limits = record {
 -- ---- where there is no coil, nothing is sent
 
 is-there : (s : List CoilState) (coil : CoilId) (test : CoilState → Bool) → test (coil_at s coil) ≡ true → (test (off no_limits) ≡ true → ⊥) → coil.0 < length s
-is-there s coil test taken never =
-    elim (cases_lt coil.0 (length s)) [
-      | inl within ↦ within
-      | inr past ↦ absurd (never (sym (ap test (get_or_past s coil.0 (off no_limits) past)) ∙ taken))
-    ]
+is-there s coil test taken never = search (rules, cases_lt, get_or_past)
 
 never-pulsed : (ms power now : ℕ) → takes_pulse ms power now (off no_limits) ≡ true → ⊥
 never-pulsed ms power now taken = search rules
@@ -145,8 +141,7 @@ follows-tested limits sent s moment (Disable coil now) forward f = follows-disab
 follows-tested limits sent s moment (Release owner now) forward f = follows-release limits sent s moment now forward f owner
 
 pub calls_follow : CallsFollow
-calls_follow limits sent s moment call forward f =
-    subst (λ (ss : List Sending). Follows limits (sent ++ ss) (after_call call s) (moment_of call)) (sym (sent-tested call s)) (follows-tested limits sent s moment call forward f)
+calls_follow limits sent s moment call forward f = search (rules, sent-tested, follows-tested)
 
 pub later_follows : LaterFollows
 later_follows limits sent s moment now forward f = follows-later limits sent s moment now forward f
@@ -154,22 +149,14 @@ later_follows limits sent s moment now forward f = follows-later limits sent s m
 -- ---- what follows
 
 tested-due : (limits : List CoilLimits) (sent : List Sending) (s : List CoilState) (moment : ℕ) (call : CoilCall) → moment ≤ moment_of call → Follows limits sent s moment → tested call s ≡ due_by limits sent call
-tested-due limits sent s moment (Pulse coil ms power now) forward f = search rules
-tested-due limits sent s moment (Enable coil power owner now) forward f = search rules
-tested-due limits sent s moment (Disable coil now) forward f = ap (λ b. sent_if b (disable_sent coil now)) (sym ((f.each coil).on now forward))
-tested-due limits sent s moment (Release owner now) forward f =
-    ap (λ o. disables_sent o now)
-    (lowest-same (λ coil. is_held_by owner (coil_at s coil)) (λ coil. is_held_for sent owner coil) (length s) (λ coil. sym ((f.each coil).held_for owner))
-    ∙ ap (λ (n : ℕ). lowest (λ coil. is_held_for sent owner coil) n) f.count)
+tested-due limits sent s moment call forward f = search (rules, lowest-same)
 
 pub followers_send_what_is_due : FollowersSendWhatIsDue
 followers_send_what_is_due limits sent s moment call forward f = sent-tested call s ∙ tested-due limits sent s moment call forward f
 
 module _ (limits : List CoilLimits) (sent : List Sending) (s : List CoilState) (moment : ℕ) (f : Follows limits sent s moment) where
   pub next_on-lowest : (now : ℕ) → moment ≤ now → IsLowest (λ coil. is_on sent coil now) (length limits) (next_on now s)
-  next_on-lowest now forward =
-      lowest-by (λ coil. is_on_at now (coil_at s coil)) (λ coil. is_on sent coil now) (length s) (length limits) (λ coil. sym ((f.each coil).on now forward)) f.count
+  next_on-lowest now forward = search (rules, lowest-by)
 
   pub next_held-lowest : (owner : Owner) → IsLowest (λ coil. is_held_for sent owner coil) (length limits) (next_held owner s)
-  next_held-lowest owner =
-      lowest-by (λ coil. is_held_by owner (coil_at s coil)) (λ coil. is_held_for sent owner coil) (length s) (length limits) (λ coil. sym ((f.each coil).held_for owner)) f.count
+  next_held-lowest owner = search (rules, lowest-by)

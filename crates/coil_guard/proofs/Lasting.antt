@@ -28,16 +28,13 @@ lasts-push begins ends (p ∷ later) s =
 
 module _ (begins ends : Sending → Bool) (sent : List Sending) (s : Sending) where
   pub lasts-begun : (b : Bool) → begins s ≡ b → ends s ≡ false → lasts begins ends (sent ++ s ∷ []) ≡ (lasts begins ends sent || b)
-  lasts-begun b begun stays =
-      lasts-push begins ends sent s ∙ (ap₂ (λ e c. (lasts begins ends sent && not e) || c) stays begun ∙ ap (λ c. c || b) (and-true (lasts begins ends sent)))
+  lasts-begun b begun stays = search (rules, lasts-push, and-true)
 
   pub lasts-kept : begins s ≡ false → ends s ≡ false → lasts begins ends (sent ++ s ∷ []) ≡ lasts begins ends sent
   lasts-kept none stays = lasts-begun false none stays ∙ or-false (lasts begins ends sent)
 
   pub lasts-ended : begins s ≡ false → ends s ≡ true → lasts begins ends (sent ++ s ∷ []) ≡ false
-  lasts-ended none ended =
-      lasts-push begins ends sent s
-      ∙ (ap₂ (λ e c. (lasts begins ends sent && not e) || c) ended none ∙ (or-false (lasts begins ends sent && false) ∙ and-false (lasts begins ends sent)))
+  lasts-ended none ended = search (rules, lasts-push, or-false, and-false)
 
 pub any-push : (p : Sending → Bool) (sent : List Sending) (s : Sending) (b : Bool) → p s ≡ b → list_any p (sent ++ s ∷ []) ≡ (list_any p sent || b)
 any-push p sent s b is = list_any-append p sent (s ∷ []) ∙ ap (λ c. list_any p sent || c) (or-false (p s) ∙ is)

@@ -1,5 +1,5 @@
 -- The laws over lists of calls, by what each call keeps.
-use Rattle.std.proofs.Common.{ℕ, List, [], ◌∷◌, ◌++◌, sym, subst, append-nil, append_assoc}
+use Rattle.std.proofs.Common.{arith, rules, ℕ, List, [], ◌∷◌, ◌++◌, sym, subst, append-nil, append_assoc}
 use Rattle.plan_tables.specs.declared.entries.CoilLimits.{CoilLimits}
 use Rattle.coil_guard.specs.declared.state.CoilState.{CoilState}
 use Rattle.coil_guard.specs.Coils.{all_off}
@@ -27,8 +27,7 @@ pub stretches_are_within_limits : StretchesAreWithinLimits
 stretches_are_within_limits limits calls order coil barred first count all = (((follows-new limits calls order).each coil).apart barred).runs first count all
 
 pub answers_are_by_commands : AnswersAreByCommands
-answers_are_by_commands limits calls call order forward =
-    followers_send_what_is_due limits (sent_from_new limits calls) (state_from_new limits calls) (last_moment 0 calls) call forward (follows-new limits calls order)
+answers_are_by_commands limits calls call order forward = search (rules, followers_send_what_is_due, follows-new)
 
 pub states_say_what_is_on : StatesSayWhatIsOn
 states_say_what_is_on limits calls order coil moment last = sym (((follows-new limits calls order).each coil).on moment last)

@@ -25,8 +25,7 @@ lowest-within test zero c is = absurd (none-some c is)
 lowest-within test (suc n) c is = first-within n (lowest test n) (test (record { 0 = n })) c (λ d. lowest-within test n d) is
 
 pub answer-within : (test : CoilId → Bool) (n : ℕ) (o : Option CoilId) → o ≡ lowest test n → IfSome o (λ c. c.0 < n)
-answer-within test n None is = tt
-answer-within test n (Some c) is = lowest-within test n c (sym is)
+answer-within test n o is = search (rules, lowest-within)
 
 -- ---- a loop over the coils finds it
 
@@ -49,11 +48,7 @@ get-inside (x ∷ xs) (suc k) a b within = get-inside xs k a b (omega (arith, wi
 -- the same by the facts of the loop: the items that it goes over are the states, and b is the test's answer
 pub found-at : (test : CoilState → Bool) (items fields s : List CoilState) (n : ℕ) (d : CoilState) (b : Bool) → items ≡ fields → fields ≡ s → n < length items
     → lowest (λ coil. test (coil_at s coil)) n ≡ None → b ≡ test (slice_index_or items n d) → b ≡ true → Some (record { 0 = n }) ≡ lowest (λ coil. test (coil_at s coil)) (length s)
-found-at test items fields s n d b items_are fields_are within none is holds =
-    let same : items ≡ s = items_are ∙ fields_are in
-    let inside : n < length s = subst (λ (xs : List CoilState). n < length xs) same within in
-    let here : slice_index_or items n d ≡ slice_index_or s n (off no_limits) = get-inside items n d (off no_limits) within ∙ ap (λ (xs : List CoilState). slice_index_or xs n (off no_limits)) same in
-    found (λ coil. test (coil_at s coil)) n (length s) inside none (sym (ap test here) ∙ (sym is ∙ holds))
+found-at test items fields s n d b items_are fields_are within none is holds = search (rules, slice_index_or, get-inside, found)
 
 -- ---- it is the lowest
 
@@ -66,5 +61,4 @@ lowest-is test (suc n) = next-lowest test n (lowest test n) (test (record { 0 = 
 
 -- The lowest by one test is the lowest by another that says the same.
 pub lowest-by : (p q : CoilId → Bool) (n m : ℕ) → ((coil : CoilId) → p coil ≡ q coil) → n ≡ m → IsLowest q m (lowest p n)
-lowest-by p q n m same count =
-    subst (λ (o : Option CoilId). IsLowest q m o) (sym (lowest-same p q n same ∙ ap (λ (k : ℕ). lowest q k) count)) (lowest-is q m)
+lowest-by p q n m same count = search (rules, lowest-same, lowest-is)

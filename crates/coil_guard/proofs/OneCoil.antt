@@ -81,8 +81,7 @@ module _ (coil : CoilId) (limits : CoilLimits) (sent : List Sending) (c : CoilSt
 
     -- It adds its own moments to those at which the coil is on.
     on-pulsed : (t : ℕ) → is_on (sent ++ pulse_sent coil ms power now ∷ []) coil t ≡ (is_on sent coil t || (nat_le now t && nat_lt t (now + ms)))
-    on-pulsed t =
-        lasts-begun (begins_on coil t) (ends_on coil t) sent (pulse_sent coil ms power now) (nat_le now t && nat_lt t (now + ms)) (ap (λ b. b && (nat_le now t && nat_lt t (now + ms))) own) (and_right (coil.0 == coil.0) false refl)
+    on-pulsed t = search (rules, lasts-begun, nat_le, nat_lt, own, and_right)
 
     -- From now on only these are left, since an older pulse has ended.
     on-after : (later : ℕ) → now ≤ later → is_on (sent ++ pulse_sent coil ms power now ∷ []) coil later ≡ is_on_at later (pulsed ms now c)
@@ -92,11 +91,7 @@ module _ (coil : CoilId) (limits : CoilLimits) (sent : List Sending) (c : CoilSt
         on-pulsed later ∙ (ap₂ (λ b l. b || (l && nat_lt later (now + ms))) was (le-leb now later h) ∙ sym (ap (λ b. nat_lt later (now + ms) || b) free ∙ or-false (nat_lt later (now + ms))))
 
     on-cases : (t : ℕ) → is_on (sent ++ pulse_sent coil ms power now ∷ []) coil t ≡ true → (is_on sent coil t ≡ true) ⊎ ((now ≤ t) × (t < now + ms))
-    on-cases t is =
-        elim (or_cases (is_on sent coil t) (nat_le now t && nat_lt t (now + ms)) (sym (on-pulsed t) ∙ is)) [
-          | inl old ↦ inl old
-          | inr new ↦ let parts = and_parts (nat_le now t) (nat_lt t (now + ms)) new in inr (leb-true now t parts.0, ltb-true t (now + ms) parts.1)
-        ]
+    on-cases t is = search (rules, or_cases, nat_le, nat_lt, on-pulsed, and_parts, leb-true, ltb-true)
 
     module _ (a : IsApart coil limits sent c.ready) where
       before-pulsed : (t : ℕ) → is_on (sent ++ pulse_sent coil ms power now ∷ []) coil t ≡ true → t + 1 < now + 2 * ms
@@ -187,12 +182,7 @@ module _ (coil : CoilId) (limits : CoilLimits) (sent : List Sending) (c : CoilSt
 
   -- A disable is sent. It only takes moments away.
   on-disabled : (t : ℕ) → is_on (sent ++ disable_sent coil now ∷ []) coil t ≡ true → is_on sent coil t ≡ true
-  on-disabled t is =
-      let d = disable_sent coil now in
-      elim (or_cases (is_on sent coil t && not (ends_on coil t d)) (begins_on coil t d) (sym (lasts-push (begins_on coil t) (ends_on coil t) sent d) ∙ is)) [
-        | inl old ↦ (and_parts (is_on sent coil t) (not (ends_on coil t d)) old).0
-        | inr new ↦ absurd (false≢true (sym (and_right (coil.0 == coil.0) false refl) ∙ new))
-      ]
+  on-disabled t is = search (rules, or_cases, lasts-push, and_parts, and_right)
 
   pub followed-disable : IsFollowed coil limits (sent ++ disable_sent coil now ∷ []) (disabled c) now
   followed-disable = record {
