@@ -1,10 +1,10 @@
 -- What the boards of this crate do over every list of commands.
-use Rattle.std.proofs.Common.{rules, ◌≡◌, ℕ, ◌+◌, ◌-◌, ◌≤◌, ◌==◌, zero, suc, Bool, ◌&&◌, ◌||◌, if◌then◌else◌, Some, None, List, [], ◌∷◌, ◌++◌, length, drop, min, nat_le, refl, ap, ap₂, sym, ◌∙◌, inl, inr, append-nil, append_assoc, arith}
-use Rattle.std.proofs.lemmas.Bool.{eq-eqb, ne_eqb, le-leb, lt-leb, cases_lt}
+use Rattle.std.proofs.Common.{rules, ◌≡◌, ℕ, ◌+◌, ◌-◌, ◌≤◌, ◌==◌, zero, suc, Bool, ◌&&◌, ◌||◌, List, [], ◌∷◌, ◌++◌, length, drop, min, refl, ap, ap₂, sym, ◌∙◌, append-nil, append_assoc, arith}
+use Rattle.std.proofs.lemmas.Bool.{le-leb, lt-leb, cases_lt}
 use Rattle.std.proofs.lemmas.List.{length-append, length-drop, drop-drop, drop-append-le}
 use Rattle.circular_buffer.specs.Buffer.{keep_last}
 use Rattle.coil_guard.specs.declared.command.Command.{Command}
-use Rattle.coil_guard.specs.Boards.{MemoryView, empty_memory, after_taking, told_by_memory, after_taking_all, MemoryKeepsLatest, MemoryTellsAll, FuseView, new_fuse, after_sending, after_sending_many, is_fault_at, FuseFaultsFromKth}
+use Rattle.coil_guard.specs.Boards.{MemoryView, after_taking, after_taking_all, MemoryKeepsLatest, MemoryTellsAll, FuseView, after_sending, after_sending_many, is_fault_at, FuseFaultsFromKth}
 
 -- ---- the board in memory
 

@@ -1,23 +1,19 @@
 -- Each call keeps what a guard's state and the sent commands have to do with each other.
-use Rattle.std.proofs.Common.{rules, ◌≡◌, ℕ, ◌<◌, ◌≤◌, ◌==◌, Bool, true, false, not, ◌&&◌, if◌then◌else◌, option_map, Option, Some, None, List, [], ◌∷◌, ◌++◌, length, map, nat_le, nat_lt, refl, ap, ap₂, sym, subst, ◌∙◌, inl, inr, append-nil, arith}
-use Rattle.std.proofs.lemmas.Bool.{false≢true, leb-true, ltb-true, cases_lt, cases_eq, ne_eqb, and_parts, or_cases}
+use Rattle.std.proofs.Common.{rules, ◌≡◌, ℕ, ◌<◌, ◌≤◌, ◌==◌, Bool, true, false, if◌then◌else◌, Option, Some, None, List, [], ◌∷◌, ◌++◌, length, map, refl, ap, sym, subst, ◌∙◌, inl, inr, append-nil, arith}
+use Rattle.std.proofs.lemmas.Bool.{false≢true, cases_lt, cases_eq, ne_eqb}
 use Rattle.std.proofs.lemmas.List.{length-set, length-map, get_or_past, get_or-map, get_or-set_same, get_or-set_other}
 use Rattle.std.proofs.lemmas.List.Elements.{All-nil, All-push}
 use Rattle.plan_tables.specs.declared.entries.Owner.{Owner}
 use Rattle.plan_tables.specs.declared.entries.CoilId.{CoilId}
 use Rattle.plan_tables.specs.declared.entries.CoilLimits.{CoilLimits}
-use Rattle.coil_guard.specs.declared.command.Command.{Command}
-use Rattle.coil_guard.specs.declared.command.Command.TheVariants as commands
-use Rattle.coil_guard.specs.declared.command.Answer.TheVariants.{Sent, Skipped}
 use Rattle.coil_guard.specs.declared.state.CoilState.{CoilState}
-use Rattle.coil_guard.specs.Limits.{no_limits, limits_at, is_pulse_within, is_hold_within, IsWithin}
+use Rattle.coil_guard.specs.Limits.{no_limits, limits_at, IsWithin}
 use Rattle.coil_guard.specs.CoilStep.{off, is_on_at, is_held_by, takes_pulse, pulsed, takes_enable, enabled, disabled}
-use Rattle.coil_guard.specs.Lowest.{lowest, IsLowest}
+use Rattle.coil_guard.specs.Lowest.{IsLowest}
 use Rattle.coil_guard.specs.Coils.{coil_at, set_coil, all_off, next_held, put_off, next_on}
-use Rattle.coil_guard.specs.SentCommands.{Sending, coil_of, is_to, is_on, is_held_for, is_resting}
-use Rattle.coil_guard.specs.Calls.{CoilCall, Pulse, Enable, Disable, Release, moment_of, after_call, sent_as, released_as, sent_by, pulse_sent, enable_sent, disable_sent, sent_if, disables_sent, due_by}
+use Rattle.coil_guard.specs.SentCommands.{Sending, coil_of, is_to, is_on, is_held_for}
+use Rattle.coil_guard.specs.Calls.{CoilCall, Pulse, Enable, Disable, Release, moment_of, after_call, sent_by, pulse_sent, enable_sent, disable_sent, sent_if, disables_sent, due_by}
 use Rattle.coil_guard.specs.Follows.{IsFollowed, Follows, NewFollows, CallsFollow, LaterFollows, FollowersSendWhatIsDue}
-use Rattle.coil_guard.proofs.Lasting.{not-lt}
 use Rattle.coil_guard.proofs.OneCoil.{followed-off, followed-later, followed-other, some_ms, short, weak, followed-pulse, permitted, weak_hold, followed-enable, followed-disable}
 use Rattle.coil_guard.proofs.Lowest.{lowest-same, lowest-within, lowest-by}
 
@@ -54,12 +50,6 @@ never-on : (now : ℕ) → is_on_at now (off no_limits) ≡ true → ⊥
 never-on now taken = search rules
 
 -- ---- what an answer says was sent, by the test that the answer was made of
-
-sent-if : (b : Bool) (command : Command) (owner : Option Owner) (now : ℕ) → sent_as (if b then Sent command else Skipped) owner now ≡ sent_if b (record { at = now; command = command; owner = owner })
-sent-if b command owner now = search rules
-
-sent-release : (o : Option CoilId) (now : ℕ) → released_as (option_map commands.Disable o) now ≡ disables_sent o now
-sent-release o now = search rules
 
 abbrev tested : CoilCall → List CoilState → List Sending
 tested (Pulse coil ms power now) s = sent_if (takes_pulse ms power now (coil_at s coil)) (pulse_sent coil ms power now)

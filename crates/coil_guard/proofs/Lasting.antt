@@ -1,7 +1,6 @@
 -- One more sending: what lasts after it, and what rests after it.
-use Rattle.std.proofs.Common.{rules, ◌≡◌, ℕ, ◌≤◌, Bool, true, false, not, ◌&&◌, ◌||◌, List, [], ◌∷◌, ◌++◌, nat_le, nat_lt, refl, ap, ap₂, sym, ◌∙◌, inl, inr, arith}
+use Rattle.std.proofs.Common.{rules, ◌≡◌, ℕ, ◌≤◌, Bool, true, false, not, ◌&&◌, ◌||◌, List, [], ◌∷◌, ◌++◌, nat_lt, ap, ap₂, ◌∙◌}
 use Rattle.std.specs.List.{list_all, list_any}
-use Rattle.std.proofs.lemmas.Bool.{cases_lt, le-ltb, lt-ltb, le-leb, lt-leb, or_right}
 use Rattle.std.proofs.lemmas.List.Folds.{list_all-append, list_any-append}
 use Rattle.coil_guard.specs.SentCommands.{Sending, lasts}
 
@@ -42,6 +41,3 @@ any-push p sent s b is = list_any-append p sent (s ∷ []) ∙ ap (λ c. list_an
 -- before one of two moments is before the later one
 pub lt-either : (t a b : ℕ) → a ≤ b → (nat_lt t a || nat_lt t b) ≡ nat_lt t b
 lt-either t a b le = search rules
-
-pub not-lt : (a b : ℕ) → not (nat_lt a b) ≡ nat_le b a
-not-lt a b = search rules

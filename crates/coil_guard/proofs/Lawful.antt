@@ -1,5 +1,5 @@
 -- The laws over lists of calls, by what each call keeps.
-use Rattle.std.proofs.Common.{arith, rules, ℕ, List, [], ◌∷◌, ◌++◌, sym, subst, append-nil, append_assoc}
+use Rattle.std.proofs.Common.{rules, ℕ, List, [], ◌∷◌, ◌++◌, sym, subst, append-nil, append_assoc}
 use Rattle.plan_tables.specs.declared.entries.CoilLimits.{CoilLimits}
 use Rattle.coil_guard.specs.declared.state.CoilState.{CoilState}
 use Rattle.coil_guard.specs.Coils.{all_off}

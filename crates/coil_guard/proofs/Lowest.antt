@@ -1,11 +1,9 @@
 -- The lowest coil of which something is true.
-use Rattle.std.proofs.Common.{rules, ◌≡◌, ℕ, ◌<◌, zero, suc, Bool, true, false, if◌then◌else◌, Option, Some, None, IfSome, List, [], ◌∷◌, length, slice_index_or, refl, ap, ap₂, sym, subst, ◌∙◌, inl, inr, arith}
+use Rattle.std.proofs.Common.{rules, ◌≡◌, ℕ, ◌<◌, zero, suc, Bool, true, if◌then◌else◌, Option, Some, None, IfSome, List, [], ◌∷◌, length, slice_index_or, refl, ap, ap₂, sym, subst, inl, inr, arith}
 use Rattle.std.proofs.lemmas.Bool.{cases_eq}
-use Rattle.std.proofs.lemmas.Option.{none-some, same_Some}
+use Rattle.std.proofs.lemmas.Option.{none-some}
 use Rattle.plan_tables.specs.declared.entries.CoilId.{CoilId}
 use Rattle.coil_guard.specs.declared.state.CoilState.{CoilState}
-use Rattle.coil_guard.specs.Limits.{no_limits}
-use Rattle.coil_guard.specs.CoilStep.{off}
 use Rattle.coil_guard.specs.Lowest.{first_of_two, lowest, IsLowest}
 use Rattle.coil_guard.specs.Coils.{coil_at}
 
@@ -13,9 +11,6 @@ pub lowest-same : (p q : CoilId → Bool) (n : ℕ) → ((coil : CoilId) → p c
 lowest-same p q n same = search rules
 
 -- ---- it is one of them
-
-last-within : (n : ℕ) (b : Bool) (c : CoilId) → (if b then Some (record { 0 = n }) else None) ≡ Some c → c.0 < suc n
-last-within n b c is = search rules
 
 first-within : (n : ℕ) (a : Option CoilId) (b : Bool) (c : CoilId) → ((d : CoilId) → a ≡ Some d → d.0 < n) → first_of_two a (if b then Some (record { 0 = n }) else None) ≡ Some c → c.0 < suc n
 first-within n a b c first is = search rules

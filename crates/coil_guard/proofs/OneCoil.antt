@@ -18,9 +18,6 @@ not-owner owner o free = search rules
 
 -- ---- nothing has been sent
 
-empty-runs : (coil : CoilId) (first count max : ℕ) → IsOnThroughout [] coil first count → count ≤ max
-empty-runs coil first count max all = search rules
-
 pub followed-off : (coil : CoilId) (limits : CoilLimits) → IsFollowed coil limits [] (off limits) 0
 followed-off coil limits = search rules
 

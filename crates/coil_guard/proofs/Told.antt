@@ -1,6 +1,6 @@
 -- A board in memory tells a list that has grown by the command, or tells none any more.
-use Rattle.std.proofs.Common.{rules, ◌≡◌, ℕ, ◌+◌, ◌-◌, ◌≤◌, Bool, true, false, if◌then◌else◌, Some, None, Ok, List, [], ◌∷◌, ◌++◌, length, drop, min, nat_le, refl, ap, ap₂, sym, subst, ◌∙◌, inl, inr, arith}
-use Rattle.std.proofs.lemmas.Bool.{false≢true, le-leb, cases_lt}
+use Rattle.std.proofs.Common.{rules, ◌≡◌, ℕ, ◌+◌, ◌-◌, Bool, true, false, if◌then◌else◌, Some, None, Ok, List, [], ◌∷◌, ◌++◌, length, min, nat_le}
+use Rattle.std.proofs.lemmas.Bool.{le-leb, cases_lt}
 use Rattle.std.proofs.Math.Nat.{min-eq_left, min-eq_right}
 use Rattle.std.proofs.lemmas.List.{length-append}
 use Rattle.circular_buffer.specs.Buffer.{keep_last}

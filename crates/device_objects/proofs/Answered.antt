@@ -1,5 +1,5 @@
 -- What devices answer is among their outcomes.
-use Rattle.std.proofs.Common.{rules, ◌≡◌, ℕ, zero, ◌==◌, suc, nat_lt, nat_le, ◌<◌, Bool, true, false, Option, Some, List, [], ◌∷◌, ◌++◌, length, take, slice_get, slice_set, if◌then◌else◌, is_some, refl, sym, ap, ◌∙◌, ◌&&◌, not, ℤ, pos, ◌+ℤ◌, ◌-ℤ◌, arith}
+use Rattle.std.proofs.Common.{rules, ◌≡◌, ℕ, zero, ◌==◌, suc, nat_lt, nat_le, ◌<◌, Bool, true, false, Option, Some, List, [], ◌∷◌, ◌++◌, length, take, slice_get, slice_set, if◌then◌else◌, is_some, refl, sym, ap, ◌∙◌, ◌&&◌, not, ℤ, ◌+ℤ◌, ◌-ℤ◌, arith}
 use Rattle.std.specs.List.{list_all, range_with_len}
 use Rattle.std.proofs.lemmas.List.{append-nil}
 use Rattle.std.proofs.lemmas.Option.{none-some}

@@ -50,7 +50,7 @@ use Rattle.device_objects.proofs.Multiballs.{multiball_acts}
 use Rattle.device_objects.proofs.Shapes.{first-shape, next-within}
 use Rattle.device_objects.proofs.Answered.{completed-is}
 use Rattle.device_objects.specs.Laws.{HasBankShape, IsAnswer, MayCome, OutcomesComeAbout}
-use Rattle.device_objects.specs.Outcomes.{silent, only_if, completing, going_on, resetting, of_counter, of_accrual, of_sequence, of_timer, of_timer_act, of_change, can_complete, hit_completing, of_hit_in, of_hit, of_bank, of_switch, of_flipper, of_autofire, timer_completing}
+use Rattle.device_objects.specs.Outcomes.{only_if, completing, going_on, resetting, of_counter, of_accrual, of_sequence, of_timer, of_timer_act, of_change, can_complete, hit_completing, of_hit_in, of_hit, of_bank, of_switch, of_flipper, of_autofire, timer_completing}
 
 -- ---- values
 

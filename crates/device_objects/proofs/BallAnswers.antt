@@ -1,7 +1,7 @@
 -- What ball devices answer is among their outcomes.
-use Rattle.std.proofs.Common.{rules, ◌≡◌, ℕ, zero, suc, ◌+◌, ◌<◌, ◌≤◌, min, Bool, true, false, Option, None, Some, is_some, List, [], ◌∷◌, ◌++◌, ◌&&◌, drop, option_map, nat_lt, if◌then◌else◌, refl, sym, ap, ◌∙◌, arith}
+use Rattle.std.proofs.Common.{rules, ◌≡◌, ℕ, zero, suc, ◌+◌, ◌<◌, ◌≤◌, min, Bool, true, false, Option, None, Some, is_some, List, [], ◌∷◌, ◌++◌, ◌&&◌, drop, option_map, nat_lt, if◌then◌else◌, refl, arith}
 use Rattle.std.specs.List.{All, list_any}
-use Rattle.std.proofs.lemmas.Bool.{and_from, lt-ltb, or_left, or_right, false≢true, true≢false}
+use Rattle.std.proofs.lemmas.Bool.{and_from, lt-ltb, or_left, or_right, false≢true}
 use Rattle.std.proofs.lemmas.List.{append-nil}
 use Rattle.std.proofs.lemmas.List.Elements.{All-weaker}
 use Rattle.std.proofs.lemmas.List.Folds.{list_any_none}

@@ -17,7 +17,7 @@ use Rattle.device_objects.specs.declared.state.BallState.{BallState}
 use Rattle.device_objects.specs.declared.state.Eject.{Eject}
 use Rattle.device_objects.specs.declared.state.Eject.TheVariants.{Idle, Pulsing, Away}
 use Rattle.device_objects.specs.declared.state.DeviceState.TheVariants as states
-use Rattle.device_objects.specs.BallDevice.{empty, first_state, set_switch, turned, entered, attempted, left, lost, failed, attempt, can_begin, begin, after, ended, may_try_again, next_number, overdue, confirmed, ball_step}
+use Rattle.device_objects.specs.BallDevice.{empty, first_state, set_switch, turned, entered, attempted, left, lost, failed, attempt, can_begin, begin, after, ended, may_try_again, next_number, ball_step}
 use Rattle.device_objects.specs.Laws.{IsEjectOf, HasBallShape, IsAnswer, MayCome}
 use Rattle.device_objects.specs.Outcomes.{only_if, may_begin, may_eject, ending, of_count, of_attempt, of_ball_fire, of_ball_act, of_ball_device}
 use Rattle.device_objects.proofs.Among.{one, all_if, if_true, if_false}

@@ -16,7 +16,7 @@ use Rattle.device_objects.specs.declared.state.Eject.{Eject}
 use Rattle.device_objects.specs.declared.state.Eject.TheVariants.{Idle}
 use Rattle.device_objects.specs.declared.state.DeviceState.TheVariants as states
 use Rattle.device_objects.specs.declared.state.World.{World}
-use Rattle.device_objects.specs.BallDevice.{empty, switch_at, set_switch, first_due, first_due_from, timeout_of, earlier, due_of, parts, part_due, is_timeout_first, entered, attempt, can_begin, begin, after, time_out, confirm, delay, counts_otherwise, noted, switched, turned, gone, count, count_due, fire, fire_part, requested, act_step, halted, not_due, ball_step}
+use Rattle.device_objects.specs.BallDevice.{empty, switch_at, set_switch, first_due, first_due_from, timeout_of, earlier, due_of, part_due, is_timeout_first, entered, attempt, can_begin, begin, after, time_out, confirm, delay, switched, turned, gone, count, count_due, fire, fire_part, requested, act_step, halted, ball_step}
 use Rattle.device_objects.specs.DeviceStep.{ball_answer}
 use Rattle.device_objects.specs.Laws.{IsDone, IsFirstPart, FiresFirstPart}
 use Rattle.device_objects.proofs.BallDue.{not_due-none, first_due-none, first_due-is_due, first_due-is_first, first_due-is_lowest, due-inside, part-of_switch, part-of_attempt, part-past, switch-is_part, which_part}

@@ -1,5 +1,5 @@
 -- Ball devices keep their shape.
-use Rattle.std.proofs.Common.{rules, ◌≡◌, ℕ, ◌+◌, ◌-◌, ◌<◌, ◌≤◌, inl, inr, Bool, true, false, Option, None, Some, List, [], ◌∷◌, length, get_or, set, drop, map, replicate, nat_lt, if◌then◌else◌, refl, sym, ap, ◌∙◌, arith}
+use Rattle.std.proofs.Common.{rules, ◌≡◌, ℕ, ◌+◌, ◌-◌, ◌<◌, ◌≤◌, inl, inr, Bool, true, false, Option, Some, List, [], length, get_or, drop, map, nat_lt, if◌then◌else◌, sym, ap, ◌∙◌, arith}
 use Rattle.std.specs.List.{All}
 use Rattle.std.proofs.lemmas.Bool.{cases_lt, ltb-true}
 use Rattle.std.proofs.lemmas.List.{drop-map, get_or-drop, get_or_past, length-drop, length-map, length-set, drop-set-lt}
@@ -14,7 +14,7 @@ use Rattle.device_objects.specs.declared.state.BallSwitch.{BallSwitch}
 use Rattle.device_objects.specs.declared.state.BallState.{BallState}
 use Rattle.device_objects.specs.declared.state.Eject.{Eject}
 use Rattle.device_objects.specs.declared.state.Eject.TheVariants.{Idle}
-use Rattle.device_objects.specs.BallDevice.{empty, first_state, switch_at, set_switch, has_ball, first_due, timeout_of, is_timeout_first, can_begin, begin, after, ended, may_try_again, next_number, time_out, confirm, noted, switched, turned, gone, count, count_due, entered, fire, requested, act_step, halted, not_due, ball_step}
+use Rattle.device_objects.specs.BallDevice.{empty, first_state, set_switch, has_ball, first_due, can_begin, begin, ended, may_try_again, next_number, time_out, confirm, switched, gone, count, count_due, fire, requested, act_step, halted, not_due, ball_step}
 use Rattle.device_objects.specs.Laws.{IsAttempt, IsEjectOf, HasBallShape}
 use Rattle.device_objects.proofs.BallDue.{first_due-is_due}
 

@@ -1,5 +1,5 @@
 -- Each effect list that a device answers is one of its row.
-use Rattle.std.proofs.Common.{rules, ◌≡◌, ℕ, suc, ◌+◌, ◌*◌, nat_lt, ◌<◌, ◌≤◌, Bool, true, Option, List, [], ◌∷◌, ◌++◌, if◌then◌else◌, arith}
+use Rattle.std.proofs.Common.{rules, ◌≡◌, ℕ, suc, ◌+◌, ◌*◌, nat_lt, ◌<◌, ◌≤◌, Bool, true, Option, List, [], ◌∷◌, if◌then◌else◌, arith}
 use Rattle.std.specs.List.{All}
 use Rattle.std.proofs.Math.Nat.{mul-le-mul_left}
 use Rattle.std.proofs.lemmas.Bool.{and_parts, ltb-true}
@@ -33,10 +33,10 @@ use Rattle.device_objects.specs.Flipper as flipper
 use Rattle.device_objects.specs.Autofire as autofire
 use Rattle.device_objects.specs.Bank as bank
 use Rattle.device_objects.specs.Multiball as multiball
-use Rattle.device_objects.specs.Bank.{next_state, shot_hit, group_hit, group_complete, hit_lists}
+use Rattle.device_objects.specs.Bank.{next_state, group_complete, hit_lists}
 use Rattle.device_objects.specs.DeviceStep.{device_step}
 use Rattle.device_objects.specs.Laws.{OutcomesAreOfTheRow}
-use Rattle.device_objects.specs.Outcomes.{only_if, can_complete, hit_completing, of_hit_in, of_hit, of_bank, outcomes}
+use Rattle.device_objects.specs.Outcomes.{only_if, hit_completing, of_hit_in, of_hit, of_bank, outcomes}
 use Rattle.device_objects.proofs.Among.{In, contains}
 use Rattle.device_objects.proofs.Answered.{counter_slot-in, accrual_slot-in, timer-in, bank_slot-in}
 use Rattle.device_objects.proofs.BallLists.{ball_step-lists}

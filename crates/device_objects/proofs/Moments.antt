@@ -1,5 +1,5 @@
 -- When devices are due.
-use Rattle.std.proofs.Common.{rules, ◌≡◌, ℕ, zero, suc, ◌+◌, ◌<◌, ◌≤◌, ◌⊎◌, inl, inr, Bool, true, false, if◌then◌else◌, Option, None, Some, IfSome, List, [], refl, arith}
+use Rattle.std.proofs.Common.{rules, ◌≡◌, ℕ, ◌+◌, ◌<◌, ◌≤◌, ◌⊎◌, inr, Bool, true, false, if◌then◌else◌, Option, None, Some, IfSome, List, [], arith}
 use Rattle.std.proofs.lemmas.Option.{none-some, same_Some}
 use Rattle.plan_tables.specs.declared.devices.Act.{Act}
 use Rattle.machine_settings.specs.declared.settings.TimerSettings.{TimerSettings}

@@ -1,5 +1,5 @@
 -- States keep their kind.
-use Rattle.std.proofs.Common.{rules, ◌≡◌, ℕ, ◌-◌, ◌≤◌, Bool, true, Option, Some, List, [], ◌++◌, length, take, drop, slice_get, slice_set, nat_lt, if◌then◌else◌, refl, ◌∙◌, arith}
+use Rattle.std.proofs.Common.{rules, ◌≡◌, ℕ, ◌-◌, ◌≤◌, Bool, Option, Some, List, [], length, slice_get, slice_set, nat_lt, if◌then◌else◌, refl, ◌∙◌, arith}
 use Rattle.std.specs.List.{All}
 use Rattle.std.proofs.lemmas.List.{length-set, length-take, length-drop, length-append}
 use Rattle.std.proofs.lemmas.List.Elements.{All-replicate, All-append, All-take, All-drop}
@@ -19,7 +19,6 @@ use Rattle.device_objects.specs.declared.state.BankSlot.{BankSlot}
 use Rattle.device_objects.specs.declared.state.SequenceSlot.{SequenceSlot}
 use Rattle.device_objects.specs.declared.state.DeviceState.{DeviceState}
 use Rattle.device_objects.specs.declared.state.DeviceState.TheVariants as states
-use Rattle.device_objects.specs.Slots.{slot_in_use, is_of_other_game}
 use Rattle.device_objects.specs.Counter as counter
 use Rattle.device_objects.specs.Accrual as accrual
 use Rattle.device_objects.specs.Sequence as sequence

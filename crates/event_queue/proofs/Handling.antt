@@ -1,7 +1,7 @@
 -- For each event the order of what takes part: as it is made, and where one more takes part, or one less.
-use Rattle.std.proofs.Common.{rules, ◌≡◌, ◌≢◌, ℕ, ◌+◌, ◌<◌, ◌≤◌, nat_lt, ◌==◌, ◌&&◌, Bool, true, false, List, [], ◌∷◌, ◌++◌, Some, length, filter, get_or, slice_get, slice_set, Vec, Global, vec_capacity, refl, ap, sym, subst, ◌∙◌, inl, inr, arith}
+use Rattle.std.proofs.Common.{rules, ◌≡◌, ◌≢◌, ℕ, ◌+◌, ◌<◌, ◌≤◌, nat_lt, ◌&&◌, Bool, true, false, List, [], ◌∷◌, ◌++◌, Some, length, filter, get_or, slice_get, slice_set, Vec, Global, vec_capacity, refl, ap, sym, subst, ◌∙◌, inl, inr, arith}
 use Rattle.std.specs.List.{All}
-use Rattle.std.proofs.lemmas.Bool.{cases_eq, cases_lt, eq-eqb, lt-ltb, le-ltb, and_from, and_left, and_right, or_right}
+use Rattle.std.proofs.lemmas.Bool.{cases_eq, cases_lt, le-ltb, and_right}
 use Rattle.std.proofs.lemmas.Bool.Decides.{nat_tests}
 use Rattle.std.proofs.lemmas.List.{length-set, get_or-set_same, get_or-set_other, get_or_append_left, get_or_push, length_push}
 use Rattle.std.proofs.lemmas.Option.{get_or_from_slice_get}

@@ -1,5 +1,5 @@
 -- Alarms in order: the first is the least, and where a row's due moment is set, its alarm is taken out and another put in.
-use Rattle.std.proofs.Common.{rules, ◌≡◌, ℕ, zero, suc, ◌+◌, ◌<◌, ◌≤◌, nat_lt, ◌==◌, ◌&&◌, ◌||◌, Bool, true, false, cond, Option, Some, None, List, [], ◌∷◌, length, replicate, get_or, slice_get, slice_set, Bor, refl, ap, ap₂, sym, ◌∙◌, arith}
+use Rattle.std.proofs.Common.{rules, ◌≡◌, ℕ, zero, suc, ◌+◌, ◌<◌, ◌≤◌, nat_lt, ◌==◌, ◌&&◌, ◌||◌, Bool, true, false, Option, Some, None, List, [], ◌∷◌, length, replicate, get_or, slice_get, slice_set, Bor, refl, ap, sym, ◌∙◌, arith}
 use Rattle.std.specs.Cmp.{IsStrictWeakOrder}
 use Rattle.std.specs.List.{HoldsAt}
 use Rattle.std.specs.Option.{MatchOption, option_copied}
@@ -7,7 +7,7 @@ use Rattle.std.proofs.lemmas.Bool.Decides.{nat_tests}
 use Rattle.std.proofs.lemmas.List.{length-set, set-get_or}
 use Rattle.plan_tables.specs.declared.devices.RowId.{RowId}
 use Rattle.event_queue.specs.Alarms.{comes_before, first_of, alarm_of, least_from, least_of}
-use Rattle.event_queue.specs.Inside.{put, IsOrdered, put_alarm, ordered_from, ordered_alarms}
+use Rattle.event_queue.specs.Inside.{IsOrdered, put_alarm, ordered_from, ordered_alarms}
 use Rattle.event_queue.proofs.Put.{length-put, ordered-put, put_comm}
 
 abbrev Alarm : Type 0
@@ -29,9 +29,6 @@ chain t r u s v q first then = grind (arith, nat_tests)
 
 same-moment : (t r u s : ℕ) → lower t r u s ≡ false → lower u s t r ≡ false → t ≡ u
 same-moment t r u s not neither = grind (arith, nat_tests)
-
-same-row : (t r u s : ℕ) → lower t r u s ≡ false → lower u s t r ≡ false → r ≡ s
-same-row t r u s not neither = grind (arith, nat_tests)
 
 pub before-order : IsStrictWeakOrder comes_before
 before-order = search rules

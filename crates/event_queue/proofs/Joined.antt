@@ -54,12 +54,6 @@ without-also takes q took p = search rules
 module _ (plan : PlanView) where
   -- ---- one place before another
 
-  higher-one_way : (t r u s : ℕ) → (nat_lt u t || ((t == u) && nat_lt r s)) ≡ true → (nat_lt t u || ((u == t) && nat_lt s r)) ≡ false
-  higher-one_way t r u s is = grind (arith, nat_tests)
-
-  higher-chain : (t r u s v q : ℕ) → (nat_lt u t || ((t == u) && nat_lt r s)) ≡ false → (nat_lt v u || ((u == v) && nat_lt s q)) ≡ false → (nat_lt v t || ((t == v) && nat_lt r q)) ≡ false
-  higher-chain t r u s v q first then = grind (arith, nat_tests)
-
   higher-same : (t r u s : ℕ) → (nat_lt u t || ((t == u) && nat_lt r s)) ≡ false → (nat_lt t u || ((u == t) && nat_lt s r)) ≡ false → r ≡ s
   higher-same t r u s not neither = grind (arith, nat_tests)
 

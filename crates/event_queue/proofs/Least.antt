@@ -1,11 +1,10 @@
 -- The least alarm is the one that the definition computes.
-use Rattle.std.proofs.Common.{rules, ◌≡◌, ℕ, zero, suc, ◌+◌, ◌<◌, ◌≤◌, ◌⊎◌, true, false, Option, Some, None, MatchOption, IfSome, List, [], ◌∷◌, length, slice_index_or, refl, ap, sym, subst, ◌∙◌, inl, inr, arith}
-use Rattle.std.proofs.lemmas.Bool.{cases_lt, cond_both}
-use Rattle.std.proofs.lemmas.Bool.Decides.{nat_tests}
-use Rattle.std.proofs.lemmas.Option.{none-some, same_Some}
+use Rattle.std.proofs.Common.{rules, ◌≡◌, ℕ, suc, ◌+◌, ◌<◌, ◌≤◌, ◌⊎◌, Option, Some, None, MatchOption, IfSome, List, [], ◌∷◌, length, slice_index_or, refl, ap, sym, subst, ◌∙◌, arith}
+use Rattle.std.proofs.lemmas.Bool.{cases_lt}
+use Rattle.std.proofs.lemmas.Option.{none-some}
 use Rattle.std.proofs.lemmas.List.{get_or_past}
 use Rattle.plan_tables.specs.declared.devices.RowId.{RowId}
-use Rattle.event_queue.specs.Alarms.{due_of, comes_before, first_of, alarm_of, least_from, least_of, IsLeast, AlarmsGiveTheLeast}
+use Rattle.event_queue.specs.Alarms.{due_of, first_of, alarm_of, least_from, least_of, IsLeast, AlarmsGiveTheLeast}
 
 -- ---- the least alarm among some
 
@@ -24,16 +23,6 @@ agree : (P R : ℕ → ℕ → Type 0) (o : Option (ℕ × RowId)) → ((r t : �
 agree P R o to from p = search rules
 
 -- ---- of two alarms the one that comes first
-
-before-is : (t u r s : ℕ) → comes_before (t, record { 0 = r }) (u, record { 0 = s }) ≡ true → (t ≤ u) × (t ≡ u → r ≤ s)
-before-is t u r s is = (grind (arith, nat_tests), λ same. grind (arith, nat_tests))
-
-before-not : (t u r s : ℕ) → comes_before (t, record { 0 = r }) (u, record { 0 = s }) ≡ false → (u ≤ t) × (u ≡ t → s ≤ r)
-before-not t u r s is = (grind (arith, nat_tests), λ same. grind (arith, nat_tests))
-
--- all of `R` is in `P` or in `Q`, and the least of `P` does not come after any of `Q`
-first-is : (P Q R : ℕ → ℕ → Type 0) (moment row : ℕ) → ((r t : ℕ) → P r t → R r t) → ((r t : ℕ) → R r t → P r t ⊎ Q r t) → IsLeastOf P moment row → ((r t : ℕ) → Q r t → moment ≤ t) → ((r t : ℕ) → Q r t → moment ≡ t → row ≤ r) → IsLeastOf R moment row
-first-is P Q R moment row to split p early low = search rules
 
 swap : (A B : Type 0) → A ⊎ B → B ⊎ A
 swap A B x1 = search rules

@@ -1,7 +1,7 @@
 -- The places of bindings: which of them an event and a mode have, and who takes part while a mode's bindings join or leave.
-use Rattle.std.proofs.Common.{rules, ◌≡◌, ℕ, ◌+◌, ◌<◌, ◌≤◌, ◌==◌, ◌&&◌, ◌||◌, not, Bool, true, false, true≢false, cond, List, [], ◌∷◌, ◌++◌, length, map, filter, take, get_or, slice_set, Vec, Global, refl, ap, sym, subst, ◌∙◌, inl, inr, append-nil, arith}
+use Rattle.std.proofs.Common.{rules, ◌≡◌, ℕ, ◌+◌, ◌<◌, ◌≤◌, ◌==◌, ◌&&◌, ◌||◌, not, Bool, true, false, cond, List, [], ◌∷◌, ◌++◌, length, map, filter, take, get_or, slice_set, Vec, Global, refl, ap, sym, subst, ◌∙◌, inl, inr, append-nil, arith}
 use Rattle.std.specs.List.{All, AllPairs, range_with_len}
-use Rattle.std.proofs.lemmas.Bool.{cases_eq, cond-true, cond-false, eqb-true, eq-eqb, ne_eqb, and_from, and_right, or_from, not_from_false}
+use Rattle.std.proofs.lemmas.Bool.{cases_eq, eqb-true, eq-eqb, ne_eqb, and_from, or_from, not_from_false}
 use Rattle.std.proofs.lemmas.List.{length-set, get_or-set_same, get_or-set_other, get_or-take, get_or_default, length-take-le, take_all}
 use Rattle.std.proofs.lemmas.List.Elements.{All-filter, filter_passes}
 use Rattle.std.proofs.lemmas.List.Folds.{list_any_at, list_any_more, list_any_none}
@@ -14,7 +14,7 @@ use Rattle.plan_tables.specs.declared.entries.Owner.{Owner}
 use Rattle.plan_tables.specs.declared.entries.Owner.TheVariants.{Machine, Mode}
 use Rattle.plan_tables.specs.PlanView.{PlanView, binding_at, is_owner, places_of}
 use Rattle.event_queue.specs.Handlers.{takes_part, runs_at}
-use Rattle.event_queue.specs.Inside.{all_places, places_in, HasOwned, also, without}
+use Rattle.event_queue.specs.Inside.{all_places, places_in, also, without}
 use Rattle.event_queue.proofs.Joined.{has, place-same}
 use Rattle.event_queue.proofs.PlanOrder.{IsBelow, all_places-increase}
 

@@ -6,7 +6,7 @@ use Rattle.std.proofs.lemmas.List.{length-map}
 use Rattle.std.proofs.lemmas.List.Elements.{All-nil, All-cons}
 use Rattle.mpf_values.specs.Names.{IsName}
 use Rattle.section_tables.specs.Rows.{Plain, time, power, Keyed, Value, one, keyed, Entry, Player}
-use Rattle.section_tables.specs.Named.{IsNamedKeyed, IsNamedValue, IsNamedEntry, IsNamedPlayer, IsShortEntry, IsShortPlayer}
+use Rattle.section_tables.specs.Named.{IsNamedKeyed, IsNamedValue, IsNamedEntry, IsNamedPlayer, IsShortPlayer}
 use Rattle.mpf_tables.specs.SectionTables as tables
 use Rattle.mpf_sections.specs.Rows.{Written, CoilItem, SectionRows}
 use Rattle.mpf_sections.specs.Typed.{text_of, flag_of, listed_keyed, name_in, pulse_in, power_in, entries_of, players_of}
@@ -14,10 +14,10 @@ use Rattle.mpf_sections.specs.TypedCoils.{coils_name, coil_player_name, max_hold
 use Rattle.mpf_sections.specs.TypedNumbers.{time_under}
 use Rattle.mpf_sections.specs.Inside.{rule_at}
 use Rattle.mpf_sections.specs.Named.{IsNamedCoil, IsNamedCoilPlayer, IsNamedRule, IsNamedFlipper, IsNamedAutofire, IsNamed}
-use Rattle.mpf_sections.specs.Short.{IsPulseInRange, IsPowerInRange, IsCoilInRange, IsItemInRange, IsShortCoilPlayer, IsCoilPlayerInRange, IsShortRule, IsShortSection}
+use Rattle.mpf_sections.specs.Short.{IsPulseInRange, IsPowerInRange, IsCoilInRange, IsItemInRange, IsShortCoilPlayer, IsCoilPlayerInRange}
 use Rattle.mpf_sections.proofs.Each.{all_mapped, made_each}
-use Rattle.mpf_sections.proofs.RowNames.{IsNamedOption, value_at_named, events_named, event_named, entries_of_named, players_of_named}
-use Rattle.mpf_sections.proofs.ShortRows.{IsShortOption, none_short, value_at_short, events_short, players_of_short}
+use Rattle.mpf_sections.proofs.RowNames.{IsNamedOption, value_at_named, events_named, event_named, entries_of_named}
+use Rattle.mpf_sections.proofs.ShortRows.{IsShortOption, none_short}
 use Rattle.mpf_sections.proofs.DeviceRows.{IsNamedText, IsNamedWritten, name_in_named}
 use Rattle.mpf_sections.proofs.NumberRows.{time_in_range}
 
@@ -89,10 +89,6 @@ autofire_named e h = record { coil = needed_named e 0 h; rule = rule_named 1 e h
 pub coils_named : (s : SectionRows) → IsNamed s → All IsNamedCoil (coils_in s)
 unfolding coils_in
 coils_named s h = made_each IsNamedCoil coil_of coil_named (entries_of coils_name s) (entries_of_named coils_name s h)
-
-pub coil_players_named : (s : SectionRows) → IsNamed s → All IsNamedCoilPlayer (coil_players_in s)
-unfolding coil_players_in
-coil_players_named s h = made_each IsNamedCoilPlayer coil_player_of coil_player_named (players_of coil_player_name s) (players_of_named coil_player_name s h)
 
 -- ---- ranges
 
@@ -172,13 +168,6 @@ coil_player_short p h =
     let few : length (listed_keyed (Some p.value)) ≤ 1024 = keyed_short (Some p.value) h in
     rw (length-map (listed_keyed (Some p.value)) coil_item_of) few
 
--- No list of a coil rule has more than 1,024 items.
-pub rule_short : (switch : ℕ) (e : Entry) → IsShortEntry 1024 e → IsShortRule (rule_at switch e)
-rule_short switch e h = record {
-  enables = events_short (slice_get e.values (switch + 1)) (value_at_short e.values (switch + 1) h);
-  disables = events_short (slice_get e.values (switch + 2)) (value_at_short e.values (switch + 2) h);
-}
-
 -- so it is with those of a section
 pub coils_in_range : (s : SectionRows) → All IsCoilInRange (coils_in s)
 unfolding coils_in
@@ -187,7 +176,3 @@ coils_in_range s = all_mapped IsCoilInRange coil_of coil_in_range (entries_of co
 pub coil_players_in_range : (s : SectionRows) → All IsCoilPlayerInRange (coil_players_in s)
 unfolding coil_players_in
 coil_players_in_range s = all_mapped IsCoilPlayerInRange coil_player_of coil_player_in_range (players_of coil_player_name s)
-
-pub coil_players_short : (s : SectionRows) → IsShortSection s → All IsShortCoilPlayer (coil_players_in s)
-unfolding coil_players_in
-coil_players_short s h = made_each IsShortCoilPlayer coil_player_of coil_player_short (players_of coil_player_name s) (players_of_short coil_player_name s h)

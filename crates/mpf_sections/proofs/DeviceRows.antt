@@ -11,7 +11,7 @@ use Rattle.section_tables.specs.EntryOf.{within}
 use Rattle.machine_settings.specs.declared.words.Direction.{Direction}
 use Rattle.machine_settings.specs.declared.words.Direction.TheVariants.{Up, Down}
 use Rattle.mpf_sections.specs.Rows.{Written, Handled, Control, SectionRows}
-use Rattle.mpf_sections.specs.Typed.{counters_name, accruals_name, sequences_name, timers_name, direction_of, word_of, limit_of, time_of, listed_steps, listed_maps, name_in, event_in, control_from, control_of, with_control, controls_of, end_from, interval_from, counter_of, step_block_of, timer_of, counters_in, accruals_in, sequences_in, timers_in, entries_of}
+use Rattle.mpf_sections.specs.Typed.{counters_name, timers_name, direction_of, word_of, limit_of, time_of, listed_steps, listed_maps, name_in, event_in, control_from, control_of, with_control, controls_of, end_from, interval_from, counter_of, step_block_of, timer_of, counters_in, timers_in, entries_of}
 use Rattle.mpf_sections.specs.Inside.{block_at}
 use Rattle.machine_settings.specs.Limits.{IsEndWithin}
 use Rattle.mpf_sections.specs.Named.{AllNamedEvents, IsNamedBlock, IsNamedCounter, IsNamedStepBlock, IsNamedTimer, IsNamed}
@@ -109,14 +109,6 @@ pub counters_named : (s : SectionRows) → IsNamed s → All IsNamedCounter (cou
 unfolding counters_in
 counters_named s h = made_each IsNamedCounter counter_of counter_named (entries_of counters_name s) (entries_of_named counters_name s h)
 
-pub accruals_named : (s : SectionRows) → IsNamed s → All IsNamedStepBlock (accruals_in s)
-unfolding accruals_in
-accruals_named s h = made_each IsNamedStepBlock step_block_of step_block_named (entries_of accruals_name s) (entries_of_named accruals_name s h)
-
-pub sequences_named : (s : SectionRows) → IsNamed s → All IsNamedStepBlock (sequences_in s)
-unfolding sequences_in
-sequences_named s h = made_each IsNamedStepBlock step_block_of step_block_named (entries_of sequences_name s) (entries_of_named sequences_name s h)
-
 pub timers_named : (s : SectionRows) → IsNamed s → All IsNamedTimer (timers_in s)
 unfolding timers_in
 timers_named s h = made_each IsNamedTimer timer_of timer_named (entries_of timers_name s) (entries_of_named timers_name s h)
@@ -186,11 +178,3 @@ timer_in_range e = (
 pub counters_short : (s : SectionRows) → IsShortSection s → All IsShortCounter (counters_in s)
 unfolding counters_in
 counters_short s h = made_each IsShortCounter counter_of counter_short (entries_of counters_name s) (entries_of_short counters_name s h)
-
-pub accruals_short : (s : SectionRows) → IsShortSection s → All IsShortStepBlock (accruals_in s)
-unfolding accruals_in
-accruals_short s h = made_each IsShortStepBlock step_block_of step_block_short (entries_of accruals_name s) (entries_of_short accruals_name s h)
-
-pub sequences_short : (s : SectionRows) → IsShortSection s → All IsShortStepBlock (sequences_in s)
-unfolding sequences_in
-sequences_short s h = made_each IsShortStepBlock step_block_of step_block_short (entries_of sequences_name s) (entries_of_short sequences_name s h)

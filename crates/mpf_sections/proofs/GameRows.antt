@@ -9,13 +9,11 @@ use Rattle.section_tables.specs.Named.{IsNamedKeyed, IsNamedValue, IsNamedPlayer
 use Rattle.section_tables.specs.EntryOf.{within}
 use Rattle.mpf_sections.specs.Rows.{VariableItem, SectionRows}
 use Rattle.mpf_tables.specs.SectionTables as tables
-use Rattle.mpf_sections.specs.Typed.{listed_keyed, players_of, content_named, row_or}
-use Rattle.mpf_sections.specs.TypedGame.{variable_player_name, machine_section_name, change_in, variable_item_of, variable_player_of, variable_players_in, game_of, min_balls_of}
-use Rattle.mpf_sections.specs.Named.{IsNamedVariablePlayer, IsNamed}
-use Rattle.mpf_sections.specs.Short.{IsShortVariablePlayer, IsChangeInRange, IsVariablePlayerInRange, IsGameInRange, IsShortSection}
-use Rattle.mpf_sections.proofs.Each.{all_mapped, made_each}
-use Rattle.mpf_sections.proofs.RowNames.{event_named, players_of_named}
-use Rattle.mpf_sections.proofs.ShortRows.{players_of_short}
+use Rattle.mpf_sections.specs.Typed.{listed_keyed, content_named, row_or}
+use Rattle.mpf_sections.specs.TypedGame.{machine_section_name, change_in, variable_item_of, variable_player_of, game_of, min_balls_of}
+use Rattle.mpf_sections.specs.Named.{IsNamedVariablePlayer}
+use Rattle.mpf_sections.specs.Short.{IsShortVariablePlayer, IsChangeInRange, IsGameInRange}
+use Rattle.mpf_sections.proofs.RowNames.{event_named}
 use Rattle.mpf_sections.proofs.DeviceRows.{both, at_most}
 use Rattle.mpf_sections.proofs.CoilRows.{keyed_short}
 use Rattle.mpf_sections.proofs.NumberRows.{natural_in_range}
@@ -39,10 +37,6 @@ pub variable_player_named : (p : Player) → IsNamedPlayer p → IsNamedVariable
 unfolding variable_player_of
 variable_player_named p h = record { event = event_named p.event h.event; items = keyed_named p.value h.value }
 
-pub variable_players_named : (s : SectionRows) → IsNamed s → All IsNamedVariablePlayer (variable_players_in s)
-unfolding variable_players_in
-variable_players_named s h = made_each IsNamedVariablePlayer variable_player_of variable_player_named (players_of variable_player_name s) (players_of_named variable_player_name s h)
-
 -- ---- ranges
 
 abbrev IsChange : ℤ → Type 0
@@ -65,26 +59,12 @@ item_in_range : (k : Keyed) → IsChangeInRange (variable_item_of k)
 unfolding variable_item_of
 item_in_range k = change_in_range (slice_get k.values 0)
 
--- The numbers that an entry of `variable_player` says are in their range.
-pub variable_player_in_range : (p : Player) → IsVariablePlayerInRange (variable_player_of p)
-unfolding variable_player_of
-variable_player_in_range p = all_mapped IsChangeInRange variable_item_of item_in_range (listed_keyed (Some p.value))
-
 -- It says of at most 1,024 variables what is done with them.
 pub variable_player_short : (p : Player) → IsShortPlayer 1024 p → IsShortVariablePlayer (variable_player_of p)
 unfolding variable_player_of
 variable_player_short p h =
     let few : length (listed_keyed (Some p.value)) ≤ 1024 = keyed_short (Some p.value) h in
     rw (length-map (listed_keyed (Some p.value)) variable_item_of) few
-
--- so it is with those of a section
-pub variable_players_in_range : (s : SectionRows) → All IsVariablePlayerInRange (variable_players_in s)
-unfolding variable_players_in
-variable_players_in_range s = all_mapped IsVariablePlayerInRange variable_player_of variable_player_in_range (players_of variable_player_name s)
-
-pub variable_players_short : (s : SectionRows) → IsShortSection s → All IsShortVariablePlayer (variable_players_in s)
-unfolding variable_players_in
-variable_players_short s h = made_each IsShortVariablePlayer variable_player_of variable_player_short (players_of variable_player_name s) (players_of_short variable_player_name s h)
 
 -- What is said of the game is in its ranges.
 pub game_in_range : (e : Entry) → IsGameInRange (game_of e)

@@ -8,10 +8,10 @@ use Rattle.mpf_values.specs.Names.{IsName}
 use Rattle.section_tables.specs.Rows.{Plain, name, event, Value, names, posts, events, Entry, Player}
 use Rattle.section_tables.specs.Named.{IsNamedHandled, IsNamedValue, IsNamedEvent, IsNamedEntry, IsNamedPlayer}
 use Rattle.section_tables.specs.Tables.{setting_default}
-use Rattle.mpf_sections.specs.Rows.{Written, Content, entries, players, entry, SectionRows}
+use Rattle.mpf_sections.specs.Rows.{Written, Content, entries, entry, SectionRows}
 use Rattle.mpf_tables.specs.SectionTables as tables
-use Rattle.mpf_tables.specs.SectionTables.{switches_name, event_player_name}
-use Rattle.mpf_sections.specs.Typed.{content_named, mode_row, mode_name, mode_settings_of, mode_settings, listed_names, listed_events, listed_posts, handled_in, switch_of, event_player_of, entries_in, players_in, entries_of, players_of, switches_in, event_players_in}
+use Rattle.mpf_tables.specs.SectionTables.{switches_name}
+use Rattle.mpf_sections.specs.Typed.{content_named, mode_row, mode_name, mode_settings_of, mode_settings, listed_names, listed_events, listed_posts, handled_in, switch_of, event_player_of, entries_in, entries_of, switches_in}
 use Rattle.mpf_sections.specs.Named.{AllNames, AllNamedEvents, IsNamedSwitch, IsNamedEventPlayer, AreNamedSettings, IsNamedContent, IsNamed}
 use Rattle.mpf_sections.proofs.Each.{all_where, made_each}
 
@@ -91,25 +91,13 @@ entries_in_named : (content : Content) → IsNamedContent content → All IsName
 entries_in_named (entries es) h = h
 entries_in_named _ h = All-nil IsNamedEntry
 
-players_in_named : (content : Content) → IsNamedContent content → All IsNamedPlayer (players_in content)
-players_in_named (players ps) h = h
-players_in_named _ h = All-nil IsNamedPlayer
-
 pub entries_of_named : (section : List ℕ) (s : SectionRows) → IsNamed s → All IsNamedEntry (entries_of section s)
 entries_of_named section s h = all_where IsNamedEntry (bytes_eq s.name section) (entries_in s.content) (entries_in_named s.content h)
-
-pub players_of_named : (section : List ℕ) (s : SectionRows) → IsNamed s → All IsNamedPlayer (players_of section s)
-players_of_named section s h = all_where IsNamedPlayer (bytes_eq s.name section) (players_in s.content) (players_in_named s.content h)
 
 -- The names in the switches of a section are names.
 pub switches_named : (s : SectionRows) → IsNamed s → All IsNamedSwitch (switches_in s)
 unfolding switches_in
 switches_named s h = made_each IsNamedSwitch switch_of switch_named (entries_of switches_name s) (entries_of_named switches_name s h)
-
--- Those in the entries of `event_player` are, too.
-pub event_players_named : (s : SectionRows) → IsNamed s → All IsNamedEventPlayer (event_players_in s)
-unfolding event_players_in
-event_players_named s h = made_each IsNamedEventPlayer event_player_of event_player_named (players_of event_player_name s) (players_of_named event_player_name s h)
 
 -- ---- what a name is not
 

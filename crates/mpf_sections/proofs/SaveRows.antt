@@ -1,5 +1,5 @@
 -- What holds of ball saves and multiballs, by the names of their settings: their names are names, and their settings are in their ranges.
-use Rattle.std.proofs.Common.{◌≡◌, map, slice_get, refl}
+use Rattle.std.proofs.Common.{slice_get, refl}
 use Rattle.std.specs.List.{All}
 use Rattle.section_tables.specs.Rows.{Entry}
 use Rattle.section_tables.specs.Named.{IsNamedEntry}
@@ -58,13 +58,3 @@ ball_saves_short s = all_mapped IsShortBallSave ball_save_of ball_save_short (en
 pub multiballs_short : (s : SectionRows) → All IsShortMultiball (multiballs_in s)
 unfolding multiballs_in
 multiballs_short s = all_mapped IsShortMultiball multiball_of multiball_short (entries_of multiballs_name s)
-
--- The ball saves of a section are its entries, where it is `ball_saves`.
-pub ball_saves_are : (s : SectionRows) → map ball_save_of (entries_of ball_saves_name s) ≡ ball_saves_in s
-unfolding ball_saves_in
-ball_saves_are s = refl
-
--- So it is with the multiballs of one.
-pub multiballs_are : (s : SectionRows) → map multiball_of (entries_of multiballs_name s) ≡ multiballs_in s
-unfolding multiballs_in
-multiballs_are s = refl

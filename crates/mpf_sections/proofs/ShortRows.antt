@@ -6,8 +6,8 @@ use Rattle.std.proofs.lemmas.List.Elements.{All-head, All-tail}
 use Rattle.section_tables.specs.Rows.{Value, names, posts, events, Entry, Player}
 use Rattle.section_tables.specs.Named.{IsShortValue, IsShortEntry, IsShortPlayer}
 use Rattle.mpf_sections.specs.Rows.{SectionRows}
-use Rattle.mpf_tables.specs.SectionTables.{switches_name, event_player_name}
-use Rattle.mpf_sections.specs.Typed.{listed_names, listed_events, listed_posts, switch_of, event_player_of, entries_in, players_in, entries_of, players_of, switches_in, event_players_in}
+use Rattle.mpf_tables.specs.SectionTables.{switches_name}
+use Rattle.mpf_sections.specs.Typed.{listed_names, listed_events, listed_posts, switch_of, event_player_of, entries_in, entries_of, switches_in}
 use Rattle.mpf_sections.specs.Short.{IsShortSection, IsShortSwitch, IsShortEventPlayer}
 use Rattle.mpf_sections.proofs.Each.{all_where, made_each}
 
@@ -55,15 +55,7 @@ event_player_short p h = posts_short (Some p.value) h
 pub entries_of_short : (section : List ℕ) (s : SectionRows) → IsShortSection s → All (IsShortEntry 1024) (entries_of section s)
 entries_of_short section s h = all_where (IsShortEntry 1024) (bytes_eq s.name section) (entries_in s.content) h.0
 
-pub players_of_short : (section : List ℕ) (s : SectionRows) → IsShortSection s → All (IsShortPlayer 1024) (players_of section s)
-players_of_short section s h = all_where (IsShortPlayer 1024) (bytes_eq s.name section) (players_in s.content) h.1
-
 -- No list in the switches of a section has more items.
 pub switches_short : (s : SectionRows) → IsShortSection s → All IsShortSwitch (switches_in s)
 unfolding switches_in
 switches_short s h = made_each IsShortSwitch switch_of switch_short (entries_of switches_name s) (entries_of_short switches_name s h)
-
--- No list in the entries of `event_player` has, either.
-pub event_players_short : (s : SectionRows) → IsShortSection s → All IsShortEventPlayer (event_players_in s)
-unfolding event_players_in
-event_players_short s h = made_each IsShortEventPlayer event_player_of event_player_short (players_of event_player_name s) (players_of_short event_player_name s h)

@@ -1,8 +1,6 @@
 -- A row of a plan has few effect lists.
-use Rattle.std.proofs.Common.{rules, suc, ◌+◌, ◌≤◌, Bool, true, false, if◌then◌else◌, arith}
-use Rattle.std.proofs.lemmas.Nat.{mul-le}
+use Rattle.std.proofs.Common.{rules, ◌≤◌, Bool, if◌then◌else◌}
 use Rattle.plan_tables.specs.declared.devices.Settings.{Settings}
-use Rattle.plan_tables.specs.declared.devices.Settings.TheVariants.{Bank}
 use Rattle.plan_tables.specs.Devices.{IsWithinLimits, list_count}
 
 of_group : (group : Bool) → (if group then 2 else 0) ≤ 2

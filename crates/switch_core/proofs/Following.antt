@@ -1,14 +1,13 @@
 -- Each step keeps to the accepted level of the raw changes so far.
-use Rattle.std.proofs.Common.{rules, ◌≡◌, ◌≢◌, ℕ, ◌+◌, ◌<◌, ◌≤◌, ◌==◌, Bool, true, false, not, cond, ◌&&◌, Option, Some, None, List, [], ◌∷◌, ◌++◌, length, nat_le, slice_index_or, slice_set, refl, ap, sym, subst, ◌∙◌, inl, inr, append-nil, append_assoc, arith}
-use Rattle.std.proofs.lemmas.Bool.{cases_Bool, cases_eq, cond-true, cond-false, and_left, not-true, le-leb, lt-leb, ne_eqb, eq-eqb}
-use Rattle.std.proofs.lemmas.Option.{none-some, same_Some}
-use Rattle.std.proofs.lemmas.List.{length-set, length-map, get_or-map, get_or-set_same, get_or-set_other}
+use Rattle.std.proofs.Common.{rules, ◌≡◌, ◌≢◌, ℕ, ◌+◌, ◌<◌, ◌≤◌, ◌==◌, Bool, true, false, not, cond, ◌&&◌, Option, Some, None, List, [], ◌∷◌, ◌++◌, length, nat_le, slice_index_or, refl, ap, sym, subst, ◌∙◌, inl, inr, append-nil, append_assoc, arith}
+use Rattle.std.proofs.lemmas.Bool.{cases_Bool, cases_eq, cond-false, and_left, ne_eqb, eq-eqb}
+use Rattle.std.proofs.lemmas.List.{length-map, get_or-map}
 use Rattle.plan_tables.specs.declared.entries.SwitchId.{SwitchId}
 use Rattle.plan_tables.specs.declared.entries.SwitchKind.{SwitchKind}
-use Rattle.plan_tables.specs.PlanView.{PlanView, PlanSwitch, switch_at, no_switch}
+use Rattle.plan_tables.specs.PlanView.{PlanView, switch_at}
 use Rattle.switch_core.specs.SwitchStep.{SwitchState, same_level, is_active, raw_at_rest, idle, accepted, awaited, changed, fired}
 use Rattle.switch_core.specs.Switches.{SwitchesView, no_kind, kind_at, state_at, set_state, due_of, all_idle, after_change, IsNextDue, IsNothingDueBy, accept, accept_due, after_fire}
-use Rattle.switch_core.specs.AcceptedLevel.{RawChange, delay_of, accepted_level}
+use Rattle.switch_core.specs.AcceptedLevel.{RawChange, accepted_level}
 use Rattle.switch_core.specs.Calls.{SwitchCall, Change, Fire, after_calls, last_moment, AreInTime, raw_changes, LevelsAreAccepted, NothingIsLate}
 use Rattle.switch_core.proofs.Levels.{accepted-push}
 use Rattle.switch_core.proofs.NextDue.{next_due-is}
@@ -28,12 +27,6 @@ record IsFollowed (kind : SwitchKind) (past : List RawChange) (x : SwitchState) 
 level-quiet : (kind : SwitchKind) (x : SwitchState) (moment : ℕ) (o : Option ℕ) → ((due : ℕ) → o ≡ Some due → moment < due) → level_by kind x moment o ≡ x.active
 level-quiet kind x moment o quiet = search rules
 
-cond-same : (b x y : Bool) → x ≡ y → cond b x y ≡ y
-cond-same b x y is = search rules
-
-same_level-true : (x y : Bool) → same_level x y ≡ true → x ≡ y
-same_level-true x y is = search rules
-
 followed-idle : (kind : SwitchKind) → IsFollowed kind [] (idle kind) 0
 followed-idle kind = record { levels = λ later h. refl; ahead = λ due is. omega arith }
 
@@ -43,14 +36,6 @@ module _ (kind : SwitchKind) (past : List RawChange) (x : SwitchState) (moment n
 
   followed-fired : x.due ≡ Some now → moment ≤ now → IsFollowed kind past x moment → IsFollowed kind past (fired kind x) now
   followed-fired due forward f = search rules
-
--- a raw change that waits is foretold, where s says whether it says nothing new
-awaited-level : (kind : SwitchKind) (now later : ℕ) (level : Bool) (x : SwitchState) (s : Bool) → (s ≡ true → is_active kind.contact level ≡ x.active)
-    → cond (nat_le (now + 5) later) (is_active kind.contact level) x.active ≡ level_by kind (awaited kind now level x) later (cond s None (Some (now + 5)))
-awaited-level kind now later level x s same = search rules
-
-awaited-ahead : (now due : ℕ) (s : Bool) → cond s None (Some (now + 5)) ≡ Some due → now ≤ due
-awaited-ahead now due s is = search rules
 
 -- the state after another raw level, where q says whether the switch is quick
 abbrev taken : Bool → SwitchKind → ℕ → Bool → SwitchState → SwitchState

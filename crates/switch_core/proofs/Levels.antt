@@ -1,7 +1,7 @@
 -- The accepted level after one more raw change.
-use Rattle.std.proofs.Common.{rules, ◌≡◌, ℕ, ◌+◌, ◌≤◌, Bool, true, false, cond, ◌&&◌, Option, Some, None, List, [], ◌∷◌, ◌++◌, nat_le, refl, ap, sym, ◌∙◌, append-nil, arith}
+use Rattle.std.proofs.Common.{rules, ◌≡◌, ℕ, ◌+◌, ◌≤◌, Bool, true, cond, ◌&&◌, Option, Some, None, List, [], ◌∷◌, ◌++◌, nat_le, refl, ap, sym, ◌∙◌, append-nil, arith}
 use Rattle.std.specs.List.{filter, list_all, last_or}
-use Rattle.std.proofs.lemmas.Bool.{false≢true, le-leb, leb-true}
+use Rattle.std.proofs.lemmas.Bool.{le-leb, leb-true}
 use Rattle.std.proofs.lemmas.List.Folds.{list_all-append}
 use Rattle.machine_settings.specs.declared.words.Contact.{Contact}
 use Rattle.plan_tables.specs.declared.entries.SwitchKind.{SwitchKind}

@@ -1,5 +1,5 @@
 -- The fields of `Switches`, and the switches that they are.
-use Rattle.std.proofs.Common.{rules, ◌≡◌, ℕ, ◌<◌, ◌≤◌, Bool, true, false, not, if◌then◌else◌, Option, Some, None, option_map, IfSome, List, [], length, map, nat_eq, slice_index_or, slice_set, Vec, Global, vec_capacity, refl, ap, ap₂, sym, ◌∙◌, inl, inr, arith}
+use Rattle.std.proofs.Common.{rules, ◌≡◌, ℕ, ◌<◌, ◌≤◌, Bool, false, not, if◌then◌else◌, Option, Some, None, option_map, IfSome, List, [], length, map, nat_eq, slice_index_or, slice_set, Vec, Global, vec_capacity, refl, ap, ap₂, sym, ◌∙◌, arith}
 use Rattle.std.specs.Bool.{then_some}
 use Rattle.std.specs.Option.{option_eq}
 use Rattle.std.proofs.lemmas.Bool.{cases_lt}

@@ -1,7 +1,7 @@
 -- What is due next is what has the least moment, and of equal moments the least number.
-use Rattle.std.proofs.Common.{rules, ◌≡◌, ℕ, zero, suc, ◌+◌, ◌<◌, ◌≤◌, ◌⊎◌, false, Option, Some, None, option_map, MatchOption, IfSome, IfNone, List, [], ◌∷◌, nat_le, slice_index_or, refl, ap, ap₂, sym, subst, ◌∙◌, inl, inr, arith}
+use Rattle.std.proofs.Common.{rules, ◌≡◌, ℕ, suc, ◌+◌, ◌<◌, ◌≤◌, ◌⊎◌, false, Option, Some, None, option_map, MatchOption, IfSome, IfNone, List, [], ◌∷◌, nat_le, slice_index_or, refl, sym, subst, ◌∙◌, inl, inr, arith}
 use Rattle.std.specs.Option.{option_map_or}
-use Rattle.std.proofs.lemmas.Bool.{cases_lt, cond_both, leb-true, leb-false, lt-leb}
+use Rattle.std.proofs.lemmas.Bool.{cond_both, leb-true, leb-false}
 use Rattle.std.proofs.lemmas.Option.{none-some, same_Some}
 use Rattle.plan_tables.specs.declared.entries.SwitchId.{SwitchId}
 use Rattle.switch_core.specs.SwitchStep.{SwitchState, idle}
@@ -80,9 +80,6 @@ answer-none s o is = none_of s o (subst (IsDueIn s) (sym is) (next_due-is_due s)
 
 -- ---- there is one at most
 
-pub next_due-unique : (s : SwitchesView) (at other : ℕ) (n m : SwitchId) → IsNextDue s at n → IsNextDue s other m → (at ≡ other) × (n.0 ≡ m.0)
-next_due-unique s at other n m a b = search rules
-
 is_next : (s : SwitchesView) (at : ℕ) (n : SwitchId) (o : Option (ℕ × SwitchId)) → IsDueIn s o → IsNextDue s at n → o ≡ Some (at, n)
 is_next s at n o x1 a = search rules
 
@@ -112,12 +109,6 @@ pub next_due-least : (s : SwitchesView) (at : ℕ) (n : SwitchId) → next_due s
 next_due-least s at n is = subst (IsDueIn s) is (next_due-is_due s)
 
 -- ---- nothing is due at or before a moment
-
-pub nothing_due-quiet : (s : SwitchesView) (moment : ℕ) → IsNothingDue s → IsNothingDueBy s moment
-nothing_due-quiet s moment none n due is = absurd_due (due_of s n) due (none n) is
-
-pub next_due-quiet : (s : SwitchesView) (moment at : ℕ) (n : SwitchId) → IsNextDue s at n → moment < at → IsNothingDueBy s moment
-next_due-quiet s moment at n next before other due is = search rules
 
 quiet-where : (s : SwitchesView) (moment : ℕ) (o : Option (ℕ × SwitchId)) → IsDueIn s o → option_map_or (λ d. nat_le d.0 moment) o false ≡ false → IsNothingDueBy s moment
 quiet-where s moment o x1 later = search rules

@@ -1,13 +1,12 @@
 -- What the state of a switch says of its raw level: it was accepted, or is due and says the other level than that which
 -- was accepted last. So each level that is accepted is another one than before.
-use Rattle.std.proofs.Common.{arith, rules, ◌≡◌, ◌≢◌, ℕ, ◌+◌, ◌<◌, Bool, true, false, not, ◌&&◌, cond, if◌then◌else◌, Option, Some, None, length, refl, sym, ap, subst, ◌∙◌, true≢false, inl, inr}
-use Rattle.std.proofs.lemmas.Bool.{and_parts, cases_lt, cases_eq, cond_both}
+use Rattle.std.proofs.Common.{rules, ◌≡◌, ◌≢◌, ℕ, ◌<◌, Bool, true, false, not, Option, Some, None, length, refl, sym, ap, subst, ◌∙◌, inl, inr}
+use Rattle.std.proofs.lemmas.Bool.{cases_lt, cases_eq}
 use Rattle.machine_settings.specs.declared.words.Contact.{Contact}
-use Rattle.machine_settings.specs.declared.words.Contact.TheVariants.{NormallyOpen, NormallyClosed}
 use Rattle.plan_tables.specs.declared.entries.SwitchId.{SwitchId}
 use Rattle.plan_tables.specs.declared.entries.SwitchKind.{SwitchKind}
-use Rattle.plan_tables.specs.PlanView.{PlanView, switch_at}
-use Rattle.switch_core.specs.SwitchStep.{SwitchState, same_level, is_active, raw_at_rest, idle, accepted, awaited, changed, is_taken, fired}
+use Rattle.plan_tables.specs.PlanView.{PlanView}
+use Rattle.switch_core.specs.SwitchStep.{SwitchState, is_active, raw_at_rest, idle, changed, is_taken, fired}
 use Rattle.switch_core.specs.Switches.{SwitchesView, kind_at, state_at, active_at, set_state, due_of, all_idle, after_change, accept}
 use Rattle.switch_core.proofs.DueMoments.{state-other, state-same, set-past, idle-kind, idle-state}
 
@@ -21,17 +20,8 @@ IsReadBy kind x (Some at) = (kind.quick ≡ false) × (x.active ≡ not (is_acti
 abbrev pub IsRead : SwitchKind → SwitchState → Type 0
 IsRead kind x = IsReadBy kind x x.due
 
-same-true : (a b : Bool) → same_level a b ≡ true → b ≡ a
-same-true a b is = search rules
-
-same-false : (a b : Bool) → same_level a b ≡ false → b ≡ not a
-same-false a b is = search rules
-
 twice : (a : Bool) → not (not a) ≡ a
 twice a = search rules
-
-other-active : (contact : Contact) (level : Bool) → is_active contact (not level) ≡ not (is_active contact level)
-other-active contact level = search rules
 
 rest-inactive : (contact : Contact) → false ≡ is_active contact (raw_at_rest contact)
 rest-inactive contact = search rules
@@ -39,22 +29,12 @@ rest-inactive contact = search rules
 pub idle-read : (kind : SwitchKind) → IsRead kind (idle kind)
 idle-read kind = rest-inactive kind.contact
 
-awaited-read : (kind : SwitchKind) (now : ℕ) (level : Bool) (x : SwitchState) → kind.quick ≡ false → IsRead kind (awaited kind now level x)
-awaited-read kind now level x normal = search rules
-
 changed-read : (kind : SwitchKind) (now : ℕ) (level : Bool) (x : SwitchState) → IsRead kind x → IsRead kind (changed kind now level x)
 changed-read kind now level x h = search rules
-
--- what is accepted is another level than before
-taken-other : (kind : SwitchKind) (now : ℕ) (level : Bool) (x : SwitchState) → IsRead kind x → is_taken kind level x ≡ true → (changed kind now level x).active ≡ not x.active
-taken-other kind now level x h is = search rules
 
 -- a change that is not accepted at once changes no level
 untaken-same : (kind : SwitchKind) (now : ℕ) (level : Bool) (x : SwitchState) → is_taken kind level x ≡ false → (changed kind now level x).active ≡ x.active
 untaken-same kind now level x is = search rules
-
-fired-other : (kind : SwitchKind) (at : ℕ) (x : SwitchState) → IsRead kind x → x.due ≡ Some at → (fired kind x).active ≡ not x.active
-fired-other kind at x h due = search rules
 
 -- ---- all switches
 
