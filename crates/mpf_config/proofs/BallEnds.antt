@@ -1,5 +1,5 @@
 -- A mode that holds the end of the ball starts at that alone: what the test of it means.
-use Rattle.std.proofs.Common.{◌≡◌, ◌≢◌, ℕ, Bool, true, false, not, ◌&&◌, ◌||◌, List, [], ◌∷◌, length, ◌==◌, refl, arith}
+use Rattle.std.proofs.Common.{rules, ◌≡◌, ◌≢◌, ℕ, Bool, true, false, not, ◌&&◌, ◌||◌, List, [], ◌∷◌, length, ◌==◌, refl, arith}
 use Rattle.std.specs.List.{All, list_all}
 use Rattle.std.specs.Str.{bytes_eq}
 use Rattle.std.proofs.lemmas.Bool.{ne_eqb}
@@ -14,16 +14,13 @@ use Rattle.mpf_config.specs.Reading.{has_right_starts, keeps_to_ball_end}
 -- ---- tests
 
 both : (a b : Bool) → a && b ≡ true → (a ≡ true) × (b ≡ true)
-both true b e = (refl, e)
-both false b e = absurd cc
+both a b e = search rules
 
 implied : (a b : Bool) → not a || b ≡ true → a ≡ true → b ≡ true
-implied true b e is = e
-implied false b e is = absurd cc
+implied a b e is = search rules
 
 implies : (a b : Bool) → (a ≡ true → b ≡ true) → not a || b ≡ true
-implies true b so = so refl
-implies false b so = refl
+implies a b so = search rules
 
 -- ---- the events that start a mode
 
@@ -34,8 +31,7 @@ abbrev is_ball_ending : Handled → Bool
 is_ball_ending h = bytes_eq h.event.name ball_ending
 
 some_sound : (hs : List Handled) → not (length hs == 0) ≡ true → hs ≢ []
-some_sound [] e = absurd cc
-some_sound (h ∷ hs) e = λ none. absurd cc
+some_sound hs e = search rules
 
 some_complete : (hs : List Handled) → hs ≢ [] → length hs == 0 ≡ false
 some_complete [] some = absurd (some refl)

@@ -1,5 +1,5 @@
 -- Entries of a mode beside those of the machine text, which are taken once a mode has entries.
-use Rattle.std.proofs.Common.{◌≡◌, ◌==◌, ℕ, Bool, true, false, ◌||◌, List, [], ◌∷◌, ◌++◌, length, map, Result, Ok, Err, refl, sym, ap, ◌∙◌}
+use Rattle.std.proofs.Common.{rules, ◌≡◌, ◌==◌, ℕ, Bool, true, false, ◌||◌, List, [], ◌∷◌, ◌++◌, length, map, Ok, Err, refl, sym, ap, ◌∙◌}
 use Rattle.std.specs.Str.{bytes_eq}
 use Rattle.std.proofs.lemmas.Bool.{eqb-true}
 use Rattle.std.proofs.lemmas.List.{nil_from_length}
@@ -7,7 +7,6 @@ use Rattle.std.proofs.lemmas.Slice.Eq.{bytes_eq-Decides}
 use Rattle.yaml_subset.specs.Keys.{is_among}
 use Rattle.mpf_sections.specs.Rows.{Entry, SectionRows}
 use Rattle.mpf_sections.specs.Typed.{entries_in}
-use Rattle.mpf_config.specs.Rows.{RowsFault}
 use Rattle.config_faults.specs.declared.fault.ConfigFault.{ConfigFault}
 use Rattle.config_faults.specs.declared.fault.ConfigFault.TheVariants as faults
 use Rattle.mpf_config.specs.View.{FailsRows, rows_fault_view}
@@ -34,12 +33,10 @@ only_memory (faults.Bundle f) text keys es none distinct h =
     absurd cc
 
 only_right : (a b : Bool) → false ≡ (a || b) → b ≡ (a || b)
-only_right true b e = absurd cc
-only_right false b e = refl
+only_right a b e = search rules
 
 no_hit : (a b : Bool) → b ≡ true → false ≡ (a || b) → ⊥
-no_hit true b is e = absurd cc
-no_hit false b is e = absurd cc
+no_hit a b is e = search rules
 
 -- what came to a set that has the machine's keys as well
 pub gains_beside : (machine old new : List (List ℕ)) (is_one : List ℕ → Bool)

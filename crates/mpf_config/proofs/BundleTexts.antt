@@ -1,6 +1,5 @@
 -- The texts of a bundle are those that are read, and no others.
-use Rattle.std.proofs.Common.{◌≡◌, ◌≢◌, ℕ, ◌+◌, ◌==◌, true, false, ◌&&◌, List, [], ◌∷◌, ◌++◌, Option, Some, None, Ok, refl, sym, ap, subst, ◌∙◌, append_assoc, inl, inr}
-use Rattle.std.proofs.lemmas.Bool.{eqb-true, and_parts}
+use Rattle.std.proofs.Common.{rules, ◌≡◌, ◌≢◌, ℕ, ◌+◌, true, false, List, [], ◌∷◌, ◌++◌, Option, Some, None, Ok, refl, sym, ap, subst, ◌∙◌, append_assoc}
 use Rattle.std.proofs.lemmas.List.{append-nil}
 use Rattle.yaml_bytes.specs.Bytes.{is_blank, begins_blank}
 use Rattle.yaml_bytes.specs.Plain.{AreBlank, EndsInNoBlank}
@@ -10,7 +9,7 @@ use Rattle.mpf_config.specs.BundleText.{Text, first_line, behind_first_line, nam
 use Rattle.mpf_config.specs.RowsOf.{IsFirstLine, IsBare, IsPiece, EndsLine, AreTexts}
 use Rattle.section_tables.specs.Reading.{◌>>=◌, each_read}
 use Rattle.mpf_config.specs.Reading.{text_from, text_at, texts_at}
-use Rattle.section_tables.proofs.Steps.{bind_ok, chosen, ok_is}
+use Rattle.section_tables.proofs.Steps.{bind_ok, ok_is}
 use Rattle.mpf_config.proofs.FirstLines.{splitting, begins_is}
 use Rattle.mpf_config.proofs.Pieces.{piece_sound, none_is_empty, BeginsAt, piece_complete}
 
@@ -34,25 +33,10 @@ record Named (line name : List ℕ) : Type 0 where
   name_is : trimmed (behind_blanks rest) ≡ name
 
 name_sound : (line name : List ℕ) → name_in line ≡ Some name → Named line name
-name_sound [] name e = absurd (no_name name e)
-name_sound (a ∷ []) name e = absurd (no_name name e)
-name_sound (a ∷ b ∷ rest) name e =
-    elim (chosen ((a == 64) && is_blank b) (named (trimmed (behind_blanks rest))) None (named name) e) [
-      | inl p ↦
-          let both = and_parts (a == 64) (is_blank b) p.0 in
-          record {
-            blank = b;
-            rest = rest;
-            is = ap (λ (c : ℕ). c ∷ b ∷ rest) (eqb-true a 64 both.0);
-            is_a_blank = both.1;
-            name_is = some_is (trimmed (behind_blanks rest)) name p.1;
-          }
-      | inr p ↦ absurd (no_name name p.1)
-    ]
+name_sound line name e = search rules
 
 begins_front : (front behind : List ℕ) → begins_blank (front ++ behind) ≡ false → begins_blank front ≡ false
-begins_front [] behind h = refl
-begins_front (b ∷ bs) behind h = h
+begins_front front behind h = search rules
 
 bare_from : (rest name : List ℕ) → trimmed (behind_blanks rest) ≡ name → IsBare name
 bare_from rest name e =
@@ -70,10 +54,7 @@ bare_again (b ∷ bs) blanks h k = ap trimmed (no_blanks ((b ∷ bs) ++ blanks) 
 -- ---- one text
 
 from_sound : (line : ℕ) (piece : List ℕ) (name : Option (List ℕ)) (t : Text) → text_from line piece name ≡ Ok t → (name ≡ Some t.name) × (t.text ≡ behind_first_line piece)
-from_sound line piece None t e = absurd cc
-from_sound line piece (Some name) t e =
-    let same : record { name = name; text = behind_first_line piece } ≡ t = ok_is (record { name = name; text = behind_first_line piece }) t e in
-    (ap (λ (u : Text). named u.name) same, sym (ap (λ (u : Text). u.text) same))
+from_sound line piece name t e = search rules
 
 text_sound : (line : ℕ) (piece : List ℕ) (t : Text) → text_at (line, piece) ≡ Ok t → ((front rest : List ℕ) → piece ≢ front ++ 10 ∷ 64 ∷ rest) → IsPiece piece t
 unfolding text_at
@@ -138,10 +119,7 @@ begins_piece piece t h = record { rest = h.blank ∷ (((h.blanks ++ t.name) ++ h
 begins_at : (bundle : List ℕ) (texts : List Text) → AreTexts bundle texts → BeginsAt bundle
 begins_at [] texts h = tt
 begins_at (b ∷ bs) [] h = absurd cc
-begins_at (b ∷ bs) (t ∷ ts) h =
-    let k = begins_piece h.0 t h.3 in
-    let whole : b ∷ bs ≡ 64 ∷ k.rest ++ h.1 = h.2 ∙ ap (λ (xs : List ℕ). xs ++ h.1) k.is in
-    cc
+begins_at (b ∷ bs) (t ∷ ts) h = search rules
 
 each_complete : (line : ℕ) (bundle : List ℕ) (texts : List Text) → AreTexts bundle texts → each_read text_at (numbered line (pieces_of bundle)) ≡ Ok texts
 unfolding each_read pieces_of

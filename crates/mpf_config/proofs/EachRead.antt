@@ -1,10 +1,8 @@
 -- Lists that are read element by element, up to the first fault.
-use Rattle.std.proofs.Common.{◌≡◌, List, [], ◌∷◌, ◌++◌, Result, Ok, Err, refl, sym, ap, ◌∙◌, append_assoc}
-use Rattle.std.proofs.lemmas.List.{append-nil}
+use Rattle.std.proofs.Common.{rules, ◌≡◌, List, [], ◌∷◌, ◌++◌, Result, Ok, Err, refl, sym, ap, ◌∙◌, append_assoc}
 use Rattle.config_faults.specs.declared.fault.ConfigFault.{ConfigFault}
-use Rattle.config_faults.specs.declared.fault.ConfigFault.TheVariants as faults
 use Rattle.mpf_config.specs.Rows.{RowsFault}
-use Rattle.mpf_config.specs.View.{rows_fault_view, FailsRows}
+use Rattle.mpf_config.specs.View.{FailsRows}
 use Rattle.section_tables.specs.Reading.{◌>>=◌, each_read}
 
 -- what was read before, and what is still read
@@ -13,8 +11,7 @@ with_front front read = read >>= λ ys. Ok (front ++ ys)
 
 -- nothing was read before the whole
 pub at_start : {B : Type 0} (read : Result (List B) RowsFault) → with_front [] read ≡ read
-at_start (Ok ys) = refl
-at_start (Err f) = refl
+at_start read = search rules
 
 regroup : {B : Type 0} (front : List B) (y : B) (read : Result (List B) RowsFault) → with_front front (read >>= λ ys. Ok (y ∷ ys)) ≡ with_front (front ++ y ∷ []) read
 regroup {B} front y (Ok ys) = ap (λ (zs : List B). Ok zs) (simp append_assoc)
@@ -31,15 +28,10 @@ module _ {A B : Type 0} (f : A → Result B RowsFault) (front : List B) (x : A) 
   -- an element that is not
   pub fails : (e : ConfigFault) → all ≡ x ∷ xs → FailsRows e (f x) → with_front front (each_read f all) ≡ total → FailsRows e total
   unfolding each_read
-  fails faults.NoMemory e h so_far = tt
-  fails (faults.Bundle g) e h so_far =
-      let one : with_front front (each_read f all) ≡ Err (rows_fault_view g) = rw (e, h) refl in
-      sym so_far ∙ one
+  fails e x1 h so_far = search rules
 
 -- none is left
 pub is_done : {A B : Type 0} (f : A → Result B RowsFault) (front : List B) (all : List A) (total : Result (List B) RowsFault)
     → all ≡ [] → with_front front (each_read f all) ≡ total → total ≡ Ok front
 unfolding each_read
-is_done {A} {B} f front all total none so_far =
-    let one : with_front front (each_read f all) ≡ Ok front = rw none (ap (λ (ys : List B). Ok ys) (append-nil front)) in
-    sym so_far ∙ one
+is_done {A} {B} f front all total none so_far = search rules

@@ -1,12 +1,12 @@
 -- Modes of which no two have an entry of one section and name, and none has one of the machine's.
-use Rattle.std.proofs.Common.{◌≡◌, ◌≢◌, ℕ, List, [], map, sym, ap, subst, ◌∙◌, ◌⊎◌, inl, inr}
+use Rattle.std.proofs.Common.{rules, ◌≡◌, ◌≢◌, ℕ, List, [], map, sym, ap, subst, ◌∙◌, ◌⊎◌, inl, inr}
 use Rattle.std.specs.List.{Contains}
 use Rattle.mpf_sections.specs.Rows.{SectionRows}
 use Rattle.mpf_config.specs.Rows.{ModeRows}
 use Rattle.mpf_config.specs.Apart.{EntryName, AreDistinct, AreApart, AreNamesApart, entry_key, entry_names, entry_keys}
 use Rattle.mpf_config.specs.ModeReads.{ModeRead}
 use Rattle.mpf_config.specs.Reading.{taken_by}
-use Rattle.mpf_config.proofs.NewNames.{nothing_in, contains_map}
+use Rattle.mpf_config.proofs.NewNames.{contains_map}
 use Rattle.mpf_config.proofs.EntryKeys.{not_same, differ_by, in_mapped, taken_one, by_machine, by_mode, AreFresh}
 
 -- the entries of a mode
@@ -21,13 +21,7 @@ pub record AreModesApart (machine : List SectionRows) (modes : List ModeRead) : 
 
 -- where there are none
 pub none_apart : (machine : List SectionRows) (modes : List ModeRead) → modes ≡ [] → AreModesApart machine modes
-none_apart machine modes none =
-    subst (AreModesApart machine) (sym none)
-    (record {
-      in_mode = λ m c. absurd (nothing_in m c);
-      with_machine = λ m c. absurd (nothing_in m c);
-      of_modes = λ m n c. absurd (nothing_in m c);
-    })
+none_apart machine modes none = search rules
 
 -- a mode whose entries are new where these are taken
 pub record IsNewMode (taken : List (List ℕ)) (m : ModeRead) : Type 0 where
@@ -65,8 +59,7 @@ module _ (machine : List SectionRows) (found next : List ModeRead) (h : AreModes
     IsOldOrNew m = Contains found m ⊎ (IsFound m × IsNewMode taken m)
 
     in_one : (m : ModeRead) → IsOldOrNew m → AreDistinct (mode_entries m)
-    in_one m (inl c) = h.in_mode m c
-    in_one m (inr new) = new.1.distinct
+    in_one m x1 = search rules
 
     one_with_machine : (m : ModeRead) → IsOldOrNew m → AreApart machine m.mode.sections
     one_with_machine m (inl c) = h.with_machine m c

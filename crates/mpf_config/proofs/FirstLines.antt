@@ -1,5 +1,5 @@
 -- The first line of a text, without the blanks at its end, and what stands behind it.
-use Rattle.std.proofs.Common.{◌≡◌, ℕ, ◌==◌, Bool, true, false, ◌&&◌, ◌||◌, List, [], ◌∷◌, ◌++◌, Option, unwrap_or, refl, sym, ap, subst, ◌∙◌, inl, inr}
+use Rattle.std.proofs.Common.{rules, ◌≡◌, ℕ, ◌==◌, Bool, true, false, ◌&&◌, ◌||◌, List, [], ◌∷◌, ◌++◌, Option, unwrap_or, refl, sym, ap, subst, ◌∙◌, inl, inr}
 use Rattle.std.proofs.lemmas.Bool.{eqb-true}
 use Rattle.std.proofs.lemmas.Slice.Eq.{bytes_eq-Decides}
 use Rattle.yaml_bytes.specs.Lines.{begins_lf, ends_line}
@@ -18,10 +18,7 @@ nothing_in (c ∷ front) rest b e = cc
 longer_first : (a : ℕ) (line after : List ℕ) → ends_line a (line ++ after) ≡ false
     → ((front rest : List ℕ) (b : ℕ) → line ≡ front ++ b ∷ rest → ends_line b (rest ++ after) ≡ false)
     → (front rest : List ℕ) (b : ℕ) → a ∷ line ≡ front ++ b ∷ rest → ends_line b (rest ++ after) ≡ false
-longer_first a line after e h [] rest b is =
-    let first : a ≡ b = cc in
-    let others : line ≡ rest = cc in
-    rw (← first, ← others) e
+longer_first a line after e h [] rest b is = search rules
 longer_first a line after e h (c ∷ front) rest b is = h front rest b (let others : line ≡ front ++ b ∷ rest = cc in others)
 
 at_lf : (after : List ℕ) → IsFirstLine [] (10 ∷ after) after

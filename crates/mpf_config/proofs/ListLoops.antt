@@ -1,5 +1,5 @@
 -- Elements of a list, from a place on, and how they are found by their names.
-use Rattle.std.proofs.Common.{◌≡◌, ℕ, ◌+◌, ◌<◌, Bool, true, false, if◌then◌else◌, not, ◌||◌, List, [], ◌∷◌, length, drop, get_or, map, Option, Some, None, refl, sym, ap, ◌∙◌}
+use Rattle.std.proofs.Common.{rules, ◌≡◌, ℕ, ◌+◌, ◌<◌, Bool, if◌then◌else◌, not, ◌||◌, List, [], ◌∷◌, length, drop, get_or, map, Option, Some, refl, sym, ap, ◌∙◌}
 use Rattle.std.specs.Borrow.{Bor}
 use Rattle.std.specs.Option.{is_some}
 use Rattle.std.specs.Str.{bytes_eq}
@@ -12,9 +12,7 @@ pub mapped_at : {A B : Type 0} (f : A → B) (xs : List A) (i : ℕ) (x : A) →
 mapped_at f xs i x lt is = ap (map f) (cut xs i x lt) ∙ ap (λ y. f y ∷ map f (drop (i + 1) xs)) (sym is)
 
 found_or : {T : Type 0} (b : Bool) (x : T) (o : Option (ℕ × T)) → is_some (if b then Some (0, x) else behind_one o) ≡ (b || is_some o)
-found_or true x o = refl
-found_or false x None = refl
-found_or false x (Some p) = refl
+found_or b x o = search rules
 
 -- a name is found where it is among the names
 found_among : {T : Type 0} (name_of : T → List ℕ) (name : List ℕ) (xs : List T) → is_some (found_in name_of name xs) ≡ is_among (map name_of xs) name
@@ -23,12 +21,10 @@ found_among name_of name (x ∷ xs) =
     found_or (bytes_eq (name_of x) name) x (found_in name_of name xs) ∙ ap (λ b. bytes_eq (name_of x) name || b) (found_among name_of name xs)
 
 seen : {R T : Type 0} (view : R → T) (o : Option (ℕ × Bor R)) → is_some (found_view view o) ≡ is_some o
-seen view None = refl
-seen view (Some p) = refl
+seen view o = search rules
 
 not_not : (b : Bool) → not (not b) ≡ b
-not_not true = refl
-not_not false = refl
+not_not b = search rules
 
 -- a name is not among the names where none was found
 pub not_among : {R T : Type 0} (view : R → T) (name_of : T → List ℕ) (name : List ℕ) (xs : List T) (o : Option (ℕ × Bor R)) (none answer : Bool)

@@ -1,8 +1,8 @@
 -- The rows of sections are those that are read, and no others.
-use Rattle.std.proofs.Common.{◌≡◌, ◌≢◌, ℕ, ◌<◌, if◌then◌else◌, false, map, List, [], ◌∷◌, Some, Option, None, Ok, refl, sym, subst, inl, inr}
+use Rattle.std.proofs.Common.{rules, ◌≡◌, ◌≢◌, ℕ, ◌<◌, if◌then◌else◌, false, map, List, [], ◌∷◌, Some, Option, None, Ok, refl, sym, subst, inl, inr}
 use Rattle.std.specs.List.{All, AllZip}
 use Rattle.std.specs.Str.{bytes_eq}
-use Rattle.std.proofs.lemmas.Bool.{cases_Bool, both_ways}
+use Rattle.std.proofs.lemmas.Bool.{both_ways}
 use Rattle.std.proofs.lemmas.List.Elements.{All-nil, All-cons, All-head, All-tail}
 use Rattle.std.proofs.lemmas.Slice.Eq.{bytes_eq-Decides}
 use Rattle.yaml_subset.specs.Keys.{is_among}
@@ -34,11 +34,7 @@ no_machine : (w : Written) → bytes_eq w.text machine_owner ≡ false → is_no
 no_machine w e same = both_ways (bytes_eq w.text machine_owner) e ((bytes_eq-Decides w.text machine_owner).1 same)
 
 other_owner : (w : Written) → is_no_machine w → bytes_eq w.text machine_owner ≡ false
-other_owner w h =
-    elim (cases_Bool (bytes_eq w.text machine_owner)) [
-      | inl e ↦ absurd (h ((bytes_eq-Decides w.text machine_owner).0 e))
-      | inr e ↦ e
-    ]
+other_owner w h = search rules
 
 new_modes_sound : (spot : Spot) (names : List (List ℕ)) (ws : List Written) (u : Unit {0}) → modes_new_at spot names ws ≡ Ok u → All is_no_machine ws × AreNew names (map (λ w. w.text) ws)
 new_modes_sound spot names [] u e = (All-nil is_no_machine, tt)

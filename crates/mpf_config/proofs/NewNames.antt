@@ -1,5 +1,5 @@
 -- Names of which each is new.
-use Rattle.std.proofs.Common.{◌≡◌, ◌≢◌, ℕ, suc, zero, Bool, true, false, List, [], ◌∷◌, map, refl, sym, subst, inl, inr, arith}
+use Rattle.std.proofs.Common.{rules, ◌≡◌, ◌≢◌, ℕ, suc, zero, Bool, false, List, [], ◌∷◌, map, refl, sym, subst, inl, inr, arith}
 use Rattle.std.specs.Str.{bytes_eq}
 use Rattle.std.specs.List.{Contains, All, AllPairs, filter}
 use Rattle.std.specs.Bool.{Decides}
@@ -65,8 +65,7 @@ new_among_fewer names others so (n ∷ ns) new = (λ old. new.0 (so n old), new_
 module _ {A : Type 0} (keeps : A → Bool) (name_of : A → List ℕ) where
   kept_or_not : (b : Bool) (names : List (List ℕ)) (x : A) (xs : List A) → keeps x ≡ b → (Contains names (name_of x) → ⊥)
       → AreNew (name_of x ∷ names) (map name_of (filter keeps xs)) → AreNew names (map name_of (filter keeps xs)) → AreNew names (map name_of (filter keeps (x ∷ xs)))
-  kept_or_not true names x xs e fresh more fewer = rw e (fresh, more)
-  kept_or_not false names x xs e fresh more fewer = rw e fewer
+  kept_or_not b names x xs e fresh more fewer = search rules
 
   -- those that are kept are new
   pub new_kept : (names : List (List ℕ)) (xs : List A) → AreNew names (map name_of xs) → AreNew names (map name_of (filter keeps xs))

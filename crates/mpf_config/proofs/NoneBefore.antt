@@ -1,5 +1,5 @@
 -- Which modes were not found yet, and which keys are taken once one more is found.
-use Rattle.std.proofs.Common.{◌≡◌, ℕ, suc, Bool, true, false, cond, ◌||◌, List, [], ◌∷◌, length, set, slice_get, Option, Some, None, Ok, refl, sym, ap, subst, ◌∙◌}
+use Rattle.std.proofs.Common.{rules, ◌≡◌, ℕ, suc, Bool, true, false, cond, ◌||◌, List, [], ◌∷◌, length, set, slice_get, Option, Some, None, Ok, refl, sym, ap, subst, ◌∙◌}
 use Rattle.std.specs.List.{flat_map}
 use Rattle.std.specs.Str.{bytes_eq}
 use Rattle.std.proofs.lemmas.Bool.{both_ways}
@@ -56,15 +56,13 @@ abbrev all_keys : Found → List (List ℕ)
 all_keys os = flat_map (λ (m : ModeRead). entry_keys m.mode.sections) (found_of os)
 
 right_of : (a b : Bool) → (a || b) ≡ false → b ≡ false
-right_of true b e = absurd cc
-right_of false b e = e
+right_of a b e = search rules
 
 pair_is : (p r : ℕ × Written) → Some p ≡ Some r → p ≡ r
 pair_is p r e = cc
 
 behind_is : (o : Option (ℕ × Written)) (p : ℕ × Written) → behind_one o ≡ Some p → (r : ℕ × Written) × (o ≡ Some r) × ((suc r.0, r.1) ≡ p)
-behind_is None p e = absurd cc
-behind_is (Some r) p e = (r, refl, pair_is (suc r.0, r.1) p e)
+behind_is o p e = search rules
 
 -- the keys that a place holds come to those that were there
 abbrev Grows : Found → Found → ℕ → Type 0
@@ -94,9 +92,7 @@ module _ (names known : List (List ℕ)) (name : List ℕ) (k : (q : List ℕ) �
   same_before ws found h = absurd h
 
   is_known : is_among known name ≡ true
-  is_known =
-      let self : bytes_eq name name ≡ true = (bytes_eq-Decides name name).1 refl in
-      k name ∙ rw self refl
+  is_known = search rules
 
   -- once this mode is at its place
   abbrev IsAfter : List Written → Found → ModeRead → ℕ × Written → Type 0

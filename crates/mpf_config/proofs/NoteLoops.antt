@@ -1,5 +1,5 @@
 -- Notes that are taken element by element.
-use Rattle.std.proofs.Common.{◌≡◌, Bool, true, false, not, List, ℕ, [], ◌∷◌, ◌++◌, map, refl, sym, ap, ◌∙◌, append_assoc}
+use Rattle.std.proofs.Common.{rules, ◌≡◌, Bool, true, false, not, List, ℕ, [], ◌∷◌, ◌++◌, map, refl, sym, ap, ◌∙◌, append_assoc}
 use Rattle.std.specs.List.{filter, flat_map}
 use Rattle.std.specs.Str.{bytes_eq}
 use Rattle.std.proofs.lemmas.List.{map_push}
@@ -37,9 +37,7 @@ module _ {A : Type 0} (notes_on : A → List Note) (notes : List Note) where
       ap (λ (front : List Note). front ++ flat_map notes_on xs) is ∙ append_assoc notes more (flat_map notes_on xs) ∙ sym one ∙ so_far
 
   pub no_notes : (x : A) (xs all : List A) (total : List Note) → all ≡ x ∷ xs → notes_on x ≡ [] → notes ++ flat_map notes_on all ≡ total → notes ++ flat_map notes_on xs ≡ total
-  no_notes x xs all total e n so_far =
-      let one : notes ++ flat_map notes_on all ≡ notes ++ flat_map notes_on xs = rw (e, n) refl in
-      sym one ∙ so_far
+  no_notes x xs all total e n so_far = search rules
 
 -- a text is that of the machine, that of a listed mode, or neither
 module _ (listed : List Written) (t : Text) where
@@ -61,6 +59,4 @@ module _ {A : Type 0} (keeps : A → Bool) (note : A → Note) (notes : List Not
       ap (λ (front : List Note). front ++ map note (filter keeps xs)) is ∙ append_assoc notes (note x ∷ []) (map note (filter keeps xs)) ∙ sym one ∙ so_far
 
   pub no_more : (x : A) (xs all : List A) (total : List Note) → all ≡ x ∷ xs → keeps x ≡ false → notes ++ map note (filter keeps all) ≡ total → notes ++ map note (filter keeps xs) ≡ total
-  no_more x xs all total e k so_far =
-      let one : notes ++ map note (filter keeps all) ≡ notes ++ map note (filter keeps xs) = rw (e, k) refl in
-      sym one ∙ so_far
+  no_more x xs all total e k so_far = search rules

@@ -1,5 +1,5 @@
 -- No two entries of a text are of one section and name: no key of a mapping comes twice.
-use Rattle.std.proofs.Common.{◌≡◌, ℕ, suc, zero, Bool, true, false, cond, not, List, [], ◌∷◌, ◌++◌, map, Option, Some, None, refl, sym, ap, subst, ◌∙◌, inl, inr, arith}
+use Rattle.std.proofs.Common.{rules, ◌≡◌, ℕ, suc, zero, Bool, cond, not, List, [], ◌∷◌, ◌++◌, map, Option, Some, None, refl, sym, ap, subst, ◌∙◌, inl, inr, arith}
 use Rattle.std.specs.List.{Contains, AllZip, filter}
 use Rattle.std.proofs.lemmas.List.{map-append}
 use Rattle.yaml_subset.specs.Node.{Node, scalar, sequence, nodes_of, mapping, Pair, pairs_of, list_pairs}
@@ -91,8 +91,7 @@ flow_has_below (suc levels) n text t rest (inl h) = of_none HaveKeysBelow t (seq
 flow_has_below (suc levels) n text t rest (inr h) = of_pairs HaveKeysBelow n h.0 t (flow_values levels n [] h.0 h.1.body rest h.1.each) h.2
 
 value_of : (P : List Pair → Type 0) (depth n : ℕ) (text : List ℕ) (t : Node) (rest : List ℕ) → (IsFlow depth n text t rest → Holds P t) → IsValueOf depth n text t rest → Holds P t
-value_of P depth n text t rest so (inl h) = of_none P t (scalar n h.0) h.2 refl
-value_of P depth n text t rest so (inr h) = so h
+value_of P depth n text t rest so x1 = search rules
 
 node_has_keys : (depth n : ℕ) (text : List ℕ) (t : Node) → IsNode depth n text t → HasKeys t
 node_has_keys depth n text t h = value_of HaveKeys depth n text t h.0 (flow_has_keys depth n text t h.0) h.1
@@ -141,10 +140,7 @@ tree_has_below (suc levels) depth (l ∷ ls) t (inr (inr h)) = node_has_below de
 
 -- the pairs of a mapping, or none of an empty text
 below_keys : (o : Option (List Pair)) (text : Option (List ℕ)) (ps : List Pair) → ((qs : List Pair) → o ≡ Some qs → HaveKeys qs) → or_none o text ≡ Some ps → HaveKeys ps
-below_keys (Some qs) text ps so e = so ps e
-below_keys None (Some []) ps so e = subst HaveKeys (ap (or_first []) e) tt
-below_keys None (Some (b ∷ bs)) ps so e = absurd (no_pairs_there ps e)
-below_keys None None ps so e = absurd (no_pairs_there ps e)
+below_keys o text ps so e = search rules
 
 pairs_have_keys : (t : Node) (ps : List Pair) → HasKeys t → pairs_below t ≡ Some ps → HaveKeys ps
 unfolding pairs_below
@@ -166,8 +162,7 @@ module _ (longest : ℕ) (barred : List (List ℕ)) (table : List Setting) (sect
   name_in [] [] f h c = absurd (nothing_in f c)
   name_in [] (e ∷ es) f h c = absurd h
   name_in (p ∷ ps) [] f h c = absurd h
-  name_in (p ∷ ps) (e ∷ es) f h (zero, lt, at) =
-      subst (Contains (keys_of (p ∷ ps))) (key_is p e h.0 ∙ ap (λ (x : EntryName). x.name.text) at) (here p.key (keys_of ps))
+  name_in (p ∷ ps) (e ∷ es) f h (zero, lt, at) = search rules
   name_in (p ∷ ps) (e ∷ es) f h (suc k, lt, at) = there p.key f.name.text (keys_of ps) (name_in ps es f h.1 (k, omega (arith, lt), at))
 
   entries_distinct : (names : List (List ℕ)) (ps : List Pair) (es : List Entry) → AreOf ps es → AreNew names (keys_of ps) → AreDistinct (map (named_entry section) es)
@@ -225,8 +220,7 @@ module _ (sizes : Sizes) (kind : TextKind) where
 
 -- those that are read have keys too
 below_by : (b : Bool) (p : Pair) (rest : List Pair) → HasKeys p.value → HaveKeysBelow rest → HaveKeysBelow (cond b (p ∷ rest) rest)
-below_by true p rest own h = (own, h)
-below_by false p rest own h = h
+below_by b p rest own h = search rules
 
 below_kept : (keeps : Pair → Bool) (ps : List Pair) → HaveKeysBelow ps → HaveKeysBelow (filter keeps ps)
 below_kept keeps [] h = tt

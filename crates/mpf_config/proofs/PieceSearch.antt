@@ -1,6 +1,6 @@
 -- A piece of a bundle ends before the first `@` after a line end.
-use Rattle.std.proofs.Common.{◌≡◌, ℕ, zero, suc, ◌+◌, ◌<◌, ◌==◌, Bool, true, false, List, [], ◌∷◌, length, slice_index, Some, None, refl, sym, ap, ◌∙◌, subst, arith}
-use Rattle.std.proofs.lemmas.Bool.{eqb-true, eq-eqb}
+use Rattle.std.proofs.Common.{rules, ◌≡◌, ℕ, zero, suc, ◌+◌, ◌<◌, false, List, [], ◌∷◌, length, Some, None, refl, ap, ◌∙◌, arith}
+use Rattle.std.proofs.lemmas.Bool.{eq-eqb}
 use Rattle.memchr.specs.Find.{OccursAt, FindsNeedle}
 use Rattle.mpf_config.specs.BundleText.{piece_len}
 
@@ -8,43 +8,20 @@ use Rattle.mpf_config.specs.BundleText.{piece_len}
 abbrev pub line_at : List ℕ
 line_at = 10 ∷ 64 ∷ []
 
-next_place : (k j : ℕ) → suc (k + j) ≡ suc k + j
-next_place k j = omega arith
-
 -- at one place more, after a byte more
 later : (b : ℕ) (bs : List ℕ) (k : ℕ) → OccursAt bs line_at k → OccursAt (b ∷ bs) line_at (suc k)
-later b bs k h =
-    let fits = h.fits in
-    record {
-      fits = omega (arith, fits);
-      reads = λ j l. subst (λ (n : ℕ). slice_index (b ∷ bs) n ≡ slice_index line_at j) (next_place k j) (h.reads j l);
-    }
+later b bs k h = search rules
 
 earlier : (b : ℕ) (bs : List ℕ) (k : ℕ) → OccursAt (b ∷ bs) line_at (suc k) → OccursAt bs line_at k
-earlier b bs k h =
-    let fits = h.fits in
-    record {
-      fits = omega (arith, fits);
-      reads = λ j l. subst (λ (n : ℕ). slice_index (b ∷ bs) n ≡ slice_index line_at j) (sym (next_place k j)) (h.reads j l);
-    }
+earlier b bs k h = search rules
 
 here : (b c : ℕ) (cs : List ℕ) → b ≡ 10 → c ≡ 64 → OccursAt (b ∷ c ∷ cs) line_at 0
-here b c cs lf at = record { fits = omega arith; reads = by }
-  where
-    by : (j : ℕ) → j < 2 → slice_index (b ∷ c ∷ cs) (0 + j) ≡ slice_index line_at j
-    by zero l = lf
-    by (suc zero) l = at
-    by (suc (suc j)) l = absurd (omega (arith, l))
+here b c cs lf at = search rules
 
 -- after a byte the piece goes on, if `@` does not come at once after a line end
 goes_on : (b : ℕ) (bs : List ℕ) → ¬ (OccursAt (b ∷ bs) line_at 0) → piece_len false (b ∷ bs) ≡ suc (piece_len false bs)
 goes_on b [] not_here = refl
-goes_on b (c ∷ cs) not_here = by (b == 10) (c == 64) refl refl
-  where
-    by : (lf at : Bool) → b == 10 ≡ lf → c == 64 ≡ at → suc (piece_len (b == 10) (c ∷ cs)) ≡ suc (piece_len false (c ∷ cs))
-    by true true is_lf is_at = absurd (not_here (here b c cs (eqb-true b 10 is_lf) (eqb-true c 64 is_at)))
-    by true false is_lf is_at = rw (is_lf, is_at) refl
-    by false at is_lf is_at = rw is_lf refl
+goes_on b (c ∷ cs) not_here = search rules
 
 pub whole : (text : List ℕ) → ((k : ℕ) → k < length text + 1 → ¬ (OccursAt text line_at k)) → piece_len false text ≡ length text
 whole [] nowhere = refl

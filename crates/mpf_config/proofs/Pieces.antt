@@ -1,5 +1,5 @@
 -- The pieces of a bundle, one after the other.
-use Rattle.std.proofs.Common.{◌≡◌, ◌≢◌, ℕ, zero, suc, ◌+◌, ◌-◌, ◌<◌, ◌≤◌, ◌==◌, Bool, true, false, cond, ◌&&◌, List, [], ◌∷◌, ◌++◌, length, take, drop, refl, sym, ap, ap₂, ◌∙◌, ◌⊎◌, inl, inr, arith}
+use Rattle.std.proofs.Common.{rules, ◌≡◌, ◌≢◌, ℕ, zero, suc, ◌+◌, ◌-◌, ◌<◌, ◌≤◌, ◌==◌, Bool, true, false, cond, ◌&&◌, List, [], ◌∷◌, ◌++◌, length, take, drop, refl, sym, ap, ap₂, ◌∙◌, ◌⊎◌, inl, inr, arith}
 use Rattle.std.proofs.lemmas.List.{take-append-drop, length-drop, drop-drop, drop_all}
 use lib.Seq.{take-nil}
 use Rattle.std.proofs.lemmas.List.Sums.{sum_by-cons}
@@ -12,9 +12,7 @@ Cut begins text = pieces_from begins text ≡ (take (piece_len begins text) text
 
 cut_here : (begins : Bool) (b : ℕ) (bs : List ℕ) → (begins && (b == 64)) ≡ true → Cut begins (b ∷ bs)
 unfolding pieces_of
-cut_here begins b bs e =
-    let at : b == 64 ≡ true = (and_parts begins (b == 64) e).1 in
-    rw (e, at) refl
+cut_here begins b bs e = search rules
 
 cut_step : (begins : Bool) (b : ℕ) (bs : List ℕ) (here : Bool) → (begins && (b == 64)) ≡ here → Cut (b == 10) bs → Cut begins (b ∷ bs)
 cut_step begins b bs true e h = cut_here begins b bs e
@@ -28,8 +26,7 @@ cut begins (b ∷ bs) = cut_step begins b bs (begins && (b == 64)) refl (cut (b 
 
 first_by : (b : ℕ) (bs : List ℕ) (at : Bool) → b == 64 ≡ at → pieces_of (b ∷ bs) ≡ (b ∷ (pieces_from (b == 10) bs).0) ∷ (pieces_from (b == 10) bs).1
 unfolding pieces_of
-first_by b bs true e = rw e refl
-first_by b bs false e = rw e refl
+first_by b bs at e = search rules
 
 pub first_piece : (b : ℕ) (bs : List ℕ) → pieces_of (b ∷ bs) ≡ take (piece_len false (b ∷ bs)) (b ∷ bs) ∷ pieces_of (drop (piece_len false (b ∷ bs)) (b ∷ bs))
 first_piece b bs = first_by b bs (b == 64) refl ∙ rw (cut (b == 10) bs) refl
@@ -97,24 +94,16 @@ abbrev IsCut : Bool → List ℕ → Type 0
 IsCut begins text = HasNone begins (take (piece_len begins text) text) × GoesOn (begins_behind begins (take (piece_len begins text) text)) (drop (piece_len begins text) text)
 
 is_cut_step : (begins : Bool) (b : ℕ) (bs : List ℕ) (here : Bool) → (begins && (b == 64)) ≡ here → IsCut (b == 10) bs → IsCut begins (b ∷ bs)
-is_cut_step begins b bs true e h = rw e (tt, e)
-is_cut_step begins b bs false e h = rw e ((e, h.0), h.1)
+is_cut_step begins b bs here e h = search rules
 
 is_cut : (begins : Bool) (text : List ℕ) → IsCut begins text
 is_cut begins [] = (tt, tt)
 is_cut begins (b ∷ bs) = is_cut_step begins b bs (begins && (b == 64)) refl (is_cut (b == 10) bs)
 
-clash : {b : Bool} → b ≡ true → b ≡ false → ⊥
-clash t f = cc
-
 none_later : (begins : Bool) (text : List ℕ) → HasNone begins text → (front rest : List ℕ) → text ≢ front ++ 10 ∷ 64 ∷ rest
 none_later begins [] h [] rest e = cc
 none_later begins [] h (c ∷ front) rest e = cc
-none_later begins (b ∷ bs) h [] rest e =
-    let lf : b ≡ 10 = cc in
-    let behind : bs ≡ 64 ∷ rest = cc in
-    let none : HasNone (b == 10) (64 ∷ rest) = rw behind at h.1 in
-    clash (rw lf refl) none.0
+none_later begins (b ∷ bs) h [] rest e = search rules
 none_later begins (b ∷ bs) h (c ∷ front) rest e = none_later (b == 10) bs h.1 front rest (let behind : bs ≡ front ++ 10 ∷ 64 ∷ rest = cc in behind)
 
 none_from : (begins : Bool) (text : List ℕ) → (begins ≡ true → (rest : List ℕ) → text ≢ 64 ∷ rest) → ((front rest : List ℕ) → text ≢ front ++ 10 ∷ 64 ∷ rest) → HasNone begins text
@@ -188,9 +177,7 @@ none_is_empty (b ∷ bs) e = absurd (let no : take (piece_len false (b ∷ bs)) 
 cut_piece : (begins : Bool) (piece behind : List ℕ) → HasNone begins piece → GoesOn (begins_behind begins piece) behind → pieces_from begins (piece ++ behind) ≡ (piece, pieces_of behind)
 unfolding pieces_of
 cut_piece begins [] [] h g = refl
-cut_piece begins [] (b ∷ behind) h g =
-    let at : b == 64 ≡ true = (and_parts begins (b == 64) g).1 in
-    rw (g, at) refl
+cut_piece begins [] (b ∷ behind) h g = search rules
 cut_piece begins (b ∷ piece) behind h g = rw (h.0, cut_piece (b == 10) piece behind h.1 g) refl
 
 in_front : (rest behind : List ℕ) → HasNone false (64 ∷ rest) → GoesOn (begins_behind false (64 ∷ rest)) behind → pieces_of (64 ∷ rest ++ behind) ≡ (64 ∷ rest) ∷ pieces_of behind

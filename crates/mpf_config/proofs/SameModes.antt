@@ -1,5 +1,5 @@
 -- Names of modes, of which each is taken once.
-use Rattle.std.proofs.Common.{◌≡◌, ℕ, Bool, true, false, not, ◌||◌, List, [], ◌∷◌, refl, sym, ap, ◌∙◌}
+use Rattle.std.proofs.Common.{rules, ◌≡◌, ℕ, Bool, true, false, not, ◌||◌, List, [], ◌∷◌, refl, sym, ap, ◌∙◌}
 use Rattle.std.specs.Str.{bytes_eq}
 use Rattle.yaml_subset.specs.Keys.{is_among}
 use Rattle.config_faults.specs.Faults.{Spot}
@@ -19,8 +19,7 @@ same_new spot names others [] h = refl
 same_new spot names others (w ∷ ws) h = rw (h w.text, same_new spot (w.text ∷ names) (w.text ∷ others) ws (same_step names others w.text h)) refl
 
 not_true : (b : Bool) → not b ≡ true → b ≡ false
-not_true true e = absurd cc
-not_true false e = refl
+not_true b e = search rules
 
 -- a name that is neither the machine's nor taken
 pub takes_next : (spot : Spot) (names known : List (List ℕ)) (taken : Bool) (w : Written) (ws all : List Written) → all ≡ w ∷ ws → bytes_eq w.text machine_owner ≡ false

@@ -1,5 +1,5 @@
 -- Texts that are read as they are reached, where the names of those before are kept in a set.
-use Rattle.std.proofs.Common.{◌≡◌, ℕ, ◌+◌, ◌<◌, Bool, true, false, not, ◌||◌, if◌then◌else◌, List, [], ◌∷◌, length, drop, get_or, set, add-one, Option, Some, None, Result, Ok, Err, refl, sym, ap, ◌∙◌}
+use Rattle.std.proofs.Common.{rules, ◌≡◌, ℕ, ◌+◌, ◌<◌, Bool, true, false, not, ◌||◌, if◌then◌else◌, List, [], ◌∷◌, length, drop, get_or, set, add-one, Option, Some, None, Result, Ok, refl, sym, ap, ◌∙◌}
 use Rattle.std.specs.Str.{bytes_eq}
 use Rattle.std.proofs.Math.Seq.{drop-cons}
 use Rattle.yaml_subset.specs.Keys.{is_among}
@@ -28,8 +28,7 @@ same_step : (names others : List (List ℕ)) (k : List ℕ) → SameKeys names o
 same_step names others k h q = ap (λ (b : Bool). bytes_eq k q || b) (h q)
 
 after_both : {A B : Type 0} (r : Result A RowsFault) (f g : A → Result B RowsFault) → ((x : A) → f x ≡ g x) → (r >>= f) ≡ (r >>= g)
-after_both (Ok x) f g h = h x
-after_both (Err d) f g h = refl
+after_both r f g h = search rules
 
 abbrev Found : Type 0
 Found = List (Option ModeRead)
@@ -52,9 +51,7 @@ module _ (ws : List Written) where
       → (b : Bool) (placed : Result Found RowsFault)
       → (if b then refused Duplicate (line_spot t.name 1) else (placed >>= λ next. modes_from machine ws (t.name ∷ names) next ts))
       ≡ (if b then refused Duplicate (line_spot t.name 1) else (placed >>= λ next. modes_from machine ws (t.name ∷ others) next ts))
-  after t ts names others machine same true placed = refl
-  after t ts names others machine same false (Ok next) = same next
-  after t ts names others machine same false (Err f) = refl
+  after t ts names others machine same b placed = search rules
 
   same_from : (machine names others : List (List ℕ)) (found : Found) (ts : List Text) → SameKeys names others
       → modes_from machine ws names found ts ≡ modes_from machine ws others found ts
@@ -66,8 +63,7 @@ module _ (ws : List Written) where
       (placed_at t (taken_by machine (found_of found)) found (found_in mode_text_of t.name ws)))
 
 not_true : (b : Bool) → not b ≡ true → b ≡ false
-not_true true e = absurd cc
-not_true false e = refl
+not_true b e = search rules
 
 module _ (ws : List Written) (machine taken names : List (List ℕ)) (found : Found) (all : List texts.Text) (i : ℕ) (nothing : texts.Text) (lt : i < length all) (fresh : Bool) where
   abbrev one : texts.Text

@@ -1,5 +1,5 @@
 -- Entries that are taken one after the other, where the keys of those before are kept in a set.
-use Rattle.std.proofs.Common.{◌≡◌, ℕ, Bool, true, false, not, ◌||◌, if◌then◌else◌, List, [], ◌∷◌, ◌++◌, map, Result, Ok, Err, refl, sym, ap, ◌∙◌}
+use Rattle.std.proofs.Common.{rules, ◌≡◌, ℕ, Bool, true, false, not, ◌||◌, if◌then◌else◌, List, [], ◌∷◌, ◌++◌, map, Result, Ok, Err, refl, sym, ap, ◌∙◌}
 use Rattle.std.specs.Str.{bytes_eq}
 use Rattle.std.proofs.lemmas.List.{map-append}
 use Rattle.yaml_subset.specs.Keys.{is_among}
@@ -23,18 +23,13 @@ abbrev pub HasTaken : List (List ℕ) → List EntryName → List (List ℕ) →
 HasTaken known es keys = (q : List ℕ) → is_among known q ≡ (is_among (map entry_key es) q || is_among keys q)
 
 pub or_assoc : (a b c : Bool) → ((a || b) || c) ≡ (a || (b || c))
-or_assoc true b c = refl
-or_assoc false b c = refl
+or_assoc a b c = search rules
 
 pub or_turned : (a b c : Bool) → ((a || b) || c) ≡ (b || (a || c))
-or_turned true true c = refl
-or_turned true false c = refl
-or_turned false b c = refl
+or_turned a b c = search rules
 
 pub or_behind : (a b c : Bool) → (a || (b || c)) ≡ (b || (a || c))
-or_behind true true c = refl
-or_behind true false c = refl
-or_behind false b c = refl
+or_behind a b c = search rules
 
 pub among_append : (keys others : List (List ℕ)) (q : List ℕ) → is_among (keys ++ others) q ≡ (is_among keys q || is_among others q)
 among_append [] others q = refl
@@ -47,8 +42,7 @@ entries_same text keys others (e ∷ es) h =
     rw (h (entry_key e), entries_same text (entry_key e ∷ keys) (entry_key e ∷ others) es (λ q. ap (λ (b : Bool). bytes_eq (entry_key e) q || b) (h q))) refl
 
 not_true : (b : Bool) → not b ≡ true → b ≡ false
-not_true true e = absurd cc
-not_true false e = refl
+not_true b e = search rules
 
 -- ---- one entry
 
@@ -57,17 +51,11 @@ pub front_and_name : (section name : List ℕ) → joined section [] ++ name ≡
 front_and_name [] name = refl
 front_and_name (b ∷ section) name = ap (λ key. 1 ∷ b ∷ key) (front_and_name section name)
 
-not_false : (b : Bool) → not b ≡ false → b ≡ true
-not_false true e = refl
-not_false false e = absurd cc
-
 -- an entry that was taken before
 pub refuses_entry : (text : List ℕ) (keys : List (List ℕ)) (fresh : Bool) (e : EntryName) (es all : List EntryName) → all ≡ e ∷ es
     → fresh ≡ not (is_among keys (entry_key e)) → fresh ≡ false
     → entries_new_at text keys all ≡ Err (rows_fault_at Duplicate (record { text = text; line = e.name.line; key = e.name.text }))
-refuses_entry text keys fresh e es all is said old =
-    let among : is_among keys (entry_key e) ≡ true = not_false (is_among keys (entry_key e)) (sym said ∙ old) in
-    rw (is, among) refl
+refuses_entry text keys fresh e es all is said old = search rules
 
 -- an entry that is new
 pub takes_entry : (text : List ℕ) (keys known : List (List ℕ)) (fresh : Bool) (e : EntryName) (es all : List EntryName) → all ≡ e ∷ es
@@ -82,10 +70,7 @@ takes_entry text keys known fresh e es all is said new k =
 pub knows_entry : (keys known : List (List ℕ)) (e : EntryName) (es all : List EntryName) → all ≡ e ∷ es
     → ((q : List ℕ) → is_among known q ≡ (bytes_eq (entry_key e) q || is_among keys q))
     → (q : List ℕ) → (is_among (map entry_key es) q || is_among known q) ≡ (is_among (map entry_key all) q || is_among keys q)
-knows_entry keys known e es all is k q =
-    ap (λ (b : Bool). is_among (map entry_key es) q || b) (k q)
-    ∙ sym (or_turned (bytes_eq (entry_key e) q) (is_among (map entry_key es) q) (is_among keys q))
-    ∙ ap (λ (xs : List EntryName). is_among (map entry_key xs) q || is_among keys q) (sym is)
+knows_entry keys known e es all is k q = search rules
 
 -- ---- entries behind entries
 
@@ -105,8 +90,7 @@ from_rest text e b rest = if b then refused Duplicate (record { text = text; lin
 
 first_or_rest : (text : List ℕ) (e : EntryName) (b : Bool) (rest whole : Result (Unit {0}) RowsFault) (d : RowsFault) → (rest ≡ Err d → whole ≡ Err d)
     → from_rest text e b rest ≡ Err d → from_rest text e b whole ≡ Err d
-first_or_rest text e true rest whole d so h = h
-first_or_rest text e false rest whole d so h = so h
+first_or_rest text e b rest whole d so h = search rules
 
 -- a fault is that of the whole
 pub fails_first : (text : List ℕ) (keys : List (List ℕ)) (es fs : List EntryName) (d : RowsFault) → entries_new_at text keys es ≡ Err d

@@ -1,5 +1,5 @@
 -- What a text says is what is read of it, and no more.
-use Rattle.std.proofs.Common.{◌≡◌, ℕ, true, List, Result, Ok, Err, refl, sym, ap, subst, inl, inr}
+use Rattle.std.proofs.Common.{rules, ◌≡◌, ℕ, true, List, Result, Ok, Err, refl, sym, ap, subst, inl, inr}
 use Rattle.yaml_subset.specs.declared.fault.Fault as yaml
 use Rattle.yaml_subset.specs.declared.fault.YamlFault.TheVariants as yaml_faults
 use Rattle.yaml_subset.specs.Node.{Node, Pair}
@@ -9,30 +9,22 @@ use Rattle.yaml_subset.specs.Reading.{read_at}
 use Rattle.yaml_subset.proofs.LineContents.{one_content}
 use Rattle.yaml_subset.proofs.Levels.{one_tree}
 use Rattle.yaml_subset.proofs.Theorem.{read_sound, is_refused as no_tree}
-use Rattle.config_faults.specs.declared.fault.FaultKind.TheVariants.{Version}
 use Rattle.mpf_tables.specs.declared.tables.TextKind.{TextKind}
 use Rattle.section_tables.specs.Reading.{IsReadOr, ◌>>=◌}
-use Rattle.config_faults.specs.Faults.{rows_fault_at}
-use Rattle.section_tables.proofs.Steps.{bind_ok, guard_true, ok_is}
+use Rattle.section_tables.proofs.Steps.{bind_ok, ok_is}
 use Rattle.section_tables.proofs.Outcomes.{weaker, then_or}
 use Rattle.mpf_sections.specs.Rows.{SectionRows}
 use Rattle.mpf_config.specs.BundleText.{behind_first_line, has_version}
 use Rattle.mpf_config.specs.RowsOf.{Sizes, within_limits, AreRowsOf, AreManyItems, IsTextOver}
-use Rattle.mpf_config.specs.Reading.{TextRows, line_spot, tree_from, text_tree_at, sections_in, sections_at, text_rows_at}
+use Rattle.mpf_config.specs.Reading.{TextRows, tree_from, text_tree_at, sections_in, sections_at, text_rows_at}
 use Rattle.mpf_config.proofs.FirstLines.{version_sound, version_complete}
 use Rattle.mpf_config.proofs.Meaning.{sections_sound, sections_or, pairs_sound, pairs_complete}
 
 -- ---- the tree of a text
 
-from_yaml : (name : List ℕ) (r : Result Node yaml.Fault) (t : Node) → tree_from name r ≡ Ok t → r ≡ Ok t
-from_yaml name (Ok u) t e = let same : u ≡ t = ok_is u t e in ap (λ (v : Node). Ok v) same
-from_yaml name (Err f) t e = absurd cc
-
 tree_parts : (name text : List ℕ) (t : Node) → text_tree_at name text ≡ Ok t → (has_version text ≡ true) × (read_at text ≡ Ok t)
 unfolding text_tree_at
-tree_parts name text t e =
-    let a = guard_true (has_version text) (tree_from name (read_at text)) (rows_fault_at Version (line_spot name 1)) t e in
-    (a.0, from_yaml name (read_at text) t a.1)
+tree_parts name text t e = search rules
 
 -- a text that is read has no other tree
 only_tree : (text : List ℕ) (t u : Node) (levels depth : ℕ) → read_at text ≡ Ok t → IsTreeOf levels depth text u → u ≡ t
