@@ -1,6 +1,6 @@
 -- The modes that are found in texts: each at its place, by its own text and no other.
-use Rattle.std.proofs.Common.{rules, ◌≡◌, ◌≢◌, ℕ, suc, zero, ◌+◌, Bool, true, false, cond, Option, Some, None, Result, Ok, ◌⊎◌, inl, inr}
-use Rattle.std.proofs.Common.{List, [], ◌∷◌, ◌++◌, length, map, take, slice_index_or, append_assoc, refl, sym, ap, subst, ◌∙◌, arith}
+use Rattle.std.proofs.Common.{◌≡◌, ◌≢◌, ℕ, suc, zero, ◌+◌, Bool, true, false, cond, ◌||◌, Option, Some, None, Result, Ok, Err, ◌⊎◌, inl, inr}
+use Rattle.std.proofs.Common.{List, [], ◌∷◌, ◌++◌, length, map, set, take, slice_index_or, append_assoc, refl, sym, ap, subst, ◌∙◌, arith}
 use Rattle.std.specs.Prelude.{codes}
 use Rattle.std.specs.List.{Contains, All, AllZip}
 use Rattle.std.specs.Str.{bytes_eq}
@@ -86,7 +86,11 @@ is_name : (t : Text) (name : List ℕ) → t.name ≡ name → bytes_eq t.name n
 is_name t name e = (bytes_eq-Decides t.name name).1 e
 
 no_name : (t : Text) (name : List ℕ) → t.name ≢ name → bytes_eq t.name name ≡ false
-no_name t name other = search rules
+no_name t name other =
+    elim (cases_Bool (bytes_eq t.name name)) [
+      | inl e ↦ absurd (other ((bytes_eq-Decides t.name name).0 e))
+      | inr e ↦ e
+    ]
 
 -- a text of one mode is none of the modes behind it
 others_behind : (names : List (List ℕ)) (t : Text) (w : Written) (ws : List Written) → AreNew names (names_of (w ∷ ws))
@@ -115,7 +119,14 @@ has_behind : (t : Text) (ts : List Text) (name : List ℕ) → t.name ≢ name �
 has_behind t ts name other = rw (no_name t name other) refl
 
 is_first : (t : Text) (ts : List Text) (name : List ℕ) → t.name ≡ name → IsText (t ∷ ts) name t.text
-is_first t ts name same = search rules
+is_first t ts name same =
+    let whole : t ≡ named name t.text = λ i. record { name = same i; text = t.text } in
+    subst (Contains (t ∷ ts)) whole (here t ts)
+
+-- a text of another name is behind the first
+is_behind : (t : Text) (ts : List Text) (name text : List ℕ) → t.name ≢ name → IsText (t ∷ ts) name text → IsText ts name text
+is_behind t ts name text other (zero, lt, at) = absurd (other (ap (λ (u : Text). u.name) at))
+is_behind t ts name text other (suc k, lt, at) = (k, omega (arith, lt), at)
 
 module _ (names : List (List ℕ)) (t : Text) (ts : List Text) (new : AreNew names (names_in (t ∷ ts))) (name : List ℕ) (same : t.name ≡ name) where
   -- no text behind has the name of the first
@@ -178,13 +189,20 @@ new_sound_mode taken t w m e =
 new_mode_or : (Above : Type 0) (taken : List (List ℕ)) (t : Text) (w : Written) (m : ModeRead) → entries_new_at t.name taken (mode_entries m) ≡ Ok tt
     → IsReadOr Above (mode_read_at w t) m → IsReadOr Above (new_mode_at taken w t) m
 unfolding new_mode_at
-new_mode_or Above taken t w m new h = search rules
+new_mode_or Above taken t w m new h =
+    then_or Above (mode_read_at w t) (λ x. entries_new_at t.name taken (mode_entries x) >>= λ all_new. Ok x) m m h (inl (rw new refl))
 
 -- a mode with one more text in front, or one fewer
 read_still : (sizes : Sizes) (t : Text) (ts : List Text) (w : Written) (m : ModeRead) → IsModeRead sizes ts w m
     → IsModeRead sizes (t ∷ ts) w m
 read_still sizes t ts w m h =
     let is = there t (named (mode_text_of w) h.text) ts h.is_there in
+    record { name = h.name; text = h.text; is_there = is; sections = h.sections; rows = h.rows; notes = h.notes }
+
+read_behind : (sizes : Sizes) (t : Text) (ts : List Text) (w : Written) (m : ModeRead) → t.name ≢ mode_text_of w
+    → IsModeRead sizes (t ∷ ts) w m → IsModeRead sizes ts w m
+read_behind sizes t ts w m other h =
+    let is = is_behind t ts (mode_text_of w) h.text other h.is_there in
     record { name = h.name; text = h.text; is_there = is; sections = h.sections; rows = h.rows; notes = h.notes }
 
 -- ---- one text, taken to its place
@@ -215,10 +233,16 @@ untouched t taken (w ∷ ws) (before ∷ found) long other =
     let rest = All-tail (IsOther t) w.text (names_of ws) other in
     (inl (first, refl), untouched t taken ws found (omega (arith, long)) rest)
 
+set_behind : (before : Option ModeRead) (found : Found) (i : ℕ) (r : Result ModeRead RowsFault)
+    → (r >>= λ m. Ok (set (before ∷ found) (suc i) (Some m))) ≡ ((r >>= λ m. Ok (set found i (Some m))) >>= λ next. Ok (before ∷ next))
+set_behind before found i (Ok m) = refl
+set_behind before found i (Err f) = refl
+
 -- a place behind the first is one among those behind the first
 placed_behind : (t : Text) (taken : List (List ℕ)) (before : Option ModeRead) (found : Found) (o : Option (ℕ × Written))
     → placed_at t taken (before ∷ found) (behind_one o) ≡ (placed_at t taken found o >>= λ next. Ok (before ∷ next))
-placed_behind t taken before found o = search rules
+placed_behind t taken before found None = refl
+placed_behind t taken before found (Some p) = set_behind before found p.0 (new_mode_at taken p.1 t)
 
 -- the place of a text among the modes
 abbrev place_of : Text → List Written → Option (ℕ × Written)
@@ -248,7 +272,10 @@ module _ (t : Text) (taken : List (List ℕ)) (w : Written) (ws : List Written) 
 
   placed_later : IsPlacedRightly t taken ws found → t.name ≢ mode_text_of w
       → placed_at t taken (before ∷ found) (behind_one (place_of t ws)) ≡ Ok next → Placed t taken (w ∷ ws) (before ∷ found) next
-  placed_later so other e = search rules
+  placed_later so other e =
+      let behind = sym (placed_behind t taken before found (place_of t ws)) ∙ e in
+      let a = bind_ok (placed_at t taken found (place_of t ws)) (λ rest. Ok (in_front before rest)) next behind in
+      subst (Placed t taken (w ∷ ws) (before ∷ found)) (ok_is (in_front before a.0) next a.2) (inl (other, refl), so a.0 a.1)
 
   placed_by : (names : List (List ℕ)) → length found ≡ length ws → AreNew names (names_of (w ∷ ws)) → IsPlacedRightly t taken ws found
       → (b : Bool) → bytes_eq (mode_text_of w) t.name ≡ b
@@ -275,7 +302,9 @@ still None os m c = c
 still (Some n) os m c = there n m (found_of os) c
 
 first_or_later : (o : Option ModeRead) (os : Found) (m : ModeRead) → Contains (found_of (o ∷ os)) m → (o ≡ Some m) ⊎ Contains (found_of os) m
-first_or_later o os m x1 = search rules
+first_or_later None os m c = inr c
+first_or_later (Some n) os m (zero, lt, at) = inl (ap (λ (x : ModeRead). Some x) at)
+first_or_later (Some n) os m (suc k, lt, at) = inr (k, omega (arith, lt), at)
 
 at_first : (o : Option ModeRead) (os : Found) (m : ModeRead) → o ≡ Some m → Contains (found_of (o ∷ os)) m
 at_first o os m is = subst (λ (x : Option ModeRead). Contains (found_of (x ∷ os)) m) (sym is) (here m (found_of os))
@@ -290,7 +319,10 @@ IsOfText t taken m = (w : Written) × (t.name ≡ mode_text_of w) × (new_mode_a
 module _ (t : Text) (taken : List (List ℕ)) where
   one_placed : (w : Written) (before after : Option ModeRead) (os : Found) (m : ModeRead) → IsPlaced t taken w before after → after ≡ Some m
       → Contains (found_of (before ∷ os)) m ⊎ IsOfText t taken m
-  one_placed w before after os m x1 is = search rules
+  one_placed w before after os m (inl p) is = inl (at_first before os m (sym p.1 ∙ is))
+  one_placed w before after os m (inr p) is =
+      let same : p.0 ≡ m = some_is p.0 m (sym p.1 ∙ is) in
+      inr (w, p.2, p.3 ∙ ap (λ (x : ModeRead). Ok x) same)
 
   placed_old_or_new : (ws : List Written) (found next : Found) → Placed t taken ws found next → (m : ModeRead) → Contains (found_of next) m
       → Contains (found_of found) m ⊎ IsOfText t taken m
@@ -327,7 +359,8 @@ taken_once names t ts keys w before middle after new (inl p) (inl q) = inl (has_
 taken_once names t ts keys w before middle after new (inl p) (inr q) = inr (q.0, q.1, read_still within_limits t ts w q.0 q.2)
 taken_once names t ts keys w before middle after new (inr p) (inl q) =
     inr (p.0, q.1 ∙ p.1, mode_sound t ts w p.0 p.2 (new_sound_mode keys t w p.0 p.3).0)
-taken_once names t ts keys w before middle after new (inr p) (inr q) = search rules
+taken_once names t ts keys w before middle after new (inr p) (inr q) =
+    absurd (not_behind names t ts new (mode_text_of w) p.2 q.2.text q.2.is_there)
 
 taken_with : (names : List (List ℕ)) (t : Text) (ts : List Text) (keys : List (List ℕ)) (ws : List Written) (found next out : Found)
     → AreNew names (names_in (t ∷ ts))
@@ -433,7 +466,8 @@ module _ (sizes : Sizes) (ts : List Text) where
   places_for (w ∷ ws) modes h = place_by w ws modes (places_for ws) (has_text ts (mode_text_of w)) refl h
 
 none_taken : (sizes : Sizes) (w : Written) (before after : Option ModeRead) → IsTaken sizes [] w before after → after ≡ before
-none_taken sizes w before after x1 = search rules
+none_taken sizes w before after (inl h) = h.1
+none_taken sizes w before after (inr h) = absurd (nothing_in (named (mode_text_of w) h.2.text) h.2.is_there)
 
 -- with no text all stay as they were
 as_before : (sizes : Sizes) (ws : List Written) (found out : Found) → Taken sizes [] ws found out → out ≡ found
@@ -447,7 +481,8 @@ as_before sizes ws found out h = absurd h
 module _ (sizes : Sizes) (t : Text) (ts : List Text) where
   taken_behind : (w : Written) (before after : Option ModeRead) → t.name ≢ mode_text_of w → IsTaken sizes (t ∷ ts) w before after
       → IsTaken sizes ts w before after
-  taken_behind w before after other x1 = search rules
+  taken_behind w before after other (inl h) = inl (sym (has_behind t ts (mode_text_of w) other) ∙ h.0, h.1)
+  taken_behind w before after other (inr h) = inr (h.0, h.1, read_behind sizes t ts w h.0 other h.2)
 
   all_behind : (ws : List Written) (found out : Found) → All (IsOther t) (names_of ws) → Taken sizes (t ∷ ts) ws found out
       → Taken sizes ts ws found out
@@ -469,6 +504,10 @@ IsAboveAt sizes Above t ws = (w : Written) → Contains ws w → t.name ≡ mode
 
 -- ---- what was found before a text
 
+none_with : (a b : Bool) → (a || b) ≡ false → b ≡ false
+none_with true b e = absurd cc
+none_with false b e = e
+
 -- a mode of these, whose text is not one of those to come
 abbrev IsOld : List ModeRead → List Text → Written → Option ModeRead → Type 0
 IsOld modes ts w None = Unit {0}
@@ -485,7 +524,8 @@ none_old modes ts (w ∷ ws) = (tt, none_old modes ts ws)
 
 -- the same where one text fewer is to come
 old_behind : (modes : List ModeRead) (t : Text) (ts : List Text) (w : Written) (o : Option ModeRead) → IsOld modes (t ∷ ts) w o → IsOld modes ts w o
-old_behind modes t ts w o h = search rules
+old_behind modes t ts w None h = tt
+old_behind modes t ts w (Some m) h = (h.0, none_with (bytes_eq t.name (mode_text_of w)) (has_text ts (mode_text_of w)) h.1, h.2)
 
 all_old : (modes : List ModeRead) (t : Text) (ts : List Text) (ws : List Written) (found : Found) → AreOld modes (t ∷ ts) ws found
     → AreOld modes ts ws found
@@ -521,7 +561,8 @@ module _ (sizes : Sizes) (Above : Type 0) (names : List (List ℕ)) (t : Text) (
       → ((m : ModeRead) → Contains (found_of (after ∷ out)) m → Contains modes m) → AreOld modes (t ∷ ts) ws found
       → IsTaken sizes (t ∷ ts) w before after → Taken sizes (t ∷ ts) ws found out
       → Next (Some (0, w)) (w ∷ ws) (before ∷ found) (after ∷ out)
-  next_first w ws before after found out new fine so other same among old (inl h) rest = search rules
+  next_first w ws before after found out new fine so other same among old (inl h) rest =
+      absurd (both_ways (has_text (t ∷ ts) (mode_text_of w)) h.0 (has_first t ts (mode_text_of w) same))
   next_first w ws before after found out new fine so other same among old (inr h) rest =
       let inside = among h.0 (at_first after out h.0 h.1) in
       let read = weaker (IsTextOver sizes t.text) Above so (mode_read_at w t) h.0 (mode_or sizes names t ts w h.0 new same h.2) in

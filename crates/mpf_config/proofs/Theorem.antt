@@ -1,5 +1,5 @@
 -- The rows that are read are those of the bundle, and it has no others.
-use Rattle.std.proofs.Common.{rules, ◌≡◌, ℕ, ◌≤◌, ◌^◌, ltb, List, [], length, Option, Result, Ok, refl, sym, ap, subst, inl, inr, codes}
+use Rattle.std.proofs.Common.{◌≡◌, ℕ, ◌≤◌, ◌^◌, ltb, List, [], length, map, Option, Result, Ok, refl, sym, ap, subst, ◌∙◌, inl, inr, codes}
 use Rattle.std.proofs.lemmas.Bool.{cases_lt, le-ltb, lt-ltb}
 use Rattle.config_faults.specs.declared.fault.FaultKind.TheVariants.{Limit}
 use Rattle.mpf_tables.specs.declared.tables.TextKind.TheVariants.{Machine}
@@ -12,7 +12,7 @@ use Rattle.mpf_config.specs.Rows.{Rows, RowsFault}
 use Rattle.mpf_config.specs.BundleText.{Text, machine_name}
 use Rattle.mpf_sections.specs.Typed.{listed_modes}
 use Rattle.mpf_config.specs.Unread.{read_of, machine_notes}
-use Rattle.mpf_config.specs.ModeReads.{MachineRead, ModeRead}
+use Rattle.mpf_config.specs.ModeReads.{MachineRead, ModeRead, rows_notes}
 use Rattle.mpf_config.specs.Apart.{AreDistinct, AreNamesApart, entry_names, entry_keys}
 use Rattle.mpf_config.specs.RowsOf.{Sizes, within_limits, AreRowsOf, IsRowsOf, IsTextOver, IsAbove}
 use Rattle.mpf_config.specs.Reading.{line_spot, TextRows, texts_at, machine_at, text_rows_at, machine_read_at, entries_new_at, modes_from, modes_in_texts, none_found, found_of, rows_from, rows_at}
@@ -41,7 +41,10 @@ record WasMachine (texts : List Text) (m : MachineRead) : Type 0 where
 
 was_machine : (texts : List Text) (m : MachineRead) → machine_read_at texts ≡ Ok m → WasMachine texts m
 unfolding machine_read_at
-was_machine texts m e = search rules
+was_machine texts m e =
+    let a = bind_ok (machine_at texts) (λ text. text_rows_at Machine machine_name text >>= λ r. Ok (machine_of texts r)) m e in
+    let b = bind_ok (text_rows_at Machine machine_name a.0) (λ r. Ok (machine_of texts r)) m a.2 in
+    record { text = a.0; text_is = a.1; read = b.0; is_read = b.1; same = ok_is (machine_of texts b.0) m b.2 }
 
 -- no two of its entries are the same
 pub machine_distinct : (texts : List Text) (m : MachineRead) → machine_read_at texts ≡ Ok m → AreDistinct (entry_names m.rows)
@@ -137,7 +140,10 @@ module _ (sizes : Sizes) (bundle : List ℕ) (rows : Rows) (h : IsRowsOf sizes b
 
   -- with the modes that it has
   whole : (modes : List ModeRead) → modes ≡ h.modes → rows_from h.texts its_machine modes ≡ rows
-  whole modes same = search rules
+  whole modes same =
+      let mode_rows = ap (λ (ms : List ModeRead). map (λ m. m.mode) ms) same ∙ sym h.mode_rows in
+      let notes = ap (rows_notes h.texts (listed_modes rows.machine) h.sections) same ∙ sym h.notes in
+      λ i. record { machine = rows.machine; modes = mode_rows i; notes = notes i }
 
   modes_read : IsReadOr Above (from_machine h.texts its_machine) rows
   modes_read =
