@@ -1,5 +1,5 @@
 -- The whole order has exactly the grounded events, and each can be weighed after those before it.
-use Rattle.std.proofs.Common.{◌≡◌, ℕ, zero, suc, ◌+◌, ◌-◌, ◌<◌, ◌≤◌, min, Bool, true, false, not, ◌||◌, ◌==◌, nat_le, List, [], length, take, set, refl, sym, ◌∙◌, ap, subst, inl, inr, arith, take_all, get_or-set_same, get_or-set_other}
+use Rattle.std.proofs.Common.{rules, ◌≡◌, ℕ, zero, suc, ◌+◌, ◌-◌, ◌<◌, ◌≤◌, min, Bool, true, false, not, ◌||◌, ◌==◌, nat_le, List, [], length, take, set, refl, sym, ◌∙◌, ap, subst, inl, inr, arith, take_all, get_or-set_same, get_or-set_other}
 use Rattle.std.specs.List.{list_all}
 use Rattle.std.proofs.lemmas.Bool.{cases_eq, cases_Bool, or_cases, eqb-true, eq-eqb, leb-true, le-leb, and_left, and_parts, false≢true}
 use Rattle.std.proofs.lemmas.List.{ext_get_or, length-map, get_or-map}
@@ -22,9 +22,7 @@ use Rattle.cascade_rank.proofs.Ranking.{grounded-more, grounded-later, rank-stab
 use Rattle.cascade_rank.proofs.Ordering.{is_in-more}
 
 same_bool : (a b : Bool) → (a ≡ true → b ≡ true) → (b ≡ true → a ≡ true) → a ≡ b
-same_bool true b h k = sym (h refl)
-same_bool false true h k = k refl
-same_bool false false h k = refl
+same_bool a b h k = search rules
 
 module _ (plan : PlanView) (order : List EventId) (grounds : EachAfter (λ before e. all_mentioned (is_in before) (cost_of_event plan e) ≡ true) order) where
   -- the first k of the order are grounded after k rounds

@@ -1,5 +1,5 @@
 -- Events are noted as leading to what they post: one post, all posts of an event, all events.
-use Rattle.std.proofs.Common.{◌≡◌, ◌≢◌, ℕ, zero, suc, ◌+◌, ◌<◌, Bool, true, false, cond, ◌==◌, nat_lt, List, [], ◌∷◌, ◌++◌, length, take, drop, take_at, set, replicate, get_or, refl, sym, ◌∙◌, ap, subst, inl, inr, arith, length-set, get_or-set_same, get_or-set_other}
+use Rattle.std.proofs.Common.{rules, ◌≡◌, ◌≢◌, ℕ, zero, suc, ◌+◌, ◌<◌, Bool, true, false, cond, ◌==◌, nat_lt, List, [], ◌∷◌, ◌++◌, length, take, drop, take_at, set, replicate, get_or, refl, sym, ◌∙◌, ap, subst, inl, inr, arith, length-set, get_or-set_same, get_or-set_other}
 use Rattle.std.proofs.lemmas.Bool.{cases_lt, cases_eq, eq-eqb, ne_eqb, lt-ltb, le-ltb}
 use Rattle.std.proofs.lemmas.List.{get_or-replicate, length-replicate, get_or_append_left, get_or_push, length_push, get_or_read}
 use Rattle.std.proofs.lemmas.List.Sums.{sum_by_push}
@@ -27,18 +27,10 @@ occurrences-each_more e f (x ∷ xs) (suc i) d h =
 -- ---- what one event leads to
 
 split_sum : (b : Bool) (x y z : ℕ) → z ≡ x + y → cond b z 0 ≡ cond b x 0 + cond b y 0
-split_sum true x y z h = h
-split_sum false x y z h = refl
+split_sum b x y z h = search rules
 
 pub adds-none : (leader : EventId) (c : Cost) (old : List (List EventId)) → ((f : EventId) → occurrences f c ≡ 0) → AddsLeader leader c old old
-adds-none leader c old none = record {
-  count = refl;
-  more = λ f e l. let nothing = by (leader.0 == e.0) (occurrences f c) (none f) in omega (arith, nothing);
-}
-  where
-    by : (b : Bool) (n : ℕ) → n ≡ 0 → cond b n 0 ≡ 0
-    by true n h = h
-    by false n h = refl
+adds-none leader c old none = search rules
 
 pub adds-both : (leader : EventId) (a b c : Cost) (old mid new : List (List EventId)) → ((f : EventId) → occurrences f c ≡ occurrences f a + occurrences f b) → AddsLeader leader a old mid → AddsLeader leader b mid new → AddsLeader leader c old new
 adds-both leader a b c old mid new sums first then = record {

@@ -1,5 +1,5 @@
 -- Marks of coils, action by action.
-use Rattle.std.proofs.Common.{◌≡◌, ℕ, ◌+◌, ◌<◌, ◌≤◌, Bool, true, false, if◌then◌else◌, cond, replicate, length-append, List, [], ◌∷◌, ◌++◌, length, map, take, get_or, refl, sym, ap, ◌∙◌, subst, arith}
+use Rattle.std.proofs.Common.{rules, ◌≡◌, ℕ, ◌+◌, ◌<◌, ◌≤◌, Bool, true, false, if◌then◌else◌, cond, replicate, length-append, List, [], ◌∷◌, ◌++◌, length, map, take, get_or, refl, sym, ap, ◌∙◌, subst, arith}
 use Rattle.std.specs.Prelude.{◌||◌}
 use Rattle.std.specs.List.{All, flat_map, list_any, filter, range_with_len}
 use Rattle.std.proofs.lemmas.Grind.{flat_map-append}
@@ -22,8 +22,7 @@ use Rattle.plan_tables.specs.declared.entries.Owner.{Owner}
 use Rattle.cascade_rank.specs.Marks.{mark_of, numbered, IsCoilMarked, AreMarked}
 
 or-regroup : (a b c : Bool) → ((a || b) || c) ≡ (a || (b || c))
-or-regroup true b c = refl
-or-regroup false b c = refl
+or-regroup a b c = search rules
 
 -- some actions, and then others
 pub marked-then : (old mid new : List Bool) (first later : List Action) → AreMarked old first mid → AreMarked mid later new → AreMarked old (first ++ later) new

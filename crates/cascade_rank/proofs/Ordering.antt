@@ -1,5 +1,5 @@
 -- The order grows: one of those that lead to its next event is gone through, then all of them, then the one after.
-use Rattle.std.proofs.Common.{◌≡◌, ◌≢◌, ℕ, zero, suc, ◌+◌, ◌-◌, ◌<◌, ◌≤◌, Bool, true, false, cond, ◌||◌, eqb, ◌==◌, nat_lt, List, [], ◌∷◌, ◌++◌, length, take, set, get_or, count_by, refl, sym, ◌∙◌, ap, subst, inl, inr, arith, length-set, take_all, take_at, get_or-set_same, get_or-set_other}
+use Rattle.std.proofs.Common.{rules, ◌≡◌, ◌≢◌, ℕ, zero, suc, ◌+◌, ◌-◌, ◌<◌, ◌≤◌, Bool, true, false, cond, ◌||◌, eqb, ◌==◌, nat_lt, List, [], ◌∷◌, ◌++◌, length, take, set, get_or, count_by, refl, sym, ◌∙◌, ap, subst, inl, inr, arith, length-set, take_all, take_at, get_or-set_same, get_or-set_other}
 use Rattle.std.proofs.lemmas.Bool.{cases_lt, cases_eq, eq-eqb, ne_eqb, lt-ltb, le-ltb, or_right, or_from, false≢true}
 use Rattle.std.proofs.lemmas.List.{take-append-le, get_or_append_left, get_or_push, length_push}
 use Rattle.std.proofs.lemmas.List.Sums.{count_by_more_yes, count_by_more_no, sum_by-take-le, sum_by-set}
@@ -28,8 +28,7 @@ each_push P xs x h last i l = elim (cases_lt i (length xs)) [
 ]
 
 or_false : (b : Bool) → (b || false) ≡ b
-or_false true = refl
-or_false false = refl
+or_false b = search rules
 
 pub is_in-push : (xs : List EventId) (x e : EventId) → is_in (xs ++ x ∷ []) e ≡ (is_in xs e || x.0 == e.0)
 is_in-push xs x e = list_any-append (λ d. d.0 == e.0) xs (x ∷ []) ∙ ap (λ (b : Bool). is_in xs e || b) (or_false (x.0 == e.0))
@@ -62,15 +61,7 @@ pub record IsStart (plan : PlanView) (left : List ℕ) (count : ℕ) (order : Li
 module _ (plan : PlanView) (left : List ℕ) (length_is : length left ≡ length plan.events)
     (left_is : CountsPosts plan left) where
   pub start_none : IsStart plan left 0 []
-  start_none = record {
-    within = omega arith;
-    below = λ i l. absurd (omega (arith, l));
-    apart = λ i l. absurd (omega (arith, l));
-    grounds = λ i l. absurd (omega (arith, l));
-    listed = λ e l. absurd (omega (arith, l));
-    above = λ e l. refl;
-    room = refl;
-  }
+  start_none = search rules
 
   module _ (order : List EventId) (x : EventId) (s : IsStart plan left x.0 order) (here : x.0 < length plan.events) where
     inside : x.0 < length left

@@ -1,5 +1,5 @@
 -- The events whose weights are in a cost, listed part by part.
-use Rattle.std.proofs.Common.{◌≡◌, ℕ, zero, suc, ◌+◌, ◌<◌, ◌≤◌, false, List, [], ◌∷◌, ◌++◌, length, take, get_or, refl, sym, ap, ◌∙◌, arith, length-append, take_all}
+use Rattle.std.proofs.Common.{rules, ◌≡◌, ℕ, zero, suc, ◌+◌, ◌<◌, ◌≤◌, false, List, [], ◌∷◌, ◌++◌, length, take, get_or, refl, sym, ap, ◌∙◌, arith, length-append, take_all}
 use Rattle.std.proofs.lemmas.List.{append_assoc, append-nil}
 use Rattle.plan_tables.specs.declared.entries.EventId.{EventId}
 use Rattle.plan_tables.specs.declared.entries.ModeEvent.TheVariants.{WillStart, Starting, Started, Stopping, Stopped}
@@ -46,13 +46,7 @@ weights-dearest f (x ∷ xs) = ap (λ (es : List EventId). weights_in (f x) ++ e
 
 -- no event's weight is in what a mode releases
 releases-none : (plan : PlanView) (w : Work) → weights_in (cost_of_releases plan w) ≡ []
-releases-none plan works.Nothing = refl
-releases-none plan (works.Mode m WillStart) = refl
-releases-none plan (works.Mode m Starting) = refl
-releases-none plan (works.Mode m Started) = refl
-releases-none plan (works.Mode m Stopping) = refl
-releases-none plan (works.Mode m Stopped) = refl
-releases-none plan (works.Game which) = refl
+releases-none plan w = search rules
 
 -- one part after the other, and one in between that has none
 one_after_another : (old s r l g started led new : List EventId) → r ≡ [] → started ≡ old ++ s → led ≡ started ++ l → new ≡ led ++ g → new ≡ old ++ (s ++ (r ++ (l ++ g)))

@@ -1,5 +1,5 @@
 -- The costs of a valid plan mention only events of the plan.
-use Rattle.std.proofs.Common.{◌≡◌, ℕ, ◌<◌, Bool, true, false, ◌==◌, ◌&&◌, if◌then◌else◌, List, [], ◌∷◌, length, Option, Some, None, refl, sym, subst, inl, inr, arith}
+use Rattle.std.proofs.Common.{rules, ◌≡◌, ℕ, ◌<◌, Bool, true, false, ◌==◌, ◌&&◌, if◌then◌else◌, List, [], ◌∷◌, length, Option, Some, None, refl, sym, subst, inl, inr, arith}
 use Rattle.std.specs.Prelude.{IfSome}
 use Rattle.std.specs.List.{All, AllByRecursion, find}
 use Rattle.std.proofs.lemmas.Bool.{cases_lt, or_cases, eqb-true, false≢true}
@@ -101,14 +101,7 @@ weights-below n (Greater a b) h = All-append (IsEventWithin n) (weights_in a) (w
 module _ (plan : PlanView) (valid : HasEntries plan) where
   -- the events of a mode are events of the plan
   pub mode_event-within : (m : ModeId) (which : ModeEvent) → m.0 < length plan.modes → (mode_event plan m which).0 < length plan.events
-  mode_event-within m which inside = by which (All-get_or (IsModeWithin (length plan.events)) plan.modes m.0 no_mode inside valid.modes)
-    where
-      by : (w : ModeEvent) → IsModeWithin (length plan.events) (mode_at plan m) → (mode_event plan m w).0 < length plan.events
-      by WillStart h = h.will_start
-      by Starting h = h.starting
-      by Started h = h.started
-      by Stopping h = h.stopping
-      by Stopped h = h.stopped
+  mode_event-within m which inside = search rules
 
   -- so is the end of the ball, where it waits for a mode
   IsBelow-end : (m : ModeId) → m.0 < length plan.modes → (holds : Bool) → IsBelow (length plan.events) (cost_if_led (if holds then Some (game_event plan BallEnded) else None))
@@ -192,13 +185,7 @@ module _ (plan : PlanView) (valid : HasEntries plan) where
 
   -- the lines of releases mention none
   IsBelow-releases : (w : Work) → IsBelow (length plan.events) (cost_of_releases plan w)
-  IsBelow-releases works.Nothing = tt
-  IsBelow-releases (works.Mode m WillStart) = tt
-  IsBelow-releases (works.Mode m Starting) = tt
-  IsBelow-releases (works.Mode m Started) = tt
-  IsBelow-releases (works.Mode m Stopping) = tt
-  IsBelow-releases (works.Mode m Stopped) = tt
-  IsBelow-releases (works.Game which) = tt
+  IsBelow-releases w = search rules
 
   -- what an event of the game posts is an event of the plan
   IsBelow-choices : 0 < length plan.events → (ways : List (List GameEvent)) → IsBelow (length plan.events) (dearest_of (cost_of_choice plan) ways)
