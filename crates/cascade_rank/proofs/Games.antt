@@ -27,8 +27,7 @@ event_in_game-below n rules within some which = elim (cases_lt (order_of which) 
 ]
 
 event_of_game-below : (n : ℕ) (game : Option GameRules) → IfSome game (IsGameWithin n) → 0 < n → (which : GameEvent) → (event_of_game game which).0 < n
-event_of_game-below n None within some which = some
-event_of_game-below n (Some rules) within some which = event_in_game-below n rules within some which
+event_of_game-below n game within some which = search (rules, event_in_game-below)
 
 -- ---- where there is work in the game, the plan has an event
 
@@ -66,9 +65,7 @@ module _ (plan : PlanView) (valid : HasEntries plan) where
   game_event-below some which = event_of_game-below (length plan.events) plan.game valid.game some which
 
   pub game_has-event : (e : EventId) (which : GameEvent) → work_of plan e ≡ works.Game which → 0 < length plan.events
-  game_has-event e which is =
-      let some = some_event-or (length plan.events) (work_from 0 plan.modes e) (game_work plan.game e) (of_mode 0 plan.modes e) (some_event-game (length plan.events) plan.game e valid.game) in
-      rw is at some
+  game_has-event e which is = search (rules, some_event-or, of_mode, some_event-game)
 
 -- ---- what an event of the game can post
 

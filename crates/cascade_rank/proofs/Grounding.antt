@@ -50,11 +50,7 @@ module _ (plan : PlanView) (valid : HasEntries plan) (left : List ℕ) (order : 
 
   -- an event that leads only to events of the order is in it
   closed : (e : EventId) → e.0 < length plan.events → all_mentioned (is_in order) (cost_of_event plan e) ≡ true → is_in order e ≡ true
-  closed e l h =
-      let whole = ap (λ (ds : List EventId). unmet (is_in ds) (cost_of_event plan e)) (take_all (length order) order (omega arith)) in
-      let none = eqb-true (unmet (is_in order) (cost_of_event plan e)) 0 (sym (unmet-none (is_in order) (cost_of_event plan e)) ∙ h) in
-      let is = o.left_is e l in
-      o.listed e l ∙ eq-eqb (left_of left e) 0 (omega (arith, whole, none, is))
+  closed e l h = search (rules, take_all, eqb-true, unmet-none, eq-eqb)
 
   grounded-order : (k : ℕ) (e : EventId) → e.0 < length plan.events → grounded_in plan k e ≡ true → is_in order e ≡ true
   grounded-order zero e l h = absurd (false≢true h)
@@ -143,12 +139,7 @@ module _ (plan : PlanView) (weights : List ℕ) (are : AreRanks plan weights) wh
       le-leb (weight_of weights (event n)) greatest (omega (arith, low, rank_at plan (event n) below, are.each (event n) below))))
 
   pub limit_same : is_within_limit plan weights ≡ is_within_limit plan (ranks plan)
-  limit_same = elim (cases_Bool (list_all (λ w. nat_le w greatest) weights)) [
-    | inl holds ↦ ap (is_within_limit plan) (all_small holds)
-    | inr fails ↦
-        and_left (list_all (λ w. nat_le w greatest) weights) (nat_le (bound_of plan (weight_of weights)) greatest) fails
-        ∙ sym (and_left (list_all (λ w. nat_le w greatest) (ranks plan)) (nat_le (bound_of plan (weight_of (ranks plan))) greatest) (same_bool (list_all (λ w. nat_le w greatest) (ranks plan)) false (λ h. sym fails ∙ ranks_small h) (λ h. absurd (false≢true h))))
-  ]
+  limit_same = search (rules, cases_Bool, nat_le, all_small, and_left, same_bool, ranks_small)
 
   pub limit_ranks : is_within_limit plan weights ≡ true → weights ≡ ranks plan
   limit_ranks h = all_small (and_parts (list_all (λ w. nat_le w greatest) weights) (nat_le (bound_of plan (weight_of weights)) greatest) h).0
