@@ -1,6 +1,6 @@
 -- Events that lead to each other: none of them is grounded, and with them no weights fit. From an event that is not
 -- grounded one comes to some.
-use Rattle.std.proofs.Common.{◌≡◌, ℕ, zero, suc, ◌+◌, ◌-◌, ◌<◌, ◌≤◌, ◌⊎◌, Bool, true, false, not, ◌||◌, eqb, ◌==◌, List, [], ◌∷◌, length, map, take, All, refl, sym, ◌∙◌, ap, subst, inl, inr, arith, length-take}
+use Rattle.std.proofs.Common.{rules, ◌≡◌, ℕ, zero, suc, ◌+◌, ◌-◌, ◌<◌, ◌≤◌, ◌⊎◌, Bool, true, false, not, ◌||◌, eqb, ◌==◌, List, [], ◌∷◌, length, map, take, All, refl, sym, ◌∙◌, ap, subst, inl, inr, arith, length-take}
 use Rattle.std.specs.List.{AllByRecursion, IsDistinct, list_any, position_or_len}
 use Rattle.std.proofs.lemmas.Bool.{cases_lt, eqb-true, false_from_ne_true, false≢true}
 use Rattle.std.proofs.lemmas.List.{get_or-take, length-map}
@@ -97,13 +97,7 @@ list_any-numbers q (x ∷ xs) = ap (λ (b : Bool). (q == x.0) || b) (list_any-nu
 module _ (plan : PlanView) where
   trail_alone : (e : EventId) → e.0 < length plan.events → IsTrail plan e 0 (e ∷ [])
   unfolding IsDistinct
-  trail_alone e l = record {
-    count = refl;
-    begins = refl;
-    below = All-cons (λ f. f.0 < length plan.events) e [] l (All-nil (λ f. f.0 < length plan.events));
-    next = λ i h. absurd (omega (arith, h));
-    apart = (tt, tt);
-  }
+  trail_alone e l = search rules
 
   module _ (e f : EventId) (k : ℕ) (trail : List EventId) (t : IsTrail plan f k trail) (leads_there : leads plan e f ≡ true) where
     -- e leads to the trail, and is on it: the part of the trail up to there is a cycle

@@ -1,5 +1,5 @@
 -- What finding answers, case by case.
-use Rattle.std.proofs.Common.{◌≡◌, ℕ, ◌<◌, true, false, not, nat_lt, List, [], length, Option, Some, None, position, Ok, Err, sym, ◌∙◌, ap, subst, arith}
+use Rattle.std.proofs.Common.{rules, ◌≡◌, ℕ, ◌<◌, true, false, not, nat_lt, List, [], length, Option, Some, None, position, Ok, Err, sym, ◌∙◌, ap, subst, arith}
 use Rattle.std.specs.Option.{option_map}
 use Rattle.std.proofs.lemmas.Bool.{not-false, cond-true, cond-false, both_ways}
 use Rattle.plan_tables.specs.PlanView.{PlanView}
@@ -24,11 +24,7 @@ use Rattle.cascade_rank.proofs.Firsts.{is_left, first_place}
 
 module _ (plan : PlanView) (valid : HasEntries plan) (left : List ℕ) (order : List EventId) (o : IsOrdering plan (length order) [] left order) where
   pub left_is_open : IsLeft plan left
-  left_is_open = record {
-    count = o.length_is;
-    grounded_is = grounded_is plan valid left order o;
-    leads_on = open-leads plan valid left order o;
-  }
+  left_is_open = search (rules, grounded_is, open-leads)
 
   pub first_open_is : first_open plan ≡ option_map event (position (λ n. nat_lt 0 n) left)
   first_open_is =
@@ -87,11 +83,7 @@ module _ (plan : PlanView) (valid : HasEntries plan) (all : (e : EventId) → e.
     found_above above = cond-false (is_within_limit plan (ranks plan)) (Ok (ranks plan)) (Err bound_too_large) (above_test above)
 
     pub too_dear : ¬ (IsWithinLimit plan weights) → IsTooDear plan
-    too_dear above = record {
-      weights = ranks plan;
-      least = ranks_least;
-      above = λ within. both_ways (is_within_limit plan (ranks plan)) (above_test above) (is_within_limit-true plan (ranks plan) within);
-    }
+    too_dear above = search (rules, ranks_least, both_ways, above_test, is_within_limit-true)
 
 -- the same, where none is open
 pub not_open-least : (plan : PlanView) → HasEntries plan → ((e : EventId) → e.0 < length plan.events → is_open plan e ≡ false) → IsLeastFitting plan (ranks plan)

@@ -1,5 +1,5 @@
 -- The first event that passes a test.
-use Rattle.std.proofs.Common.{◌≡◌, ℕ, zero, suc, ◌+◌, ◌<◌, ◌≤◌, min, Bool, true, false, not, cond, ◌&&◌, ◌||◌, ◌==◌, nat_lt, List, [], ◌∷◌, ◌++◌, length, take, get_or, Some, None, position, refl, sym, ◌∙◌, ap, inl, inr, arith}
+use Rattle.std.proofs.Common.{rules, ◌≡◌, ℕ, zero, suc, ◌+◌, ◌<◌, ◌≤◌, min, Bool, true, false, not, cond, ◌&&◌, ◌||◌, ◌==◌, nat_lt, List, [], ◌∷◌, ◌++◌, length, take, get_or, Some, None, position, refl, sym, ◌∙◌, ap, inl, inr, arith}
 use Rattle.std.specs.List.{All, position_or_len}
 use Rattle.std.proofs.lemmas.Bool.{cases_lt, cases_eq, cases_Bool, lt-ltb, le-ltb, ne_eqb, and_from, and_left, and_right, or_cases, eqb-true, eq-eqb, false≢true}
 use Rattle.std.proofs.lemmas.List.Elements.{All-take}
@@ -22,31 +22,20 @@ use Rattle.cascade_rank.proofs.Within.{IsBelow-event, each_below}
 
 pub lowest-at_most : (n : ℕ) (p : EventId → Bool) (c : Cost) → IsBelow n c → lowest n p c ≤ n
 lowest-at_most n p (Lines k) h = omega arith
-lowest-at_most n p (Weight e) h = by (p e)
-  where
-    by : (b : Bool) → cond b e.0 n ≤ n
-    by true = omega (arith, h)
-    by false = omega arith
+lowest-at_most n p (Weight e) h = search rules
 lowest-at_most n p (Both a b) h = omega (arith, lowest-at_most n p a h.0)
 lowest-at_most n p (Greater a b) h = omega (arith, lowest-at_most n p a h.0)
 
 of_left : (x y q : Bool) → (x && q) ≡ true → ((x || y) && q) ≡ true
-of_left true y q h = h
-of_left false y q h = absurd (false≢true h)
+of_left x y q h = search rules
 
 of_right : (x y q : Bool) → (y && q) ≡ true → ((x || y) && q) ≡ true
-of_right true true q h = h
-of_right true false q h = absurd (false≢true h)
-of_right false y q h = h
+of_right x y q h = search rules
 
 -- it is one of them
 pub lowest-holds : (n : ℕ) (p : EventId → Bool) (c : Cost) (k : EventId) → k.0 ≡ lowest n p c → k.0 < n → (mentions k c && p k) ≡ true
 lowest-holds n p (Lines m) k is l = absurd (omega (arith, is, l))
-lowest-holds n p (Weight e) k is l = by (p e) refl is
-  where
-    by : (b : Bool) → p e ≡ b → k.0 ≡ cond b e.0 n → (k.0 == e.0 && p k) ≡ true
-    by true passes here = and_from (k.0 == e.0) (p k) (eq-eqb k.0 e.0 here) (ap p (same_event k e here) ∙ passes)
-    by false fails here = absurd (omega (arith, here, l))
+lowest-holds n p (Weight e) k is l = search rules
 lowest-holds n p (Both a b) k is l = elim (cases_lt (lowest n p a) (lowest n p b)) [
   | inl less ↦ of_left (mentions k a) (mentions k b) (p k) (lowest-holds n p a k (omega (arith, is, less)) l)
   | inr more ↦ of_right (mentions k a) (mentions k b) (p k) (lowest-holds n p b k (omega (arith, is, more)) l)
@@ -59,11 +48,7 @@ lowest-holds n p (Greater a b) k is l = elim (cases_lt (lowest n p a) (lowest n 
 -- none of them is lower
 pub lowest-first : (n : ℕ) (p : EventId → Bool) (c : Cost) (k : EventId) → k.0 < lowest n p c → mentions k c ≡ true → p k ≡ false
 lowest-first n p (Lines m) k l h = absurd (false≢true h)
-lowest-first n p (Weight e) k l h = ap p (tested_event k e h) ∙ by (p e) l
-  where
-    by : (b : Bool) → k.0 < cond b e.0 n → b ≡ false
-    by true less = absurd (omega (arith, less, eqb-true k.0 e.0 h))
-    by false less = refl
+lowest-first n p (Weight e) k l h = search rules
 lowest-first n p (Both a b) k l h = elim (or_cases (mentions k a) (mentions k b) h) [
   | inl m ↦ lowest-first n p a k (omega (arith, l)) m
   | inr m ↦ lowest-first n p b k (omega (arith, l)) m
@@ -163,10 +148,7 @@ module _ (plan : PlanView) where
 -- ---- where an event goes on to
 
 pub is_left : (n : ℕ) → nat_lt 0 n ≡ not (n == 0)
-is_left n = elim (cases_eq n 0) [
-  | inl same ↦ le-ltb 0 n (omega (arith, same)) ∙ sym (ap not (eq-eqb n 0 same))
-  | inr other ↦ lt-ltb 0 n (omega (arith, other)) ∙ sym (ap not (ne_eqb n 0 other))
-]
+is_left n = search rules
 
 -- the lowest of those to which it leads
 pub next_is : (plan : PlanView) → HasEntries plan → (left : List ℕ) → IsLeft plan left → (e : EventId) (n : ℕ) → n ≡ lowest (length left) (λ f. nat_lt 0 (left_of left f)) (each_of cost_of_post (weights_in (cost_of_event plan e))) → event n ≡ next_open plan e

@@ -27,8 +27,7 @@ event_in_game-below n rules within some which = elim (cases_lt (order_of which) 
 ]
 
 event_of_game-below : (n : ℕ) (game : Option GameRules) → IfSome game (IsGameWithin n) → 0 < n → (which : GameEvent) → (event_of_game game which).0 < n
-event_of_game-below n None within some which = some
-event_of_game-below n (Some rules) within some which = event_in_game-below n rules within some which
+event_of_game-below n game within some which = search (rules, event_in_game-below)
 
 -- ---- where there is work in the game, the plan has an event
 
@@ -38,8 +37,7 @@ IsOfMode (works.Game which) = ⊥
 IsOfMode _ = Unit {0}
 
 mode_or : (n : ℕ) (o : Option ModeEvent) (rest : Work) → IsOfMode rest → IsOfMode (work_or n o rest)
-mode_or n None rest h = h
-mode_or n (Some which) rest h = tt
+mode_or n o rest h = search rules
 
 of_mode : (n : ℕ) (modes : List PlanMode) (e : EventId) → IsOfMode (work_from n modes e)
 of_mode n [] e = tt
@@ -51,31 +49,23 @@ IsSomeEvent n (works.Game which) = 0 < n
 IsSomeEvent n _ = Unit {0}
 
 some_event-or : (n : ℕ) (w v : Work) → IsOfMode w → IsSomeEvent n v → IsSomeEvent n (or_work w v)
-some_event-or n works.Nothing v h some = some
-some_event-or n (works.Mode m which) v h some = tt
-some_event-or n (works.Game which) v h some = absurd h
+some_event-or n w v h some = search rules
 
 some_event-in : (n : ℕ) (o : Option GameEvent) → 0 < n → IsSomeEvent n (work_in_game o)
-some_event-in n None some = tt
-some_event-in n (Some which) some = some
+some_event-in n o some = search rules
 
 some_event-among : (n : ℕ) (events : List EventId) (e : EventId) → All (IsEventWithin n) events → IsSomeEvent n (work_in_game (placed_in_game (position (λ f. f.0 == e.0) events)))
-some_event-among n [] e within = tt
-some_event-among n (f ∷ fs) e within =
-    some_event-in n (placed_in_game (position (λ g. g.0 == e.0) (f ∷ fs))) (omega (arith, All-head (IsEventWithin n) f fs within))
+some_event-among n events e within = search rules
 
 some_event-game : (n : ℕ) (game : Option GameRules) (e : EventId) → IfSome game (IsGameWithin n) → IsSomeEvent n (game_work game e)
-some_event-game n None e within = tt
-some_event-game n (Some rules) e within = some_event-among n rules.events e within.within
+some_event-game n game e within = search rules
 
 module _ (plan : PlanView) (valid : HasEntries plan) where
   pub game_event-below : 0 < length plan.events → (which : GameEvent) → (game_event plan which).0 < length plan.events
   game_event-below some which = event_of_game-below (length plan.events) plan.game valid.game some which
 
   pub game_has-event : (e : EventId) (which : GameEvent) → work_of plan e ≡ works.Game which → 0 < length plan.events
-  game_has-event e which is =
-      let some = some_event-or (length plan.events) (work_from 0 plan.modes e) (game_work plan.game e) (of_mode 0 plan.modes e) (some_event-game (length plan.events) plan.game e valid.game) in
-      rw is at some
+  game_has-event e which is = search (rules, some_event-or, of_mode, some_event-game)
 
 -- ---- what an event of the game can post
 
@@ -84,8 +74,7 @@ abbrev are_few : List (List GameEvent) → Bool
 are_few ways = list_all (λ posts. nat_le (length posts) 2) ways
 
 choices_are_few : (which : GameEvent) → are_few (choices which) ≡ true
-choices_are_few SwStart = refl
-choices_are_few _ = refl
+choices_are_few which = search rules
 
 -- the ways as they are given: by none does it post more than two events
 pub choice-few : {X : Type 0} (items : X → List GameEvent) (which : GameEvent) (ways : List X) (i : ℕ) (d : X) → map items ways ≡ choices which → i < length ways → length (items (get_or ways i d)) ≤ 2

@@ -1,5 +1,5 @@
 -- The whole order has exactly the grounded events, and each can be weighed after those before it.
-use Rattle.std.proofs.Common.{◌≡◌, ℕ, zero, suc, ◌+◌, ◌-◌, ◌<◌, ◌≤◌, min, Bool, true, false, not, ◌||◌, ◌==◌, nat_le, List, [], length, take, set, refl, sym, ◌∙◌, ap, subst, inl, inr, arith, take_all, get_or-set_same, get_or-set_other}
+use Rattle.std.proofs.Common.{rules, ◌≡◌, ℕ, zero, suc, ◌+◌, ◌-◌, ◌<◌, ◌≤◌, min, Bool, true, false, not, ◌||◌, ◌==◌, nat_le, List, [], length, take, set, refl, sym, ◌∙◌, ap, subst, inl, inr, arith, take_all, get_or-set_same, get_or-set_other}
 use Rattle.std.specs.List.{list_all}
 use Rattle.std.proofs.lemmas.Bool.{cases_eq, cases_Bool, or_cases, eqb-true, eq-eqb, leb-true, le-leb, and_left, and_parts, false≢true}
 use Rattle.std.proofs.lemmas.List.{ext_get_or, length-map, get_or-map}
@@ -22,9 +22,7 @@ use Rattle.cascade_rank.proofs.Ranking.{grounded-more, grounded-later, rank-stab
 use Rattle.cascade_rank.proofs.Ordering.{is_in-more}
 
 same_bool : (a b : Bool) → (a ≡ true → b ≡ true) → (b ≡ true → a ≡ true) → a ≡ b
-same_bool true b h k = sym (h refl)
-same_bool false true h k = k refl
-same_bool false false h k = refl
+same_bool a b h k = search rules
 
 module _ (plan : PlanView) (order : List EventId) (grounds : EachAfter (λ before e. all_mentioned (is_in before) (cost_of_event plan e) ≡ true) order) where
   -- the first k of the order are grounded after k rounds
@@ -52,11 +50,7 @@ module _ (plan : PlanView) (valid : HasEntries plan) (left : List ℕ) (order : 
 
   -- an event that leads only to events of the order is in it
   closed : (e : EventId) → e.0 < length plan.events → all_mentioned (is_in order) (cost_of_event plan e) ≡ true → is_in order e ≡ true
-  closed e l h =
-      let whole = ap (λ (ds : List EventId). unmet (is_in ds) (cost_of_event plan e)) (take_all (length order) order (omega arith)) in
-      let none = eqb-true (unmet (is_in order) (cost_of_event plan e)) 0 (sym (unmet-none (is_in order) (cost_of_event plan e)) ∙ h) in
-      let is = o.left_is e l in
-      o.listed e l ∙ eq-eqb (left_of left e) 0 (omega (arith, whole, none, is))
+  closed e l h = search (rules, take_all, eqb-true, unmet-none, eq-eqb)
 
   grounded-order : (k : ℕ) (e : EventId) → e.0 < length plan.events → grounded_in plan k e ≡ true → is_in order e ≡ true
   grounded-order zero e l h = absurd (false≢true h)
@@ -145,12 +139,7 @@ module _ (plan : PlanView) (weights : List ℕ) (are : AreRanks plan weights) wh
       le-leb (weight_of weights (event n)) greatest (omega (arith, low, rank_at plan (event n) below, are.each (event n) below))))
 
   pub limit_same : is_within_limit plan weights ≡ is_within_limit plan (ranks plan)
-  limit_same = elim (cases_Bool (list_all (λ w. nat_le w greatest) weights)) [
-    | inl holds ↦ ap (is_within_limit plan) (all_small holds)
-    | inr fails ↦
-        and_left (list_all (λ w. nat_le w greatest) weights) (nat_le (bound_of plan (weight_of weights)) greatest) fails
-        ∙ sym (and_left (list_all (λ w. nat_le w greatest) (ranks plan)) (nat_le (bound_of plan (weight_of (ranks plan))) greatest) (same_bool (list_all (λ w. nat_le w greatest) (ranks plan)) false (λ h. sym fails ∙ ranks_small h) (λ h. absurd (false≢true h))))
-  ]
+  limit_same = search (rules, cases_Bool, nat_le, all_small, and_left, same_bool, ranks_small)
 
   pub limit_ranks : is_within_limit plan weights ≡ true → weights ≡ ranks plan
   limit_ranks h = all_small (and_parts (list_all (λ w. nat_le w greatest) weights) (nat_le (bound_of plan (weight_of weights)) greatest) h).0

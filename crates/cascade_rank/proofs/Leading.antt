@@ -1,5 +1,5 @@
 -- Events are noted as leading to what they post: one post, all posts of an event, all events.
-use Rattle.std.proofs.Common.{◌≡◌, ◌≢◌, ℕ, zero, suc, ◌+◌, ◌<◌, Bool, true, false, cond, ◌==◌, nat_lt, List, [], ◌∷◌, ◌++◌, length, take, drop, take_at, set, replicate, get_or, refl, sym, ◌∙◌, ap, subst, inl, inr, arith, length-set, get_or-set_same, get_or-set_other}
+use Rattle.std.proofs.Common.{rules, ◌≡◌, ◌≢◌, ℕ, zero, suc, ◌+◌, ◌<◌, Bool, true, false, cond, ◌==◌, nat_lt, List, [], ◌∷◌, ◌++◌, length, take, drop, take_at, set, replicate, get_or, refl, sym, ◌∙◌, ap, subst, inl, inr, arith, length-set, get_or-set_same, get_or-set_other}
 use Rattle.std.proofs.lemmas.Bool.{cases_lt, cases_eq, eq-eqb, ne_eqb, lt-ltb, le-ltb}
 use Rattle.std.proofs.lemmas.List.{get_or-replicate, length-replicate, get_or_append_left, get_or_push, length_push, get_or_read}
 use Rattle.std.proofs.lemmas.List.Sums.{sum_by_push}
@@ -27,18 +27,10 @@ occurrences-each_more e f (x ∷ xs) (suc i) d h =
 -- ---- what one event leads to
 
 split_sum : (b : Bool) (x y z : ℕ) → z ≡ x + y → cond b z 0 ≡ cond b x 0 + cond b y 0
-split_sum true x y z h = h
-split_sum false x y z h = refl
+split_sum b x y z h = search rules
 
 pub adds-none : (leader : EventId) (c : Cost) (old : List (List EventId)) → ((f : EventId) → occurrences f c ≡ 0) → AddsLeader leader c old old
-adds-none leader c old none = record {
-  count = refl;
-  more = λ f e l. let nothing = by (leader.0 == e.0) (occurrences f c) (none f) in omega (arith, nothing);
-}
-  where
-    by : (b : Bool) (n : ℕ) → n ≡ 0 → cond b n 0 ≡ 0
-    by true n h = h
-    by false n h = refl
+adds-none leader c old none = search rules
 
 pub adds-both : (leader : EventId) (a b c : Cost) (old mid new : List (List EventId)) → ((f : EventId) → occurrences f c ≡ occurrences f a + occurrences f b) → AddsLeader leader a old mid → AddsLeader leader b mid new → AddsLeader leader c old new
 adds-both leader a b c old mid new sums first then = record {
@@ -56,35 +48,11 @@ adds-more leader cost xs i d old mid new l first then =
     adds-both leader (each_of cost (take i xs)) (cost (get_or xs i d)) (each_of cost (take (i + 1) xs)) old mid new (λ f. occurrences-each_more f cost xs i d l) first then
 
 pub adds-one : (leader f : EventId) (old : List (List EventId)) → f.0 < length old → AddsLeader leader (Weight f) old (set old f.0 (leaders_to old f ++ leader ∷ []))
-adds-one leader f old l = record {
-  count = length-set old f.0 (leaders_to old f ++ leader ∷ []);
-  more = λ g e k. elim (cases_eq g.0 f.0) [
-    | inl same ↦
-        let here = ap (λ (ds : List EventId). times ds e) (ap (λ (h : EventId). leaders_to (set old f.0 (leaders_to old f ++ leader ∷ [])) h) (same_event g f same) ∙ get_or-set_same old f.0 (leaders_to old f ++ leader ∷ []) [] l) in
-        let push = sum_by_push (λ d. cond (d.0 == e.0) 1 0) (leaders_to old f) leader in
-        let was = ap (λ (h : EventId). times (leaders_to old h) e) (same_event g f same) in
-        let one = by (leader.0 == e.0) (g.0 == f.0) (eq-eqb g.0 f.0 same) in
-        omega (arith, here, push, was, one)
-    | inr other ↦
-        let here = ap (λ (ds : List EventId). times ds e) (get_or-set_other old f.0 g.0 (leaders_to old f ++ leader ∷ []) [] other) in
-        let nothing = by_not (leader.0 == e.0) (g.0 == f.0) (ne_eqb g.0 f.0 other) in
-        omega (arith, here, nothing)
-  ];
-}
-  where
-    by : (b c : Bool) → c ≡ true → cond b (counted c) 0 ≡ counted b
-    by b c h = ap (λ (x : Bool). cond b (counted x) 0) h
-
-    by_not : (b c : Bool) → c ≡ false → cond b (counted c) 0 ≡ 0
-    by_not true c h = ap counted h
-    by_not false c h = refl
+adds-one leader f old l = search (rules, length-set, cases_eq, same_event, get_or-set_same, sum_by_push, eq-eqb, get_or-set_other, ne_eqb)
 
 -- an event leads to what it posts as it does to what it costs
 pub adds-posts : (leader : EventId) (c : Cost) (old new : List (List EventId)) → AddsLeader leader (each_of cost_of_post (weights_in c)) old new → AddsLeader leader c old new
-adds-posts leader c old new adds = record {
-  count = adds.count;
-  more = λ f e l. adds.more f e l ∙ ap (λ (n : ℕ). times (leaders_to old f) e + cond (leader.0 == e.0) n 0) (occurrences-posts f c);
-}
+adds-posts leader c old new adds = search (rules, occurrences-posts)
 
 -- ---- all events
 
@@ -126,16 +94,7 @@ leaders_more plan n posts leaders new left has posted is = let adds = adds-posts
 
 pub meeting_starts : (plan : PlanView) (taken : ℕ) (leaders : List EventId) (left counts : List ℕ) (order : List EventId) (lists : List (List EventId)) (f : EventId) → HasLeaders plan (length plan.events) lists counts →
     IsOrdering plan taken [] left order → taken < length order → f ≡ get_or order taken f → leaders ≡ leaders_to lists f → IsMeeting plan taken leaders [] left order
-meeting_starts plan taken leaders left counts order lists f has o turn f_is leaders_are =
-    let here : nth_event order taken ≡ f = sym (get_or_read order taken f turn f_is no_event) in
-    let below : f.0 < length plan.events = subst (λ (d : EventId). d.0 < length plan.events) here (o.below taken turn) in
-    record {
-      turn = turn;
-      leaders_are = λ e.
-          ap (λ (ds : List EventId). times ds e) leaders_are ∙ has.leads f e below
-          ∙ ap (λ (d : EventId). cond (nat_lt e.0 (length plan.events)) (occurrences d (cost_of_event plan e)) 0) (sym here);
-      ordering = o;
-    }
+meeting_starts plan taken leaders left counts order lists f has o turn f_is leaders_are = search (rules, get_or_read, nat_lt)
 
 -- a slice that is written back into the whole list
 pub written_back : {X : Type 0} (n : ℕ) (new old : List X) → n ≡ length old → length new ≡ length old → take n (new ++ drop (length new) old) ≡ new

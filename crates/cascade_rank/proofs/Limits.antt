@@ -1,5 +1,5 @@
 -- How many events, bindings, rows and actions of a list a valid plan has at most, and sums of so many prices.
-use Rattle.std.proofs.Common.{◌≡◌, ℕ, ◌+◌, ◌*◌, ◌<◌, ◌≤◌, List, [], length, sym, subst, arith}
+use Rattle.std.proofs.Common.{rules, ◌≡◌, ℕ, ◌+◌, ◌*◌, ◌<◌, ◌≤◌, List, [], length, sym, subst, arith}
 use Rattle.std.proofs.Math.Nat.{add-mul, mul-le-mul_right, one-mul}
 use Rattle.std.proofs.lemmas.List.Elements.{All-get_or}
 use Rattle.plan_tables.specs.PlanView.{PlanView, actions_at}
@@ -17,8 +17,7 @@ pub rows-few : (plan : PlanView) → IsValid plan → length plan.rows ≤ 1024
 rows-few plan valid = valid.row_limit
 
 pub actions-few : (plan : PlanView) → IsValid plan → (l : ListId) (actions : List Action) → l.0 < length plan.lists → actions ≡ actions_at plan l → length actions ≤ 1024
-actions-few plan valid l actions within is =
-    subst (λ (listed : List Action). length listed ≤ 1024) (sym is) (All-get_or (λ (listed : List Action). length listed ≤ 1024) plan.lists l.0 [] within valid.action_limit)
+actions-few plan valid l actions within is = search rules
 
 -- ---- sums of numbers, each of which is at most k
 

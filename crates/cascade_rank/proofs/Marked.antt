@@ -1,5 +1,5 @@
 -- Marks of coils, action by action.
-use Rattle.std.proofs.Common.{◌≡◌, ℕ, ◌+◌, ◌<◌, ◌≤◌, Bool, true, false, if◌then◌else◌, cond, replicate, length-append, List, [], ◌∷◌, ◌++◌, length, map, take, get_or, refl, sym, ap, ◌∙◌, subst, arith}
+use Rattle.std.proofs.Common.{rules, ◌≡◌, ℕ, ◌+◌, ◌<◌, ◌≤◌, Bool, true, false, if◌then◌else◌, cond, replicate, length-append, List, [], ◌∷◌, ◌++◌, length, map, take, get_or, refl, sym, ap, ◌∙◌, subst, arith}
 use Rattle.std.specs.Prelude.{◌||◌}
 use Rattle.std.specs.List.{All, flat_map, list_any, filter, range_with_len}
 use Rattle.std.proofs.lemmas.Grind.{flat_map-append}
@@ -22,19 +22,11 @@ use Rattle.plan_tables.specs.declared.entries.Owner.{Owner}
 use Rattle.cascade_rank.specs.Marks.{mark_of, numbered, IsCoilMarked, AreMarked}
 
 or-regroup : (a b c : Bool) → ((a || b) || c) ≡ (a || (b || c))
-or-regroup true b c = refl
-or-regroup false b c = refl
+or-regroup a b c = search rules
 
 -- some actions, and then others
 pub marked-then : (old mid new : List Bool) (first later : List Action) → AreMarked old first mid → AreMarked mid later new → AreMarked old (first ++ later) new
-marked-then old mid new first later h k = record {
-  count = k.count ∙ h.count;
-  marks = λ coil l.
-      k.marks coil (omega (arith, l, h.count))
-      ∙ ap (λ b. b || list_any (is_enable_of coil) later) (h.marks coil l)
-      ∙ or-regroup (mark_of old coil) (list_any (is_enable_of coil) first) (list_any (is_enable_of coil) later)
-      ∙ ap (λ b. mark_of old coil || b) (sym (list_any-append (is_enable_of coil) first later));
-}
+marked-then old mid new first later h k = search (rules, or-regroup, list_any-append)
 
 -- one more of the things that have actions
 pub marked-more : {X : Type 0} (f : X → List Action) (xs : List X) (n : ℕ) (d : X) (old mid new : List Bool) → n < length xs
@@ -88,9 +80,7 @@ filter-among p q (x ∷ xs) all =
     ∙ ap (λ (rest : List _). cond (q x) (x ∷ rest) rest) (filter-among p q xs (All-tail (λ y. p y ≡ q y) x xs all))
 
 pub numbered-within : (count : ℕ) → All (λ c. c.0 < count) (numbered count)
-numbered-within count k d there =
-    let inside : k < count = omega (arith, there, length-map-range_with_len {X = CoilId} (λ n. record { 0 = n }) 0 count) in
-    subst (λ (c : CoilId). c.0 < count) (sym (get_or-map-range_with_len {X = CoilId} (λ n. record { 0 = n }) 0 count k k d inside (omega arith))) inside
+numbered-within count k d there = search (rules, length-map-range_with_len, get_or-map-range_with_len)
 
 -- one more number, which is marked or not
 pub count-more : (marks : List Bool) (n : ℕ) (b : Bool) → mark_of marks (record { 0 = n }) ≡ b

@@ -1,5 +1,5 @@
 -- Which events are in a cost, and how often.
-use Rattle.std.proofs.Common.{◌≡◌, ℕ, ◌+◌, ◌≤◌, min, Bool, true, false, cond, ◌||◌, eqb, ◌==◌, refl, sym, subst, inl, inr, arith}
+use Rattle.std.proofs.Common.{rules, ◌≡◌, ℕ, ◌+◌, ◌≤◌, min, Bool, true, false, cond, ◌||◌, eqb, ◌==◌, refl, sym, subst, inl, inr, arith}
 use Rattle.std.proofs.lemmas.Bool.{and_parts, and_cases, or_left, or_right, or_cases, eq-eqb, false≢true}
 use Rattle.std.proofs.lemmas.Bool.Decides.{nat_tests}
 use Rattle.plan_tables.specs.declared.entries.EventId.{EventId}
@@ -64,21 +64,14 @@ price-capped cap w (Greater a b) = omega (arith, price-capped cap w a, price-cap
 -- all are met exactly where none is unmet
 pub unmet-none : (p : EventId → Bool) (c : Cost) → all_mentioned p c ≡ (unmet p c == 0)
 unmet-none p (Lines n) = refl
-unmet-none p (Weight e) = by (p e)
-  where
-    by : (b : Bool) → b ≡ eqb (cond b 0 1) 0
-    by true = refl
-    by false = refl
+unmet-none p (Weight e) = search rules
 unmet-none p (Both a b) = grind (arith, nat_tests, unmet-none p a, unmet-none p b)
 unmet-none p (Greater a b) = grind (arith, nat_tests, unmet-none p a, unmet-none p b)
 
 -- where one event more is met, its occurrences are no longer unmet
 module _ (p q : EventId → Bool) (f : EventId) (fresh : p f ≡ false) (more : (e : EventId) → q e ≡ (p e || f.0 == e.0)) where
   one : (x y z : Bool) → y ≡ (x || z) → (z ≡ true → x ≡ false) → cond x 0 1 ≡ cond y 0 1 + cond z 1 0
-  one true y true h k = absurd (false≢true (sym (k refl)))
-  one true y false h k = rw h refl
-  one false y true h k = rw h refl
-  one false y false h k = rw h refl
+  one x y z h k = search rules
 
   pub unmet_met : (c : Cost) → unmet p c ≡ unmet q c + occurrences f c
   unmet_met (Lines n) = refl

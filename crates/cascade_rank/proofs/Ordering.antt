@@ -1,5 +1,5 @@
 -- The order grows: one of those that lead to its next event is gone through, then all of them, then the one after.
-use Rattle.std.proofs.Common.{◌≡◌, ◌≢◌, ℕ, zero, suc, ◌+◌, ◌-◌, ◌<◌, ◌≤◌, Bool, true, false, cond, ◌||◌, eqb, ◌==◌, nat_lt, List, [], ◌∷◌, ◌++◌, length, take, set, get_or, count_by, refl, sym, ◌∙◌, ap, subst, inl, inr, arith, length-set, take_all, take_at, get_or-set_same, get_or-set_other}
+use Rattle.std.proofs.Common.{rules, ◌≡◌, ◌≢◌, ℕ, zero, suc, ◌+◌, ◌-◌, ◌<◌, ◌≤◌, Bool, true, false, cond, ◌||◌, eqb, ◌==◌, nat_lt, List, [], ◌∷◌, ◌++◌, length, take, set, get_or, count_by, refl, sym, ◌∙◌, ap, subst, inl, inr, arith, length-set, take_all, take_at, get_or-set_same, get_or-set_other}
 use Rattle.std.proofs.lemmas.Bool.{cases_lt, cases_eq, eq-eqb, ne_eqb, lt-ltb, le-ltb, or_right, or_from, false≢true}
 use Rattle.std.proofs.lemmas.List.{take-append-le, get_or_append_left, get_or_push, length_push}
 use Rattle.std.proofs.lemmas.List.Sums.{count_by_more_yes, count_by_more_no, sum_by-take-le, sum_by-set}
@@ -28,8 +28,7 @@ each_push P xs x h last i l = elim (cases_lt i (length xs)) [
 ]
 
 or_false : (b : Bool) → (b || false) ≡ b
-or_false true = refl
-or_false false = refl
+or_false b = search rules
 
 pub is_in-push : (xs : List EventId) (x e : EventId) → is_in (xs ++ x ∷ []) e ≡ (is_in xs e || x.0 == e.0)
 is_in-push xs x e = list_any-append (λ d. d.0 == e.0) xs (x ∷ []) ∙ ap (λ (b : Bool). is_in xs e || b) (or_false (x.0 == e.0))
@@ -62,15 +61,7 @@ pub record IsStart (plan : PlanView) (left : List ℕ) (count : ℕ) (order : Li
 module _ (plan : PlanView) (left : List ℕ) (length_is : length left ≡ length plan.events)
     (left_is : CountsPosts plan left) where
   pub start_none : IsStart plan left 0 []
-  start_none = record {
-    within = omega arith;
-    below = λ i l. absurd (omega (arith, l));
-    apart = λ i l. absurd (omega (arith, l));
-    grounds = λ i l. absurd (omega (arith, l));
-    listed = λ e l. absurd (omega (arith, l));
-    above = λ e l. refl;
-    room = refl;
-  }
+  start_none = search rules
 
   module _ (order : List EventId) (x : EventId) (s : IsStart plan left x.0 order) (here : x.0 < length plan.events) where
     inside : x.0 < length left
@@ -91,18 +82,7 @@ module _ (plan : PlanView) (left : List ℕ) (length_is : length left ≡ length
     }
 
     pub start_skip : 0 < left_of left x → IsStart plan left (x.0 + 1) order
-    start_skip some = record {
-      within = omega (arith, here);
-      below = s.below;
-      apart = s.apart;
-      grounds = s.grounds;
-      listed = λ e l. elim (cases_eq e.0 x.0) [
-        | inl same ↦ ap (is_in order) (same_event e x same) ∙ s.above x (omega arith) ∙ sym (ne_eqb (left_of left e) 0 (λ z. omega (arith, some, sym (ap (left_of left) (same_event e x same)) ∙ z)))
-        | inr other ↦ s.listed e (omega (arith, l, other))
-      ];
-      above = λ e l. s.above e (omega (arith, l));
-      room = omega (arith, s.room, count_by_more_yes (λ n. nat_lt 0 n) left x.0 0 inside (lt-ltb 0 (left_of left x) some));
-    }
+    start_skip some = search (rules, here, cases_eq, same_event, ne_eqb, count_by_more_yes, nat_lt, inside, lt-ltb)
 
 -- ---- the next event of the order is gone through
 
@@ -135,9 +115,7 @@ module _ (plan : PlanView) (taken : ℕ) (order : List EventId) (leaders : List 
 
     -- something is left of it, since it leads to an event that is not gone through
     pub some_left : 0 < left_of left x
-    some_left =
-        let still = occurrences-unmet (is_in (take taken order)) (nth_event order taken) (cost_of_event plan x) (o.apart taken turn) in
-        omega (arith, still, o.left_is x below, one_more, no_more_than)
+    some_left = search (rules, occurrences-unmet, one_more, no_more_than)
 
     less : List ℕ
     less = set left x.0 (left_of left x - 1)
@@ -155,10 +133,7 @@ module _ (plan : PlanView) (taken : ℕ) (order : List EventId) (leaders : List 
     ]
 
     count_less : count_by (λ n. nat_lt 0 n) (set left x.0 (left_of left x - 1)) + 1 ≡ count_by (λ n. nat_lt 0 n) left + cond (nat_lt 0 (left_of left x - 1)) 1 0
-    count_less =
-        let total = sum_by-set (λ n. cond (nat_lt 0 n) 1 0) left x.0 (left_of left x - 1) 0 inside_left in
-        let was = counted_one (nat_lt 0 (left_of left x)) (lt-ltb 0 (left_of left x) some_left) in
-        omega (arith, total, was)
+    count_less = search (rules, sum_by-set, nat_lt, inside_left, counted_one, lt-ltb, some_left)
 
     not_listed : is_in order x ≡ false
     not_listed = o.listed x below ∙ ne_eqb (left_of left x) 0 (λ z. omega (arith, z, some_left))
@@ -221,16 +196,7 @@ module _ (plan : PlanView) (taken : ℕ) (order : List EventId) (leaders : List 
 
   -- all of them are gone through
   pub next_turn : (left : List ℕ) → IsOrdering plan taken leaders left order → IsOrdering plan (taken + 1) [] left order
-  next_turn left o = record {
-    length_is = o.length_is;
-    within = omega (arith, turn);
-    below = o.below;
-    apart = o.apart;
-    grounds = o.grounds;
-    left_is = λ e l. omega (arith, o.left_is e l, unmet_then left o.apart (cost_of_event plan e), leaders_are e l);
-    listed = o.listed;
-    room = o.room;
-  }
+  next_turn left o = search (rules, unmet_then)
 
 -- ---- the same, of those that lead to the next event from the first
 
@@ -263,11 +229,7 @@ module _ (plan : PlanView) (taken : ℕ) (leaders : List EventId) where
     meets_inside = omega (arith, here, m.ordering.length_is)
 
     pub meets_keeps : left_of left x - 1 ≢ 0 → IsMeeting plan taken leaders (take (i + 1) leaders) (set left x.0 (left_of left x - 1)) order
-    meets_keeps more = record {
-      turn = m.turn;
-      leaders_are = m.leaders_are;
-      ordering = keeps plan taken order leaders m.turn (leaders_of order m.leaders_are) left i x there x_is here m.ordering more;
-    }
+    meets_keeps more = search (rules, keeps, leaders_of, here)
 
     pub meets_lists : left_of left x - 1 ≡ 0 → IsMeeting plan taken leaders (take (i + 1) leaders) (set left x.0 (left_of left x - 1)) (order ++ x ∷ [])
     meets_lists none =

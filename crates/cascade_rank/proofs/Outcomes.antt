@@ -1,5 +1,5 @@
 -- What a call of a device can answer, answer by answer.
-use Rattle.std.proofs.Common.{◌≡◌, ℕ, ◌<◌, ◌≤◌, List, [], ◌∷◌, length, map, take, get_or, refl, sym, ap, ◌∙◌, subst, arith, take_all}
+use Rattle.std.proofs.Common.{rules, ◌≡◌, ℕ, ◌<◌, ◌≤◌, List, [], ◌∷◌, length, map, take, get_or, refl, sym, ap, ◌∙◌, subst, arith, take_all}
 use Rattle.std.specs.List.{All}
 use Rattle.std.proofs.lemmas.List.{length-map, get_or-map}
 use Rattle.std.proofs.lemmas.List.Elements.{All-get_or}
@@ -36,8 +36,7 @@ module _ {X : Type 0} (items : X → List ℕ) (plan : PlanView) (r : RowId) (ca
 
     -- once all answers are gone through
     pub price-answers_all : (w : EventId → ℕ) (i dearest : ℕ) → length answers ≤ i → dearest ≡ price w (dearest_of (λ a. cost_of_answer_by plan tell r (items a)) (take i answers)) → dearest ≡ price w (cost_of_call_by plan tell r call)
-    price-answers_all w i dearest whole so_far =
-        so_far ∙ ap (λ (all : List X). price w (dearest_of (λ a. cost_of_answer_by plan tell r (items a)) all)) (take_all i answers whole) ∙ answers-price w
+    price-answers_all w i dearest whole so_far = search (rules, take_all, answers-price)
 
     pub answers-weights : weights_in (each_of (λ a. cost_of_answer_by plan tell r (items a)) answers) ≡ weights_in (cost_of_call_by plan tell r call)
     answers-weights =

@@ -1,5 +1,5 @@
 -- What is bound to an event costs as much as what is at its places.
-use Rattle.std.proofs.Common.{◌≡◌, ℕ, ◌+◌, ◌<◌, ◌≤◌, ◌==◌, List, [], ◌∷◌, length, map, take, get_or, Some, refl, sym, ap, ◌∙◌, subst, arith}
+use Rattle.std.proofs.Common.{rules, ◌≡◌, ℕ, ◌+◌, ◌<◌, ◌≤◌, ◌==◌, List, [], ◌∷◌, length, map, take, get_or, Some, refl, sym, ap, ◌∙◌, subst, arith}
 use Rattle.std.specs.List.{All, slice_get}
 use Rattle.std.proofs.lemmas.Option.{get_or_from_slice_get, slice_get_within}
 use Rattle.std.proofs.lemmas.List.{length-map, take_all}
@@ -20,8 +20,7 @@ each_of-map f g (x ∷ xs) = ap (Both (f (g x))) (each_of-map f g xs)
 
 -- a binding of a valid plan is within it
 pub binding-within : (plan : PlanView) → HasEntries plan → (n : ℕ) (b : Binding) → slice_get plan.bindings n ≡ Some b → IsBindingWithin plan b
-binding-within plan valid n b at =
-    subst (IsBindingWithin plan) (get_or_from_slice_get plan.bindings n b b at) (All-get_or (IsBindingWithin plan) plan.bindings n b (slice_get_within plan.bindings n b at) valid.bindings)
+binding-within plan valid n b at = search (rules, get_or_from_slice_get, All-get_or, slice_get_within)
 
 module _ (plan : PlanView) where
   -- what the binding at a place costs
@@ -48,8 +47,7 @@ module _ (plan : PlanView) where
   module _ (e : EventId) (places : List BindingId) (are : places ≡ places_of plan e) where
     -- each place is that of a binding
     pub place-within : (i : ℕ) → i < length places → (get_or places i (record { 0 = 0 })).0 < length plan.bindings
-    place-within i h =
-        All-get_or (λ p. p.0 < length plan.bindings) places i (record { 0 = 0 }) h (subst (λ (ps : List BindingId). All (λ p. p.0 < length plan.bindings) ps) (sym are) (places_of-within plan e))
+    place-within i h = search (rules, All-get_or, places_of-within)
 
     -- there are no more places than bindings
     pub places-few : length places ≤ length plan.bindings
@@ -62,6 +60,4 @@ module _ (plan : PlanView) where
 
     -- once all places are gone through
     pub price-places_all : (w : EventId → ℕ) (i total : ℕ) → length places ≤ i → total ≡ 1 + price w (each_of cost_at_place (take i places)) → total ≡ 1 + price w (each_of (cost_of_binding plan) (bound_to plan e))
-    price-places_all w i total whole so_far =
-        let each = ap (price w) (ap (each_of cost_at_place) (take_all i places whole) ∙ bound-places places e are) in
-        omega (arith, so_far, each)
+    price-places_all w i total whole so_far = search (rules, take_all, bound-places)

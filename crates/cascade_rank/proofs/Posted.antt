@@ -1,5 +1,5 @@
 -- The events whose weights are in a cost, listed part by part.
-use Rattle.std.proofs.Common.{◌≡◌, ℕ, zero, suc, ◌+◌, ◌<◌, ◌≤◌, false, List, [], ◌∷◌, ◌++◌, length, take, get_or, refl, sym, ap, ◌∙◌, arith, length-append, take_all}
+use Rattle.std.proofs.Common.{rules, ◌≡◌, ℕ, zero, suc, ◌+◌, ◌<◌, ◌≤◌, false, List, [], ◌∷◌, ◌++◌, length, take, get_or, refl, sym, ap, ◌∙◌, arith, length-append, take_all}
 use Rattle.std.proofs.lemmas.List.{append_assoc, append-nil}
 use Rattle.plan_tables.specs.declared.entries.EventId.{EventId}
 use Rattle.plan_tables.specs.declared.entries.ModeEvent.TheVariants.{WillStart, Starting, Started, Stopping, Stopped}
@@ -23,10 +23,7 @@ weights-each_more f (x ∷ xs) (suc i) d h =
 -- the weights of the first of a list are added to others, then those of one more
 pub pushes-more : {X : Type 0} (f : X → Cost) (xs : List X) (i : ℕ) (d : X) (old posts new : List EventId) → i < length xs →
     posts ≡ old ++ weights_in (each_of f (take i xs)) → new ≡ posts ++ weights_in (f (get_or xs i d)) → new ≡ old ++ weights_in (each_of f (take (i + 1) xs))
-pushes-more f xs i d old posts new l first then =
-    then ∙ ap (λ (es : List EventId). es ++ weights_in (f (get_or xs i d))) first
-    ∙ append_assoc old (weights_in (each_of f (take i xs))) (weights_in (f (get_or xs i d)))
-    ∙ ap (λ (es : List EventId). old ++ es) (sym (weights-each_more f xs i d l))
+pushes-more f xs i d old posts new l first then = search (rules, get_or, append_assoc, weights-each_more)
 
 -- the same weights, of what is the same
 pub pushes-same : {X : Type 0} (f : X → Cost) (x y : X) (old new : List EventId) → x ≡ y → new ≡ old ++ weights_in (f x) → new ≡ old ++ weights_in (f y)
@@ -46,28 +43,15 @@ weights-dearest f (x ∷ xs) = ap (λ (es : List EventId). weights_in (f x) ++ e
 
 -- no event's weight is in what a mode releases
 releases-none : (plan : PlanView) (w : Work) → weights_in (cost_of_releases plan w) ≡ []
-releases-none plan works.Nothing = refl
-releases-none plan (works.Mode m WillStart) = refl
-releases-none plan (works.Mode m Starting) = refl
-releases-none plan (works.Mode m Started) = refl
-releases-none plan (works.Mode m Stopping) = refl
-releases-none plan (works.Mode m Stopped) = refl
-releases-none plan (works.Game which) = refl
+releases-none plan w = search rules
 
 -- one part after the other, and one in between that has none
 one_after_another : (old s r l g started led new : List EventId) → r ≡ [] → started ≡ old ++ s → led ≡ started ++ l → new ≡ led ++ g → new ≡ old ++ (s ++ (r ++ (l ++ g)))
-one_after_another old s r l g started led new none h1 h2 h3 =
-    h3 ∙ ap (λ (es : List EventId). es ++ g) (h2 ∙ ap (λ (es : List EventId). es ++ l) h1)
-    ∙ append_assoc (old ++ s) l g
-    ∙ append_assoc old s (l ++ g)
-    ∙ sym (ap (λ (es : List EventId). old ++ (s ++ (es ++ (l ++ g)))) none)
+one_after_another old s r l g started led new none h1 h2 h3 = search (rules, append_assoc)
 
 pub pushes_work : (plan : PlanView) (e : EventId) (old started led new : List EventId) → started ≡ old ++ weights_in (cost_of_starts plan (work_of plan e))
     → led ≡ started ++ weights_in (cost_if_led (led_by plan (work_of plan e))) → new ≡ led ++ weights_in (cost_of_game plan (work_of plan e)) → new ≡ old ++ weights_in (cost_of_work plan e)
-pushes_work plan e old started led new h1 h2 h3 =
-    let w = work_of plan e in
-    one_after_another old (weights_in (cost_of_starts plan w)) (weights_in (cost_of_releases plan w)) (weights_in (cost_if_led (led_by plan w))) (weights_in (cost_of_game plan w)) started led new
-    (releases-none plan w) h1 h2 h3
+pushes_work plan e old started led new h1 h2 h3 = search (rules, one_after_another, releases-none)
 
 -- ---- how often an event is there
 

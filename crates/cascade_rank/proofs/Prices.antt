@@ -17,8 +17,7 @@ price_at_most w v (Greater a b) h =
 
 -- weights that agree on the mentioned events give the same price
 pub price_agrees : (w v : EventId → ℕ) (c : Cost) → ((e : EventId) → mentions e c ≡ true → w e ≡ v e) → price w c ≡ price v c
-price_agrees w v c h =
-    omega (arith, price_at_most w v c (λ e m. omega (arith, h e m)), price_at_most v w c (λ e m. omega (arith, h e m)))
+price_agrees w v c h = search (rules, price_at_most)
 
 -- a mentioned event weighs no more than the whole costs
 pub price-mentioned : (w : EventId → ℕ) (c : Cost) (e : EventId) → mentions e c ≡ true → w e ≤ price w c

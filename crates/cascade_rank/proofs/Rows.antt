@@ -1,5 +1,5 @@
 -- The rows of a plan's devices, by number.
-use Rattle.std.proofs.Common.{◌≡◌, ℕ, ◌<◌, ◌≤◌, Bool, length, get_or, sym, subst, arith}
+use Rattle.std.proofs.Common.{rules, ◌≡◌, ℕ, ◌<◌, ◌≤◌, Bool, length, get_or, sym, subst, arith}
 use Rattle.std.specs.List.{All}
 use Rattle.std.proofs.lemmas.List.Elements.{All-from_get_or}
 use Rattle.std.proofs.lemmas.List.FromFn.{length-map-range_with_len, get_or-map-range_with_len}
@@ -17,13 +17,8 @@ module _ (plan : PlanView) where
 
   -- each number is that of a row
   pub rows-within : All (λ r. r.0 < length plan.rows) (row_numbers plan)
-  rows-within =
-      All-from_get_or (λ r. r.0 < length plan.rows) (row_numbers plan) (record { 0 = 0 }) (λ n l.
-      let inside : n < length plan.rows = omega (arith, l, length-rows) in
-      subst (λ (r : RowId). r.0 < length plan.rows) (sym (row_of n (record { 0 = 0 }) inside)) inside)
+  rows-within = search (rules, All-from_get_or, length-rows, row_of)
 
   -- an owner has no more rows than there are
   pub rows_of-few : (owner : Owner) → length (rows_of plan owner) ≤ length plan.rows
-  rows_of-few owner =
-      let own : RowId → Bool = λ r. is_owner owner (row_at plan r).owner in
-      omega (arith, length-filter own (row_numbers plan), count_by-le-length own (row_numbers plan), length-rows)
+  rows_of-few owner = search (rules, length-filter, count_by-le-length, length-rows)

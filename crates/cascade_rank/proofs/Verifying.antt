@@ -1,5 +1,5 @@
 -- Weights that are verified or refused, case by case.
-use Rattle.std.proofs.Common.{◌≡◌, ◌≢◌, ℕ, ◌<◌, ◌≤◌, true, false, nat_le, ◌==◌, List, length, Option, Some, None, IfSome, IfNone, ok_or, Result, Ok, Err, refl, ap, ◌∙◌, subst}
+use Rattle.std.proofs.Common.{arith, rules, ◌≡◌, ◌≢◌, ℕ, ◌<◌, ◌≤◌, true, false, nat_le, ◌==◌, List, length, Option, Some, None, IfSome, IfNone, ok_or, Result, Ok, Err, refl, ap, ◌∙◌, subst}
 use Rattle.std.specs.List.{All, list_all}
 use Rattle.std.proofs.lemmas.Bool.{cond-true, cond-false, cond_both, eq-eqb, ne_eqb, eqb-true, eqb-false, lt-ltb, le-ltb, ltb-true, ltb-false, le-leb, leb-true, and_from, and_parts, both_ways, false_from_ne_true}
 use Rattle.std.proofs.lemmas.List.Elements.{All-weaker}
@@ -19,18 +19,14 @@ use Rattle.cascade_rank.proofs.FirstEvent.{first_event-Some, first_event-None, f
 -- ---- weights within the limit
 
 pub are_limited-All : (ws : List ℕ) → list_all (λ w. nat_le w greatest) ws ≡ true → All (λ w. w ≤ greatest) ws
-are_limited-All ws h =
-    All-weaker (λ w. nat_le w greatest ≡ true) (λ w. w ≤ greatest) (λ w t. leb-true w greatest t) ws (AllPass-from_list_all (λ w. nat_le w greatest) ws h)
+are_limited-All ws h = search (rules, All-weaker, nat_le, leb-true, AllPass-from_list_all)
 
 pub All-are_limited : (ws : List ℕ) → All (λ w. w ≤ greatest) ws → list_all (λ w. nat_le w greatest) ws ≡ true
-All-are_limited ws h =
-    list_all-from_AllPass (λ w. nat_le w greatest) ws (All-weaker (λ w. w ≤ greatest) (λ w. nat_le w greatest ≡ true) (λ w l. le-leb w greatest l) ws h)
+All-are_limited ws h = search (rules, list_all-from_AllPass, nat_le, All-weaker, le-leb)
 
 module _ (plan : PlanView) (ws : List ℕ) where
   pub IsWithinLimit-from_test : is_within_limit plan ws ≡ true → IsWithinLimit plan ws
-  IsWithinLimit-from_test h =
-      let parts = and_parts (list_all (λ w. nat_le w greatest) ws) (nat_le (bound_of plan (weight_of ws)) greatest) h in
-      record { weights_within = are_limited-All ws parts.0; bound_within = leb-true (bound_of plan (weight_of ws)) greatest parts.1 }
+  IsWithinLimit-from_test h = search (rules, and_parts, nat_le, are_limited-All, leb-true)
 
   pub is_within_limit-true : IsWithinLimit plan ws → is_within_limit plan ws ≡ true
   is_within_limit-true h = and_from _ _ (All-are_limited ws h.weights_within) (le-leb (bound_of plan (weight_of ws)) greatest h.bound_within)
@@ -41,14 +37,7 @@ module _ (plan : PlanView) (ws : List ℕ) where
   -- ---- events that weigh too little
 
   pub first_short-Some : (e : EventId) → first_event plan (is_short plan ws) ≡ Some e → IsFirstShort plan ws e (need plan (weight_of ws) e)
-  first_short-Some e h =
-      let found = first_event-Some plan (is_short plan ws) e h in
-      record {
-        within = found.0;
-        needed_is = refl;
-        short_is = ltb-true (weight_of ws e) (need plan (weight_of ws) e) found.1.holds;
-        first = λ d lt. ltb-false (weight_of ws d) (need plan (weight_of ws) d) (found.1.least d lt);
-      }
+  first_short-Some e h = search (rules, first_event-Some, ltb-true, ltb-false)
 
   pub first_short-None : first_event plan (is_short plan ws) ≡ None → IsFitting plan (weight_of ws)
   first_short-None h e lt = ltb-false (weight_of ws e) (need plan (weight_of ws) e) (first_event-None plan (is_short plan ws) h e lt)
@@ -87,8 +76,7 @@ module _ (plan : PlanView) (ws : List ℕ) where
   -- what is answered once no event weighs too little
   pub GivesBound-limited : length ws ≡ length plan.events → IsFitting plan (weight_of ws) → (bound : Option Bound)
       → IfSome bound (λ b. IsWithinLimit plan ws × (b.0 ≡ bound_of plan (weight_of ws))) → IfNone bound (¬ (IsWithinLimit plan ws)) → GivesBound (ok_or bound BoundTooLarge) (verified_at plan ws)
-  GivesBound-limited count fits (Some b) within above = verified_at-bound b.0 (record { count = count; fits = fits; limit = within.0; bound_is = within.1 })
-  GivesBound-limited count fits None within above = (bound_too_large, refl, verified_at-above count fits above)
+  GivesBound-limited count fits bound within above = search (rules, verified_at-bound, verified_at-above)
 
   -- ---- what it means, from what verifying gives
 
@@ -97,21 +85,14 @@ module _ (plan : PlanView) (ws : List ℕ) where
   Means (Err fault) = IsUnverified plan ws fault
 
   means-limited : length ws ≡ length plan.events → IsFitting plan (weight_of ws) → Means (verified_past plan ws None)
-  means-limited count fits =
-      cond_both (is_within_limit plan ws) (Ok (bound_of plan (weight_of ws))) (Err bound_too_large) Means
-      (λ t. record { count = count; fits = fits; limit = IsWithinLimit-from_test t; bound_is = refl })
-      (λ f. (count, fits, λ within. both_ways (is_within_limit plan ws) f (is_within_limit-true within)))
+  means-limited count fits = search (rules, cond_both, IsWithinLimit-from_test, both_ways, is_within_limit-true)
 
   means-past : length ws ≡ length plan.events → (found : Option EventId) → first_event plan (is_short plan ws) ≡ found → Means (verified_past plan ws found)
-  means-past count (Some e) h = (count, first_short-Some e h)
-  means-past count None h = means-limited count (first_short-None h)
+  means-past count found h = search (rules, first_short-Some, means-limited, first_short-None)
 
   means : Means (verified_at plan ws)
   unfolding verified_at
-  means =
-      cond_both (length ws == length plan.events) (verified_past plan ws (first_event plan (is_short plan ws))) (Err wrong_events) Means
-      (λ same. means-past (eqb-true (length ws) (length plan.events) same) (first_event plan (is_short plan ws)) refl)
-      (λ differ. eqb-false (length ws) (length plan.events) differ)
+  means = search (rules, cond_both, means-past, eqb-true, eqb-false)
 
   pub IsVerified-from_verified_at : (bound : ℕ) → verified_at plan ws ≡ Ok bound → IsVerified plan ws bound
   IsVerified-from_verified_at bound h = subst Means h means

@@ -1,5 +1,5 @@
 -- The walk along events that are not grounded, and the cycle in which it ends.
-use Rattle.std.proofs.Common.{◌≡◌, ◌≢◌, ℕ, suc, ◌+◌, ◌-◌, ◌<◌, Bool, true, false, not, cond, ◌&&◌, ◌||◌, ◌==◌, List, [], ◌∷◌, ◌++◌, length, take, drop, set, get_or, slice_index_or, count_by, All, replicate, Option, Some, None, position, unwrap_or, refl, sym, ◌∙◌, ap, subst, inl, inr, arith, length-append, length-drop, length-set, get_or-drop, get_or-set_same, get_or-set_other}
+use Rattle.std.proofs.Common.{rules, ◌≡◌, ◌≢◌, ℕ, suc, ◌+◌, ◌-◌, ◌<◌, Bool, true, false, not, cond, ◌&&◌, ◌||◌, ◌==◌, List, [], ◌∷◌, ◌++◌, length, take, drop, set, get_or, slice_index_or, count_by, All, replicate, Option, Some, None, position, unwrap_or, refl, sym, ◌∙◌, ap, subst, inl, inr, arith, length-append, length-drop, length-set, get_or-drop, get_or-set_same, get_or-set_other}
 use Rattle.std.specs.List.{list_any, position_or_len}
 use Rattle.std.proofs.lemmas.Bool.{cases_lt, cases_eq, lt-ltb, le-ltb, and_parts, or_right, eq-eqb, ne_eqb, false≢true}
 use Rattle.std.proofs.lemmas.List.{get_or_append_left, get_or_push, get_or-replicate, length-replicate, take_rest}
@@ -48,11 +48,7 @@ at_end : (path : List EventId) (e : EventId) (i : ℕ) → length path ≡ i →
 at_end path e i l = get_or_push path e no_event i l
 
 has-push : (path : List EventId) (x e : EventId) → list_any (λ d. d.0 == e.0) (path ++ x ∷ []) ≡ (list_any (λ d. d.0 == e.0) path || x.0 == e.0)
-has-push path x e = list_any-append (λ d. d.0 == e.0) path (x ∷ []) ∙ ap (λ (b : Bool). list_any (λ d. d.0 == e.0) path || b) (by (x.0 == e.0))
-  where
-    by : (b : Bool) → (b || false) ≡ b
-    by true = refl
-    by false = refl
+has-push path x e = search (rules, list_any-append)
 
 -- it has passed this path, of which the events are marked, and comes to `at`
 pub record WalkAt (plan : PlanView) (start : EventId) (passed : List Bool) (path : List EventId) (at : EventId) : Type 0 where
@@ -69,22 +65,7 @@ pub record WalkAt (plan : PlanView) (start : EventId) (passed : List Bool) (path
 
 module _ (plan : PlanView) (start : EventId) (first : IsFirst (is_open plan) start) (below : start.0 < length plan.events) where
   pub walk_starts : WalkAt plan start (replicate (length plan.events) false) [] start
-  walk_starts = record {
-    count = length-replicate (length plan.events) false;
-    walk = record {
-      first = λ l. absurd (omega (arith, l));
-      next = λ i l. absurd (omega (arith, l));
-      apart = λ i j l k. absurd (omega (arith, k));
-    };
-    begins = λ _. refl;
-    goes = λ l. absurd (omega (arith, l));
-    at_open = first.holds;
-    below = below;
-    all_below = All-nil (λ e. e.0 < length plan.events);
-    marks = λ e l. get_or-replicate (length plan.events) e.0 false false l;
-    room = omega (arith, sum_by-replicate (λ (b : Bool). cond (not b) 1 0) (length plan.events) false);
-    same = let whole : length plan.events + 1 - 0 ≡ length plan.events + 1 = omega arith in ap (λ (k : ℕ). cycle_from plan k [] start) whole;
-  }
+  walk_starts = search (rules, length-replicate, All-nil, get_or-replicate, sum_by-replicate)
 
 module _ (plan : PlanView) (start : EventId) (first : IsFirst (is_open plan) start) (passed : List Bool) (path : List EventId) (at : EventId) (w : WalkAt plan start passed path at) where
   here_marked : slice_index_or passed at.0 false ≡ list_any (λ d. d.0 == at.0) path
@@ -124,19 +105,10 @@ module _ (plan : PlanView) (start : EventId) (first : IsFirst (is_open plan) sta
     }
 
     fewer : count_by not (set passed at.0 true) + 1 ≡ count_by not passed
-    fewer =
-        let inside : at.0 < length passed = omega (arith, w.below, w.count) in
-        let total = sum_by-set (λ (b : Bool). cond (not b) 1 0) passed at.0 true false inside in
-        let was = counted_one (not (get_or passed at.0 false)) (ap not new) in
-        omega (arith, total, was)
+    fewer = search (rules, sum_by-set, counted_one, get_or)
 
     same_cycle : cycle_from plan (length plan.events + 1 - length (path ++ at ∷ [])) (path ++ at ∷ []) (next_open plan at) ≡ cycle_of plan start
-    same_cycle =
-        let left : length plan.events + 1 - length (path ++ at ∷ []) ≡ length plan.events - length path = omega (arith, longer) in
-        ap (λ (k : ℕ). cycle_from plan k (path ++ at ∷ []) (next_open plan at)) left
-        ∙ ap (λ (b : Bool). cond b (from_first at path) (cycle_from plan (length plan.events - length path) (path ++ at ∷ []) (next_open plan at))) (sym new ∙ here_marked)
-        ∙ ap (λ (k : ℕ). cycle_from plan k path at) (sym one_left)
-        ∙ w.same
+    same_cycle = search (rules, longer, here_marked, one_left)
 
     pub walk_goes : WalkAt plan start (set passed at.0 true) (path ++ at ∷ []) (next_open plan at)
     walk_goes = record {
@@ -170,10 +142,7 @@ module _ (plan : PlanView) (start : EventId) (first : IsFirst (is_open plan) sta
     comes_again = sym here_marked ∙ again
 
     pub cycle_is : from_first at path ≡ cycle_of plan start
-    cycle_is =
-        ap (λ (b : Bool). cond b (from_first at path) (cycle_from plan (length plan.events - length path) (path ++ at ∷ []) (next_open plan at))) (sym comes_again)
-        ∙ ap (λ (k : ℕ). cycle_from plan k path at) (sym one_left)
-        ∙ w.same
+    cycle_is = search (rules, comes_again, one_left)
 
 -- ---- the part from the first coming on
 
@@ -205,14 +174,7 @@ module _ (plan : PlanView) (path : List EventId) (at : EventId) (walk : IsWalk p
   at_place = tested_event (nth_event path (position_or_len (λ d. d.0 == at.0) path)) at (passes_at_first (λ d. d.0 == at.0) path no_event within)
 
   pub reported : IsReportedCycle plan (from_first at path)
-  reported = record {
-    path = path;
-    walk = walk;
-    place = position_or_len (λ d. d.0 == at.0) path;
-    place_within = within;
-    part = from_first-drop at path;
-    again = subst (GoesOn plan (nth_event path (length path - 1))) (sym at_place) (goes (omega (arith, within)));
-  }
+  reported = search (rules, place, within, from_first-drop, at_place)
 
   leads_on : (e f : EventId) → GoesOn plan e f → leads plan e f ≡ true
   leads_on e f g = (and_parts (leads plan e f) (is_open plan f) g.holds).0
@@ -241,13 +203,8 @@ module _ (plan : PlanView) (path : List EventId) (at : EventId) (walk : IsWalk p
   cycle = subst (IsCycle plan) (sym (from_first-drop at path)) (is_cycle (position_or_len (λ d. d.0 == at.0) path) refl)
 
 position_or_end : {X : Type 0} (p : X → Bool) (xs : List X) → unwrap_or (position p xs) (length xs) ≡ position_or_len p xs
-position_or_end p xs = elim (cases_lt (position_or_len p xs) (length xs)) [
-  | inl l ↦ ap (λ (b : Bool). unwrap_or (cond b (Some (position_or_len p xs)) None) (length xs)) (lt-ltb (position_or_len p xs) (length xs) l)
-  | inr g ↦ ap (λ (b : Bool). unwrap_or (cond b (Some (position_or_len p xs)) None) (length xs)) (le-ltb (position_or_len p xs) (length xs) g) ∙ omega (arith, g, prefix_len-le-length (λ x. not (p x)) xs)
-]
+position_or_end p xs = search (rules, cases_lt, unwrap_or, lt-ltb, le-ltb, prefix_len-le-length)
 
 pub part_is : (path part : List EventId) (e : EventId) (place : ℕ) (found : Option ℕ) → found ≡ position (λ d. d.0 == e.0) path → place ≡ unwrap_or found (length path) →
     part ≡ take (length path - place) (drop place path) → part ≡ from_first e path
-part_is path part e place found is_found is_place is_part =
-    let here : place ≡ position_or_len (λ d. d.0 == e.0) path = is_place ∙ ap (λ (o : Option ℕ). unwrap_or o (length path)) is_found ∙ position_or_end (λ d. d.0 == e.0) path in
-    is_part ∙ take_rest path place ∙ ap (λ (k : ℕ). drop k path) here ∙ sym (from_first-drop e path)
+part_is path part e place found is_found is_place is_part = search (rules, place, unwrap_or, position_or_end, take_rest, from_first-drop)

@@ -1,5 +1,5 @@
 -- The costs of a valid plan mention only events of the plan.
-use Rattle.std.proofs.Common.{◌≡◌, ℕ, ◌<◌, Bool, true, false, ◌==◌, ◌&&◌, if◌then◌else◌, List, [], ◌∷◌, length, Option, Some, None, refl, sym, subst, inl, inr, arith}
+use Rattle.std.proofs.Common.{rules, ◌≡◌, ℕ, ◌<◌, Bool, true, false, ◌==◌, ◌&&◌, if◌then◌else◌, List, [], ◌∷◌, length, Option, Some, None, refl, sym, subst, inl, inr, arith}
 use Rattle.std.specs.Prelude.{IfSome}
 use Rattle.std.specs.List.{All, AllByRecursion, find}
 use Rattle.std.proofs.lemmas.Bool.{cases_lt, or_cases, eqb-true, false≢true}
@@ -64,8 +64,7 @@ IsBelow-each_of n f (x ∷ xs) h = (h.0, IsBelow-each_of n f xs h.1)
 
 -- where each of a list is within, all that they cost is below
 pub each_below : {X : Type 0} (n : ℕ) (f : X → Cost) (P : X → Type 0) → ((x : X) → P x → IsBelow n (f x)) → (xs : List X) → All P xs → IsBelow n (each_of f xs)
-each_below n f P each xs h =
-    IsBelow-each_of n f xs (recursion_from_All (λ x. IsBelow n (f x)) xs (All-weaker P (λ x. IsBelow n (f x)) each xs h))
+each_below n f P each xs h = search (rules, IsBelow-each_of, recursion_from_All, All-weaker)
 
 pub dearest_below : {X : Type 0} (n : ℕ) (f : X → Cost) → ((x : X) → IsBelow n (f x)) → (xs : List X) → IsBelow n (dearest_of f xs)
 dearest_below n f each [] = tt
@@ -76,8 +75,7 @@ IsBelow-dearest_of n f [] h = tt
 IsBelow-dearest_of n f (x ∷ xs) h = (h.0, IsBelow-dearest_of n f xs h.1)
 
 pub dearest_within : {X : Type 0} (n : ℕ) (f : X → Cost) (P : X → Type 0) → ((x : X) → P x → IsBelow n (f x)) → (xs : List X) → All P xs → IsBelow n (dearest_of f xs)
-dearest_within n f P each xs h =
-    IsBelow-dearest_of n f xs (recursion_from_All (λ x. IsBelow n (f x)) xs (All-weaker P (λ x. IsBelow n (f x)) each xs h))
+dearest_within n f P each xs h = search (rules, IsBelow-dearest_of, recursion_from_All, All-weaker)
 
 -- what holds of each of a list holds of the first that passes a test
 IfSome-find_by : {X : Type 0} (p : X → Bool) (P : X → Type 0) (xs : List X) → AllByRecursion P xs → IfSome (find p xs) P
@@ -101,14 +99,7 @@ weights-below n (Greater a b) h = All-append (IsEventWithin n) (weights_in a) (w
 module _ (plan : PlanView) (valid : HasEntries plan) where
   -- the events of a mode are events of the plan
   pub mode_event-within : (m : ModeId) (which : ModeEvent) → m.0 < length plan.modes → (mode_event plan m which).0 < length plan.events
-  mode_event-within m which inside = by which (All-get_or (IsModeWithin (length plan.events)) plan.modes m.0 no_mode inside valid.modes)
-    where
-      by : (w : ModeEvent) → IsModeWithin (length plan.events) (mode_at plan m) → (mode_event plan m w).0 < length plan.events
-      by WillStart h = h.will_start
-      by Starting h = h.starting
-      by Started h = h.started
-      by Stopping h = h.stopping
-      by Stopped h = h.stopped
+  mode_event-within m which inside = search rules
 
   -- so is the end of the ball, where it waits for a mode
   IsBelow-end : (m : ModeId) → m.0 < length plan.modes → (holds : Bool) → IsBelow (length plan.events) (cost_if_led (if holds then Some (game_event plan BallEnded) else None))
@@ -126,8 +117,7 @@ module _ (plan : PlanView) (valid : HasEntries plan) where
 
   -- the event of the game at which a ball drains
   IsBelow-drain : (drain : Bool) → 0 < length plan.events → IsBelow (length plan.events) (cost_of_drain plan drain)
-  IsBelow-drain true some = game_event-below plan valid some BallDrain
-  IsBelow-drain false some = tt
+  IsBelow-drain drain some = search (rules, game_event-below)
 
   list_of_row-within : (r : RowId) → r.0 < length plan.rows → (k : ℕ) → k < list_count (row_at plan r).settings → (list_of_row plan r k).0 < length plan.lists
   list_of_row-within r l k less = omega (arith, less, (valid.rows r l).lists)
@@ -135,12 +125,7 @@ module _ (plan : PlanView) (valid : HasEntries plan) where
   -- what a device of the plan answers to a call, where what telling costs is within
   module _ (tell : Telling → Cost) (within : (telling : Telling) → IsTellingWithin (length plan.rows) telling → IsBelow (length plan.events) (tell telling)) where
     IsBelow-action : (a : Action) → IsActionWithin plan a → IsBelow (length plan.events) (cost_of_action_by plan tell a)
-    IsBelow-action (Post e) h = h
-    IsBelow-action (Change v action n e) h = (tt, h.1)
-    IsBelow-action (Enter r e drain) h = let some : 0 < length plan.events = omega (arith, h.1) in (tt, (h.1, (IsBelow-drain drain some, within (Arrived (Device r)) h.0)))
-    IsBelow-action (Request n) h = within (Wanted n) tt
-    IsBelow-action (AddBalls n) h = within (Wanted n) tt
-    IsBelow-action _ h = tt
+    IsBelow-action a h = search (rules, IsBelow-drain)
 
     IsBelow-list : (l : ListId) → l.0 < length plan.lists → IsBelow (length plan.events) (cost_of_list_by plan tell l)
     IsBelow-list l h =
@@ -148,9 +133,7 @@ module _ (plan : PlanView) (valid : HasEntries plan) where
         (All-get_or (All (IsActionWithin plan)) plan.lists l.0 [] h valid.lists)
 
     IsBelow-answer : (r : RowId) → r.0 < length plan.rows → (lists : List ℕ) → All (λ k. k < list_count (row_at plan r).settings) lists → IsBelow (length plan.events) (cost_of_answer_by plan tell r lists)
-    IsBelow-answer r l lists h =
-        each_below (length plan.events) (λ k. cost_of_list_by plan tell (list_of_row plan r k)) (λ k. k < list_count (row_at plan r).settings)
-        (λ k less. IsBelow-list (list_of_row plan r k) (list_of_row-within r l k less)) lists h
+    IsBelow-answer r l lists h = search (rules, each_below, IsBelow-list, list_of_row-within)
 
     IsBelow-call_by : (r : RowId) (call : Call) → r.0 < length plan.rows → IsBelow (length plan.events) (cost_of_call_by plan tell r call)
     IsBelow-call_by r call l =
@@ -171,9 +154,7 @@ module _ (plan : PlanView) (valid : HasEntries plan) where
   IsBelow-trough n (Some r) h = IsBelow-told (Wanted n) r h
 
   IsBelow-telling : (telling : Telling) → IsBelow (length plan.events) (cost_of_telling plan telling)
-  IsBelow-telling (Arrived target) = IsBelow-arrival target
-  IsBelow-telling (Wanted n) =
-      IsBelow-trough n (first_trough plan) (IfSome-find (λ r. is_trough (row_at plan r).settings) (λ r. r.0 < length plan.rows) (row_numbers plan) (rows-within plan))
+  IsBelow-telling telling = search (rules, IsBelow-arrival, IsBelow-trough, IfSome-find, rows-within)
 
   pub IsBelow-call : (r : RowId) (call : Call) → r.0 < length plan.rows → IsBelow (length plan.events) (cost_of_call plan r call)
   IsBelow-call r call l = IsBelow-call_by (cost_of_telling plan) (λ telling h. IsBelow-telling telling) r call l
@@ -192,13 +173,7 @@ module _ (plan : PlanView) (valid : HasEntries plan) where
 
   -- the lines of releases mention none
   IsBelow-releases : (w : Work) → IsBelow (length plan.events) (cost_of_releases plan w)
-  IsBelow-releases works.Nothing = tt
-  IsBelow-releases (works.Mode m WillStart) = tt
-  IsBelow-releases (works.Mode m Starting) = tt
-  IsBelow-releases (works.Mode m Started) = tt
-  IsBelow-releases (works.Mode m Stopping) = tt
-  IsBelow-releases (works.Mode m Stopped) = tt
-  IsBelow-releases (works.Game which) = tt
+  IsBelow-releases w = search rules
 
   -- what an event of the game posts is an event of the plan
   IsBelow-choices : 0 < length plan.events → (ways : List (List GameEvent)) → IsBelow (length plan.events) (dearest_of (cost_of_choice plan) ways)
@@ -225,21 +200,14 @@ module _ (plan : PlanView) (valid : HasEntries plan) where
       (All-filter (λ r. is_multiball (row_at plan r).settings) (λ r. r.0 < length plan.rows) (row_numbers plan) (rows-within plan))
 
   IsBelow-drained_ball : (which : GameEvent) → IsBelow (length plan.events) (cost_of_drained_ball plan which)
-  IsBelow-drained_ball which = by (is_drain which)
-    where
-      by : (b : Bool) → IsBelow (length plan.events) (if b then Greater (dearest_of (λ r. cost_of_call plan r (calls.Act Save)) (save_rows plan)) (each_of (λ r. cost_of_call plan r (calls.Act End)) (multiball_rows plan)) else Lines 0)
-      by true = (IsBelow-saves, IsBelow-ends)
-      by false = tt
+  IsBelow-drained_ball which = search (rules, IsBelow-saves, IsBelow-ends)
 
   IsBelow-game : (w : Work) (e : EventId) → work_of plan e ≡ w → IsBelow (length plan.events) (cost_of_game plan w)
   IsBelow-game (works.Game which) e is = (tt, (IsBelow-request which, (IsBelow-drained_ball which, IsBelow-choices (game_has-event plan valid e which is) (choices which))))
   IsBelow-game _ e is = tt
 
   pub IsBelow-work : (e : EventId) → IsBelow (length plan.events) (cost_of_work plan e)
-  IsBelow-work e = (
-    IsBelow-starts (work_of plan e),
-    (IsBelow-releases (work_of plan e), (IsBelow-led (work_of plan e) e (work_found plan e), IsBelow-game (work_of plan e) e refl)),
-  )
+  IsBelow-work e = search (rules, IsBelow-starts, IsBelow-releases, IsBelow-led, work_found, IsBelow-game)
 
   pub IsBelow-target : (t : Target) → IsTargetWithin plan t → IsBelow (length plan.events) (cost_of_target plan t)
   IsBelow-target (Run l) h = IsBelow-list (cost_of_telling plan) (λ telling k. IsBelow-telling telling) l h
@@ -273,10 +241,7 @@ module _ (plan : PlanView) (valid : HasEntries plan) where
 
   -- only devices of the plan listen to it; where there is none of its number, nothing does
   pub listeners-below : (s : SwitchId) → All (IsListenerWithin (length plan.rows)) (listeners_of plan s)
-  listeners-below s = elim (cases_lt s.0 (length plan.switches)) [
-    | inl within ↦ All-get_or (λ (x : PlanSwitch). All (IsListenerWithin (length plan.rows)) x.listeners) plan.switches s.0 no_switch within valid.listeners
-    | inr past ↦ subst (λ (x : PlanSwitch). All (IsListenerWithin (length plan.rows)) x.listeners) (sym (get_or_past plan.switches s.0 no_switch past)) (All-nil (IsListenerWithin (length plan.rows)))
-  ]
+  listeners-below s = search (rules, cases_lt, All-get_or, get_or_past, All-nil)
 
   IsBelow-listener : (active : Bool) (l : Listener) → IsListenerWithin (length plan.rows) l → IsBelow (length plan.events) (cost_of_listener plan active l)
   IsBelow-listener active l h = IsBelow-call l.row (calls.Act (act_of_listener active l)) h
@@ -302,8 +267,7 @@ module _ (plan : PlanView) (valid : HasEntries plan) where
 
 -- the same of as many events as the plan has
 pub posts-within : (plan : PlanView) → HasEntries plan → (s : SwitchId) (active : Bool) (n : ℕ) (es : List EventId) → n ≡ length plan.events → es ≡ posts_of plan s active → All (IsEventWithin n) es
-posts-within plan valid s active n es count is =
-    subst (λ (m : ℕ). All (IsEventWithin m) es) (sym count) (subst (All (IsEventWithin (length plan.events))) (sym is) (posts-below plan valid s active))
+posts-within plan valid s active n es count is = search (rules, posts-below)
 
 -- and of the posts of an event
 pub posts_of_event-within : (plan : PlanView) → HasEntries plan → (e : EventId) (n : ℕ) (es : List EventId) → n ≡ length plan.events → es ≡ weights_in (cost_of_event plan e) → All (IsEventWithin n) es

@@ -1,5 +1,5 @@
 -- What is due: only a stimulus alters that, and no alarm comes late.
-use Rattle.std.proofs.Common.{◌≡◌, ℕ, ◌≤◌, ◌<◌, ◌⊎◌, Option, None, Some, IfSome, List, [], length, slice_set, refl, ap, sym, subst, ◌∙◌, inl, inr, arith}
+use Rattle.std.proofs.Common.{rules, ◌≡◌, ℕ, ◌≤◌, ◌<◌, ◌⊎◌, Option, None, Some, IfSome, List, [], length, slice_set, refl, ap, sym, subst, ◌∙◌, inl, inr, arith}
 use Rattle.std.proofs.lemmas.Bool.{cases_eq, cases_lt}
 use Rattle.std.proofs.lemmas.Option.{none-some}
 use Rattle.std.proofs.lemmas.List.{get_or_past, get_or-map, get_or-set_same, get_or-set_other, length-map, length-replicate, length-set}
@@ -93,11 +93,7 @@ module _ (plan : PlanView) where
     later-move _ s = λ r k due is. inl is
 
     later-then : (s m t : Machine) → m.moment ≡ s.moment → IsLater s m → IsLater m t → IsLater s t
-    later-then s m t here one next r k due is =
-        elim (next r k due is) [
-          | inl old ↦ one r k due old
-          | inr later ↦ inr (omega (arith, here, later))
-        ]
+    later-then s m t here one next r k due is = search rules
 
     pub later-does : {may : Move → Type 0} {c : Cost} {s t : Machine} → Does plan may c s t → IsLater s t
     later-does {may} {c} {s} {t} d =
@@ -309,17 +305,11 @@ module _ (plan : PlanView) (valid : IsValid plan) where
 
   -- no alarm is due before the next one
   pub next-first : (s : Machine) (at : ℕ) (first : Source) → IsNextAlarm s at first → (source : Source) (due : ℕ) → source_due s source ≡ Some due → at ≤ due
-  next-first s at first next source due is =
-      elim (next.least source due is) [
-        | inl after ↦ omega (arith, after)
-        | inr same ↦ let e = same.0 in omega (arith, e)
-      ]
+  next-first s at first next source due is = search rules
 
   -- and none before a stimulus that is allowed
   pub allowed-first : (stimulus : Stimulus) (s : Machine) → IsAllowed plan s stimulus → (source : Source) (due : ℕ) → source_due s source ≡ Some due → moment_of stimulus ≤ due
-  allowed-first (SwitchChange at n level) s allowed source due is = let after = allowed.0.quiet source due is in omega arith
-  allowed-first (Alarm at first) s allowed source due is = next-first s at first allowed.0 source due is
-  allowed-first (Wait at) s allowed source due is = let after = allowed.quiet source due is in omega arith
+  allowed-first stimulus s allowed source due is = search rules
 
   pub not_late-begin : (stimulus : Stimulus) (s : Machine) → ((source : Source) (due : ℕ) → source_due s source ≡ Some due → moment_of stimulus ≤ due) → IsNothingLate (begin plan stimulus s)
   not_late-begin stimulus s first source due is =
@@ -337,8 +327,7 @@ module _ (plan : PlanView) (valid : IsValid plan) where
   not_late-after stimulus s n t allowed steps = not_late-from stimulus s n t (allowed-first stimulus s allowed) steps
 
   pub not_late-initial : IsNothingLate (initial plan)
-  not_late-initial (switch n) due is = absurd (none-some due (sym (idle-nothing_due plan n) ∙ is))
-  not_late-initial (device r) due is = absurd (none-some due (sym (initial-quiet plan r) ∙ is))
+  not_late-initial x1 due is = search rules
 
   -- in every run
   pub not_late-run : (stimuli : List (Stimulus × ℕ)) (s : Machine) (trace : List Line) (t : Machine) → IsRun plan stimuli s trace t → IsNothingLate s → IsNothingLate t
@@ -348,9 +337,7 @@ module _ (plan : PlanView) (valid : IsValid plan) where
 
   -- so no stimulus goes backwards
   pub forward : (stimulus : Stimulus) (s : Machine) → IsNothingLate s → IsAllowed plan s stimulus → s.moment ≤ moment_of stimulus
-  forward (SwitchChange at n level) s h allowed = allowed.0.forward
-  forward (Alarm at source) s h allowed = h source at allowed.0.due
-  forward (Wait at) s h allowed = allowed.forward
+  forward stimulus s h allowed = search rules
   -- ---- every switch has a state
 
 module _ (plan : PlanView) where

@@ -1,5 +1,5 @@
 -- Playing the next alarm again and again comes to an end: each part of a source comes at most once at each moment.
-use Rattle.std.proofs.Common.{◌≡◌, ℕ, zero, suc, ◌+◌, ◌-◌, ◌*◌, ◌≤◌, ◌<◌, ◌⊎◌, Bool, true, false, if◌then◌else◌, nat_le, Option, Some, None, List, [], ◌∷◌, ◌++◌, length, length-append, map, Contains, refl, ap, sym, ◌∙◌, subst, inl, inr, arith}
+use Rattle.std.proofs.Common.{rules, ◌≡◌, ℕ, zero, suc, ◌+◌, ◌-◌, ◌*◌, ◌≤◌, ◌<◌, ◌⊎◌, Bool, true, false, if◌then◌else◌, nat_le, Option, Some, None, List, [], ◌∷◌, ◌++◌, length, length-append, map, Contains, refl, ap, sym, ◌∙◌, subst, inl, inr, arith}
 use Rattle.std.specs.Option.{option_map_or}
 use Rattle.std.specs.List.{range_with_len}
 use Rattle.std.proofs.lemmas.List.FromFn.{get_or-range_with_len}
@@ -52,14 +52,10 @@ abbrev flag : Bool → ℕ
 flag b = if b then 1 else 0
 
 flag-most : (b : Bool) → flag b ≤ 1
-flag-most true = omega arith
-flag-most false = omega arith
+flag-most b = search rules
 
 flag-no_more : (b c : Bool) → (c ≡ true → b ≡ true) → flag c ≤ flag b
-flag-no_more true true h = omega arith
-flag-no_more true false h = omega arith
-flag-no_more false true h = let never = h refl in cc
-flag-no_more false false h = omega arith
+flag-no_more b c h = search rules
 
 flag-fewer : (b c : Bool) → b ≡ true → c ≡ false → flag c + 1 ≤ flag b
 flag-fewer b c was now = rw was (rw now (omega arith))
@@ -73,18 +69,10 @@ part_due-yes : (at due : ℕ) (s : Machine) (source : Source) (k : ℕ) → part
 part_due-yes at due s source k is by = ap (λ (o : Option ℕ). option_map_or (λ (d : ℕ). nat_le d at) o false) is ∙ le-leb due at by
 
 part_due-is : (at : ℕ) (s : Machine) (source : Source) (k : ℕ) → is_part_due at s source k ≡ true → (due : ℕ) × (part_due s source k ≡ Some due) × (due ≤ at)
-part_due-is at s source k h = by (part_due s source k) refl h
-  where
-    by : (o : Option ℕ) → part_due s source k ≡ o → option_map_or (λ (d : ℕ). nat_le d at) o false ≡ true → (due : ℕ) × (part_due s source k ≡ Some due) × (due ≤ at)
-    by None is h = cc
-    by (Some due) is h = (due, is, leb-true due at h)
+part_due-is at s source k h = search rules
 
 part_due-no : (at : ℕ) (s : Machine) (source : Source) (k : ℕ) → ((due : ℕ) → part_due s source k ≡ Some due → at < due) → is_part_due at s source k ≡ false
-part_due-no at s source k later = by (part_due s source k) refl
-  where
-    by : (o : Option ℕ) → part_due s source k ≡ o → option_map_or (λ (d : ℕ). nat_le d at) o false ≡ false
-    by None is = refl
-    by (Some due) is = lt-leb due at (later due is)
+part_due-no at s source k later = search rules
 
 -- how many parts of a source are due
 abbrev due_parts : ℕ → Machine → Source → ℕ
@@ -198,9 +186,7 @@ module _ (plan : PlanView) (bound : ℕ) where
 
   module _ (until : ℕ) where
     none-due : (k : ℕ) (s : Machine) → due_by until (next_alarm s) ≡ None → alarms_by plan bound until k s ≡ []
-    none-due zero s none = refl
-    none-due (suc k) s none =
-        ap (λ (o : Option (ℕ × Source)). option_map_or (λ a. Alarm a.0 a.1 ∷ alarms_by plan bound until k (after_alarm a.0 a.1 s)) o []) none
+    none-due k s none = search rules
 
     -- where nothing is due no alarm comes
     pub alarms_by-none : (k : ℕ) (s : Machine) → IsNoAlarmDueBy s until → alarms_by plan bound until k s ≡ []
@@ -237,10 +223,7 @@ module _ (plan : PlanView) (bound : ℕ) where
               let fewer = alarm-fewer at source s next valid going (omega (arith, not_before, by, reach)) in
               absurd (omega (arith, fewer, due, fuel))
         ]
-    ends valid zero (suc moments) few s going reach due fuel = absurd (none_left (part_count plan) moments few fuel)
-      where
-        none_left : (n moments few : ℕ) → suc moments * (n + 1) + few ≤ 0 → ⊥
-        none_left n moments few h = omega (arith, h)
+    ends valid zero (suc moments) few s going reach due fuel = search rules
     ends valid (suc k) moments few s going reach due fuel =
         elim (due-cases s) [
           | inr nothing ↦ leaves-none (suc k) s nothing

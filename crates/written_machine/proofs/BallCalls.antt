@@ -1,5 +1,5 @@
 -- A whole call of a ball device books what it answers, and leaves the ledger in step with the devices.
-use Rattle.std.proofs.Common.{◌≡◌, ℕ, ◌+◌, ◌<◌, ◌≤◌, ◌==◌, ◌&&◌, inl, inr, if◌then◌else◌, Bool, true, false, Option, Some, None, List, [], ◌∷◌, length, refl, sym, ap, ap₂, ◌∙◌, subst, arith}
+use Rattle.std.proofs.Common.{rules, ◌≡◌, ℕ, ◌+◌, ◌<◌, ◌≤◌, ◌==◌, ◌&&◌, inl, inr, if◌then◌else◌, Bool, true, false, Option, Some, None, List, [], ◌∷◌, length, refl, sym, ap, ap₂, ◌∙◌, subst, arith}
 use Rattle.std.specs.Prelude.{unwrap_or}
 use Rattle.std.specs.List.{All, count_by}
 use Rattle.std.proofs.lemmas.Bool.{eq-eqb, ne_eqb, false≢true}
@@ -48,8 +48,7 @@ use Rattle.written_machine.proofs.BallCalm.{balls_at, no_lag, lag_at, limit, IsC
 use Rattle.written_machine.proofs.Feeding.{first_trough-is}
 
 is_target-itself : (a : BallTarget) → is_target a a ≡ true
-is_target-itself Playfield = refl
-is_target-itself (Device r) = eq-eqb r.0 r.0 refl
+is_target-itself a = search rules
 
 pub no_call-usual : (call : Call) → IsNoCall call → IsUsual call
 no_call-usual call none = absurd none
@@ -65,20 +64,16 @@ module _ (plan : PlanView) (valid : IsValid plan) (right : BookingsAreRight plan
     target_is = ap (λ (settings : Settings). unwrap_or (target_in settings) Playfield) is
 
     feeds_its : feeds (target_of plan r) (row_at plan r).settings ≡ true
-    feeds_its =
-        ap₂ (λ (target : BallTarget) (settings : Settings). feeds target settings) target_is is ∙ is_target-itself d.target
+    feeds_its = search rules
 
     -- a list of its own that has just one action
     one_action : (P : Machine → Type 0) (tell : Telling → Machine → Machine) (k : ℕ) (a : Action) (u : Machine) → actions_in plan r k ≡ a ∷ []
         → P (do_action_by plan tell (row_at plan r).owner a u) → P (do_list_by plan tell (row_at plan r).owner (list_of_row plan r k) u)
-    one_action P tell k a u only done =
-        subst (λ (actions : List Action). P (all_do (do_action_by plan tell (row_at plan r).owner) actions u)) (sym only) done
+    one_action P tell k a u only done = search rules
 
     -- its lists that book nothing, and tell no other device anything
     quiet_list : (k : ℕ) → IsQuiet k → All IsPlain (actions_in plan r k)
-    quiet_list k (inl one) = subst (λ (j : ℕ). All IsPlain (actions_in plan r j)) (sym one) ball_row.attempted
-    quiet_list k (inr (inl one)) = subst (λ (j : ℕ). All IsPlain (actions_in plan r j)) (sym one) ball_row.succeeded
-    quiet_list k (inr (inr one)) = subst (λ (j : ℕ). All IsPlain (actions_in plan r j)) (sym one) ball_row.failed
+    quiet_list k x1 = search rules
 
     quiet-other : (tell : Telling → Machine → Machine) (ks : List ℕ) (u : Machine) → AreQuiet ks
         → IsOther plan u (do_answer_by plan tell r ks u)
@@ -304,8 +299,7 @@ module _ (plan : PlanView) (valid : IsValid plan) (right : BookingsAreRight plan
 
   -- a trough is a ball device
   trough-ball : (settings : Settings) → is_trough settings ≡ true → (d : BallSettings) × (settings ≡ kinds.BallDevice d)
-  trough-ball (kinds.BallDevice d) is = (d, refl)
-  trough-ball _ is = absurd (false≢true is)
+  trough-ball settings is = search rules
 
   -- the first trough is asked for balls
   request-calm : (n : ℕ) (s : Machine) → IsCalm plan no_lag s → IsCalm plan no_lag (tell_first plan (Wanted n) s)

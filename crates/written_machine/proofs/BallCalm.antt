@@ -1,6 +1,6 @@
 -- Between the calls of devices the ledger says how many balls count in each device, and how many devices are Away to each
 -- target. A whole call of a ball device leaves it so, and all that it books may be booked.
-use Rattle.std.proofs.Common.{◌≡◌, ℕ, ◌+◌, ◌^◌, ◌<◌, ◌≤◌, ◌&&◌, inl, inr, if◌then◌else◌, nat_lt, Bool, true, false, List, length, slice_set, refl, sym, ap, ap₂, ◌∙◌, subst, arith}
+use Rattle.std.proofs.Common.{rules, ◌≡◌, ℕ, ◌+◌, ◌^◌, ◌<◌, ◌≤◌, ◌&&◌, inl, inr, if◌then◌else◌, nat_lt, Bool, true, false, List, length, slice_set, refl, sym, ap, ap₂, ◌∙◌, subst, arith}
 use Rattle.std.specs.List.{count_by}
 use Rattle.std.proofs.lemmas.Bool.{and_from, cases_eq, eqb-true, false≢true, lt-ltb}
 use Rattle.std.proofs.lemmas.List.{length-set, get_or-set_same, get_or-set_other}
@@ -76,10 +76,7 @@ pub record IsCalm (plan : PlanView) (lag : BallTarget → ℕ) (s : Machine) : T
 -- ---- targets
 
 is_target-same : (a b : BallTarget) → is_target a b ≡ true → b ≡ a
-is_target-same Playfield Playfield is = refl
-is_target-same Playfield (Device r) is = absurd (false≢true is)
-is_target-same (Device r) Playfield is = absurd (false≢true is)
-is_target-same (Device r) (Device q) is = ap (λ (k : ℕ). Device (record { 0 = k })) (sym (eqb-true r.0 q.0 is))
+is_target-same a b is = search rules
 
 -- what feeds a target is a ball device that ejects balls to it
 pub record IsFeeder (target : BallTarget) (settings : Settings) : Type 0 where
@@ -88,43 +85,25 @@ pub record IsFeeder (target : BallTarget) (settings : Settings) : Type 0 where
   pub to : d.target ≡ target
 
 pub feeder : (target : BallTarget) (settings : Settings) → feeds target settings ≡ true → IsFeeder target settings
-feeder target (kinds.BallDevice d) is = record { d = d; is = refl; to = is_target-same target d.target is }
-feeder target _ is = absurd (false≢true is)
+feeder target settings is = search rules
 
 pub one-no : (x y : Bool) → y ≡ false → one (x && y) ≡ 0
-one-no true y not = ap one not
-one-no false y not = refl
+one-no x y not = search rules
 
 pub one-yes : (x y : Bool) → y ≡ true → one (x && y) ≡ one x
-one-yes true y is = ap one is
-one-yes false y is = refl
+one-yes x y is = search rules
 
 -- what may be booked is booked
 can-there : (n : ℕ) (target : BallTarget) → IsTargetThere n target → is_target_there n target ≡ true
-can-there n Playfield there = refl
-can-there n (Device r) there = lt-ltb r.0 n there
+can-there n target there = search rules
 
 can : (c : LedgerCall) (l : Ledger) → MayBook c l → can_book c l ≡ true
-can (ledger_calls.Enter r) l may =
-    and_from (nat_lt r.0 (length l.counted)) (nat_lt (l.known + 1) (2 ^ 32)) (lt-ltb r.0 (length l.counted) may.0) (lt-ltb (l.known + 1) (2 ^ 32) may.1)
-can (ledger_calls.Leave r target) l may =
-    and_from (nat_lt r.0 (length l.counted)) (is_target_there (length l.counted) target && nat_lt 0 (counted_in l r))
-    (lt-ltb r.0 (length l.counted) may.0)
-    (and_from (is_target_there (length l.counted) target) (nat_lt 0 (counted_in l r)) (can-there (length l.counted) target may.1) (lt-ltb 0 (counted_in l r) may.2))
-can (ledger_calls.Lose r) l may =
-    and_from (nat_lt r.0 (length l.counted)) (nat_lt 0 (counted_in l r)) (lt-ltb r.0 (length l.counted) may.0) (lt-ltb 0 (counted_in l r) may.1)
-can (ledger_calls.Arrive target) l may =
-    and_from (is_target_there (length l.counted) target) (nat_lt 0 (transit_to l target))
-    (can-there (length l.counted) target may.0) (lt-ltb 0 (transit_to l target) may.1)
+can c l may = search rules
 
 pub surely_booked : (P : Machine → Type 0) (owner : Owner) (c : LedgerCall) (s : Machine) → MayBook c s.ledger
     → P (write owner (lines.Balls (booked c s.ledger) (counts_of (after_call c s.ledger))) (set_ledger (after_call c s.ledger) s))
     → P (book owner c s)
-surely_booked P owner c s may h =
-    subst P
-    (sym (ap (λ (b : Bool).
-    if b then write owner (lines.Balls (booked c s.ledger) (counts_of (after_call c s.ledger))) (set_ledger (after_call c s.ledger) s) else s)
-    (can c s.ledger may))) h
+surely_booked P owner c s may h = search rules
 
 module _ (plan : PlanView) where
   -- ---- what is calm stays calm

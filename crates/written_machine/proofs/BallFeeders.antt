@@ -1,5 +1,5 @@
 -- How many of the rows that pass one test pass another: where one row changes, and where there is one.
-use Rattle.std.proofs.Common.{◌≡◌, ℕ, zero, suc, ◌+◌, ◌<◌, ◌≤◌, ◌==◌, inl, inr, Bool, true, false, cond, if◌then◌else◌, Option, None, Some, List, [], ◌∷◌, ◌&&◌, map, refl, sym, ap, ap₂, subst, arith}
+use Rattle.std.proofs.Common.{rules, ◌≡◌, ℕ, zero, suc, ◌+◌, ◌<◌, ◌≤◌, ◌==◌, inl, inr, Bool, true, false, cond, if◌then◌else◌, Option, None, Some, List, [], ◌∷◌, ◌&&◌, map, refl, sym, ap, ap₂, subst, arith}
 use Rattle.std.specs.Prelude.{filter, find}
 use Rattle.std.specs.List.{All, count_by, range_with_len}
 use Rattle.std.proofs.lemmas.Bool.{cases_eq, eq-eqb, ne_eqb}
@@ -12,8 +12,7 @@ use Rattle.ball_devices.proofs.Booked.{one}
 -- ---- counts among those that pass a test
 
 one-same : (b x y : Bool) → (b ≡ true → x ≡ y) → one (b && x) ≡ one (b && y)
-one-same true x y same = ap one (same refl)
-one-same false x y same = refl
+one-same b x y same = search rules
 
 module _ {X : Type 0} where
   first-count : (p : X → Bool) (x : X) (xs : List X) (b : Bool)

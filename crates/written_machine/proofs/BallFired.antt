@@ -1,5 +1,5 @@
 -- What the alarm of a ball device does with its ball switches.
-use Rattle.std.proofs.Common.{◌≡◌, ℕ, ◌+◌, ◌≤◌, min, inl, inr, ◌⊎◌, false, Option, Some, None, List, [], ◌∷◌, slice_set, get_or, option_map, refl, ap, ◌∙◌, subst, arith}
+use Rattle.std.proofs.Common.{rules, ◌≡◌, ℕ, ◌+◌, ◌≤◌, min, inl, inr, ◌⊎◌, false, Option, Some, None, List, [], ◌∷◌, slice_set, get_or, option_map, refl, ap, ◌∙◌, subst, arith}
 use Rattle.std.proofs.lemmas.Bool.{cond_both, ltb-false}
 use Rattle.std.proofs.lemmas.Option.{same_Some}
 use Rattle.plan_tables.specs.declared.devices.BallSettings.{BallSettings}
@@ -22,32 +22,17 @@ IsFired b at t = (t.switches ≡ b.switches) ⊎ HasTurned b t at
 
 module _ (d : BallSettings) where
   gone-switches : (now : ℕ) (eject : Eject) (b : BallState) → (gone d now eject b).0.switches ≡ b.switches
-  gone-switches now Idle b =
-      cond_both {A = BallState × List ℕ} d.ejects.mechanical (record b { eject = Away (record { number = 1; timeout = now + d.ejects.timeout }) }, left ∷ []) (b, lost ∷ [])
-      (λ a. a.0.switches ≡ b.switches) (λ hand. refl) (λ none. refl)
-  gone-switches now _ b = refl
+  gone-switches now eject b = search rules
 
   time_out-switches : (now : ℕ) (eject : Eject) (b : BallState) → (time_out d now eject b).0.switches ≡ b.switches
-  time_out-switches now Idle b = refl
-  time_out-switches now (Pulsing a) b =
-      cond_both {A = BallState × List ℕ} (may_try_again d.ejects.max_attempts a.number) (after (failed ∷ []) (attempt d (next_number d.ejects.max_attempts a.number) now b))
-      (record b { eject = Idle; wanted = 0 }, failed ∷ []) (λ x. x.0.switches ≡ b.switches) (λ may. refl) (λ not. refl)
-  time_out-switches now (Away a) b = let begun = begin-begun d now (ended b) in begun.same.switches
+  time_out-switches now eject b = search rules
 
   count-switches : (now i : ℕ) (b : BallState) → (count d now i b).0.switches ≡ slice_set b.switches i (turned (switch_at b i))
-  count-switches now i b =
-      let t : BallState = set_switch i (turned (switch_at b i)) b in
-      let begun = begin-begun d now t in
-      cond_both {A = BallState × List ℕ} (switch_at b i).counted (gone d now b.eject t) (after (entered ∷ []) (begin d now t)) (λ x. x.0.switches ≡ t.switches)
-      (λ was. gone-switches now b.eject t) (λ was_not. begun.same.switches)
+  count-switches now i b = search rules
 
   -- the ball switch that is due first is due at the device's moment
   first-moment : (at : ℕ) (a : ℕ × ℕ) (timeout : Option ℕ) → is_timeout_first (Some a) timeout ≡ false → earlier (Some a.0) timeout ≡ Some at → a.0 ≡ at
-  first-moment at a None not is = same_Some a.0 at is
-  first-moment at a (Some t) not is =
-      let before : a.0 ≤ t = ltb-false t a.0 not in
-      let same : min a.0 t ≡ at = same_Some (min a.0 t) at is in
-      omega arith
+  first-moment at a timeout not is = search rules
 
   counted-fired : (now at : ℕ) (b : BallState) (first : Option (ℕ × ℕ)) → first_due b ≡ first → is_timeout_first first (timeout_of b.eject) ≡ false
       → earlier (option_map (λ a. a.0) first) (timeout_of b.eject) ≡ Some at → IsFired b at (count_due d now first b).0

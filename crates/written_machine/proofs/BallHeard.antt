@@ -1,5 +1,5 @@
 -- In every run each ball switch follows the changes of the switch that it is.
-use Rattle.std.proofs.Common.{◌≡◌, ℕ, zero, suc, ◌<◌, ◌≤◌, ◌==◌, ◌⊎◌, inl, inr, if◌then◌else◌, not, Bool, true, false, cond, ◌||◌, Option, Some, None, List, [], ◌∷◌, ◌++◌, length, slice_set, get_or, refl, ap, ap₂, sym, ◌∙◌, subst, arith}
+use Rattle.std.proofs.Common.{rules, ◌≡◌, ℕ, zero, suc, ◌<◌, ◌≤◌, ◌==◌, ◌⊎◌, inl, inr, if◌then◌else◌, not, Bool, true, false, cond, ◌||◌, Option, Some, None, List, [], ◌∷◌, ◌++◌, length, slice_set, get_or, refl, ap, ap₂, sym, ◌∙◌, subst, arith}
 use Rattle.std.specs.Option.{IfSome}
 use Rattle.std.specs.List.{All, AllPairs, count_by, flat_map}
 use Rattle.std.proofs.lemmas.Bool.{and_from, and_parts, cases_Bool, cases_eq, cases_lt, cond_both, eq-eqb, false≢true, true≢false, ne_eqb, or_left}
@@ -74,31 +74,12 @@ module _ (d : BallSettings) (quick : Bool) (moment later : ℕ) (after : moment 
   -- time goes on
   heard-on : (due' : Option ℕ) (c : BallSwitch) (more : List LevelChange) → ((at : ℕ) → due' ≡ Some at → (due ≡ Some at) ⊎ (later < at))
       → c ≡ b → more ≡ changes → IsHeard d quick later due' c more
-  heard-on due' c more dues same_switch same_changes = record {
-    since = h.since;
-    early = let early = h.early in omega (arith, early, after);
-    follows =
-        subst (λ (x : BallSwitch). Follows d quick h.since x more) (sym same_switch)
-        (subst (Follows d quick h.since b) (sym same_changes) h.follows);
-    fresh = λ normal at is.
-        elim (dues at is) [
-          | inl before ↦ h.fresh normal at before
-          | inr past ↦ let early = h.early in omega (arith, early, after, past)
-        ];
-  }
+  heard-on due' c more dues same_switch same_changes = search rules
 
   -- it is due, and turns
   heard-turned : (due' : Option ℕ) (c : BallSwitch) (more : List LevelChange) → b.due ≡ Some later → (quick ≡ false → (at : ℕ) → due' ≡ Some at → later < at)
       → c ≡ turned b → more ≡ changes → IsHeard d quick later due' c more
-  heard-turned due' c more is dues same_switch same_changes = record {
-    since = later;
-    early = omega arith;
-    follows =
-        subst (λ (x : BallSwitch). Follows d quick later x more) (sym same_switch)
-        (subst (Follows d quick later (turned b)) (sym same_changes)
-        (turned-follows d quick h.since later b changes is (let early = h.early in omega (arith, early, after)) h.follows));
-    fresh = dues;
-  }
+  heard-turned due' c more is dues same_switch same_changes = search rules
 
   -- its switch changes
   heard-noted : (active : Bool) (due' : Option ℕ) (c : BallSwitch) (more : List LevelChange) → due' ≡ None
@@ -127,8 +108,7 @@ leads-on before [] level c now h other is = (other ∙ ap not h, is)
 leads-on before (b ∷ cs) level c now h other is = (h.0, leads-on b.active cs level c now h.1 other is)
 
 none-from : (o : Option ℕ) → ((at : ℕ) → o ≡ Some at → ⊥) → o ≡ None
-none-from None h = refl
-none-from (Some at) h = absurd (h at refl)
+none-from o h = search rules
 
 -- ---- all ball switches
 
@@ -157,17 +137,7 @@ module _ (plan : PlanView) where
       → ((r : RowId) (d : BallSettings) → (row_at plan r).settings ≡ kinds.BallDevice d → switches_at t r ≡ switches_at s r)
       → ((n : SwitchId) → changes_of n ms ≡ changes_of n ls) → ((n : SwitchId) → active_at t.switches n ≡ active_at s.switches n) → AreRead t.switches
       → AreHeard ls s → AreHeard ms t
-  on-heard ls ms s t after dues quick same changes levels reads h = record {
-    heard = λ n r d i is told.
-        heard-on d (quick_at n) s.moment t.moment after (due_of s.switches n) (ball_switch s r i) (changes_of n ls) (h.heard n r d i is told)
-        (due_of t.switches n) (ball_switch t r i) (changes_of n ms) (dues n) (ap (λ (bs : List BallSwitch). get_or bs i empty) (same r d is)) (changes n);
-    unheard = λ r d i is none. ap (λ (bs : List BallSwitch). get_or bs i empty) (same r d is) ∙ h.unheard r d i is none;
-    quick = quick;
-    changes = λ n.
-        subst (LeadTo false (changes_of n ms)) (sym (levels n))
-        (subst (λ (cs : List LevelChange). LeadTo false cs (active_at s.switches n)) (sym (changes n)) (h.changes n));
-    reads = reads;
-  }
+  on-heard ls ms s t after dues quick same changes levels reads h = search rules
 
   changes-after : (before ls ms : List Line) (n : SwitchId) → changes_of n ls ≡ changes_of n ms → changes_of n (before ++ ls) ≡ changes_of n (before ++ ms)
   changes-after before ls ms n same =
@@ -494,9 +464,7 @@ module _ (plan : PlanView) where
 
     -- a quick switch is not due when its level changes
     changed-quick : (kind : SwitchKind) (at : ℕ) (level : Bool) (x : SwitchState) → kind.quick ≡ true → x.due ≡ None → (changed kind at level x).due ≡ None
-    changed-quick kind at level x fast none =
-        cond_both (same_level level x.raw) x (if kind.quick then accepted kind level else awaited kind at level x) (λ y. y.due ≡ None) (λ same. none)
-        (λ new. cond_both kind.quick (accepted kind level) (awaited kind at level x) (λ y. y.due ≡ None) (λ yes. refl) (λ no. absurd (true≢false (sym fast ∙ no))))
+    changed-quick kind at level x fast none = search rules
 
     quick-after : (s : Machine) → HasStates plan s → ((m : SwitchId) → quick_at m ≡ true → due_of s.switches m ≡ None) → (n : SwitchId) (level : Bool) (at : ℕ)
         → (m : SwitchId) → quick_at m ≡ true → due_of (after_change n level at s.switches) m ≡ None
@@ -594,8 +562,7 @@ module _ (plan : PlanView) where
     -- a listener of a list is heard
     one-heard : (r : RowId) (ls : List Listener) (k : ℕ) (e : Listener) → k < length ls → (get_or ls k e).row.0 ≡ r.0 → is_heard r (get_or ls k e).switch ls ≡ true
     one-heard r [] k e within its = absurd (omega arith)
-    one-heard r (l ∷ ls) zero e within its =
-        or_left (is_for r l.switch l) (is_heard r l.switch ls) (and_from (l.row.0 == r.0) (l.switch == l.switch) (eq-eqb l.row.0 r.0 its) (eq-eqb l.switch l.switch refl))
+    one-heard r (l ∷ ls) zero e within its = search rules
     one-heard r (l ∷ ls) (suc k) e within its =
         let more = one-heard r ls k e (omega arith) its in
         elim (cases_Bool (is_for r (get_or ls k e).switch l)) [

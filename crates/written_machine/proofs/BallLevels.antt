@@ -1,5 +1,5 @@
 -- Whether a ball counts at a ball switch follows from its changes alone.
-use Rattle.std.proofs.Common.{◌≡◌, ℕ, zero, suc, ◌+◌, ◌<◌, ◌≤◌, inl, inr, Bool, true, false, not, cond, ◌&&◌, Option, Some, None, List, [], ◌∷◌, ◌++◌, if◌then◌else◌, nat_le, nat_lt, refl, ap, sym, ◌∙◌, append-nil, arith}
+use Rattle.std.proofs.Common.{rules, ◌≡◌, ℕ, zero, suc, ◌+◌, ◌<◌, ◌≤◌, inl, inr, Bool, true, false, not, cond, ◌&&◌, Option, Some, None, List, [], ◌∷◌, ◌++◌, if◌then◌else◌, nat_le, nat_lt, refl, ap, sym, ◌∙◌, append-nil, arith}
 use Rattle.std.specs.List.{filter, list_all, last_or}
 use Rattle.std.proofs.lemmas.Bool.{false≢true, le-leb, lt-leb, leb-true, ltb-true, cases_lt, lt-ltb, le-ltb, cond-true, cond-false}
 use Rattle.std.proofs.lemmas.List.Elements.{filter_agree}
@@ -13,20 +13,15 @@ use Rattle.written_machine.specs.Counted.{counts_from, is_late, not_undone, leve
 -- ---- one change more
 
 and-true : (b : Bool) → (b && true) ≡ b
-and-true true = refl
-and-true false = refl
+and-true b = search rules
 
 filter-cond : (f : LevelChange → Bool) (b : Bool) (xs ys : List LevelChange) → filter f (cond b xs ys) ≡ cond b (filter f xs) (filter f ys)
-filter-cond f true xs ys = refl
-filter-cond f false xs ys = refl
+filter-cond f b xs ys = search rules
 
 -- An older change stays among those that stand (b) just where the later one is late (n), and then it counts (o).
 kept : (p : LevelChange) (fs gs end : List LevelChange) (b n o : Bool) → fs ≡ gs ++ end → (n ≡ true → o ≡ true)
     → cond (b && n) (cond o (p ∷ fs) fs) fs ≡ cond b (cond n (p ∷ gs) gs) gs ++ end
-kept p fs gs end false n o is over = is
-kept p fs gs end true false o is over = is
-kept p fs gs end true true true is over = ap (λ xs. p ∷ xs) is
-kept p fs gs end true true false is over = absurd (false≢true (over refl))
+kept p fs gs end b n o is over = search rules
 
 last-push : (o : Option LevelChange) (xs : List LevelChange) (x : LevelChange) → last_or o (xs ++ x ∷ []) ≡ Some x
 last-push o [] x = refl
@@ -39,8 +34,7 @@ level-push xs c false = ap (λ (ys : List LevelChange). level_after (last_or Non
 
 module _ (d : BallSettings) where
   late-over : (quick : Bool) (moment from : ℕ) (c : LevelChange) → c.at ≤ moment → is_late quick from c ≡ true → nat_le from moment ≡ true
-  late-over true moment from c before late = le-leb from moment (let le = leb-true from c.at late in omega arith)
-  late-over false moment from c before late = le-leb from moment (let lt = ltb-true from c.at late in omega arith)
+  late-over quick moment from c before late = search rules
 
   -- Of those that stood, the ones for which the later change is late stand on, and it stands itself.
   not_undone-push : (quick : Bool) (moment : ℕ) (past : List LevelChange) (c : LevelChange) → c.at ≤ moment
@@ -73,16 +67,10 @@ module _ (d : BallSettings) where
 
   -- at a normal switch that is what counted just before it
   less-le : (from at before : ℕ) → at ≡ before + 1 → nat_lt from at ≡ nat_le from before
-  less-le from at before is =
-      elim (cases_lt from at) [
-        | inl less ↦ lt-ltb from at less ∙ sym (le-leb from before (omega arith))
-        | inr more ↦ le-ltb from at more ∙ sym (lt-leb from before (omega arith))
-      ]
+  less-le from at before is = search rules
 
   before-normal : (c : LevelChange) (past : List LevelChange) (before : ℕ) → c.at ≡ before + 1 → level_before false c past ≡ counted_level d false before past
-  before-normal c past before is =
-      ap (λ (cs : List LevelChange). level_after (last_or None cs))
-      (filter_agree (λ x. is_late false (counts_from d x) c) (λ x. nat_le (counts_from d x) before) (λ x. less-le (counts_from d x) c.at before is) (not_undone d false past))
+  before-normal c past before is = search rules
 
   -- ---- a ball switch follows its changes
 
@@ -103,32 +91,20 @@ module _ (d : BallSettings) where
 
   -- it counts until it is due
   pub not_yet : (b : BallSwitch) (moment : ℕ) → ((due : ℕ) → b.due ≡ Some due → moment < due) → level_by b moment ≡ b.counted
-  not_yet b moment quiet = by b.due quiet
-    where
-      by : (o : Option ℕ) → ((due : ℕ) → o ≡ Some due → moment < due) → level_then b.counted o moment ≡ b.counted
-      by None none = refl
-      by (Some due) later = cond-false (nat_le due moment) (not b.counted) b.counted (lt-leb due moment (later due refl))
+  not_yet b moment quiet = search rules
 
   -- when it is due, the opposite counts
   pub turned-follows : (quick : Bool) (since due : ℕ) (b : BallSwitch) (changes : List LevelChange) → b.due ≡ Some due → since ≤ due
       → Follows quick since b changes → Follows quick due (turned b) changes
-  turned-follows quick since due b changes is later h = record {
-    level = λ moment after.
-        h.level moment (omega arith)
-        ∙ (ap (λ (o : Option ℕ). level_then b.counted o moment) is ∙ cond-true (nat_le due moment) (not b.counted) b.counted (le-leb due moment after));
-  }
+  turned-follows quick since due b changes is later h = search rules
 
   -- a change more
   same-both : (x k : Bool) → cond x k k ≡ k
-  same-both true k = refl
-  same-both false k = refl
+  same-both x k = search rules
 
   noted-level : (active counted : Bool) (from moment : ℕ)
       → cond (nat_le from moment) active counted ≡ level_then counted (if (if active then not counted else counted) then Some from else None) moment
-  noted-level true true from moment = same-both (nat_le from moment) true
-  noted-level true false from moment = refl
-  noted-level false true from moment = refl
-  noted-level false false from moment = same-both (nat_le from moment) false
+  noted-level active counted from moment = search rules
 
   -- where a change comes in time: a quick switch changes when all that is due has come, a normal one before devices
   abbrev pub IsInTime : Bool → ℕ → ℕ → BallSwitch → Type 0

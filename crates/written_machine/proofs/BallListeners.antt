@@ -1,5 +1,5 @@
 -- Which ball switches are told of a switch, and how.
-use Rattle.std.proofs.Common.{◌≡◌, ℕ, zero, suc, ◌<◌, ◌==◌, inl, inr, nat_lt, Bool, true, false, cond, ◌&&◌, ◌||◌, List, [], ◌∷◌, ◌++◌, length, get_or, refl, ap, ap₂, sym, ◌∙◌, subst, arith}
+use Rattle.std.proofs.Common.{rules, ◌≡◌, ℕ, zero, suc, ◌<◌, ◌==◌, inl, inr, nat_lt, Bool, true, false, cond, ◌&&◌, ◌||◌, List, [], ◌∷◌, ◌++◌, length, get_or, refl, ap, ap₂, sym, ◌∙◌, subst, arith}
 use Rattle.std.specs.List.{All, AllPairs, flat_map}
 use Rattle.std.proofs.lemmas.Bool.{and_from, and_parts, cases_Bool, cases_eq, cond-true, eq-eqb, eqb-true, false≢true, lt-ltb, ne_eqb, or_cases}
 use Rattle.std.proofs.lemmas.List.{get_or-set_same, get_or-set_other}
@@ -39,8 +39,7 @@ ball_switch s r i = get_or (switches_at s r) i empty
 -- ---- no two switches are for one ball switch
 
 or_assoc : (x y z : Bool) → (x || (y || z)) ≡ ((x || y) || z)
-or_assoc true y z = refl
-or_assoc false y z = refl
+or_assoc x y z = search rules
 
 module _ (r : RowId) (i : ℕ) where
   heard-append : (a b : List Listener) → is_heard r i (a ++ b) ≡ (is_heard r i a || is_heard r i b)
@@ -49,11 +48,7 @@ module _ (r : RowId) (i : ℕ) where
 
   -- two that are for it are not apart
   for-apart : (l m : Listener) → is_for r i l ≡ true → AreApart l m → is_for r i m ≡ true → ⊥
-  for-apart l m its are also =
-      let one = and_parts (l.row.0 == r.0) (l.switch == i) its in
-      let other = and_parts (m.row.0 == r.0) (m.switch == i) also in
-      are (ap (λ (k : ℕ). record { 0 = k }) (eqb-true l.row.0 r.0 one.0 ∙ sym (eqb-true m.row.0 r.0 other.0)))
-      (eqb-true l.switch i one.1 ∙ sym (eqb-true m.switch i other.1))
+  for-apart l m its are also = search rules
 
   no_more : (l : Listener) (ls : List Listener) → is_for r i l ≡ true → All (AreApart l) ls → is_heard r i ls ≡ true → ⊥
   no_more l [] its apart heard = false≢true heard
@@ -120,8 +115,7 @@ module _ (plan : PlanView) (valid : IsValid plan) (own : ActsAreOwn plan) (right
 
   step-noted : (d : BallSettings) (l : Listener) (now : ℕ) (b : BallState) (a : Bool)
       → ball_step d (calls.Act (act_of_listener a l)) now b ≡ (switched d l.switch a now b, [])
-  step-noted d l now b true = refl
-  step-noted d l now b false = refl
+  step-noted d l now b a = search rules
 
   -- one ball device is told
   module _ (l : Listener) (d : BallSettings) (is : (row_at plan l.row).settings ≡ kinds.BallDevice d) (fit : IsListener l)
@@ -139,19 +133,13 @@ module _ (plan : PlanView) (valid : IsValid plan) (own : ActsAreOwn plan) (right
     switched-is = cond-true (nat_lt l.switch d.switches) next ball (lt-ltb l.switch d.switches its_switch)
 
     called-is : device_step (row_at plan l.row).settings (calls.Act (act_of_listener active l)) s.moment (world_of s) (device_at s l.row) ≡ (states.BallDevice next, [])
-    called-is =
-        ap₂ (λ (x : Settings) (y : DeviceState). device_step x (calls.Act (act_of_listener active l)) s.moment (world_of s) y) is (calm.shapes l.row d fit.within is).is
-        ∙ (ap ball_answer (step-noted d l s.moment ball active) ∙ ap (λ (b : BallState). (states.BallDevice b, [])) switched-is)
+    called-is = search rules
 
     abbrev after : Machine
     after = set_device l.row (states.BallDevice next) s
 
     within_16 : l.switch < length ball.switches
-    within_16 =
-        let size = (calm.shapes l.row d fit.within is).shape.switches in
-        let limits : IsWithinLimits (kinds.BallDevice d) = subst IsWithinLimits is (valid.settings l.row.0 no_row fit.within) in
-        let most = limits.switches in
-        omega (arith, its_switch, most, size)
+    within_16 = search rules
 
     was : (j : ℕ) → get_or ball.switches j empty ≡ ball_switch s l.row j
     was j = ap (λ (x : DeviceState). get_or (ball_of x).switches j empty) (sym (calm.shapes l.row d fit.within is).is)
@@ -199,8 +187,7 @@ module _ (plan : PlanView) (valid : IsValid plan) (own : ActsAreOwn plan) (right
 
   -- only what it says of one listener
   or_none : (b : Bool) → (b || false) ≡ b
-  or_none true = refl
-  or_none false = refl
+  or_none b = search rules
 
   pub listener-noted : (l : Listener) (s : Machine) → IsListener l → IsCalm plan no_lag s → IsNotedBy (l ∷ []) s (tell_listener plan active l s)
   listener-noted l s fit calm =
@@ -238,10 +225,7 @@ module _ (plan : PlanView) (valid : IsValid plan) (own : ActsAreOwn plan) (right
   -- noted twice is noted once
   noted-twice : (d : BallSettings) (now : ℕ) (a b : Bool) (x y z : BallSwitch) → y ≡ cond a (noted d active now x) x → z ≡ cond b (noted d active now y) y
       → z ≡ cond (a || b) (noted d active now x) x
-  noted-twice d now true true x y z one two = two ∙ ap (noted d active now) one
-  noted-twice d now true false x y z one two = two ∙ one
-  noted-twice d now false true x y z one two = two ∙ ap (noted d active now) one
-  noted-twice d now false false x y z one two = two ∙ one
+  noted-twice d now a b x y z one two = search rules
 
   pub listeners-noted : (ls : List Listener) → All IsListener ls → (s : Machine) → IsCalm plan no_lag s → IsNotedBy ls s (all_do (tell_listener plan active) ls s)
   listeners-noted [] all s calm = record { moment = refl; changes = λ n. refl; calm = calm; switches = λ r d i is. refl }

@@ -1,6 +1,6 @@
 -- What the parts of the machine do with balls: a ball device is called, a ball has arrived on the playfield, or nothing
 -- that concerns balls happens.
-use Rattle.std.proofs.Common.{◌≡◌, ℕ, ℤ, ◌<◌, ◌==◌, ◌&&◌, inl, inr, ◌⊎◌, if◌then◌else◌, Bool, true, false, Option, Some, None, List, [], ◌∷◌, ◌++◌, length, refl, sym, ap, ◌∙◌, subst, arith, zero, suc}
+use Rattle.std.proofs.Common.{rules, ◌≡◌, ℕ, ℤ, ◌<◌, ◌==◌, ◌&&◌, inl, inr, ◌⊎◌, if◌then◌else◌, Bool, true, false, Option, Some, None, List, [], ◌∷◌, ◌++◌, length, refl, sym, ap, ◌∙◌, subst, arith, zero, suc}
 use Rattle.std.specs.List.{All, filter, range_with_len}
 use Rattle.std.proofs.lemmas.Bool.{cases_lt, false≢true}
 use Rattle.std.proofs.lemmas.List.{append-nil, get_or_past, length-set, get_or-set_other}
@@ -100,25 +100,20 @@ IsNoChange (lines.Switch n active) = ⊥
 IsNoChange _ = Unit {0}
 
 no_change : (n : SwitchId) (moment : ℕ) (what : Happening) → IsNoChange what → change_at n moment what ++ [] ≡ []
-no_change n moment (lines.Switch m active) none = absurd none
-no_change n moment _ none = refl
+no_change n moment what none = search rules
 
 told-no_change : (command : Command) (answer : Answer) → IsNoChange (told command answer)
-told-no_change command (answers.Sent sent) = tt
-told-no_change command answers.Skipped = tt
+told-no_change command answer = search rules
 
 -- whether a row is a ball device
 pub is_ball : (settings : Settings) → ((d : BallSettings) × (settings ≡ kinds.BallDevice d)) ⊎ IsNoBallDevice settings
-is_ball (kinds.BallDevice d) = inl (d, refl)
-is_ball _ = inr tt
+is_ball settings = search rules
 
 save-no_ball : (settings : Settings) → is_save settings ≡ true → IsNoBallDevice settings
-save-no_ball (kinds.BallDevice d) is = absurd (false≢true is)
-save-no_ball _ is = tt
+save-no_ball settings is = search rules
 
 multiball-no_ball : (settings : Settings) → is_multiball settings ≡ true → IsNoBallDevice settings
-multiball-no_ball (kinds.BallDevice d) is = absurd (false≢true is)
-multiball-no_ball _ is = tt
+multiball-no_ball settings is = search rules
 
 pub not_both : (settings : Settings) (d : BallSettings) → settings ≡ kinds.BallDevice d → IsNoBallDevice settings → ⊥
 not_both settings d is not = subst IsNoBallDevice is not
@@ -132,23 +127,11 @@ module _ (plan : PlanView) where
   nothing-other s = record { ledger = refl; moment = refl; count = refl; balls = λ r d is. refl; changes = λ n. refl }
 
   pub then-other : {s m t : Machine} → IsOther plan s m → IsOther plan m t → IsOther plan s t
-  then-other a b = record {
-    ledger = b.ledger ∙ a.ledger;
-    moment = b.moment ∙ a.moment;
-    count = b.count ∙ a.count;
-    balls = λ r d is. b.balls r d is ∙ a.balls r d is;
-    changes = λ n. b.changes n ∙ a.changes n;
-  }
+  then-other a b = search rules
 
   pub same-other : (s t : Machine) → t.ledger ≡ s.ledger → t.moment ≡ s.moment → t.devices ≡ s.devices → t.lines ≡ s.lines
       → IsOther plan s t
-  same-other s t ledger moment devices lines_are = record {
-    ledger = ledger;
-    moment = moment;
-    count = ap (λ (ds : List DeviceState). length ds) devices;
-    balls = λ r d is. ap (λ (ds : List DeviceState). device_state ds r) devices;
-    changes = λ n. ap (changes_of n) lines_are;
-  }
+  same-other s t ledger moment devices lines_are = search rules
 
   pub write-other : (owner : Owner) (what : Happening) (s : Machine) → IsNoChange what → IsOther plan s (write owner what s)
   write-other owner what s none = record {
@@ -238,21 +221,12 @@ module _ (plan : PlanView) where
   -- a device that is no ball device goes on to another state
   turned-other : (r : RowId) (state : DeviceState) (s : Machine) → IsNoBallDevice (row_at plan r).settings
       → IsOther plan s (set_device r state s)
-  turned-other r state s not = record {
-    ledger = refl;
-    moment = refl;
-    count = length-set s.devices r.0 state;
-    balls = λ q d is.
-        get_or-set_other s.devices r.0 q.0 state (first_state no_row.settings)
-        (λ same. not_both (row_at plan q).settings d is (subst IsNoBallDevice (sym (one_row q r same)) not));
-    changes = λ n. refl;
-  }
+  turned-other r state s not = search rules
 
   -- what such a row books
   books-nothing : (r : RowId) (settings : Settings) → IsNoBallDevice settings → BooksRightly r settings (actions_in plan r) → (k : ℕ) → k < list_count settings
       → All BooksNothing (actions_in plan r k)
-  books-nothing r (kinds.BallDevice d) not books k below = absurd not
-  books-nothing r _ not books k below = books k below
+  books-nothing r settings not books k below = search rules
 
   module _ (entries : HasEntries plan) (own : ActsAreOwn plan) (right : BookingsAreRight plan) where
     -- a device that is no ball device
@@ -269,15 +243,7 @@ module _ (plan : PlanView) where
     -- a ball device is the machine's
     no_mode_has_balls : (m : ModeId) (r : RowId) → r.0 < length plan.rows → is_owner (owners.Mode m) (row_at plan r).owner ≡ true
         → IsNoBallDevice (row_at plan r).settings
-    no_mode_has_balls m r within its =
-        elim (is_ball (row_at plan r).settings) [
-          | inl is ↦
-              let machines : IsOwnBallDevice (row_at plan r).settings (row_at plan r).owner = own.balls r.0 no_row within in
-              let not : is_owner (owners.Mode m) (row_at plan r).owner ≡ false =
-              ap (is_owner (owners.Mode m)) (subst (λ (settings : Settings). IsOwnBallDevice settings (row_at plan r).owner) is.1 machines) in
-              absurd (false≢true (sym not ∙ its))
-          | inr not ↦ not
-        ]
+    no_mode_has_balls m r within its = search rules
 
     -- what a row of a mode is
     record IsOfMode (m : ModeId) (r : RowId) : Type 0 where
@@ -287,31 +253,16 @@ module _ (plan : PlanView) where
     -- ---- targets
 
     post_if-other : (b : Bool) (e : EventId) (s : Machine) → IsOther plan s (post_if b e s)
-    post_if-other true e s = post-other owners.Machine e s
-    post_if-other false e s = nothing-other s
+    post_if-other b e s = search rules
 
     start-other : (m : ModeId) (s : Machine) → IsOther plan s (start_mode plan m s)
-    start-other m s =
-        let old = mode_state s.modes m in
-        let begun = begun_mode plan m s in
-        then-other (same-other s begun refl refl refl refl)
-        (post_if-other (starts (needs_game plan m) (has_game s) old.phase) (mode_event plan m WillStart) begun)
+    start-other m s = search rules
 
     stop-other : (m : ModeId) (s : Machine) → IsOther plan s (stop_mode plan m s)
-    stop-other m s =
-        let old = mode_state s.modes m in
-        let over = set_mode m (stopped old) s in
-        then-other (same-other s over refl refl refl refl)
-        (post_if-other (is_post (stop_answer old.phase)) (mode_event plan m Stopping) over)
+    stop-other m s = search rules
 
     release-other : (m : ModeId) (s : Machine) → IsOther plan s (release_ball_end plan m s)
-    release-other m s = by (may_hold_ball_end plan m)
-      where
-        by : (holds : Bool) → IsOther plan s (if holds then post_if (ends_ball m s.game) (game_event plan BallEnded) (drop_hold m s) else s)
-        by true =
-            then-other (same-other s (drop_hold m s) refl refl refl refl)
-            (post_if-other (ends_ball m s.game) (game_event plan BallEnded) (drop_hold m s))
-        by false = nothing-other s
+    release-other m s = search rules
 
     -- the places of handlers are those of bindings
     numbers-below : (n : ℕ) → All (λ k. k < n) (range_with_len 0 n)

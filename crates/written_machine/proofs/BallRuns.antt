@@ -1,5 +1,5 @@
 -- In every run the ledger is in step with the devices.
-use Rattle.std.proofs.Common.{◌≡◌, ℕ, ◌<◌, inl, inr, cond, Bool, true, false, Option, Some, None, List, [], ◌∷◌, length, map, refl, sym, ap, ◌∙◌, subst, arith}
+use Rattle.std.proofs.Common.{rules, ◌≡◌, ℕ, ◌<◌, inl, inr, cond, Bool, true, false, Option, Some, None, List, [], ◌∷◌, length, map, refl, sym, ap, ◌∙◌, subst, arith}
 use Rattle.std.specs.List.{count_by}
 use Rattle.std.proofs.lemmas.Bool.{cases_lt}
 use Rattle.std.proofs.lemmas.Option.{none-some}
@@ -39,8 +39,7 @@ use Rattle.written_machine.proofs.BallCalm.{balls_at, no_lag, IsCalm, feeder, ca
 use Rattle.written_machine.proofs.BallCalls.{plays-calm, no_call-usual}
 
 pub usual-listener : (active : Bool) (l : Listener) → IsUsual (calls.Act (act_of_listener active l))
-usual-listener true l = tt
-usual-listener false l = tt
+usual-listener active l = search rules
 
 count-none : {X : Type 0} (xs : List X) → count_by (λ (x : X). false) xs ≡ 0
 count-none [] = refl
@@ -100,9 +99,7 @@ module _ (plan : PlanView) where
     -- ---- stimuli
 
     same-calm : (s t : Machine) → t.ledger ≡ s.ledger → t.devices ≡ s.devices → IsCalm plan no_lag s → IsCalm plan no_lag t
-    same-calm s t ledger devices h =
-        calm-other plan s t ledger (ap (λ (ds : List DeviceState). length ds) devices)
-        (λ r d is. ap (λ (ds : List DeviceState). device_state ds r) devices) h
+    same-calm s t ledger devices h = search rules
 
     accepted-calm : (a : Change) (s : Machine) → IsCalm plan no_lag s → IsCalm plan no_lag (do_accepted plan a s)
     accepted-calm a s h =

@@ -1,5 +1,5 @@
 -- Only the calls of switches, and alarms, concern the ball switches of a device.
-use Rattle.std.proofs.Common.{◌≡◌, ℕ, ◌+◌, ◌&&◌, inl, inr, if◌then◌else◌, Bool, true, false, Option, Some, None, List, [], ◌∷◌, length, refl, sym, ap, ◌∙◌, subst, min, zero, suc}
+use Rattle.std.proofs.Common.{rules, ◌≡◌, ℕ, ◌+◌, ◌&&◌, inl, inr, if◌then◌else◌, Bool, true, false, Option, Some, None, List, [], ◌∷◌, length, refl, sym, ap, ◌∙◌, subst, min, zero, suc}
 use Rattle.std.proofs.lemmas.Bool.{cases_eq, cases_lt, cond_both}
 use Rattle.std.proofs.lemmas.List.{append-nil, length-set, get_or-set_same, get_or-set_other, set_past}
 use Rattle.std.proofs.lemmas.List.Concat.{flat_map-append}
@@ -70,44 +70,27 @@ no_call-keeping call none = absurd none
 
 module _ (d : BallSettings) where
   confirm-switches : (now : ℕ) (eject : Eject) (b : BallState) → (confirm d now eject b).0.switches ≡ b.switches
-  confirm-switches now (Away a) b = let begun = begin-begun d now (ended b) in begun.same.switches
-  confirm-switches now _ b = refl
+  confirm-switches now eject b = search rules
 
   request-switches : (n now : ℕ) (b : BallState) → (requested d n now b).0.switches ≡ b.switches
-  request-switches n now b =
-      let more : BallState = record b { wanted = min (b.wanted + n) 255 } in
-      cond_both d.trough (begin d now more) (b, []) (λ a. a.0.switches ≡ b.switches)
-      (λ asked. let begun = begin-begun d now more in begun.same.switches) (λ not. refl)
+  request-switches n now b = search rules
 
   step-switches : (call : Call) (now : ℕ) (b : BallState) → IsKeeping call → (ball_step d call now b).0.switches ≡ b.switches
-  step-switches (calls.Act acts.Confirm) now b keeps = confirm-switches now b.eject b
-  step-switches (calls.Act (acts.Request n)) now b keeps = request-switches n now b
-  step-switches _ now b keeps = absurd keeps
+  step-switches call now b keeps = search rules
 
   state-switches : (call : Call) (now : ℕ) (world : World) (state : DeviceState) → IsKeeping call
       → (ball_of (device_step (kinds.BallDevice d) call now world state).0).switches ≡ (ball_of state).switches
-  state-switches call now world (states.BallDevice b) keeps = step-switches call now b keeps
-  state-switches call now world _ keeps = refl
+  state-switches call now world state keeps = search rules
 
 module _ (plan : PlanView) where
   pub other-steady : {s t : Machine} → IsOther plan s t → IsSteady plan s t
-  other-steady other = record {
-    moment = other.moment;
-    count = other.count;
-    switches = λ r d is. ap (λ (state : DeviceState). (ball_of state).switches) (other.balls r d is);
-    changes = other.changes;
-  }
+  other-steady other = search rules
 
   pub nothing-steady : (s : Machine) → IsSteady plan s s
   nothing-steady s = record { moment = refl; count = refl; switches = λ r d is. refl; changes = λ n. refl }
 
   pub then-steady : {s m t : Machine} → IsSteady plan s m → IsSteady plan m t → IsSteady plan s t
-  then-steady a b = record {
-    moment = b.moment ∙ a.moment;
-    count = b.count ∙ a.count;
-    switches = λ r d is. b.switches r d is ∙ a.switches r d is;
-    changes = λ n. b.changes n ∙ a.changes n;
-  }
+  then-steady a b = search rules
 
   all-steady : {X : Type 0} (f : X → Machine → Machine) → ((x : X) (s : Machine) → IsSteady plan s (f x s)) → (xs : List X) (s : Machine)
       → IsSteady plan s (all_do f xs s)
@@ -129,19 +112,13 @@ module _ (plan : PlanView) where
 
   module _ (tell : Telling → Machine → Machine) (tells : (telling : Telling) (s : Machine) → IsSteady plan s (tell telling s)) where
     drain-steady : (owner : Owner) (drain : Bool) (s : Machine) → IsSteady plan s (drain_if plan owner drain s)
-    drain-steady owner drain s = by (drain && is_ball_on s.game.phase)
-      where
-        by : (b : Bool) → IsSteady plan s (if b then post owner (game_event plan BallDrain) s else s)
-        by true = other-steady (post-other plan owner (game_event plan BallDrain) s)
-        by false = nothing-steady s
+    drain-steady owner drain s = search rules
 
     entry-steady : (owner : Owner) (r : RowId) (drain : Bool) (o : Origin) (s : Machine) → IsSteady plan s (after_entry plan tell owner r drain o s)
-    entry-steady owner r drain Awaited s = tells (Arrived (Device r)) s
-    entry-steady owner r drain _ s = drain-steady owner drain s
+    entry-steady owner r drain o s = search rules
 
     want-steady : (n : ℕ) (s : Machine) → IsSteady plan s (want_balls tell n s)
-    want-steady zero s = nothing-steady s
-    want-steady (suc n) s = tells (Wanted (suc n)) s
+    want-steady n s = search rules
 
     action-steady : (owner : Owner) (a : Action) (s : Machine) → IsSteady plan s (do_action_by plan tell owner a s)
     action-steady owner (Post e) s = other-steady (action-other plan tell owner (Post e) s tt)
@@ -206,8 +183,7 @@ module _ (plan : PlanView) where
   -- ---- what ball devices are told
 
   telling-keeps : (telling : Telling) → IsKeeping (calls.Act (act_told telling))
-  telling-keeps (Arrived target) = tt
-  telling-keeps (Wanted n) = tt
+  telling-keeps telling = search rules
 
   told-steady : (telling : Telling) (o : Option RowId) (s : Machine) → IsSteady plan s (tell_device plan telling o s)
   told-steady telling None s = nothing-steady s

@@ -1,5 +1,5 @@
 -- What each call of a ball device leads to: how many balls count in it then, whether it is Away, and what its lists book.
-use Rattle.std.proofs.Common.{◌≡◌, ℕ, ◌+◌, ◌<◌, ◌≤◌, min, inl, inr, ◌⊎◌, Bool, true, false, not, cond, Option, None, Some, List, [], ◌∷◌, ◌&&◌, length, nat_lt, refl, sym, ap, ◌∙◌, arith}
+use Rattle.std.proofs.Common.{rules, ◌≡◌, ℕ, ◌+◌, ◌<◌, ◌≤◌, min, inl, inr, ◌⊎◌, Bool, true, false, not, cond, Option, None, Some, List, [], ◌∷◌, ◌&&◌, length, nat_lt, refl, sym, ap, ◌∙◌, arith}
 use Rattle.std.specs.List.{count_by}
 use Rattle.std.proofs.lemmas.Bool.{and_parts, cases_lt, cond_both, false≢true}
 use Rattle.std.proofs.lemmas.List.{get_or_past, set_past}
@@ -80,18 +80,11 @@ pub record IsBegun (s : BallState) (a : BallState × List ℕ) : Type 0 where
   pub quiet : AreQuiet a.1
 
 not_away : (e : Eject) → is_idle e ≡ true → is_away e ≡ false
-not_away (Away a) is = sym is
-not_away _ is = refl
+not_away e is = search rules
 
 module _ (d : BallSettings) where
   pub begin-begun : (now : ℕ) (s : BallState) → IsBegun s (begin d now s)
-  begin-begun now s =
-      cond_both (can_begin d s) (attempt d 1 now s) (s, []) (IsBegun s)
-      (λ can. record {
-        same = record { switches = refl; away = sym (not_away s.eject (and_parts (is_idle s.eject) _ can).0) };
-        quiet = (inl refl, tt);
-      })
-      (λ not. record { same = record { switches = refl; away = refl }; quiet = tt })
+  begin-begun now s = search rules
 
 module _ (d : BallSettings) (enter : Type 0) where
   -- ---- an attempt is over
@@ -177,10 +170,7 @@ module _ (d : BallSettings) (enter : Type 0) where
   confirmed-answer : (now : ℕ) (s : BallState) (target : BallTarget) → target ≡ Playfield → is_away s.eject ≡ true
       → IsAnswer enter s (after (confirmed target) (begin d now (ended s)))
   confirmed-answer now s Playfield is away = on_playfield now s succeeded (inr (inl refl)) away
-  confirmed-answer now s (Device r) is away = absurd (device-not r is)
-    where
-      device-not : (r : _) → Device r ≡ Playfield → ⊥
-      device-not r is = cc
+  confirmed-answer now s (Device r) is away = search rules
 
   to_playfield : (now : ℕ) (eject : Eject) (s : BallState) → s.eject ≡ eject → d.target ≡ Playfield → IsAnswer enter s (confirm d now eject s)
   to_playfield now (Away a) s is target = confirmed-answer now s d.target target (ap is_away is)
@@ -232,15 +222,11 @@ module _ (d : BallSettings) where
 
   into_device : (now : ℕ) (s : BallState) (target : BallTarget) (r : RowId) → target ≡ Device r
       → IsConfirmed s (after (confirmed target) (begin d now (ended s)))
-  into_device now s Playfield r is = absurd (cc)
-  into_device now s (Device q) r is =
-      let begun = begin-begun d now (ended s) in
-      record { switches = begun.same.switches; away = begun.same.away; quiet = (inr (inl refl), begun.quiet) }
+  into_device now s target r is = search rules
 
   by_eject : (now : ℕ) (eject : Eject) (s : BallState) (r : RowId) → s.eject ≡ eject → is_away s.eject ≡ true → d.target ≡ Device r
       → IsConfirmed s (confirm d now eject s)
-  by_eject now (Away a) s r is away target = into_device now s d.target r target
-  by_eject now _ s r is away target = absurd (false≢true (sym (ap is_away is) ∙ away))
+  by_eject now eject s r is away target = search rules
 
   pub step-confirmed : (now : ℕ) (s : BallState) (r : RowId) → is_away s.eject ≡ true → d.target ≡ Device r
       → IsConfirmed s (ball_step d (calls.Act acts.Confirm) now s)

@@ -1,5 +1,5 @@
 -- In every run all that the ledger books stands in the trace, with the counts that follow from it.
-use Rattle.std.proofs.Common.{◌≡◌, ℕ, ◌+◌, ◌^◌, ◌<◌, ◌⊎◌, inl, inr, nat_lt, true, ◌&&◌, List, [], ◌∷◌, ◌++◌, length, length-append, get_or, drop, refl, sym, ap, ◌∙◌, subst, append_assoc, arith}
+use Rattle.std.proofs.Common.{rules, ◌≡◌, ℕ, ◌+◌, ◌^◌, ◌<◌, ◌⊎◌, inl, inr, nat_lt, true, ◌&&◌, List, [], ◌∷◌, ◌++◌, length, length-append, get_or, drop, refl, sym, ap, ◌∙◌, subst, append_assoc, arith}
 use Rattle.std.proofs.lemmas.Bool.{and_parts, ltb-true}
 use Rattle.std.proofs.lemmas.List.{append-nil, length-replicate}
 use Rattle.std.proofs.lemmas.List.Concat.{flat_map-append}
@@ -50,23 +50,10 @@ booked-more (b ∷ cs) c l = ap (λ bs. booked b l ∷ bs) (booked-more cs c (af
 
 -- what can be booked may be
 there-can : (n : ℕ) (target : BallTarget) → is_target_there n target ≡ true → IsTargetThere n target
-there-can n Playfield is = tt
-there-can n (Device r) is = ltb-true r.0 n is
+there-can n target is = search rules
 
 may-can : (c : LedgerCall) (l : Ledger) → can_book c l ≡ true → MayBook c l
-may-can (Enter r) l is =
-    let parts = and_parts (nat_lt r.0 (length l.counted)) (nat_lt (l.known + 1) (2 ^ 32)) is in
-    (ltb-true r.0 (length l.counted) parts.0, ltb-true (l.known + 1) (2 ^ 32) parts.1)
-may-can (Leave r target) l is =
-    let parts = and_parts (nat_lt r.0 (length l.counted)) (is_target_there (length l.counted) target && nat_lt 0 (counted_in l r)) is in
-    let rest = and_parts (is_target_there (length l.counted) target) (nat_lt 0 (counted_in l r)) parts.1 in
-    (ltb-true r.0 (length l.counted) parts.0, there-can (length l.counted) target rest.0, ltb-true 0 (counted_in l r) rest.1)
-may-can (Lose r) l is =
-    let parts = and_parts (nat_lt r.0 (length l.counted)) (nat_lt 0 (counted_in l r)) is in
-    (ltb-true r.0 (length l.counted) parts.0, ltb-true 0 (counted_in l r) parts.1)
-may-can (Arrive target) l is =
-    let parts = and_parts (is_target_there (length l.counted) target) (nat_lt 0 (transit_to l target)) is in
-    (there-can (length l.counted) target parts.0, ltb-true 0 (transit_to l target) parts.1)
+may-can c l is = search rules
 
 -- ---- one line more
 
@@ -77,9 +64,7 @@ parted [] l [] line after is = inl (refl, ap (λ (xs : List Line). get_or xs 0 l
 parted [] l (b ∷ bs) line after is =
     let size : length (bs ++ line ∷ after) ≡ 0 = ap (λ (xs : List Line). length (drop 1 xs)) (sym is) in
     absurd (omega (arith, size, length-append bs (line ∷ after)))
-parted (x ∷ xs) l [] line after is =
-    let head : x ≡ line = ap (λ (ys : List Line). get_or ys 0 x) is in
-    inr (xs, ap (λ (y : Line). y ∷ xs) head)
+parted (x ∷ xs) l [] line after is = search rules
 parted (x ∷ xs) l (b ∷ bs) line after is =
     let head : x ≡ b = ap (λ (ys : List Line). get_or ys 0 x) is in
     let tail : xs ++ l ∷ [] ≡ bs ++ line ∷ after = ap (λ (ys : List Line). drop 1 ys) is in
@@ -149,8 +134,7 @@ module _ (plan : PlanView) where
 
   -- a line that tells of no booking
   nothing_at : (what : Happening) → IsNoBooking what → booked_at what ≡ []
-  nothing_at (lines.Balls booking counts) none = absurd none
-  nothing_at _ none = refl
+  nothing_at what none = search rules
 
   not_balls : (what : Happening) (booking : Booking) (told : BallCounts) → IsNoBooking what → what ≡ lines.Balls booking told → ⊥
   not_balls what booking told none is = subst IsNoBooking is none
@@ -235,8 +219,7 @@ module _ (plan : PlanView) where
       subst (λ (ls : List Line). IsTold ls s.ledger) (append_assoc before s.lines (x ∷ [])) (quiet-told (before ++ s.lines) x s.ledger none h)
 
   no_booking : (command : Command) (answer : Answer) → IsNoBooking (told command answer)
-  no_booking command (answers.Sent sent) = tt
-  no_booking command answers.Skipped = tt
+  no_booking command answer = search rules
 
   told-move : (licence : Licence) (before : List Line) (x : Move) (s : Machine) → MayDo plan licence x → IsToldSoFar before s → IsToldSoFar before (do_move plan x s)
   told-move licence before (Wrote owner what) s may h = write-told before owner what s may.3 h

@@ -33,12 +33,7 @@ pub data IsTurn : Phase → List ModeEvent → Type 0 where
   stops : IsTurn phases.Stopping (Stopping ∷ [])
 
 mine-push : (m : ModeId) (w : Work) (xs ys : List ModeEvent) → mine m w (xs ++ ys) ≡ mine m w xs ++ ys
-mine-push m (Mode k which) xs ys = pick (k.0 == m.0) which xs ys
-  where
-    pick : (b : Bool) (which : ModeEvent) (xs ys : List ModeEvent) → cond b (which ∷ xs ++ ys) (xs ++ ys) ≡ cond b (which ∷ xs) xs ++ ys
-    pick true which xs ys = refl
-    pick false which xs ys = refl
-mine-push m _ xs ys = refl
+mine-push m w xs ys = search rules
 
 -- one event more waits
 pub waiting_of-push : (plan : PlanView) (m : ModeId) (ps : List Posted) (p : Posted) → waiting_of plan m (ps ++ p ∷ []) ≡ waiting_of plan m ps ++ mine m (work_of plan p.event) []
@@ -75,8 +70,7 @@ pub stopping-runs : (p : Phase) (q : List ModeEvent) → IsTurn p (Stopping ∷ 
 stopping-runs p q stops = refl
 
 pub stopped-quiet : (p : Phase) (q : List ModeEvent) → IsTurn p (Stopped ∷ q) → is_running p ≡ false
-stopped-quiet p q ends = refl
-stopped-quiet p q again = refl
+stopped-quiet p q x1 = search rules
 
 -- an event that is not the last of a mode's
 abbrev pub IsNoEnd : ModeEvent → Type 0
@@ -85,11 +79,4 @@ IsNoEnd _ = Unit {0}
 
 -- where the mode runs, its last event does not wait
 pub running-no_end : (p : Phase) (l : List ModeEvent) → IsTurn p l → is_running p ≡ true → AllByRecursion IsNoEnd l
-running-no_end p l active is = tt
-running-no_end p l stops is = (tt, tt)
-running-no_end p l idle is = absurd (search rules)
-running-no_end p l ends is = absurd (search rules)
-running-no_end p l first is = absurd (search rules)
-running-no_end p l again is = absurd (search rules)
-running-no_end p l second is = absurd (search rules)
-running-no_end p l third is = absurd (search rules)
+running-no_end p l x1 is = search rules

@@ -1,5 +1,5 @@
 -- What one cost pays for: single changes of the machine, one after another, each by a licence.
-use Rattle.std.proofs.Common.{◌≡◌, ◌&&◌, ℕ, ℤ, ◌+◌, ◌-◌, ◌≤◌, ◌<◌, inl, inr, Option, None, Some, Bool, true, false, List, [], ◌∷◌, ◌++◌, length, length-append, slice_index_or, slice_set, if◌then◌else◌, map, refl, ap, sym, subst, ◌∙◌, arith}
+use Rattle.std.proofs.Common.{rules, ◌≡◌, ◌&&◌, ℕ, ℤ, ◌+◌, ◌-◌, ◌≤◌, ◌<◌, inl, inr, Option, None, Some, Bool, true, false, List, [], ◌∷◌, ◌++◌, length, length-append, slice_index_or, slice_set, if◌then◌else◌, map, refl, ap, sym, subst, ◌∙◌, arith}
 use Rattle.std.proofs.lemmas.Bool.{cases_eq, cases_lt, false≢true}
 use Rattle.std.proofs.lemmas.Option.{none-some}
 use Rattle.std.specs.List.{All, AllByRecursion}
@@ -78,8 +78,7 @@ module _ (plan : PlanView) (may : Move → Type 0) where
 
 -- what holds whether an event is posted or not
 pub post_if-by : (P : Machine → Type 0) (e : EventId) (s : Machine) → P (post owners.Machine e s) → P s → (b : Bool) → P (post_if b e s)
-post_if-by P e s posted not true = posted
-post_if-by P e s posted not false = not
+post_if-by P e s posted not b = search rules
 
 module _ (plan : PlanView) (m : ModeId) (s : Machine) where
   -- a mode that is told to start, and its event
@@ -104,11 +103,7 @@ module _ (owner : Owner) (call : LedgerCall) (s : Machine) where
   booked_now = write owner (lines.Balls (booked call s.ledger) (counts_of (after_call call s.ledger))) (set_ledger (after_call call s.ledger) s)
 
   pub book-by : (P : Machine → Type 0) → (can_book call s.ledger ≡ true → P booked_now) → P s → P (book owner call s)
-  book-by P here not = by (can_book call s.ledger) refl
-    where
-      by : (b : Bool) → can_book call s.ledger ≡ b → P (if b then booked_now else s)
-      by true is = here is
-      by false is = not
+  book-by P here not = search rules
 
   pub booked-length : length booked_now.lines ≡ length s.lines + 1
   booked-length =
@@ -168,10 +163,7 @@ module _ (plan : PlanView) where
   grows-move _ s = (omega arith, omega arith)
 
   pub moment-move : (x : Move) (s : Machine) → (do_move plan x s).moment ≡ s.moment
-  moment-move (Began m) s = start-by plan m s (λ t. t.moment ≡ s.moment) refl refl
-  moment-move (Ended m) s = stop-by plan m s (λ t. t.moment ≡ s.moment) refl refl
-  moment-move (Booked owner call) s = book-by owner call s (λ t. t.moment ≡ s.moment) (λ is. refl) refl
-  moment-move _ s = refl
+  moment-move x s = search rules
 
   -- each coil of the plan has a state, and a mode holds only what its actions enable
   pub record HasCoils (coils : List CoilState) : Type 0 where
@@ -195,8 +187,7 @@ module _ (plan : PlanView) where
           ]
 
   either-has_coils : (b : Bool) (x y : List CoilState) → HasCoils x → HasCoils y → HasCoils (if b then x else y)
-  either-has_coils true x y one other = one
-  either-has_coils false x y one other = other
+  either-has_coils b x y one other = search rules
 
   pub asked-has_coils : (owner : Owner) (command : Command) (now : ℕ) (coils : List CoilState) → IsListed plan owner command → HasCoils coils → HasCoils (after_asking command owner now coils)
   asked-has_coils owner (commands.Pulse coil ms power) now coils may h =
@@ -224,12 +215,7 @@ module _ (plan : PlanView) where
 
   -- there are as many players as before where a variable changes
   varied-few : (v : VariableId) (value : Option ℤ) (p : PlayersState) → AreFew plan p → AreFew plan (after_change plan v value p)
-  varied-few v None p h = h
-  varied-few v (Some value) p h =
-      let same = length-set p.players (p.current - 1) (with_value v value (player_at plan p p.current)) in
-      let few = h.few in
-      let current = h.current in
-      record { few = omega (arith, same, few); current = omega (arith, same, current) }
+  varied-few v value p h = search rules
 
   -- the switches are read as the plan says, and each has a state, as each mode, each device and each coil has, and there are
   -- no more players than there can be
@@ -282,8 +268,7 @@ module _ (plan : PlanView) where
   has_states-move l (Released m) s may h = gamed-has_states (released m s.game) s h
   has_states-move l (Turned call r) s may h = record { kinds = h.kinds; switches = h.switches; modes = h.modes; devices = turned-has_devices call r s h.devices; coils = h.coils; players = h.players }
   has_states-move l (Asked owner command) s may h = record { kinds = h.kinds; switches = h.switches; modes = h.modes; devices = h.devices; coils = asked-has_coils owner command s.moment s.coils may.2 h.coils; players = h.players }
-  has_states-move l (Booked owner call) s may h =
-      book-by owner call s HasStates (λ is. record { kinds = h.kinds; switches = h.switches; modes = h.modes; devices = h.devices; coils = h.coils; players = h.players }) h
+  has_states-move l (Booked owner call) s may h = search rules
   has_states-move l (Varied v value) s may h = record { kinds = h.kinds; switches = h.switches; modes = h.modes; devices = h.devices; coils = h.coils; players = varied-few v value s.players h.players }
   has_states-move l (AddedBalls n) s may h = gamed-has_states (more_balls n s.game) s h
   has_states-move l (Stepped which) s may h =
@@ -333,11 +318,7 @@ module _ (plan : PlanView) where
 
     -- where no switch may change
     switches-move : (l.switches → ⊥) → (x : Move) (s : Machine) → MayDo plan l x → (do_move plan x s).switches ≡ s.switches
-    switches-move none (Switched n switch) s may = absurd (none may)
-    switches-move none (Began m) s may = start-by plan m s (λ t. t.switches ≡ s.switches) refl refl
-    switches-move none (Ended m) s may = stop-by plan m s (λ t. t.switches ≡ s.switches) refl refl
-    switches-move none (Booked owner call) s may = book-by owner call s (λ t. t.switches ≡ s.switches) (λ is. refl) refl
-    switches-move none _ s may = refl
+    switches-move none x s may = search rules
 
     pub switches-does : (l.switches → ⊥) → {c : Cost} {s t : Machine} → Does plan (MayDo plan l) c s t → t.switches ≡ s.switches
     switches-does none {c} {s} {t} d = does-keeps plan (MayDo plan l) (λ u. u.switches ≡ s.switches) (λ x u may h. switches-move none x u may ∙ h) d refl

@@ -1,5 +1,5 @@
 -- The ball devices that may be told of a ball that has arrived, and the first trough.
-use Rattle.std.proofs.Common.{◌≡◌, suc, ◌<◌, Bool, true, false, cond, Some, List, [], ◌∷◌, length, refl, sym, subst, inl, inr, arith, if◌then◌else◌, None}
+use Rattle.std.proofs.Common.{rules, ◌≡◌, suc, ◌<◌, Bool, true, false, cond, Some, List, [], ◌∷◌, length, refl, sym, subst, inl, inr, arith, if◌then◌else◌, None}
 use Rattle.std.specs.Prelude.{Contains, find}
 use Rattle.std.specs.List.{All}
 use Rattle.std.proofs.lemmas.Bool.{cases_lt, false≢true}
@@ -44,12 +44,10 @@ All-at P xs x all (i, within, is) = subst P is (all i x within)
 
 -- what has a target is a ball device
 feeds-own : (target : BallTarget) (settings : Settings) (owner : Owner) → feeds target settings ≡ true → IsOwnBallDevice settings owner → owner ≡ owners.Machine
-feeds-own target (BallDevice d) owner is own = own
-feeds-own target _ owner is own = absurd (false≢true is)
+feeds-own target settings owner is own = search rules
 
 trough-own : (settings : Settings) (owner : Owner) → is_trough settings ≡ true → IsOwnBallDevice settings owner → owner ≡ owners.Machine
-trough-own (BallDevice d) owner is own = own
-trough-own _ owner is own = absurd (false≢true is)
+trough-own settings owner is own = search rules
 
 module _ (plan : PlanView) where
   -- a ball device is the machine's

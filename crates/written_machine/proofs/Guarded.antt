@@ -1,5 +1,5 @@
 -- What is sent to coils is within their limits, and nothing is skipped for a limit, in every run.
-use Rattle.std.proofs.Common.{◌≡◌, ℕ, ◌≤◌, ◌⊎◌, inl, inr, Bool, true, false, not, if◌then◌else◌, None, Some, List, [], ◌∷◌, ◌++◌, length, refl, sym, ap, ◌∙◌, subst, append_assoc, arith}
+use Rattle.std.proofs.Common.{rules, ◌≡◌, ℕ, ◌≤◌, ◌⊎◌, inl, inr, Bool, true, false, not, if◌then◌else◌, None, Some, List, [], ◌∷◌, ◌++◌, length, refl, sym, ap, ◌∙◌, subst, append_assoc, arith}
 use Rattle.std.specs.Prelude.{◌&&◌, nat_le}
 use Rattle.std.proofs.lemmas.Bool.{false≢true, le-leb}
 use Rattle.std.proofs.lemmas.Grind.{flat_map-append}
@@ -48,33 +48,14 @@ call_for (commands.Enable coil power) owner now = calls_of.Enable coil power own
 call_for (commands.Disable coil) owner now = calls_of.Disable coil now
 
 call-moment : (command : Command) (owner : Owner) (now : ℕ) → calls_of.moment_of (call_for command owner now) ≡ now
-call-moment (commands.Pulse coil ms power) owner now = refl
-call-moment _ owner now = refl
+call-moment command owner now = search rules
 
 call-after : (command : Command) (owner : Owner) (now : ℕ) (s : List CoilState) → after_call (call_for command owner now) s ≡ after_asking command owner now s
-call-after (commands.Pulse coil ms power) owner now s = refl
-call-after _ owner now s = refl
+call-after command owner now s = search rules
 
 -- its line has what the call sends
 asked-sent : (command : Command) (owner : Owner) (now : ℕ) (s : List CoilState) → sent_at now owner (told command (answer_asking command owner now s)) ≡ sent_by (call_for command owner now) s
-asked-sent (commands.Pulse coil ms power) owner now s = by (takes_pulse ms power now (coil_at s coil))
-  where
-    by : (b : Bool) → sent_at now owner (told (commands.Pulse coil ms power) (if b then answers.Sent (commands.Pulse coil ms power) else answers.Skipped))
-        ≡ sent_as (if b then answers.Sent (commands.Pulse coil ms power) else answers.Skipped) None now
-    by true = refl
-    by false = refl
-asked-sent (commands.Enable coil power) owner now s = by (takes_enable power (coil_at s coil))
-  where
-    by : (b : Bool) → sent_at now owner (told (commands.Enable coil power) (if b then answers.Sent (commands.Enable coil power) else answers.Skipped))
-        ≡ sent_as (if b then answers.Sent (commands.Enable coil power) else answers.Skipped) (Some owner) now
-    by true = refl
-    by false = refl
-asked-sent (commands.Disable coil) owner now s = by (is_on_at now (coil_at s coil))
-  where
-    by : (b : Bool) → sent_at now owner (told (commands.Disable coil) (if b then answers.Sent (commands.Disable coil) else answers.Skipped))
-        ≡ sent_as (if b then answers.Sent (commands.Disable coil) else answers.Skipped) None now
-    by true = refl
-    by false = refl
+asked-sent command owner now s = search rules
 
 -- ---- skipped commands, line by line
 
@@ -102,43 +83,24 @@ sendings-push ls l = flat_map-append sent_in ls (l ∷ []) ∙ ap (λ ss. sendin
 -- ---- a skipped command is idle
 
 none-due : (b : Bool) (p : Sending) → sent_if b p ≡ [] → b ≡ false
-none-due true p is = let e = ap length is in absurd (omega (arith, e))
-none-due false p is = refl
+none-due b p is = search rules
 
 both-true : (a b : Bool) → a ≡ true → b ≡ true → (a && b) ≡ true
 both-true a b one other = ap (λ x. x && b) one ∙ other
 
 why-not : (held resting within : Bool) → (not held && (not resting && within)) ≡ false → within ≡ true → (held ≡ true) ⊎ (resting ≡ true)
-why-not true resting within none is = inl refl
-why-not false true within none is = inr refl
-why-not false false within none is = absurd (false≢true (sym none ∙ is))
+why-not held resting within none is = search rules
 
 why-held : (held within : Bool) → (not held && within) ≡ false → within ≡ true → held ≡ true
-why-held true within none is = refl
-why-held false within none is = absurd (false≢true (sym none ∙ is))
+why-held held within none is = search rules
 
 module _ (limits : List CoilLimits) (sent : List Sending) (s : List CoilState) (now : ℕ) (f : Follows limits sent s now) (owner : Owner) where
   -- what is due is nothing
   nothing-due : (command : Command) → sent_by (call_for command owner now) s ≡ [] → due_by limits sent (call_for command owner now) ≡ []
-  nothing-due command none =
-      let call = call_for command owner now in
-      let when = call-moment command owner now in
-      sym (followers_send_what_is_due limits sent s now call (omega (arith, when)) f) ∙ none
+  nothing-due command none = search rules
 
   skipped-idle : (command : Command) → IsWithin limits command → answer_asking command owner now s ≡ answers.Skipped → IsIdle sent now command
-  skipped-idle (commands.Pulse coil ms power) within skipped =
-      let l = limits_at limits coil in
-      why-not (is_held sent coil) (is_resting sent coil now) (is_pulse_within l ms power)
-      (none-due (is_pulse_due limits sent coil ms power now) (pulse_sent coil ms power now) (nothing-due (commands.Pulse coil ms power) (ap (λ a. sent_as a None now) skipped)))
-      (both-true (nat_le 1 ms) (nat_le ms l.max_pulse_ms && nat_le power l.max_pulse_power) (le-leb 1 ms within.0)
-      (both-true (nat_le ms l.max_pulse_ms) (nat_le power l.max_pulse_power) (le-leb ms l.max_pulse_ms within.1) (le-leb power l.max_pulse_power within.2)))
-  skipped-idle (commands.Enable coil power) within skipped =
-      let l = limits_at limits coil in
-      why-held (is_held sent coil) (is_hold_within l power)
-      (none-due (is_enable_due limits sent coil power) (enable_sent coil power owner now) (nothing-due (commands.Enable coil power) (ap (λ a. sent_as a (Some owner) now) skipped)))
-      (both-true l.may_hold (nat_le power l.max_hold_power) within.0 (le-leb power l.max_hold_power within.1))
-  skipped-idle (commands.Disable coil) within skipped =
-      none-due (is_on sent coil now) (disable_sent coil now) (nothing-due (commands.Disable coil) (ap (λ a. sent_as a None now) skipped))
+  skipped-idle command within skipped = search rules
 
 -- ---- what a line says
 
@@ -151,17 +113,13 @@ skip_of other (lines.Skip command) = command
 skip_of other _ = other
 
 told-skip : (command : Command) (a : Answer) (c : Command) → told command a ≡ lines.Skip c → a ≡ answers.Skipped
-told-skip command (answers.Sent sent) c is = absurd (false≢true (ap is_skip is))
-told-skip command answers.Skipped c is = refl
+told-skip command a c is = search rules
 
 told-same : (command : Command) (a : Answer) (c : Command) → told command a ≡ lines.Skip c → command ≡ c
-told-same command (answers.Sent sent) c is = absurd (false≢true (ap is_skip is))
-told-same command answers.Skipped c is = ap (skip_of command) is
+told-same command a c is = search rules
 
 no-sending : (moment : ℕ) (owner : Owner) (what : Happening) → IsNoCommand what → sent_at moment owner what ≡ []
-no-sending moment owner (lines.Coil command) is = absurd is
-no-sending moment owner (lines.Skip command) is = absurd is
-no-sending moment owner _ is = refl
+no-sending moment owner what is = search rules
 
 -- ---- every move
 
@@ -213,10 +171,8 @@ module _ (plan : PlanView) (allowed : ActionsKeepLimits plan) where
 
   guarded-move : (licence : Licence) (before : List Line) (x : Move) (s : Machine) → MayDo plan licence x → IsGuarded before s → IsGuarded before (do_move plan x s)
   guarded-move licence before (Wrote owner what) s may h = quiet-guarded before owner what s may.2 h
-  guarded-move licence before (Began m) s may h =
-      start-by plan m s (IsGuarded before) (record { follows = h.follows; idle = h.idle }) (record { follows = h.follows; idle = h.idle })
-  guarded-move licence before (Ended m) s may h =
-      stop-by plan m s (IsGuarded before) (record { follows = h.follows; idle = h.idle }) (record { follows = h.follows; idle = h.idle })
+  guarded-move licence before (Began m) s may h = search rules
+  guarded-move licence before (Ended m) s may h = search rules
   guarded-move licence before (Booked owner call) s may h =
       book-by owner call s (IsGuarded before)
       (λ is. quiet-guarded before owner (lines.Balls (booked call s.ledger) (counts_of (after_booking call s.ledger))) (set_ledger (after_booking call s.ledger) s) tt (record { follows = h.follows; idle = h.idle })) h
@@ -239,12 +195,7 @@ module _ (plan : PlanView) (allowed : ActionsKeepLimits plan) where
         (λ earlier first kept s h. guarded-does working earlier (does-after plan kept first.event s) h) before
 
     arrived-guarded : (before : List Line) (at : ℕ) (s : Machine) → s.moment ≤ at → IsGuarded before s → IsGuarded (before ++ s.lines) (arrived at s)
-    arrived-guarded before at s later h =
-        let same : (before ++ s.lines) ++ [] ≡ before ++ s.lines = append-nil (before ++ s.lines) in
-        record {
-          follows = subst (λ ls. Follows limits (sendings ls) s.coils at) (sym same) (later_follows limits (sendings (before ++ s.lines)) s.coils s.moment at later h.follows);
-          idle = subst (AreFineSkips []) (sym same) h.idle;
-        }
+    arrived-guarded before at s later h = search rules
 
     abbrev IsKept : List Line → Machine → Type 0
     IsKept before s = IsGuarded before s × IsNothingLate s

@@ -92,9 +92,7 @@ module _ (plan : PlanView) (valid : IsValid plan) (m : ModeId) (within : m.0 < l
   fine-at on (l ∷ before) line after h is = fine-at (heard_after m on (work_written plan l.happening)) before line after h.1 is
 
   event-heard : (on : Bool) (which : ModeEvent) → heard_at which on ≡ true → (which ≡ Started) ⊎ ((on ≡ true) × (which ≡ Stopped → ⊥))
-  event-heard on Started h = inl refl
-  event-heard on Stopped h = absurd (search rules)
-  event-heard on _ h = inr (h, λ is. search rules)
+  event-heard on which h = search rules
 
   abbrev event_in : Work → ModeEvent
   event_in (Mode k which) = which
@@ -105,16 +103,7 @@ module _ (plan : PlanView) (valid : IsValid plan) (m : ModeId) (within : m.0 < l
   number_in _ = 0
 
   work-heard : (on : Bool) (w : Work) → heard_after m on w ≡ true → (w ≡ Mode m Started) ⊎ ((on ≡ true) × (w ≡ Mode m Stopped → ⊥))
-  work-heard on (Mode k which) h =
-      elim (cases_eq k.0 m.0) [
-        | inl is ↦
-            elim (event-heard on which (subst (λ (b : Bool). cond b (heard_at which on) on ≡ true) (eq-eqb k.0 m.0 is) h)) [
-              | inl starts ↦ inl (ap (λ (n : ℕ). Mode (numbered n) which) is ∙ ap (λ (x : ModeEvent). Mode m x) starts)
-              | inr still ↦ inr (still.0, λ e. still.1 (ap event_in e))
-            ]
-        | inr other ↦ inr (subst (λ (b : Bool). cond b (heard_at which on) on ≡ true) (ne_eqb k.0 m.0 other) h, λ e. other (ap number_in e))
-      ]
-  work-heard on _ h = inr (h, λ is. search rules)
+  work-heard on w h = search rules
 
   started_line : (h : Happening) → work_written plan h ≡ Mode m Started → h ≡ lines.Event (mode_event plan m Started)
   started_line (lines.Event e) is = let at : IsWorkAt plan e (Mode m Started) = subst (IsWorkAt plan e) is (work_found plan e) in ap lines.Event at.1

@@ -1,5 +1,5 @@
 -- Who holds coils, after they are asked and after they are released.
-use Rattle.std.proofs.Common.{◌≡◌, ℕ, zero, suc, ◌<◌, ◌≤◌, ◌⊎◌, inl, inr, Bool, true, false, if◌then◌else◌, Option, None, Some, is_some, List, [], ◌∷◌, length, refl, sym, ap, ◌∙◌, subst, arith}
+use Rattle.std.proofs.Common.{rules, ◌≡◌, ℕ, zero, suc, ◌<◌, ◌≤◌, ◌⊎◌, inl, inr, Bool, true, false, if◌then◌else◌, Option, None, Some, is_some, List, [], ◌∷◌, length, refl, sym, ap, ◌∙◌, subst, arith}
 use Rattle.std.specs.Prelude.{Contains, ◌||◌, nat_lt}
 use Rattle.std.proofs.lemmas.Bool.{cases_eq, cases_lt, false≢true}
 use Rattle.std.proofs.lemmas.List.{length-map, length-set, get_or-map, get_or_past, get_or-set_same, get_or-set_other, set_past}
@@ -50,8 +50,7 @@ set-other : (owner : Owner) (coil : CoilId) (x : CoilState) (coils : List CoilSt
 set-other owner coil x coils c other = ap (is_held_by owner) (get_or-set_other coils coil.0 c.0 x (off no_limits) other)
 
 set-same : (owner : Owner) (coil : CoilId) (x : CoilState) (coils : List CoilState) (c : CoilId) → c.0 ≡ coil.0 → coil.0 < length coils → is_held_by owner (coil_at (set_coil coil x coils) c) ≡ is_held_by owner x
-set-same owner coil x coils c same there =
-    ap (is_held_by owner) (ap (λ (n : ℕ). coil_at (set_coil coil x coils) (record { 0 = n })) same ∙ get_or-set_same coils coil.0 x (off no_limits) there)
+set-same owner coil x coils c same there = search rules
 
 -- who holds a coil then held it before, or holds the coil that was set
 set-held : (owner : Owner) (coil : CoilId) (x : CoilState) (coils : List CoilState) (c : CoilId) → IsHolding owner (set_coil coil x coils) c → ((c.0 ≡ coil.0) × (is_held_by owner x ≡ true)) ⊎ IsHolding owner coils c
@@ -68,19 +67,10 @@ set-held owner coil x coils c is =
 -- ---- a coil is asked
 
 either-held : (P : List CoilState → Type 0) (b : Bool) (x y : List CoilState) → (P x) → (P y) → P (if b then x else y)
-either-held P true x y one other = one
-either-held P false x y one other = other
+either-held P b x y one other = search rules
 
 pub asked-count : (owner : Owner) (command : Command) (now : ℕ) (coils : List CoilState) → length (after_asking command owner now coils) ≡ length coils
-asked-count owner (commands.Pulse coil ms power) now coils =
-    let c = coil_at coils coil in
-    either-held (λ cs. length cs ≡ length coils) (takes_pulse ms power now c) (set_coil coil (pulsed ms now c) coils) coils (length-set coils coil.0 (pulsed ms now c)) refl
-asked-count owner (commands.Enable coil power) now coils =
-    let c = coil_at coils coil in
-    either-held (λ cs. length cs ≡ length coils) (takes_enable power c) (set_coil coil (enabled owner c) coils) coils (length-set coils coil.0 (enabled owner c)) refl
-asked-count owner (commands.Disable coil) now coils =
-    let c = coil_at coils coil in
-    either-held (λ cs. length cs ≡ length coils) (is_on_at now c) (set_coil coil (disabled c) coils) coils (length-set coils coil.0 (disabled c)) refl
+asked-count owner command now coils = search rules
 
 -- who holds a coil then held it before, or has asked
 pub asked-held : (owner : Owner) (command : Command) (now : ℕ) (coils : List CoilState) (o : Owner) (c : CoilId) → IsHolding o (after_asking command owner now coils) c → (owner ≡ o) ⊎ IsHolding o coils c
@@ -110,12 +100,7 @@ asked-held owner (commands.Disable coil) now coils o c =
 
 -- a coil that is held is on
 held-on : (owner : Owner) (now : ℕ) (x : CoilState) → is_held_by owner x ≡ true → is_on_at now x ≡ true
-held-on owner now x is = by (nat_lt now x.pulse_end) x.holder is
-  where
-    by : (b : Bool) (holder : Option Owner) → is_holder owner holder ≡ true → (b || is_some holder) ≡ true
-    by true holder h = refl
-    by false None h = absurd (false≢true h)
-    by false (Some o) h = refl
+held-on owner now x is = search rules
 
 module _ (owner : Owner) where
   -- a coil that it holds is let go, and others stay

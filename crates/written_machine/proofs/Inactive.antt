@@ -1,5 +1,5 @@
 -- Ball saves that are active, and multiballs that are running: what the machine's work does with those that are not.
-use Rattle.std.proofs.Common.{◌≡◌, ℕ, Bool, true, false, List, [], refl, ◌∙◌, sym, ap, if◌then◌else◌, ◌∷◌}
+use Rattle.std.proofs.Common.{rules, ◌≡◌, ℕ, Bool, true, false, List, [], refl, ◌∙◌, sym, ap, if◌then◌else◌, ◌∷◌}
 use Rattle.std.proofs.lemmas.Bool.{false≢true}
 use Rattle.std.proofs.lemmas.List.{set-get_or}
 use Rattle.plan_tables.specs.PlanView.{PlanView, is_multiball, no_row, row_at}
@@ -24,13 +24,10 @@ is_on (states.Multiball s) = s.running
 is_on _ = false
 
 pub active-on : (state : DeviceState) → is_active_save state ≡ true → is_on state ≡ true
-active-on (states.BallSave s) is = is
-active-on _ is = absurd (false≢true is)
+active-on state is = search rules
 
 inactive-off : (state : DeviceState) → IsInactive state → is_on state ≡ false
-inactive-off (states.BallSave s) h = h.0
-inactive-off (states.Multiball s) h = h.1
-inactive-off _ h = refl
+inactive-off state h = search rules
 
 -- none is at first, nor where its mode has stopped
 pub first-off : (settings : Settings) → is_on (first_state settings) ≡ false
@@ -42,14 +39,11 @@ stopped-off settings now world state shape = inactive-off (device_step settings 
 -- ---- a multiball that is not running does not end
 
 idle-end : (running : Bool) → running ≡ false → (s : MultiballState) → multiball_answer (if running then (record { running = false }, 1 ∷ []) else (s, [])) ≡ (states.Multiball s, [])
-idle-end true is s = absurd (false≢true (sym is))
-idle-end false is s = refl
+idle-end running is s = search rules
 
 end-idle : (settings : Settings) (now : ℕ) (world : World) (state : DeviceState) → is_multiball settings ≡ true → is_on state ≡ false
     → device_step settings (calls.Act acts.End) now world state ≡ (state, [])
-end-idle (kinds.Multiball m) now world (states.Multiball s) is off = idle-end s.running off s
-end-idle (kinds.Multiball m) now world _ is off = refl
-end-idle _ now world state is off = absurd (false≢true is)
+end-idle settings now world state is off = search rules
 
 -- so nothing happens where it is told to
 pub end-still : (plan : PlanView) (r : RowId) (s : Machine) → is_multiball (row_at plan r).settings ≡ true → is_on (device_at s r) ≡ false

@@ -1,5 +1,5 @@
 -- What the parts of an event step and the beginning of a stimulus keep, each run keeps, with the trace so far.
-use Rattle.std.proofs.Common.{◌≡◌, ℕ, zero, suc, Bool, List, [], ◌∷◌, ◌++◌, ap, sym, ◌∙◌, subst, append_assoc}
+use Rattle.std.proofs.Common.{rules, ◌≡◌, ℕ, zero, suc, Bool, List, [], ◌∷◌, ◌++◌, ap, sym, ◌∙◌, subst, append_assoc}
 use Rattle.std.proofs.lemmas.List.{append-nil}
 use Rattle.plan_tables.specs.PlanView.{PlanView}
 use Rattle.written_machine.specs.declared.line.Line.{Line}
@@ -34,8 +34,7 @@ module _ (plan : PlanView) (Inv : List Line → Machine → Type 0) (step : (bef
   module _ (begins : (before : List Line) (stimulus : Stimulus) (s : Machine) → IsAllowed plan s stimulus → s.waiting ≡ [] → Inv before s → Inv (before ++ s.lines) (begin plan stimulus s)) where
     pub run-keeps : (before : List Line) (stimuli : List (Stimulus × ℕ)) (s : Machine) (trace : List Line) (t : Machine) → IsRun plan stimuli s trace t → Inv before s
         → (earlier : List Line) × Inv earlier t × (earlier ++ t.lines ≡ (before ++ s.lines) ++ trace)
-    run-keeps before [] s trace t (none, is) h =
-        (before, subst (Inv before) (sym is) h, ap (λ (u : Machine). before ++ u.lines) is ∙ sym (ap (λ (ls : List Line). (before ++ s.lines) ++ ls) none ∙ append-nil (before ++ s.lines)))
+    run-keeps before [] s trace t (none, is) h = search rules
     run-keeps before ((stimulus, n) ∷ more) s trace t (empty, allowed, (mid, rest, steps, run, lines)) h =
         let went = steps-keep (before ++ s.lines) n (begin plan stimulus s) mid steps (begins before stimulus s allowed empty h) in
         let end = run-keeps (before ++ s.lines) more mid rest t run went in

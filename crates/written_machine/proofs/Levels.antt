@@ -1,6 +1,6 @@
 -- The stimuli of a run are calls of the switches. So what is accepted after every list of calls is accepted in every
 -- run.
-use Rattle.std.proofs.Common.{◌≡◌, ℕ, ◌≤◌, List, [], ◌∷◌, ap, sym, ◌∙◌, subst, arith}
+use Rattle.std.proofs.Common.{rules, ◌≡◌, ℕ, ◌≤◌, List, [], ◌∷◌, ap, sym, ◌∙◌, subst, arith}
 use Rattle.plan_tables.specs.PlanView.{PlanView}
 use Rattle.plan_tables.specs.Valid.{IsValid}
 use Rattle.switch_core.specs.Switches.{SwitchesView, all_idle, active_at, IsNothingDueBy as IsNoSwitchDueBy}
@@ -26,18 +26,11 @@ record IsCalled (moment : ℕ) (stimuli : List (Stimulus × ℕ)) (s t : Machine
 called-next : (moment : ℕ) (call : SwitchCall) (more : List SwitchCall) (s mid t : Machine) → moment ≤ call_moment call → IsInTime s.switches call → after_call call s.switches ≡ mid.switches
     → AreInTime (call_moment call) mid.switches more → after_calls more mid.switches ≡ t.switches
     → AreInTime moment s.switches (call ∷ more) × (after_calls (call ∷ more) s.switches ≡ t.switches)
-called-next moment call more s mid t before in_time one later last = (
-  (before, in_time, subst (λ (v : SwitchesView). AreInTime (call_moment call) v more) (sym one) later),
-  ap (after_calls more) one ∙ last,
-)
+called-next moment call more s mid t before in_time one later last = search rules
 
 module _ (plan : PlanView) (valid : IsValid plan) where
   run-called : (stimuli : List (Stimulus × ℕ)) (s : Machine) (trace : List Line) (t : Machine) → IsRun plan stimuli s trace t → IsNothingLate s → (moment : ℕ) → moment ≤ s.moment → IsCalled moment stimuli s t
-  run-called [] s trace t (none, is) on_time moment before = record {
-    in_time = tt;
-    after = ap (λ (m : Machine). m.switches) (sym is);
-    last = let same = ap (λ (m : Machine). m.moment) is in omega (arith, same);
-  }
+  run-called [] s trace t (none, is) on_time moment before = search rules
   run-called ((SwitchChange at n level, k) ∷ more) s trace t (empty, allowed, (mid, rest, steps, run, lines)) on_time moment before =
       let here = moment-after plan (SwitchChange at n level) s k mid steps in
       let later = run-called more mid rest t run (not_late-after plan valid (SwitchChange at n level) s k mid allowed steps) at (omega (arith, here)) in

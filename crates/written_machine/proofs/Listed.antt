@@ -1,5 +1,5 @@
 -- The actions of a plan, by their owners.
-use Rattle.std.proofs.Common.{◌≡◌, ℕ, zero, suc, ◌<◌, Bool, true, false, List, [], ◌∷◌, length, get_or, if◌then◌else◌, refl, sym, ap, ◌∙◌, subst, arith}
+use Rattle.std.proofs.Common.{rules, ◌≡◌, ℕ, zero, suc, ◌<◌, Bool, true, false, List, [], ◌∷◌, length, get_or, if◌then◌else◌, refl, sym, ap, ◌∙◌, subst, arith}
 use Rattle.std.specs.Prelude.{Contains, ◌||◌}
 use Rattle.std.specs.List.{flat_map, list_any, range_with_len}
 use Rattle.std.proofs.lemmas.Bool.{eq-eqb}
@@ -18,8 +18,7 @@ use Rattle.plan_tables.specs.declared.entries.Owner.TheVariants.{Machine, Mode}
 use Rattle.plan_tables.specs.declared.entries.Target.TheVariants.{Run}
 
 pub same-is_owner : (owner : Owner) → is_owner owner owner ≡ true
-same-is_owner Machine = refl
-same-is_owner (Mode m) = eq-eqb m.0 m.0 refl
+same-is_owner owner = search rules
 
 -- ---- what is in lists
 

@@ -1,5 +1,5 @@
 -- The next alarm that is computed is the next alarm, and nothing is due by a moment just where it is computed so.
-use Rattle.std.proofs.Common.{◌≡◌, ℕ, ◌<◌, ◌≤◌, ◌⊎◌, inl, inr, Bool, true, false, nat_le, cond, Option, Some, None, option_map, List, length, map, refl, ap, sym, subst, ◌∙◌, arith}
+use Rattle.std.proofs.Common.{rules, ◌≡◌, ℕ, ◌<◌, ◌≤◌, ◌⊎◌, inl, inr, Bool, true, false, nat_le, cond, Option, Some, None, option_map, List, length, map, refl, ap, sym, subst, ◌∙◌, arith}
 use Rattle.std.specs.Option.{option_map_or}
 use Rattle.std.proofs.lemmas.Bool.{cases_lt, cond_both, cond-true, cond-false, leb-true, leb-false, le-leb, lt-leb}
 use Rattle.std.proofs.lemmas.List.{get_or_past, get_or-map, length-map}
@@ -27,25 +27,10 @@ next_alarm-due s at n h = record { due = h.due; least = least }
 -- ---- there is one at most
 
 not_after-same : (a b : Source) → IsNotAfter a b → IsNotAfter b a → a ≡ b
-not_after-same (switch n) (switch m) h k = let same : n.0 ≡ m.0 = omega arith in ap (λ i. switch (record { 0 = i })) same
-not_after-same (switch n) (device r) h k = absurd k
-not_after-same (device r) (switch n) h k = absurd h
-not_after-same (device r) (device q) h k = let same : r.0 ≡ q.0 = omega arith in ap (λ i. device (record { 0 = i })) same
+not_after-same a b h k = search rules
 
 pub next-unique : (s : Machine) (at other : ℕ) (source first : Source) → IsNextAlarm s at source → IsNextAlarm s other first → (at ≡ other) × (source ≡ first)
-next-unique s at other source first a b =
-    elim (a.least first other b.due) [
-      | inl early ↦
-          elim (b.least source at a.due) [
-            | inl late ↦ absurd (omega (arith, early, late))
-            | inr same ↦ let e = same.0 in absurd (omega (arith, early, e))
-          ]
-      | inr same ↦
-          elim (b.least source at a.due) [
-            | inl late ↦ let e = same.0 in absurd (omega (arith, late, e))
-            | inr again ↦ (same.0, not_after-same source first same.1 again.1)
-          ]
-    ]
+next-unique s at other source first a b = search rules
 
 -- ---- what is due of the devices
 
@@ -139,9 +124,7 @@ module _ (s : Machine) where
   nothing-from None None p q none (device r) due is = no_device-due q r due is
   nothing-from None (Some d) p q none source due is = none-some (of_device d) (sym none)
   nothing-from (Some c) None p q none source due is = none-some (of_switch c) (sym none)
-  nothing-from (Some c) (Some d) p q none source due is =
-      cond_both (nat_le c.0 d.0) (Some (of_switch c)) (Some (of_device d)) (λ (v : Option (ℕ × Source)). v ≡ None → ⊥)
-      (λ t e. none-some (of_switch c) (sym e)) (λ t e. none-some (of_device d) (sym e)) none
+  nothing-from (Some c) (Some d) p q none source due is = search rules
 
   -- there is none just where nothing is due
   pub none-nothing : next_alarm s ≡ None → (source : Source) (due : ℕ) → source_due s source ≡ Some due → ⊥
@@ -163,11 +146,7 @@ next-is_found s at source h = by (next_alarm s) refl
 
 -- nothing is due before the next alarm
 next-early : (s : Machine) (at : ℕ) (first : Source) → IsNextAlarm s at first → (source : Source) (due : ℕ) → source_due s source ≡ Some due → at ≤ due
-next-early s at first next source due is =
-    elim (next.least source due is) [
-      | inl after ↦ omega (arith, after)
-      | inr same ↦ let e = same.0 in omega (arith, e)
-    ]
+next-early s at first next source due is = search rules
 
 pub not_due-nothing : (s : Machine) (at : ℕ) → is_due_by at s ≡ false → IsNoAlarmDueBy s at
 not_due-nothing s at h source due is = by (next_alarm s) refl h
@@ -189,11 +168,7 @@ nothing-not_due s at h = by (next_alarm s) refl
 -- ---- one that is due by a moment
 
 due_by-cases : (until : ℕ) (o : Option (ℕ × Source)) (a : ℕ × Source) → due_by until o ≡ Some a → (o ≡ Some a) × (a.0 ≤ until)
-due_by-cases until None a h = cc
-due_by-cases until (Some b) a h =
-    cond_both (nat_le b.0 until) (Some b) None (λ (v : Option (ℕ × Source)). v ≡ Some a → (Some b ≡ Some a) × (a.0 ≤ until))
-    (λ t is. let same : b.0 ≡ a.0 = ap (λ (o : Option (ℕ × Source)). option_map_or (λ x. x.0) o 0) is in let below = leb-true b.0 until t in (is, omega arith))
-    (λ t is. cc) h
+due_by-cases until o a h = search rules
 
 pub due_by-some : (s : Machine) (until at : ℕ) (source : Source) → due_by until (next_alarm s) ≡ Some (at, source) → IsNextAlarm s at source × (at ≤ until)
 due_by-some s until at source h =
@@ -206,16 +181,10 @@ some-due_by s until at source next by =
     ap (due_by until) (next-is_found s at source next) ∙ cond-true (nat_le at until) found None (le-leb at until by)
 
 none-where : (until : ℕ) (o : Option (ℕ × Source)) → option_map_or (λ (a : ℕ × Source). nat_le a.0 until) o false ≡ false → due_by until o ≡ None
-none-where until None h = refl
-none-where until (Some a) h = cond-false (nat_le a.0 until) (Some a) None h
+none-where until o h = search rules
 
 not_due-where : (until : ℕ) (o : Option (ℕ × Source)) → due_by until o ≡ None → option_map_or (λ (a : ℕ × Source). nat_le a.0 until) o false ≡ false
-not_due-where until None h = refl
-not_due-where until (Some a) h = by (nat_le a.0 until) h
-  where
-    by : (b : Bool) → cond b (Some a) None ≡ None → b ≡ false
-    by true h = cc
-    by false h = refl
+not_due-where until o h = search rules
 
 -- there is none just where nothing is due by the moment
 pub due_by-none : (s : Machine) (until : ℕ) → due_by until (next_alarm s) ≡ None → IsNoAlarmDueBy s until

@@ -1,5 +1,5 @@
 -- What each part of the machine does, and by which licence.
-use Rattle.std.proofs.Common.{◌≡◌, ℕ, ℤ, ◌<◌, ◌≤◌, get_or, if◌then◌else◌, Bool, true, false, Option, Some, None, List, [], length, refl, sym, ap, subst, inl, inr, arith, suc, zero, ◌==◌, ◌∙◌}
+use Rattle.std.proofs.Common.{rules, ◌≡◌, ℕ, ℤ, ◌<◌, ◌≤◌, get_or, if◌then◌else◌, Bool, true, false, Option, Some, None, List, [], length, refl, sym, ap, subst, inl, inr, arith, suc, zero, ◌==◌, ◌∙◌}
 use Rattle.std.specs.List.{All, range_with_len}
 use Rattle.std.specs.Prelude.{◌&&◌, Contains}
 use Rattle.std.proofs.lemmas.Bool.{cases_lt}
@@ -101,8 +101,7 @@ module _ (plan : PlanView) where
   IsThere (Act r act) = r.0 < length plan.rows
 
   is_there : (t : Target) → IsTargetWithin plan t → IsThere t
-  is_there (Run l) h = tt
-  is_there _ h = h
+  is_there t h = search rules
 
   pub target-there : HasEntries plan → (place : BindingId) → IsThere (binding_at plan place).target
   target-there entries place =
@@ -135,8 +134,7 @@ module _ (plan : PlanView) where
   IsItsOwn (owners.Mode m) a = Contains (actions_of plan (owners.Mode m)) a
 
   its-own : (owner : Owner) (a : Action) → Contains (actions_of plan owner) a → IsItsOwn owner a
-  its-own owners.Machine a there = tt
-  its-own (owners.Mode m) a there = there
+  its-own owner a there = search rules
 
   -- of a binding, those of the list that it runs
   binding-own : (place : BindingId) (l : ListId) → (binding_at plan place).target ≡ Run l → All (IsItsOwn (binding_at plan place).owner) (actions_at plan l)

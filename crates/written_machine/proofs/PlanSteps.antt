@@ -1,5 +1,5 @@
 -- The steps that the controller takes are event steps, and more of them than are needed change nothing.
-use Rattle.std.proofs.Common.{◌≡◌, ℕ, zero, suc, ◌+◌, ◌-◌, ◌≤◌, List, [], ◌∷◌, ◌++◌, length, refl, ap, sym, ◌∙◌, subst, inl, inr, ◌⊎◌, arith, append_assoc}
+use Rattle.std.proofs.Common.{rules, ◌≡◌, ℕ, zero, suc, ◌+◌, ◌-◌, ◌≤◌, List, [], ◌∷◌, ◌++◌, length, refl, ap, sym, ◌∙◌, subst, inl, inr, ◌⊎◌, arith, append_assoc}
 use Rattle.std.proofs.lemmas.Bool.{cases_lt}
 use Rattle.std.proofs.lemmas.List.{append-nil}
 use Rattle.plan_tables.specs.PlanView.{PlanView}
@@ -68,9 +68,7 @@ module _ (plan : PlanView) where
 
   -- one after another
   pub plan_steps-add : (n m : ℕ) (s : Machine) → plan_steps plan (n + m) s ≡ plan_steps plan m (plan_steps plan n s)
-  plan_steps-add zero m s =
-      let e : zero + m ≡ m = omega arith in
-      rw e refl
+  plan_steps-add zero m s = search rules
   plan_steps-add (suc n) m s =
       let e : suc n + m ≡ suc (n + m) = omega arith in
       rw e (plan_steps-add n m (plan_step plan s))
@@ -87,18 +85,14 @@ module _ (plan : PlanView) where
 
   -- event steps one after another
   pub steps-join : (n m : ℕ) (s mid t : Machine) → EventSteps plan n s mid → EventSteps plan m mid t → EventSteps plan (n + m) s t
-  steps-join zero m s mid t a b =
-      let e : zero + m ≡ m = omega arith in
-      subst (λ (k : ℕ). EventSteps plan k s t) (sym e) (subst (λ (x : Machine). EventSteps plan m x t) a b)
+  steps-join zero m s mid t a b = search rules
   steps-join (suc n) m s mid t (next, step, more) b =
       let e : suc n + m ≡ suc (n + m) = omega arith in
       subst (λ (k : ℕ). EventSteps plan k s t) (sym e) (next, step, steps-join n m next mid t more b)
 
   -- one stimulus more at the end of a run after which no event waits
   pub IsRun-push : (stimuli : List (Stimulus × ℕ)) (s : Machine) (trace : List Line) (m : Machine) (stimulus : Stimulus) (n : ℕ) (t : Machine) → IsRun plan stimuli s trace m → m.waiting ≡ [] → IsAllowed plan m stimulus → EventSteps plan n (begin plan stimulus m) t → IsRun plan (stimuli ++ (stimulus, n) ∷ []) s (trace ++ t.lines) t
-  IsRun-push [] s trace m stimulus n t (none, is) idle allowed steps =
-      subst (λ (x : Machine). (x.waiting ≡ []) × IsAllowed plan x stimulus × ((mid : Machine) × (rest : List Line) × EventSteps plan n (begin plan stimulus x) mid × ((rest ≡ []) × (t ≡ mid)) × (trace ++ t.lines ≡ mid.lines ++ rest))) is
-      (idle, allowed, (t, [], steps, (refl, refl), ap (λ (ls : List Line). ls ++ t.lines) none ∙ sym (append-nil t.lines)))
+  IsRun-push [] s trace m stimulus n t (none, is) idle allowed steps = search rules
   IsRun-push ((first, k) ∷ more) s trace m stimulus n t (empty, first_allowed, (mid, rest, went, run, lines)) idle allowed steps =
       (empty, first_allowed, (mid, rest ++ t.lines, went, IsRun-push more mid rest m stimulus n t run idle allowed steps, ap (λ (ls : List Line). ls ++ t.lines) lines ∙ append_assoc mid.lines rest t.lines))
 

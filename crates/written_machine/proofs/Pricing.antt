@@ -1,5 +1,5 @@
 -- What things cost in a state is within what they cost in any, where each device has a state of its shape.
-use Rattle.std.proofs.Common.{◌≡◌, ℕ, ℤ, ◌+◌, ◌<◌, ◌≤◌, Bool, true, false, if◌then◌else◌, cond, filter, inl, inr, Option, None, Some, List, [], ◌∷◌, length, refl, ap, sym, subst, arith, zero, suc, ◌==◌, ◌∙◌}
+use Rattle.std.proofs.Common.{rules, ◌≡◌, ℕ, ℤ, ◌+◌, ◌<◌, ◌≤◌, Bool, true, false, if◌then◌else◌, cond, filter, inl, inr, Option, None, Some, List, [], ◌∷◌, length, refl, ap, sym, subst, arith, zero, suc, ◌==◌, ◌∙◌}
 use Rattle.std.specs.Prelude.{◌&&◌, IsSome, Contains}
 use Rattle.std.specs.List.{All, list_any, range_with_len}
 use Rattle.std.proofs.lemmas.Bool.{cases_lt}
@@ -90,27 +90,20 @@ module _ (plan : PlanView) (entries : HasEntries plan) (w : EventId → ℕ) whe
   -- ---- actions
 
   told-devices : (owner : Owner) (player : ℕ) (v : VariableId) (e : EventId) (value : Option ℤ) (s : Machine) → HasDevices plan s.devices → HasDevices plan (tell_change owner player v e value s).devices
-  told-devices owner player v e None s has = has
-  told-devices owner player v e (Some value) s has = has
+  told-devices owner player v e value s has = search rules
 
   drain-devices : (owner : Owner) (drain : Bool) (s : Machine) → HasDevices plan s.devices → HasDevices plan (drain_if plan owner drain s).devices
-  drain-devices owner drain s has = by (drain && is_ball_on s.game.phase)
-    where
-      by : (b : Bool) → HasDevices plan (if b then post owner (game_event plan BallDrain) s else s).devices
-      by true = has
-      by false = has
+  drain-devices owner drain s has = search rules
 
   -- where each telling is within its cost, and more balls cost the same to ask for
   module _ (tell : Telling → Machine → Machine) (now : Telling → Machine → Cost) (cost : Telling → Cost)
       (tells : (telling : Telling) (s : Machine) → HasDevices plan s.devices → (price w (now telling s) ≤ price w (cost telling)) × HasDevices plan (tell telling s).devices)
       (alike : (m n : ℕ) → price w (cost (Wanted m)) ≡ price w (cost (Wanted n))) where
     entry-devices : (owner : Owner) (r : RowId) (drain : Bool) (origin : Origin) (s : Machine) → HasDevices plan s.devices → HasDevices plan (after_entry plan tell owner r drain origin s).devices
-    entry-devices owner r drain Awaited s has = (tells (Arrived (Device r)) s has).1
-    entry-devices owner r drain _ s has = drain-devices owner drain s has
+    entry-devices owner r drain origin s has = search rules
 
     want-priced : (n k : ℕ) (s : Machine) → HasDevices plan s.devices → (price w (wanted_now plan tell now k s) ≤ price w (cost (Wanted n))) × HasDevices plan (want_balls tell k s).devices
-    want-priced n zero s has = (omega arith, has)
-    want-priced n (suc k) s has = let told = tells (Wanted (suc k)) s has in (omega (arith, told.0, alike (suc k) n), told.1)
+    want-priced n k s has = search rules
 
     action-priced : (owner : Owner) (a : Action) (s : Machine) → HasDevices plan s.devices
         → (price w (action_now_by plan tell now owner a s) ≤ price w (cost_of_action_by plan cost a)) × HasDevices plan (do_action_by plan tell owner a s).devices
@@ -126,9 +119,7 @@ module _ (plan : PlanView) (entries : HasEntries plan) (w : EventId → ℕ) whe
     action-priced owner (Lose r) s has = (omega arith, has_devices-move plan (Booked owner (calls_of_ledger.Lose r)) s has)
     action-priced owner (Arrive r) s has = (omega arith, has_devices-move plan (Booked owner (calls_of_ledger.Arrive (target_of plan r))) s has)
     action-priced owner (Request n) s has = tells (Wanted n) s has
-    action-priced owner (AddBalls n) s has =
-        let wanted = want-priced n (missing n s.game) (set_game (more_balls n s.game) s) has in
-        (omega (arith, wanted.0), wanted.1)
+    action-priced owner (AddBalls n) s has = search rules
     action-priced owner _ s has = (omega arith, has)
 
     list-priced_by : (owner : Owner) (l : ListId) (s : Machine) → HasDevices plan s.devices
@@ -185,11 +176,7 @@ module _ (plan : PlanView) (entries : HasEntries plan) (w : EventId → ℕ) whe
 
   -- to ask for more balls costs the same
   wanted-alike : (m n : ℕ) → price w (cost_of_telling plan (Wanted m)) ≡ price w (cost_of_telling plan (Wanted n))
-  wanted-alike m n = by (first_trough plan)
-    where
-      by : (o : Option RowId) → price w (cost_of_trough plan m o) ≡ price w (cost_of_trough plan n o)
-      by None = refl
-      by (Some r) = ap (λ (answers : List (List ℕ)). price w (dearest_of (cost_of_answer_by plan cost_of_nobody r) answers)) (requests-alike (row_at plan r).settings m n)
+  wanted-alike m n = search rules
 
   -- ---- devices
 
@@ -202,10 +189,7 @@ module _ (plan : PlanView) (entries : HasEntries plan) (w : EventId → ℕ) whe
 
   -- a device whose mode stops costs nothing
   stop-free : (r : RowId) (s : Machine) → price w (call_now plan calls.ModeStop r s) ≡ 0
-  stop-free r s =
-      let turned = set_device r (called plan calls.ModeStop r s).0 s in
-      let silent = ap (λ lists. price w (answer_now plan r lists turned)) (stopped-silent (row_at plan r).settings s.moment (world_of s) (device_at s r)) in
-      omega (arith, silent)
+  stop-free r s = search rules
 
   stops-free : (rs : List RowId) (s : Machine) → price w (each_now (call_device plan calls.ModeStop) (call_now plan calls.ModeStop) rs s) ≡ 0
   stops-free [] s = refl
@@ -304,15 +288,7 @@ module _ (plan : PlanView) (entries : HasEntries plan) (w : EventId → ℕ) whe
 
   chosen : (game : Option GameRules) (which : GameEvent) (s : Machine) → IsChosen which (game_step game plan which (home_of plan s) s.game s.players)
   unfolding game_step
-  chosen None which s = record { told = λ k. omega arith; requests = omega arith; posts = omega arith }
-  chosen (Some rules) which s =
-      let tells = steps_are_choices.finals rules plan which (home_of plan s) s.game s.players in
-      let asks = ap (λ (b : Bool). price w (if b then cost_of_telling plan (Wanted 1) else Lines 0)) (steps_are_choices.requests rules plan which (home_of plan s) s.game s.players) in
-      record {
-        told = λ k. subst (λ (b : Bool). (if b then k else 0) ≤ (if tells_scores which then k else 0)) (sym tells) (omega arith);
-        requests = omega (arith, asks);
-        posts = dearest-of (cost_of_choice plan) (choices which) (game_step (Some rules) plan which (home_of plan s) s.game s.players).posts (steps_are_choices.posts rules plan which (home_of plan s) s.game s.players);
-      }
+  chosen game which s = search rules
 
   -- the game's own step, with the posts that it makes
   step-priced : (which : GameEvent) (s : Machine) → HasDevices plan s.devices → AreFew plan s.players

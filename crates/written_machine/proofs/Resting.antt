@@ -1,6 +1,6 @@
 -- No device of a mode is due, active as a ball save, or running as a multiball, unless the mode runs: what moves of
 -- handlers, the machine's works and stimuli keep.
-use Rattle.std.proofs.Common.{◌≡◌, ℕ, zero, suc, ◌<◌, ◌⊎◌, inl, inr, Bool, true, None, Some, List, [], ◌∷◌, length, slice_set, refl, ap, sym, subst, ◌∙◌, arith, false}
+use Rattle.std.proofs.Common.{rules, ◌≡◌, ℕ, zero, suc, ◌<◌, ◌⊎◌, inl, inr, Bool, true, None, Some, List, [], ◌∷◌, length, slice_set, refl, ap, sym, subst, ◌∙◌, arith, false}
 use Rattle.std.specs.Prelude.{Contains}
 use Rattle.std.proofs.lemmas.Bool.{cases_eq, false≢true, cases_lt}
 use Rattle.std.proofs.lemmas.Option.{none-some}
@@ -34,9 +34,7 @@ use Rattle.written_machine.proofs.Held.{IsHolding, IsNotHolding, asked-count, as
 module _ (plan : PlanView) where
   -- the device goes on to its next state, and answers nothing
   stop-turns : (r : RowId) (s : Machine) → call_device plan calls.ModeStop r s ≡ set_device r (called plan calls.ModeStop r s).0 s
-  stop-turns r s =
-      ap (λ (lists : List ℕ). do_answer plan r lists (set_device r (called plan calls.ModeStop r s).0 s))
-      (stopped-silent (row_at plan r).settings s.moment (world_of s) (device_at s r))
+  stop-turns r s = search rules
 
   -- so nothing but devices changes
   pub stops-turn : (rs : List RowId) (s : Machine) → (new : List DeviceState) × (all_do (call_device plan calls.ModeStop) rs s ≡ record s { devices = new })
@@ -106,35 +104,11 @@ pub record Rests (plan : PlanView) (m : ModeId) (s : Machine) : Type 0 where
 module _ (plan : PlanView) (valid : IsValid plan) (own : ActsAreOwn plan) (m : ModeId) where
   -- where modes, devices and coils are the same
   pub same-rests : (s t : Machine) → t.modes ≡ s.modes → t.devices ≡ s.devices → t.coils ≡ s.coils → Rests plan m s → Rests plan m t
-  same-rests s t modes devices coils h = record {
-    count = ap length coils ∙ h.count;
-    holds = λ coil is.
-        subst (λ (ms : List ModeState). takes_part (running_of ms) (owners.Mode m) ≡ true) (sym modes)
-        (h.holds coil (subst (λ (cs : List CoilState). IsHolding (owners.Mode m) cs coil) coils is));
-    devices = subst (HasDevices plan) (sym devices) h.devices;
-    rests = λ r due is armed.
-        subst (λ (ms : List ModeState). takes_part (running_of ms) (owners.Mode m) ≡ true) (sym modes)
-        (h.rests r due is (subst (λ (ds : List DeviceState). due_of (device_state ds r) ≡ Some due) devices armed));
-    acts = λ r is on.
-        subst (λ (ms : List ModeState). takes_part (running_of ms) (owners.Mode m) ≡ true) (sym modes)
-        (h.acts r is (subst (λ (ds : List DeviceState). is_on (device_state ds r) ≡ true) devices on));
-  }
+  same-rests s t modes devices coils h = search rules
 
   -- where the same modes run
   pub running-rests : (s t : Machine) → running_of t.modes ≡ running_of s.modes → t.devices ≡ s.devices → t.coils ≡ s.coils → Rests plan m s → Rests plan m t
-  running-rests s t running devices coils h = record {
-    count = ap length coils ∙ h.count;
-    holds = λ coil is.
-        subst (λ (bs : List Bool). takes_part bs (owners.Mode m) ≡ true) (sym running)
-        (h.holds coil (subst (λ (cs : List CoilState). IsHolding (owners.Mode m) cs coil) coils is));
-    devices = subst (HasDevices plan) (sym devices) h.devices;
-    rests = λ r due is armed.
-        subst (λ (bs : List Bool). takes_part bs (owners.Mode m) ≡ true) (sym running)
-        (h.rests r due is (subst (λ (ds : List DeviceState). due_of (device_state ds r) ≡ Some due) devices armed));
-    acts = λ r is on.
-        subst (λ (bs : List Bool). takes_part bs (owners.Mode m) ≡ true) (sym running)
-        (h.acts r is (subst (λ (ds : List DeviceState). is_on (device_state ds r) ≡ true) devices on));
-  }
+  running-rests s t running devices coils h = search rules
 
   -- where the mode runs
   pub runs-rests : (s : Machine) → HasDevices plan s.devices → length s.coils ≡ length plan.coils → takes_part (running_of s.modes) (owners.Mode m) ≡ true → Rests plan m s

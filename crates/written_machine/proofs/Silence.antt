@@ -115,10 +115,7 @@ handled m _ = []
 
 -- an event that may be posted is none of a mode's
 free-mine : (m : ModeId) (w : Work) → IsFreeWork w ⊎ (w ≡ Game BallDrain) → mine m w [] ≡ []
-free-mine m w (inr is) = ap (λ (v : Work). mine m v []) is
-free-mine m Nothing (inl is) = refl
-free-mine m (Mode k which) (inl is) = absurd is
-free-mine m (Game which) (inl is) = refl
+free-mine m w x1 = search rules
 
 module _ (plan : PlanView) (valid : IsValid plan) (free : PostsAreFree plan) (own : ActsAreOwn plan) (m : ModeId) (within : m.0 < length plan.modes) where
   -- the mode is heard only where it may be, and no device of it is due unless it runs
@@ -397,9 +394,7 @@ module _ (plan : PlanView) (valid : IsValid plan) (free : PostsAreFree plan) (ow
   -- ---- the taking of an event, and the work before its handlers
 
   speaks_after : (which : ModeEvent) (p : Phase) (q : List ModeEvent) (on : Bool) → IsTurn p (which ∷ q) → (is_running p ≡ true → on ≡ true) → is_running p ≡ true → heard_at which on ≡ true
-  speaks_after Started p q on c h r = refl
-  speaks_after Stopped p q on c h r = absurd (search (rules, stopped-quiet p q c, r))
-  speaks_after _ p q on c h r = h r
+  speaks_after which p q on c h r = search rules
 
   own_before : (before : List Line) (which : ModeEvent) (s : Machine) (on : Bool) → heard_in plan m before s ≡ heard_at which on → Stays before (which ∷ []) s → Stays before (still_due which) (do_before plan (Mode m which) s)
   own_before before Started s on is h =
@@ -418,10 +413,8 @@ module _ (plan : PlanView) (valid : IsValid plan) (free : PostsAreFree plan) (ow
 
   before_work : (before : List Line) (w : Work) (s : Machine) (on : Bool) → length s.modes ≡ length plan.modes → Rests plan m s → IsFine m false (all_written plan (before ++ s.lines)) → heard_in plan m before s ≡ heard_after m on w
       → IsFine m (heard_after m on w) (all_awaited plan s.waiting) → IsTurn (phase_in m s) (mine m w (waiting_of plan m s.waiting)) → (IsRunning m s → on ≡ true) → Stays before (handled m w) (do_before plan w s)
-  before_work before Nothing s on count rests fine is waits turns speaks =
-      (record { count = count; fine = fine; holds = subst (λ (b : Bool). Holds plan m b [] s.waiting (phase_in m s)) (sym is) (record { waits = waits; turns = turns; speaks = speaks }) }, rests)
-  before_work before (Game which) s on count rests fine is waits turns speaks =
-      (record { count = count; fine = fine; holds = subst (λ (b : Bool). Holds plan m b [] s.waiting (phase_in m s)) (sym is) (record { waits = waits; turns = turns; speaks = speaks }) }, rests)
+  before_work before Nothing s on count rests fine is waits turns speaks = search rules
+  before_work before (Game which) s on count rests fine is waits turns speaks = search rules
   before_work before (Mode k which) s on count rests fine is waits turns speaks =
       elim (cases_eq k.0 m.0) [
         | inl same ↦
@@ -470,21 +463,11 @@ module _ (plan : PlanView) (valid : IsValid plan) (free : PostsAreFree plan) (ow
   -- ---- stimuli, and runs
 
   arrived-holds : (before : List Line) (at : ℕ) (s : Machine) → HoldsIn plan m before [] s → HoldsIn plan m (before ++ s.lines) [] (arrived at s)
-  arrived-holds before at s h =
-      let same : (before ++ s.lines) ++ [] ≡ before ++ s.lines = append-nil (before ++ s.lines) in
-      record {
-        count = h.count;
-        fine = subst (λ (ls : List Line). IsFine m false (all_written plan ls)) (sym same) h.fine;
-        holds = subst (λ (ls : List Line). Holds plan m (heard m false (all_written plan ls)) [] s.waiting (phase_in m s)) (sym same) h.holds;
-      }
+  arrived-holds before at s h = search rules
 
   -- where the mode speaks at the beginning of a stimulus, it runs: a device of it is due
   begins-runs : (stimulus : Stimulus) (s : Machine) → IsAllowed plan s stimulus → Rests plan m s → Begins plan stimulus (owners.Mode m) → IsTaking s
-  begins-runs (SwitchChange at n level) s allowed h is = absurd (search (rules, is))
-  begins-runs (Alarm at (switch n)) s allowed h is = absurd (search (rules, is))
-  begins-runs (Alarm at (device r)) s allowed h (inl is) = h.rests r at (sym is) allowed.0.due
-  begins-runs (Alarm at (device r)) s allowed h (inr is) = absurd (search (rules, is))
-  begins-runs (Wait at) s allowed h is = absurd (search (rules, is))
+  begins-runs stimulus s allowed h x1 = search rules
 
   begins : (before : List Line) (stimulus : Stimulus) (s : Machine) → IsAllowed plan s stimulus → s.waiting ≡ [] → Stays before [] s → Stays (before ++ s.lines) [] (begin plan stimulus s)
   begins before stimulus s allowed empty h =

@@ -44,20 +44,10 @@ pub record Holds (plan : PlanView) (m : ModeId) (on : Bool) (front : List ModeEv
 
 module _ (plan : PlanView) (m : ModeId) where
   stays : (which : ModeEvent) → IsNoEnd which → heard_at which true ≡ true
-  stays Stopped h = absurd h
-  stays _ h = refl
+  stays which h = search rules
 
   goes_on : (w : Work) (c : List ModeEvent) (xs : List Said) → (AllByRecursion IsNoEnd c → heard m true xs ≡ true) → AllByRecursion IsNoEnd (mine m w c) → heard m (heard_after m true w) xs ≡ true
-  goes_on (Mode k which) c xs next h =
-      elim (cases_eq k.0 m.0) [
-        | inl is ↦
-            let all : AllByRecursion IsNoEnd (which ∷ c) = subst (λ (b : Bool). AllByRecursion IsNoEnd (cond b (which ∷ c) c)) (eq-eqb k.0 m.0 is) h in
-            subst (λ (on : Bool). heard m on xs ≡ true) (sym (ap (λ (b : Bool). cond b (heard_at which true) true) (eq-eqb k.0 m.0 is) ∙ stays which all.0)) (next all.1)
-        | inr other ↦
-            let all : AllByRecursion IsNoEnd c = subst (λ (b : Bool). AllByRecursion IsNoEnd (cond b (which ∷ c) c)) (ne_eqb k.0 m.0 other) h in
-            subst (λ (on : Bool). heard m on xs ≡ true) (sym (ap (λ (b : Bool). cond b (heard_at which true) true) (ne_eqb k.0 m.0 other))) (next all)
-      ]
-  goes_on _ c xs next h = next h
+  goes_on w c xs next h = search rules
 
   -- where its last event does not wait, a mode that may be heard may still be heard after all that waits
   heard_on : (q : List Posted) → AllByRecursion IsNoEnd (waiting_of plan m q) → heard m true (all_awaited plan q) ≡ true
@@ -185,11 +175,7 @@ module _ (plan : PlanView) (valid : IsValid plan) (m : ModeId) (within : m.0 < l
   -- the mode has another state
   pub own_set : (front after : List ModeEvent) (x : ModeState) (s : Machine) → HoldsIn plan m before front s → IsTurn x.phase (after ++ waiting_of plan m s.waiting) → (is_running x.phase ≡ true → heard_in plan m before s ≡ true)
       → HoldsIn plan m before after (set_mode m x s)
-  own_set front after x s h turns speaks = record {
-    count = length-set s.modes m.0 x ∙ h.count;
-    fine = h.fine;
-    holds = subst (λ (y : ModeState). Holds plan m (heard_in plan m before s) after s.waiting y.phase) (sym (own_state x s h.count)) (record { waits = h.holds.waits; turns = turns; speaks = speaks });
-  }
+  own_set front after x s h turns speaks = search rules
 
   -- and its event is posted
   pub own_change : (front after : List ModeEvent) (which : ModeEvent) (x : ModeState) (s : Machine) → HoldsIn plan m before front s → IsTurn x.phase (after ++ (waiting_of plan m s.waiting ++ which ∷ []))
@@ -205,11 +191,7 @@ module _ (plan : PlanView) (valid : IsValid plan) (m : ModeId) (within : m.0 < l
 
   -- another mode has another state
   pub other_set : (front : List ModeEvent) (k : ModeId) (x : ModeState) (s : Machine) → (k.0 ≡ m.0 → ⊥) → HoldsIn plan m before front s → HoldsIn plan m before front (set_mode k x s)
-  other_set front k x s other h = record {
-    count = length-set s.modes k.0 x ∙ h.count;
-    fine = h.fine;
-    holds = subst (λ (y : ModeState). Holds plan m (heard_in plan m before s) front s.waiting y.phase) (sym (other_state k x s other)) h.holds;
-  }
+  other_set front k x s other h = search rules
 
   -- its event is posted
   pub other_post : (front : List ModeEvent) (k : ModeId) (which : ModeEvent) (s : Machine) → k.0 < length plan.modes → (k.0 ≡ m.0 → ⊥) → HoldsIn plan m before front s → HoldsIn plan m before front (post owners.Machine (mode_event plan k which) s)
@@ -225,10 +207,7 @@ module _ (plan : PlanView) (valid : IsValid plan) (m : ModeId) (within : m.0 < l
   same_holds front s h = own_set front front (mode_state s.modes m) s h h.holds.turns h.holds.speaks
 
   idle_starts : (needs game : Bool) (p : Phase) → starts needs game p ≡ true → p ≡ phases.Idle
-  idle_starts needs game phases.Idle is = refl
-  idle_starts needs game phases.Starting is = absurd (search rules)
-  idle_starts needs game phases.Active is = absurd (search rules)
-  idle_starts needs game phases.Stopping is = absurd (search rules)
+  idle_starts needs game p is = search rules
 
   own_start : (front : List ModeEvent) (s : Machine) (b : Bool) → (b ≡ true → phase_in m s ≡ phases.Idle) → HoldsIn plan m before front s
       → HoldsIn plan m before front (post_if b (mode_event plan m WillStart) (set_mode m (if b then in_phase phases.Starting else mode_state s.modes m) s))
@@ -242,8 +221,7 @@ module _ (plan : PlanView) (valid : IsValid plan) (m : ModeId) (within : m.0 < l
   own_stop : (front : List ModeEvent) (p : Phase) (s : Machine) → phase_in m s ≡ p → HoldsIn plan m before front s
       → HoldsIn plan m before front (post_if (is_post (stop_answer p)) (mode_event plan m Stopping) (set_mode m (stopped_from p (mode_state s.modes m)) s))
   own_stop front phases.Idle s is h = same_holds front s h
-  own_stop front phases.Starting s is h =
-      own_set front front (record { phase = phases.Starting; kept = true }) s h (subst (λ (p : Phase). IsTurn p (front ++ waiting_of plan m s.waiting)) is h.holds.turns) (λ r. absurd (search rules))
+  own_stop front phases.Starting s is h = search rules
   own_stop front phases.Active s is h =
       own_change front front Stopping (in_phase phases.Stopping) s h
       (subst (IsTurn phases.Stopping) (append_assoc front (waiting_of plan m s.waiting) (Stopping ∷ []))
