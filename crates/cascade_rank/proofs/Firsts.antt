@@ -1,7 +1,7 @@
 -- The first event that passes a test.
 use Rattle.std.proofs.Common.{rules, ◌≡◌, ℕ, zero, suc, ◌+◌, ◌<◌, ◌≤◌, min, Bool, true, false, not, cond, ◌&&◌, ◌||◌, ◌==◌, nat_lt, List, [], ◌∷◌, ◌++◌, length, take, get_or, Some, None, position, refl, sym, ◌∙◌, ap, inl, inr, arith}
 use Rattle.std.specs.List.{All, position_or_len}
-use Rattle.std.proofs.lemmas.Bool.{cases_lt, cases_eq, cases_Bool, lt-ltb, le-ltb, ne_eqb, and_from, and_left, and_right, or_cases, eqb-true, eq-eqb, false≢true}
+use Rattle.std.proofs.lemmas.Bool.{cases_lt, cases_Bool, and_left, and_right, or_cases, false≢true}
 use Rattle.std.proofs.lemmas.List.Elements.{All-take}
 use Rattle.std.proofs.lemmas.List.Sums.{position_or_len_is, fails_before_first, passes_at_first, prefix_len-le-length}
 use Rattle.plan_tables.specs.PlanView.{PlanView}
@@ -15,7 +15,7 @@ use Rattle.cascade_rank.specs.Cycle.{IsFirst, next_open}
 use Rattle.cascade_rank.specs.Lowest.{lowest, IsLeft}
 use Rattle.cascade_rank.specs.Order.{left_of}
 use Rattle.cascade_rank.specs.Below.{IsBelow}
-use Rattle.cascade_rank.proofs.Events.{event, same_event, tested_event, length-events, event_number}
+use Rattle.cascade_rank.proofs.Events.{event, same_event, length-events, event_number}
 use Rattle.cascade_rank.proofs.Within.{IsBelow-event, each_below}
 
 -- ---- the lowest event of a cost

@@ -1,17 +1,16 @@
 -- The events of a plan's game, and what they can post.
-use Rattle.std.proofs.Common.{◌≡◌, ◌∙◌, ap, ℕ, suc, ◌<◌, ◌≤◌, ◌==◌, nat_le, Bool, true, List, [], ◌∷◌, length, map, get_or, Option, Some, None, refl, inl, inr, arith, rules}
+use Rattle.std.proofs.Common.{◌≡◌, ◌∙◌, ap, ℕ, suc, ◌<◌, ◌≤◌, nat_le, Bool, true, List, [], ◌∷◌, length, map, get_or, Option, inl, inr, arith, rules}
 use Rattle.std.specs.Prelude.{IfSome}
-use Rattle.std.specs.List.{All, list_all, position}
+use Rattle.std.specs.List.{list_all}
 use Rattle.std.proofs.lemmas.Bool.{cases_lt, leb-true}
 use Rattle.std.proofs.lemmas.List.Sums.{AllPass-from_list_all}
 use Rattle.std.proofs.lemmas.List.{get_or_past, get_or-map, length-map}
-use Rattle.std.proofs.lemmas.List.Elements.{All-get_or, All-head}
-use Rattle.plan_tables.specs.PlanView.{PlanMode, PlanView, no_event, event_in_game, event_of_game, game_event, game_work, or_work, placed_in_game, which_event, work_from, work_in_game, work_of, work_or}
+use Rattle.std.proofs.lemmas.List.Elements.{All-get_or}
+use Rattle.plan_tables.specs.PlanView.{PlanMode, PlanView, no_event, event_in_game, event_of_game, game_event, game_work, or_work, which_event, work_from, work_of, work_or}
 use Rattle.plan_tables.specs.Valid.{HasEntries, IsEventWithin, IsGameWithin}
 use Rattle.plan_tables.specs.GameEvents.{order_of}
 use Rattle.plan_tables.specs.declared.entries.EventId.{EventId}
 use Rattle.plan_tables.specs.declared.entries.GameEvent.{GameEvent}
-use Rattle.plan_tables.specs.declared.entries.GameEvent.TheVariants.{SwStart}
 use Rattle.plan_tables.specs.declared.entries.GameRules.{GameRules}
 use Rattle.plan_tables.specs.declared.entries.ModeEvent.{ModeEvent}
 use Rattle.plan_tables.specs.declared.entries.Work.{Work}
@@ -50,12 +49,6 @@ IsSomeEvent n _ = Unit {0}
 
 some_event-or : (n : ℕ) (w v : Work) → IsOfMode w → IsSomeEvent n v → IsSomeEvent n (or_work w v)
 some_event-or n w v h some = search rules
-
-some_event-in : (n : ℕ) (o : Option GameEvent) → 0 < n → IsSomeEvent n (work_in_game o)
-some_event-in n o some = search rules
-
-some_event-among : (n : ℕ) (events : List EventId) (e : EventId) → All (IsEventWithin n) events → IsSomeEvent n (work_in_game (placed_in_game (position (λ f. f.0 == e.0) events)))
-some_event-among n events e within = search rules
 
 some_event-game : (n : ℕ) (game : Option GameRules) (e : EventId) → IfSome game (IsGameWithin n) → IsSomeEvent n (game_work game e)
 some_event-game n game e within = search rules

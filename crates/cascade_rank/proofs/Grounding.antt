@@ -14,7 +14,7 @@ use Rattle.cascade_rank.specs.Weights.{need, greatest, bound_of}
 use Rattle.cascade_rank.specs.LeadsTo.{grounded_in, grounded, is_open}
 use Rattle.cascade_rank.specs.Ranks.{rank, ranks}
 use Rattle.cascade_rank.specs.Finding.{is_within_limit}
-use Rattle.cascade_rank.specs.Order.{unmet, is_in, left_of, EachAfter, IsOrdering, AreRanks}
+use Rattle.cascade_rank.specs.Order.{is_in, left_of, EachAfter, IsOrdering, AreRanks}
 use Rattle.cascade_rank.proofs.Events.{event, same_event, tested_event, length-events, event_number}
 use Rattle.cascade_rank.proofs.Prices.{price_agrees}
 use Rattle.cascade_rank.proofs.Mentioned.{all_mentioned_at, all_mentioned-weaker, unmet-none, price-capped}

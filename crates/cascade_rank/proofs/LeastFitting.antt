@@ -1,13 +1,10 @@
 -- Weights that agree on the events of a plan, and that there is one list of least fitting weights at most.
-use Rattle.std.proofs.Common.{◌≡◌, ℕ, ◌<◌, List, length, sym, ◌∙◌, arith}
-use Rattle.std.proofs.lemmas.List.{ext_get_or}
+use Rattle.std.proofs.Common.{◌≡◌, ℕ, ◌<◌, length}
 use Rattle.plan_tables.specs.PlanView.{PlanView}
 use Rattle.plan_tables.specs.Valid.{HasEntries}
 use Rattle.plan_tables.specs.declared.entries.EventId.{EventId}
-use Rattle.cascade_rank.specs.Events.{weight_of}
-use Rattle.cascade_rank.specs.Cost.{cost_of_event, cost_of_stimuli}
-use Rattle.cascade_rank.specs.Weights.{need, IsLeastFitting, bound_of}
-use Rattle.cascade_rank.proofs.Events.{event}
+use Rattle.cascade_rank.specs.Cost.{cost_of_event}
+use Rattle.cascade_rank.specs.Weights.{need}
 use Rattle.cascade_rank.proofs.Prices.{price_agrees}
 use Rattle.cascade_rank.proofs.Within.{IsBelow-mentioned, IsBelow-event}
 

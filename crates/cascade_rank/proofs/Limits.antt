@@ -1,7 +1,6 @@
 -- How many events, bindings, rows and actions of a list a valid plan has at most, and sums of so many prices.
-use Rattle.std.proofs.Common.{rules, ◌≡◌, ℕ, ◌+◌, ◌*◌, ◌<◌, ◌≤◌, List, [], length, sym, subst, arith}
+use Rattle.std.proofs.Common.{rules, ◌≡◌, ℕ, ◌+◌, ◌*◌, ◌<◌, ◌≤◌, List, [], length, arith}
 use Rattle.std.proofs.Math.Nat.{add-mul, mul-le-mul_right, one-mul}
-use Rattle.std.proofs.lemmas.List.Elements.{All-get_or}
 use Rattle.plan_tables.specs.PlanView.{PlanView, actions_at}
 use Rattle.plan_tables.specs.declared.entries.ListId.{ListId}
 use Rattle.plan_tables.specs.declared.entries.Action.{Action}

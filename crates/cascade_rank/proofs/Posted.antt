@@ -2,9 +2,7 @@
 use Rattle.std.proofs.Common.{rules, ◌≡◌, ℕ, zero, suc, ◌+◌, ◌<◌, ◌≤◌, false, List, [], ◌∷◌, ◌++◌, length, take, get_or, refl, sym, ap, ◌∙◌, arith, length-append, take_all}
 use Rattle.std.proofs.lemmas.List.{append_assoc, append-nil}
 use Rattle.plan_tables.specs.declared.entries.EventId.{EventId}
-use Rattle.plan_tables.specs.declared.entries.ModeEvent.TheVariants.{WillStart, Starting, Started, Stopping, Stopped}
 use Rattle.plan_tables.specs.declared.entries.Work.{Work}
-use Rattle.plan_tables.specs.declared.entries.Work.TheVariants as works
 use Rattle.plan_tables.specs.PlanView.{PlanView, work_of}
 use Rattle.cascade_rank.specs.Cost.{Cost, Lines, Weight, Both, Greater, each_of, dearest_of, cost_of_post, cost_of_starts, cost_of_releases, cost_if_led, led_by, cost_of_game, cost_of_work}
 use Rattle.cascade_rank.specs.Mentions.{weights_in}

@@ -1,10 +1,10 @@
 -- The rows of a plan's devices, by number.
-use Rattle.std.proofs.Common.{rules, ◌≡◌, ℕ, ◌<◌, ◌≤◌, Bool, length, get_or, sym, subst, arith}
+use Rattle.std.proofs.Common.{rules, ◌≡◌, ℕ, ◌<◌, ◌≤◌, length, get_or, arith}
 use Rattle.std.specs.List.{All}
 use Rattle.std.proofs.lemmas.List.Elements.{All-from_get_or}
 use Rattle.std.proofs.lemmas.List.FromFn.{length-map-range_with_len, get_or-map-range_with_len}
 use Rattle.std.proofs.lemmas.List.Sums.{length-filter, count_by-le-length}
-use Rattle.plan_tables.specs.PlanView.{PlanView, is_owner, row_at, row_numbers, rows_of}
+use Rattle.plan_tables.specs.PlanView.{PlanView, row_numbers, rows_of}
 use Rattle.plan_tables.specs.declared.entries.Owner.{Owner}
 use Rattle.plan_tables.specs.declared.devices.RowId.{RowId}
 

@@ -1,28 +1,27 @@
 -- The costs of a valid plan mention only events of the plan.
-use Rattle.std.proofs.Common.{rules, ◌≡◌, ℕ, ◌<◌, Bool, true, false, ◌==◌, ◌&&◌, if◌then◌else◌, List, [], ◌∷◌, length, Option, Some, None, refl, sym, subst, inl, inr, arith}
+use Rattle.std.proofs.Common.{rules, ◌≡◌, ℕ, ◌<◌, Bool, true, false, ◌==◌, if◌then◌else◌, List, [], ◌∷◌, length, Option, Some, None, sym, subst, inl, inr, arith}
 use Rattle.std.specs.Prelude.{IfSome}
 use Rattle.std.specs.List.{All, AllByRecursion, find}
 use Rattle.std.proofs.lemmas.Bool.{cases_lt, or_cases, eqb-true, false≢true}
 use Rattle.std.proofs.lemmas.List.Elements.{recursion_from_All, All-get_or, All-weaker, All-nil, All-cons, All-append, All-filter}
 use Rattle.std.proofs.lemmas.List.{get_or_past}
-use Rattle.plan_tables.specs.PlanView.{PlanSwitch, PlanView, act_told, feeders_of, feeds, first_trough, may_hold_ball_end, is_multiball, is_save, is_trough, multiball_rows, save_rows, game_event, no_mode, mode_at, mode_event, work_of, no_switch, switch_at, act_of_listener, listeners_of, actions_at, posts_of, bound_to, is_owner, list_of_row, row_at, row_numbers, rows_of}
+use Rattle.plan_tables.specs.PlanView.{PlanView, act_told, feeders_of, feeds, may_hold_ball_end, is_multiball, is_save, multiball_rows, save_rows, game_event, mode_event, work_of, no_switch, switch_at, listeners_of, actions_at, posts_of, bound_to, is_owner, list_of_row, row_at, row_numbers, rows_of}
 use Rattle.plan_tables.specs.Devices.{list_count}
 use Rattle.plan_tables.specs.declared.entries.ModeId.{ModeId}
 use Rattle.plan_tables.specs.declared.entries.ModeEvent.{ModeEvent}
 use Rattle.plan_tables.specs.declared.entries.ModeEvent.TheVariants.{WillStart, Starting, Started, Stopping, Stopped}
 use Rattle.plan_tables.specs.declared.entries.GameEvent.{GameEvent}
-use Rattle.plan_tables.specs.declared.entries.GameEvent.TheVariants.{BallDrain, BallEnded}
-use Rattle.player_game.specs.Choices.{asks_for_ball, choices, is_drain}
+use Rattle.plan_tables.specs.declared.entries.GameEvent.TheVariants.{BallEnded}
+use Rattle.player_game.specs.Choices.{asks_for_ball, choices}
 use Rattle.plan_tables.specs.declared.entries.Work.{Work}
 use Rattle.plan_tables.specs.declared.entries.Work.TheVariants as works
 use Rattle.plan_tables.proofs.Worked.{work_found}
-use Rattle.plan_tables.specs.Valid.{IsEventWithin, IsModeWithin, IsWorkAt, IsActionWithin, IsTargetWithin, IsBindingWithin, IsSwitchWithin, IsListenerWithin, HasEntries}
+use Rattle.plan_tables.specs.Valid.{IsEventWithin, IsWorkAt, IsActionWithin, IsTargetWithin, IsBindingWithin, IsSwitchWithin, IsListenerWithin, HasEntries}
 use Rattle.plan_tables.specs.declared.entries.EventId.{EventId}
 use Rattle.plan_tables.specs.declared.entries.SwitchId.{SwitchId}
 use Rattle.plan_tables.specs.declared.entries.Listener.{Listener}
 use Rattle.plan_tables.specs.declared.entries.ListId.{ListId}
 use Rattle.plan_tables.specs.declared.entries.Action.{Action}
-use Rattle.plan_tables.specs.declared.entries.Action.TheVariants.{Post, Change, Enter, Request, AddBalls}
 use Rattle.plan_tables.specs.declared.entries.Target.{Target}
 use Rattle.plan_tables.specs.declared.entries.Target.TheVariants.{Run, Start, Stop, Act}
 use Rattle.plan_tables.specs.declared.entries.Owner.TheVariants as owners
@@ -30,13 +29,12 @@ use Rattle.plan_tables.specs.declared.devices.Act.TheVariants.{Save, End}
 use Rattle.plan_tables.specs.declared.devices.Telling.{Telling}
 use Rattle.plan_tables.specs.declared.devices.Telling.TheVariants.{Arrived, Wanted}
 use Rattle.plan_tables.specs.declared.devices.BallTarget.{BallTarget}
-use Rattle.plan_tables.specs.declared.devices.BallTarget.TheVariants.{Playfield, Device}
 use Rattle.plan_tables.specs.declared.devices.RowId.{RowId}
 use Rattle.device_objects.specs.declared.device.Call.{Call}
 use Rattle.device_objects.specs.declared.device.Call.TheVariants as calls
 use Rattle.device_objects.specs.Outcomes.{outcomes}
 use Rattle.plan_tables.specs.declared.entries.Binding.{Binding}
-use Rattle.cascade_rank.specs.Cost.{Cost, Lines, Weight, Both, Greater, mentions, each_of, dearest_of, cost_of_post, cost_of_drain, cost_of_action_by, cost_of_list_by, cost_of_answer_by, cost_of_call_by, cost_of_nobody, cost_of_told, cost_of_arrival, cost_of_trough, cost_of_telling, cost_of_call, cost_of_target, cost_of_binding, led_by, cost_if_led, cost_of_starts, cost_of_releases, cost_of_choice, cost_of_request, cost_of_drained_ball, cost_of_game, cost_of_work, cost_of_event, cost_of_listener, cost_of_playfield_switch, cost_of_acceptance, cost_of_switch, switches_of, cost_of_stimuli}
+use Rattle.cascade_rank.specs.Cost.{Cost, Lines, Weight, Both, Greater, mentions, each_of, dearest_of, cost_of_post, cost_of_drain, cost_of_action_by, cost_of_list_by, cost_of_answer_by, cost_of_call_by, cost_of_nobody, cost_of_told, cost_of_arrival, cost_of_trough, cost_of_telling, cost_of_call, cost_of_target, cost_of_binding, led_by, cost_if_led, cost_of_starts, cost_of_releases, cost_of_choice, cost_of_request, cost_of_drained_ball, cost_of_game, cost_of_work, cost_of_event}
 use Rattle.cascade_rank.specs.Below.{IsBelow}
 use Rattle.cascade_rank.specs.Mentions.{weights_in}
 use Rattle.cascade_rank.specs.Tellings.{IsTellingWithin}
@@ -242,28 +240,6 @@ module _ (plan : PlanView) (valid : HasEntries plan) where
   -- only devices of the plan listen to it; where there is none of its number, nothing does
   pub listeners-below : (s : SwitchId) → All (IsListenerWithin (length plan.rows)) (listeners_of plan s)
   listeners-below s = search (rules, cases_lt, All-get_or, get_or_past, All-nil)
-
-  IsBelow-listener : (active : Bool) (l : Listener) → IsListenerWithin (length plan.rows) l → IsBelow (length plan.events) (cost_of_listener plan active l)
-  IsBelow-listener active l h = IsBelow-call l.row (calls.Act (act_of_listener active l)) h
-
-  IsBelow-playfield_switch : (s : SwitchId) (active : Bool) → IsBelow (length plan.events) (cost_of_playfield_switch plan s active)
-  IsBelow-playfield_switch s active = by (active && (switch_at plan s).confirms_playfield)
-    where
-      by : (b : Bool) → IsBelow (length plan.events) (if b then cost_of_telling plan (Arrived Playfield) else Lines 0)
-      by true = IsBelow-telling (Arrived Playfield)
-      by false = tt
-
-  pub IsBelow-acceptance : (s : SwitchId) (active : Bool) → IsBelow (length plan.events) (cost_of_acceptance plan s active)
-  IsBelow-acceptance s active = (
-    tt,
-    (
-      each_below (length plan.events) (cost_of_listener plan active) (IsListenerWithin (length plan.rows)) (IsBelow-listener active) (listeners_of plan s) (listeners-below s),
-      (
-        IsBelow-playfield_switch s active,
-        each_below (length plan.events) cost_of_post (IsEventWithin (length plan.events)) (λ e k. k) (posts_of plan s active) (posts-below s active),
-      ),
-    ),
-  )
 
 -- the same of as many events as the plan has
 pub posts-within : (plan : PlanView) → HasEntries plan → (s : SwitchId) (active : Bool) (n : ℕ) (es : List EventId) → n ≡ length plan.events → es ≡ posts_of plan s active → All (IsEventWithin n) es
