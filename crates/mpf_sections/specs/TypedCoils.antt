@@ -1,5 +1,5 @@
 -- The entries of `coils`, `coil_player`, `flippers` and `autofire_coils`, by the names of their settings.
-use Rattle.std.specs.Prelude.{ℕ, nat_lt, Bool, true, false, ◌||◌, if◌then◌else◌, List, [], map, Option, Some, None, slice_get, unwrap_or, codes}
+use Rattle.std.specs.Prelude.{◌∷◌, ℕ, nat_lt, Bool, true, false, ◌||◌, if◌then◌else◌, List, [], map, Option, Some, None, slice_get, unwrap_or, codes}
 use Rattle.std.specs.Str.{bytes_eq}
 use Rattle.mpf_sections.specs.declared.words.CoilAction.{CoilAction}
 use Rattle.mpf_sections.specs.declared.words.CoilAction.TheVariants.{Pulse, Enable, Disable}
@@ -94,6 +94,10 @@ flipper_of e = record {
 
 unfoldable pub autofire_of : Entry → Autofire
 autofire_of e = record { coil = needed_name tables.autofire_coils (codes "coil") e; rule = rule_of tables.autofire_coils (codes "switch") e }
+
+-- the sections whose entries are coil rules
+abbrev pub coil_rule_sections : List (List ℕ)
+coil_rule_sections = flippers_name ∷ autofire_coils_name ∷ []
 
 -- the flipper or the autofire coil that an entry of the section of this name is; none where it is neither
 abbrev pub coil_rule_of : List ℕ → Entry → Option CoilRule

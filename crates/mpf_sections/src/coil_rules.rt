@@ -70,6 +70,9 @@ pub const COIL: usize = 0;
 /// The place of `switch` in the table of `autofire_coils`.
 pub const SWITCH: usize = 1;
 
+/// The sections whose entries are coil rules.
+pub const COIL_RULE_SECTIONS: [&[u8]; 2] = [FLIPPERS_NAME, AUTOFIRE_COILS_NAME];
+
 /// The place, in the table of the section of this name, of the setting that names the switch which
 /// an entry makes quick: the entries of `flippers` and `autofire_coils` do so.
 pub fn quick_switch(section: &[u8]) -> Option<usize>

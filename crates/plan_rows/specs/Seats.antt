@@ -5,7 +5,7 @@ use Rattle.std.specs.Str.{bytes_eq}
 use Rattle.yaml_subset.specs.Keys.{is_among}
 use Rattle.mpf_sections.specs.Rows.{Written, Entry, ShotGroup, SectionRows}
 use Rattle.mpf_sections.specs.Typed.{entries_in, counters_name, accruals_name, sequences_name, timers_name}
-use Rattle.mpf_sections.specs.TypedCoils.{flippers_name, autofire_coils_name}
+use Rattle.mpf_sections.specs.TypedCoils.{coil_rule_sections}
 use Rattle.mpf_sections.specs.TypedShots.{shots_name, shot_groups_name, shot_group_of, shot_groups_in}
 use Rattle.mpf_sections.specs.TypedBalls.{ball_devices_name, playfield, ball_device_of}
 use Rattle.mpf_sections.specs.TypedSaves.{ball_saves_name, multiballs_name}
@@ -35,7 +35,7 @@ shared_row_sections =
 
 -- those of a text of this place
 abbrev pub row_sections : Place → List (List ℕ)
-row_sections Machine = flippers_name ∷ autofire_coils_name ∷ ball_devices_name ∷ shared_row_sections
+row_sections Machine = coil_rule_sections ++ ball_devices_name ∷ shared_row_sections
 row_sections Control = shared_row_sections
 row_sections Mode = shared_row_sections
 

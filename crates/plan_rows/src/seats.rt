@@ -16,10 +16,10 @@ use crate::place::Place;
 use indexmap::{IndexMap, IndexSet};
 use machine_definitions::by_name::{ByName, Names};
 use mpf_config::{
-    ACCRUALS_NAME, AUTOFIRE_COILS_NAME, BALL_DEVICES_NAME, BALL_SAVES_NAME, COUNTERS_NAME, Entry,
-    FLIPPERS_NAME, MULTIBALLS_NAME, Name, PLAYFIELD, SEQUENCES_NAME, SHOT_GROUPS_NAME, SHOTS_NAME,
-    Section, TIMERS_NAME, as_shot_group,
+    ACCRUALS_NAME, BALL_DEVICES_NAME, BALL_SAVES_NAME, COUNTERS_NAME, Entry, MULTIBALLS_NAME, Name,
+    PLAYFIELD, SEQUENCES_NAME, SHOT_GROUPS_NAME, SHOTS_NAME, Section, TIMERS_NAME, as_shot_group,
 };
+use mpf_sections::coil_rules::COIL_RULE_SECTIONS;
 use section_tables::is_one_of;
 use std::alloc::{AllocError, Global};
 use yaml_subset::keys::KeyHashing;
@@ -68,10 +68,9 @@ fn row_or_unknown(row: Option<usize>) -> Destination
     }
 }
 
-/// The sections whose entries each have a row, first those that the machine text alone can have.
-const ROW_SECTIONS: [&[u8]; 10] = [
-    FLIPPERS_NAME,
-    AUTOFIRE_COILS_NAME,
+/// The sections whose entries each have a row, beside those of coil rules: first the one that the
+/// machine text alone can have.
+const ROW_SECTIONS: [&[u8]; 8] = [
     BALL_DEVICES_NAME,
     COUNTERS_NAME,
     ACCRUALS_NAME,
@@ -239,8 +238,10 @@ fn is_rowed(place: Place, section: &[u8]) -> bool
     ensures { result ≡ is_among (row_sections place) section.now }
 {
     match place {
-        Place::Machine => is_one_of(&ROW_SECTIONS, section),
-        Place::Control | Place::Mode => is_one_of(&ROW_SECTIONS[3..], section),
+        Place::Machine => {
+            is_one_of(&COIL_RULE_SECTIONS, section) || is_one_of(&ROW_SECTIONS, section)
+        }
+        Place::Control | Place::Mode => is_one_of(&ROW_SECTIONS[1..], section),
     }
 }
 
