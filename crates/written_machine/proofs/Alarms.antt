@@ -49,21 +49,11 @@ if_some P o x h is = subst (λ (o : Option ℕ). IfSome o P) is h
 module _ (plan : PlanView) where
   -- of a device that is called the next state is kept, where there is such a device
   turned-at : (call : Call) (r : RowId) (s : Machine) → (device_at (set_device r (called plan call r s).0 s) r ≡ (called plan call r s).0) ⊎ ((k : ℕ) → devices.part_due (device_at (set_device r (called plan call r s).0 s) r) k ≡ None)
-  turned-at call r s =
-      elim (cases_lt r.0 (length s.devices)) [
-        | inl there ↦ inl (get_or-set_same s.devices r.0 (called plan call r s).0 (devices.first_state no_row.settings) there)
-        | inr past ↦
-            let new = slice_set s.devices r.0 (called plan call r s).0 in
-            inr (λ k. ap (λ state. devices.part_due state k) (get_or_past new r.0 (devices.first_state no_row.settings) (omega (arith, past, length-set s.devices r.0 (called plan call r s).0))))
-      ]
+  turned-at call r s = search (rules, cases_lt, get_or-set_same, slice_set, get_or_past, length-set)
 
   module _ (valid : IsValid plan) where
     limits : (r : RowId) → IsWithinLimits (row_at plan r).settings
-    limits r =
-        elim (cases_lt r.0 (length plan.rows)) [
-          | inl there ↦ All-get_or (λ row. IsWithinLimits row.settings) plan.rows r.0 no_row there valid.settings
-          | inr past ↦ subst (λ row. IsWithinLimits row.settings) (sym (get_or_past plan.rows r.0 no_row past)) (omega arith)
-        ]
+    limits r = search (rules, cases_lt, All-get_or, get_or_past)
 
     later-turned : (call : Call) (r : RowId) (s : Machine) → IsLater s (set_device r (called plan call r s).0 s)
     later-turned call r s q k due is =
@@ -86,11 +76,7 @@ module _ (plan : PlanView) where
             ]
 
     later-move : (x : Move) (s : Machine) → IsLater s (do_move plan x s)
-    later-move (Began m) s = start-by plan m s (IsLater s) (λ r k due is. inl is) (λ r k due is. inl is)
-    later-move (Ended m) s = stop-by plan m s (IsLater s) (λ r k due is. inl is) (λ r k due is. inl is)
-    later-move (Turned call r) s = later-turned call r s
-    later-move (Booked owner call) s = book-by owner call s (IsLater s) (λ is r k due here. inl here) (λ r k due is. inl is)
-    later-move _ s = λ r k due is. inl is
+    later-move x s = search (rules, start-by, stop-by, later-turned, book-by)
 
     later-then : (s m t : Machine) → m.moment ≡ s.moment → IsLater s m → IsLater m t → IsLater s t
     later-then s m t here one next r k due is = search rules
@@ -173,17 +159,10 @@ module _ (plan : PlanView) where
   first_at r there = get_or-map (λ (row : DeviceRow). devices.first_state row.settings) plan.rows r.0 no_row (devices.first_state no_row.settings) there
 
   pub initial-devices : HasDevices plan (initial plan).devices
-  initial-devices = record {
-    count = length-map plan.rows (λ row. devices.first_state row.settings);
-    shapes = λ r there. subst (HasShape (row_at plan r).settings) (sym (first_at r there)) (states_keep_their_shape.first (row_at plan r).settings);
-  }
+  initial-devices = search (rules, length-map, first_at, states_keep_their_shape)
 
   pub initial-quiet : (r : RowId) → devices.due_of (device_at (initial plan) r) ≡ None
-  initial-quiet r =
-      elim (cases_lt r.0 (length plan.rows)) [
-        | inl there ↦ ap devices.due_of (first_at r there) ∙ first-quiet (row_at plan r).settings
-        | inr past ↦ ap devices.due_of (get_or_past (initial plan).devices r.0 (devices.first_state no_row.settings) (omega (arith, past, length-map plan.rows (λ row. devices.first_state row.settings))))
-      ]
+  initial-quiet r = search (rules, cases_lt, first_at, first-quiet, get_or_past, length-map)
 
 -- ---- what stimuli leave due
 
@@ -193,10 +172,7 @@ switch_due-same s t e n = ap (λ (v : SwitchesView). due_of v n) e
 
 -- what is due of a source is due of one of its parts
 source-part : (s : Machine) (source : Source) (due : ℕ) → source_due s source ≡ Some due → (k : ℕ) × (part_due s source k ≡ Some due)
-source-part s (switch n) due is = (0, is)
-source-part s (device r) due is =
-    let state = device_at s r in
-    if_some (λ (d : ℕ). (k : ℕ) × (devices.part_due state k ≡ Some d)) (devices.due_of state) due (devices_are_due_with_their_parts.one state) is
+source-part s source due is = search (rules, if_some, devices_are_due_with_their_parts)
 
 -- and where nothing is due before a moment, no part is
 parts-after : (m : ℕ) (s : Machine) → ((source : Source) (due : ℕ) → source_due s source ≡ Some due → m ≤ due)
@@ -360,8 +336,4 @@ module _ (plan : PlanView) where
   has_states-initial = record { kinds = refl; switches = length-map plan.switches (λ s. idle s.kind); modes = length-replicate (length plan.modes) (in_phase Idle); devices = initial-devices plan; coils = off-has_coils plan; players = record { few = omega arith; current = omega arith } }
 
   pub complete : (s : Machine) → IsValid plan → HasStates plan s → IsComplete s.switches
-  complete s valid h =
-      let kinds = ap (λ (ks : List _). length ks) h.kinds in
-      let count = length-map plan.switches (λ s. s.kind) in
-      let few : length plan.switches ≤ 256 = valid.switch_limit in
-      record { states = omega (arith, kinds, count, h.switches); limit = omega (arith, kinds, count, few) }
+  complete s valid h = search (rules, length-map)

@@ -43,9 +43,7 @@ module _ {X : Type 0} (f g : X → ℕ) (less : (x : X) → g x ≤ f x) where
   -- where one of them is less, so is the whole
   total-fewer : (xs : List X) (x : X) → Contains xs x → g x + 1 ≤ f x → total g xs + 1 ≤ total f xs
   total-fewer [] x (k, l, is) fewer = absurd (omega arith)
-  total-fewer (y ∷ ys) x (zero, l, is) fewer =
-      let here : g y + 1 ≤ f y = subst (λ (z : X). g z + 1 ≤ f z) (sym is) fewer in
-      omega (arith, here, total-no_more ys)
+  total-fewer (y ∷ ys) x (zero, l, is) fewer = search (rules, total-no_more)
   total-fewer (y ∷ ys) x (suc k, l, is) fewer = omega (arith, less y, total-fewer ys x (k, omega arith, is) fewer)
 
 abbrev flag : Bool → ℕ
@@ -283,10 +281,7 @@ module _ (plan : PlanView) (bound : ℕ) where
 
   module _ (valid : IsValid plan) (until : ℕ) (trace : List Line) (s : Machine) (reached : IsReached plan trace s) where
     going : IsGoing s
-    going = record {
-      not_late = reached-not_late plan trace s reached valid;
-      switches = reached-has_states plan trace s reached;
-    }
+    going = search (rules, reached-not_late, reached-has_states)
 
     -- all alarms that are due by the moment come
     pub alarms_by-all : IsNoAlarmDueBy (state_after plan bound (alarms_by plan bound until (most_alarms plan until s) s) s) until

@@ -145,15 +145,10 @@ module _ (plan : PlanView) where
         omega (arith, sums, rows, most)
 
     few_feeders : (target : BallTarget) → length (feeders_of plan target) ≤ 1024
-    few_feeders target =
-        let test : RowId → Bool = λ r. feeds target (row_at plan r).settings in
-        let most = valid.row_limit in
-        let all = length-rows plan in
-        omega (arith, length-filter test (row_numbers plan), count_by-le-length test (row_numbers plan), all, most)
+    few_feeders target = search (rules, length-rows, length-filter, count_by-le-length)
 
     few_on_way : (target : BallTarget) → IsTargetThere (length plan.rows) target → transit_to s.ledger target ≤ 1024
-    few_on_way target there =
-        omega (arith, h.away target there, few_feeders target, count_by-le-length (λ (r : RowId). is_device_away (device_at s r)) (feeders_of plan target))
+    few_on_way target there = search (rules, few_feeders, count_by-le-length)
 
     transit-few : all_in_transit s.ledger ≤ 1049600
     transit-few =
@@ -167,11 +162,7 @@ module _ (plan : PlanView) where
     -- a new ball does not make too many known
     pub room : (o : Origin) (r : RowId) → Says o (transit_to s.ledger (Device r)) s.ledger.playfield
         → s.ledger.known + one (is_new o) ≤ limit
-    room New r says =
-        let none = says.1 in
-        let balanced = h.ledger.balanced in
-        omega (arith, none, balanced, counted-few, transit-few)
-    room _ r says = let most = h.most in omega (arith, most)
+    room o r says = search (rules, counted-few, transit-few)
 
   -- ---- one device goes on to another state, and the ledger to other numbers
 

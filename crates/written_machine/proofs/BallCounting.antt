@@ -1,5 +1,5 @@
 -- As many balls count in a device as count at the switches that its ball switches are.
-use Rattle.std.proofs.Common.{◌≡◌, ℕ, suc, ◌+◌, ◌==◌, inl, inr, Bool, true, false, cond, ◌&&◌, ◌||◌, List, [], ◌∷◌, length, map, get_or, set, refl, ap, ap₂, sym, ◌∙◌, arith}
+use Rattle.std.proofs.Common.{rules, ◌≡◌, ℕ, suc, ◌+◌, ◌==◌, inl, inr, Bool, true, false, cond, ◌&&◌, ◌||◌, List, [], ◌∷◌, length, map, get_or, set, refl, ap, ap₂, sym, ◌∙◌, arith}
 use Rattle.std.specs.List.{All, AllPairs, count_by, filter, flat_map, list_any, range_with_len, sum_by}
 use Rattle.std.proofs.lemmas.Bool.{and_parts, cases_Bool, cases_eq, cases_lt, eqb-true, false≢true, ne_eqb, or_cases}
 use Rattle.std.proofs.lemmas.List.{get_or_past, get_or-set_same, get_or-set_other, set_past}
@@ -63,25 +63,13 @@ module _ (r : RowId) where
 
   -- where one is emptied, one fewer counts if it did
   emptied : (bs : List BallSwitch) (i : ℕ) → count_by (λ b. b.counted) (set bs i empty) + one (counts bs i) ≡ count_by (λ b. b.counted) bs
-  emptied bs i =
-      elim (cases_lt i (length bs)) [
-        | inl within ↦ omega (arith, sum_by-set (λ (b : BallSwitch). cond b.counted 1 0) bs i empty empty within)
-        | inr past ↦
-            let same : count_by (λ b. b.counted) (set bs i empty) ≡ count_by (λ b. b.counted) bs = ap (count_by (λ b. b.counted)) (set_past bs i empty past) in
-            let none : one (counts bs i) ≡ 0 = ap (λ (b : BallSwitch). one b.counted) (get_or_past bs i empty past) in
-            omega (arith, same, none)
-      ]
+  emptied bs i = search (rules, cases_lt, sum_by-set, set_past, get_or_past)
 
   emptied-other : (bs : List BallSwitch) (i j : ℕ) → (j ≡ i → ⊥) → counts (set bs i empty) j ≡ counts bs j
   emptied-other bs i j other = ap (λ (b : BallSwitch). b.counted) (get_or-set_other bs i j empty empty other)
 
   emptied-none : (bs : List BallSwitch) (i : ℕ) → counts (set bs i empty) i ≡ false
-  emptied-none bs i =
-      elim (cases_lt i (length bs)) [
-        | inl within ↦ ap (λ (b : BallSwitch). b.counted) (get_or-set_same bs i empty empty within)
-        | inr past ↦
-            ap (λ (xs : List BallSwitch). counts xs i) (set_past bs i empty past) ∙ ap (λ (b : BallSwitch). b.counted) (get_or_past bs i empty past)
-      ]
+  emptied-none bs i = search (rules, cases_lt, get_or-set_same, set_past, get_or_past)
 
   -- the listeners count each ball once, where each ball that counts has one, and no two are for one ball switch
   pub listeners-count : (ls : List Listener) (bs : List BallSwitch) → AllPairs AreApart ls → ((i : ℕ) → counts bs i ≡ true → is_heard r i ls ≡ true)
@@ -195,6 +183,4 @@ module _ (plan : PlanView) (r : RowId) (bs : List BallSwitch) (test : SwitchId �
   pub row-count : AllPairs AreApart (flat_map (λ s. s.listeners) plan.switches) → All IsSaid (switches_of plan)
       → ((i : ℕ) → (get_or bs i empty).counted ≡ true → is_heard r i (flat_map (λ s. s.listeners) plan.switches) ≡ true)
       → count_by (λ b. b.counted) bs ≡ count_by test (ball_switches plan r)
-  row-count apart said heard =
-      sym (switches-count (switches_of plan) said ∙ (ap (sum_by (counts_at r bs)) all_listeners
-      ∙ listeners-count r (flat_map (λ s. s.listeners) plan.switches) bs apart heard))
+  row-count apart said heard = search (rules, switches-count, all_listeners, listeners-count)

@@ -48,6 +48,4 @@ module _ (d : BallSettings) where
       })
 
   pub fire-fired : (now at : ℕ) (b : BallState) → due_of b ≡ Some at → IsFired b at (fire d now b).0
-  fire-fired now at b due =
-      cond_both {A = BallState × List ℕ} (is_timeout_first (first_due b) (timeout_of b.eject)) (time_out d now b.eject b) (count_due d now (first_due b) b)
-      (λ a. IsFired b at a.0) (λ is. inl (time_out-switches now b.eject b)) (λ not. counted-fired now at b (first_due b) refl not due)
+  fire-fired now at b due = search (rules, cond_both, time_out-switches, counted-fired)

@@ -140,17 +140,10 @@ module _ (plan : PlanView) where
   on-heard ls ms s t after dues quick same changes levels reads h = search rules
 
   changes-after : (before ls ms : List Line) (n : SwitchId) → changes_of n ls ≡ changes_of n ms → changes_of n (before ++ ls) ≡ changes_of n (before ++ ms)
-  changes-after before ls ms n same =
-      let f : Line → List LevelChange = λ l. change_at n l.moment l.happening in
-      flat_map-append f before ls ∙ (ap (λ xs. changes_of n before ++ xs) same ∙ sym (flat_map-append f before ms))
+  changes-after before ls ms n same = search (rules, flat_map-append)
 
   steady-heard : (before : List Line) (s t : Machine) → IsSteady plan s t → t.switches ≡ s.switches → AreHeard (before ++ s.lines) s → AreHeard (before ++ t.lines) t
-  steady-heard before s t steady switches h =
-      on-heard (before ++ s.lines) (before ++ t.lines) s t (let same = steady.moment in omega (arith, same))
-      (λ n at is. inl (ap (λ (v : SwitchesView). due_of v n) (sym switches) ∙ is))
-      (λ n is. ap (λ (v : SwitchesView). due_of v n) switches ∙ h.quick n is)
-      steady.switches (λ n. changes-after before t.lines s.lines n (steady.changes n)) (λ n. ap (λ (v : SwitchesView). active_at v n) switches)
-      (subst AreRead (sym switches) h.reads) h
+  steady-heard before s t steady switches h = search (rules, on-heard, changes-after)
 
   -- ---- what is due of a ball switch is due of its device
 
@@ -242,18 +235,10 @@ module _ (plan : PlanView) where
 
     -- who listens for a ball switch, if the ball switch is another switch's
     not_heard : (r : RowId) (i : ℕ) (n m : SwitchId) → (n.0 ≡ m.0 → ⊥) → is_heard r i (listeners_of plan m) ≡ true → is_heard r i (listeners_of plan n) ≡ false
-    not_heard r i n m other told =
-        elim (cases_Bool (is_heard r i (listeners_of plan n))) [
-          | inl also ↦ absurd (switches-apart r i plan.switches n.0 m.0 right.apart other also told)
-          | inr not ↦ not
-        ]
+    not_heard r i n m other told = search (rules, told, cases_Bool, is_heard, switches-apart)
 
     never_heard : (r : RowId) (i : ℕ) (n : SwitchId) → is_heard r i all_listeners ≡ false → is_heard r i (listeners_of plan n) ≡ false
-    never_heard r i n none =
-        elim (cases_Bool (is_heard r i (listeners_of plan n))) [
-          | inl also ↦ absurd (false≢true (sym none ∙ heard-all r i plan.switches n.0 also))
-          | inr not ↦ not
-        ]
+    never_heard r i n none = search (rules, cases_Bool, is_heard, heard-all)
 
     module _ (ls : List Line) (s : Machine) (v : SwitchesView) (n : SwitchId) (active : Bool) (at : ℕ) (h : AreHeard ls s) (calm : IsCalm plan no_lag s)
         (later : s.moment ≤ at) (dues : (m : SwitchId) (t : ℕ) → due_of v m ≡ Some t → (due_of s.switches m ≡ Some t) ⊎ (at < t)) (done : due_of v n ≡ None)
@@ -289,8 +274,7 @@ module _ (plan : PlanView) where
       final_switch r d i is = ap (λ (bs : List BallSwitch). get_or bs i empty) (rest.switches r d is) ∙ told.switches r d i is
 
       final_changes : (m : SwitchId) → changes_of m (ls ++ finished.lines) ≡ changes_of m ls ++ (change_at m at (lines.Switch n active) ++ [])
-      final_changes m =
-          flat_map-append (λ l. change_at m l.moment l.happening) ls finished.lines ∙ ap (λ xs. changes_of m ls ++ xs) (rest.changes m ∙ told.changes m)
+      final_changes m = search (rules, flat_map-append, rest, told)
 
       accepted-heard : finished.switches ≡ v → AreHeard (ls ++ finished.lines) finished
       accepted-heard switches = record {
@@ -384,9 +368,7 @@ module _ (plan : PlanView) where
           ∙ ap (λ (x : DeviceState). (ball_of x).switches) next-is)
 
       there : (q : RowId) (e : BallSettings) → (row_at plan q).settings ≡ kinds.BallDevice e → (q.0 ≡ r.0 → ⊥) → switches_at after_alarm q ≡ switches_at s q
-      there q e of other =
-          answered.switches q e of
-          ∙ ap (λ (x : DeviceState). (ball_of x).switches) (get_or-set_other s.devices r.0 q.0 next (devices.first_state no_row.settings) other)
+      there q e of other = search (rules, answered, ball_of, get_or-set_other)
 
       was : (i : ℕ) → get_or ball.switches i empty ≡ ball_switch s r i
       was i = ap (λ (x : DeviceState). get_or (ball_of x).switches i empty) (sym state)
@@ -428,9 +410,7 @@ module _ (plan : PlanView) where
                   ]
 
       fired_changes : (m : SwitchId) → changes_of m (ls ++ after_alarm.lines) ≡ changes_of m ls
-      fired_changes m =
-          flat_map-append (λ l. change_at m l.moment l.happening) ls after_alarm.lines
-          ∙ (ap (λ xs. changes_of m ls ++ xs) (answered.changes m) ∙ append-nil (changes_of m ls))
+      fired_changes m = search (rules, flat_map-append, answered, append-nil)
 
       fired-heard : after_alarm.switches ≡ s.switches → AreHeard (ls ++ after_alarm.lines) after_alarm
       fired-heard switches = record {
@@ -468,15 +448,7 @@ module _ (plan : PlanView) where
 
     quick-after : (s : Machine) → HasStates plan s → ((m : SwitchId) → quick_at m ≡ true → due_of s.switches m ≡ None) → (n : SwitchId) (level : Bool) (at : ℕ)
         → (m : SwitchId) → quick_at m ≡ true → due_of (after_change n level at s.switches) m ≡ None
-    quick-after s states quick n level at m fast =
-        none-from (due_of (after_change n level at s.switches) m) (λ t due.
-        elim (due-set s.switches n (changed (kind_at s.switches n) at level (state_at s.switches n)) m t due) [
-          | inl old ↦ none-some t (sym (quick m fast) ∙ old)
-          | inr new ↦
-              let id : m ≡ n = ap (λ (k : ℕ). record { 0 = k }) new.0 in
-              let its : quick_at n ≡ true = ap quick_at (sym id) ∙ fast in
-              none-some t (sym (changed-quick (kind_at s.switches n) at level (state_at s.switches n) (ap (λ (k : SwitchKind). k.quick) (kind-is s states n) ∙ its) (quick n its)) ∙ new.1)
-        ])
+    quick-after s states quick n level at m fast = search (rules, none-from, due-set, none-some, changed-quick, kind-is)
 
     begin-heard : (before : List Line) (stimulus : Stimulus) (s : Machine) → IsAllowed plan s stimulus → IsFollowed before s
         → AreHeard ((before ++ s.lines) ++ (begin plan stimulus s).lines) (begin plan stimulus s)
@@ -543,12 +515,7 @@ module _ (plan : PlanView) where
 
     begin-followed : (before : List Line) (stimulus : Stimulus) (s : Machine) → IsAllowed plan s stimulus → s.waiting ≡ [] → IsFollowed before s
         → IsFollowed (before ++ s.lines) (begin plan stimulus s)
-    begin-followed before stimulus s allowed empty_queue h = record {
-      heard = begin-heard before stimulus s allowed h;
-      calm = begin-calm plan valid own right stimulus s allowed h.calm;
-      states = has_states-begin plan stimulus s h.states;
-      late = not_late-begin plan valid stimulus s (allowed-first plan valid stimulus s allowed);
-    }
+    begin-followed before stimulus s allowed empty_queue h = search (rules, begin-heard, begin-calm, has_states-begin, not_late-begin, allowed-first)
 
     -- a ball counts at a switch where it counts at its ball switch
     listener-says : (trace : List Line) (s : Machine) → AreHeard trace s → IsCalm plan no_lag s → (at : ℕ) → s.moment ≤ at → IsNoAlarmDueBy s at
@@ -571,12 +538,7 @@ module _ (plan : PlanView) where
         ]
 
     two_rows : (n : SwitchId) → AllPairs AreOfTwoRows (listeners_of plan n)
-    two_rows n =
-        elim (cases_lt n.0 (length plan.switches)) [
-          | inl there ↦ All-get_or (λ s. AllPairs AreOfTwoRows s.listeners) plan.switches n.0 no_switch there right.once
-          | inr past ↦
-              subst (λ (s : PlanSwitch). AllPairs AreOfTwoRows s.listeners) (sym (get_or_past plan.switches n.0 no_switch past)) (λ i j e before within. absurd (omega arith))
-        ]
+    two_rows n = search (rules, cases_lt, there, All-get_or, get_or_past, within)
 
     pub changes-run : InEveryRun plan (λ stimuli trace s. (n : SwitchId) → n.0 < length plan.switches → LeadTo false (changes_of n trace) (active_at s.switches n))
     changes-run stimuli trace s run n within =

@@ -29,8 +29,7 @@ last-push o (y ∷ ys) x = last-push (Some y) ys x
 
 level-push : (xs : List LevelChange) (c : LevelChange) (b : Bool)
     → level_after (last_or None (xs ++ cond b (c ∷ []) [])) ≡ cond b c.active (level_after (last_or None xs))
-level-push xs c true = ap level_after (last-push None xs c)
-level-push xs c false = ap (λ (ys : List LevelChange). level_after (last_or None ys)) (append-nil xs)
+level-push xs c b = search (rules, last-push, append-nil)
 
 module _ (d : BallSettings) where
   late-over : (quick : Bool) (moment from : ℕ) (c : LevelChange) → c.at ≤ moment → is_late quick from c ≡ true → nat_le from moment ≡ true
@@ -60,10 +59,7 @@ module _ (d : BallSettings) where
 
   counted-push : (quick : Bool) (moment : ℕ) (past : List LevelChange) (c : LevelChange) → c.at ≤ moment
       → counted_level d quick moment (past ++ c ∷ []) ≡ cond (nat_le (counts_from d c) moment) c.active (level_before quick c past)
-  counted-push quick moment past c before =
-      let changes = filter (λ x. is_late quick (counts_from d x) c) (not_undone d quick past) in
-      ap (λ (cs : List LevelChange). level_after (last_or None cs)) (not_undone-push quick moment past c before)
-      ∙ level-push changes c (nat_le (counts_from d c) moment)
+  counted-push quick moment past c before = search (rules, not_undone-push, level-push, nat_le)
 
   -- at a normal switch that is what counted just before it
   less-le : (from at before : ℕ) → at ≡ before + 1 → nat_lt from at ≡ nat_le from before
@@ -121,9 +117,4 @@ module _ (d : BallSettings) where
 
   pub noted-follows : (quick : Bool) (since at : ℕ) (active : Bool) (b : BallSwitch) (past : List LevelChange) → IsInTime quick since at b
       → Follows quick since b past → Follows quick at (noted d active at b) (past ++ record { at = at; active = active } ∷ [])
-  noted-follows quick since at active b past in_time h = record {
-    level = λ moment after.
-        counted-push quick moment past (record { at = at; active = active }) after
-        ∙ (ap (λ (k : Bool). cond (nat_le (at + delay d active) moment) active k) (counted-before quick since at active b past in_time h)
-        ∙ noted-level active b.counted (at + delay d active) moment);
-  }
+  noted-follows quick since at active b past in_time h = search (rules, counted-push, nat_le, counted-before, noted-level)

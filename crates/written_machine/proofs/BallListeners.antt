@@ -84,8 +84,7 @@ module _ (r : RowId) (i : ℕ) where
   -- what a switch is for, all are for
   pub heard-all : (xs : List PlanSwitch) (n : ℕ) → is_heard r i (get_or xs n no_switch).listeners ≡ true → is_heard r i (flat_map listeners xs) ≡ true
   heard-all [] n heard = heard
-  heard-all (x ∷ xs) zero heard =
-      heard-append x.listeners (flat_map listeners xs) ∙ ap (λ (b : Bool). b || is_heard r i (flat_map listeners xs)) heard
+  heard-all (x ∷ xs) zero heard = search (rules, heard-append, is_heard)
   heard-all (x ∷ xs) (suc n) heard = heard-right x.listeners (flat_map listeners xs) (heard-all xs n heard)
 
   pub switches-apart : (xs : List PlanSwitch) (n m : ℕ) → AllPairs AreApart (flat_map listeners xs) → (n ≡ m → ⊥)

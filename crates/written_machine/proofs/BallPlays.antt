@@ -134,15 +134,7 @@ module _ (plan : PlanView) where
   same-other s t ledger moment devices lines_are = search rules
 
   pub write-other : (owner : Owner) (what : Happening) (s : Machine) → IsNoChange what → IsOther plan s (write owner what s)
-  write-other owner what s none = record {
-    ledger = refl;
-    moment = refl;
-    count = refl;
-    balls = λ r d is. refl;
-    changes = λ n.
-        flat_map-append (λ l. change_at n l.moment l.happening) s.lines (record { moment = s.moment; owner = owner; happening = what } ∷ [])
-        ∙ (ap (λ xs. changes_of n s.lines ++ xs) (no_change n s.moment what none) ∙ append-nil (changes_of n s.lines));
-  }
+  write-other owner what s none = search (rules, flat_map-append, no_change, append-nil)
 
   pub post-other : (owner : Owner) (e : EventId) (s : Machine) → IsOther plan s (post owner e s)
   post-other owner e s = same-other s (post owner e s) refl refl refl refl
@@ -176,16 +168,12 @@ module _ (plan : PlanView) where
   action-other confirm owner (Pulse coil ms power) s none = ask-other owner (commands.Pulse coil ms power) s
   action-other confirm owner (Enable coil power) s none = ask-other owner (commands.Enable coil power) s
   action-other confirm owner (Disable coil) s none = ask-other owner (commands.Disable coil) s
-  action-other confirm owner (ChangeVariable v action n e) s none =
-      let value = changed_to plan v action n s.players in
-      let changed = set_players (after_change plan v value s.players) s in
-      then-other (same-other s changed refl refl refl refl) (change-other owner s.players.current v e value changed)
+  action-other confirm owner (ChangeVariable v action n e) s none = search (rules, then-other, same-other, change-other)
   action-other confirm owner _ s none = absurd none
 
   pub list-other : (tell : Telling → Machine → Machine) (owner : Owner) (l : ListId) → All IsPlain (actions_at plan l)
       → (s : Machine) → IsOther plan s (do_list_by plan tell owner l s)
-  list-other tell owner l none s =
-      all-other (do_action_by plan tell owner) IsPlain (action-other tell owner) (actions_at plan l) none s
+  list-other tell owner l none s = search (rules, all-other, action-other)
 
   -- one after another
   pub all-play : {X : Type 0} {may : Call → Type 0} (f : X → Machine → Machine) (Q : X → Type 0) → ((x : X) (s : Machine) → Q x → Plays plan may s (f x s))
@@ -266,15 +254,10 @@ module _ (plan : PlanView) where
 
     -- the places of handlers are those of bindings
     numbers-below : (n : ℕ) → All (λ k. k < n) (range_with_len 0 n)
-    numbers-below n =
-        All-from_get_or (λ k. k < n) (range_with_len 0 n) 0
-        (λ i l. let inside : i < n = omega (arith, l, length-range_with_len 0 n) in omega (arith, get_or-range_with_len 0 n i 0 inside))
+    numbers-below n = search (rules, All-from_get_or, length-range_with_len, get_or-range_with_len)
 
     places-within : (e : EventId) → All (λ (p : BindingId). p.0 < length plan.bindings) (places_of plan e)
-    places-within e =
-        let test : ℕ → Bool = λ n. (binding_at plan (record { 0 = n })).event.0 == e.0 in
-        All-map (λ (p : BindingId). p.0 < length plan.bindings) (λ n. record { 0 = n }) (filter test (range_with_len 0 (length plan.bindings)))
-        (All-filter test (λ n. n < length plan.bindings) (range_with_len 0 (length plan.bindings)) (numbers-below (length plan.bindings)))
+    places-within e = search (rules, All-map, All-filter, numbers-below)
 
     -- ---- the machine's work
 
@@ -311,11 +294,7 @@ module _ (plan : PlanView) where
       -- ---- switches
 
       listeners-within : (n : SwitchId) → All (IsListenerWithin (length plan.rows)) (listeners_of plan n)
-      listeners-within n =
-          elim (cases_lt n.0 (length plan.switches)) [
-            | inl there ↦ All-get_or (λ s. All (IsListenerWithin (length plan.rows)) s.listeners) plan.switches n.0 no_switch there entries.listeners
-            | inr past ↦ subst (λ s. All (IsListenerWithin (length plan.rows)) s.listeners) (sym (get_or_past plan.switches n.0 no_switch past)) (All-nil (IsListenerWithin (length plan.rows)))
-          ]
+      listeners-within n = search (rules, cases_lt, All-get_or, get_or_past, All-nil)
 
       pub listeners-play : (a : Change) (s : Machine) → ((l : Listener) → may (calls.Act (act_of_listener a.active l)))
           → Plays plan may s (tell_listeners plan a s)
@@ -425,11 +404,7 @@ module _ (plan : PlanView) where
           saves-play r first.there saves s
 
       game-plays : (which : GameEvent) (s : Machine) → Plays plan may s (do_game plan which s)
-      game-plays which s = by (is_drain which)
-        where
-          by : (b : Bool) → Plays plan may s (if b then drain_ball plan (first_active_save plan s) s else step_game plan which s)
-          by true = drained-plays s (first_active_save plan s) refl
-          by false = step-plays (step_now plan which s) s
+      game-plays which s = search (rules, drained-plays, step-plays)
 
       after-plays : (kept : Bool) (w : Work) (s : Machine) → Plays plan may s (do_after plan kept w s)
       after-plays kept Nothing s = still (nothing-other s)

@@ -49,28 +49,16 @@ module _ (plan : PlanView) where
   -- ---- at first
 
   first-device : (r : RowId) → device_at (initial plan) r ≡ first_state (row_at plan r).settings
-  first-device r =
-      elim (cases_lt r.0 (length plan.rows)) [
-        | inl within ↦ get_or-map (λ row. first_state row.settings) plan.rows r.0 no_row (first_state no_row.settings) within
-        | inr past ↦
-            let size = length-map plan.rows (λ row. first_state row.settings) in
-            get_or_past (map (λ row. first_state row.settings) plan.rows) r.0 (first_state no_row.settings) (omega (arith, past, size))
-            ∙ ap (λ row. first_state row.settings) (sym (get_or_past plan.rows r.0 no_row past))
-      ]
+  first-device r = search (rules, cases_lt, get_or-map, length-map, get_or_past)
 
   pub first-ball : (r : RowId) (d : BallSettings) → (row_at plan r).settings ≡ kinds.BallDevice d → device_at (initial plan) r ≡ first_state (kinds.BallDevice d)
   first-ball r d is = first-device r ∙ ap first_state is
 
   none_counted : (k : ℕ) → counted_in (no_balls plan) (record { 0 = k }) ≡ 0
-  none_counted k =
-      elim (cases_lt k (length plan.rows)) [
-        | inl within ↦ get_or-replicate (length plan.rows) k 0 0 within
-        | inr past ↦ get_or_past (no_balls plan).counted k 0 (omega (arith, length-replicate {A = ℕ} (length plan.rows) 0))
-      ]
+  none_counted k = search (rules, cases_lt, get_or-replicate, get_or_past, length-replicate)
 
   none_on_way : (target : BallTarget) → transit_to (no_balls plan) target ≡ 0
-  none_on_way Playfield = refl
-  none_on_way (Device r) = none_counted r.0
+  none_on_way target = search (rules, none_counted)
 
   pub calm-initial : IsCalm plan no_lag (initial plan)
   calm-initial = record {
@@ -108,24 +96,15 @@ module _ (plan : PlanView) where
         plays-calm plan valid right no_call-usual (accepted-plays plan valid.entries own right IsNoCall a (tell_listeners plan a written)) heard
 
     if_accepted-calm : (o : Option Change) (s : Machine) → IsCalm plan no_lag s → IsCalm plan no_lag (do_if_accepted plan o s)
-    if_accepted-calm None s h = h
-    if_accepted-calm (Some a) s h = accepted-calm a s h
+    if_accepted-calm o s h = search (rules, accepted-calm)
 
     -- a device that is due is one of the plan
     pub due-within : (s : Machine) (r : RowId) (due : ℕ) → IsCalm plan no_lag s → due_of (device_at s r) ≡ Some due → r.0 < length plan.rows
-    due-within s r due h is =
-        elim (cases_lt r.0 (length s.devices)) [
-          | inl there ↦ let count = h.count in omega (arith, there, count)
-          | inr past ↦ absurd (none-some due (sym (ap due_of (get_or_past s.devices r.0 (first_state no_row.settings) past)) ∙ is))
-        ]
+    due-within s r due h is = search (rules, cases_lt, none-some, get_or_past)
 
     pub begin-calm : (stimulus : Stimulus) (s : Machine) → IsAllowed plan s stimulus → IsCalm plan no_lag s → IsCalm plan no_lag (begin plan stimulus s)
-    begin-calm (SwitchChange at n level) s allowed h =
-        let changed = set_switches (after_change n level at s.switches) (arrived at s) in
-        if_accepted-calm (reported_by_change n level at s.switches) changed (same-calm s changed refl refl h)
-    begin-calm (Alarm at (switch n)) s allowed h =
-        let fired = set_switches (accept n s.switches) (arrived at s) in
-        accepted-calm (reported (accept n s.switches) n) fired (same-calm s fired refl refl h)
+    begin-calm (SwitchChange at n level) s allowed h = search (rules, if_accepted-calm, same-calm)
+    begin-calm (Alarm at (switch n)) s allowed h = search (rules, accepted-calm, same-calm)
     begin-calm (Alarm at (device r)) s allowed h =
         plays-calm plan valid right {may = IsUsual} (λ call may. may)
         (call-plays plan valid.entries own right IsUsual calls.Fire r (arrived at s) (due-within s r at h allowed.0.due) tt)

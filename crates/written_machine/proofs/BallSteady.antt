@@ -1,5 +1,5 @@
 -- Only the calls of switches, and alarms, concern the ball switches of a device.
-use Rattle.std.proofs.Common.{rules, ◌≡◌, ℕ, ◌+◌, ◌&&◌, inl, inr, if◌then◌else◌, Bool, true, false, Option, Some, None, List, [], ◌∷◌, length, refl, sym, ap, ◌∙◌, subst, min, zero, suc}
+use Rattle.std.proofs.Common.{arith, rules, ◌≡◌, ℕ, ◌+◌, ◌&&◌, inl, inr, if◌then◌else◌, Bool, true, false, Option, Some, None, List, [], ◌∷◌, length, refl, sym, ap, ◌∙◌, subst, min, zero, suc}
 use Rattle.std.proofs.lemmas.Bool.{cases_eq, cases_lt, cond_both}
 use Rattle.std.proofs.lemmas.List.{append-nil, length-set, get_or-set_same, get_or-set_other, set_past}
 use Rattle.std.proofs.lemmas.List.Concat.{flat_map-append}
@@ -99,16 +99,7 @@ module _ (plan : PlanView) where
 
   -- the ledger books, or not
   book-steady : (owner : Owner) (c : LedgerCall) (s : Machine) → IsSteady plan s (book owner c s)
-  book-steady owner c s =
-      let after = set_ledger (after_call c s.ledger) s in
-      let line : Line = record { moment = s.moment; owner = owner; happening = lines.Balls (booked c s.ledger) (counts_of (after_call c s.ledger)) } in
-      book-by owner c s (IsSteady plan s)
-      (λ can. record {
-        moment = refl;
-        count = refl;
-        switches = λ r d is. refl;
-        changes = λ n. flat_map-append (λ l. change_at n l.moment l.happening) s.lines (line ∷ []) ∙ append-nil (changes_of n s.lines);
-      }) (nothing-steady s)
+  book-steady owner c s = search (rules, book-by, flat_map-append, append-nil, nothing-steady)
 
   module _ (tell : Telling → Machine → Machine) (tells : (telling : Telling) (s : Machine) → IsSteady plan s (tell telling s)) where
     drain-steady : (owner : Owner) (drain : Bool) (s : Machine) → IsSteady plan s (drain_if plan owner drain s)
@@ -134,47 +125,14 @@ module _ (plan : PlanView) where
     action-steady owner (Lose r) s = book-steady owner (ledger_calls.Lose r) s
     action-steady owner (Arrive r) s = book-steady owner (ledger_calls.Arrive (target_of plan r)) s
     action-steady owner (Request n) s = tells (Wanted n) s
-    action-steady owner (AddBalls n) s =
-        let more = set_game (more_balls n s.game) s in
-        then-steady (other-steady (same-other plan s more refl refl refl refl)) (want-steady (missing n s.game) more)
+    action-steady owner (AddBalls n) s = search (rules, then-steady, other-steady, same-other, want-steady)
 
     pub answer-steady : (r : RowId) (ks : List ℕ) (s : Machine) → IsSteady plan s (do_answer_by plan tell r ks s)
-    answer-steady r ks s =
-        all-steady (λ k. do_list_by plan tell (row_at plan r).owner (list_of_row plan r k))
-        (λ k t. all-steady (do_action_by plan tell (row_at plan r).owner) (action-steady (row_at plan r).owner) (actions_at plan (list_of_row plan r k)) t) ks s
+    answer-steady r ks s = search (rules, all-steady, action-steady)
 
     -- a call that keeps the ball switches
     turned-steady : (call : Call) → IsKeeping call → (r : RowId) (s : Machine) → IsSteady plan s (set_device r (called plan call r s).0 s)
-    turned-steady call keeps r s = record {
-      moment = refl;
-      count = length-set s.devices r.0 next;
-      switches = λ q d is. switches q d is;
-      changes = λ n. refl;
-    }
-      where
-        next : DeviceState
-        next = (called plan call r s).0
-
-        here : (d : BallSettings) → (row_at plan r).settings ≡ kinds.BallDevice d → (ball_of next).switches ≡ switches_at s r
-        here d is =
-            ap (λ (x : Settings). (ball_of (device_step x call s.moment (world_of s) (device_at s r)).0).switches) is
-            ∙ state-switches d call s.moment (world_of s) (device_at s r) keeps
-
-        at_row : (d : BallSettings) → (row_at plan r).settings ≡ kinds.BallDevice d → switches_at (set_device r next s) r ≡ switches_at s r
-        at_row d is =
-            elim (cases_lt r.0 (length s.devices)) [
-              | inl within ↦ ap (λ (state : DeviceState). (ball_of state).switches) (get_or-set_same s.devices r.0 next (first_state no_row.settings) within) ∙ here d is
-              | inr past ↦ ap (λ (ds : List DeviceState). (ball_of (device_state ds r)).switches) (set_past s.devices r.0 next past)
-            ]
-
-        switches : (q : RowId) (d : BallSettings) → (row_at plan q).settings ≡ kinds.BallDevice d → switches_at (set_device r next s) q ≡ switches_at s q
-        switches q d is =
-            elim (cases_eq q.0 r.0) [
-              | inl same ↦
-                  let row : r ≡ q = ap (λ (k : ℕ). record { 0 = k }) (sym same) in
-                  subst (λ (k : RowId). switches_at (set_device r next s) k ≡ switches_at s k) row (at_row d (sym (one_row plan q r same) ∙ is))
-              | inr other ↦ ap (λ (state : DeviceState). (ball_of state).switches) (get_or-set_other s.devices r.0 q.0 next (first_state no_row.settings) other)
-            ]
+    turned-steady call keeps r s = search (rules, length-set, state-switches, cases_lt, get_or-set_same, set_past, cases_eq, one_row, get_or-set_other)
 
     call-steady : (call : Call) → IsKeeping call → (r : RowId) (s : Machine) → IsSteady plan s (call_device_by plan tell call r s)
     call-steady call keeps r s =

@@ -108,8 +108,7 @@ module _ (d : BallSettings) (enter : Type 0) where
 
   overdue-answer : (target : BallTarget) (now : ℕ) (s : BallState) → is_away s.eject ≡ true
       → IsAnswer enter s (after (overdue target) (begin d now (ended s)))
-  overdue-answer Playfield now s away = on_playfield now s succeeded (inr (inl refl)) away
-  overdue-answer (Device r) now s away = on_playfield now s failed (inr (inr refl)) away
+  overdue-answer target now s away = search (rules, on_playfield)
 
   time_out-answer : (now : ℕ) (eject : Eject) (s : BallState) → s.eject ≡ eject → IsAnswer enter s (time_out d now eject s)
   time_out-answer now Idle s is = nothing s [] refl refl tt
@@ -146,11 +145,7 @@ module _ (d : BallSettings) (enter : Type 0) where
 
   -- one that is due is there
   there : (s : BallState) (i due : ℕ) → (switch_at s i).due ≡ Some due → i < length s.switches
-  there s i due is =
-      elim (cases_lt i (length s.switches)) [
-        | inl within ↦ within
-        | inr past ↦ absurd (none-some due (sym (ap (λ (b : BallSwitch). b.due) (get_or_past s.switches i empty past)) ∙ is))
-      ]
+  there s i due is = search (rules, cases_lt, none-some, get_or_past)
 
   count_due-answer : enter → (now : ℕ) (first : Option (ℕ × ℕ)) (s : BallState) → first_due s ≡ first → IsAnswer enter s (count_due d now first s)
   count_due-answer may now None s is = nothing s [] refl refl tt
@@ -160,17 +155,14 @@ module _ (d : BallSettings) (enter : Type 0) where
       count-answer may now a.1 s (omega (arith, within, at.1))
 
   fire-answer : enter → (now : ℕ) (s : BallState) → IsAnswer enter s (fire d now s)
-  fire-answer may now s =
-      cond_both (is_timeout_first (first_due s) (timeout_of s.eject)) (time_out d now s.eject s) (count_due d now (first_due s) s)
-      (IsAnswer enter s) (λ is. time_out-answer now s.eject s refl) (λ not. count_due-answer may now (first_due s) s refl)
+  fire-answer may now s = search (rules, cond_both, time_out-answer, count_due-answer)
 
   -- ---- acts
 
   -- it is told that the ball that it has ejected has arrived
   confirmed-answer : (now : ℕ) (s : BallState) (target : BallTarget) → target ≡ Playfield → is_away s.eject ≡ true
       → IsAnswer enter s (after (confirmed target) (begin d now (ended s)))
-  confirmed-answer now s Playfield is away = on_playfield now s succeeded (inr (inl refl)) away
-  confirmed-answer now s (Device r) is away = search rules
+  confirmed-answer now s target is away = search (rules, on_playfield)
 
   to_playfield : (now : ℕ) (eject : Eject) (s : BallState) → s.eject ≡ eject → d.target ≡ Playfield → IsAnswer enter s (confirm d now eject s)
   to_playfield now (Away a) s is target = confirmed-answer now s d.target target (ap is_away is)

@@ -74,19 +74,12 @@ parted (x ∷ xs) l (b ∷ bs) line after is =
     ]
 
 bookings-push : (ls : List Line) (l : Line) → bookings (ls ++ l ∷ []) ≡ bookings ls ++ booked_at l.happening
-bookings-push ls l =
-    flat_map-append (λ x. booked_at x.happening) ls (l ∷ []) ∙ ap (λ bs. bookings ls ++ bs) (append-nil (booked_at l.happening))
+bookings-push ls l = search (rules, flat_map-append, append-nil)
 
 origins-push : (ls : List Line) (l : Line) → AreOriginsRight ls
     → ((r : RowId) (origin : Origin) (told : BallCounts) → l.happening ≡ lines.Balls (Entered r origin) told → origin ≡ origin_after (bookings ls) r)
     → AreOriginsRight (ls ++ l ∷ [])
-origins-push ls l h here before line after r origin told parts is =
-    elim (parted ls l before line after parts) [
-      | inl last ↦
-          let its : l.happening ≡ lines.Balls (Entered r origin) told = ap (λ (x : Line). x.happening) (sym last.1) ∙ is in
-          here r origin told its ∙ ap (λ (xs : List Line). origin_after (bookings xs) r) (sym last.0)
-      | inr more ↦ h before line more.0 r origin told more.1 is
-    ]
+origins-push ls l h here before line after r origin told parts is = search (rules, parted)
 
 -- these are the counts of a ledger that has booked this
 abbrev IsCounted : PlanView → List Booking → BallCounts → Type 0
@@ -163,10 +156,7 @@ module _ (plan : PlanView) where
     next_is = calls-more h.calls c (no_balls plan) ∙ ap (after_call c) h.is
 
     next_booked : booked_by (h.calls ++ c ∷ []) (no_balls plan) ≡ bookings ls ++ booked c l ∷ []
-    next_booked =
-        booked-more h.calls c (no_balls plan)
-        ∙ (ap (λ bs. bs ++ booked c (after_calls h.calls (no_balls plan)) ∷ []) h.booked_is
-        ∙ ap (λ (m : Ledger). bookings ls ++ booked c m ∷ []) h.is)
+    next_booked = search (rules, booked-more)
 
     ledger-is : IsLedger l
     ledger-is = subst IsLedger h.is (calls-are h.calls (no_balls plan) (new-is plan) h.may)
@@ -214,26 +204,13 @@ module _ (plan : PlanView) where
   IsToldSoFar before s = IsTold (before ++ s.lines) s.ledger
 
   write-told : (before : List Line) (owner : Owner) (what : Happening) (s : Machine) → IsNoBooking what → IsToldSoFar before s → IsToldSoFar before (write owner what s)
-  write-told before owner what s none h =
-      let x : Line = record { moment = s.moment; owner = owner; happening = what } in
-      subst (λ (ls : List Line). IsTold ls s.ledger) (append_assoc before s.lines (x ∷ [])) (quiet-told (before ++ s.lines) x s.ledger none h)
+  write-told before owner what s none h = search (rules, append_assoc, quiet-told)
 
   no_booking : (command : Command) (answer : Answer) → IsNoBooking (told command answer)
   no_booking command answer = search rules
 
   told-move : (licence : Licence) (before : List Line) (x : Move) (s : Machine) → MayDo plan licence x → IsToldSoFar before s → IsToldSoFar before (do_move plan x s)
-  told-move licence before (Wrote owner what) s may h = write-told before owner what s may.3 h
-  told-move licence before (Began m) s may h = start-by plan m s (IsToldSoFar before) h h
-  told-move licence before (Ended m) s may h = stop-by plan m s (IsToldSoFar before) h h
-  told-move licence before (Asked owner command) s may h =
-      write-told before owner (told command (answer_asking command owner s.moment s.coils)) (record s { coils = after_asking command owner s.moment s.coils })
-      (no_booking command (answer_asking command owner s.moment s.coils)) h
-  told-move licence before (Books owner call) s may h =
-      let x : Line = record { moment = s.moment; owner = owner; happening = lines.Balls (booked call s.ledger) (counts_of (after_call call s.ledger)) } in
-      book-by owner call s (IsToldSoFar before)
-      (λ can. subst (λ (ls : List Line). IsTold ls (after_call call s.ledger)) (append_assoc before s.lines (x ∷ []))
-      (booking-told (before ++ s.lines) x s.ledger call can refl h)) h
-  told-move licence before _ s may h = h
+  told-move licence before x s may h = search (rules, write-told, start-by, stop-by, no_booking, book-by, append_assoc, booking-told)
 
   told-does : (licence : Licence) (before : List Line) {c : Cost} {s t : Machine} → Does plan (MayDo plan licence) c s t → IsToldSoFar before s → IsToldSoFar before t
   told-does licence before d h = does-keeps plan (MayDo plan licence) (IsToldSoFar before) (told-move licence before) d h
@@ -266,15 +243,7 @@ module _ (plan : PlanView) where
     now = told-run stimuli trace s run
 
     pub booked-run : IsLedgerOf plan (bookings trace) s.ledger
-    booked-run =
-        let rows = now.rows in
-        let ledger = subst IsLedger now.is (calls-are now.calls (no_balls plan) (new-is plan) now.may) in
-        record {
-          rows = rows;
-          targets = ledger.rows ∙ rows;
-          booked = subst (λ bs. HasBooked bs s.ledger) now.booked_is
-              (subst (HasBooked (booked_by now.calls (no_balls plan))) now.is (ledgers_follow_bookings plan now.calls now.may));
-        }
+    booked-run = search (rules, now, calls-are, new-is, ledgers_follow_bookings)
 
     pub somewhere-run : IsBalanced s.ledger
     somewhere-run = subst IsBalanced now.is (balls_are_somewhere plan now.calls now.may)

@@ -1,5 +1,5 @@
 -- Where weights fit, no event step raises the potential. So each cascade ends within the bound.
-use Rattle.std.proofs.Common.{◌≡◌, ℕ, zero, suc, ◌+◌, ◌≤◌, ◌<◌, Bool, true, false, if◌then◌else◌, Some, None, List, [], ◌∷◌, length, refl, ap, sym, subst, arith, length-append}
+use Rattle.std.proofs.Common.{rules, ◌≡◌, ℕ, zero, suc, ◌+◌, ◌≤◌, ◌<◌, Bool, true, false, if◌then◌else◌, Some, None, List, [], ◌∷◌, length, refl, ap, sym, subst, arith, length-append}
 use Rattle.plan_tables.specs.PlanView.{PlanView, work_of}
 use Rattle.plan_tables.specs.declared.entries.EventId.{EventId}
 use Rattle.plan_tables.specs.Valid.{HasEntries, IsValid}
@@ -45,33 +45,19 @@ module _ (plan : PlanView) (valid : IsValid plan) where
 -- a stimulus that may come costs at most what the dearest does
 module _ (plan : PlanView) (w : EventId → ℕ) where
   accepted_cost : (n : SwitchId) (taken : Bool) (a : Change) → a.switch ≡ n → n.0 < length plan.switches → price w (cost_if_accepted plan (if taken then Some a else None)) ≤ bound_of plan w
-  accepted_cost n true a is l = subst (λ (m : SwitchId). price w (cost_of_acceptance plan m a.active) ≤ bound_of plan w) (sym is) (acceptance-within_bound plan w n a.active l)
-  accepted_cost n false a is l = omega arith
+  accepted_cost n taken a is l = search (rules, acceptance-within_bound)
 
   pub stimulus_cost : HasEntries plan → (s : Machine) (stimulus : Stimulus) → HasStates plan s → IsAllowed plan s stimulus → price w (cost_of_stimulus plan s stimulus) ≤ bound_of plan w
-  stimulus_cost entries s (SwitchChange at n level) h allowed =
-      accepted_cost n (is_taken (kind_at s.switches n) level (state_at s.switches n)) (reported (after_change n level at s.switches) n) refl allowed.1
-  stimulus_cost entries s (Alarm at (switch n)) h allowed =
-      let there = due-within s.switches n at allowed.0.due in
-      let count = h.switches in
-      acceptance-within_bound plan w n (reported (accept n s.switches) n).active (omega arith)
-  stimulus_cost entries s (Alarm at (device r)) h allowed = fire-within_bound plan entries w r (due-row plan s r at h.devices allowed.0.due)
-  stimulus_cost entries s (Wait at) h allowed = omega arith
+  stimulus_cost entries s stimulus h allowed = search (rules, accepted_cost, due-within, acceptance-within_bound, fire-within_bound, due-row)
 
   -- a device that fires is one of the plan, and due
   fired : (entries : HasEntries plan) → (s : Machine) (stimulus : Stimulus) → HasStates plan s → IsAllowed plan s stimulus → IsFired plan entries w s stimulus
-  fired entries s (SwitchChange at n level) h allowed = tt
-  fired entries s (Alarm at (switch n)) h allowed = tt
-  fired entries s (Alarm at (device r)) h allowed = (due-row plan s r at h.devices allowed.0.due, allowed.0.due)
-  fired entries s (Wait at) h allowed = tt
+  fired entries s stimulus h allowed = search (rules, due-row)
 
 module _ (plan : PlanView) where
   -- each event step gives a line
   pub step-line : (s t : Machine) → EventStep plan s t → length s.lines < length t.lines
-  step-line s t st =
-      let grown = event-grows plan st.first st.rest st.order s in
-      let is = ap (λ (m : Machine). length m.lines) st.new_is in
-      omega (arith, grown.0, is)
+  step-line s t st = search (rules, event-grows)
 
   pub steps-lines : (n : ℕ) (s t : Machine) → EventSteps plan n s t → length s.lines + n ≤ length t.lines
   steps-lines zero s t is = let same = ap (λ (m : Machine). length m.lines) is in omega (arith, same)

@@ -106,8 +106,7 @@ module _ (owner : Owner) (call : LedgerCall) (s : Machine) where
   book-by P here not = search rules
 
   pub booked-length : length booked_now.lines ≡ length s.lines + 1
-  booked-length =
-      length-append s.lines (record { moment = s.moment; owner = owner; happening = lines.Balls (booked call s.ledger) (counts_of (after_call call s.ledger)) } ∷ [])
+  booked-length = search (rules, length-append)
 
 -- ---- the potential grows by no more than the cost
 
@@ -124,15 +123,7 @@ potential-post w owner e s = omega (arith, weigh-append w s.waiting (record { ev
 
 module _ (plan : PlanView) where
   potential-move : (w : EventId → ℕ) (x : Move) (s : Machine) → potential w (do_move plan x s) ≤ potential w s + price w (cost_of_move plan x)
-  potential-move w (Wrote owner what) s = omega (arith, length-append s.lines (record { moment = s.moment; owner = owner; happening = what } ∷ []))
-  potential-move w (Sent owner e) s = potential-post w owner e s
-  potential-move w (Began m) s =
-      start-by plan m s (λ t. potential w t ≤ potential w s + w (mode_event plan m WillStart)) (potential-post w owners.Machine (mode_event plan m WillStart) (begun_mode plan m s)) (omega arith)
-  potential-move w (Ended m) s =
-      stop-by plan m s (λ t. potential w t ≤ potential w s + w (mode_event plan m Stopping)) (potential-post w owners.Machine (mode_event plan m Stopping) (ended_mode plan m s)) (omega arith)
-  potential-move w (Booked owner call) s = book-by owner call s (λ t. potential w t ≤ potential w s + 1) (λ is. omega (arith, booked-length owner call s)) (omega arith)
-  potential-move w (Asked owner command) s = omega (arith, length-append s.lines (record { moment = s.moment; owner = owner; happening = told command (answer_asking command owner s.moment s.coils) } ∷ []))
-  potential-move w _ s = omega arith
+  potential-move w x s = search (rules, length-append, potential-post, start-by, stop-by, book-by, booked-length)
 
   pub potential-does : {may : Move → Type 0} (w : EventId → ℕ) {c : Cost} {s t : Machine} → Does plan may c s t → potential w t ≤ potential w s + price w c
   potential-does w quiet = omega arith
@@ -154,13 +145,7 @@ module _ (plan : PlanView) where
   of_plan-push (q ∷ ps) p h k = (h.0, of_plan-push ps p h.1 k)
 
   pub grows-move : (x : Move) (s : Machine) → Grows s (do_move plan x s)
-  grows-move (Wrote owner what) s = (omega (arith, length-append s.lines (record { moment = s.moment; owner = owner; happening = what } ∷ [])), omega arith)
-  grows-move (Sent owner e) s = (omega arith, omega (arith, length-append s.waiting (record { event = e; owner = owner } ∷ [])))
-  grows-move (Began m) s = start-by plan m s (Grows s) (omega arith, omega (arith, length-append s.waiting (record { event = mode_event plan m WillStart; owner = owners.Machine } ∷ []))) (omega arith, omega arith)
-  grows-move (Ended m) s = stop-by plan m s (Grows s) (omega arith, omega (arith, length-append s.waiting (record { event = mode_event plan m Stopping; owner = owners.Machine } ∷ []))) (omega arith, omega arith)
-  grows-move (Booked owner call) s = book-by owner call s (Grows s) (λ is. (omega (arith, booked-length owner call s), omega arith)) (omega arith, omega arith)
-  grows-move (Asked owner command) s = (omega (arith, length-append s.lines (record { moment = s.moment; owner = owner; happening = told command (answer_asking command owner s.moment s.coils) } ∷ [])), omega arith)
-  grows-move _ s = (omega arith, omega arith)
+  grows-move x s = search (rules, length-append, start-by, stop-by, book-by, booked-length)
 
   pub moment-move : (x : Move) (s : Machine) → (do_move plan x s).moment ≡ s.moment
   moment-move x s = search rules
@@ -190,16 +175,12 @@ module _ (plan : PlanView) where
   either-has_coils b x y one other = search rules
 
   pub asked-has_coils : (owner : Owner) (command : Command) (now : ℕ) (coils : List CoilState) → IsListed plan owner command → HasCoils coils → HasCoils (after_asking command owner now coils)
-  asked-has_coils owner (commands.Pulse coil ms power) now coils may h =
-      let c = coil_at coils coil in
-      either-has_coils (takes_pulse ms power now c) (set_coil coil (pulsed ms now c) coils) coils (set-has_coils coil (pulsed ms now c) coils h (λ o is. h.held o coil is)) h
+  asked-has_coils owner (commands.Pulse coil ms power) now coils may h = search (rules, either-has_coils, set-has_coils)
   asked-has_coils owner (commands.Enable coil power) now coils may h =
       let c = coil_at coils coil in
       either-has_coils (takes_enable power c) (set_coil coil (enabled owner c) coils) coils
       (set-has_coils coil (enabled owner c) coils h (λ o is. subst (MayHold plan coil) (is_owner-same owner o is) may)) h
-  asked-has_coils owner (commands.Disable coil) now coils may h =
-      let c = coil_at coils coil in
-      either-has_coils (is_on_at now c) (set_coil coil (disabled c) coils) coils (set-has_coils coil (disabled c) coils h (λ o is. absurd (false≢true is))) h
+  asked-has_coils owner (commands.Disable coil) now coils may h = search (rules, either-has_coils, set-has_coils)
 
   pub off-has_coils : HasCoils (all_off (limits_of plan))
   off-has_coils = record {
@@ -271,23 +252,14 @@ module _ (plan : PlanView) where
   has_states-move l (Booked owner call) s may h = search rules
   has_states-move l (Varied v value) s may h = record { kinds = h.kinds; switches = h.switches; modes = h.modes; devices = h.devices; coils = h.coils; players = varied-few v value s.players h.players }
   has_states-move l (AddedBalls n) s may h = gamed-has_states (more_balls n s.game) s h
-  has_states-move l (Stepped which) s may h =
-      record { kinds = h.kinds; switches = h.switches; modes = h.modes; devices = h.devices; coils = h.coils; players = players_stay_few plan which (home_of plan s) s.game s.players h.players }
+  has_states-move l (Stepped which) s may h = search (rules, players_stay_few)
 
   -- a device that is due is one of the plan
   pub due-row : (s : Machine) (r : RowId) (due : ℕ) → HasDevices plan s.devices → due_of (device_at s r) ≡ Some due → r.0 < length plan.rows
-  due-row s r due has is =
-      elim (cases_lt r.0 (length s.devices)) [
-        | inl there ↦ let count = has.count in omega (arith, there, count)
-        | inr past ↦ absurd (none-some due (sym (ap due_of (get_or_past s.devices r.0 (first_state no_row.settings) past)) ∙ is))
-      ]
+  due-row s r due has is = search (rules, cases_lt, none-some, get_or_past)
 
   pub has_devices-move : (x : Move) (s : Machine) → HasDevices plan s.devices → HasDevices plan (do_move plan x s).devices
-  has_devices-move (Began m) s h = start-by plan m s (λ t. HasDevices plan t.devices) h h
-  has_devices-move (Ended m) s h = stop-by plan m s (λ t. HasDevices plan t.devices) h h
-  has_devices-move (Turned call r) s h = turned-has_devices call r s h
-  has_devices-move (Booked owner call) s h = book-by owner call s (λ t. HasDevices plan t.devices) (λ is. h) h
-  has_devices-move _ s h = h
+  has_devices-move x s h = search (rules, start-by, stop-by, turned-has_devices, book-by)
 
   module _ {may : Move → Type 0} {c : Cost} {s t : Machine} where
     pub has_devices-does : Does plan may c s t → HasDevices plan s.devices → HasDevices plan t.devices
@@ -305,13 +277,7 @@ module _ (plan : PlanView) where
     has_states-does d h = does-keeps plan (MayDo plan l) HasStates (has_states-move l) d h
 
     waits-move : HasEntries plan → (x : Move) (s : Machine) → MayDo plan l x → WaitsInPlan s → WaitsInPlan (do_move plan x s)
-    waits-move entries (Sent owner e) s may h = of_plan-push s.waiting (record { event = e; owner = owner }) h (may.1 entries)
-    waits-move entries (Began m) s may h =
-        start-by plan m s WaitsInPlan (of_plan-push s.waiting (record { event = mode_event plan m WillStart; owner = owners.Machine }) h (mode_event-within plan entries m WillStart (may entries))) h
-    waits-move entries (Ended m) s may h =
-        stop-by plan m s WaitsInPlan (of_plan-push s.waiting (record { event = mode_event plan m Stopping; owner = owners.Machine }) h (mode_event-within plan entries m Stopping (may entries))) h
-    waits-move entries (Booked owner call) s may h = book-by owner call s WaitsInPlan (λ is. h) h
-    waits-move entries _ s may h = h
+    waits-move entries x s may h = search (rules, of_plan-push, start-by, mode_event-within, stop-by, book-by)
 
     pub waits-does : HasEntries plan → {c : Cost} {s t : Machine} → Does plan (MayDo plan l) c s t → WaitsInPlan s → WaitsInPlan t
     waits-does entries d h = does-keeps plan (MayDo plan l) WaitsInPlan (waits-move entries) d h

@@ -1,5 +1,5 @@
 -- What the game's own step leads to where a ball has drained.
-use Rattle.std.proofs.Common.{◌≡◌, ◌==◌, Bool, true, false, List, [], ◌∷◌, refl, ◌∙◌, sym, ap}
+use Rattle.std.proofs.Common.{arith, rules, ◌≡◌, ◌==◌, Bool, true, false, List, [], ◌∷◌, refl, ◌∙◌, sym, ap}
 use Rattle.plan_tables.specs.PlanView.{PlanView}
 use Rattle.plan_tables.specs.declared.entries.GameEvent.{GameEvent}
 use Rattle.plan_tables.specs.declared.entries.GameEvent.TheVariants.{BallDrain}
@@ -16,16 +16,11 @@ module _ (plan : PlanView) where
 
   -- a ball that has drained asks for no ball, and tells no scores
   pub drain-step : (s : Machine) → step_game plan BallDrain s ≡ all_do (post_game plan) (step_now plan BallDrain s).posts (do_move plan (Stepped BallDrain) s)
-  drain-step s =
-      let step = step_now plan BallDrain s in
-      let stepped = do_move plan (Stepped BallDrain) s in
-      ap (λ (b : Bool). all_do (post_game plan) step.posts (ask_ball plan b (write_finals plan step.finals stepped))) (drain-requests plan.game plan (home_of plan s) s.game s.players)
-      ∙ ap (λ (b : Bool). all_do (post_game plan) step.posts (write_finals plan b stepped)) (drain-finals plan.game plan (home_of plan s) s.game s.players)
+  drain-step s = search (rules, drain-requests, drain-finals)
 
   pub drain-game : (s : Machine) → (step_game plan BallDrain s).game ≡ (step_now plan BallDrain s).game
   drain-game s = ap (λ (t : Machine). t.game) (drain-step s) ∙ posts-game (step_now plan BallDrain s).posts (do_move plan (Stepped BallDrain) s)
 
   -- where one ball is left in play, nothing is posted
   pub last-posts : (s : Machine) → (in_play (step_game plan BallDrain s).game == 1) ≡ true → (step_now plan BallDrain s).posts ≡ []
-  last-posts s one =
-      tested-left plan.game plan (home_of plan s) s.game s.players (sym (ap (λ g. in_play g == 1) (drain-game s)) ∙ one)
+  last-posts s one = search (rules, tested-left, drain-game)

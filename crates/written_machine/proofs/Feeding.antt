@@ -52,11 +52,7 @@ trough-own settings owner is own = search rules
 module _ (plan : PlanView) where
   -- a ball device is the machine's
   ball_row-own : ActsAreOwn plan → (r : RowId) → IsOwnBallDevice (row_at plan r).settings (row_at plan r).owner
-  ball_row-own own r =
-      elim (cases_lt r.0 (length plan.rows)) [
-        | inl there ↦ All-get_or (λ row. IsOwnBallDevice row.settings row.owner) plan.rows r.0 no_row there own.balls
-        | inr past ↦ subst (λ row. IsOwnBallDevice row.settings row.owner) (sym (get_or_past plan.rows r.0 no_row past)) tt
-      ]
+  ball_row-own own r = search (rules, cases_lt, All-get_or, get_or_past)
 
   pub feeders-within : (target : BallTarget) → All (λ r. r.0 < length plan.rows) (feeders_of plan target)
   feeders-within target = All-filter (λ r. feeds target (row_at plan r).settings) (λ r. r.0 < length plan.rows) (row_numbers plan) (row_numbers-within plan)
@@ -69,15 +65,7 @@ module _ (plan : PlanView) where
     pub owner : ActsAreOwn plan → (row_at plan r).owner ≡ owners.Machine
 
   pub first_away-is : (target : BallTarget) (s : Machine) (r : RowId) → first_away plan target s ≡ Some r → IsFirstAway target s r
-  first_away-is target s r is =
-      let (listed, away) = found (λ q. is_device_away (device_at s q)) (feeders_of plan target) r is in
-      let feeds_it = All-at (λ q. feeds target (row_at plan q).settings ≡ true) (feeders_of plan target) r (filter_passes (λ q. feeds target (row_at plan q).settings) (row_numbers plan)) listed in
-      record {
-        listed = listed;
-        there = All-at (λ q. q.0 < length plan.rows) (feeders_of plan target) r (feeders-within target) listed;
-        away = away;
-        owner = λ own. feeds-own target (row_at plan r).settings (row_at plan r).owner feeds_it (ball_row-own own r);
-      }
+  first_away-is target s r is = search (rules, found, All-at, filter_passes, feeders-within, feeds-own, ball_row-own)
 
   -- the first trough is a device of the plan, and the machine's
   pub record IsFirstTrough (r : RowId) : Type 0 where
@@ -86,13 +74,7 @@ module _ (plan : PlanView) where
     pub owner : ActsAreOwn plan → (row_at plan r).owner ≡ owners.Machine
 
   pub first_trough-is : (r : RowId) → first_trough plan ≡ Some r → IsFirstTrough r
-  first_trough-is r is =
-      let (listed, trough) = found (λ q. is_trough (row_at plan q).settings) (row_numbers plan) r is in
-      record {
-        there = All-at (λ q. q.0 < length plan.rows) (row_numbers plan) r (row_numbers-within plan) listed;
-        trough = trough;
-        owner = λ own. trough-own (row_at plan r).settings (row_at plan r).owner trough (ball_row-own own r);
-      }
+  first_trough-is r is = search (rules, found, All-at, row_numbers-within, trough-own, ball_row-own)
 
   -- who is told something is a device of the plan, and the machine's
   pub record IsToldDevice (r : RowId) : Type 0 where
@@ -117,10 +99,4 @@ module _ (plan : PlanView) where
     pub active : is_active_save (device_at s r) ≡ true
 
   pub first_active_save-is : (s : Machine) (r : RowId) → first_active_save plan s ≡ Some r → IsFirstSave s r
-  first_active_save-is s r is = by (is_ball_on s.game.phase) is
-    where
-      by : (b : Bool) → (if b then find (λ q. is_active_save (device_at s q)) (save_rows plan) else None) ≡ Some r → IsFirstSave s r
-      by true here =
-          let (listed, active) = found (λ q. is_active_save (device_at s q)) (save_rows plan) r here in
-          record { listed = listed; there = All-at (λ q. q.0 < length plan.rows) (save_rows plan) r saves-within listed; active = active }
-      by false here = absurd (none-some r here)
+  first_active_save-is s r is = search (rules, found, All-at, saves-within, none-some)

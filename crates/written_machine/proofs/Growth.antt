@@ -1,5 +1,5 @@
 -- What the machine does only adds to its lines and waiting events.
-use Rattle.std.proofs.Common.{ℕ, ℤ, ◌≤◌, ◌<◌, Bool, true, false, if◌then◌else◌, Option, None, Some, List, [], ◌∷◌, length, length-append, arith, suc, zero}
+use Rattle.std.proofs.Common.{rules, ℕ, ℤ, ◌≤◌, ◌<◌, Bool, true, false, if◌then◌else◌, Option, None, Some, List, [], ◌∷◌, length, length-append, arith, suc, zero}
 use Rattle.std.specs.Prelude.{◌&&◌}
 use Rattle.plan_tables.specs.PlanView.{PlanView, game_event, target_of, work_of}
 use Rattle.plan_tables.specs.declared.devices.BallTarget.TheVariants.{Device}
@@ -46,26 +46,17 @@ pub post-grows : (owner : Owner) (e : EventId) (s : Machine) → Grows s (post o
 post-grows owner e s = (omega arith, omega (arith, length-append s.waiting (record { event = e; owner = owner } ∷ [])))
 
 pub asked-grows : (owner : Owner) (command : Command) (s : Machine) → Grows s (ask_coil owner command s)
-asked-grows owner command s =
-    (omega (arith, length-append s.lines (record { moment = s.moment; owner = owner; happening = told command (answer_asking command owner s.moment s.coils) } ∷ [])), omega arith)
+asked-grows owner command s = search (rules, length-append)
 
 pub told-grows : (owner : Owner) (player : ℕ) (v : VariableId) (e : EventId) (value : Option ℤ) (s : Machine) → Grows s (tell_change owner player v e value s)
-told-grows owner player v e None s = (omega arith, omega arith)
-told-grows owner player v e (Some value) s = (
-  omega (arith, length-append s.lines (record { moment = s.moment; owner = owner; happening = lines.Player player v value } ∷ [])),
-  omega (arith, length-append s.waiting (record { event = e; owner = owner } ∷ [])),
-)
+told-grows owner player v e value s = search (rules, length-append)
 
 module _ (plan : PlanView) where
   pub book-grows : (owner : Owner) (call : LedgerCall) (s : Machine) → Grows s (book owner call s)
   book-grows owner call s = grows-move plan (Booked owner call) s
 
   pub drain-grows : (owner : Owner) (drain : Bool) (s : Machine) → Grows s (drain_if plan owner drain s)
-  drain-grows owner drain s = by (drain && is_ball_on s.game.phase)
-    where
-      by : (b : Bool) → Grows s (if b then post owner (game_event plan BallDrain) s else s)
-      by true = post-grows owner (game_event plan BallDrain) s
-      by false = (omega arith, omega arith)
+  drain-grows owner drain s = search (rules, post-grows)
 
   -- where each telling adds
   module _ (tell : Telling → Machine → Machine) (tells : (telling : Telling) (s : Machine) → Grows s (tell telling s)) where

@@ -137,15 +137,7 @@ module _ (plan : PlanView) (allowed : ActionsKeepLimits plan) where
   line-more before ls l = sym (append_assoc before ls (l ∷ []))
 
   quiet-guarded : (before : List Line) (owner : Owner) (what : Happening) (s : Machine) → IsNoCommand what → IsGuarded before s → IsGuarded before (write owner what s)
-  quiet-guarded before owner what s none h =
-      let l : Line = record { moment = s.moment; owner = owner; happening = what } in
-      let more = line-more before s.lines l in
-      let same : sendings (before ++ (s.lines ++ l ∷ [])) ≡ sendings (before ++ s.lines) =
-      ap sendings more ∙ sendings-push (before ++ s.lines) l ∙ ap (λ ss. sendings (before ++ s.lines) ++ ss) (no-sending s.moment owner what none) ∙ append-nil (sendings (before ++ s.lines)) in
-      record {
-        follows = subst (λ ss. Follows limits ss s.coils s.moment) (sym same) h.follows;
-        idle = subst (AreFineSkips []) (sym more) (fine-push [] (before ++ s.lines) l h.idle (λ c is. absurd (subst IsNoCommand is none)));
-      }
+  quiet-guarded before owner what s none h = search (rules, line-more, sendings-push, no-sending, append-nil, fine-push)
 
   asked-guarded : (before : List Line) (owner : Owner) (command : Command) (s : Machine) → IsWithin limits command → IsGuarded before s → IsGuarded before (ask_coil owner command s)
   asked-guarded before owner command s within h =
@@ -215,14 +207,10 @@ module _ (plan : PlanView) (allowed : ActionsKeepLimits plan) where
         run-keeps plan IsKept (λ before m u one h. (step-guarded before m u one h.0, not_late-steps plan valid 1 m u (u, one, refl) h.1)) begins [] stimuli (initial plan) trace s run first-guarded
 
     pub follows-run : (stimuli : List (Stimulus × ℕ)) (trace : List Line) (s : Machine) → IsRun plan stimuli (initial plan) trace s → Follows limits (sendings trace) s.coils s.moment
-    follows-run stimuli trace s run =
-        let end = guarded-run stimuli trace s run in
-        subst (λ ls. Follows limits (sendings ls) s.coils s.moment) end.2 end.1.0.follows
+    follows-run stimuli trace s run = search (rules, guarded-run)
 
     pub skips-run : (stimuli : List (Stimulus × ℕ)) (trace : List Line) (s : Machine) → IsRun plan stimuli (initial plan) trace s → AreSkippedIdle trace
-    skips-run stimuli trace s run =
-        let end = guarded-run stimuli trace s run in
-        fine-idle trace (subst (AreFineSkips []) end.2 end.1.0.idle)
+    skips-run stimuli trace s run = search (rules, guarded-run, fine-idle)
 
     pub stretches-run : (stimuli : List (Stimulus × ℕ)) (trace : List Line) (s : Machine) → IsRun plan stimuli (initial plan) trace s
         → (coil : CoilId) → (limits_at limits coil).may_hold ≡ false → (first count : ℕ) → IsOnThroughout (sendings trace) coil first count → count ≤ (limits_at limits coil).max_pulse_ms

@@ -1,5 +1,5 @@
 -- Whether a mode may be heard, read off the lines that were written and the events that wait.
-use Rattle.std.proofs.Common.{◌≡◌, ℕ, ◌<◌, ◌⊎◌, inl, inr, Bool, true, false, ◌==◌, cond, List, [], ◌∷◌, ◌++◌, length, refl, ap, sym, subst, ◌∙◌, rules}
+use Rattle.std.proofs.Common.{arith, ◌≡◌, ℕ, ◌<◌, ◌⊎◌, inl, inr, Bool, true, false, ◌==◌, cond, List, [], ◌∷◌, ◌++◌, length, refl, ap, sym, subst, ◌∙◌, rules}
 use Rattle.std.specs.List.{AllByRecursion}
 use Rattle.std.proofs.lemmas.Bool.{cases_eq, eq-eqb, ne_eqb}
 use Rattle.std.proofs.lemmas.List.Elements.{All-from_recursion}
@@ -106,8 +106,7 @@ module _ (plan : PlanView) (valid : IsValid plan) (m : ModeId) (within : m.0 < l
   work-heard on w h = search rules
 
   started_line : (h : Happening) → work_written plan h ≡ Mode m Started → h ≡ lines.Event (mode_event plan m Started)
-  started_line (lines.Event e) is = let at : IsWorkAt plan e (Mode m Started) = subst (IsWorkAt plan e) is (work_found plan e) in ap lines.Event at.1
-  started_line _ is = absurd (search rules)
+  started_line h is = search (rules, work_found)
 
   stopped_work : (h : Happening) → h ≡ lines.Event (mode_event plan m Stopped) → work_written plan h ≡ Mode m Stopped
   stopped_work h is = subst (λ (g : Happening). work_written plan g ≡ Mode m Stopped) (sym is) (valid.works m Stopped within)
@@ -134,13 +133,8 @@ module _ (plan : PlanView) (valid : IsValid plan) (m : ModeId) (within : m.0 < l
       ]
 
   pub heard-started : (trace : List Line) → heard m false (all_written plan trace) ≡ true → HasStarted plan m trace
-  heard-started trace h =
-      elim (since false trace h) [
-        | inl there ↦ there
-        | inr never ↦ absurd (search rules)
-      ]
+  heard-started trace h = search (rules, since)
 
   -- in a fine trace a line of a mode comes only after it has started
   pub fine-silent : (trace : List Line) → IsFine m false (all_written plan trace) → (before : List Line) (line : Line) (after : List Line) → trace ≡ before ++ line ∷ after → line.owner ≡ owners.Mode m → HasStarted plan m before
-  fine-silent trace fine before line after is owner =
-      heard-started before (fine-at false before line after (subst (λ (ls : List Line). IsFine m false (all_written plan ls)) is fine) owner)
+  fine-silent trace fine before line after is owner = search (rules, heard-started, fine-at)

@@ -38,11 +38,7 @@ off-not plan owner coil =
     ]
 
 held-there : (owner : Owner) (coils : List CoilState) (coil : CoilId) → IsHolding owner coils coil → coil.0 < length coils
-held-there owner coils coil is =
-    elim (cases_lt coil.0 (length coils)) [
-      | inl there ↦ there
-      | inr past ↦ absurd (false≢true (sym (past-not owner coils coil past) ∙ is))
-    ]
+held-there owner coils coil is = search (rules, cases_lt, past-not)
 
 -- ---- a coil is set
 
@@ -54,15 +50,7 @@ set-same owner coil x coils c same there = search rules
 
 -- who holds a coil then held it before, or holds the coil that was set
 set-held : (owner : Owner) (coil : CoilId) (x : CoilState) (coils : List CoilState) (c : CoilId) → IsHolding owner (set_coil coil x coils) c → ((c.0 ≡ coil.0) × (is_held_by owner x ≡ true)) ⊎ IsHolding owner coils c
-set-held owner coil x coils c is =
-    elim (cases_lt coil.0 (length coils)) [
-      | inl there ↦
-          elim (cases_eq c.0 coil.0) [
-            | inl same ↦ inl (same, sym (set-same owner coil x coils c same there) ∙ is)
-            | inr other ↦ inr (sym (set-other owner coil x coils c other) ∙ is)
-          ]
-      | inr past ↦ inr (sym (ap (λ (cs : List CoilState). is_held_by owner (coil_at cs c)) (set_past coils coil.0 x past)) ∙ is)
-    ]
+set-held owner coil x coils c is = search (rules, cases_lt, cases_eq, set-same, set-other, set_past)
 
 -- ---- a coil is asked
 
@@ -74,27 +62,7 @@ asked-count owner command now coils = search rules
 
 -- who holds a coil then held it before, or has asked
 pub asked-held : (owner : Owner) (command : Command) (now : ℕ) (coils : List CoilState) (o : Owner) (c : CoilId) → IsHolding o (after_asking command owner now coils) c → (owner ≡ o) ⊎ IsHolding o coils c
-asked-held owner (commands.Pulse coil ms power) now coils o c =
-    let x = coil_at coils coil in
-    either-held (λ cs. IsHolding o cs c → (owner ≡ o) ⊎ IsHolding o coils c) (takes_pulse ms power now x) (set_coil coil (pulsed ms now x) coils) coils
-    (λ is. elim (set-held o coil (pulsed ms now x) coils c is) [
-      | inl own ↦ inr (subst (λ (n : ℕ). IsHolding o coils (record { 0 = n })) (sym own.0) own.1)
-      | inr before ↦ inr before
-    ]) (λ is. inr is)
-asked-held owner (commands.Enable coil power) now coils o c =
-    let x = coil_at coils coil in
-    either-held (λ cs. IsHolding o cs c → (owner ≡ o) ⊎ IsHolding o coils c) (takes_enable power x) (set_coil coil (enabled owner x) coils) coils
-    (λ is. elim (set-held o coil (enabled owner x) coils c is) [
-      | inl own ↦ inl (is_owner-same owner o own.1)
-      | inr before ↦ inr before
-    ]) (λ is. inr is)
-asked-held owner (commands.Disable coil) now coils o c =
-    let x = coil_at coils coil in
-    either-held (λ cs. IsHolding o cs c → (owner ≡ o) ⊎ IsHolding o coils c) (is_on_at now x) (set_coil coil (disabled x) coils) coils
-    (λ is. elim (set-held o coil (disabled x) coils c is) [
-      | inl own ↦ absurd (false≢true own.1)
-      | inr before ↦ inr before
-    ]) (λ is. inr is)
+asked-held owner command now coils o c = search (rules, either-held, set-held, is_owner-same)
 
 -- ---- coils are released
 
@@ -105,32 +73,7 @@ held-on owner now x is = search rules
 module _ (owner : Owner) where
   -- a coil that it holds is let go, and others stay
   released-one : (c : CoilId) (s : Machine) (coil : CoilId) → (coil.0 ≡ c.0) ⊎ IsNotHolding owner s.coils coil → IsNotHolding owner (release_coil owner c s).coils coil
-  released-one c s coil free = by (is_held_by owner (coil_at s.coils c)) refl
-    where
-      x : CoilState
-      x = coil_at s.coils c
-
-      set-free : c.0 < length s.coils → (coil.0 ≡ c.0) ⊎ IsNotHolding owner s.coils coil → IsNotHolding owner (set_coil c (disabled x) s.coils) coil
-      set-free there given =
-          elim (cases_eq coil.0 c.0) [
-            | inl same ↦ set-same owner c (disabled x) s.coils coil same there
-            | inr other ↦
-                set-other owner c (disabled x) s.coils coil other
-                ∙ elim given [
-                  | inl same ↦ absurd (other same)
-                  | inr not ↦ not
-                ]
-          ]
-
-      by : (held : Bool) → is_held_by owner (coil_at s.coils c) ≡ held → IsNotHolding owner (if held then ask_coil owner (commands.Disable c) s else s).coils coil
-      by true is =
-          subst (λ (b : Bool). IsNotHolding owner (if b then set_coil c (disabled x) s.coils else s.coils) coil) (sym (held-on owner s.moment x is))
-          (set-free (held-there owner s.coils c is) free)
-      by false is =
-          elim free [
-            | inl same ↦ ap (λ (n : ℕ). is_held_by owner (coil_at s.coils (record { 0 = n }))) same ∙ is
-            | inr not ↦ not
-          ]
+  released-one c s coil free = search (rules, cases_eq, set-same, set-other, held-on, held-there)
 
   released-all : (cs : List CoilId) (s : Machine) (coil : CoilId) → Contains cs coil ⊎ IsNotHolding owner s.coils coil → IsNotHolding owner (all_do (release_coil owner) cs s).coils coil
   released-all [] s coil (inl (i, within, is)) = absurd (omega arith)

@@ -1,5 +1,5 @@
 -- Ball saves that are active, and multiballs that are running: what the machine's work does with those that are not.
-use Rattle.std.proofs.Common.{rules, ◌≡◌, ℕ, Bool, true, false, List, [], refl, ◌∙◌, sym, ap, if◌then◌else◌, ◌∷◌}
+use Rattle.std.proofs.Common.{arith, rules, ◌≡◌, ℕ, Bool, true, false, List, [], refl, ◌∙◌, sym, ap, if◌then◌else◌, ◌∷◌}
 use Rattle.std.proofs.lemmas.Bool.{false≢true}
 use Rattle.std.proofs.lemmas.List.{set-get_or}
 use Rattle.plan_tables.specs.PlanView.{PlanView, is_multiball, no_row, row_at}
@@ -48,6 +48,4 @@ end-idle settings now world state is off = search rules
 -- so nothing happens where it is told to
 pub end-still : (plan : PlanView) (r : RowId) (s : Machine) → is_multiball (row_at plan r).settings ≡ true → is_on (device_at s r) ≡ false
     → call_device plan (calls.Act acts.End) r s ≡ s
-end-still plan r s is off =
-    ap (λ (a : DeviceState × List ℕ). do_answer plan r a.1 (set_device r a.0 s)) (end-idle (row_at plan r).settings s.moment (world_of s) (device_at s r) is off)
-    ∙ ap (λ (ds : List DeviceState). record s { devices = ds }) (set-get_or s.devices r.0 (first_state no_row.settings))
+end-still plan r s is off = search (rules, end-idle, set-get_or)

@@ -1,5 +1,5 @@
 -- In every run the lines since the latest stimulus have its moment.
-use Rattle.std.proofs.Common.{◌≡◌, List, [], refl}
+use Rattle.std.proofs.Common.{arith, rules, ◌≡◌, List, [], refl}
 use Rattle.std.specs.List.{All}
 use Rattle.std.proofs.lemmas.List.Elements.{All-nil, All-push}
 use Rattle.plan_tables.specs.PlanView.{PlanView, work_of}
@@ -29,11 +29,8 @@ module _ (plan : PlanView) where
   timed-move licence (Wrote owner what) s may h = write-timed owner what s h
   timed-move licence (Began m) s may h = start-by plan m s IsTimed h h
   timed-move licence (Ended m) s may h = stop-by plan m s IsTimed h h
-  timed-move licence (Asked owner command) s may h =
-      write-timed owner (told command (answer_asking command owner s.moment s.coils)) (record s { coils = after_asking command owner s.moment s.coils }) h
-  timed-move licence (Books owner call) s may h =
-      book-by owner call s IsTimed
-      (λ can. write-timed owner (lines.Balls (booked call s.ledger) (counts_of (after_call call s.ledger))) (record s { ledger = after_call call s.ledger }) h) h
+  timed-move licence (Asked owner command) s may h = search (rules, write-timed)
+  timed-move licence (Books owner call) s may h = search (rules, book-by, write-timed)
   timed-move licence _ s may h = h
 
   timed-does : (licence : Licence) {c : Cost} {s t : Machine} → Does plan (MayDo plan licence) c s t → IsTimed s → IsTimed t

@@ -38,13 +38,7 @@ abbrev pub dues : Machine → List (Option ℕ)
 dues s = map devices.due_of s.devices
 
 pub dues-at : (s : Machine) (r : RowId) → due_of (dues s) r ≡ source_due s (device r)
-dues-at s r =
-    elim (cases_lt r.0 (length s.devices)) [
-      | inl there ↦ get_or-map devices.due_of s.devices r.0 (devices.first_state no_row.settings) None there
-      | inr past ↦
-          get_or_past (dues s) r.0 None (omega (arith, past, length-map s.devices devices.due_of))
-          ∙ sym (ap devices.due_of (get_or_past s.devices r.0 (devices.first_state no_row.settings) past))
-    ]
+dues-at s r = search (rules, cases_lt, get_or-map, get_or_past, length-map)
 
 -- ---- the next alarm
 
@@ -120,11 +114,7 @@ module _ (s : Machine) where
           ]
 
   nothing-from : (a : Option (ℕ × SwitchId)) (b : Option (ℕ × RowId)) → next_due s.switches ≡ a → least_of (dues s) ≡ b → next_from a b ≡ None → (source : Source) (due : ℕ) → source_due s source ≡ Some due → ⊥
-  nothing-from None None p q none (switch n) due is = no_switch-due p n due is
-  nothing-from None None p q none (device r) due is = no_device-due q r due is
-  nothing-from None (Some d) p q none source due is = none-some (of_device d) (sym none)
-  nothing-from (Some c) None p q none source due is = none-some (of_switch c) (sym none)
-  nothing-from (Some c) (Some d) p q none source due is = search rules
+  nothing-from a b p q none source due is = search (rules, no_switch-due, no_device-due, none-some)
 
   -- there is none just where nothing is due
   pub none-nothing : next_alarm s ≡ None → (source : Source) (due : ℕ) → source_due s source ≡ Some due → ⊥
@@ -149,14 +139,7 @@ next-early : (s : Machine) (at : ℕ) (first : Source) → IsNextAlarm s at firs
 next-early s at first next source due is = search rules
 
 pub not_due-nothing : (s : Machine) (at : ℕ) → is_due_by at s ≡ false → IsNoAlarmDueBy s at
-not_due-nothing s at h source due is = by (next_alarm s) refl h
-  where
-    by : (o : Option (ℕ × Source)) → next_alarm s ≡ o → option_map_or (λ (a : ℕ × Source). nat_le a.0 at) o false ≡ false → at < due
-    by None none e = absurd (none-nothing s none source due is)
-    by (Some x) found e =
-        let early = next-early s x.0 x.1 (found-is_next s x.0 x.1 found) source due is in
-        let above = leb-false x.0 at e in
-        omega (arith, early, above)
+not_due-nothing s at h source due is = search (rules, nat_le, none-nothing, next-early, found-is_next, leb-false)
 
 pub nothing-not_due : (s : Machine) (at : ℕ) → IsNoAlarmDueBy s at → is_due_by at s ≡ false
 nothing-not_due s at h = by (next_alarm s) refl
@@ -171,14 +154,10 @@ due_by-cases : (until : ℕ) (o : Option (ℕ × Source)) (a : ℕ × Source) �
 due_by-cases until o a h = search rules
 
 pub due_by-some : (s : Machine) (until at : ℕ) (source : Source) → due_by until (next_alarm s) ≡ Some (at, source) → IsNextAlarm s at source × (at ≤ until)
-due_by-some s until at source h =
-    let is = due_by-cases until (next_alarm s) (at, source) h in
-    (found-is_next s at source is.0, is.1)
+due_by-some s until at source h = search (rules, due_by-cases, found-is_next)
 
 pub some-due_by : (s : Machine) (until at : ℕ) (source : Source) → IsNextAlarm s at source → at ≤ until → due_by until (next_alarm s) ≡ Some (at, source)
-some-due_by s until at source next by =
-    let found : Option (ℕ × Source) = Some (at, source) in
-    ap (due_by until) (next-is_found s at source next) ∙ cond-true (nat_le at until) found None (le-leb at until by)
+some-due_by s until at source next by = search (rules, next-is_found, cond-true, nat_le, le-leb)
 
 none-where : (until : ℕ) (o : Option (ℕ × Source)) → option_map_or (λ (a : ℕ × Source). nat_le a.0 until) o false ≡ false → due_by until o ≡ None
 none-where until o h = search rules
@@ -195,8 +174,4 @@ nothing-due_by s until h = none-where until (next_alarm s) (nothing-not_due s un
 
 -- one is due by the moment
 pub due-comes : (s : Machine) (until : ℕ) → is_due_by until s ≡ true → (at : ℕ) × (source : Source) × IsNextAlarm s at source × (at ≤ until)
-due-comes s until h = comes (next_alarm s) refl h
-  where
-    comes : (o : Option (ℕ × Source)) → next_alarm s ≡ o → option_map_or (λ (a : ℕ × Source). nat_le a.0 until) o false ≡ true → (at : ℕ) × (source : Source) × IsNextAlarm s at source × (at ≤ until)
-    comes None is h = cc
-    comes (Some a) is h = (a.0, a.1, found-is_next s a.0 a.1 is, leb-true a.0 until h)
+due-comes s until h = search (rules, nat_le, found-is_next, leb-true)

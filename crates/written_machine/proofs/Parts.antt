@@ -76,11 +76,7 @@ use Rattle.player_game.proofs.DrainEvent.{drain-is}
 module _ (plan : PlanView) where
   -- what holds of every list holds of that of a number, as it holds of none
   of_list : (P : Action → Type 0) → All (All P) plan.lists → (l : ListId) → All P (actions_at plan l)
-  of_list P all l =
-      elim (cases_lt l.0 (length plan.lists)) [
-        | inl there ↦ All-get_or (All P) plan.lists l.0 [] there all
-        | inr past ↦ subst (All P) (sym (get_or_past plan.lists l.0 [] past)) (All-nil P)
-      ]
+  of_list P all l = search (rules, cases_lt, All-get_or, get_or_past, All-nil)
 
   -- a switch posts events at which the machine itself does nothing
   posts-free : PostsAreFree plan → (n : SwitchId) (active : Bool) → All (IsFree plan) (posts_of plan n active)
@@ -104,27 +100,15 @@ module _ (plan : PlanView) where
   is_there t h = search rules
 
   pub target-there : HasEntries plan → (place : BindingId) → IsThere (binding_at plan place).target
-  target-there entries place =
-      elim (cases_lt place.0 (length plan.bindings)) [
-        | inl there ↦ is_there (binding_at plan place).target (All-get_or (IsBindingWithin plan) plan.bindings place.0 no_binding there entries.bindings).2
-        | inr past ↦ subst (λ b. IsThere b.target) (sym (get_or_past plan.bindings place.0 no_binding past)) tt
-      ]
+  target-there entries place = search (rules, cases_lt, is_there, All-get_or, get_or_past)
 
   -- and the device is of the binding's owner
   target-own : ActsAreOwn plan → (place : BindingId) → IsOwnAct plan (binding_at plan place).owner (binding_at plan place).target
-  target-own own place =
-      elim (cases_lt place.0 (length plan.bindings)) [
-        | inl there ↦ All-get_or (λ b. IsOwnAct plan b.owner b.target) plan.bindings place.0 no_binding there own.bindings
-        | inr past ↦ subst (λ b. IsOwnAct plan b.owner b.target) (sym (get_or_past plan.bindings place.0 no_binding past)) tt
-      ]
+  target-own own place = search (rules, cases_lt, All-get_or, get_or_past)
 
   -- a device that listens to a switch is the machine's
   listener-own : ActsAreOwn plan → (n : SwitchId) → All (IsOwnListener plan) (listeners_of plan n)
-  listener-own own n =
-      elim (cases_lt n.0 (length plan.switches)) [
-        | inl there ↦ All-get_or (λ s. All (IsOwnListener plan) s.listeners) plan.switches n.0 no_switch there own.listeners
-        | inr past ↦ subst (λ s. All (IsOwnListener plan) s.listeners) (sym (get_or_past plan.switches n.0 no_switch past)) (All-nil (IsOwnListener plan))
-      ]
+  listener-own own n = search (rules, cases_lt, All-get_or, get_or_past, All-nil)
 
   -- ---- the actions of an owner
 
@@ -385,9 +369,7 @@ module _ (plan : PlanView) where
 
       does-answer_by : (r : RowId) → (ActsAreOwn plan → by (row_at plan r).owner) → (lists : List ℕ) → All (λ k. k < list_count (row_at plan r).settings) lists → (s : Machine)
           → Does plan May (answer_now_by tell now r lists s) s (do_answer_by plan tell r lists s)
-      does-answer_by r may lists below s =
-          all_do-does_now plan May (λ k. do_list_by plan tell (row_at plan r).owner (list_of_row plan r k)) (λ k. list_now_by tell now (row_at plan r).owner (list_of_row plan r k)) (λ k. k < list_count (row_at plan r).settings)
-          (λ k t less_than. does-list_by (row_at plan r).owner may (list_of_row plan r k) (row-own r k less_than) t) lists below s
+      does-answer_by r may lists below s = search (rules, all_do-does_now, does-list_by, row-own)
 
       does-call_by : (call : Call) (r : RowId) → (ActsAreOwn plan → by (row_at plan r).owner) → (s : Machine) → Does plan May (call_now_by tell now call r s) s (call_device_by plan tell call r s)
       does-call_by call r may s =
@@ -476,10 +458,7 @@ module _ (plan : PlanView) where
 
   -- the handlers of an event, from the state before them on
   pub does-order : (s : Machine) (e : EventId) (order : List BindingId) → IsHandlerOrder plan (handlers_in plan s e) order → Does plan (MayHandle plan s) (each_now (do_handler plan) handler_now order s) s (all_do (do_handler plan) order s)
-  does-order s e order h =
-      let running = running_of s.modes in
-      does-handlers (TakesPart s) ⊥ refl order
-      (All-permutation (λ p. TakesPart s (binding_at plan p).owner) (handlers plan running e) order h.permutation (filter_passes (runs_at plan running) (places_of plan e))) s
+  does-order s e order h = search (rules, does-handlers, All-permutation, filter_passes)
 
   -- what a stimulus does once it has arrived
   pub does-begin : (stimulus : Stimulus) (s : Machine) → Does plan (MayBegin plan stimulus) (stimulus_now stimulus s) (arrived (moment_of stimulus) s) (begin plan stimulus s)
@@ -513,22 +492,7 @@ module _ (plan : PlanView) where
 
   -- what handlers may do, the machine may as its work
   works : {c : Cost} {s t : Machine} → Does plan (MayDo plan (ordinary plan (λ owner. Unit {0}) ⊥)) c s t → Does plan (MayWork plan) c s t
-  works = does-weaker plan (MayDo plan (ordinary plan (λ owner. Unit {0}) ⊥)) (MayWork plan) each
-    where
-      each : (x : Move) → MayDo plan (ordinary plan (λ owner. Unit {0}) ⊥) x → MayWork plan x
-      each (Wrote owner what) may = may
-      each (Sent owner e) may = (may.0, may.1, tt)
-      each (Switched n state) may = may
-      each (Began k) may = may
-      each (Ended k) may = may
-      each (Marked k state) may = absurd may
-      each (Released k) may = absurd may
-      each (Turned turn r) may = may
-      each (Asked owner command) may = may
-      each (Booked owner call) may = may
-      each (Varied v value) may = may
-      each (Stepped which) may = may
-      each (AddedBalls n) may = may
+  works = search (rules, does-weaker)
 
   works-calls : (call : Call) (m : ModeId) (s : Machine) → Does plan (MayWork plan) (calls_now call m s) s (call_devices plan call m s)
   works-calls call m s = works (does-calls (λ owner. Unit {0}) tt call m tt s)
@@ -583,12 +547,7 @@ module _ (plan : PlanView) where
   does-drained e is (Some r) s = works-call (calls.Act Save) r s
 
   does-game : (which : GameEvent) (e : EventId) → work_of plan e ≡ Game which → (s : Machine) → Does plan (MayWork plan) (game_now which s) s (do_game plan which s)
-  does-game which e is s = by (is_drain which) refl
-    where
-      by : (b : Bool) → is_drain which ≡ b → Does plan (MayWork plan) (if b then drained_now (first_active_save plan s) s else step_game_now which s) s
-          (if b then drain_ball plan (first_active_save plan s) s else step_game plan which s)
-      by true drains = does-drained e (is ∙ ap Game (drain-is which drains)) (first_active_save plan s) s
-      by false other = does-step which e is s
+  does-game which e is s = search (rules, does-drained, drain-is, does-step)
 
   -- a mode has stopped, and the ball may end
   does-release : (m : ModeId) (s : Machine) → m.0 < length plan.modes → Does plan (MayWork plan) (cost_if_led (led_by_stopped plan m)) s (release_ball_end plan m s)
@@ -626,15 +585,4 @@ module _ (plan : PlanView) where
 
   -- there is no work beyond the events of the plan
   pub no_work-past : HasEntries plan → (e : EventId) → length plan.events ≤ e.0 → Nothing ≡ work_of plan e
-  no_work-past entries e past = by (work_of plan e) refl (work_found plan e)
-    where
-      by : (w : Work) → work_of plan e ≡ w → IsWorkAt plan e w → Nothing ≡ w
-      by Nothing is h = refl
-      by (Game which) is h =
-          let within = game_event-below plan entries (game_has-event plan entries e which is) which in
-          let same = ap (λ (x : EventId). x.0) h.1 in
-          absurd (omega (arith, within, same, past))
-      by (Mode m which) is h =
-          let within = mode_event-within plan entries m which h.0 in
-          let same = ap (λ (x : EventId). x.0) h.1 in
-          absurd (omega (arith, within, same, past))
+  no_work-past entries e past = search (rules, work_found, game_event-below, game_has-event, mode_event-within)

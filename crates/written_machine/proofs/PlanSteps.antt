@@ -130,11 +130,7 @@ module _ (c : CheckedView) (good : CascadesEnd c) (stimuli : List (Stimulus × �
 
   -- any number of steps after which no event waits gives the same state
   pub settled-same : (n : ℕ) → (plan_steps c.plan n begun).waiting ≡ [] → plan_steps c.plan n begun ≡ settled
-  settled-same n idle =
-      elim (cases_lt n c.bound) [
-        | inl below ↦ sym (plan_steps-enough c.plan n c.bound begun (omega arith) idle)
-        | inr above ↦ plan_steps-enough c.plan c.bound n begun above settled-idle
-      ]
+  settled-same n idle = search (rules, cases_lt, plan_steps-enough, settled-idle)
 
   -- on the way there are never more lines and waiting events than the bound
   pub settling-within : (n : ℕ) → length (plan_steps c.plan n begun).lines + length (plan_steps c.plan n begun).waiting ≤ c.bound

@@ -107,14 +107,8 @@ module _ (plan : PlanView) (entries : HasEntries plan) (w : EventId → ℕ) whe
 
     action-priced : (owner : Owner) (a : Action) (s : Machine) → HasDevices plan s.devices
         → (price w (action_now_by plan tell now owner a s) ≤ price w (cost_of_action_by plan cost a)) × HasDevices plan (do_action_by plan tell owner a s).devices
-    action-priced owner (ChangeVariable v action n e) s has =
-        let value = changed_to plan v action n s.players in
-        (omega arith, told-devices owner s.players.current v e value (set_players (players_after_change plan v value s.players) s) has)
-    action-priced owner (Enter r e drain) s has =
-        let posted = post owner e (book owner (calls_of_ledger.Enter r) s) in
-        let still = has_devices-move plan (Booked owner (calls_of_ledger.Enter r)) s has in
-        let told = tells (Arrived (Device r)) posted still in
-        (omega (arith, told.0), entry-devices owner r drain (origin_of r s.ledger) posted still)
+    action-priced owner (ChangeVariable v action n e) s has = search (rules, told-devices)
+    action-priced owner (Enter r e drain) s has = search (rules, has_devices-move, entry-devices)
     action-priced owner (Leave r) s has = (omega arith, has_devices-move plan (Booked owner (calls_of_ledger.Leave r (target_of plan r))) s has)
     action-priced owner (Lose r) s has = (omega arith, has_devices-move plan (Booked owner (calls_of_ledger.Lose r)) s has)
     action-priced owner (Arrive r) s has = (omega arith, has_devices-move plan (Booked owner (calls_of_ledger.Arrive (target_of plan r))) s has)
@@ -203,20 +197,7 @@ module _ (plan : PlanView) (entries : HasEntries plan) (w : EventId → ℕ) whe
   target-priced owner _ s there has = omega arith
 
   handler-priced : (place : BindingId) (s : Machine) → HasDevices plan s.devices → price w (handler_now plan place s) ≤ price w (cost_of_handler plan place)
-  handler-priced place s has = by (is_met plan s.players (binding_at plan place).condition)
-    where
-      target : Target
-      target = (binding_at plan place).target
-
-      owner : Owner
-      owner = (binding_at plan place).owner
-
-      met : price w (target_now plan owner target s) ≤ price w (cost_of_target plan target)
-      met = target-priced owner target s (target-there plan entries place) has
-
-      by : (b : Bool) → price w (if b then target_now plan owner target s else Lines 0) ≤ price w (cost_of_target plan target)
-      by true = met
-      by false = omega arith
+  handler-priced place s has = search (rules, target_now, target-priced, target-there)
 
   pub handlers-priced : (order : List BindingId) (s : Machine) → HasDevices plan s.devices → price w (each_now (do_handler plan) (handler_now plan) order s) ≤ price w (each_of (cost_of_handler plan) order)
   handlers-priced order s has =
@@ -271,10 +252,7 @@ module _ (plan : PlanView) (entries : HasEntries plan) (w : EventId → ℕ) whe
 
   -- a line for each player is within a line for each that there can be
   finals-priced : (told : Bool) (s : Machine) → AreFew plan s.players → price w (finals_now plan told s) ≤ price w (Lines (if told then most_players plan.game else 0))
-  finals-priced true s few =
-      let most = few.few in
-      omega (arith, lines-each (range_with_len 1 (length s.players.players)), length-range_with_len 1 (length s.players.players), most)
-  finals-priced false s few = omega arith
+  finals-priced told s few = search (rules, lines-each, length-range_with_len)
 
   request-priced : (asks : Bool) (s : Machine) → HasDevices plan s.devices → price w (request_now plan asks s) ≤ price w (if asks then cost_of_telling plan (Wanted 1) else Lines 0)
   request-priced true s has = (telling-priced (Wanted 1) s has).0
@@ -293,15 +271,7 @@ module _ (plan : PlanView) (entries : HasEntries plan) (w : EventId → ℕ) whe
   -- the game's own step, with the posts that it makes
   step-priced : (which : GameEvent) (s : Machine) → HasDevices plan s.devices → AreFew plan s.players
       → price w (step_game_now plan which s) ≤ price w (cost_of_scores plan which) + (price w (cost_of_request plan which) + price w (cost_of_choice plan (step_now plan which s).posts))
-  step-priced which s has few =
-      let step = step_now plan which s in
-      let stepped = do_move plan (Stepped which) s in
-      let is = chosen plan.game which s in
-      let told = is.told (most_players plan.game) in
-      let finals = finals-priced step.finals stepped (players_stay_few plan which (home_of plan s) s.game s.players few) in
-      let asked = request-priced step.requests (write_finals plan step.finals stepped) (has_devices-does plan (does-finals plan step.finals stepped) has) in
-      let requests = is.requests in
-      omega (arith, told, finals, asked, requests)
+  step-priced which s has few = search (rules, chosen, finals-priced, players_stay_few, request-priced, has_devices-does, does-finals)
 
   -- each multiball ends
   each_end-priced : (s : Machine) → HasDevices plan s.devices
@@ -338,14 +308,7 @@ module _ (plan : PlanView) (entries : HasEntries plan) (w : EventId → ℕ) whe
       omega (arith, saved.0, dearest-of (λ q. cost_of_call plan q (calls.Act Save)) (save_rows plan) r first.listed)
 
   game-priced : (which : GameEvent) (e : EventId) → work_of plan e ≡ Game which → (s : Machine) → HasDevices plan s.devices → AreFew plan s.players → price w (game_now plan which s) ≤ price w (cost_of_game plan (Game which))
-  game-priced which e work s has few = by (is_drain which) refl
-    where
-      by : (b : Bool) → is_drain which ≡ b → price w (if b then drained_now plan (first_active_save plan s) s else step_game_now plan which s) ≤ price w (cost_of_game plan (Game which))
-      by true drains =
-          let is = drain-is which drains in
-          subst (λ (x : GameEvent). price w (drained_now plan (first_active_save plan s) s) ≤ price w (cost_of_game plan (Game x))) (sym is)
-          (drained-priced e (work ∙ ap Game is) s has few (first_active_save plan s) refl)
-      by false other = let posts = (chosen plan.game which s).posts in omega (arith, step-priced which s has few, posts)
+  game-priced which e work s has few = search (rules, drained_now, step_game_now, drain-is, drained-priced, chosen, step-priced)
 
   pub after-priced : (e : EventId) (work : Work) → work_of plan e ≡ work → (s : Machine) → HasDevices plan s.devices → HasCoils plan s.coils → AreFew plan s.players
       → price w (after_now plan work s) ≤ price w (cost_of_releases plan work) + (price w (cost_if_led (led_by plan work)) + price w (cost_of_game plan work))
@@ -393,12 +356,10 @@ module _ (plan : PlanView) (entries : HasEntries plan) (w : EventId → ℕ) whe
           ]
 
   if_accepted-priced : (o : Option Change) (s : Machine) → HasDevices plan s.devices → price w (if_accepted_now plan o s) ≤ price w (cost_if_accepted plan o)
-  if_accepted-priced None s has = omega arith
-  if_accepted-priced (Some a) s has = accepted-priced a s has
+  if_accepted-priced o s has = search (rules, accepted-priced)
 
   pub stimulus-priced : (stimulus : Stimulus) (s : Machine) → IsFired s stimulus → HasDevices plan s.devices → price w (stimulus_now plan stimulus s) ≤ price w (cost_of_stimulus plan s stimulus)
-  stimulus-priced (SwitchChange at n level) s fired has =
-      if_accepted-priced (reported_by_change n level at s.switches) (set_switches (after_change n level at s.switches) (arrived at s)) has
+  stimulus-priced (SwitchChange at n level) s fired has = search (rules, if_accepted-priced)
   stimulus-priced (Alarm at (switch n)) s fired has = accepted-priced (reported (accept n s.switches) n) (set_switches (accept n s.switches) (arrived at s)) has
   stimulus-priced (Alarm at (device r)) s fired has = (call-priced calls.Fire r (arrived at s) fired.0 has (subst IsSome (sym fired.1) refl)).0
   stimulus-priced (Wait at) s fired has = omega arith

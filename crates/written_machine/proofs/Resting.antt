@@ -84,11 +84,7 @@ module _ (plan : PlanView) where
 
   -- a device that is on is one of the plan
   pub on-row : (s : Machine) (r : RowId) → HasDevices plan s.devices → is_on (device_at s r) ≡ true → r.0 < length plan.rows
-  on-row s r has is =
-      elim (cases_lt r.0 (length s.devices)) [
-        | inl there ↦ let count = has.count in omega (arith, there, count)
-        | inr past ↦ absurd (false≢true (sym (ap is_on (get_or_past s.devices r.0 (first_state no_row.settings) past)) ∙ is))
-      ]
+  on-row s r has is = search (rules, cases_lt, is_on, get_or_past)
 
 -- ---- what rests
 
@@ -117,13 +113,7 @@ module _ (plan : PlanView) (valid : IsValid plan) (own : ActsAreOwn plan) (m : M
   -- where all devices of the mode are quiet, and it holds no coil
   pub quiet-rests : (s : Machine) → HasDevices plan s.devices → ((r : RowId) → r.0 < length plan.rows → (row_at plan r).owner ≡ owners.Mode m → IsQuiet plan s r)
       → length s.coils ≡ length plan.coils → ((coil : CoilId) → IsNotHolding (owners.Mode m) s.coils coil) → Rests plan m s
-  quiet-rests s has quiet count free = record {
-    count = count;
-    holds = λ coil is. absurd (false≢true (sym (free coil) ∙ is));
-    devices = has;
-    rests = λ r due is armed. absurd (none-some due (sym (quiet r (due-row plan s r due has armed) is).0 ∙ armed));
-    acts = λ r is on. absurd (false≢true (sym (quiet r (on-row plan s r has on) is).1 ∙ on));
-  }
+  quiet-rests s has quiet count free = search (rules, none-some, due-row, on-row)
 
   -- ---- moves
 
@@ -160,15 +150,5 @@ module _ (plan : PlanView) (valid : IsValid plan) (own : ActsAreOwn plan) (m : M
     move-rests (Varied v value) s may runs h = same-rests s (do_move plan (Varied v value) s) refl refl refl h
     move-rests (Stepped which) s may runs h = same-rests s (do_move plan (Stepped which) s) refl refl refl h
     move-rests (AddedBalls n) s may runs h = same-rests s (do_move plan (AddedBalls n) s) refl refl refl h
-    move-rests (Asked owner command) s may runs h = record {
-      devices = h.devices;
-      rests = h.rests;
-      acts = h.acts;
-      count = asked-count owner command s.moment s.coils ∙ h.count;
-      holds = λ coil is.
-          elim (asked-held owner command s.moment s.coils (owners.Mode m) coil is) [
-            | inl own_asks ↦ runs (subst by own_asks (may.0 own))
-            | inr before ↦ h.holds coil before
-          ];
-    }
+    move-rests (Asked owner command) s may runs h = search (rules, asked-count, asked-held)
     move-rests _ s may runs h = absurd may

@@ -78,16 +78,7 @@ release-devices owner (c ∷ cs) s = release-devices owner cs (release_coil owne
 
 module _ (plan : PlanView) (by : Owner → Type 0) (switches : Type 0) where
   still-move : (x : Move) (s : Machine) → MayDo plan (ordinary plan by switches) x → running_of (do_move plan x s).modes ≡ running_of s.modes
-  still-move (Began k) s may =
-      let same = starting_keeps_who_runs.start s.modes k (needs_game plan k) (has_game s) in
-      start-by plan k s (λ t. running_of t.modes ≡ running_of s.modes) same same
-  still-move (Ended k) s may =
-      let same = starting_keeps_who_runs.stop s.modes k in
-      stop-by plan k s (λ t. running_of t.modes ≡ running_of s.modes) same same
-  still-move (Marked k state) s may = absurd may
-  still-move (Released k) s may = absurd may
-  still-move (Booked owner call) s may = book-by owner call s (λ t. running_of t.modes ≡ running_of s.modes) (λ is. refl) refl
-  still-move _ s may = refl
+  still-move x s may = search (rules, starting_keeps_who_runs, start-by, stop-by, book-by)
 
   pub still-does : {c : Cost} {s t : Machine} → Does plan (MayDo plan (ordinary plan by switches)) c s t → running_of t.modes ≡ running_of s.modes
   still-does {c} {s} {t} d =
@@ -178,9 +169,7 @@ module _ (plan : PlanView) (valid : IsValid plan) (free : PostsAreFree plan) (ow
           (subst (λ (y : ModeState). is_running y.phase ≡ true) (sym (other_state plan valid m within [] k x s other)) (takes-runs m s (length plan.modes) count within runs))
 
   stop-rests : (k : ModeId) (s : Machine) → Rests plan m s → Rests plan m (stop_mode plan k s)
-  stop-rests k s h =
-      let same = starting_keeps_who_runs.stop s.modes k in
-      stop-by plan k s (Rests plan m) (running-rests plan valid own m s _ same refl refl h) (running-rests plan valid own m s _ same refl refl h)
+  stop-rests k s h = search (rules, starting_keeps_who_runs, stop-by, running-rests)
 
   post-rests : (e : EventId) (s : Machine) → Rests plan m s → Rests plan m (post owners.Machine e s)
   post-rests e s h = running-rests plan valid own m s (post owners.Machine e s) refl refl refl h
@@ -277,15 +266,7 @@ module _ (plan : PlanView) (valid : IsValid plan) (free : PostsAreFree plan) (ow
   own_after before true Started s h = (stop-holds plan valid m within before [] m s within h.0, stop-rests m s h.1)
   own_after before false Started s h = h
   own_after before kept Stopping s h = own_ended before s h
-  own_after before kept Stopped s h =
-      release-stays before m s (
-        record {
-          count = h.0.count;
-          fine = h.0.fine;
-          holds = record { waits = h.0.holds.waits; turns = turn-stopped (phase_in m s) (waiting_of plan m s.waiting) h.0.holds.turns; speaks = h.0.holds.speaks };
-        },
-        h.1,
-      )
+  own_after before kept Stopped s h = search (rules, release-stays, turn-stopped, phase_in, waiting_of)
 
   other_after : (before : List Line) (kept : Bool) (k : ModeId) (which : ModeEvent) (s : Machine) → k.0 < length plan.modes → (k.0 ≡ m.0 → ⊥) → Stays before [] s → Stays before [] (do_after plan kept (Mode k which) s)
   other_after before kept k WillStart s there other h = (other_post plan valid m within before [] k Starting s there other h.0, post-rests (mode_event plan k Starting) s h.1)
@@ -323,13 +304,7 @@ module _ (plan : PlanView) (valid : IsValid plan) (free : PostsAreFree plan) (ow
       moves-hold before IsMachine ⊥ (running_of s.modes) (λ is. absurd (search (rules, is))) [] _ s (ask_ball plan asks s) (does-request plan IsMachine refl asks s) refl h
 
   step-stays : (before : List Line) (which : GameEvent) (s : Machine) → HasGame plan → Stays before [] s → Stays before [] (step_game plan which s)
-  step-stays before which s has h =
-      let step = step_now plan which s in
-      let stepped = do_move plan (Stepped which) s in
-      let written = write_finals plan step.finals stepped in
-      posts-stay before has step.posts (ask_ball plan step.requests written)
-      (request-stays before step.requests written
-      (finals-stay before step.finals stepped (record { count = h.0.count; fine = h.0.fine; holds = h.0.holds }, running-rests plan valid own m s stepped refl refl refl h.1)))
+  step-stays before which s has h = search (rules, posts-stay, request-stays, finals-stay, running-rests)
 
   -- a ball save that is active is told to save, or a multiball that is running to end: where it is the mode's, that runs
   call-stays : (before : List Line) (call : Call) (r : RowId) (s : Machine) → is_on (device_at s r) ≡ true → Stays before [] s → Stays before [] (call_device plan call r s)
@@ -343,11 +318,7 @@ module _ (plan : PlanView) (valid : IsValid plan) (free : PostsAreFree plan) (ow
 
   -- a multiball that is not running does nothing
   end-stays : (before : List Line) (r : RowId) → is_multiball (row_at plan r).settings ≡ true → (s : Machine) → Stays before [] s → Stays before [] (call_device plan (calls.Act acts.End) r s)
-  end-stays before r is s h = by (is_on (device_at s r)) refl
-    where
-      by : (on : Bool) → is_on (device_at s r) ≡ on → Stays before [] (call_device plan (calls.Act acts.End) r s)
-      by true on = call-stays before (calls.Act acts.End) r s on h
-      by false off = subst (Stays before []) (sym (end-still plan r s is off)) h
+  end-stays before r is s h = search (rules, is_on, call-stays, end-still)
 
   ends-stay : (before : List Line) (s : Machine) → Stays before [] s → Stays before [] (end_multiballs plan s)
   ends-stay before s h = by (in_play s.game == 1)
@@ -476,12 +447,7 @@ module _ (plan : PlanView) (valid : IsValid plan) (free : PostsAreFree plan) (ow
 
   -- at first no ball save is active, and no multiball is running
   initial-off : (r : RowId) → is_on (device_at (initial plan) r) ≡ false
-  initial-off r = elim (cases_lt r.0 (length plan.rows)) [
-    | inl there ↦ ap is_on (get_or-map (λ (row : DeviceRow). first_state row.settings) plan.rows r.0 no_row (first_state no_row.settings) there) ∙ first-off (row_at plan r).settings
-    | inr past ↦
-        let count = length-map plan.rows (λ (row : DeviceRow). first_state row.settings) in
-        ap is_on (get_or_past (map (λ (row : DeviceRow). first_state row.settings) plan.rows) r.0 (first_state no_row.settings) (omega (arith, past, count)))
-  ]
+  initial-off r = search (rules, cases_lt, is_on, get_or-map, first-off, length-map, get_or_past)
 
   stays-initial : Stays [] [] (initial plan)
   stays-initial = (
@@ -503,23 +469,15 @@ module _ (plan : PlanView) (valid : IsValid plan) (free : PostsAreFree plan) (ow
 
   silent-run : (stimuli : List (Stimulus × ℕ)) (trace : List Line) (s : Machine) → IsRun plan stimuli (initial plan) trace s
       → (before : List Line) (line : Line) (after : List Line) → trace ≡ before ++ line ∷ after → line.owner ≡ owners.Mode m → HasStarted plan m before
-  silent-run stimuli trace s run =
-      let end = stays-run stimuli trace s run in
-      fine-silent plan valid m within trace (subst (λ (ls : List Line). IsFine m false (all_written plan ls)) end.2 end.1.0.fine)
+  silent-run stimuli trace s run = search (rules, stays-run, fine-silent, all_written)
 
   resting-run : (stimuli : List (Stimulus × ℕ)) (trace : List Line) (s : Machine) → IsRun plan stimuli (initial plan) trace s
       → (r : RowId) (due : ℕ) → (row_at plan r).owner ≡ owners.Mode m → source_due s (device r) ≡ Some due → HasStarted plan m trace
-  resting-run stimuli trace s run r due is armed =
-      let end = stays-run stimuli trace s run in
-      let runs = takes-runs m s (length plan.modes) end.1.0.count within (end.1.1.rests r due is armed) in
-      heard-started plan valid m within trace (subst (λ (ls : List Line). heard m false (all_written plan ls) ≡ true) end.2 (end.1.0.holds.speaks runs))
+  resting-run stimuli trace s run r due is armed = search (rules, stays-run, takes-runs, heard-started, all_written)
 
   holding-run : (stimuli : List (Stimulus × ℕ)) (trace : List Line) (s : Machine) → IsRun plan stimuli (initial plan) trace s
       → (coil : CoilId) → IsHolding (owners.Mode m) s.coils coil → HasStarted plan m trace
-  holding-run stimuli trace s run coil is =
-      let end = stays-run stimuli trace s run in
-      let runs = takes-runs m s (length plan.modes) end.1.0.count within (end.1.1.holds coil is) in
-      heard-started plan valid m within trace (subst (λ (ls : List Line). heard m false (all_written plan ls) ≡ true) end.2 (end.1.0.holds.speaks runs))
+  holding-run stimuli trace s run coil is = search (rules, stays-run, takes-runs, heard-started, all_written)
 
 -- in every run of a valid plan that posts no event with work, but that of the start button, a stopped mode is silent
 pub stopped_is_silent : (plan : PlanView) → IsValid plan → PostsAreFree plan → ActsAreOwn plan → (stimuli : List (Stimulus × ℕ)) (trace : List Line) (s : Machine) → IsRun plan stimuli (initial plan) trace s → IsSilent plan trace
@@ -528,8 +486,7 @@ stopped_is_silent plan valid free own stimuli trace s run m within = silent-run 
 -- and no device of it is due
 pub stopped_is_resting : (plan : PlanView) → IsValid plan → PostsAreFree plan → ActsAreOwn plan → (stimuli : List (Stimulus × ℕ)) (trace : List Line) (s : Machine) → IsRun plan stimuli (initial plan) trace s
     → (m : ModeId) (r : RowId) (due : ℕ) → r.0 < length plan.rows → (row_at plan r).owner ≡ owners.Mode m → source_due s (device r) ≡ Some due → HasStarted plan m trace
-stopped_is_resting plan valid free own stimuli trace s run m r due there is armed =
-    resting-run plan valid free own m (subst (IsOwnerWithin plan) is (valid.entries.rows r there).owner) stimuli trace s run r due is armed
+stopped_is_resting plan valid free own stimuli trace s run m r due there is armed = search (rules, resting-run)
 
 -- nor does it hold a coil
 pub stopped_holds_nothing : (plan : PlanView) → IsValid plan → PostsAreFree plan → ActsAreOwn plan → (stimuli : List (Stimulus × ℕ)) (trace : List Line) (s : Machine) → IsRun plan stimuli (initial plan) trace s

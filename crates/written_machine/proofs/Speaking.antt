@@ -61,12 +61,7 @@ module _ (plan : PlanView) (m : ModeId) where
   -- one event more waits, and the mode is in another phase
   holds-push : (on : Bool) (front after : List ModeEvent) (q : List Posted) (p next : Phase) (x : Posted) → Holds plan m on front q p
       → IsTurn next (after ++ (waiting_of plan m q ++ mine m (work_of plan x.event) [])) → (x.owner ≡ owners.Mode m → is_running p ≡ true) → (is_running next ≡ true → on ≡ true) → Holds plan m on after (q ++ x ∷ []) next
-  holds-push on front after q p next x h turns runs speaks = record {
-    waits = subst (λ (xs : List Said). IsFine m on xs) (sym (awaited-push plan q x)) (fine-push m on (all_awaited plan q) (awaited plan x) h.waits
-        (λ is. subst (λ (b : Bool). heard m b (all_awaited plan q) ≡ true) (sym (h.speaks (runs is))) (heard_on q (no_end-rest front (waiting_of plan m q) (running-no_end p (front ++ waiting_of plan m q) h.turns (runs is))))));
-    turns = subst (λ (l : List ModeEvent). IsTurn next (after ++ l)) (sym (waiting_of-push plan m q x)) turns;
-    speaks = speaks;
-  }
+  holds-push on front after q p next x h turns runs speaks = search (rules, awaited-push, fine-push, all_awaited, heard_on, no_end-rest, waiting_of, running-no_end, waiting_of-push)
 
 -- whether the mode may be heard after all that was written
 abbrev pub heard_in : PlanView → ModeId → List Line → Machine → Bool
@@ -110,16 +105,7 @@ module _ (plan : PlanView) (valid : IsValid plan) (m : ModeId) (within : m.0 < l
 
   -- a line of no work
   quiet-holds : (front : List ModeEvent) (owner : Owner) (what : Happening) (s : Machine) → work_written plan what ≡ Nothing → (owner ≡ owners.Mode m → IsRunning m s) → HoldsIn plan m before front s → HoldsIn plan m before front (write owner what s)
-  quiet-holds front owner what s quiet runs h =
-      let l : Line = record { moment = s.moment; owner = owner; happening = what } in
-      let said : Said = record { owner = owner; work = Nothing } in
-      let is = lines-push s.lines l ∙ ap (λ (work : Work). all_written plan (before ++ s.lines) ++ record { owner = owner; work = work } ∷ []) quiet in
-      let same : heard_in plan m before (write owner what s) ≡ heard_in plan m before s = ap (heard m false) is ∙ heard-push m false (all_written plan (before ++ s.lines)) said in
-      record {
-        count = h.count;
-        fine = subst (λ (xs : List Said). IsFine m false xs) (sym is) (fine-push m false (all_written plan (before ++ s.lines)) said h.fine (λ o. h.holds.speaks (runs o)));
-        holds = subst (λ (on : Bool). Holds plan m on front s.waiting (phase_in m s)) (sym same) h.holds;
-      }
+  quiet-holds front owner what s quiet runs h = search (rules, lines-push, all_written, heard-push, fine-push)
 
   -- a line that is not that of an event
   pub wrote-holds : (front : List ModeEvent) (owner : Owner) (what : Happening) (s : Machine) → IsNoEvent what → (owner ≡ owners.Mode m → IsRunning m s) → HoldsIn plan m before front s → HoldsIn plan m before front (write owner what s)
