@@ -17,11 +17,11 @@ use Rattle.device_objects.specs.declared.device.Call.TheVariants as calls
 use Rattle.device_objects.specs.declared.state.DeviceState.{DeviceState}
 use Rattle.device_objects.specs.DeviceStep as devices
 use Rattle.device_objects.proofs.Shapes.{states_keep_their_shape}
-use Rattle.device_objects.specs.Laws.{HasShape, IsDone}
+use Rattle.device_objects.specs.Laws.{IsDone}
 use Rattle.device_objects.proofs.Moments.{arms-later, fired-done, first-quiet, devices_are_due_with_their_parts}
 use Rattle.switch_core.specs.SwitchStep.{idle}
 use Rattle.switch_core.specs.Switches.{SwitchesView, IsComplete, due_of, after_change, reported_by_change, accept, reported}
-use Rattle.switch_core.proofs.DueMoments.{changes_arm_later, accept-due, accept-done, idle-nothing_due}
+use Rattle.switch_core.proofs.DueMoments.{changes_arm_later, accept-due, accept-done}
 use Rattle.written_machine.specs.declared.line.Line.{Line}
 use Rattle.written_machine.specs.Machine.{Machine, set_switches, set_device, world_of, device_state, device_at, called, initial}
 use Rattle.written_machine.specs.Devices.{HasDevices}
@@ -30,7 +30,7 @@ use Rattle.written_machine.specs.PlanOrder.{settled}
 use Rattle.written_machine.specs.AlarmsEnd.{IsPartDone}
 use Rattle.written_machine.specs.Run.{Source, switch, device, source_due, part_due, IsNothingLate, IsNextAlarm, Stimulus, SwitchChange, Alarm, Wait, moment_of, IsAllowed, arrived, begin, IsRun}
 use Rattle.cascade_rank.specs.Cost.{Cost}
-use Rattle.written_machine.specs.Moves.{Move, Began, Ended, Turned, Booked, do_move, Does, TakesPart, Begins, IsMachine, ordinary, working, MayWork}
+use Rattle.written_machine.specs.Moves.{Move, do_move, Does, TakesPart, Begins, IsMachine, ordinary, working, MayWork}
 use Rattle.written_machine.proofs.Does.{start-by, stop-by, book-by, does-keeps, due-row, off-has_coils, HasStates, moment-move, moment-does, has_states-does, switches-does}
 use Rattle.device_objects.proofs.Lists.{lists_are_of_the_row}
 use Rattle.written_machine.proofs.Parts.{does-answer, does-call, does-accepted, does-if_accepted, does-begin, does-before, does-after}

@@ -1,8 +1,8 @@
 -- A whole call of a ball device books what it answers, and leaves the ledger in step with the devices.
-use Rattle.std.proofs.Common.{rules, ◌≡◌, ℕ, ◌+◌, ◌<◌, ◌≤◌, ◌==◌, ◌&&◌, inl, inr, if◌then◌else◌, Bool, true, false, Option, Some, None, List, [], ◌∷◌, length, refl, sym, ap, ap₂, ◌∙◌, subst, arith}
+use Rattle.std.proofs.Common.{rules, ◌≡◌, ℕ, ◌+◌, ◌<◌, ◌≤◌, ◌==◌, ◌&&◌, if◌then◌else◌, Bool, true, false, Option, Some, None, List, [], ◌∷◌, length, refl, sym, ap, ap₂, ◌∙◌, subst, arith}
 use Rattle.std.specs.Prelude.{unwrap_or}
 use Rattle.std.specs.List.{All, count_by}
-use Rattle.std.proofs.lemmas.Bool.{eq-eqb, ne_eqb, false≢true}
+use Rattle.std.proofs.lemmas.Bool.{eq-eqb, ne_eqb}
 use Rattle.std.proofs.lemmas.List.Elements.{All-filter, filter_passes}
 use Rattle.plan_tables.specs.declared.entries.GameEvent.TheVariants.{BallDrain}
 use Rattle.plan_tables.specs.PlanView.{PlanView, feeders_of, feeds, game_event, is_target, list_of_row, row_at, row_numbers, target_in, target_of, first_trough, is_trough}
@@ -40,15 +40,12 @@ use Rattle.player_game.specs.GameStep.{is_ball_on}
 use Rattle.plan_tables.specs.BallRows.{actions_in, BooksBalls, BooksRightly, BookingsAreRight, IsPlain}
 use Rattle.plan_tables.specs.declared.devices.Telling.{Telling}
 use Rattle.plan_tables.specs.declared.devices.Telling.TheVariants.{Arrived, Wanted}
-use Rattle.written_machine.specs.Machine.{Machine, post, set_device, all_do, book, drain_if, after_entry, do_action_by, do_list_by, world_of, device_at, do_answer_by, call_device_by, is_device_away, first_away, tell_nobody, tell_device, tell_first, call_device}
+use Rattle.written_machine.specs.Machine.{Machine, post, set_device, book, drain_if, after_entry, do_action_by, do_list_by, world_of, device_at, do_answer_by, call_device_by, is_device_away, first_away, tell_nobody, tell_device, tell_first, call_device}
 use Rattle.written_machine.proofs.BallSteps.{balls_in, IsQuiet, AreQuiet, Answer, nothing, enters, leaves, loses, arrives, IsAnswer, IsUsual, step-answer, confirm-answer, step-confirmed, requested-answer}
 use Rattle.written_machine.proofs.BallFeeders.{Found, find-found, row-counts}
 use Rattle.written_machine.proofs.BallPlays.{IsOther, nothing-other, then-other, post-other, list-other, Plays, still, ball, arrival, both, IsNoCall, request}
 use Rattle.written_machine.proofs.BallCalm.{balls_at, no_lag, lag_at, limit, IsCalm, feeder, one-no, one-yes, surely_booked, other-calm, room, turned-calm}
 use Rattle.written_machine.proofs.Feeding.{first_trough-is}
-
-is_target-itself : (a : BallTarget) → is_target a a ≡ true
-is_target-itself a = search rules
 
 pub no_call-usual : (call : Call) → IsNoCall call → IsUsual call
 no_call-usual call none = absurd none

@@ -1,8 +1,8 @@
 -- Between the calls of devices the ledger says how many balls count in each device, and how many devices are Away to each
 -- target. A whole call of a ball device leaves it so, and all that it books may be booked.
-use Rattle.std.proofs.Common.{rules, ◌≡◌, ℕ, ◌+◌, ◌^◌, ◌<◌, ◌≤◌, ◌&&◌, inl, inr, if◌then◌else◌, nat_lt, Bool, true, false, List, length, slice_set, refl, sym, ap, ap₂, ◌∙◌, subst, arith}
+use Rattle.std.proofs.Common.{rules, ◌≡◌, ℕ, ◌+◌, ◌^◌, ◌<◌, ◌≤◌, ◌&&◌, inl, inr, Bool, true, false, List, length, slice_set, sym, ap, ap₂, ◌∙◌, subst, arith}
 use Rattle.std.specs.List.{count_by}
-use Rattle.std.proofs.lemmas.Bool.{and_from, cases_eq, eqb-true, false≢true, lt-ltb}
+use Rattle.std.proofs.lemmas.Bool.{cases_eq}
 use Rattle.std.proofs.lemmas.List.{length-set, get_or-set_same, get_or-set_other}
 use Rattle.std.proofs.lemmas.List.Elements.{All-from_get_or}
 use Rattle.std.proofs.lemmas.List.Sums.{sum_by-le, count_by-le-length, length-filter}
@@ -16,10 +16,8 @@ use Rattle.plan_tables.specs.declared.devices.Settings.{Settings}
 use Rattle.plan_tables.specs.declared.devices.Settings.TheVariants as kinds
 use Rattle.plan_tables.specs.declared.entries.Owner.{Owner}
 use Rattle.ball_devices.specs.declared.booking.Origin.{Origin}
-use Rattle.ball_devices.specs.declared.booking.Origin.TheVariants.{New}
 use Rattle.ball_devices.specs.Ledger.{Ledger, counted_in, transit_to, all_counted, all_in_transit, IsLedger}
-use Rattle.ball_devices.specs.Bookings.{LedgerCall, MayBook, after_call, booked, can_book, is_target_there, is_new}
-use Rattle.ball_devices.specs.Bookings as ledger_calls
+use Rattle.ball_devices.specs.Bookings.{LedgerCall, MayBook, after_call, booked, can_book, is_new}
 use Rattle.ball_devices.proofs.Ledgers.{Says}
 use Rattle.ball_devices.proofs.Booked.{one}
 use Rattle.cascade_rank.proofs.Rows.{length-rows}
@@ -75,9 +73,6 @@ pub record IsCalm (plan : PlanView) (lag : BallTarget → ℕ) (s : Machine) : T
 
 -- ---- targets
 
-is_target-same : (a b : BallTarget) → is_target a b ≡ true → b ≡ a
-is_target-same a b is = search rules
-
 -- what feeds a target is a ball device that ejects balls to it
 pub record IsFeeder (target : BallTarget) (settings : Settings) : Type 0 where
   pub d : BallSettings
@@ -92,10 +87,6 @@ one-no x y not = search rules
 
 pub one-yes : (x y : Bool) → y ≡ true → one (x && y) ≡ one x
 one-yes x y is = search rules
-
--- what may be booked is booked
-can-there : (n : ℕ) (target : BallTarget) → IsTargetThere n target → is_target_there n target ≡ true
-can-there n target there = search rules
 
 can : (c : LedgerCall) (l : Ledger) → MayBook c l → can_book c l ≡ true
 can c l may = search rules

@@ -1,14 +1,11 @@
 -- What the alarm of a ball device does with its ball switches.
-use Rattle.std.proofs.Common.{rules, ◌≡◌, ℕ, ◌+◌, ◌≤◌, min, inl, inr, ◌⊎◌, false, Option, Some, None, List, [], ◌∷◌, slice_set, get_or, option_map, refl, ap, ◌∙◌, subst, arith}
-use Rattle.std.proofs.lemmas.Bool.{cond_both, ltb-false}
-use Rattle.std.proofs.lemmas.Option.{same_Some}
+use Rattle.std.proofs.Common.{rules, ◌≡◌, ℕ, inl, inr, ◌⊎◌, false, Option, Some, None, [], slice_set, get_or, option_map, refl, ap, ◌∙◌, subst, arith}
+use Rattle.std.proofs.lemmas.Bool.{cond_both}
 use Rattle.plan_tables.specs.declared.devices.BallSettings.{BallSettings}
 use Rattle.device_objects.specs.declared.state.BallState.{BallState}
 use Rattle.device_objects.specs.declared.state.Eject.{Eject}
-use Rattle.device_objects.specs.declared.state.Eject.TheVariants.{Idle, Pulsing, Away}
-use Rattle.device_objects.specs.BallDevice.{empty, switch_at, set_switch, first_due, timeout_of, earlier, is_timeout_first, entered, left, lost, failed, attempt, begin, after, ended, may_try_again, next_number, time_out, turned, gone, count, count_due, fire, due_of}
+use Rattle.device_objects.specs.BallDevice.{empty, switch_at, first_due, timeout_of, earlier, is_timeout_first, time_out, turned, gone, count, count_due, fire, due_of}
 use Rattle.device_objects.proofs.BallDue.{first_due-is_due}
-use Rattle.written_machine.proofs.BallSteps.{begin-begun}
 
 -- one ball switch, which was due at this moment, has turned
 pub record HasTurned (b t : BallState) (at : ℕ) : Type 0 where

@@ -1,8 +1,8 @@
 -- In every run each ball switch follows the changes of the switch that it is.
-use Rattle.std.proofs.Common.{rules, ◌≡◌, ℕ, zero, suc, ◌<◌, ◌≤◌, ◌==◌, ◌⊎◌, inl, inr, if◌then◌else◌, not, Bool, true, false, cond, ◌||◌, Option, Some, None, List, [], ◌∷◌, ◌++◌, length, slice_set, get_or, refl, ap, ap₂, sym, ◌∙◌, subst, arith}
+use Rattle.std.proofs.Common.{rules, ◌≡◌, ℕ, zero, suc, ◌<◌, ◌≤◌, ◌⊎◌, inl, inr, if◌then◌else◌, not, Bool, true, false, cond, ◌||◌, Option, Some, None, List, [], ◌∷◌, ◌++◌, length, slice_set, get_or, refl, ap, ap₂, sym, ◌∙◌, subst, arith}
 use Rattle.std.specs.Option.{IfSome}
 use Rattle.std.specs.List.{All, AllPairs, count_by, flat_map}
-use Rattle.std.proofs.lemmas.Bool.{and_from, and_parts, cases_Bool, cases_eq, cases_lt, cond_both, eq-eqb, false≢true, true≢false, ne_eqb, or_left}
+use Rattle.std.proofs.lemmas.Bool.{and_parts, cases_Bool, cases_eq, cases_lt, eq-eqb, false≢true, true≢false, ne_eqb, or_left}
 use Rattle.std.proofs.lemmas.List.{append-nil, get_or_past, get_or-set_same, get_or-set_other, get_or-replicate}
 use Rattle.std.proofs.lemmas.List.Concat.{flat_map-append}
 use Rattle.std.proofs.lemmas.List.Elements.{All-get_or}
@@ -19,9 +19,7 @@ use Rattle.plan_tables.specs.declared.entries.SwitchId.{SwitchId}
 use Rattle.plan_tables.specs.declared.entries.SwitchKind.{SwitchKind}
 use Rattle.ball_devices.specs.Ledger.{counted_in}
 use Rattle.cascade_rank.specs.Cost.{switches_of}
-use Rattle.device_objects.specs.declared.device.Call.{Call}
 use Rattle.device_objects.specs.declared.device.Call.TheVariants as calls
-use Rattle.plan_tables.specs.declared.devices.Act.TheVariants as acts
 use Rattle.device_objects.specs.declared.state.BallState.{BallState}
 use Rattle.device_objects.specs.declared.state.BallSwitch.{BallSwitch}
 use Rattle.device_objects.specs.declared.state.DeviceState.{DeviceState}
@@ -32,7 +30,7 @@ use Rattle.device_objects.specs.DeviceStep as devices
 use Rattle.device_objects.proofs.BallDue.{switch-is_part}
 use Rattle.device_objects.proofs.BallMoments.{ball-parts_none, ball-parts_first}
 use Rattle.switch_core.specs.declared.change.Change.{Change}
-use Rattle.switch_core.specs.SwitchStep.{SwitchState, changed, accepted, awaited, is_taken, same_level}
+use Rattle.switch_core.specs.SwitchStep.{SwitchState, changed, is_taken}
 use Rattle.switch_core.specs.SwitchStep as switch_steps
 use Rattle.switch_core.specs.Switches.{SwitchesView, no_kind, kind_at, state_at, active_at, due_of, after_change, accept, reported}
 use Rattle.switch_core.proofs.Lists as switch_lists
@@ -53,9 +51,9 @@ use Rattle.written_machine.proofs.Keeps.{run-keeps}
 use Rattle.written_machine.proofs.BallPlays.{is_ball, other-plays, accepted-plays, event-plays, IsNoCall}
 use Rattle.written_machine.proofs.BallCalm.{balls_at, no_lag, IsCalm, calm-other}
 use Rattle.written_machine.proofs.BallRuns.{first-ball, calm-initial, step-calm, begin-calm, due-within}
-use Rattle.written_machine.proofs.BallLevels.{Follows, first-follows, not_yet, turned-follows, IsInTime, noted-follows}
+use Rattle.written_machine.proofs.BallLevels.{Follows, first-follows, not_yet, IsInTime, noted-follows}
 use Rattle.written_machine.proofs.BallCounting.{is_for, is_heard, row-count}
-use Rattle.written_machine.proofs.BallSteady.{ball_of, switches_at, IsSteady, IsKeeping, answer-steady, telling-steady, plays-steady, no_call-keeping}
+use Rattle.written_machine.proofs.BallSteady.{ball_of, switches_at, IsSteady, answer-steady, telling-steady, plays-steady, no_call-keeping}
 use Rattle.written_machine.proofs.BallFired.{IsFired, fire-fired}
 use Rattle.written_machine.proofs.BallListeners.{ball_switch, heard-all, switches-apart, IsListener, IsNotedBy, listeners-noted}
 

@@ -1,12 +1,10 @@
 -- Whether a ball counts at a ball switch follows from its changes alone.
-use Rattle.std.proofs.Common.{rules, ◌≡◌, ℕ, zero, suc, ◌+◌, ◌<◌, ◌≤◌, inl, inr, Bool, true, false, not, cond, ◌&&◌, Option, Some, None, List, [], ◌∷◌, ◌++◌, if◌then◌else◌, nat_le, nat_lt, refl, ap, sym, ◌∙◌, append-nil, arith}
+use Rattle.std.proofs.Common.{rules, ◌≡◌, ℕ, zero, suc, ◌+◌, ◌<◌, ◌≤◌, Bool, true, false, not, cond, ◌&&◌, Option, Some, None, List, [], ◌∷◌, ◌++◌, if◌then◌else◌, nat_le, refl, ap, sym, ◌∙◌, append-nil, arith}
 use Rattle.std.specs.List.{filter, list_all, last_or}
-use Rattle.std.proofs.lemmas.Bool.{false≢true, le-leb, lt-leb, leb-true, ltb-true, cases_lt, lt-ltb, le-ltb, cond-true, cond-false}
-use Rattle.std.proofs.lemmas.List.Elements.{filter_agree}
 use Rattle.std.proofs.lemmas.List.Folds.{list_all-append}
 use Rattle.plan_tables.specs.declared.devices.BallSettings.{BallSettings}
 use Rattle.device_objects.specs.declared.state.BallSwitch.{BallSwitch}
-use Rattle.device_objects.specs.BallDevice.{delay, empty, noted, turned}
+use Rattle.device_objects.specs.BallDevice.{empty, noted}
 use Rattle.written_machine.specs.SwitchLines.{LevelChange}
 use Rattle.written_machine.specs.Counted.{counts_from, is_late, not_undone, level_after, counted_level}
 
@@ -61,10 +59,6 @@ module _ (d : BallSettings) where
       → counted_level d quick moment (past ++ c ∷ []) ≡ cond (nat_le (counts_from d c) moment) c.active (level_before quick c past)
   counted-push quick moment past c before = search (rules, not_undone-push, level-push, nat_le)
 
-  -- at a normal switch that is what counted just before it
-  less-le : (from at before : ℕ) → at ≡ before + 1 → nat_lt from at ≡ nat_le from before
-  less-le from at before is = search rules
-
   before-normal : (c : LevelChange) (past : List LevelChange) (before : ℕ) → c.at ≡ before + 1 → level_before false c past ≡ counted_level d false before past
   before-normal c past before is = search rules
 
@@ -88,15 +82,6 @@ module _ (d : BallSettings) where
   -- it counts until it is due
   pub not_yet : (b : BallSwitch) (moment : ℕ) → ((due : ℕ) → b.due ≡ Some due → moment < due) → level_by b moment ≡ b.counted
   not_yet b moment quiet = search rules
-
-  -- when it is due, the opposite counts
-  pub turned-follows : (quick : Bool) (since due : ℕ) (b : BallSwitch) (changes : List LevelChange) → b.due ≡ Some due → since ≤ due
-      → Follows quick since b changes → Follows quick due (turned b) changes
-  turned-follows quick since due b changes is later h = search rules
-
-  -- a change more
-  same-both : (x k : Bool) → cond x k k ≡ k
-  same-both x k = search rules
 
   noted-level : (active counted : Bool) (from moment : ℕ)
       → cond (nat_le from moment) active counted ≡ level_then counted (if (if active then not counted else counted) then Some from else None) moment

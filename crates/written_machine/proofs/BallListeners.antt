@@ -1,15 +1,13 @@
 -- Which ball switches are told of a switch, and how.
-use Rattle.std.proofs.Common.{rules, ◌≡◌, ℕ, zero, suc, ◌<◌, ◌==◌, inl, inr, nat_lt, Bool, true, false, cond, ◌&&◌, ◌||◌, List, [], ◌∷◌, ◌++◌, length, get_or, refl, ap, ap₂, sym, ◌∙◌, subst, arith}
+use Rattle.std.proofs.Common.{rules, ◌≡◌, ℕ, zero, suc, ◌<◌, ◌==◌, inl, inr, Bool, true, false, cond, ◌&&◌, ◌||◌, List, [], ◌∷◌, ◌++◌, length, get_or, refl, ap, ap₂, sym, ◌∙◌, subst, arith}
 use Rattle.std.specs.List.{All, AllPairs, flat_map}
-use Rattle.std.proofs.lemmas.Bool.{and_from, and_parts, cases_Bool, cases_eq, cond-true, eq-eqb, eqb-true, false≢true, lt-ltb, ne_eqb, or_cases}
+use Rattle.std.proofs.lemmas.Bool.{and_from, cases_Bool, cases_eq, eq-eqb, false≢true, ne_eqb, or_cases}
 use Rattle.std.proofs.lemmas.List.{get_or-set_same, get_or-set_other}
 use Rattle.std.proofs.lemmas.List.Elements.{All-head, All-tail}
 use Rattle.plan_tables.specs.PlanView.{PlanView, PlanSwitch, act_of_listener, no_row, no_switch, row_at}
 use Rattle.plan_tables.specs.Valid.{IsValid}
-use Rattle.plan_tables.specs.Devices.{IsWithinLimits}
 use Rattle.plan_tables.specs.declared.devices.BallSettings.{BallSettings}
 use Rattle.plan_tables.specs.declared.devices.RowId.{RowId}
-use Rattle.plan_tables.specs.declared.devices.Settings.{Settings}
 use Rattle.plan_tables.specs.declared.devices.Settings.TheVariants as kinds
 use Rattle.plan_tables.specs.declared.entries.Listener.{Listener}
 use Rattle.plan_tables.specs.declared.entries.SwitchId.{SwitchId}
@@ -18,9 +16,9 @@ use Rattle.device_objects.specs.declared.state.BallState.{BallState}
 use Rattle.device_objects.specs.declared.state.BallSwitch.{BallSwitch}
 use Rattle.device_objects.specs.declared.state.DeviceState.{DeviceState}
 use Rattle.device_objects.specs.declared.state.DeviceState.TheVariants as states
-use Rattle.device_objects.specs.BallDevice.{empty, noted, set_switch, switched, ball_step}
+use Rattle.device_objects.specs.BallDevice.{empty, noted, set_switch}
 use Rattle.device_objects.specs.BallDevice as balls
-use Rattle.device_objects.specs.DeviceStep.{ball_answer, device_step, first_state}
+use Rattle.device_objects.specs.DeviceStep.{device_step, first_state}
 use Rattle.plan_tables.specs.BallRows.{AreApart, BookingsAreRight, IsNoBallDevice, IsSwitchOf}
 use Rattle.written_machine.specs.SwitchLines.{changes_of}
 use Rattle.written_machine.specs.Devices.{ActsAreOwn}
@@ -112,24 +110,14 @@ module _ (plan : PlanView) (valid : IsValid plan) (own : ActsAreOwn plan) (right
     pub within : l.row.0 < length plan.rows
     pub its : IsSwitchOf (row_at plan l.row).settings l.switch
 
-  step-noted : (d : BallSettings) (l : Listener) (now : ℕ) (b : BallState) (a : Bool)
-      → ball_step d (calls.Act (act_of_listener a l)) now b ≡ (switched d l.switch a now b, [])
-  step-noted d l now b a = search rules
-
   -- one ball device is told
   module _ (l : Listener) (d : BallSettings) (is : (row_at plan l.row).settings ≡ kinds.BallDevice d) (fit : IsListener l)
       (s : Machine) (calm : IsCalm plan no_lag s) where
     abbrev ball : BallState
     ball = (calm.shapes l.row d fit.within is).ball
 
-    its_switch : l.switch < d.switches
-    its_switch = subst (λ (x : Settings). IsSwitchOf x l.switch) is fit.its
-
     abbrev next : BallState
     next = set_switch l.switch (noted d active s.moment (balls.switch_at ball l.switch)) ball
-
-    switched-is : switched d l.switch active s.moment ball ≡ next
-    switched-is = cond-true (nat_lt l.switch d.switches) next ball (lt-ltb l.switch d.switches its_switch)
 
     called-is : device_step (row_at plan l.row).settings (calls.Act (act_of_listener active l)) s.moment (world_of s) (device_at s l.row) ≡ (states.BallDevice next, [])
     called-is = search rules

@@ -1,14 +1,14 @@
 -- What the parts of the machine do with balls: a ball device is called, a ball has arrived on the playfield, or nothing
 -- that concerns balls happens.
-use Rattle.std.proofs.Common.{rules, ◌≡◌, ℕ, ℤ, ◌<◌, ◌==◌, ◌&&◌, inl, inr, ◌⊎◌, if◌then◌else◌, Bool, true, false, Option, Some, None, List, [], ◌∷◌, ◌++◌, length, refl, sym, ap, ◌∙◌, subst, arith, zero, suc}
-use Rattle.std.specs.List.{All, filter, range_with_len}
-use Rattle.std.proofs.lemmas.Bool.{cases_lt, false≢true}
-use Rattle.std.proofs.lemmas.List.{append-nil, get_or_past, length-set, get_or-set_other}
+use Rattle.std.proofs.Common.{rules, ◌≡◌, ℕ, ℤ, ◌<◌, ◌==◌, ◌&&◌, inl, inr, ◌⊎◌, if◌then◌else◌, Bool, true, false, Option, Some, None, List, [], ◌∷◌, ◌++◌, length, refl, ap, subst, zero, suc}
+use Rattle.std.specs.List.{All, range_with_len}
+use Rattle.std.proofs.lemmas.Bool.{cases_lt}
+use Rattle.std.proofs.lemmas.List.{append-nil, get_or_past}
 use Rattle.std.proofs.lemmas.List.Concat.{flat_map-append}
 use Rattle.std.proofs.lemmas.List.Elements.{All-head, All-tail, All-get_or, All-nil, All-map, All-filter, All-from_get_or, filter_passes}
 use Rattle.std.proofs.lemmas.List.FromFn.{length-range_with_len, get_or-range_with_len}
 use Rattle.std.proofs.lemmas.List.Sorted.{All-permutation}
-use Rattle.plan_tables.specs.PlanView.{PlanView, act_of_listener, actions_at, binding_at, coil_numbers, game_event, may_hold_ball_end, is_owner, list_of_row, listeners_of, mode_event, no_binding, no_row, no_switch, places_of, posts_of, row_at, row_numbers, rows_of, switch_at, work_of, is_multiball, is_save, multiball_rows, save_rows}
+use Rattle.plan_tables.specs.PlanView.{PlanView, act_of_listener, actions_at, binding_at, coil_numbers, game_event, is_owner, list_of_row, listeners_of, mode_event, no_binding, places_of, posts_of, row_at, row_numbers, rows_of, switch_at, work_of, is_multiball, is_save, multiball_rows, save_rows}
 use Rattle.plan_tables.specs.Valid.{HasEntries, IsBindingWithin, IsListenerWithin, IsTargetWithin}
 use Rattle.plan_tables.specs.Devices.{list_count}
 use Rattle.plan_tables.specs.declared.devices.Act.TheVariants as acts
@@ -36,7 +36,6 @@ use Rattle.plan_tables.specs.declared.entries.Work.{Work}
 use Rattle.plan_tables.specs.declared.entries.Work.TheVariants.{Nothing, Mode, Game}
 use Rattle.cascade_rank.proofs.Rows.{rows-within}
 use Rattle.coil_guard.specs.declared.command.Answer.{Answer}
-use Rattle.coil_guard.specs.declared.command.Answer.TheVariants as answers
 use Rattle.coil_guard.specs.declared.command.Command.{Command}
 use Rattle.coil_guard.specs.declared.command.Command.TheVariants as commands
 use Rattle.coil_guard.specs.Asked.{after_asking, answer_asking}
@@ -46,26 +45,23 @@ use Rattle.device_objects.proofs.Lists.{lists_are_of_the_row}
 use Rattle.device_objects.specs.declared.device.Call.{Call}
 use Rattle.device_objects.specs.declared.device.Call.TheVariants as calls
 use Rattle.device_objects.specs.declared.state.DeviceState.{DeviceState}
-use Rattle.device_objects.specs.DeviceStep.{first_state}
 use Rattle.event_queue.specs.declared.queue.Posted.{Posted}
 use Rattle.event_queue.specs.Handlers.{runs_at, handlers, IsHandlerOrder}
-use Rattle.mode_stack.specs.ModeStep.{starts, stopped, stop_answer, entered, ended}
-use Rattle.mode_stack.specs.Modes.{needs_game, mode_state, running_of}
-use Rattle.player_game.specs.Players.{is_met, changed_to, after_change, score_of}
-use Rattle.plan_tables.specs.declared.entries.GameEvent.TheVariants.{BallEnded, BallDrain}
-use Rattle.player_game.specs.GameStep.{GameStep, ends_ball, missing, more_balls, in_play}
+use Rattle.mode_stack.specs.ModeStep.{entered, ended}
+use Rattle.mode_stack.specs.Modes.{mode_state, running_of}
+use Rattle.player_game.specs.Players.{is_met, score_of}
+use Rattle.plan_tables.specs.declared.entries.GameEvent.TheVariants.{BallDrain}
+use Rattle.player_game.specs.GameStep.{GameStep, missing, more_balls, in_play}
 use Rattle.switch_core.specs.declared.change.Change.{Change}
 use Rattle.written_machine.specs.declared.line.Happening.{Happening}
 use Rattle.written_machine.specs.declared.line.Happening.TheVariants as lines
-use Rattle.plan_tables.specs.BallRows.{BooksNothing, actions_in, BooksRightly, IsNoBallDevice, IsOwnBallDevice, IsOffBalls, BookingsAreRight, IsPlain}
+use Rattle.plan_tables.specs.BallRows.{BooksNothing, actions_in, BooksRightly, IsNoBallDevice, IsOffBalls, BookingsAreRight, IsPlain}
 use Rattle.written_machine.specs.SwitchLines.{change_at, changes_of}
 use Rattle.written_machine.specs.EventStep.{taken, do_before, do_after, is_kept, before_handlers, after_event, handlers_in}
 use Rattle.written_machine.specs.Devices.{ActsAreOwn}
-use Rattle.written_machine.proofs.Does.{begun_mode}
 use Rattle.plan_tables.specs.declared.devices.Telling.{Telling}
 use Rattle.plan_tables.specs.declared.devices.Telling.TheVariants.{Arrived, Wanted}
-use Rattle.written_machine.specs.Machine.{Machine, write, post, set_mode, set_device, set_coils, set_players, set_game, all_do, has_game, post_if, release_ball_end, drop_hold, start_mode, is_post, stop_mode, told, ask_coil, release_coil, release_coils, tell_change, do_action_by, do_list_by, world_of, device_state, device_at, called, tell_first, call_device, call_devices, do_target, do_handler, write_final, write_finals, ask_ball, do_step, tell_listener, tell_listeners, confirm_on_playfield, do_action, do_list, end_multiballs, first_active_save, want_balls, step_game, drain_ball, do_game}
-use Rattle.player_game.specs.Choices.{is_drain}
+use Rattle.written_machine.specs.Machine.{Machine, write, post, set_mode, set_device, set_coils, set_players, set_game, all_do, release_ball_end, start_mode, stop_mode, told, ask_coil, release_coil, release_coils, tell_change, do_action_by, do_list_by, world_of, device_at, called, tell_first, call_device, call_devices, do_target, do_handler, write_final, write_finals, ask_ball, do_step, tell_listener, tell_listeners, confirm_on_playfield, do_action, do_list, end_multiballs, first_active_save, want_balls, step_game, drain_ball, do_game}
 use Rattle.written_machine.proofs.Feeding.{All-at, multiballs-within, first_active_save-is}
 use Rattle.written_machine.specs.Moves.{step_now}
 use Rattle.plan_tables.specs.declared.entries.GameEvent.{GameEvent}
@@ -239,9 +235,6 @@ module _ (plan : PlanView) where
       within : r.0 < length plan.rows
 
     -- ---- targets
-
-    post_if-other : (b : Bool) (e : EventId) (s : Machine) → IsOther plan s (post_if b e s)
-    post_if-other b e s = search rules
 
     start-other : (m : ModeId) (s : Machine) → IsOther plan s (start_mode plan m s)
     start-other m s = search rules

@@ -1,24 +1,21 @@
 -- Only the calls of switches, and alarms, concern the ball switches of a device.
-use Rattle.std.proofs.Common.{arith, rules, ◌≡◌, ℕ, ◌+◌, ◌&&◌, inl, inr, if◌then◌else◌, Bool, true, false, Option, Some, None, List, [], ◌∷◌, length, refl, sym, ap, ◌∙◌, subst, min, zero, suc}
-use Rattle.std.proofs.lemmas.Bool.{cases_eq, cases_lt, cond_both}
+use Rattle.std.proofs.Common.{rules, ◌≡◌, ℕ, Bool, Option, Some, None, List, [], ◌∷◌, length, refl}
+use Rattle.std.proofs.lemmas.Bool.{cases_eq, cases_lt}
 use Rattle.std.proofs.lemmas.List.{append-nil, length-set, get_or-set_same, get_or-set_other, set_past}
 use Rattle.std.proofs.lemmas.List.Concat.{flat_map-append}
-use Rattle.plan_tables.specs.PlanView.{PlanView, actions_at, game_event, list_of_row, no_row, row_at, target_of, act_told}
+use Rattle.plan_tables.specs.PlanView.{PlanView, row_at, target_of, act_told}
 use Rattle.plan_tables.specs.declared.devices.Act.TheVariants as acts
 use Rattle.plan_tables.specs.declared.devices.BallSettings.{BallSettings}
-use Rattle.plan_tables.specs.declared.devices.BallTarget.TheVariants.{Playfield, Device}
+use Rattle.plan_tables.specs.declared.devices.BallTarget.TheVariants.{Playfield}
 use Rattle.plan_tables.specs.declared.devices.RowId.{RowId}
-use Rattle.plan_tables.specs.declared.devices.Settings.{Settings}
 use Rattle.plan_tables.specs.declared.devices.Settings.TheVariants as kinds
 use Rattle.plan_tables.specs.declared.entries.Action.{Action}
 use Rattle.plan_tables.specs.declared.entries.Action.TheVariants.{Post, Pulse, Enable, Disable, Change as ChangeVariable, Enter, Leave, Lose, Arrive, Request, AddBalls}
-use Rattle.plan_tables.specs.declared.entries.GameEvent.TheVariants.{BallDrain}
 use Rattle.plan_tables.specs.declared.entries.Owner.{Owner}
 use Rattle.plan_tables.specs.declared.entries.SwitchId.{SwitchId}
 use Rattle.ball_devices.specs.declared.booking.Origin.{Origin}
-use Rattle.ball_devices.specs.declared.booking.Origin.TheVariants.{Awaited}
 use Rattle.ball_devices.specs.Ledger.{origin_of}
-use Rattle.ball_devices.specs.Bookings.{LedgerCall, after_call, booked}
+use Rattle.ball_devices.specs.Bookings.{LedgerCall}
 use Rattle.ball_devices.specs.Bookings as ledger_calls
 use Rattle.device_objects.specs.declared.device.Call.{Call}
 use Rattle.device_objects.specs.declared.device.Call.TheVariants as calls
@@ -27,20 +24,15 @@ use Rattle.device_objects.specs.declared.state.BallSwitch.{BallSwitch}
 use Rattle.device_objects.specs.declared.state.DeviceState.{DeviceState}
 use Rattle.device_objects.specs.declared.state.DeviceState.TheVariants as states
 use Rattle.device_objects.specs.declared.state.Eject.{Eject}
-use Rattle.device_objects.specs.declared.state.Eject.TheVariants.{Away}
 use Rattle.device_objects.specs.declared.state.World.{World}
-use Rattle.device_objects.specs.BallDevice.{begin, confirm, ended, requested, ball_step}
+use Rattle.device_objects.specs.BallDevice.{confirm}
 use Rattle.device_objects.specs.BallDevice as balls
 use Rattle.device_objects.specs.DeviceStep.{device_step, first_state}
-use Rattle.player_game.specs.GameStep.{is_ball_on, missing, more_balls}
-use Rattle.written_machine.specs.declared.line.Happening.TheVariants as lines
-use Rattle.written_machine.specs.declared.line.Line.{Line}
-use Rattle.written_machine.specs.SwitchLines.{change_at, changes_of}
+use Rattle.written_machine.specs.SwitchLines.{changes_of}
 use Rattle.plan_tables.specs.declared.devices.Telling.{Telling}
 use Rattle.plan_tables.specs.declared.devices.Telling.TheVariants.{Arrived, Wanted}
-use Rattle.written_machine.specs.Machine.{Machine, post, set_device, set_ledger, all_do, counts_of, book, drain_if, after_entry, do_action_by, do_list_by, world_of, device_state, device_at, called, do_answer_by, call_device_by, tell_nobody, tell_device, tell_first, told_device, want_balls, set_game}
+use Rattle.written_machine.specs.Machine.{Machine, post, set_device, all_do, book, drain_if, after_entry, do_action_by, device_at, called, do_answer_by, call_device_by, tell_nobody, tell_device, tell_first, told_device, want_balls}
 use Rattle.written_machine.proofs.Does.{book-by}
-use Rattle.written_machine.proofs.BallSteps.{begin-begun}
 use Rattle.written_machine.proofs.BallPlays.{IsOther, one_row, post-other, action-other, Plays, still, ball, arrival, both, IsNoCall, request, same-other}
 
 -- the state of a ball device
@@ -71,12 +63,6 @@ no_call-keeping call none = absurd none
 module _ (d : BallSettings) where
   confirm-switches : (now : ℕ) (eject : Eject) (b : BallState) → (confirm d now eject b).0.switches ≡ b.switches
   confirm-switches now eject b = search rules
-
-  request-switches : (n now : ℕ) (b : BallState) → (requested d n now b).0.switches ≡ b.switches
-  request-switches n now b = search rules
-
-  step-switches : (call : Call) (now : ℕ) (b : BallState) → IsKeeping call → (ball_step d call now b).0.switches ≡ b.switches
-  step-switches call now b keeps = search rules
 
   state-switches : (call : Call) (now : ℕ) (world : World) (state : DeviceState) → IsKeeping call
       → (ball_of (device_step (kinds.BallDevice d) call now world state).0).switches ≡ (ball_of state).switches

@@ -1,7 +1,7 @@
 -- What each call of a ball device leads to: how many balls count in it then, whether it is Away, and what its lists book.
-use Rattle.std.proofs.Common.{rules, ◌≡◌, ℕ, ◌+◌, ◌<◌, ◌≤◌, min, inl, inr, ◌⊎◌, Bool, true, false, not, cond, Option, None, Some, List, [], ◌∷◌, ◌&&◌, length, nat_lt, refl, sym, ap, ◌∙◌, arith}
+use Rattle.std.proofs.Common.{rules, ◌≡◌, ℕ, ◌+◌, ◌<◌, ◌≤◌, min, inl, inr, ◌⊎◌, Bool, true, false, not, cond, Option, None, Some, List, [], ◌∷◌, length, nat_lt, refl, sym, ap, ◌∙◌, arith}
 use Rattle.std.specs.List.{count_by}
-use Rattle.std.proofs.lemmas.Bool.{and_parts, cases_lt, cond_both, false≢true}
+use Rattle.std.proofs.lemmas.Bool.{cases_lt, cond_both}
 use Rattle.std.proofs.lemmas.List.{get_or_past, set_past}
 use Rattle.std.proofs.lemmas.List.Sums.{sum_by-set}
 use Rattle.std.proofs.lemmas.Option.{none-some}
@@ -18,7 +18,7 @@ use Rattle.device_objects.specs.declared.state.BallSwitch.{BallSwitch}
 use Rattle.device_objects.specs.declared.state.BallState.{BallState}
 use Rattle.device_objects.specs.declared.state.Eject.{Eject}
 use Rattle.device_objects.specs.declared.state.Eject.TheVariants.{Idle, Pulsing, Away}
-use Rattle.device_objects.specs.BallDevice.{empty, switch_at, set_switch, first_due, timeout_of, is_timeout_first, entered, attempted, left, lost, succeeded, arrived, failed, attempt, can_begin, is_idle, is_away, begin, after, ended, stuck, may_try_again, next_number, overdue, confirmed, time_out, confirm, noted, switched, turned, gone, count, count_due, fire, requested, act_step, ball_step}
+use Rattle.device_objects.specs.BallDevice.{empty, switch_at, set_switch, first_due, entered, attempted, left, lost, succeeded, arrived, failed, attempt, is_idle, is_away, begin, after, ended, stuck, may_try_again, next_number, overdue, confirmed, time_out, confirm, noted, switched, turned, gone, count, count_due, fire, requested, act_step, ball_step}
 use Rattle.device_objects.proofs.BallDue.{first_due-is_due}
 use Rattle.ball_devices.proofs.Booked.{one}
 
@@ -211,10 +211,6 @@ module _ (d : BallSettings) (enter : Type 0) where
 
 module _ (d : BallSettings) where
   -- ---- confirmed in a device
-
-  into_device : (now : ℕ) (s : BallState) (target : BallTarget) (r : RowId) → target ≡ Device r
-      → IsConfirmed s (after (confirmed target) (begin d now (ended s)))
-  into_device now s target r is = search rules
 
   by_eject : (now : ℕ) (eject : Eject) (s : BallState) (r : RowId) → s.eject ≡ eject → is_away s.eject ≡ true → d.target ≡ Device r
       → IsConfirmed s (confirm d now eject s)

@@ -1,19 +1,15 @@
 -- In every run all that the ledger books stands in the trace, with the counts that follow from it.
-use Rattle.std.proofs.Common.{rules, ◌≡◌, ℕ, ◌+◌, ◌^◌, ◌<◌, ◌⊎◌, inl, inr, nat_lt, true, ◌&&◌, List, [], ◌∷◌, ◌++◌, length, length-append, get_or, drop, refl, sym, ap, ◌∙◌, subst, append_assoc, arith}
-use Rattle.std.proofs.lemmas.Bool.{and_parts, ltb-true}
+use Rattle.std.proofs.Common.{rules, ◌≡◌, ℕ, ◌+◌, ◌<◌, ◌⊎◌, inl, inr, true, List, [], ◌∷◌, ◌++◌, length, length-append, get_or, drop, refl, sym, ap, ◌∙◌, subst, append_assoc, arith}
 use Rattle.std.proofs.lemmas.List.{append-nil, length-replicate}
 use Rattle.std.proofs.lemmas.List.Concat.{flat_map-append}
 use Rattle.plan_tables.specs.PlanView.{PlanView, work_of}
-use Rattle.plan_tables.specs.Valid.{IsTargetThere}
-use Rattle.plan_tables.specs.declared.devices.BallTarget.{BallTarget}
-use Rattle.plan_tables.specs.declared.devices.BallTarget.TheVariants.{Playfield, Device}
 use Rattle.plan_tables.specs.declared.devices.RowId.{RowId}
 use Rattle.plan_tables.specs.declared.entries.Owner.{Owner}
 use Rattle.ball_devices.specs.declared.booking.Booking.{Booking}
 use Rattle.ball_devices.specs.declared.booking.Booking.TheVariants.{Entered}
 use Rattle.ball_devices.specs.declared.booking.Origin.{Origin}
-use Rattle.ball_devices.specs.Ledger.{Ledger, no_balls, counted_in, transit_to, origin_of, IsBalanced, IsLedger}
-use Rattle.ball_devices.specs.Bookings.{LedgerCall, Enter, Leave, Lose, Arrive, MayBook, MayBookAll, after_call, after_calls, booked, booked_by, can_book, is_target_there, HasBooked, origin_after}
+use Rattle.ball_devices.specs.Ledger.{Ledger, no_balls, origin_of, IsBalanced, IsLedger}
+use Rattle.ball_devices.specs.Bookings.{LedgerCall, Enter, MayBook, MayBookAll, after_call, after_calls, booked, booked_by, can_book, HasBooked, origin_after}
 use Rattle.ball_devices.proofs.Ledgers.{new-is, calls-are, call-is}
 use Rattle.ball_devices.proofs.Booked.{call-told, balls_are_somewhere, ledgers_follow_bookings, origins_are_by_bookings}
 use Rattle.cascade_rank.specs.Cost.{Cost}
@@ -24,15 +20,13 @@ use Rattle.written_machine.specs.declared.line.Line.{Line}
 use Rattle.written_machine.specs.Counted.{booked_at, bookings, IsLedgerOf, AreOriginsRight, AreCountsRight}
 use Rattle.written_machine.specs.EventStep.{taken, EventStep}
 use Rattle.written_machine.specs.Machine.{Machine, initial, write, told, counts_of}
-use Rattle.written_machine.specs.Moves.{Move, Wrote, Sent, Began, Ended, Asked, Booked as Books, do_move, Licence, MayDo, Does, IsNoBooking, TakesPart, Begins, ordinary, working}
+use Rattle.written_machine.specs.Moves.{Move, Booked as Books, do_move, Licence, MayDo, Does, IsNoBooking, TakesPart, Begins, ordinary, working}
 use Rattle.written_machine.specs.Run.{Stimulus, IsAllowed, begin, IsRun, InEveryRun}
 use Rattle.written_machine.proofs.Does.{start-by, stop-by, book-by, does-keeps}
 use Rattle.written_machine.proofs.Parts.{does-before, does-after, does-begin}
 use Rattle.written_machine.proofs.Keeps.{step-keeps, run-keeps}
 use Rattle.coil_guard.specs.declared.command.Answer.{Answer}
-use Rattle.coil_guard.specs.declared.command.Answer.TheVariants as answers
 use Rattle.coil_guard.specs.declared.command.Command.{Command}
-use Rattle.coil_guard.specs.Asked.{after_asking, answer_asking}
 
 -- ---- one call more
 
@@ -47,10 +41,6 @@ may-more (b ∷ cs) c l may one = (may.0, may-more cs c (after_call b l) may.1 o
 booked-more : (cs : List LedgerCall) (c : LedgerCall) (l : Ledger) → booked_by (cs ++ c ∷ []) l ≡ booked_by cs l ++ booked c (after_calls cs l) ∷ []
 booked-more [] c l = refl
 booked-more (b ∷ cs) c l = ap (λ bs. booked b l ∷ bs) (booked-more cs c (after_call b l))
-
--- what can be booked may be
-there-can : (n : ℕ) (target : BallTarget) → is_target_there n target ≡ true → IsTargetThere n target
-there-can n target is = search rules
 
 may-can : (c : LedgerCall) (l : Ledger) → can_book c l ≡ true → MayBook c l
 may-can c l is = search rules

@@ -1,16 +1,14 @@
 -- Where weights fit, no event step raises the potential. So each cascade ends within the bound.
-use Rattle.std.proofs.Common.{rules, ◌≡◌, ℕ, zero, suc, ◌+◌, ◌≤◌, ◌<◌, Bool, true, false, if◌then◌else◌, Some, None, List, [], ◌∷◌, length, refl, ap, sym, subst, arith, length-append}
+use Rattle.std.proofs.Common.{rules, ◌≡◌, ℕ, zero, suc, ◌+◌, ◌≤◌, ◌<◌, Bool, if◌then◌else◌, Some, None, List, [], ◌∷◌, length, refl, ap, sym, subst, arith, length-append}
 use Rattle.plan_tables.specs.PlanView.{PlanView, work_of}
 use Rattle.plan_tables.specs.declared.entries.EventId.{EventId}
 use Rattle.plan_tables.specs.Valid.{HasEntries, IsValid}
 use Rattle.plan_tables.specs.declared.entries.SwitchId.{SwitchId}
 use Rattle.switch_core.specs.declared.change.Change.{Change}
-use Rattle.switch_core.specs.SwitchStep.{is_taken}
-use Rattle.switch_core.specs.Switches.{kind_at, state_at, after_change, accept, reported}
 use Rattle.switch_core.proofs.Lists.{due-within}
 use Rattle.written_machine.specs.declared.line.Line.{Line}
 use Rattle.written_machine.specs.declared.line.Happening.TheVariants as lines
-use Rattle.cascade_rank.specs.Cost.{price, cost_of_acceptance}
+use Rattle.cascade_rank.specs.Cost.{price}
 use Rattle.cascade_rank.specs.Events.{weight_of}
 use Rattle.cascade_rank.specs.Weights.{IsFitting, bound_of}
 use Rattle.cascade_rank.proofs.Switches.{acceptance-within_bound}
@@ -18,7 +16,7 @@ use Rattle.event_queue.specs.declared.queue.Posted.{Posted}
 use Rattle.event_queue.specs.PlanOrder.{by_priority}
 use Rattle.written_machine.specs.Machine.{Machine, initial, all_do, do_handler}
 use Rattle.written_machine.specs.EventStep.{taken, is_kept, before_handlers, handlers_in, EventStep, EventSteps, after_event}
-use Rattle.written_machine.specs.Run.{switch, device, Stimulus, SwitchChange, Alarm, Wait, IsAllowed, begin, InEveryRun}
+use Rattle.written_machine.specs.Run.{switch, Stimulus, IsAllowed, begin, InEveryRun}
 use Rattle.written_machine.specs.StimulusCost.{cost_if_accepted, cost_of_stimulus, weigh}
 use Rattle.written_machine.specs.GoodRun.{CascadesEnd}
 use Rattle.written_machine.specs.CheckedView.{CheckedView}

@@ -1,5 +1,5 @@
 -- A mode's own five events come in turn: which of them wait, by its phase.
-use Rattle.std.proofs.Common.{◌≡◌, Bool, true, false, ◌==◌, cond, List, [], ◌∷◌, ◌++◌, refl, ap, ◌∙◌, rules}
+use Rattle.std.proofs.Common.{◌≡◌, true, false, ◌==◌, cond, List, [], ◌∷◌, ◌++◌, refl, ap, ◌∙◌, rules}
 use Rattle.std.specs.List.{AllByRecursion}
 use Rattle.plan_tables.specs.PlanView.{PlanView, work_of}
 use Rattle.plan_tables.specs.declared.entries.ModeId.{ModeId}

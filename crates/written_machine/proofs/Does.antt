@@ -1,5 +1,5 @@
 -- What one cost pays for: single changes of the machine, one after another, each by a licence.
-use Rattle.std.proofs.Common.{rules, ◌≡◌, ◌&&◌, ℕ, ℤ, ◌+◌, ◌-◌, ◌≤◌, ◌<◌, inl, inr, Option, None, Some, Bool, true, false, List, [], ◌∷◌, ◌++◌, length, length-append, slice_index_or, slice_set, if◌then◌else◌, map, refl, ap, sym, subst, ◌∙◌, arith}
+use Rattle.std.proofs.Common.{rules, ◌≡◌, ◌&&◌, ℕ, ℤ, ◌+◌, ◌-◌, ◌≤◌, ◌<◌, inl, inr, Option, Some, Bool, true, List, [], ◌∷◌, ◌++◌, length, length-append, slice_index_or, slice_set, if◌then◌else◌, map, refl, ap, sym, subst, ◌∙◌, arith}
 use Rattle.std.proofs.lemmas.Bool.{cases_eq, cases_lt, false≢true}
 use Rattle.std.proofs.lemmas.Option.{none-some}
 use Rattle.std.specs.List.{All, AllByRecursion}
@@ -24,7 +24,7 @@ use Rattle.mode_stack.specs.declared.phase.ModeState.{ModeState}
 use Rattle.mode_stack.specs.ModeStep.{starts, started, stopped, stop_answer}
 use Rattle.mode_stack.specs.Modes.{needs_game, mode_state}
 use Rattle.player_game.specs.GameStep.{GameState, held_if, released, more_balls}
-use Rattle.player_game.specs.Players.{PlayersState, player_at, with_value, after_change}
+use Rattle.player_game.specs.Players.{PlayersState, after_change}
 use Rattle.player_game.specs.Choices.{AreFew}
 use Rattle.player_game.proofs.StayFew.{players_stay_few}
 use Rattle.cascade_rank.proofs.Within.{mode_event-within}
@@ -34,14 +34,14 @@ use Rattle.event_queue.specs.declared.queue.Posted.{Posted}
 use Rattle.coil_guard.specs.declared.command.Command.{Command}
 use Rattle.coil_guard.specs.declared.command.Command.TheVariants as commands
 use Rattle.coil_guard.specs.declared.state.CoilState.{CoilState}
-use Rattle.coil_guard.specs.CoilStep.{off, is_held_by, is_on_at, takes_pulse, pulsed, takes_enable, enabled, disabled}
+use Rattle.coil_guard.specs.CoilStep.{off, is_held_by, takes_enable, enabled}
 use Rattle.coil_guard.specs.Coils.{all_off, coil_at, set_coil}
 use Rattle.coil_guard.specs.Limits.{no_limits}
 use Rattle.plan_tables.proofs.Owners.{is_owner-same}
-use Rattle.coil_guard.specs.Asked.{limits_of, after_asking, answer_asking}
+use Rattle.coil_guard.specs.Asked.{limits_of, after_asking}
 use Rattle.ball_devices.specs.Bookings.{LedgerCall, after_call, booked, can_book}
 use Rattle.written_machine.specs.declared.line.Happening.TheVariants as lines
-use Rattle.written_machine.specs.Machine.{told, Machine, write, post, set_ledger, counts_of, book, set_mode, set_game, home_of, has_game, is_post, post_if, start_mode, stop_mode, all_do, world_of, device_state, device_at, called}
+use Rattle.written_machine.specs.Machine.{Machine, write, post, set_ledger, counts_of, book, set_mode, set_game, has_game, is_post, post_if, start_mode, stop_mode, all_do, world_of, device_state, device_at, called}
 use Rattle.written_machine.specs.Devices.{HasDevices}
 use Rattle.written_machine.specs.StimulusCost.{weigh}
 use Rattle.written_machine.specs.Moves.{Move, Wrote, Sent, Switched, Began, Ended, Marked, Released, Turned, Asked, Booked, Varied, Stepped, AddedBalls, do_move, cost_of_move, MayHold, IsListed, Licence, MayDo, Does, quiet, moved, both, less, Grows}

@@ -1,16 +1,15 @@
 -- The ball devices that may be told of a ball that has arrived, and the first trough.
-use Rattle.std.proofs.Common.{rules, ◌≡◌, suc, ◌<◌, Bool, true, false, cond, Some, List, [], ◌∷◌, length, refl, sym, subst, inl, inr, arith, if◌then◌else◌, None}
+use Rattle.std.proofs.Common.{rules, ◌≡◌, suc, ◌<◌, Bool, true, false, cond, Some, List, [], ◌∷◌, length, refl, subst, arith}
 use Rattle.std.specs.Prelude.{Contains, find}
 use Rattle.std.specs.List.{All}
-use Rattle.std.proofs.lemmas.Bool.{cases_lt, false≢true}
+use Rattle.std.proofs.lemmas.Bool.{cases_lt}
 use Rattle.std.proofs.lemmas.List.{get_or_past}
 use Rattle.std.proofs.lemmas.List.Elements.{All-filter, All-get_or, filter_passes}
 use Rattle.std.proofs.lemmas.Option.{none-some}
-use Rattle.plan_tables.specs.PlanView.{PlanView, feeders_of, feeds, first_trough, is_trough, no_row, row_at, row_numbers, multiball_rows, save_rows, is_save, is_multiball}
+use Rattle.plan_tables.specs.PlanView.{PlanView, feeders_of, feeds, first_trough, is_trough, row_at, row_numbers, multiball_rows, save_rows, is_save, is_multiball}
 use Rattle.plan_tables.specs.declared.devices.BallTarget.{BallTarget}
 use Rattle.plan_tables.specs.declared.devices.RowId.{RowId}
 use Rattle.plan_tables.specs.declared.devices.Settings.{Settings}
-use Rattle.plan_tables.specs.declared.devices.Settings.TheVariants.{BallDevice}
 use Rattle.plan_tables.specs.declared.entries.Owner.{Owner}
 use Rattle.plan_tables.specs.declared.entries.Owner.TheVariants as owners
 use Rattle.plan_tables.proofs.Owners.{row_numbers-within}
@@ -19,7 +18,6 @@ use Rattle.written_machine.specs.Devices.{ActsAreOwn}
 use Rattle.plan_tables.specs.declared.devices.Telling.{Telling}
 use Rattle.plan_tables.specs.declared.devices.Telling.TheVariants.{Arrived, Wanted}
 use Rattle.written_machine.specs.Machine.{Machine, device_at, first_away, is_device_away, told_device, first_active_save, is_active_save}
-use Rattle.player_game.specs.GameStep.{is_ball_on}
 
 -- ---- what is found in a list
 

@@ -1,36 +1,24 @@
 -- What the machine does only adds to its lines and waiting events.
-use Rattle.std.proofs.Common.{rules, ℕ, ℤ, ◌≤◌, ◌<◌, Bool, true, false, if◌then◌else◌, Option, None, Some, List, [], ◌∷◌, length, length-append, arith, suc, zero}
-use Rattle.std.specs.Prelude.{◌&&◌}
-use Rattle.plan_tables.specs.PlanView.{PlanView, game_event, target_of, work_of}
+use Rattle.std.proofs.Common.{rules, ℕ, ℤ, ◌≤◌, ◌<◌, Bool, Option, List, [], ◌∷◌, length, length-append, arith}
+use Rattle.plan_tables.specs.PlanView.{PlanView, work_of}
 use Rattle.plan_tables.specs.declared.devices.BallTarget.TheVariants.{Device}
-use Rattle.plan_tables.specs.declared.entries.GameEvent.TheVariants.{BallDrain}
-use Rattle.player_game.specs.GameStep.{is_ball_on, missing, more_balls}
 use Rattle.ball_devices.specs.declared.booking.Origin.{Origin}
 use Rattle.ball_devices.specs.declared.booking.Origin.TheVariants.{Awaited}
-use Rattle.ball_devices.specs.Ledger.{origin_of}
 use Rattle.ball_devices.specs.Bookings.{LedgerCall}
-use Rattle.ball_devices.specs.Bookings as calls_of_ledger
 use Rattle.plan_tables.specs.declared.entries.EventId.{EventId}
 use Rattle.plan_tables.specs.declared.entries.BindingId.{BindingId}
 use Rattle.plan_tables.specs.declared.entries.Owner.{Owner}
-use Rattle.plan_tables.specs.declared.entries.Owner.TheVariants as owners
-use Rattle.plan_tables.specs.declared.entries.Action.{Action}
-use Rattle.plan_tables.specs.declared.entries.Action.TheVariants.{Post, Pulse, Enable, Disable, Change as ChangeVariable, Enter, Leave, Lose, Arrive, Request, AddBalls}
 use Rattle.plan_tables.specs.declared.entries.VariableId.{VariableId}
-use Rattle.player_game.specs.Players.{changed_to, after_change}
 use Rattle.plan_tables.specs.declared.devices.RowId.{RowId}
-use Rattle.device_objects.specs.declared.device.Call.TheVariants as calls
 use Rattle.coil_guard.specs.declared.command.Command.{Command}
-use Rattle.coil_guard.specs.declared.command.Command.TheVariants as commands
-use Rattle.coil_guard.specs.Asked.{answer_asking}
 use Rattle.written_machine.specs.declared.line.Line.{Line}
 use Rattle.written_machine.specs.declared.line.Happening.TheVariants as lines
 use Rattle.event_queue.specs.declared.queue.Posted.{Posted}
 use Rattle.plan_tables.specs.declared.devices.Telling.{Telling}
-use Rattle.plan_tables.specs.declared.devices.Telling.TheVariants.{Arrived, Wanted}
-use Rattle.written_machine.specs.Machine.{Machine, post, ask_coil, told, all_do, set_players, tell_change, book, drain_if, after_entry, do_action_by, want_balls, set_game, do_handler}
+use Rattle.plan_tables.specs.declared.devices.Telling.TheVariants.{Arrived}
+use Rattle.written_machine.specs.Machine.{Machine, post, ask_coil, all_do, tell_change, book, drain_if, after_entry, do_handler}
 use Rattle.written_machine.specs.EventStep.{taken, is_kept, before_handlers, after_event}
-use Rattle.written_machine.specs.Moves.{Booked, Grows, AddedBalls}
+use Rattle.written_machine.specs.Moves.{Booked, Grows}
 use Rattle.written_machine.proofs.Does.{grows-does, grows-move}
 use Rattle.written_machine.proofs.Parts.{does-handler, does-before, does-after}
 

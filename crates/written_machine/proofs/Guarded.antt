@@ -1,7 +1,5 @@
 -- What is sent to coils is within their limits, and nothing is skipped for a limit, in every run.
-use Rattle.std.proofs.Common.{rules, ◌≡◌, ℕ, ◌≤◌, ◌⊎◌, inl, inr, Bool, true, false, not, if◌then◌else◌, None, Some, List, [], ◌∷◌, ◌++◌, length, refl, sym, ap, ◌∙◌, subst, append_assoc, arith}
-use Rattle.std.specs.Prelude.{◌&&◌, nat_le}
-use Rattle.std.proofs.lemmas.Bool.{false≢true, le-leb}
+use Rattle.std.proofs.Common.{rules, ◌≡◌, ℕ, ◌≤◌, Bool, true, false, List, [], ◌∷◌, ◌++◌, refl, sym, ap, ◌∙◌, subst, append_assoc, arith}
 use Rattle.std.proofs.lemmas.Grind.{flat_map-append}
 use Rattle.std.proofs.lemmas.List.{append-nil}
 use Rattle.plan_tables.specs.PlanView.{PlanView, work_of}
@@ -14,15 +12,13 @@ use Rattle.coil_guard.specs.declared.command.Answer.{Answer}
 use Rattle.coil_guard.specs.declared.command.Answer.TheVariants as answers
 use Rattle.coil_guard.specs.declared.state.CoilState.{CoilState}
 use Rattle.plan_tables.specs.declared.entries.CoilLimits.{CoilLimits}
-use Rattle.coil_guard.specs.Limits.{limits_at, is_pulse_within, is_hold_within, IsWithin}
-use Rattle.coil_guard.specs.CoilStep.{is_on_at, takes_pulse, takes_enable}
-use Rattle.coil_guard.specs.Coils.{coil_at}
-use Rattle.coil_guard.specs.SentCommands.{Sending, is_on, is_held, is_held_for, is_resting, IsOnThroughout}
-use Rattle.coil_guard.specs.Calls.{CoilCall, after_call, sent_by, sent_as, sent_if, is_pulse_due, is_enable_due, due_by, pulse_sent, enable_sent, disable_sent}
+use Rattle.coil_guard.specs.Limits.{limits_at, IsWithin}
+use Rattle.coil_guard.specs.SentCommands.{Sending, is_held_for, IsOnThroughout}
+use Rattle.coil_guard.specs.Calls.{CoilCall, after_call, sent_by, sent_if, due_by}
 use Rattle.coil_guard.specs.Calls as calls_of
 use Rattle.coil_guard.specs.Follows.{Follows}
 use Rattle.coil_guard.specs.Asked.{limits_of, after_asking, answer_asking}
-use Rattle.coil_guard.proofs.Following.{new_follows, calls_follow, later_follows, followers_send_what_is_due}
+use Rattle.coil_guard.proofs.Following.{new_follows, calls_follow}
 use Rattle.cascade_rank.specs.Cost.{Cost}
 use Rattle.written_machine.specs.declared.line.Line.{Line}
 use Rattle.written_machine.specs.declared.line.Happening.{Happening}
@@ -33,8 +29,8 @@ use Rattle.written_machine.specs.EventStep.{taken, EventStep}
 use Rattle.written_machine.specs.Run.{Stimulus, moment_of, IsAllowed, IsNothingLate, arrived, begin, IsRun}
 use Rattle.written_machine.specs.CoilActions.{ActionsKeepLimits}
 use Rattle.written_machine.specs.Sent.{sent_at, sent_in, sendings, IsIdle, AreSkippedIdle}
-use Rattle.written_machine.specs.Moves.{Move, Wrote, Sent, Began, Ended, Asked, Booked, do_move, Licence, MayDo, Does, IsNoCommand, TakesPart, Begins, ordinary, working}
-use Rattle.written_machine.proofs.Does.{start-by, stop-by, book-by, does-keeps}
+use Rattle.written_machine.specs.Moves.{Move, Wrote, Began, Ended, Asked, Booked, do_move, Licence, MayDo, Does, IsNoCommand, TakesPart, Begins, ordinary, working}
+use Rattle.written_machine.proofs.Does.{book-by, does-keeps}
 use Rattle.written_machine.proofs.Parts.{does-before, does-after, does-begin}
 use Rattle.written_machine.proofs.Held.{IsHolding}
 use Rattle.written_machine.proofs.Keeps.{step-keeps, run-keeps}
@@ -84,15 +80,6 @@ sendings-push ls l = flat_map-append sent_in ls (l ∷ []) ∙ ap (λ ss. sendin
 
 none-due : (b : Bool) (p : Sending) → sent_if b p ≡ [] → b ≡ false
 none-due b p is = search rules
-
-both-true : (a b : Bool) → a ≡ true → b ≡ true → (a && b) ≡ true
-both-true a b one other = ap (λ x. x && b) one ∙ other
-
-why-not : (held resting within : Bool) → (not held && (not resting && within)) ≡ false → within ≡ true → (held ≡ true) ⊎ (resting ≡ true)
-why-not held resting within none is = search rules
-
-why-held : (held within : Bool) → (not held && within) ≡ false → within ≡ true → held ≡ true
-why-held held within none is = search rules
 
 module _ (limits : List CoilLimits) (sent : List Sending) (s : List CoilState) (now : ℕ) (f : Follows limits sent s now) (owner : Owner) where
   -- what is due is nothing

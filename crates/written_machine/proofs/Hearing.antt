@@ -1,10 +1,9 @@
 -- Whether a mode may be heard, read off the lines that were written and the events that wait.
-use Rattle.std.proofs.Common.{arith, ◌≡◌, ℕ, ◌<◌, ◌⊎◌, inl, inr, Bool, true, false, ◌==◌, cond, List, [], ◌∷◌, ◌++◌, length, refl, ap, sym, subst, ◌∙◌, rules}
+use Rattle.std.proofs.Common.{◌≡◌, ℕ, ◌<◌, ◌⊎◌, inl, inr, Bool, true, false, ◌==◌, cond, List, [], ◌∷◌, ◌++◌, length, refl, ap, sym, subst, rules}
 use Rattle.std.specs.List.{AllByRecursion}
-use Rattle.std.proofs.lemmas.Bool.{cases_eq, eq-eqb, ne_eqb}
 use Rattle.std.proofs.lemmas.List.Elements.{All-from_recursion}
 use Rattle.plan_tables.specs.PlanView.{PlanView, mode_event, work_of}
-use Rattle.plan_tables.specs.Valid.{IsValid, IsWorkAt}
+use Rattle.plan_tables.specs.Valid.{IsValid}
 use Rattle.plan_tables.specs.declared.entries.ModeId.{ModeId}
 use Rattle.plan_tables.specs.declared.entries.ModeEvent.{ModeEvent}
 use Rattle.plan_tables.specs.declared.entries.ModeEvent.TheVariants.{WillStart, Started, Stopped}
@@ -90,9 +89,6 @@ module _ (plan : PlanView) (valid : IsValid plan) (m : ModeId) (within : m.0 < l
   fine-at : (on : Bool) (before : List Line) (line : Line) (after : List Line) → IsFine m on (all_written plan (before ++ line ∷ after)) → line.owner ≡ owners.Mode m → heard m on (all_written plan before) ≡ true
   fine-at on [] line after h is = h.0 is
   fine-at on (l ∷ before) line after h is = fine-at (heard_after m on (work_written plan l.happening)) before line after h.1 is
-
-  event-heard : (on : Bool) (which : ModeEvent) → heard_at which on ≡ true → (which ≡ Started) ⊎ ((on ≡ true) × (which ≡ Stopped → ⊥))
-  event-heard on which h = search rules
 
   abbrev event_in : Work → ModeEvent
   event_in (Mode k which) = which

@@ -1,8 +1,8 @@
 -- Who holds coils, after they are asked and after they are released.
-use Rattle.std.proofs.Common.{rules, ◌≡◌, ℕ, zero, suc, ◌<◌, ◌≤◌, ◌⊎◌, inl, inr, Bool, true, false, if◌then◌else◌, Option, None, Some, is_some, List, [], ◌∷◌, length, refl, sym, ap, ◌∙◌, subst, arith}
-use Rattle.std.specs.Prelude.{Contains, ◌||◌, nat_lt}
-use Rattle.std.proofs.lemmas.Bool.{cases_eq, cases_lt, false≢true}
-use Rattle.std.proofs.lemmas.List.{length-map, length-set, get_or-map, get_or_past, get_or-set_same, get_or-set_other, set_past}
+use Rattle.std.proofs.Common.{rules, ◌≡◌, ℕ, zero, suc, ◌<◌, ◌≤◌, ◌⊎◌, inl, inr, Bool, true, false, if◌then◌else◌, List, [], ◌∷◌, length, refl, sym, ap, ◌∙◌, arith}
+use Rattle.std.specs.Prelude.{Contains}
+use Rattle.std.proofs.lemmas.Bool.{cases_eq, cases_lt}
+use Rattle.std.proofs.lemmas.List.{length-map, get_or-map, get_or_past, get_or-set_other, set_past}
 use Rattle.std.proofs.lemmas.List.FromFn.{length-map-range_with_len, get_or-map-range_with_len}
 use Rattle.plan_tables.specs.PlanView.{PlanView, coil_numbers}
 use Rattle.plan_tables.specs.declared.entries.CoilId.{CoilId}
@@ -12,8 +12,7 @@ use Rattle.coil_guard.specs.declared.command.Command.{Command}
 use Rattle.coil_guard.specs.declared.command.Command.TheVariants as commands
 use Rattle.coil_guard.specs.declared.state.CoilState.{CoilState}
 use Rattle.coil_guard.specs.Limits.{no_limits}
-use Rattle.coil_guard.specs.Owners.{is_holder}
-use Rattle.coil_guard.specs.CoilStep.{off, is_held_by, is_on_at, takes_pulse, pulsed, takes_enable, enabled, disabled}
+use Rattle.coil_guard.specs.CoilStep.{off, is_held_by, is_on_at}
 use Rattle.coil_guard.specs.Coils.{all_off, coil_at, set_coil}
 use Rattle.coil_guard.specs.Asked.{limits_of, after_asking}
 use Rattle.written_machine.specs.Machine.{Machine, all_do, ask_coil, release_coil, release_coils}

@@ -1,21 +1,18 @@
 -- Ball saves that are active, and multiballs that are running: what the machine's work does with those that are not.
-use Rattle.std.proofs.Common.{arith, rules, ◌≡◌, ℕ, Bool, true, false, List, [], refl, ◌∙◌, sym, ap, if◌then◌else◌, ◌∷◌}
-use Rattle.std.proofs.lemmas.Bool.{false≢true}
+use Rattle.std.proofs.Common.{rules, ◌≡◌, ℕ, Bool, true, false, []}
 use Rattle.std.proofs.lemmas.List.{set-get_or}
-use Rattle.plan_tables.specs.PlanView.{PlanView, is_multiball, no_row, row_at}
+use Rattle.plan_tables.specs.PlanView.{PlanView, is_multiball, row_at}
 use Rattle.plan_tables.specs.declared.devices.RowId.{RowId}
 use Rattle.plan_tables.specs.declared.devices.Act.TheVariants as acts
 use Rattle.plan_tables.specs.declared.devices.Settings.{Settings}
-use Rattle.plan_tables.specs.declared.devices.Settings.TheVariants as kinds
 use Rattle.device_objects.specs.declared.device.Call.TheVariants as calls
 use Rattle.device_objects.specs.declared.state.DeviceState.{DeviceState}
 use Rattle.device_objects.specs.declared.state.DeviceState.TheVariants as states
-use Rattle.device_objects.specs.declared.state.MultiballState.{MultiballState}
 use Rattle.device_objects.specs.declared.state.World.{World}
-use Rattle.device_objects.specs.DeviceStep.{device_step, first_state, multiball_answer}
+use Rattle.device_objects.specs.DeviceStep.{device_step, first_state}
 use Rattle.device_objects.specs.Laws.{HasShape}
 use Rattle.device_objects.proofs.Inactive.{IsInactive, first-inactive, stopped-inactive}
-use Rattle.written_machine.specs.Machine.{Machine, set_device, world_of, device_at, do_answer, call_device, is_active_save}
+use Rattle.written_machine.specs.Machine.{Machine, device_at, call_device, is_active_save}
 
 -- whether it is an active ball save, or a running multiball
 abbrev pub is_on : DeviceState → Bool
@@ -37,9 +34,6 @@ pub stopped-off : (settings : Settings) (now : ℕ) (world : World) (state : Dev
 stopped-off settings now world state shape = inactive-off (device_step settings calls.ModeStop now world state).0 (stopped-inactive settings now world state shape)
 
 -- ---- a multiball that is not running does not end
-
-idle-end : (running : Bool) → running ≡ false → (s : MultiballState) → multiball_answer (if running then (record { running = false }, 1 ∷ []) else (s, [])) ≡ (states.Multiball s, [])
-idle-end running is s = search rules
 
 end-idle : (settings : Settings) (now : ℕ) (world : World) (state : DeviceState) → is_multiball settings ≡ true → is_on state ≡ false
     → device_step settings (calls.Act acts.End) now world state ≡ (state, [])

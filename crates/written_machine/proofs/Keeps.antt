@@ -1,6 +1,5 @@
 -- What the parts of an event step and the beginning of a stimulus keep, each run keeps, with the trace so far.
 use Rattle.std.proofs.Common.{rules, ◌≡◌, ℕ, zero, suc, Bool, List, [], ◌∷◌, ◌++◌, ap, sym, ◌∙◌, subst, append_assoc}
-use Rattle.std.proofs.lemmas.List.{append-nil}
 use Rattle.plan_tables.specs.PlanView.{PlanView}
 use Rattle.written_machine.specs.declared.line.Line.{Line}
 use Rattle.cascade_rank.specs.Cost.{Cost}

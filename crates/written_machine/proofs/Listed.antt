@@ -14,7 +14,6 @@ use Rattle.plan_tables.specs.declared.entries.Binding.{Binding}
 use Rattle.plan_tables.specs.declared.entries.CoilId.{CoilId}
 use Rattle.plan_tables.specs.declared.entries.ListId.{ListId}
 use Rattle.plan_tables.specs.declared.entries.Owner.{Owner}
-use Rattle.plan_tables.specs.declared.entries.Owner.TheVariants.{Machine, Mode}
 use Rattle.plan_tables.specs.declared.entries.Target.TheVariants.{Run}
 
 pub same-is_owner : (owner : Owner) → is_owner owner owner ≡ true

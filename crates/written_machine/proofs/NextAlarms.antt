@@ -1,10 +1,9 @@
 -- The next alarm that is computed is the next alarm, and nothing is due by a moment just where it is computed so.
-use Rattle.std.proofs.Common.{rules, ◌≡◌, ℕ, ◌<◌, ◌≤◌, ◌⊎◌, inl, inr, Bool, true, false, nat_le, cond, Option, Some, None, option_map, List, length, map, refl, ap, sym, subst, ◌∙◌, arith}
+use Rattle.std.proofs.Common.{rules, ◌≡◌, ℕ, ◌<◌, ◌≤◌, ◌⊎◌, inl, inr, true, false, nat_le, Option, Some, None, option_map, List, map, refl, ap, sym, subst, ◌∙◌, arith}
 use Rattle.std.specs.Option.{option_map_or}
-use Rattle.std.proofs.lemmas.Bool.{cases_lt, cond_both, cond-true, cond-false, leb-true, leb-false, le-leb, lt-leb}
+use Rattle.std.proofs.lemmas.Bool.{cases_lt, cond_both, cond-true, leb-true, leb-false, le-leb, lt-leb}
 use Rattle.std.proofs.lemmas.List.{get_or_past, get_or-map, length-map}
 use Rattle.std.proofs.lemmas.Option.{none-some, same_Some}
-use Rattle.plan_tables.specs.PlanView.{no_row}
 use Rattle.plan_tables.specs.declared.entries.SwitchId.{SwitchId}
 use Rattle.plan_tables.specs.declared.devices.RowId.{RowId}
 use Rattle.switch_core.specs.Switches.{IsNextDue, next_due}
@@ -25,9 +24,6 @@ next_alarm-due s at n h = record { due = h.due; least = least }
     least m moment is = h.least (switch m) moment is
 
 -- ---- there is one at most
-
-not_after-same : (a b : Source) → IsNotAfter a b → IsNotAfter b a → a ≡ b
-not_after-same a b h k = search rules
 
 pub next-unique : (s : Machine) (at other : ℕ) (source first : Source) → IsNextAlarm s at source → IsNextAlarm s other first → (at ≡ other) × (source ≡ first)
 next-unique s at other source first a b = search rules

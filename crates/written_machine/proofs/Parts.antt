@@ -1,13 +1,13 @@
 -- What each part of the machine does, and by which licence.
-use Rattle.std.proofs.Common.{rules, ◌≡◌, ℕ, ℤ, ◌<◌, ◌≤◌, get_or, if◌then◌else◌, Bool, true, false, Option, Some, None, List, [], length, refl, sym, ap, subst, inl, inr, arith, suc, zero, ◌==◌, ◌∙◌}
+use Rattle.std.proofs.Common.{rules, ◌≡◌, ℕ, ℤ, ◌<◌, ◌≤◌, get_or, if◌then◌else◌, Bool, true, false, Option, Some, None, List, [], length, refl, sym, subst, inl, inr, arith, suc, zero, ◌==◌}
 use Rattle.std.specs.List.{All, range_with_len}
 use Rattle.std.specs.Prelude.{◌&&◌, Contains}
 use Rattle.std.proofs.lemmas.Bool.{cases_lt}
 use Rattle.std.proofs.lemmas.List.{get_or_past}
 use Rattle.std.proofs.lemmas.List.Elements.{All-get_or, All-nil, filter_passes}
 use Rattle.std.proofs.lemmas.List.Sorted.{All-permutation}
-use Rattle.plan_tables.specs.PlanView.{PlanView, act_of_listener, actions_of, coil_numbers, listeners_of, no_row, no_switch, no_binding, switch_at, posts_of, actions_at, binding_at, is_owner, list_of_row, places_of, game_event, may_hold_ball_end, mode_event, row_at, row_numbers, rows_of, target_of, work_of, act_told, multiball_rows}
-use Rattle.plan_tables.specs.Valid.{HasEntries, HasGame, IsEventWithin, IsActionWithin, IsBindingWithin, IsTargetWithin, IsWorkAt}
+use Rattle.plan_tables.specs.PlanView.{PlanView, act_of_listener, actions_of, coil_numbers, listeners_of, no_row, no_switch, no_binding, switch_at, posts_of, actions_at, binding_at, is_owner, list_of_row, game_event, may_hold_ball_end, mode_event, row_at, row_numbers, rows_of, target_of, work_of, act_told, multiball_rows}
+use Rattle.plan_tables.specs.Valid.{HasEntries, HasGame, IsEventWithin, IsActionWithin, IsTargetWithin, IsWorkAt}
 use Rattle.plan_tables.specs.declared.entries.EventId.{EventId}
 use Rattle.plan_tables.specs.declared.entries.ListId.{ListId}
 use Rattle.plan_tables.specs.declared.entries.BindingId.{BindingId}
@@ -49,12 +49,12 @@ use Rattle.switch_core.specs.declared.change.Change.{Change}
 use Rattle.switch_core.specs.SwitchStep.{changed, fired}
 use Rattle.switch_core.specs.Switches.{kind_at, state_at, after_change, reported_by_change, accept, reported}
 use Rattle.mode_stack.specs.ModeStep.{entered, ended}
-use Rattle.mode_stack.specs.Modes.{mode_state, running_of}
+use Rattle.mode_stack.specs.Modes.{mode_state}
 use Rattle.written_machine.specs.declared.line.Happening.TheVariants as lines
 use Rattle.cascade_rank.specs.Cost.{Cost, Lines, Both, Greater, each_of, cost_of_post, cost_of_drain, cost_of_target, cost_of_binding, led_by, led_by_stopped, cost_if_led, cost_of_choice}
 use Rattle.cascade_rank.proofs.Games.{game_event-below, game_has-event}
 use Rattle.cascade_rank.proofs.Within.{posts-below, mode_event-within}
-use Rattle.event_queue.specs.Handlers.{runs_at, handlers, IsHandlerOrder}
+use Rattle.event_queue.specs.Handlers.{IsHandlerOrder}
 use Rattle.plan_tables.specs.declared.devices.Telling.{Telling}
 use Rattle.plan_tables.specs.declared.devices.Telling.TheVariants.{Arrived, Wanted}
 use Rattle.written_machine.specs.Machine.{Machine, write, post, post_if, release_ball_end, drop_hold, ask_coil, release_coil, release_coils, set_switches, set_mode, set_device, set_players, all_do, tell_change, post_game, write_final, write_finals, do_game, book, drain_if, after_entry, do_action_by, do_list_by, do_answer_by, call_device_by, tell_nobody, told_device, tell_device, tell_first, do_list, do_answer, world_of, device_at, called, call_device, call_devices, tell_listener, tell_listeners, confirm_on_playfield, ask_ball, do_target, do_handler, do_accepted, do_if_accepted, want_balls, step_game, end_multiballs, drain_ball, first_active_save, set_game}
@@ -67,7 +67,7 @@ use Rattle.written_machine.specs.FreePosts.{IsFree, IsFreeAction, IsFreeSwitch, 
 use Rattle.written_machine.proofs.Feeding.{told_device-is}
 use Rattle.written_machine.proofs.Listed.{binding-among, row-among, contains-at, enable-listed}
 use Rattle.written_machine.proofs.Does.{each_now, all_do-does, all_do-does_now, does-weaker}
-use Rattle.written_machine.specs.Moves.{Move, Wrote, Sent, Switched, Began, Ended, Marked, Released, Turned, Asked, Booked, Varied, Stepped, AddedBalls, step_now, do_move, MayHold, Licence, MayDo, IsFreeThere, Does, quiet, moved, both, less, TakesPart, IsMachine, ordinary, MayHandle, Begins, MayBegin, working, MayWork}
+use Rattle.written_machine.specs.Moves.{Move, Wrote, Sent, Switched, Began, Ended, Marked, Released, Turned, Asked, Booked, Varied, Stepped, AddedBalls, step_now, do_move, MayHold, Licence, MayDo, IsFreeThere, Does, quiet, moved, both, less, IsMachine, ordinary, MayHandle, Begins, MayBegin, working, MayWork}
 use Rattle.player_game.specs.Choices.{is_drain}
 use Rattle.player_game.proofs.DrainEvent.{drain-is}
 

@@ -1,7 +1,6 @@
 -- The steps that the controller takes are event steps, and more of them than are needed change nothing.
 use Rattle.std.proofs.Common.{rules, ◌≡◌, ℕ, zero, suc, ◌+◌, ◌-◌, ◌≤◌, List, [], ◌∷◌, ◌++◌, length, refl, ap, sym, ◌∙◌, subst, inl, inr, ◌⊎◌, arith, append_assoc}
 use Rattle.std.proofs.lemmas.Bool.{cases_lt}
-use Rattle.std.proofs.lemmas.List.{append-nil}
 use Rattle.plan_tables.specs.PlanView.{PlanView}
 use Rattle.written_machine.specs.declared.line.Line.{Line}
 use Rattle.event_queue.specs.declared.queue.Posted.{Posted}

@@ -1,22 +1,20 @@
 -- What things cost in a state is within what they cost in any, where each device has a state of its shape.
-use Rattle.std.proofs.Common.{rules, ◌≡◌, ℕ, ℤ, ◌+◌, ◌<◌, ◌≤◌, Bool, true, false, if◌then◌else◌, cond, filter, inl, inr, Option, None, Some, List, [], ◌∷◌, length, refl, ap, sym, subst, arith, zero, suc, ◌==◌, ◌∙◌}
+use Rattle.std.proofs.Common.{rules, ◌≡◌, ℕ, ℤ, ◌+◌, ◌<◌, ◌≤◌, Bool, true, false, if◌then◌else◌, cond, filter, inl, inr, Option, None, Some, List, [], ◌∷◌, length, refl, ap, sym, subst, arith, ◌==◌}
 use Rattle.std.specs.Prelude.{◌&&◌, IsSome, Contains}
-use Rattle.std.specs.List.{All, list_any, range_with_len}
+use Rattle.std.specs.List.{All, list_any}
 use Rattle.std.proofs.lemmas.Bool.{cases_lt}
 use Rattle.std.proofs.lemmas.List.{get_or_past}
 use Rattle.std.proofs.lemmas.List.FromFn.{length-range_with_len}
 use Rattle.std.proofs.lemmas.List.Elements.{All-get_or, All-head, All-nil, All-tail}
-use Rattle.plan_tables.specs.PlanView.{PlanView, act_of_listener, actions_at, actions_of, coil_numbers, feeders_of, first_trough, game_event, is_enable_of, list_of_row, listeners_of, no_switch, binding_at, row_at, row_numbers, rows_of, switch_at, target_of, multiball_rows, save_rows, act_told, work_of}
+use Rattle.plan_tables.specs.PlanView.{PlanView, act_of_listener, actions_at, actions_of, coil_numbers, feeders_of, first_trough, is_enable_of, list_of_row, listeners_of, no_switch, row_at, row_numbers, rows_of, switch_at, target_of, multiball_rows, save_rows, act_told, work_of}
 use Rattle.plan_tables.specs.declared.entries.Action.{Action}
 use Rattle.plan_tables.specs.declared.entries.Action.TheVariants.{Disable, Change as ChangeVariable, Enter, Leave, Lose, Arrive, Request, AddBalls}
 use Rattle.plan_tables.specs.declared.entries.ListId.{ListId}
 use Rattle.plan_tables.specs.declared.entries.VariableId.{VariableId}
 use Rattle.plan_tables.specs.declared.entries.GameEvent.TheVariants.{BallDrain}
 use Rattle.plan_tables.specs.declared.devices.Act.TheVariants.{Save, End}
-use Rattle.plan_tables.specs.declared.devices.BallTarget.TheVariants.{Playfield, Device}
+use Rattle.plan_tables.specs.declared.devices.BallTarget.TheVariants.{Playfield}
 use Rattle.ball_devices.specs.declared.booking.Origin.{Origin}
-use Rattle.ball_devices.specs.declared.booking.Origin.TheVariants.{Awaited}
-use Rattle.ball_devices.specs.Ledger.{origin_of}
 use Rattle.ball_devices.specs.Bookings as calls_of_ledger
 use Rattle.plan_tables.specs.Valid.{HasEntries, IsListenerWithin}
 use Rattle.plan_tables.specs.declared.entries.CoilId.{CoilId}
@@ -27,7 +25,7 @@ use Rattle.coil_guard.specs.declared.command.Command.TheVariants as commands
 use Rattle.coil_guard.specs.CoilStep.{is_held_by}
 use Rattle.coil_guard.specs.Coils.{coil_at}
 use Rattle.switch_core.specs.declared.change.Change.{Change}
-use Rattle.switch_core.specs.Switches.{after_change, reported_by_change, accept, reported}
+use Rattle.switch_core.specs.Switches.{accept, reported}
 use Rattle.written_machine.specs.declared.line.Happening.TheVariants as lines
 use Rattle.plan_tables.specs.declared.entries.EventId.{EventId}
 use Rattle.plan_tables.specs.declared.entries.BindingId.{BindingId}
@@ -39,10 +37,9 @@ use Rattle.plan_tables.specs.declared.entries.Work.{Work}
 use Rattle.plan_tables.specs.declared.entries.Work.TheVariants.{Nothing, Mode, Game}
 use Rattle.plan_tables.specs.declared.entries.GameEvent.{GameEvent}
 use Rattle.plan_tables.specs.declared.entries.GameRules.{GameRules}
-use Rattle.player_game.specs.Players.{is_met, changed_to, after_change as players_after_change, most_players}
-use Rattle.player_game.specs.GameStep.{GameStep, game_step, is_ball_on, missing, more_balls, in_play}
-use Rattle.player_game.specs.Choices.{choices, tells_scores, AreFew, is_drain}
-use Rattle.player_game.proofs.Chosen.{steps_are_choices}
+use Rattle.player_game.specs.Players.{after_change as players_after_change, most_players}
+use Rattle.player_game.specs.GameStep.{GameStep, game_step, in_play}
+use Rattle.player_game.specs.Choices.{choices, tells_scores, AreFew}
 use Rattle.player_game.proofs.StayFew.{players_stay_few}
 use Rattle.plan_tables.specs.declared.devices.RowId.{RowId}
 use Rattle.plan_tables.proofs.Owners.{rows_of-within}
@@ -51,7 +48,6 @@ use Rattle.device_objects.specs.declared.device.Call.TheVariants as calls
 use Rattle.device_objects.specs.Outcomes.{outcomes}
 use Rattle.device_objects.specs.Laws.{MayCome}
 use Rattle.device_objects.proofs.Answered.{answers_are_outcomes}
-use Rattle.device_objects.proofs.Moments.{stopped-silent}
 use Rattle.mode_stack.specs.ModeStep.{entered}
 use Rattle.mode_stack.specs.Modes.{mode_state}
 use Rattle.cascade_rank.specs.Cost.{Cost, Lines, price, each_of, dearest_of, cost_of_acceptance, cost_of_action_by, cost_of_list_by, cost_of_answer_by, cost_of_call_by, cost_of_nobody, cost_of_told, cost_of_telling, cost_of_arrival, cost_of_scores, cost_of_list, cost_of_call, cost_of_choice, cost_of_trough, cost_of_request, cost_of_playfield_switch, cost_of_game, cost_of_listener, cost_of_releases, cost_of_target, cost_of_starts, led_by, cost_if_led}
@@ -60,18 +56,17 @@ use Rattle.cascade_rank.proofs.Prices.{price-dearest}
 use Rattle.cascade_rank.proofs.Rows.{length-rows, row_of}
 use Rattle.plan_tables.specs.declared.devices.Telling.{Telling}
 use Rattle.plan_tables.specs.declared.devices.Telling.TheVariants.{Arrived, Wanted}
-use Rattle.written_machine.specs.Machine.{Machine, write, post, set_switches, set_mode, set_device, set_players, all_do, ask_coil, release_coil, tell_change, book, drain_if, after_entry, do_action_by, do_list_by, do_answer_by, call_device_by, first_away, tell_nobody, tell_device, tell_first, want_balls, step_game, first_active_save, set_game, world_of, device_at, called, call_device, call_devices, tell_listener, tell_listeners, home_of, write_finals, do_handler}
+use Rattle.written_machine.specs.Machine.{Machine, write, set_switches, set_mode, set_device, all_do, ask_coil, release_coil, tell_change, after_entry, do_action_by, do_list_by, do_answer_by, call_device_by, first_away, tell_nobody, tell_device, tell_first, step_game, first_active_save, world_of, device_at, called, call_device, call_devices, tell_listener, tell_listeners, home_of, do_handler}
 use Rattle.written_machine.specs.Devices.{HasDevices}
 use Rattle.written_machine.specs.Run.{switch, device, source_due, Stimulus, SwitchChange, Alarm, Wait, arrived}
 use Rattle.written_machine.specs.StimulusCost.{cost_if_accepted, cost_of_stimulus}
-use Rattle.written_machine.specs.Moves.{Turned, Booked, Stepped, step_now, do_move}
+use Rattle.written_machine.specs.Moves.{Turned, Booked, step_now}
 use Rattle.written_machine.proofs.Does.{each_now, has_devices-does, has_devices-move, HasCoils, asked-has_coils}
 use Rattle.written_machine.proofs.Feeding.{first_away-is, first_trough-is, multiballs-within, first_active_save-is}
 use Rattle.written_machine.proofs.Drains.{last-posts}
 use Rattle.player_game.proofs.DrainEvent.{drain-is}
-use Rattle.device_objects.proofs.Requests.{requests-alike}
 use Rattle.written_machine.proofs.Resting.{stops-turn}
-use Rattle.written_machine.proofs.Parts.{IsThere, target-there, cost_of_handler, action_now_by, list_now_by, answer_now_by, call_now_by, nobody_now, told_now, telling_now, wanted_now, list_now, answer_now, call_now, target_now, handler_now, listener_now, playfield_now, accepted_now, if_accepted_now, release_now, stimulus_now, before_now, finals_now, request_now, step_game_now, drained_now, game_now, after_now, does-handler, does-finals, does-step}
+use Rattle.written_machine.proofs.Parts.{IsThere, target-there, cost_of_handler, action_now_by, list_now_by, answer_now_by, call_now_by, nobody_now, told_now, telling_now, list_now, call_now, target_now, handler_now, listener_now, playfield_now, accepted_now, if_accepted_now, release_now, stimulus_now, before_now, finals_now, request_now, step_game_now, drained_now, game_now, after_now, does-handler, does-finals, does-step}
 
 module _ (plan : PlanView) (entries : HasEntries plan) (w : EventId → ℕ) where
   dearest-of : {X : Type 0} (f : X → Cost) (xs : List X) (x : X) → Contains xs x → price w (f x) ≤ price w (dearest_of f xs)
@@ -92,18 +87,12 @@ module _ (plan : PlanView) (entries : HasEntries plan) (w : EventId → ℕ) whe
   told-devices : (owner : Owner) (player : ℕ) (v : VariableId) (e : EventId) (value : Option ℤ) (s : Machine) → HasDevices plan s.devices → HasDevices plan (tell_change owner player v e value s).devices
   told-devices owner player v e value s has = search rules
 
-  drain-devices : (owner : Owner) (drain : Bool) (s : Machine) → HasDevices plan s.devices → HasDevices plan (drain_if plan owner drain s).devices
-  drain-devices owner drain s has = search rules
-
   -- where each telling is within its cost, and more balls cost the same to ask for
   module _ (tell : Telling → Machine → Machine) (now : Telling → Machine → Cost) (cost : Telling → Cost)
       (tells : (telling : Telling) (s : Machine) → HasDevices plan s.devices → (price w (now telling s) ≤ price w (cost telling)) × HasDevices plan (tell telling s).devices)
       (alike : (m n : ℕ) → price w (cost (Wanted m)) ≡ price w (cost (Wanted n))) where
     entry-devices : (owner : Owner) (r : RowId) (drain : Bool) (origin : Origin) (s : Machine) → HasDevices plan s.devices → HasDevices plan (after_entry plan tell owner r drain origin s).devices
     entry-devices owner r drain origin s has = search rules
-
-    want-priced : (n k : ℕ) (s : Machine) → HasDevices plan s.devices → (price w (wanted_now plan tell now k s) ≤ price w (cost (Wanted n))) × HasDevices plan (want_balls tell k s).devices
-    want-priced n k s has = search rules
 
     action-priced : (owner : Owner) (a : Action) (s : Machine) → HasDevices plan s.devices
         → (price w (action_now_by plan tell now owner a s) ≤ price w (cost_of_action_by plan cost a)) × HasDevices plan (do_action_by plan tell owner a s).devices

@@ -3,7 +3,6 @@ use Rattle.std.proofs.Common.{◌≡◌, ℕ, ◌+◌, ◌≤◌, List, [], ◌�
 use Rattle.plan_tables.specs.PlanView.{PlanView}
 use Rattle.plan_tables.specs.Valid.{IsValid}
 use Rattle.switch_core.specs.Switches.{IsComplete, all_idle}
-use Rattle.player_game.specs.Choices.{AreFew}
 use Rattle.written_machine.specs.declared.line.Line.{Line}
 use Rattle.written_machine.specs.Machine.{Machine, initial}
 use Rattle.written_machine.specs.Devices.{HasDevices}

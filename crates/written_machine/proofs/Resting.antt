@@ -1,8 +1,8 @@
 -- No device of a mode is due, active as a ball save, or running as a multiball, unless the mode runs: what moves of
 -- handlers, the machine's works and stimuli keep.
-use Rattle.std.proofs.Common.{rules, ◌≡◌, ℕ, zero, suc, ◌<◌, ◌⊎◌, inl, inr, Bool, true, None, Some, List, [], ◌∷◌, length, slice_set, refl, ap, sym, subst, ◌∙◌, arith, false}
+use Rattle.std.proofs.Common.{rules, ◌≡◌, ℕ, zero, suc, ◌<◌, ◌⊎◌, inl, inr, true, None, Some, List, [], ◌∷◌, length, slice_set, refl, ap, sym, subst, ◌∙◌, arith, false}
 use Rattle.std.specs.Prelude.{Contains}
-use Rattle.std.proofs.lemmas.Bool.{cases_eq, false≢true, cases_lt}
+use Rattle.std.proofs.lemmas.Bool.{cases_eq, cases_lt}
 use Rattle.std.proofs.lemmas.Option.{none-some}
 use Rattle.std.proofs.lemmas.List.{get_or-set_same, get_or-set_other, get_or_past}
 use Rattle.plan_tables.specs.PlanView.{PlanView, no_row, row_at}
@@ -12,18 +12,16 @@ use Rattle.plan_tables.specs.declared.entries.Owner.{Owner}
 use Rattle.plan_tables.specs.declared.entries.Owner.TheVariants as owners
 use Rattle.plan_tables.specs.declared.devices.RowId.{RowId}
 use Rattle.plan_tables.specs.declared.entries.CoilId.{CoilId}
-use Rattle.coil_guard.specs.declared.state.CoilState.{CoilState}
 use Rattle.device_objects.specs.declared.device.Call.{Call}
 use Rattle.device_objects.specs.declared.device.Call.TheVariants as calls
 use Rattle.device_objects.specs.declared.state.DeviceState.{DeviceState}
 use Rattle.device_objects.specs.DeviceStep.{due_of, first_state}
-use Rattle.device_objects.proofs.Moments.{stopped-quiet, stopped-silent}
-use Rattle.mode_stack.specs.declared.phase.ModeState.{ModeState}
+use Rattle.device_objects.proofs.Moments.{stopped-quiet}
 use Rattle.mode_stack.specs.Modes.{needs_game, running_of}
 use Rattle.mode_stack.proofs.WhoRuns.{starting_keeps_who_runs}
 use Rattle.event_queue.specs.Handlers.{takes_part}
 use Rattle.written_machine.specs.Devices.{HasDevices, ActsAreOwn}
-use Rattle.written_machine.specs.Machine.{Machine, set_device, has_game, all_do, world_of, device_state, device_at, called, do_answer, call_device}
+use Rattle.written_machine.specs.Machine.{Machine, set_device, has_game, all_do, world_of, device_state, device_at, called, call_device}
 use Rattle.written_machine.specs.Moves.{Move, Wrote, Sent, Switched, Began, Ended, Turned, Asked, Booked, Varied, Stepped, AddedBalls, do_move, MayDo, ordinary}
 use Rattle.written_machine.proofs.Does.{start-by, stop-by, booked_now, book-by, due-row, has_devices-move}
 use Rattle.written_machine.proofs.Inactive.{is_on, stopped-off}

@@ -1,11 +1,11 @@
 -- A mode that is stopped is silent, in every run: what the moves of handlers, the machine's works and the beginning of a
 -- stimulus keep.
-use Rattle.std.proofs.Common.{◌≡◌, ℕ, ◌<◌, ◌⊎◌, if◌then◌else◌, inl, inr, Some, Bool, true, false, ◌==◌, cond, List, [], ◌∷◌, ◌++◌, length, refl, ap, sym, subst, ◌∙◌, rules, Option, All, None, map, arith}
+use Rattle.std.proofs.Common.{◌≡◌, ℕ, ◌<◌, ◌⊎◌, if◌then◌else◌, inl, inr, Some, Bool, true, false, ◌==◌, cond, List, [], ◌∷◌, ◌++◌, length, refl, ap, sym, subst, ◌∙◌, rules, Option, All, None}
 use Rattle.std.specs.List.{range_with_len}
 use Rattle.std.proofs.lemmas.Bool.{cases_eq, eq-eqb, ne_eqb, cases_lt}
-use Rattle.std.proofs.lemmas.List.{append-nil, get_or-replicate, length-replicate, length-set, get_or_past, get_or-map, length-map}
-use Rattle.plan_tables.specs.PlanView.{PlanView, coil_numbers, game_event, may_hold_ball_end, is_owner, mode_event, row_at, rows_of, work_of, is_multiball, multiball_rows, row_numbers, no_row}
-use Rattle.plan_tables.specs.Valid.{HasGame, IsOwnerWithin, IsValid, IsWorkAt}
+use Rattle.std.proofs.lemmas.List.{get_or-replicate, length-replicate, length-set, get_or_past, get_or-map, length-map}
+use Rattle.plan_tables.specs.PlanView.{PlanView, coil_numbers, game_event, may_hold_ball_end, is_owner, mode_event, row_at, rows_of, work_of, is_multiball, multiball_rows, row_numbers}
+use Rattle.plan_tables.specs.Valid.{HasGame, IsValid, IsWorkAt}
 use Rattle.plan_tables.specs.declared.entries.EventId.{EventId}
 use Rattle.plan_tables.specs.declared.entries.ModeId.{ModeId}
 use Rattle.plan_tables.specs.declared.entries.ModeEvent.{ModeEvent}
@@ -29,13 +29,12 @@ use Rattle.mode_stack.specs.declared.phase.Phase.{Phase}
 use Rattle.mode_stack.specs.declared.phase.Phase.TheVariants as phases
 use Rattle.mode_stack.specs.declared.phase.ModeState.{ModeState}
 use Rattle.mode_stack.specs.ModeStep.{in_phase, is_running, entered, ended}
-use Rattle.mode_stack.specs.Modes.{needs_game, mode_state, running_of}
+use Rattle.mode_stack.specs.Modes.{mode_state, running_of}
 use Rattle.mode_stack.proofs.WhoRuns.{starting_keeps_who_runs}
 use Rattle.plan_tables.specs.declared.entries.CoilId.{CoilId}
 use Rattle.coil_guard.specs.declared.command.Command.TheVariants as commands
 use Rattle.coil_guard.specs.CoilStep.{is_held_by}
 use Rattle.coil_guard.specs.Coils.{coil_at}
-use Rattle.device_objects.specs.DeviceStep.{first_state}
 use Rattle.cascade_rank.specs.Cost.{Cost}
 use Rattle.event_queue.specs.declared.queue.Posted.{Posted}
 use Rattle.event_queue.specs.Handlers.{takes_part}
@@ -45,15 +44,15 @@ use Rattle.written_machine.specs.declared.line.Line.{Line}
 use Rattle.written_machine.specs.declared.line.Happening.TheVariants as lines
 use Rattle.written_machine.specs.Devices.{ActsAreOwn}
 use Rattle.written_machine.specs.FreePosts.{IsFreeWork, PostsAreFree}
-use Rattle.written_machine.specs.Machine.{Machine, initial, post, set_mode, has_game, post_if, release_ball_end, drop_hold, post_game, write_final, write_finals, ask_ball, ask_coil, release_coil, release_coils, stop_mode, all_do, do_game, device_state, call_devices, do_handler, device_at, drain_ball, end_multiballs, step_game, first_active_save, call_device}
+use Rattle.written_machine.specs.Machine.{Machine, initial, post, set_mode, post_if, release_ball_end, drop_hold, post_game, write_final, write_finals, ask_ball, ask_coil, release_coil, release_coils, stop_mode, all_do, do_game, device_state, call_devices, do_handler, device_at, drain_ball, end_multiballs, step_game, first_active_save, call_device}
 use Rattle.written_machine.specs.EventStep.{taken, before_handlers, handlers_in, do_before, do_after}
-use Rattle.written_machine.specs.Run.{switch, device, source_due, Stimulus, SwitchChange, Alarm, Wait, moment_of, IsAllowed, arrived, begin, IsRun}
+use Rattle.written_machine.specs.Run.{device, source_due, Stimulus, moment_of, IsAllowed, arrived, begin, IsRun}
 use Rattle.written_machine.specs.Silent.{HasStarted, IsSilent}
-use Rattle.written_machine.specs.Moves.{Move, Wrote, Sent, Began, Ended, Marked, Released, Asked, Booked, Stepped, step_now, do_move, MayDo, Does, TakesPart, IsMachine, Begins, ordinary, MayHandle}
+use Rattle.written_machine.specs.Moves.{Move, Wrote, Sent, Began, Ended, Marked, Released, Asked, Booked, do_move, MayDo, Does, TakesPart, IsMachine, Begins, ordinary, MayHandle}
 use Rattle.written_machine.proofs.Does.{start-by, stop-by, book-by, does-keeps, off-has_coils}
 use Rattle.written_machine.proofs.Parts.{does-calls, does-releases, does-request, does-order, does-begin, does-call}
 use Rattle.written_machine.proofs.Keeps.{step-keeps, run-keeps}
-use Rattle.written_machine.proofs.Cycles.{mine, waiting_of, IsTurn, idle, turn-will_start, turn-starting, turn-started, turn-stopping, turn-stopped, stopping-runs, stopped-quiet}
+use Rattle.written_machine.proofs.Cycles.{mine, waiting_of, IsTurn, idle, turn-will_start, turn-starting, turn-started, turn-stopping, turn-stopped, stopping-runs}
 use Rattle.written_machine.proofs.Hearing.{Said, written, all_written, awaited, all_awaited, heard_at, heard_after, heard, IsFine, heard-push, fine-push, heard-started, fine-silent}
 use Rattle.written_machine.proofs.Speaking.{Holds, HoldsIn, heard_in, phase_in, IsRunning, takes-runs, runs-takes, own_state, other_state, wrote-holds, asked-holds, booked-holds, posted-holds, gamed-holds, own_post, own_set, own_change, other_post, other_set, start-holds, stop-holds, lines-push}
 use Rattle.written_machine.proofs.Inactive.{is_on, active-on, first-off, end-still}
@@ -63,7 +62,6 @@ use Rattle.written_machine.proofs.Resting.{stops-turn, stops-quiet, Rests, runni
 use Rattle.player_game.specs.Choices.{is_drain}
 use Rattle.written_machine.proofs.Feeding.{first_active_save-is}
 use Rattle.plan_tables.specs.declared.devices.Act.TheVariants as acts
-use Rattle.plan_tables.specs.declared.devices.DeviceRow.{DeviceRow}
 use Rattle.std.proofs.lemmas.List.Elements.{All-tail, All-head, filter_passes}
 
 -- ---- who runs does not change while handlers run

@@ -9,7 +9,7 @@ use Rattle.plan_tables.specs.Valid.{IsValid}
 use Rattle.plan_tables.specs.declared.entries.EventId.{EventId}
 use Rattle.plan_tables.specs.declared.entries.ModeId.{ModeId}
 use Rattle.plan_tables.specs.declared.entries.ModeEvent.{ModeEvent}
-use Rattle.plan_tables.specs.declared.entries.ModeEvent.TheVariants.{WillStart, Starting, Stopping, Stopped}
+use Rattle.plan_tables.specs.declared.entries.ModeEvent.TheVariants.{WillStart, Starting, Stopping}
 use Rattle.plan_tables.specs.declared.entries.Owner.{Owner}
 use Rattle.plan_tables.specs.declared.entries.Owner.TheVariants as owners
 use Rattle.plan_tables.specs.declared.entries.Work.{Work}
@@ -31,7 +31,7 @@ use Rattle.coil_guard.specs.Asked.{after_asking, answer_asking}
 use Rattle.ball_devices.specs.Bookings.{LedgerCall, after_call, booked}
 use Rattle.written_machine.specs.Machine.{Machine, write, post, set_ledger, counts_of, book, set_coils, told, ask_coil, set_mode, set_game, has_game, is_post, post_if, start_mode, stop_mode}
 use Rattle.written_machine.proofs.Cycles.{mine, waiting_of, IsTurn, waiting_of-push, turn-start, turn-stop, IsNoEnd, running-no_end}
-use Rattle.written_machine.proofs.Hearing.{Said, work_written, written, all_written, awaited, all_awaited, heard_at, heard_after, heard, IsFine, written-push, awaited-push, heard-push, fine-push}
+use Rattle.written_machine.proofs.Hearing.{Said, work_written, written, all_written, all_awaited, heard_at, heard_after, heard, IsFine, written-push, awaited-push, heard-push, fine-push}
 use Rattle.written_machine.proofs.Does.{begun_mode, book-by}
 use Rattle.written_machine.specs.Moves.{IsNoEvent}
 
