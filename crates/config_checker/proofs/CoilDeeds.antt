@@ -5,12 +5,11 @@ use Rattle.std.specs.List.{All}
 use Rattle.std.proofs.lemmas.List.Elements.{All-nil, All-cons}
 use Rattle.mpf_sections.specs.declared.words.CoilAction.{CoilAction}
 use Rattle.mpf_sections.specs.declared.words.CoilAction.TheVariants.{Disable}
-use Rattle.mpf_sections.specs.Rows.{Written, Coil, CoilItem, Flipper, Autofire, SectionRows}
+use Rattle.mpf_sections.specs.Rows.{Written, Coil, CoilItem, Flipper, SectionRows}
 use Rattle.machine_definitions.specs.Definitions.{coil_called, no_coil}
 use Rattle.plan_contributions.specs.Effects.{Deed, pulse, enable, disable, Effect, works}
-use Rattle.row_contributions.specs.CoilEntries.{Defaults, defaults_of_coil, defaults_called, own_pulse, own_hold, deed_by, flipper_on, flipper_off, autofire_device}
-use Rattle.row_contributions.proofs.CoilFacts.{fires}
-use Rattle.row_faults.specs.Sound.{IsPulseWithin, IsHoldWithin, IsCoilSound, IsCoilSuch, IsActionWithin, IsItemSound, IsFlipperSound, IsAutofireSound}
+use Rattle.row_contributions.specs.CoilEntries.{Defaults, defaults_of_coil, defaults_called, own_pulse, own_hold, deed_by, flipper_on, flipper_off}
+use Rattle.row_faults.specs.Sound.{IsPulseWithin, IsHoldWithin, IsCoilSound, IsCoilSuch, IsActionWithin, IsItemSound, IsFlipperSound}
 
 -- what is done with a coil is within its limits
 abbrev pub IsDeedWithin : Deed → Coil → Type 0
@@ -83,6 +82,3 @@ module _ (machine : List SectionRows) where
     flipper_doing f h =
         All-cons (All Q) (flipper_on machine f.main_coil f.hold_coil) (flipper_off machine f.main_coil f.hold_coil ∷ []) (on_doing f.main_coil f.hold_coil h.main_coil h.hold_coil)
         (All-cons (All Q) (flipper_off machine f.main_coil f.hold_coil) [] (off_doing f.main_coil f.hold_coil h.main_coil h.hold_coil) (All-nil (All Q)))
-
-    pub autofire_doing : (a : Autofire) → IsAutofireSound machine a → All (All Q) (autofire_device machine a).lists
-    autofire_doing a h = fires Q machine a (works_fine a.coil.text _ (pulse_deed a.coil.text h.coil))

@@ -1,13 +1,13 @@
 -- What sound rows do: they post nothing reserved, by a variable neither, each deed is within the limits of its coil,
 -- each switch to which a device listens or which a shot has is defined, and so is each profile, each shot that a group
 -- lists, and each target of a ball device; and no ball device has a ball switch twice.
-use Rattle.std.proofs.Common.{◌≡◌, ◌≢◌, ℕ, suc, Bool, true, false, ◌||◌, if◌then◌else◌, List, [], ◌∷◌, ◌++◌, map, fold, get_or, codes, refl, sym, ◌∙◌, ap, subst, true≢false, arith, length-append}
+use Rattle.std.proofs.Common.{rules, ◌≡◌, ◌≢◌, ℕ, suc, Bool, true, false, ◌||◌, if◌then◌else◌, List, [], ◌∷◌, ◌++◌, map, fold, get_or, codes, refl, sym, ◌∙◌, ap, subst, true≢false, arith, length-append}
 use Rattle.std.specs.Prelude.{Option, Some, None, IfSome, is_some}
 use Rattle.std.specs.Str.{bytes_eq}
 use Rattle.std.specs.List.{All, AllPairs, flat_map, list_any}
 use Rattle.std.proofs.lemmas.List.{get_or_append_left}
 use Rattle.std.proofs.lemmas.List.Elements.{All-nil, All-cons, All-head, All-tail, All-append, All-map, All-weaker, All-from_get_or, All-from_recursion}
-use Rattle.mpf_sections.specs.Rows.{Written, Entry, Switch, CoilPlayer, VariablePlayer, BlockEvents, Rule, CoilRule, flipper, autofire, Shot, ShotGroup, BallDevice, SectionRows}
+use Rattle.mpf_sections.specs.Rows.{Written, Entry, Switch, CoilPlayer, VariablePlayer, BlockEvents, Rule, CoilRule, flipper, Shot, ShotGroup, BallDevice, SectionRows}
 use Rattle.mpf_sections.specs.TypedGame.{variable_players_in}
 use Rattle.machine_definitions.specs.Players.{player_event, is_set_by_game}
 use Rattle.row_contributions.specs.VariableEntries.{item_change}
@@ -39,7 +39,7 @@ use Rattle.row_faults.specs.Routes.{switch_names}
 use Rattle.row_faults.proofs.AsWritten.{switch-posts, counter-posts, step-posts}
 use Rattle.row_faults.specs.BallFaults.{is_place}
 use Rattle.config_checker.proofs.FreeNames.{active-free, inactive-free, tag-free, block-free, timer-free, ball-free, save-free, multiball-free, shot-free, group_hit-free, group_complete-free}
-use Rattle.config_checker.proofs.CoilDeeds.{IsDeedSound, item_deed, pulse_deed, flipper_doing, autofire_doing}
+use Rattle.config_checker.proofs.CoilDeeds.{IsDeedSound, item_deed, pulse_deed, flipper_doing}
 
 -- ---- parts of lists
 
@@ -206,9 +206,8 @@ module _ (rows : Rows) where
   rule-doing settings r lists there all = record { lists = all; listens = All-cons IsThere r.switch.text [] there (All-nil IsThere) }
 
   rules-doing : (o : Option CoilRule) → IsRuleSound rows.machine o → IsEntryDoing IsFine IsUnreserved IsThere (rule_device_of rows.machine o)
-  rules-doing None h = tt
   rules-doing (Some (flipper f)) h = rule-doing kinds.Flipper f.rule _ h.switch (flipper_doing rows.machine IsFine (λ name deed sound. sound) f h)
-  rules-doing (Some (autofire a)) h = rule-doing kinds.Autofire a.rule _ h.switch (autofire_doing rows.machine IsFine (λ name deed sound. sound) a h)
+  rules-doing _ h = search rules depth 8
 
   -- ---- ball devices
 
