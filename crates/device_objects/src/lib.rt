@@ -8,6 +8,7 @@ pub mod device;
 pub mod first;
 pub mod flags;
 pub mod law;
+pub mod same;
 pub mod shape;
 pub mod slot;
 pub mod state;
@@ -16,6 +17,7 @@ pub mod values;
 pub use answers::{Outcomes, outcomes};
 pub use device::{Call, Device, Outcome};
 pub use first::first_state;
+pub use same::{is_same_row, is_same_state};
 pub use shape::has_shape;
 pub use state::{
     AccrualSlot, Attempt, AutofireState, BallState, BallSwitch, BankSlot, CounterSlot, DeviceState,

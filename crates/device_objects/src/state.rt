@@ -12,7 +12,7 @@ pub struct World {
 }
 
 /// What a counter remembers for one player.
-#[derive(Clone, Copy, PartialEq, Eq)]
+#[derive(Clone, Copy)]
 pub struct CounterSlot {
     /// The game to which it belongs, as [`World::games`] counts it; 0 where players have no slots of
     /// their own.
@@ -25,7 +25,7 @@ pub struct CounterSlot {
 }
 
 /// What an accrual remembers for one player.
-#[derive(Clone, Copy, PartialEq, Eq)]
+#[derive(Clone, Copy)]
 pub struct AccrualSlot {
     /// The game to which it belongs, as [`World::games`] counts it; 0 where players have no slots of
     /// their own.
@@ -36,7 +36,7 @@ pub struct AccrualSlot {
 }
 
 /// What a sequence remembers for one player.
-#[derive(Clone, Copy, PartialEq, Eq)]
+#[derive(Clone, Copy)]
 pub struct SequenceSlot {
     /// The game to which it belongs, as [`World::games`] counts it; 0 where players have no slots of
     /// their own.
@@ -47,7 +47,7 @@ pub struct SequenceSlot {
 }
 
 /// What a timer remembers.
-#[derive(Clone, Copy, PartialEq, Eq)]
+#[derive(Clone, Copy)]
 pub struct TimerState {
     /// Within plus or minus 999,999,999,999,999.
     pub value: i64,
@@ -56,7 +56,7 @@ pub struct TimerState {
 }
 
 /// What a bank of shots remembers for one player.
-#[derive(Clone, Copy, PartialEq, Eq)]
+#[derive(Clone, Copy)]
 pub struct BankSlot {
     /// The game to which it belongs, as [`World::games`] counts it.
     pub game: u64,
@@ -67,7 +67,7 @@ pub struct BankSlot {
 }
 
 /// What a flipper remembers.
-#[derive(Clone, Copy, PartialEq, Eq)]
+#[derive(Clone, Copy)]
 pub struct FlipperState {
     /// Whether its button moves it.
     pub enabled: bool,
@@ -76,14 +76,14 @@ pub struct FlipperState {
 }
 
 /// What an autofire coil remembers.
-#[derive(Clone, Copy, PartialEq, Eq)]
+#[derive(Clone, Copy)]
 pub struct AutofireState {
     /// Whether its switch fires it.
     pub enabled: bool,
 }
 
 /// What a ball device remembers of one of its ball switches.
-#[derive(Clone, Copy, PartialEq, Eq)]
+#[derive(Clone, Copy)]
 pub struct BallSwitch {
     /// Whether a ball counts as lying at it.
     pub counted: bool,
@@ -92,7 +92,7 @@ pub struct BallSwitch {
 }
 
 /// An attempt to eject a ball.
-#[derive(Clone, Copy, PartialEq, Eq)]
+#[derive(Clone, Copy)]
 pub struct Attempt {
     /// Its number: the first is 1. Without a limit on attempts, each is 1.
     pub number: u16,
@@ -101,7 +101,7 @@ pub struct Attempt {
 }
 
 /// How far a ball device has come with ejecting a ball.
-#[derive(Clone, Copy, PartialEq, Eq)]
+#[derive(Clone, Copy)]
 pub enum Eject {
     /// It ejects none.
     Idle,
@@ -112,7 +112,7 @@ pub enum Eject {
 }
 
 /// What a ball device remembers.
-#[derive(Clone, Copy, PartialEq, Eq)]
+#[derive(Clone, Copy)]
 pub struct BallState {
     /// Its ball switches, by their numbers. Those that it does not have stay empty.
     pub switches: [BallSwitch; 16],
@@ -122,7 +122,7 @@ pub struct BallState {
 }
 
 /// What a ball save remembers.
-#[derive(Clone, Copy, PartialEq, Eq)]
+#[derive(Clone, Copy)]
 pub struct SaveState {
     /// Whether it saves balls.
     pub active: bool,
@@ -133,7 +133,7 @@ pub struct SaveState {
 }
 
 /// What a multiball remembers.
-#[derive(Clone, Copy, PartialEq, Eq)]
+#[derive(Clone, Copy)]
 pub struct MultiballState {
     /// Whether it has started, and has not ended yet.
     pub running: bool,
@@ -141,7 +141,7 @@ pub struct MultiballState {
 
 /// What a device remembers. A persistent block and a bank of shots have a slot for each player;
 /// another block uses only the first.
-#[derive(Clone, Copy, PartialEq, Eq)]
+#[derive(Clone, Copy)]
 pub enum DeviceState {
     Counter([CounterSlot; 4]),
     Accrual([AccrualSlot; 4]),

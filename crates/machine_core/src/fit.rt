@@ -5,7 +5,7 @@ ghost use Rattle.device_objects.specs.DeviceStep.{first_state};
 ghost use Rattle.plan_tables.specs.PlanView.{row_at};
 ghost use Rattle.machine_core.specs.Fit.{IsFit, IsFirstWrong};
 
-use device_objects::{Device, first_state};
+use device_objects::{Device, first_state, is_same_row, is_same_state};
 use plan_tables::{Plan, RowId};
 
 /// The first row whose device is not the one of the row, in its first state. Where there are too
@@ -34,5 +34,6 @@ fn is_right<D: Device>(plan: &Plan, row: RowId, device: &D) -> bool
     ensures { IsTrue result ↔ ((D.row_of device.now ≡ row_at plan.now row) × (D.state_of device.now ≡ first_state (row_at plan.now row).settings)) }
 {
     let expected = plan.row(row);
-    device.row() == expected && device.state() == first_state(&expected.settings)
+    is_same_row(&device.row(), &expected)
+        && is_same_state(&device.state(), &first_state(&expected.settings))
 }

@@ -6,7 +6,7 @@ use crate::spares::{Bench, Boxes, History, Make, Spare, repeated};
 use crate::steps::{add_step, number_at, with_memory};
 use coil_guard::MemoryBoard;
 use config_checker::Checked;
-use device_objects::Device;
+use device_objects::{Device, is_same_state};
 use pin_rig::{Input, Refusal, Rig};
 use plan_tables::{DeviceRow, RowId, Settings, SwitchId};
 use std::alloc::Global;
@@ -196,7 +196,10 @@ fn is_same<D: Device, E: Device>(
     let Some(wanted) = one.state(row) else {
         return false;
     };
-    other.state(row) == Some(wanted)
+    match other.state(row) {
+        Some(found) => is_same_state(&wanted, &found),
+        None => false,
+    }
 }
 
 /// Exchanges the device of each row.

@@ -8,7 +8,7 @@ use crate::spares::{Boxes, Make};
 use crate::steps::{input_of, number_at, with_memory};
 use coil_guard::{Board, FuseBoard};
 use config_checker::Checked;
-use device_objects::{Device, DeviceState};
+use device_objects::{Device, DeviceState, is_same_state};
 use pin_rig::Rig;
 use plan_tables::{Plan, RowId};
 use std::rc::Rc;
@@ -37,7 +37,7 @@ fn add_exchange<D: Device, B: Board>(
         }
         Err((refusal, back)) => {
             add_fault(pen, refusal.number(), refusal);
-            if back.state() != state {
+            if !is_same_state(&state, &back.state()) {
                 pen.put("changed ");
             }
         }

@@ -7,7 +7,7 @@ use crate::input::{Input, RigFault, StepFault, check_moment};
 use coil_driver::{Driver, ShutReport};
 use coil_guard::{Board, Coils};
 use config_checker::Checked;
-use device_objects::{Device, DeviceState};
+use device_objects::{Device, DeviceState, is_same_row, is_same_state};
 use machine_core::{Core, Stimulus, begin, settle};
 use plan_tables::RowId;
 use std::alloc::Global;
@@ -216,10 +216,10 @@ impl<'c, D: Device, B: Board> Rig<'c, D, B> {
         if row.0 as usize >= plan.rows().len() {
             return Err(Refusal::NoSuchRow);
         }
-        if device.row() != plan.row(row) {
+        if !is_same_row(&device.row(), &plan.row(row)) {
             return Err(Refusal::WrongRow);
         }
-        if device.state() != self.core.state(row) {
+        if !is_same_state(&device.state(), &self.core.state(row)) {
             return Err(Refusal::WrongState);
         }
         Ok(())

@@ -4,7 +4,7 @@ use crate::asserts::assert_right;
 use crate::devices::calls::{call_of, row_of, told};
 use crate::devices::settings::{draw, draw_device};
 use crate::devices::walks::{OF_BANKS, OF_BLOCKS, change_world, draw_call};
-use device_objects::{Device, World};
+use device_objects::{Device, World, is_same_state};
 use logic_blocks::{Accrual, MaskAccrual};
 use shot_groups::{MaskBank, ShotBank};
 
@@ -20,14 +20,14 @@ fn are_alike<A: Device, B: Device>(
         player: 0,
         in_play: 0,
     };
-    let mut alike = one.state() == other.state();
+    let mut alike = is_same_state(&one.state(), &other.state());
     for _ in 0..30u32 {
         change_world(state, &mut world);
         let (letter, number) = draw_call(state, list, false, 0);
         let moment = draw(state, 1_000);
         let answer = told(one, call_of(letter, number), moment, world);
         alike = alike && answer == told(other, call_of(letter, number), moment, world);
-        alike = alike && one.state() == other.state();
+        alike = alike && is_same_state(&one.state(), &other.state());
     }
     alike
 }
