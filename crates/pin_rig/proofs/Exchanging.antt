@@ -27,7 +27,8 @@ use Rattle.pin_rig.proofs.Acting.{rig_of}
 -- a device that has stopped ejects no ball
 pub stopped-ejects_nothing : (settings : Settings) (now : ℕ) (world : World) (state : DeviceState) → HasShape settings state → EjectsNothing (device_step settings calls_of.ModeStop now world state).0
 stopped-ejects_nothing (kinds.BallDevice d) now world (states.BallDevice s) shape = refl
-stopped-ejects_nothing _ now world _ shape = elim shape [ ]
+stopped-ejects_nothing _ now world (states.BallDevice s) shape = elim shape [ ]
+stopped-ejects_nothing _ now world _ shape = tt
 
 module _ (checked : CheckedView) (core : CoreView) (driver : DriverView) (shown : ℕ) (held : IsHeld checked core driver shown)
     (number : RowId) (row : DeviceRow) (state : DeviceState) (may : MayTakePlace (rig_of checked core driver shown) number row state) where
