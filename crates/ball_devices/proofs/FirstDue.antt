@@ -3,7 +3,8 @@ use Rattle.std.proofs.Common.{◌≡◌, ℕ, suc, ◌+◌, ◌<◌, ◌≤◌, 
 use Rattle.std.proofs.lemmas.Bool.{cases_lt, cond_both, le-leb, lt-leb}
 use Rattle.std.proofs.lemmas.List.{drop_more, drop_all}
 use Rattle.device_objects.specs.declared.state.BallSwitch.{BallSwitch}
-use Rattle.device_objects.specs.BallDevice.{sooner, first_due_from}
+use Rattle.plan_tables.specs.Due.{sooner}
+use Rattle.device_objects.specs.BallDevice.{first_due_from}
 
 -- ---- of two moments the first
 

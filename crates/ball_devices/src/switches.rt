@@ -1,7 +1,8 @@
 //! The ball switches of a device.
 
 ghost use Rattle.std.specs.Prelude.{◌≡◌, ◌<◌, ◌^◌, length, option_map, slice_index_or, slice_set, IfSome};
-ghost use Rattle.device_objects.specs.BallDevice.{delay, due_of, earlier, empty, first_due, first_due_from, has_ball, noted, sooner, switched, timeout_of, turned};
+ghost use Rattle.plan_tables.specs.Due.{sooner};
+ghost use Rattle.device_objects.specs.BallDevice.{delay, due_of, earlier, empty, first_due, first_due_from, has_ball, noted, switched, timeout_of, turned};
 
 use device_objects::{BallState, BallSwitch, Eject};
 use plan_tables::BallSettings;

@@ -3,8 +3,9 @@ use Rattle.std.proofs.Common.{rules, ◌≡◌, ℕ, zero, suc, ◌+◌, ◌<◌
 use Rattle.std.proofs.lemmas.Bool.{cases_lt, leb-true, leb-false}
 use Rattle.std.proofs.lemmas.List.{get_or_past}
 use Rattle.std.proofs.lemmas.Option.{none-some, same_Some}
+use Rattle.plan_tables.specs.Due.{sooner}
 use Rattle.device_objects.specs.declared.state.BallSwitch.{BallSwitch}
-use Rattle.device_objects.specs.BallDevice.{empty, sooner, first_due_from, parts, not_due}
+use Rattle.device_objects.specs.BallDevice.{empty, first_due_from, parts, not_due}
 
 -- ---- what is first is due
 

@@ -1,7 +1,8 @@
 -- A ball device, such as a trough or a plunger. A ball lies at each ball switch that is counted. The device ejects one
 -- ball at a time.
-use Rattle.std.specs.Prelude.{ℕ, suc, ◌+◌, ◌-◌, nat_lt, nat_le, min, Bool, true, false, not, ◌&&◌, ◌||◌, if◌then◌else◌, Option, None, Some, List, [], ◌∷◌, ◌++◌, length, map, option_map, replicate, slice_index_or, slice_set}
+use Rattle.std.specs.Prelude.{ℕ, suc, ◌+◌, ◌-◌, nat_lt, min, Bool, true, false, not, ◌&&◌, ◌||◌, if◌then◌else◌, Option, None, Some, List, [], ◌∷◌, ◌++◌, length, map, option_map, replicate, slice_index_or, slice_set}
 use Rattle.std.specs.List.{list_any}
+use Rattle.plan_tables.specs.Due.{sooner}
 use Rattle.plan_tables.specs.declared.devices.Act.{Act}
 use Rattle.plan_tables.specs.declared.devices.Act.TheVariants as acts
 use Rattle.plan_tables.specs.declared.devices.BallTarget.{BallTarget}
@@ -67,12 +68,6 @@ abbrev pub has_ball : BallState → Bool
 has_ball s = list_any (λ b. b.counted) s.switches
 
 -- ---- what is due
-
--- The earlier of two moments, each with the number of its ball switch; of equal ones the first argument.
-abbrev pub sooner : Option (ℕ × ℕ) → Option (ℕ × ℕ) → Option (ℕ × ℕ)
-sooner None b = b
-sooner (Some a) None = Some a
-sooner (Some a) (Some b) = if nat_le a.0 b.0 then Some a else Some b
 
 -- of these ball switches, numbered from i on, the one that is due first, with the moment
 abbrev pub first_due_from : ℕ → List BallSwitch → Option (ℕ × ℕ)

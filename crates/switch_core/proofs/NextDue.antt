@@ -4,8 +4,9 @@ use Rattle.std.specs.Option.{option_map_or}
 use Rattle.std.proofs.lemmas.Bool.{cond_both, leb-true, leb-false}
 use Rattle.std.proofs.lemmas.Option.{none-some, same_Some}
 use Rattle.plan_tables.specs.declared.entries.SwitchId.{SwitchId}
+use Rattle.plan_tables.specs.Due.{sooner}
 use Rattle.switch_core.specs.SwitchStep.{SwitchState, idle}
-use Rattle.switch_core.specs.Switches.{SwitchesView, no_kind, due_of, IsNextDue, IsNothingDue, IsNothingDueBy, sooner, next_due_from, next_due}
+use Rattle.switch_core.specs.Switches.{SwitchesView, no_kind, due_of, IsNextDue, IsNothingDue, IsNothingDueBy, next_due_from, next_due}
 
 -- ---- it is the least
 

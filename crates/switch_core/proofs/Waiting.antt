@@ -7,8 +7,9 @@ use Rattle.std.proofs.lemmas.Bool.{cases_lt, lt-ltb, le-ltb}
 use Rattle.std.proofs.lemmas.List.{length-append, length-take, length-drop, get_or_append_left, get_or-append_right, set-get_or}
 use Rattle.plan_tables.specs.declared.entries.SwitchId.{SwitchId}
 use Rattle.plan_tables.specs.PlanView.{PlanSwitch}
+use Rattle.plan_tables.specs.Due.{sooner}
 use Rattle.switch_core.specs.SwitchStep.{SwitchState, idle}
-use Rattle.switch_core.specs.Switches.{no_kind, due_as, sooner, next_due_from}
+use Rattle.switch_core.specs.Switches.{no_kind, due_as, next_due_from}
 use Rattle.switch_core.specs.Inside.{in_front, waiting_from, soonest, IsWaiting}
 
 abbrev Due : Type 0

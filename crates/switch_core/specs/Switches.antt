@@ -1,8 +1,9 @@
 -- All switches of a plan, and what each call does with them.
-use Rattle.std.specs.Prelude.{◌≡◌, ℕ, ◌+◌, ◌<◌, ◌≤◌, ◌⊎◌, Bool, if◌then◌else◌, Option, None, Some, option_map, List, [], ◌∷◌, length, map, nat_le, slice_index_or, slice_set}
+use Rattle.std.specs.Prelude.{◌≡◌, ℕ, ◌+◌, ◌<◌, ◌≤◌, ◌⊎◌, Bool, if◌then◌else◌, Option, None, Some, option_map, List, [], ◌∷◌, length, map, slice_index_or, slice_set}
 use Rattle.plan_tables.specs.declared.entries.SwitchId.{SwitchId}
 use Rattle.plan_tables.specs.declared.entries.SwitchKind.{SwitchKind}
 use Rattle.plan_tables.specs.PlanView.{PlanView, no_switch}
+use Rattle.plan_tables.specs.Due.{sooner}
 use Rattle.switch_core.specs.declared.change.Change.{Change}
 use Rattle.switch_core.specs.SwitchStep.{SwitchState, idle, changed, is_taken, fired}
 
@@ -74,12 +75,6 @@ IsNothingDue s = (switch : SwitchId) → due_of s switch ≡ None
 -- no raw level is to be accepted at or before the moment
 abbrev pub IsNothingDueBy : SwitchesView → ℕ → Type 0
 IsNothingDueBy s moment = (switch : SwitchId) (due : ℕ) → due_of s switch ≡ Some due → moment < due
-
--- of two that may be due, the one of the lesser moment, and of equal moments the first
-abbrev pub sooner : Option (ℕ × SwitchId) → Option (ℕ × SwitchId) → Option (ℕ × SwitchId)
-sooner None b = b
-sooner (Some a) None = Some a
-sooner (Some a) (Some b) = if nat_le a.0 b.0 then Some a else Some b
 
 -- a state's due moment, with the number of its switch
 abbrev pub due_as : ℕ → SwitchState → Option (ℕ × SwitchId)

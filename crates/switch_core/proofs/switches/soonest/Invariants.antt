@@ -1,5 +1,5 @@
 use Rattle.std.proofs.Common.{◌≡◌, Some, drop}
-use Rattle.switch_core.specs.Switches.{sooner}
+use Rattle.plan_tables.specs.Due.{sooner}
 use Rattle.switch_core.specs.Inside.{soonest}
 use Rattle.switch_core.proofs.switches.soonest.Given as goal
 
