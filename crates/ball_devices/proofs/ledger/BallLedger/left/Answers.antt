@@ -1,9 +1,0 @@
-use Rattle.std.proofs.Common.{arith}
-use Rattle.std.proofs.lemmas.Grind.{common_steps}
-use Rattle.ball_devices.proofs.ledger.BallLedger.left.Goals as goal
-
-pub returns-clause-state : goal.returns-clause-state
-returns-clause-state c = grind (arith, common_steps)
-
-pub returns-clause-ledger : goal.returns-clause-ledger
-returns-clause-ledger c = grind (arith, common_steps)

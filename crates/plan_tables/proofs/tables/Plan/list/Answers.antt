@@ -1,9 +1,0 @@
-use Rattle.std.proofs.Common.{rules, arith}
-use Rattle.std.proofs.lemmas.Grind.{common_steps}
-use Rattle.plan_tables.proofs.tables.Plan.list.Goals as goal
-
-pub returns-clause-actions : goal.returns-clause-actions
-returns-clause-actions c = grind (arith, common_steps)
-
-pub returns-clause-valid : goal.returns-clause-valid
-returns-clause-valid c = search rules
