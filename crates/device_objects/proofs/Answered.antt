@@ -1,5 +1,5 @@
 -- What devices answer is among their outcomes.
-use Rattle.std.proofs.Common.{rules, ◌≡◌, ℕ, zero, ◌==◌, suc, nat_lt, nat_le, ◌<◌, Bool, true, false, Option, Some, List, [], ◌∷◌, ◌++◌, length, take, slice_get, slice_set, if◌then◌else◌, is_some, refl, sym, ap, ◌∙◌, ◌&&◌, not, ℤ, ◌+ℤ◌, ◌-ℤ◌, arith}
+use Rattle.std.proofs.Common.{rules, ◌≡◌, ℕ, zero, ◌==◌, suc, nat_lt, nat_le, ◌<◌, Bool, true, false, Option, Some, List, [], ◌∷◌, ◌++◌, length, take, slice_get, slice_set, if◌then◌else◌, is_some, refl, sym, ◌∙◌, ◌&&◌, not, ℤ, ◌+ℤ◌, ◌-ℤ◌, arith}
 use Rattle.std.specs.List.{list_all, range_with_len}
 use Rattle.std.proofs.lemmas.List.{append-nil}
 use Rattle.std.proofs.lemmas.Option.{none-some}
@@ -194,11 +194,6 @@ more-in y true more has (there at) = there (if_holds more (has refl) at)
 more-in y false more has (there at) = elim at [ ]
 more-in y _ more has here = here
 
-ticked-in : (t : TimerSettings) (ends : Bool) (done going : TimerState × List ℕ) → (ends ≡ true → is_some t.end ≡ true) → done.1 ≡ timer_completing t → going.1 ≡ []
-    → In (timer.tick ∷ (if ends then done else going).1) (of_timer t calls.Fire)
-ticked-in t true done going has completes goes_on = there (if_holds (is_some t.end) (has refl) (by (ap (λ answer. timer.tick ∷ answer) completes) here))
-ticked-in t false done going has completes goes_on = by (ap (λ answer. timer.tick ∷ answer) goes_on) here
-
 starts-in : (running : Bool) (s run : TimerState) (list : ℕ) → In (if◌then◌else◌ {A = TimerState × List ℕ} running (s, []) (run, list ∷ [])).1 ([] ∷ (list ∷ []) ∷ [])
 starts-in true s run list = here
 starts-in false s run list = there here
@@ -224,7 +219,7 @@ timer_act-in t _ now s = here
 pub timer-in : (t : TimerSettings) (call : Call) (now : ℕ) (s : TimerState) → In (timer.timer_step t call now s).1 (of_timer t call)
 timer-in t calls.ModeStart now s = begins-in t now s
 timer-in t calls.ModeStop now s = here
-timer-in t calls.Fire now s = search (rules, ticked-in, at_end-some, completed-is)
+timer-in t calls.Fire now s = search (rules, there, if_holds, by, here, at_end-some, completed-is)
 timer-in t (calls.Act act) now s = timer_act-in t act now s
 
 -- ---- banks
@@ -274,14 +269,10 @@ bank_slot-in b (acts.Hit i) slot =
     (λ within. hit_where-in b i slot (slice_get slot.enabled i) state within refl) (λ not. here)
 bank_slot-in b _ slot = here
 
-bank_none-in : (b : BankSettings) (act : Act) → In [] (of_bank b act)
-bank_none-in b (acts.Hit i) = here
-bank_none-in b _ = here
-
 bank-in : (b : BankSettings) (call : Call) (world : World) (slots : List BankSlot) → length slots ≡ 4 → MayCome call (states.Bank slots)
     → In (bank.bank_step b call world slots).1 (outcomes (kinds.Bank b) call)
 bank-in b calls.Fire world slots four may = absurd (false≢true may)
-bank-in b (calls.Act act) world slots four may = search (rules, in_use-answers, bank_slot-in, bank_none-in)
+bank-in b (calls.Act act) world slots four may = search (rules, in_use-answers, bank_slot-in, here)
 bank-in b _ world slots four may = here
 
 -- ---- flippers and autofire coils

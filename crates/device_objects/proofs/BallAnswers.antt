@@ -1,5 +1,5 @@
 -- What ball devices answer is among their outcomes.
-use Rattle.std.proofs.Common.{rules, ◌≡◌, ℕ, zero, suc, ◌+◌, ◌<◌, ◌≤◌, min, Bool, true, false, Option, None, Some, is_some, List, [], ◌∷◌, ◌++◌, ◌&&◌, drop, option_map, nat_lt, if◌then◌else◌, refl, arith}
+use Rattle.std.proofs.Common.{rules, ◌≡◌, ℕ, zero, suc, ◌+◌, ◌<◌, min, Bool, true, false, Option, None, Some, is_some, List, [], ◌∷◌, ◌++◌, ◌&&◌, drop, option_map, nat_lt, if◌then◌else◌, refl, arith}
 use Rattle.std.specs.List.{All, list_any}
 use Rattle.std.proofs.lemmas.Bool.{and_from, lt-ltb, or_left, or_right, false≢true}
 use Rattle.std.proofs.lemmas.List.{append-nil}
@@ -11,14 +11,13 @@ use Rattle.plan_tables.specs.declared.devices.BallSettings.{BallSettings}
 use Rattle.plan_tables.specs.declared.devices.Settings.TheVariants as kinds
 use Rattle.device_objects.specs.declared.device.Call.{Call}
 use Rattle.device_objects.specs.declared.device.Call.TheVariants as calls
-use Rattle.device_objects.specs.declared.state.Attempt.{Attempt}
 use Rattle.device_objects.specs.declared.state.BallSwitch.{BallSwitch}
 use Rattle.device_objects.specs.declared.state.BallState.{BallState}
 use Rattle.device_objects.specs.declared.state.Eject.{Eject}
 use Rattle.device_objects.specs.declared.state.Eject.TheVariants.{Idle, Pulsing, Away}
 use Rattle.device_objects.specs.declared.state.DeviceState.TheVariants as states
-use Rattle.device_objects.specs.BallDevice.{empty, switch_at, set_switch, first_due, timeout_of, earlier, is_timeout_first, entered, attempted, left, lost, failed, attempt, can_begin, begin, after, ended, stuck, may_try_again, next_number, overdue, confirmed, time_out, confirm, turned, gone, count, count_due, fire, requested, act_step, ball_step}
-use Rattle.device_objects.specs.Laws.{IsAttempt, IsEjectOf, HasBallShape, MayCome}
+use Rattle.device_objects.specs.BallDevice.{empty, switch_at, set_switch, first_due, timeout_of, earlier, is_timeout_first, entered, attempted, left, lost, attempt, can_begin, begin, after, ended, overdue, confirmed, time_out, confirm, turned, gone, count, count_due, fire, requested, act_step, ball_step}
+use Rattle.device_objects.specs.Laws.{IsEjectOf, HasBallShape, MayCome}
 use Rattle.device_objects.specs.Outcomes.{only_if, may_begin, may_eject, ending, of_count, of_attempt, of_ball_fire, of_ball_act, outcomes}
 use Rattle.device_objects.proofs.Among.{In, here, there, at_last, at_left, at_right, if_holds, by, either}
 use Rattle.device_objects.proofs.BallShapes.{can_begin-parts, ended-shape, first_due-within, with_switch}
@@ -41,14 +40,6 @@ some_switch : (n : ℕ) (bs : List BallSwitch) → All (λ b. b ≡ empty) (drop
     → nat_lt 0 n ≡ true
 some_switch zero bs unused counts = search (rules, list_any_none, All-weaker)
 some_switch (suc n) bs unused counts = lt-ltb 0 (suc n) (omega arith)
-
--- an attempt may follow one of this number, so also the first; or there is a last one
-may_follow_first : (most : Option ℕ) (number : ℕ) → 1 ≤ number → may_try_again most number ≡ true
-    → may_try_again most 1 ≡ true
-may_follow_first most number low may = search rules
-
-has_last : (most : Option ℕ) (number : ℕ) → may_try_again most number ≡ false → is_some most ≡ true
-has_last most number may = search rules
 
 module _ (d : BallSettings) where
   -- these lists, after which it begins to eject a ball, or not
@@ -87,21 +78,10 @@ module _ (d : BallSettings) where
 
   -- ---- an attempt is over
 
-  stuck-in : (now : ℕ) (a : Attempt) (s : BallState) → IsAttempt d a.number → In (stuck d now a s).1 (of_attempt d)
-  stuck-in now a s is =
-      let again : List (List ℕ) = only_if (may_try_again d.ejects.max_attempts 1) ((failed ∷ attempted ∷ []) ∷ []) in
-      let last : List (List ℕ) = only_if (is_some d.ejects.max_attempts) ((failed ∷ []) ∷ []) in
-      either (may_try_again d.ejects.max_attempts a.number)
-      (after (failed ∷ []) (attempt d (next_number d.ejects.max_attempts a.number) now s))
-      (record s { eject = Idle; wanted = 0 }, failed ∷ [])
-      (λ may. at_left last
-      (if_holds (may_try_again d.ejects.max_attempts 1) (may_follow_first d.ejects.max_attempts a.number is.0 may) here))
-      (λ not. at_right again (if_holds (is_some d.ejects.max_attempts) (has_last d.ejects.max_attempts a.number not) here))
-
   time_out-in : (now : ℕ) (eject : Eject) (s : BallState) → IsEjectOf d eject → is_some (timeout_of eject) ≡ true
       → HasBallShape d (ended s) → In (time_out d now eject s).1 (of_ball_fire d)
   time_out-in now Idle s is due shape = absurd (false≢true due)
-  time_out-in now (Pulsing a) s is due shape = search (rules, at_left, at_right, nat_lt, if_holds, stuck-in)
+  time_out-in now (Pulsing a) s is due shape = search (rules, at_left, at_right, nat_lt, if_holds, either, here)
   time_out-in now (Away a) s is due shape = search (rules, at_right, nat_lt, if_holds, ending-in, may_begin-from)
 
   count_due-in : (now : ℕ) (first : Option (ℕ × ℕ)) (s : BallState) → first_due s ≡ first → is_some first ≡ true

@@ -75,9 +75,7 @@ pub first_due-is_first : (i : ℕ) (bs : List BallSwitch) (j t : ℕ) → (get_o
     → IsDueBy (first_due_from i bs) t
 first_due-is_first i [] j t is = absurd (none-some t is)
 first_due-is_first i (b ∷ bs) zero t is = sooner-by_first b.due i t (first_due_from (suc i) bs) is
-first_due-is_first i (b ∷ bs) (suc j) t is =
-    sooner-by_second (option_map (λ m. (m, i)) b.due) (first_due_from (suc i) bs) t
-    (first_due-is_first (suc i) bs j t is)
+first_due-is_first i (b ∷ bs) (suc j) t is = search (rules, sooner-by_second, option_map, first_due-is_first (suc i) bs j t is)
 
 -- ---- none is due
 
@@ -121,8 +119,4 @@ pub which_part : (bs : List BallSwitch) (timeout : Option ℕ) (k t : ℕ) → g
 which_part [] timeout zero t is = inr (refl, is)
 which_part [] timeout (suc k) t is = absurd (none-some t is)
 which_part (b ∷ bs) timeout zero t is = inl (omega arith, is)
-which_part (b ∷ bs) timeout (suc k) t is =
-    elim (which_part bs timeout k t is) [
-      | inl switch ↦ inl (omega (arith, switch.0), switch.1)
-      | inr attempt ↦ inr (ap suc attempt.0, attempt.1)
-    ]
+which_part (b ∷ bs) timeout (suc k) t is = search (rules, which_part bs timeout k t is)

@@ -226,19 +226,13 @@ ball-fired d now s limits = first-done d now limits s (first_due s) (timeout_of 
 
 -- ---- its parts
 
-earlier-none : (x y : Option ℕ) → earlier x y ≡ None → (x ≡ None) × (y ≡ None)
-earlier-none x y is = search rules
-
-no_moment : (first : Option (ℕ × ℕ)) → option_map (λ a. a.0) first ≡ None → first ≡ None
-no_moment first is = search rules
-
 none-due : (bs : List BallSwitch) (i : ℕ) (due : Option ℕ) → first_due_from 0 bs ≡ None → (get_or bs i empty).due ≡ due
     → due ≡ None
 none-due bs i None none is = refl
 none-due bs i (Some t) none is = let c = first_due-is_first 0 bs i t is in absurd (none-some c.0 (sym none ∙ c.1))
 
 pub ball-parts_none : (s : BallState) → due_of s ≡ None → (k : ℕ) → part_due s k ≡ None
-ball-parts_none s is k = search (rules, option_map, earlier-none, which_part, none-some, none-due, no_moment)
+ball-parts_none s is k = search (rules, option_map, which_part, none-some, none-due)
 
 -- a part that is due is the attempt, or is due when the first ball switch is, or later
 abbrev IsPart : Option (ℕ × ℕ) → Option ℕ → ℕ → Type 0

@@ -1,5 +1,5 @@
 -- The answers in each of some states.
-use Rattle.std.proofs.Common.{◌≡◌, ℕ, zero, suc, ◌+◌, ◌<◌, List, ◌++◌, sym, ap, ◌∙◌, append_assoc, arith}
+use Rattle.std.proofs.Common.{rules, ◌≡◌, ℕ, zero, suc, ◌+◌, ◌<◌, List, ◌++◌, ap, ◌∙◌, append_assoc, arith}
 use Rattle.std.specs.List.{All, flat_map, range_with_len}
 use Rattle.std.proofs.lemmas.List.{append-nil}
 use Rattle.std.proofs.lemmas.List.Elements.{All-nil, All-append}
@@ -15,6 +15,4 @@ All-flat_map_range P f a (suc n) each =
 pub flat_map_range-suc : {X : Type 0} (f : ℕ → List X) (a n k : ℕ) → a + n ≡ k
     → flat_map f (range_with_len a (suc n)) ≡ flat_map f (range_with_len a n) ++ f k
 flat_map_range-suc f a zero k is = append-nil (f a) ∙ ap f (let same : a ≡ k = omega (arith, is) in same)
-flat_map_range-suc f a (suc n) k is =
-    ap (λ xs. f a ++ xs) (flat_map_range-suc f (a + 1) n k (omega (arith, is)))
-    ∙ sym (append_assoc (f a) (flat_map f (range_with_len (a + 1) n)) (f k))
+flat_map_range-suc f a (suc n) k is = search (rules, append_assoc, flat_map_range-suc f (a + 1) n k (omega (arith, is)))

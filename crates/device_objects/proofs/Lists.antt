@@ -69,10 +69,6 @@ module _ {S : Type 0} (n : ℕ) (step : S → S × List ℕ) (each : (slot : S) 
 
 -- ---- banks
 
--- one of the lists of the shots, of the hits and of the completions of a group, of n shots with c states
-shot-below : (i n c m s : ℕ) → i < n → s < c → i * c + s < c * (n + m)
-shot-below i n c m s l low = let more : c * suc i ≤ c * n = mul-le-mul_left c l in omega (arith, more, low)
-
 -- answers of so many lists, each one of n
 abbrev AreAllBelow : ℕ → List (List ℕ) → Type 0
 AreAllBelow n answers = All (AreBelow n) answers
@@ -88,11 +84,6 @@ all_one_of : (n : ℕ) (test : Bool) (xs ys : List (List ℕ)) → (test ≡ tru
     → AreAllBelow n (if test then xs else ys)
 all_one_of n test xs ys first second = search rules
 
--- the lists of a group, where the bank is one
-group_if : (group : Bool) (n c s : ℕ) → s < c
-    → AreBelow (c * (n + (if group then 2 else 0))) (if group then (n * c + s) ∷ [] else [])
-group_if group n c s low = search rules
-
 complete_if : (group : Bool) (n c s : ℕ) → group ≡ true → s < c
     → AreBelow (c * (n + (if group then 2 else 0))) ((suc n * c + s) ∷ [])
 complete_if group n c s is low = search rules
@@ -105,7 +96,7 @@ module _ (b : BankSettings) where
   of_group = if b.group then 2 else 0
 
   hits-below : (i s : ℕ) → i < b.shots → s ≤ b.last_state → AreBelow count (hit_lists b i s)
-  hits-below i s within low = search (rules, more, shot-below, group_if)
+  hits-below i s within low = search (rules, more, mul-le-mul_left)
 
   completing-below : (i s : ℕ) → i < b.shots → s ≤ b.last_state → b.group ≡ true → AreBelow count (hit_completing b i s)
   completing-below i s within low is =

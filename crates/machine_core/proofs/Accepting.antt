@@ -1,5 +1,5 @@
 -- What is done where a switch was accepted.
-use Rattle.std.proofs.Common.{◌≡◌, ◌<◌, List, [], ◌∷◌, length, length-append, sym, ap, ◌∙◌, subst, arith}
+use Rattle.std.proofs.Common.{rules, ◌≡◌, ◌<◌, List, [], ◌∷◌, length, length-append, sym, ap, ◌∙◌, subst, arith}
 use Rattle.plan_tables.specs.PlanView.{PlanView, act_of_listener, listeners_of, posts_of}
 use Rattle.plan_tables.specs.declared.entries.EventId.{EventId}
 use Rattle.plan_tables.specs.declared.entries.Listener.{Listener}
@@ -50,9 +50,7 @@ module _ (a : Change) (now : CoreView) (room : HasRoom now.room (do_accepted now
   module _ (written : CoreView) (written_is : written ≡ after (write owners.Machine (lines.Switch a.switch a.active)) now) (listeners : List Listener) (listeners_are : listeners ≡ listeners_of plan a.switch) where
     -- and for what the devices that listen to it are told
     pub told-room : HasRoom written.room (all_do (tell_listener written.plan a.active) listeners written.machine)
-    told-room =
-        subst (λ (v : CoreView). HasRoom v.room (all_do (tell_listener v.plan a.active) listeners v.machine)) (sym written_is)
-        (subst (λ (ls : List Listener). HasRoom now.room (all_do (tell_listener plan a.active) ls begun)) (sym listeners_are) told-fits)
+    told-room = search (rules, told-fits)
 
     module _ (core : CoreView) (core_is : core ≡ after (all_do (tell_listener written.plan a.active) listeners) written) where
       core-is : core ≡ after (λ s. told) now
@@ -76,9 +74,7 @@ module _ (a : Change) (now : CoreView) (room : HasRoom now.room (do_accepted now
         arrived-is = arrived_core_is ∙ ap (λ (v : CoreView). after (confirm_on_playfield v.plan a) v) core-is
 
         pub posts-room : HasRoom arrived_core.room (all_do (post owners.Machine) events arrived_core.machine)
-        posts-room =
-            subst (λ (v : CoreView). HasRoom v.room (all_do (post owners.Machine) events v.machine)) (sym arrived-is)
-            (subst (λ (es : List EventId). HasRoom now.room (all_do (post owners.Machine) es arrived)) (sym events_are) room)
+        posts-room = search (rules, arrived-is)
 
         pub accepted-done : (last : CoreView) → last ≡ after (all_do (post owners.Machine) events) arrived_core → last ≡ after (do_accepted plan a) now
         accepted-done last last_is = last_is ∙ (λ i. after (all_do (post owners.Machine) (events_are i)) (arrived-is i))

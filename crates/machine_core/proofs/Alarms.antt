@@ -1,5 +1,5 @@
 -- What the next alarm comes from.
-use Rattle.std.proofs.Common.{◌≡◌, ℕ, ◌<◌, Option, Some, None, option_map, MatchOption, length, refl, ap, sym, ◌∙◌, subst, arith}
+use Rattle.std.proofs.Common.{rules, ◌≡◌, ℕ, ◌<◌, Option, Some, None, option_map, MatchOption, length, refl, ap, sym, ◌∙◌, subst, arith}
 use Rattle.std.specs.Option.{IsSome}
 use Rattle.std.proofs.lemmas.Option.{same_Some}
 use Rattle.plan_tables.specs.PlanView.{PlanView}
@@ -36,10 +36,6 @@ fired-within c a core is =
 
 -- ---- which source fires
 
--- a switch that is the source of the next alarm is due next among the switches
-pub next-switch : (s : Machine) (at : ℕ) (n : SwitchId) → next_alarm s ≡ Some (at, switch n) → next_due s.switches ≡ Some (at, n)
-next-switch s at n next = next_due-is s.switches at n (next_alarm-due s at n (found-is_next s at (switch n) next))
-
 -- a device that is the source of the next alarm is one of the plan, and due
 pub next-row : (plan : PlanView) (s : Machine) (at : ℕ) (r : RowId) → HasDevices plan s.devices → next_alarm s ≡ Some (at, device r) → r.0 < length plan.rows
 next-row plan s at r has next = due-row plan s r at has (found-is_next s at (device r) next).due
@@ -52,8 +48,7 @@ pub next-of : (s : Machine) (source : Source) → option_map (λ a. a.1) (next_a
 next-of s source is = by (next_alarm s) refl is
   where
     by : (o : Option (ℕ × Source)) → next_alarm s ≡ o → option_map (λ a. a.1) o ≡ Some source → (at : ℕ) × (next_alarm s ≡ Some (at, source))
-    by None e h = cc
-    by (Some a) e h = let same : a.1 ≡ source = cc in (a.0, e ∙ ap (λ x. Some (a.0, x)) same)
+    by x1 e h = search rules
 
 -- ---- the raw level of a switch is accepted
 
@@ -63,25 +58,19 @@ module _ (core : CoreView) (source : Source) (next : option_map (λ a. a.1) (nex
   switches = core.machine.switches
 
   due : (at : ℕ) × (next_due switches ≡ Some (at, n))
-  due =
-      let found = next-of core.machine source next in
-      (found.0, next-switch core.machine found.0 n (found.1 ∙ ap (λ x. Some (found.0, x)) source_is))
+  due = search (rules, next-of, next_due-is, next_alarm-due, found-is_next)
 
   accepted-is : after_fire switches ≡ accept n switches
   accepted-is = ap (λ o. accept_due o switches) due.1
 
   acceptance-is : a ≡ reported (accept n switches) n
-  acceptance-is =
-      same_Some a (reported (accept n switches) n)
-      (sym reported_is ∙ ap (option_map (λ d. reported (after_fire switches) d.1)) due.1 ∙ ap (λ s. Some (reported s n)) accepted-is)
+  acceptance-is = search rules
 
   fired-is : fire core.plan source core.machine ≡ do_accepted core.plan a (set_switches (after_fire switches) core.machine)
   fired-is = ap (λ x. fire core.plan x core.machine) source_is ∙ (λ i. do_accepted core.plan (sym acceptance-is i) (set_switches (sym accepted-is i) core.machine))
 
   pub fired-room : HasRoom core.room (fire core.plan source core.machine) → HasRoom now.room (do_accepted now.plan a now.machine)
-  fired-room room =
-      subst (λ (c : CoreView). HasRoom c.room (do_accepted c.plan a c.machine)) (sym now_is)
-      (subst (HasRoom core.room) fired-is room)
+  fired-room room = search (rules, fired-is)
 
   pub fired-done : (last : CoreView) → last ≡ after (do_accepted now.plan a) now → last ≡ after (fire core.plan source) core
   fired-done last last_is = last_is ∙ ap (λ (c : CoreView). after (do_accepted c.plan a) c) now_is ∙ ap (λ (s : Machine). after (λ t. s) core) (sym fired-is)

@@ -1,5 +1,5 @@
 -- A ball has drained: the first ball save that is active, and what is done where there is none.
-use Rattle.std.proofs.Common.{◌≡◌, ℕ, Bool, true, false, if◌then◌else◌, Option, None, List, filter, drop, ap, sym, ◌∙◌, subst}
+use Rattle.std.proofs.Common.{rules, ◌≡◌, ℕ, Bool, true, false, if◌then◌else◌, Option, None, List, filter, drop, ap, sym, subst}
 use Rattle.plan_tables.specs.PlanView.{PlanView, is_multiball, is_save, row_at, row_numbers}
 use Rattle.plan_tables.specs.declared.entries.GameEvent.TheVariants.{BallDrain}
 use Rattle.plan_tables.specs.declared.devices.RowId.{RowId}
@@ -8,7 +8,7 @@ use Rattle.player_game.specs.GameStep.{is_ball_on}
 use Rattle.machine_core.specs.Balls.{drain_now}
 use Rattle.machine_core.specs.Core.{CoreView, CanCall, HasRoom, after}
 use Rattle.machine_core.proofs.Going.{goes-can, goes-end}
-use Rattle.machine_core.proofs.Listing.{grown, first_from}
+use Rattle.machine_core.proofs.Listing.{first_from}
 use Rattle.machine_core.proofs.Playing.{goes-step}
 use Rattle.machine_core.proofs.Room.{room-before}
 
@@ -53,9 +53,7 @@ module _ (old : CoreView) (room : HasRoom old.room (drain_now old.plan old.machi
   ended-fits = subst (HasRoom old.room) unsaved room
 
   pub step-room : HasRoom old.room stepped
-  step-room =
-      let ended = end_multiballs old.plan stepped in
-      room-before old.room stepped ended (grown old.plan stepped ended (goes-end old.plan stepped)) ended-fits
+  step-room = search (rules, room-before, goes-end, ended-fits)
 
   module _ (now : CoreView) (now_is : now ≡ after (step_game old.plan BallDrain) old) where
     pub end-calls : CanCall old → CanCall now
@@ -65,6 +63,4 @@ module _ (old : CoreView) (room : HasRoom old.room (drain_now old.plan old.machi
     end-room = subst (λ (c : CoreView). HasRoom c.room (end_multiballs c.plan c.machine)) (sym now_is) ended-fits
 
     pub drain-done : (last : CoreView) → last ≡ after (end_multiballs now.plan) now → last ≡ after (drain_now old.plan) old
-    drain-done last last_is =
-        last_is ∙ ap (λ (c : CoreView). after (end_multiballs c.plan) c) now_is
-        ∙ ap (λ (s : Machine). after (λ t. s) old) (sym unsaved)
+    drain-done last last_is = search rules

@@ -1,6 +1,5 @@
 -- A ball enters a device.
-use Rattle.std.proofs.Common.{◌≡◌, ◌<◌, Bool, true, false, [], ◌∷◌, length, length-append, refl, ap, sym, ◌∙◌, subst, arith}
-use Rattle.std.proofs.lemmas.Bool.{false≢true}
+use Rattle.std.proofs.Common.{rules, ◌≡◌, ◌<◌, Bool, true, false, length, length-append, ap, sym, ◌∙◌, subst}
 use Rattle.plan_tables.specs.PlanView.{PlanView}
 use Rattle.plan_tables.specs.Valid.{HasGame}
 use Rattle.plan_tables.specs.declared.entries.EventId.{EventId}
@@ -10,26 +9,23 @@ use Rattle.plan_tables.specs.declared.devices.RowId.{RowId}
 use Rattle.plan_tables.specs.declared.devices.Telling.{Telling}
 use Rattle.plan_tables.specs.declared.devices.Telling.TheVariants.{Arrived}
 use Rattle.ball_devices.specs.declared.booking.Origin.{Origin}
-use Rattle.ball_devices.specs.declared.booking.Origin.TheVariants.{Awaited}
 use Rattle.ball_devices.specs.Ledger.{origin_of}
 use Rattle.ball_devices.specs.Bookings.{is_awaited}
 use Rattle.ball_devices.specs.Bookings as calls_of_ledger
 use Rattle.written_machine.specs.Machine.{Machine, post, book, drain_if, after_entry, enter_ball}
 use Rattle.machine_core.specs.Core.{CoreView, CanCall, HasRoom, after}
 use Rattle.machine_core.specs.Goes.{AlwaysGoes, Tell}
-use Rattle.machine_core.proofs.Going.{goes-then, goes-can, goes-book, goes-post, goes-after_entry}
+use Rattle.machine_core.proofs.Going.{goes-post, goes-after_entry}
 use Rattle.machine_core.proofs.Listing.{grown}
 use Rattle.machine_core.proofs.Room.{room-before}
 
 module _ (plan : PlanView) (tell : Telling → Machine → Machine) (owner : Owner) (r : RowId) (drain : Bool) where
   -- where it was on its way, the device that ejected it is told, and else it may have drained
   rest-awaited : (o : Origin) (s : Machine) → is_awaited o ≡ true → after_entry plan tell owner r drain o s ≡ tell (Arrived (Device r)) s
-  rest-awaited Awaited s h = refl
-  rest-awaited _ s h = absurd (false≢true h)
+  rest-awaited x1 s h = search rules
 
   rest-other : (o : Origin) (s : Machine) → is_awaited o ≡ false → after_entry plan tell owner r drain o s ≡ drain_if plan owner drain s
-  rest-other Awaited s h = absurd (false≢true (sym h))
-  rest-other _ s h = refl
+  rest-other x1 s h = search rules
 
 module _ (tell : Tell) (goes : AlwaysGoes tell) (owner : Owner) (r : RowId) (drain : Bool) (e : EventId) (old : CoreView) (room : HasRoom old.room (enter_ball old.plan (tell old.plan) owner r e drain old.machine)) where
   abbrev told : Machine
@@ -42,18 +38,14 @@ module _ (tell : Tell) (goes : AlwaysGoes tell) (owner : Owner) (r : RowId) (dra
   origin = origin_of r old.machine.ledger
 
   posted-fits : HasRoom old.room posted
-  posted-fits =
-      let entered = enter_ball old.plan (tell old.plan) owner r e drain old.machine in
-      room-before old.room posted entered (grown old.plan posted entered (goes-after_entry old.plan (tell old.plan) (goes old.plan) owner r drain origin posted)) room
+  posted-fits = search (rules, room-before, goes-after_entry)
 
   pub booked-room : HasRoom old.room told
   booked-room = room-before old.room told posted (grown old.plan told posted (goes-post old.plan owner e told)) posted-fits
 
   module _ (booked : CoreView) (booked_is : booked ≡ after (book owner (calls_of_ledger.Enter r)) old) where
     pub event-room : length booked.machine.waiting < booked.room
-    event-room =
-        subst (λ (c : CoreView). length c.machine.waiting < c.room) (sym booked_is)
-        (let fits = posted-fits.waiting in omega (arith, length-append told.waiting (record { event = e; owner = owner } ∷ [])))
+    event-room = search (rules, posted-fits, length-append)
 
     module _ (now : CoreView) (now_is : now ≡ after (post owner e) booked) where
       now-is : now ≡ after (λ s. posted) old
@@ -63,29 +55,19 @@ module _ (tell : Tell) (goes : AlwaysGoes tell) (owner : Owner) (r : RowId) (dra
       entered-there there = subst (λ (c : CoreView). r.0 < length c.plan.rows) (sym now-is) there
 
       pub entered-calls : CanCall old → CanCall now
-      entered-calls h =
-          subst CanCall (sym now-is)
-          (goes-can old (λ s. posted) (goes-then old.plan old.machine told posted (goes-book old.plan owner (calls_of_ledger.Enter r) old.machine) (goes-post old.plan owner e told)) h)
+      entered-calls h = search rules
 
       pub tell-room : is_awaited origin ≡ true → HasRoom now.room (tell now.plan (Arrived (Device r)) now.machine)
-      tell-room awaited =
-          subst (λ (c : CoreView). HasRoom c.room (tell c.plan (Arrived (Device r)) c.machine)) (sym now-is)
-          (subst (HasRoom old.room) (rest-awaited old.plan (tell old.plan) owner r drain origin posted awaited) room)
+      tell-room awaited = search rules
 
       pub entered-awaited : is_awaited origin ≡ true → (last : CoreView) → last ≡ after (tell now.plan (Arrived (Device r))) now → last ≡ after (enter_ball old.plan (tell old.plan) owner r e drain) old
-      entered-awaited awaited last last_is =
-          last_is ∙ ap (λ (c : CoreView). after (tell c.plan (Arrived (Device r))) c) now-is
-          ∙ ap (λ (s : Machine). after (λ t. s) old) (sym (rest-awaited old.plan (tell old.plan) owner r drain origin posted awaited))
+      entered-awaited awaited last last_is = search rules
 
       pub drain-game : (drain ≡ true → HasGame old.plan) → drain ≡ true → HasGame now.plan
       drain-game game drains = subst (λ (c : CoreView). HasGame c.plan) (sym now-is) (game drains)
 
       pub drain-room : is_awaited origin ≡ false → HasRoom now.room (drain_if now.plan owner drain now.machine)
-      drain-room other =
-          subst (λ (c : CoreView). HasRoom c.room (drain_if c.plan owner drain c.machine)) (sym now-is)
-          (subst (HasRoom old.room) (rest-other old.plan (tell old.plan) owner r drain origin posted other) room)
+      drain-room other = search rules
 
       pub entered-other : is_awaited origin ≡ false → (last : CoreView) → last ≡ after (drain_if now.plan owner drain) now → last ≡ after (enter_ball old.plan (tell old.plan) owner r e drain) old
-      entered-other other last last_is =
-          last_is ∙ ap (λ (c : CoreView). after (drain_if c.plan owner drain) c) now-is
-          ∙ ap (λ (s : Machine). after (λ t. s) old) (sym (rest-other old.plan (tell old.plan) owner r drain origin posted other))
+      entered-other other last last_is = search rules

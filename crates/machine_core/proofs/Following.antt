@@ -1,12 +1,9 @@
 -- What is done with the modes, and with the handlers of those that run.
-use Rattle.std.proofs.Common.{◌≡◌, ℕ, zero, suc, Bool, true, false, if◌then◌else◌, List, [], ◌∷◌, length, set, replicate, refl, sym, ap, ◌∙◌}
+use Rattle.std.proofs.Common.{rules, ◌≡◌, ℕ, zero, suc, Bool, true, false, if◌then◌else◌, List, [], ◌∷◌, length, set, replicate, refl, sym, ap, ◌∙◌}
 use Rattle.std.proofs.lemmas.List.{map-set}
 use Rattle.plan_tables.specs.PlanView.{PlanView, coil_numbers, game_event, may_hold_ball_end, mode_event}
 use Rattle.plan_tables.specs.declared.entries.CoilId.{CoilId}
 use Rattle.plan_tables.specs.declared.entries.Owner.{Owner}
-use Rattle.coil_guard.specs.declared.command.Command.TheVariants as commands
-use Rattle.coil_guard.specs.CoilStep.{is_held_by}
-use Rattle.coil_guard.specs.Coils.{coil_at}
 use Rattle.plan_tables.specs.declared.entries.ModeEvent.TheVariants.{Started, Stopping, Stopped}
 use Rattle.plan_tables.specs.declared.entries.Owner.TheVariants as owners
 use Rattle.plan_tables.specs.declared.entries.Work.TheVariants.{Mode}
@@ -22,9 +19,9 @@ use Rattle.plan_tables.specs.declared.entries.GameEvent.TheVariants.{BallEnded}
 use Rattle.player_game.specs.GameStep.{ends_ball}
 use Rattle.device_objects.specs.declared.device.Call.{Call}
 use Rattle.device_objects.specs.declared.device.Call.TheVariants as calls
-use Rattle.written_machine.specs.Machine.{Machine, all_do, post, post_if, set_mode, stop_mode, release_ball_end, drop_hold, call_devices, ask_coil, release_coil, release_coils}
+use Rattle.written_machine.specs.Machine.{Machine, all_do, post, post_if, set_mode, stop_mode, release_ball_end, drop_hold, call_devices, release_coil, release_coils}
 use Rattle.written_machine.specs.EventStep.{do_before, do_after}
-use Rattle.written_machine.proofs.Does.{post_if-by, stop-by}
+use Rattle.written_machine.proofs.Does.{stop-by}
 use Rattle.written_machine.proofs.Parts.{does-calls}
 use Rattle.written_machine.proofs.Silence.{still-does}
 use Rattle.machine_core.specs.Core.{CoreView, HasHandlers, after, follow}
@@ -39,24 +36,17 @@ follow-nothing c was = λ i. record { plan = c.plan; running = was i; machine = 
 
 -- a mode that is told to stop goes on running, if it ran
 pub stop-still : (plan : PlanView) (m : ModeId) (s : Machine) → running_of (stop_mode plan m s).modes ≡ running_of s.modes
-stop-still plan m s =
-    let same = starting_keeps_who_runs.stop s.modes m in
-    stop-by plan m s (λ t. running_of t.modes ≡ running_of s.modes) same same
+stop-still plan m s = search (rules, starting_keeps_who_runs, stop-by)
 
 -- one that lets go of the end of the ball runs as before
 pub release-still : (plan : PlanView) (m : ModeId) (s : Machine) → running_of (release_ball_end plan m s).modes ≡ running_of s.modes
 release-still plan m s = by (may_hold_ball_end plan m)
   where
     by : (holds : Bool) → running_of (if holds then post_if (ends_ball m s.game) (game_event plan BallEnded) (drop_hold m s) else s).modes ≡ running_of s.modes
-    by true = post_if-by (λ t. running_of t.modes ≡ running_of s.modes) (game_event plan BallEnded) (drop_hold m s) refl refl (ends_ball m s.game)
-    by false = refl
+    by x1 = search rules
 
 abbrev runs : ModeState → Bool
 runs s = is_running s.phase
-
--- a mode that is entered runs, and one that has ended does not
-pub entered-runs : (states : List ModeState) (m : ModeId) (running : List Bool) → running ≡ running_of states → set running m.0 true ≡ running_of (set states m.0 (entered (mode_state states m)))
-entered-runs states m running is = ap (λ (bs : List Bool). set bs m.0 true) is ∙ sym (map-set runs states m.0 (in_phase phases.Active))
 
 pub ended-runs : (states : List ModeState) (m : ModeId) (running : List Bool) → running ≡ running_of states → set running m.0 false ≡ running_of (set states m.0 (ended (mode_state states m)))
 ended-runs states m running is = ap (λ (bs : List Bool). set bs m.0 false) is ∙ sym (map-set runs states m.0 (in_phase phases.Idle))
@@ -72,8 +62,7 @@ idle-runs plan = none_runs (length plan.modes)
 -- the core of a mode that is entered, and of one that has ended
 pub entered-follows : (c : CoreView) (m : ModeId) → HasHandlers c
     → record c { machine = set_mode m (entered (mode_state c.machine.modes m)) c.machine; running = set c.running m.0 true } ≡ follow (λ s. set_mode m (entered (mode_state s.modes m)) s) c
-entered-follows c m is =
-    λ i. record { plan = c.plan; running = entered-runs c.machine.modes m c.running is i; machine = set_mode m (entered (mode_state c.machine.modes m)) c.machine; room = c.room }
+entered-follows c m is = search (rules, map-set)
 
 -- while the devices of a mode are called, the same modes run
 pub calls-still : (plan : PlanView) (call : Call) (m : ModeId) (s : Machine) → running_of (call_devices plan call m s).modes ≡ running_of s.modes
@@ -82,23 +71,12 @@ calls-still plan call m s = still-does plan (λ owner. Unit {0}) ⊥ (does-calls
 -- the core after the whole work at `started`
 pub started-follows : (c entered_core new : CoreView) (m : ModeId) → entered_core ≡ follow (λ s. set_mode m (entered (mode_state s.modes m)) s) c → new ≡ after (call_devices entered_core.plan calls.ModeStart m) entered_core
     → new ≡ follow (do_before c.plan (Mode m Started)) c
-started-follows c entered_core new m was is =
-    is ∙ ap (λ (v : CoreView). after (call_devices v.plan calls.ModeStart m) v) was
-    ∙ (λ i. record {
-      plan = c.plan;
-      running = sym (calls-still c.plan calls.ModeStart m (set_mode m (entered (mode_state c.machine.modes m)) c.machine)) i;
-      machine = do_before c.plan (Mode m Started) c.machine;
-      room = c.room;
-    })
+started-follows c entered_core new m was is = search (rules, calls-still)
 
 -- while its coils are put off too
 freed-modes : (owner : Owner) (coils : List CoilId) (s : Machine) → (all_do (release_coil owner) coils s).modes ≡ s.modes
 freed-modes owner [] s = refl
-freed-modes owner (coil ∷ coils) s = freed-modes owner coils (release_coil owner coil s) ∙ by (is_held_by owner (coil_at s.coils coil))
-  where
-    by : (b : Bool) → (if b then ask_coil owner (commands.Disable coil) s else s).modes ≡ s.modes
-    by true = refl
-    by false = refl
+freed-modes owner (coil ∷ coils) s = search (rules, freed-modes owner coils (release_coil owner coil s))
 
 pub freed-still : (plan : PlanView) (owner : Owner) (s : Machine) → running_of (release_coils plan owner s).modes ≡ running_of s.modes
 freed-still plan owner s = ap (λ (states : List ModeState). running_of states) (freed-modes owner (coil_numbers plan) s)
@@ -108,16 +86,4 @@ pub ended-follows : (kept : Bool) (c stopped freed ended_core : CoreView) (m : M
     → freed ≡ after (release_coils stopped.plan (owners.Mode m)) stopped
     → ended_core ≡ record freed { machine = set_mode m (ended (mode_state freed.machine.modes m)) freed.machine; running = set freed.running m.0 false }
     → after (post owners.Machine (mode_event c.plan m Stopped)) ended_core ≡ follow (do_after c.plan kept (Mode m Stopping)) c
-ended-follows kept c stopped freed ended_core m is was free last =
-    let calls_done = call_devices c.plan calls.ModeStop m c.machine in
-    let free_now = release_coils c.plan (owners.Mode m) calls_done in
-    let running = is ∙ sym (freed-still c.plan (owners.Mode m) calls_done ∙ calls-still c.plan calls.ModeStop m c.machine) in
-    ap (after (post owners.Machine (mode_event c.plan m Stopped))) last
-    ∙ ap (λ (v : CoreView). after (post owners.Machine (mode_event c.plan m Stopped)) (record v { machine = set_mode m (ended (mode_state v.machine.modes m)) v.machine; running = set v.running m.0 false }))
-    (free ∙ ap (λ (v : CoreView). after (release_coils v.plan (owners.Mode m)) v) was)
-    ∙ (λ i. record {
-      plan = c.plan;
-      running = ended-runs free_now.modes m c.running running i;
-      machine = post owners.Machine (mode_event c.plan m Stopped) (set_mode m (ended (mode_state free_now.modes m)) free_now);
-      room = c.room;
-    })
+ended-follows kept c stopped freed ended_core m is was free last = search (rules, freed-still, calls-still, ended-runs)

@@ -1,19 +1,16 @@
 -- What is kept while actions are done, devices are called, and other devices are told.
-use Rattle.std.specs.Prelude.{◌&&◌, ◌==◌}
-use Rattle.std.proofs.Common.{ℕ, zero, suc, ℤ, Bool, true, false, if◌then◌else◌, Option, None, Some, List, [], ◌∷◌, length-append, refl, ◌∙◌, arith}
-use Rattle.plan_tables.specs.PlanView.{PlanView, act_told, actions_at, game_event, list_of_row, multiball_rows, row_at, switch_at, target_of}
+use Rattle.std.proofs.Common.{rules, ℕ, ℤ, Bool, if◌then◌else◌, Option, None, Some, List, [], ◌∷◌, length-append, refl, arith}
+use Rattle.plan_tables.specs.PlanView.{PlanView, act_told, actions_at, list_of_row, row_at, target_of}
 use Rattle.plan_tables.specs.declared.entries.Action.{Action}
 use Rattle.plan_tables.specs.declared.entries.Action.TheVariants.{Post, Pulse, Enable, Disable, Change as ChangeVariable, Enter, Leave, Lose, Arrive, Request, AddBalls}
 use Rattle.plan_tables.specs.declared.entries.EventId.{EventId}
-use Rattle.plan_tables.specs.declared.entries.GameEvent.TheVariants.{BallDrain}
 use Rattle.plan_tables.specs.declared.entries.Owner.{Owner}
 use Rattle.plan_tables.specs.declared.entries.VariableId.{VariableId}
-use Rattle.plan_tables.specs.declared.devices.Act.TheVariants.{End}
 use Rattle.plan_tables.specs.declared.devices.BallTarget.TheVariants as targets
 use Rattle.plan_tables.specs.declared.devices.RowId.{RowId}
 use Rattle.plan_tables.specs.declared.devices.Telling.{Telling}
 use Rattle.plan_tables.specs.declared.devices.Telling.TheVariants.{Arrived, Wanted}
-use Rattle.ball_devices.specs.Bookings.{LedgerCall, after_call, booked, can_book}
+use Rattle.ball_devices.specs.Bookings.{LedgerCall}
 use Rattle.ball_devices.specs.Bookings as calls_of_ledger
 use Rattle.ball_devices.specs.Ledger.{origin_of}
 use Rattle.ball_devices.specs.declared.booking.Origin.{Origin}
@@ -22,12 +19,11 @@ use Rattle.coil_guard.specs.declared.command.Command.{Command}
 use Rattle.coil_guard.specs.declared.command.Command.TheVariants as commands
 use Rattle.device_objects.specs.declared.device.Call.{Call}
 use Rattle.device_objects.specs.declared.device.Call.TheVariants as calls
-use Rattle.player_game.specs.GameStep.{GameState, in_play, is_ball_on, missing, more_balls}
-use Rattle.player_game.specs.Players.{PlayersState, changed_to, after_change}
+use Rattle.player_game.specs.GameStep.{GameState}
+use Rattle.player_game.specs.Players.{PlayersState}
 use Rattle.switch_core.specs.declared.change.Change.{Change}
 use Rattle.written_machine.specs.declared.line.Happening.{Happening}
-use Rattle.written_machine.specs.declared.line.Happening.TheVariants as lines
-use Rattle.written_machine.specs.Machine.{Machine, write, post, set_device, set_game, set_ledger, set_players, all_do, ask_coil, tell_change, book, counts_of, drain_if, after_entry, enter_ball, want_balls, add_balls, do_action_by, do_list_by, do_answer_by, called, call_device_by, tell_nobody, told_device, tell_device, tell_first, call_device, ask_ball, end_multiballs, confirm_on_playfield}
+use Rattle.written_machine.specs.Machine.{Machine, write, post, set_device, set_game, set_players, all_do, ask_coil, tell_change, book, drain_if, after_entry, enter_ball, want_balls, add_balls, do_action_by, do_list_by, do_answer_by, called, call_device_by, tell_nobody, told_device, tell_device, tell_first, call_device, ask_ball, end_multiballs, confirm_on_playfield}
 use Rattle.written_machine.specs.Moves.{Turned, Does, moved}
 use Rattle.written_machine.proofs.Does.{has_devices-does}
 use Rattle.written_machine.proofs.Growth.{post-grows, asked-grows, told-grows}
@@ -37,29 +33,14 @@ use Rattle.machine_core.specs.Goes.{Goes}
 
 -- devices can be called as before
 pub goes-can : (old : CoreView) (does : Machine → Machine) → Goes old.plan old.machine (does old.machine) → CanCall old → CanCall (after does old)
-goes-can old does g h =
-    let early = h.early in
-    let moment = g.moment in
-    record { devices = g.devices h.devices; coils = g.coils ∙ h.coils; early = omega arith }
+goes-can old does g h = search rules
 
 module _ (plan : PlanView) where
   pub goes-none : (s : Machine) → Goes plan s s
   goes-none s = record { lines = omega arith; waiting = omega arith; modes = refl; moment = refl; coils = refl; devices = λ h. h }
 
   pub goes-then : (s t u : Machine) → Goes plan s t → Goes plan t u → Goes plan s u
-  goes-then s t u g h =
-      let fewer = g.lines in
-      let more = h.lines in
-      let before = g.waiting in
-      let later = h.waiting in
-      record {
-        lines = omega arith;
-        waiting = omega arith;
-        modes = h.modes ∙ g.modes;
-        moment = h.moment ∙ g.moment;
-        coils = h.coils ∙ g.coils;
-        devices = λ was. h.devices (g.devices was);
-      }
+  goes-then s t u g h = search rules
 
   -- ---- one change each
 
@@ -67,26 +48,15 @@ module _ (plan : PlanView) where
   goes-post owner e s = let g = post-grows owner e s in record { lines = g.0; waiting = g.1; modes = refl; moment = refl; coils = refl; devices = λ h. h }
 
   pub goes-write : (owner : Owner) (what : Happening) (s : Machine) → Goes plan s (write owner what s)
-  goes-write owner what s = record {
-    lines = omega (arith, length-append s.lines (record { moment = s.moment; owner = owner; happening = what } ∷ []));
-    waiting = omega arith;
-    modes = refl;
-    moment = refl;
-    coils = refl;
-    devices = λ h. h;
-  }
+  goes-write owner what s = search (rules, length-append)
 
   goes-asked : (owner : Owner) (command : Command) (s : Machine) → Goes plan s (ask_coil owner command s)
-  goes-asked owner command s =
-      let g = asked-grows owner command s in
-      record { lines = g.0; waiting = g.1; modes = refl; moment = refl; coils = asked-count owner command s.moment s.coils; devices = λ h. h }
+  goes-asked owner command s = search (rules, asked-grows, asked-count)
 
   goes-told : (owner : Owner) (player : ℕ) (v : VariableId) (e : EventId) (value : Option ℤ) (players : PlayersState) (s : Machine)
       → Goes plan s (tell_change owner player v e value (set_players players s))
   goes-told owner player v e None players s = record { lines = omega arith; waiting = omega arith; modes = refl; moment = refl; coils = refl; devices = λ h. h }
-  goes-told owner player v e (Some value) players s =
-      let g = told-grows owner player v e (Some value) (set_players players s) in
-      record { lines = g.0; waiting = g.1; modes = refl; moment = refl; coils = refl; devices = λ h. h }
+  goes-told owner player v e (Some value) players s = search (rules, told-grows)
 
   goes-game : (game : GameState) (s : Machine) → Goes plan s (set_game game s)
   goes-game game s = record { lines = omega arith; waiting = omega arith; modes = refl; moment = refl; coils = refl; devices = λ h. h }
@@ -98,20 +68,13 @@ module _ (plan : PlanView) where
       record { lines = omega arith; waiting = omega arith; modes = refl; moment = refl; coils = refl; devices = has_devices-does plan turned }
 
   goes-if : (b : Bool) (s t : Machine) → Goes plan s t → Goes plan s (if b then t else s)
-  goes-if true s t g = g
-  goes-if false s t g = goes-none s
+  goes-if x1 s t g = search rules
 
   pub goes-book : (owner : Owner) (call : LedgerCall) (s : Machine) → Goes plan s (book owner call s)
-  goes-book owner call s =
-      let what = lines.Balls (booked call s.ledger) (counts_of (after_call call s.ledger)) in
-      let told = set_ledger (after_call call s.ledger) s in
-      let g = goes-write owner what told in
-      goes-if (can_book call s.ledger) s (write owner what told)
-      (record { lines = g.lines; waiting = g.waiting; modes = refl; moment = refl; coils = refl; devices = λ h. h })
+  goes-book owner call s = search (rules, goes-write, goes-if)
 
   goes-drain : (owner : Owner) (drain : Bool) (s : Machine) → Goes plan s (drain_if plan owner drain s)
-  goes-drain owner true s = goes-if (is_ball_on s.game.phase) s (post owner (game_event plan BallDrain) s) (goes-post owner (game_event plan BallDrain) s)
-  goes-drain owner false s = goes-none s
+  goes-drain owner x2 s = search (rules, goes-if, goes-post, goes-none)
 
   -- one after another
   pub goes-all : {X : Type 0} (f : X → Machine → Machine) → ((x : X) (s : Machine) → Goes plan s (f x s)) → (xs : List X) (s : Machine) → Goes plan s (all_do f xs s)
@@ -134,22 +97,17 @@ module _ (plan : PlanView) where
         (goes-after_entry owner r drain (origin_of r s.ledger) posted)
 
     goes-want : (n : ℕ) (s : Machine) → Goes plan s (want_balls tell n s)
-    goes-want zero s = goes-none s
-    goes-want (suc n) s = each (Wanted (suc n)) s
+    goes-want x1 s = search rules
 
     goes-add : (n : ℕ) (s : Machine) → Goes plan s (add_balls tell n s)
-    goes-add n s =
-        let more = set_game (more_balls n s.game) s in
-        goes-then s more (add_balls tell n s) (goes-game (more_balls n s.game) s) (goes-want (missing n s.game) more)
+    goes-add n s = search rules
 
     pub goes-action_by : (owner : Owner) (a : Action) (s : Machine) → Goes plan s (do_action_by plan tell owner a s)
     goes-action_by owner (Post e) s = goes-post owner e s
     goes-action_by owner (Pulse coil ms power) s = goes-asked owner (commands.Pulse coil ms power) s
     goes-action_by owner (Enable coil power) s = goes-asked owner (commands.Enable coil power) s
     goes-action_by owner (Disable coil) s = goes-asked owner (commands.Disable coil) s
-    goes-action_by owner (ChangeVariable v action n e) s =
-        let value = changed_to plan v action n s.players in
-        goes-told owner s.players.current v e value (after_change plan v value s.players) s
+    goes-action_by owner (ChangeVariable v action n e) s = search (rules, goes-told)
     goes-action_by owner (Enter r e drain) s = goes-enter owner r e drain s
     goes-action_by owner (Leave r) s = goes-book owner (calls_of_ledger.Leave r (target_of plan r)) s
     goes-action_by owner (Lose r) s = goes-book owner (calls_of_ledger.Lose r) s
@@ -189,10 +147,7 @@ module _ (plan : PlanView) where
   goes-ask asks s = goes-if asks s (tell_first plan (Wanted 1) s) (goes-tell_first (Wanted 1) s)
 
   pub goes-playfield : (a : Change) (s : Machine) → Goes plan s (confirm_on_playfield plan a s)
-  goes-playfield a s =
-      goes-if (a.active && (switch_at plan a.switch).confirms_playfield) s (tell_first plan (Arrived targets.Playfield) s) (goes-tell_first (Arrived targets.Playfield) s)
+  goes-playfield a s = search (rules, goes-if, goes-tell_first)
 
   pub goes-end : (s : Machine) → Goes plan s (end_multiballs plan s)
-  goes-end s =
-      goes-if (in_play s.game == 1) s (all_do (call_device plan (calls.Act End)) (multiball_rows plan) s)
-      (goes-all (call_device plan (calls.Act End)) (goes-call (calls.Act End)) (multiball_rows plan) s)
+  goes-end s = search (rules, goes-if, goes-all, goes-call)

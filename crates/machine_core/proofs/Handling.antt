@@ -1,5 +1,5 @@
 -- The handlers of an event, one after another.
-use Rattle.std.proofs.Common.{◌≡◌, ℕ, ◌+◌, ◌<◌, ◌≤◌, Bool, Option, Some, None, List, ◌∷◌, length, drop, get_or, inl, inr, ap, sym, ◌∙◌, subst, arith}
+use Rattle.std.proofs.Common.{rules, ◌≡◌, ℕ, ◌+◌, ◌<◌, ◌≤◌, Bool, Option, Some, None, List, ◌∷◌, length, drop, get_or, inl, inr, ap, sym, ◌∙◌, subst, arith}
 use Rattle.std.specs.Prelude.{slice_get}
 use Rattle.std.proofs.lemmas.Option.{get_or_from_slice_get, none-some, slice_get-get_or, slice_get_within}
 use Rattle.std.proofs.lemmas.Bool.{cases_lt}
@@ -77,5 +77,4 @@ module _ (running : List Bool) (start now : CoreView) (kept : start.running ≡ 
 
 -- what a binding of the plan names is in the plan
 pub binding-within : (plan : PlanView) → HasEntries plan → (place : BindingId) (b : Binding) → slice_get plan.bindings place.0 ≡ Some b → IsBindingWithin plan b
-binding-within plan entries place b is =
-    subst (IsBindingWithin plan) (get_or_from_slice_get plan.bindings place.0 b b is) (All-get_or (IsBindingWithin plan) plan.bindings place.0 b (slice_get_within plan.bindings place.0 b is) entries.bindings)
+binding-within plan entries place b is = search (rules, get_or_from_slice_get, All-get_or, slice_get_within)

@@ -1,7 +1,7 @@
 -- The rows of a plan, one after another, and what their devices answer.
 use Rattle.std.specs.Prelude.{◌&&◌, find}
-use Rattle.std.proofs.Common.{◌≡◌, ℕ, ◌+◌, ◌<◌, ◌≤◌, Bool, true, false, cond, Option, None, Some, List, [], ◌∷◌, length, filter, drop, refl, ap, sym, ◌∙◌, subst, arith}
-use Rattle.std.proofs.lemmas.Bool.{and_parts, false≢true}
+use Rattle.std.proofs.Common.{rules, ◌≡◌, ℕ, ◌+◌, ◌<◌, ◌≤◌, Bool, true, false, Option, None, Some, List, [], ◌∷◌, length, filter, drop, refl, ap, sym, ◌∙◌, subst, arith}
+use Rattle.std.proofs.lemmas.Bool.{and_parts}
 use Rattle.std.specs.List.{All}
 use Rattle.std.proofs.lemmas.List.{drop_all, drop_more}
 use Rattle.std.proofs.lemmas.List.Elements.{All-get_or}
@@ -43,13 +43,11 @@ module _ (plan : PlanView) where
   -- those of them that are meant
   pub row-first : (test : RowId → Bool) (i : ℕ) → i < length plan.rows → test (record { 0 = i }) ≡ true
       → filter test (drop i (row_numbers plan)) ≡ record { 0 = i } ∷ filter test (drop (i + 1) (row_numbers plan))
-  row-first test i there meant =
-      ap (filter test) (rows-more i there) ∙ ap (λ (b : Bool). cond b (record { 0 = i } ∷ filter test (drop (i + 1) (row_numbers plan))) (filter test (drop (i + 1) (row_numbers plan)))) meant
+  row-first test i there meant = search (rules, rows-more)
 
   pub row-other : (test : RowId → Bool) (i : ℕ) → i < length plan.rows → test (record { 0 = i }) ≡ false
       → filter test (drop i (row_numbers plan)) ≡ filter test (drop (i + 1) (row_numbers plan))
-  row-other test i there other =
-      ap (filter test) (rows-more i there) ∙ ap (λ (b : Bool). cond b (record { 0 = i } ∷ filter test (drop (i + 1) (row_numbers plan))) (filter test (drop (i + 1) (row_numbers plan)))) other
+  row-other test i there other = search (rules, rows-more)
 
   pub rows-end : (i : ℕ) → length plan.rows ≤ i → drop i (row_numbers plan) ≡ []
   rows-end i past = drop_all i (row_numbers plan) (omega (arith, past, length-rows plan))
@@ -60,20 +58,13 @@ module _ (plan : PlanView) where
     first_from i = find meets (filter meant (drop i (row_numbers plan)))
 
     pub first-here : (i : ℕ) → i < length plan.rows → (meant (record { 0 = i }) && meets (record { 0 = i })) ≡ true → first_from i ≡ Some (record { 0 = i })
-    first-here i there both =
-        let r : RowId = record { 0 = i } in
-        let parts = and_parts (meant r) (meets r) both in
-        ap (find meets) (row-first meant i there parts.0)
-        ∙ ap (λ (b : Bool). cond b (Some r) (find meets (filter meant (drop (i + 1) (row_numbers plan))))) parts.1
+    first-here i there both = search (rules, and_parts, row-first)
 
     pub first-later : (i : ℕ) → i < length plan.rows → (meant (record { 0 = i }) && meets (record { 0 = i })) ≡ false → first_from i ≡ first_from (i + 1)
     first-later i there neither = by (meant (record { 0 = i })) (meets (record { 0 = i })) refl refl neither
       where
         by : (m t : Bool) → meant (record { 0 = i }) ≡ m → meets (record { 0 = i }) ≡ t → (m && t) ≡ false → first_from i ≡ first_from (i + 1)
-        by true true is of h = absurd (false≢true (sym h))
-        by true false is of h =
-            ap (find meets) (row-first meant i there is) ∙ ap (λ (b : Bool). cond b (Some (record { 0 = i })) (first_from (i + 1))) of
-        by false t is of h = ap (find meets) (row-other meant i there is)
+        by x1 x2 is of h = search (rules, row-first, row-other)
 
     pub first-end : (i : ℕ) → length plan.rows ≤ i → first_from i ≡ None
     first-end i past = ap (λ (rs : List RowId). find meets (filter meant rs)) (rows-end i past)

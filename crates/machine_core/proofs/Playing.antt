@@ -1,5 +1,5 @@
 -- What an event of the game leads to.
-use Rattle.std.proofs.Common.{◌≡◌, ℕ, suc, ◌+◌, ◌-◌, ◌<◌, ◌≤◌, Bool, true, false, if◌then◌else◌, Option, None, Some, List, ◌∷◌, length, refl, ap, sym, ◌∙◌, subst, arith}
+use Rattle.std.proofs.Common.{rules, ◌≡◌, ℕ, ◌+◌, ◌-◌, ◌<◌, Bool, true, false, if◌then◌else◌, Option, None, Some, List, ◌∷◌, refl, ap, sym, ◌∙◌, subst, arith}
 use Rattle.std.specs.List.{range_with_len}
 use Rattle.plan_tables.specs.PlanView.{PlanView}
 use Rattle.plan_tables.specs.Valid.{HasGame}
@@ -14,23 +14,18 @@ use Rattle.mode_stack.specs.declared.phase.ModeState.{ModeState}
 use Rattle.mode_stack.specs.Modes.{running_of}
 use Rattle.player_game.specs.declared.game.GameWork.{GameWork}
 use Rattle.player_game.specs.GameStep.{GameStep}
-use Rattle.player_game.specs.Players.{score_of}
 use Rattle.plan_tables.specs.PlanView.{game_event}
-use Rattle.written_machine.specs.declared.line.Happening.TheVariants as lines
-use Rattle.written_machine.specs.Machine.{Machine, all_do, ask_ball, do_game, drain_ball, end_multiballs, first_active_save, post_game, step_game, write_final, write_finals}
+use Rattle.written_machine.specs.Machine.{Machine, all_do, ask_ball, do_game, drain_ball, end_multiballs, first_active_save, post_game, step_game, write_finals}
 use Rattle.machine_core.specs.Core.{CoreView, CanCall, HasRoom, IsWorkOfGame, after, played, step_at}
 use Rattle.machine_core.specs.Goes.{Goes}
 use Rattle.machine_core.proofs.Going.{goes-none, goes-then, goes-can, goes-all, goes-post, goes-write, goes-call, goes-ask, goes-end}
-use Rattle.machine_core.proofs.Listing.{grown}
 use Rattle.machine_core.proofs.Room.{room-before}
 
 -- ---- what is told, asked and posted
 
 module _ (plan : PlanView) where
   goes-finals : (tells : Bool) (s : Machine) → Goes plan s (write_finals plan tells s)
-  goes-finals true s =
-      goes-all plan (write_final plan) (λ player t. goes-write plan owners.Machine (lines.Final player (score_of plan t.players player)) t)
-      (range_with_len 1 (length s.players.players)) s
+  goes-finals true s = search (rules, goes-all, goes-write)
   goes-finals false s = goes-none plan s
 
   goes-events : (events : List GameEvent) (s : Machine) → Goes plan s (all_do (post_game plan) events s)
@@ -71,9 +66,7 @@ module _ (plan : PlanView) where
 -- ---- scores, one player after another
 
 pub finals-first : (place count : ℕ) → place < count → range_with_len (place + 1) (count - place) ≡ (place + 1) ∷ range_with_len (place + 1 + 1) (count - (place + 1))
-finals-first place count there =
-    let one : count - place ≡ suc (count - (place + 1)) = omega arith in
-    ap (range_with_len (place + 1)) one
+finals-first place count there = search rules
 
 -- ---- the game goes on, scores are told, a ball is asked for, and events are posted
 
@@ -90,16 +83,8 @@ module _ (which : GameEvent) (old next : CoreView) (next_is : next ≡ after (pl
   abbrev asked_machine : Machine
   asked_machine = ask_ball old.plan step.requests scored
 
-  asked-fits : HasRoom old.room (step_game old.plan which old.machine) → HasRoom old.room asked_machine
-  asked-fits room =
-      let done = step_game old.plan which old.machine in
-      room-before old.room asked_machine done (grown old.plan asked_machine done (goes-events old.plan step.posts asked_machine)) room
-
   pub scores-room : HasRoom old.room (step_game old.plan which old.machine) → HasRoom next.room (write_finals next.plan work.finals next.machine)
-  scores-room room =
-      let here : HasRoom old.room scored = room-before old.room scored asked_machine (grown old.plan scored asked_machine (goes-ask old.plan step.requests scored)) (asked-fits room) in
-      subst (λ (v : CoreView). HasRoom v.room (write_finals v.plan work.finals v.machine)) (sym next_is)
-      (subst (λ (b : Bool). HasRoom old.room (write_finals old.plan b gone)) (sym work_is.finals) here)
+  scores-room room = search (rules, room-before, goes-ask, goes-events)
 
   -- once scores are told
   module _ (told : CoreView) (told_is : told ≡ after (write_finals next.plan work.finals) next) where
@@ -112,9 +97,7 @@ module _ (which : GameEvent) (old next : CoreView) (next_is : next ≡ after (pl
         (goes-can (after (played old.plan which) old) (λ s. scored) (goes-finals old.plan step.finals gone) (record { devices = h.devices; coils = h.coils; early = h.early }))
 
     pub ask-room : HasRoom old.room (step_game old.plan which old.machine) → HasRoom told.room (ask_ball told.plan work.requests told.machine)
-    ask-room room =
-        subst (λ (v : CoreView). HasRoom v.room (ask_ball v.plan work.requests v.machine)) (sym told-is)
-        (subst (λ (b : Bool). HasRoom old.room (ask_ball old.plan b scored)) (sym work_is.requests) (asked-fits room))
+    ask-room room = search (rules, told-is, room-before, goes-events)
 
     -- and a ball is asked for
     module _ (asked : CoreView) (asked_is : asked ≡ after (ask_ball told.plan work.requests) told) where
@@ -126,9 +109,7 @@ module _ (which : GameEvent) (old next : CoreView) (next_is : next ≡ after (pl
 
       module _ (posts : List GameEvent) (posts_is : posts ≡ work.posts.items) where
         pub events-room : HasRoom old.room (step_game old.plan which old.machine) → HasRoom asked.room (all_do (post_game asked.plan) posts asked.machine)
-        events-room room =
-            subst (λ (v : CoreView). HasRoom v.room (all_do (post_game v.plan) posts v.machine)) (sym asked-is)
-            (subst (λ (es : List GameEvent). HasRoom old.room (all_do (post_game old.plan) es asked_machine)) (sym (posts_is ∙ work_is.posts)) room)
+        events-room room = search rules
 
         pub game-done : (last : CoreView) → last ≡ after (all_do (post_game asked.plan) posts) asked → last ≡ after (step_game old.plan which) old
         game-done last last_is = last_is ∙ (λ i. after (all_do (post_game (asked-is i).plan) ((posts_is ∙ work_is.posts) i)) (asked-is i))

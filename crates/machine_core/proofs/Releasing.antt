@@ -1,14 +1,13 @@
 -- The coils that an owner holds are put off, the lowest first.
-use Rattle.std.proofs.Common.{◌≡◌, ℕ, zero, suc, ◌+◌, ◌-◌, ◌<◌, ◌≤◌, Bool, true, false, if◌then◌else◌, Option, None, Some, option_map, List, [], ◌∷◌, ◌++◌, length, take, drop, get_or, refl, sym, ap, ◌∙◌, subst, length-append, arith}
+use Rattle.std.proofs.Common.{rules, ◌≡◌, ℕ, zero, suc, ◌+◌, ◌-◌, ◌<◌, ◌≤◌, Bool, true, false, if◌then◌else◌, Option, None, Some, option_map, List, [], ◌∷◌, ◌++◌, length, take, drop, get_or, refl, sym, ap, ◌∙◌, subst, length-append, arith}
 use Rattle.std.proofs.lemmas.Bool.{cond-true, cond-false, or_right}
 use Rattle.std.proofs.lemmas.List.{take-append-drop, drop_more, take_more, take_all, length-set, get_or-set_same, get_or-set_other}
 use Rattle.std.proofs.lemmas.List.FromFn.{length-map-range_with_len, get_or-map-range_with_len}
 use Rattle.std.proofs.lemmas.Option.{same_Some}
 use Rattle.std.specs.Prelude.{nat_lt, is_some}
-use Rattle.plan_tables.specs.PlanView.{PlanView, coil_numbers, mode_event}
+use Rattle.plan_tables.specs.PlanView.{PlanView, coil_numbers}
 use Rattle.plan_tables.specs.declared.entries.ModeId.{ModeId}
-use Rattle.plan_tables.specs.declared.entries.ModeEvent.TheVariants.{Stopping, Stopped}
-use Rattle.plan_tables.specs.declared.entries.Owner.TheVariants as owners
+use Rattle.plan_tables.specs.declared.entries.ModeEvent.TheVariants.{Stopping}
 use Rattle.plan_tables.specs.declared.entries.Work.{Work}
 use Rattle.plan_tables.specs.declared.entries.Work.TheVariants.{Mode}
 use Rattle.device_objects.specs.declared.device.Call.TheVariants as calls
@@ -16,16 +15,15 @@ use Rattle.plan_tables.specs.declared.entries.CoilId.{CoilId}
 use Rattle.plan_tables.specs.declared.entries.Owner.{Owner}
 use Rattle.coil_guard.specs.declared.command.Command.{Command}
 use Rattle.coil_guard.specs.declared.command.Command.TheVariants.{Disable}
-use Rattle.coil_guard.specs.declared.command.Answer.TheVariants.{Sent, Skipped}
 use Rattle.coil_guard.specs.declared.state.CoilState.{CoilState}
 use Rattle.coil_guard.specs.Limits.{no_limits}
 use Rattle.coil_guard.specs.CoilStep.{off, is_on_at, is_held_by, disabled}
-use Rattle.coil_guard.specs.Lowest.{lowest, IsLowest}
+use Rattle.coil_guard.specs.Lowest.{IsLowest}
 use Rattle.coil_guard.proofs.Lowest.{lowest-is}
 use Rattle.coil_guard.specs.Coils.{coil_at, set_coil, put_off, next_held, after_release, answer_release}
 use Rattle.coil_guard.specs.Owners.{is_holder}
 use Rattle.written_machine.specs.declared.line.Happening.TheVariants as lines
-use Rattle.written_machine.specs.Machine.{Machine, write, set_coils, told, all_do, ask_coil, call_devices, release_coil, release_coils}
+use Rattle.written_machine.specs.Machine.{Machine, write, set_coils, all_do, ask_coil, call_devices, release_coil, release_coils}
 use Rattle.written_machine.specs.EventStep.{do_after}
 use Rattle.written_machine.proofs.Parts.{does-calls}
 use Rattle.written_machine.proofs.Growth.{asked-grows, all_do-grows}
@@ -42,8 +40,7 @@ held-on : (owner : Owner) (now : ℕ) (x : CoilState) → is_held_by owner x ≡
 held-on owner now x is = or_right (nat_lt now x.pulse_end) (is_some x.holder) (by x.holder is)
   where
     by : (holder : Option Owner) → is_holder owner holder ≡ true → is_some holder ≡ true
-    by None h = h
-    by (Some o) h = refl
+    by x1 h = search rules
 
 module _ (plan : PlanView) (owner : Owner) where
   -- ---- coils that it does not hold stay
@@ -99,14 +96,11 @@ module _ (plan : PlanView) (owner : Owner) where
       let_go = write owner (lines.Coil (Disable coil)) (set_coils (set_coil coil (disabled (coil_at s.coils coil)) s.coils) s)
 
       asked-is : ask_coil owner (Disable coil) s ≡ let_go
-      asked-is =
-          ap (λ (b : Bool). write owner (told (Disable coil) (if b then Sent (Disable coil) else Skipped)) (set_coils (if b then set_coil coil (disabled (coil_at s.coils coil)) s.coils else s.coils) s)) on
+      asked-is = search (rules, coil, on)
 
       -- others stay as they are held
       others : (c : CoilId) → c.0 < coil.0 → is_held_by owner (coil_at let_go.coils c) ≡ false
-      others c below =
-          ap (is_held_by owner) (get_or-set_other s.coils coil.0 c.0 (disabled (coil_at s.coils coil)) (off no_limits) (λ (same : c.0 ≡ coil.0). omega (arith, below, same)))
-          ∙ is.2 c below
+      others c below = search (rules, get_or-set_other, coil, is)
 
       own : is_held_by owner (coil_at let_go.coils coil) ≡ false
       own = ap (is_held_by owner) (get_or-set_same s.coils coil.0 (disabled (coil_at s.coils coil)) (off no_limits) is.0)
@@ -117,21 +111,9 @@ module _ (plan : PlanView) (owner : Owner) where
           sym (take-append-drop coil.0 ns)
           ∙ ap (λ cs. take coil.0 ns ++ cs) (drop_more ns coil.0 coil (omega (arith, there, count)) ∙ ap (λ (c : CoilId). c ∷ drop (coil.0 + 1) ns) (number-at coil.0 coil there))
 
-      at-split : (t : Machine) → ((c : CoilId) → c.0 < coil.0 → is_held_by owner (coil_at t.coils c) ≡ false)
-          → release_coils plan owner t ≡ all_do (release_coil owner) (drop (coil.0 + 1) (coil_numbers plan)) (release_coil owner coil t)
-      at-split t none =
-          let ns = coil_numbers plan in
-          ap (λ cs. all_do (release_coil owner) cs t) split
-          ∙ all_do-append (release_coil owner) (take coil.0 ns) (coil ∷ drop (coil.0 + 1) ns) t
-          ∙ ap (λ u. all_do (release_coil owner) (drop (coil.0 + 1) ns) (release_coil owner coil u)) (none-below coil.0 t (omega (arith, there)) none)
-
       -- it is put off first, and then the others
       pub released-first : release_coils plan owner s ≡ release_coils plan owner let_go
-      released-first =
-          let up = drop (coil.0 + 1) (coil_numbers plan) in
-          at-split s is.2
-          ∙ ap (all_do (release_coil owner) up) (cond-true (is_held_by owner (coil_at s.coils coil)) (ask_coil owner (Disable coil) s) s is.1 ∙ asked-is ∙ sym (not-released coil let_go own))
-          ∙ sym (at-split let_go others)
+      released-first = search (rules, coil, split, all_do-append, none-below, there, is, cond-true, asked-is, not-released, own, others)
 
   release-grows : (s : Machine) → Grows s (release_coils plan owner s)
   release-grows s = all_do-grows (release_coil owner) (λ c t. by c t (is_held_by owner (coil_at t.coils c))) (coil_numbers plan) s
@@ -221,15 +203,7 @@ module _ (plan : PlanView) (owner : Owner) where
 
 -- where all that is done leaves room, the stop of its devices does
 pub stopped-room : (plan : PlanView) (kept : Bool) (m : ModeId) (work : Work) (room : ℕ) (s : Machine) → work ≡ Mode m Stopping → HasRoom room (do_after plan kept work s) → HasRoom room (call_devices plan calls.ModeStop m s)
-stopped-room plan kept m work room s is h =
-    let stopped = call_devices plan calls.ModeStop m s in
-    let whole : HasRoom room (do_after plan kept (Mode m Stopping) s) = subst (λ (w : Work). HasRoom room (do_after plan kept w s)) is h in
-    let freed = release_coils plan (owners.Mode m) stopped in
-    let grown = release-grows plan (owners.Mode m) stopped in
-    let lines = whole.lines in
-    let waiting = whole.waiting in
-    let more = length-append freed.waiting (record { event = mode_event plan m Stopped; owner = owners.Machine } ∷ []) in
-    record { waiting = omega (arith, grown.1, waiting, more); lines = omega (arith, grown.0, lines) }
+stopped-room plan kept m work room s is h = search (rules, is, release-grows, length-append)
 
 -- and there are all coils after it
 pub stopped-coils : (m : ModeId) (old stopped : CoreView) → stopped ≡ after (call_devices old.plan calls.ModeStop m) old → CanCall old → length stopped.machine.coils ≡ length stopped.plan.coils

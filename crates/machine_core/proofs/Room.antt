@@ -1,5 +1,5 @@
 -- What leaves room in the end left room before.
-use Rattle.std.proofs.Common.{◌≡◌, ℕ, ℤ, zero, suc, ◌+◌, ◌≤◌, ◌<◌, Option, Some, None, List, [], ◌∷◌, length, drop, length-append, ap, sym, ◌∙◌, subst, arith}
+use Rattle.std.proofs.Common.{rules, ◌≡◌, ℕ, ℤ, zero, suc, ◌+◌, ◌≤◌, ◌<◌, Option, Some, List, [], ◌∷◌, length, drop, length-append, ap, sym, ◌∙◌, subst, arith}
 use Rattle.std.specs.Prelude.{slice_get}
 use Rattle.plan_tables.specs.declared.entries.EventId.{EventId}
 use Rattle.plan_tables.specs.declared.entries.Owner.{Owner}
@@ -21,46 +21,27 @@ abbrev pub Grows : Machine → Machine → Type 0
 Grows s t = (length s.lines ≤ length t.lines) × (length s.waiting ≤ length t.waiting)
 
 pub room-before : (room : ℕ) (s t : Machine) → Grows s t → HasRoom room t → HasRoom room s
-room-before room s t g h =
-    let lines = g.0 in
-    let waiting = g.1 in
-    let most_lines = h.lines in
-    let most_waiting = h.waiting in
-    record { waiting = omega arith; lines = omega arith }
+room-before room s t g h = search rules
 
 -- where all that is left to do leaves room, its first does
 pub room-first : {X : Type 0} (f : PlanView → X → Machine → Machine) → ((plan : PlanView) (x : X) (s : Machine) → Grows s (f plan x s)) → (now all : CoreView) (x : X) (xs left : List X) → left ≡ x ∷ xs
     → after (all_do (f now.plan) left) now ≡ all → HasRoom all.room all.machine → HasRoom now.room (f now.plan x now.machine)
-room-first f each now all x xs left e is h =
-    let whole : after (all_do (f now.plan) (x ∷ xs)) now ≡ all = subst (λ (ys : List _). after (all_do (f now.plan) ys) now ≡ all) e is in
-    let next = f now.plan x now.machine in
-    let here : HasRoom now.room (all_do (f now.plan) xs next) = subst (λ (v : CoreView). HasRoom v.room v.machine) (sym whole) h in
-    room-before now.room next (all_do (f now.plan) xs next) (all_do-grows (f now.plan) (each now.plan) xs next) here
+room-first f each now all x xs left e is h = search (rules, room-before, all_do-grows)
 
 -- where all that is left to do comes to a state, so does the rest after the first
 pub all_do-first : {X : Type 0} (f : PlanView → X → Machine → Machine) (now next all : CoreView) (x : X) (xs left : List X) → left ≡ x ∷ xs
     → after (all_do (f now.plan) left) now ≡ all → next ≡ after (f now.plan x) now → after (all_do (f next.plan) xs) next ≡ all
-all_do-first f now next all x xs left e is n =
-    let whole : after (all_do (f now.plan) (x ∷ xs)) now ≡ all = subst (λ (ys : List _). after (all_do (f now.plan) ys) now ≡ all) e is in
-    subst (λ (v : CoreView). after (all_do (f v.plan) xs) v ≡ all) (sym n) whole
+all_do-first f now next all x xs left e is n = search rules
 
 -- what is at a place is the first of what is left there
 pub drop-found : {X : Type 0} (xs : List X) (k : ℕ) (x : X) → slice_get xs k ≡ Some x → drop k xs ≡ x ∷ drop (k + 1) xs
 drop-found [] k x h = cc
 drop-found (y ∷ ys) zero x h = let same : y ≡ x = cc in ap (λ z. z ∷ ys) same
-drop-found (y ∷ ys) (suc k) x h =
-    let e : suc k + 1 ≡ suc (k + 1) = omega arith in
-    rw e (drop-found ys k x h)
+drop-found (y ∷ ys) (suc k) x h = search (rules, drop-found ys k x h)
 
 -- what was taken from the queue was taken from the machine
 pub taken-is : (result : Option Posted) (old new : QueueView) (c d : CoreView) → IsTaken result old new → c.machine.waiting ≡ old.waiting → c.room ≡ old.size → d ≡ record c { machine = record c.machine { waiting = new.waiting }; room = new.size } → TakesFirst result c d
-taken-is None old new c d (none, same) waits room is = (
-  waits ∙ none,
-  is ∙ ap (λ (q : QueueView). record c { machine = record c.machine { waiting = q.waiting }; room = q.size }) same
-      ∙ ap (λ (ps : List Posted). record c { machine = record c.machine { waiting = ps }; room = old.size }) (sym waits) ∙ ap (λ (n : ℕ). record c { room = n }) (sym room),
-)
-taken-is (Some first) old new c d (first_is, same) waits room is =
-    (new.waiting, waits ∙ first_is, is ∙ ap (λ (n : ℕ). record c { machine = record c.machine { waiting = new.waiting }; room = n }) (same ∙ sym room))
+taken-is x1 old new c d x6 waits room is = search rules
 
 -- where all that is left to post leaves room, its first has it
 pub post-room : (owner : Owner) (now all : CoreView) (e : EventId) (es left : List EventId) → left ≡ e ∷ es → after (all_do (post owner) left) now ≡ all → HasRoom all.room all.machine → length now.machine.waiting < now.room
@@ -71,8 +52,7 @@ post-room owner now all e es left is whole h =
 
 -- a score that is told adds a line
 pub final-grows : (plan : PlanView) (player : ℕ) (s : Machine) → Grows s (write_final plan player s)
-final-grows plan player s =
-    (omega (arith, length-append s.lines (record { moment = s.moment; owner = owners.Machine; happening = lines.Final player (score_of plan s.players player) } ∷ [])), omega arith)
+final-grows plan player s = search (rules, length-append)
 
 pub final-room : (now all : CoreView) (player : ℕ) (players left : List ℕ) → left ≡ player ∷ players → after (all_do (write_final now.plan) left) now ≡ all → HasRoom all.room all.machine → length now.machine.lines < now.room
 final-room now all player players left is whole h =
@@ -93,12 +73,7 @@ game-room now all e es left is whole h =
 
 -- where a change of a variable that is told leaves room, there is room for its line and its event
 told-fits : (owner : Owner) (player : ℕ) (v : VariableId) (e : EventId) (value : ℤ) (room : ℕ) (s : Machine) → HasRoom room (tell_change owner player v e (Some value) s) → (length s.lines < room) × (length s.waiting < room)
-told-fits owner player v e value room s h =
-    let written = h.lines in
-    let waits = h.waiting in (
-      omega (arith, written, length-append s.lines (record { moment = s.moment; owner = owner; happening = lines.Player player v value } ∷ [])),
-      omega (arith, waits, length-append s.waiting (record { event = e; owner = owner } ∷ [])),
-    )
+told-fits owner player v e value room s h = search (rules, length-append)
 
 changed-fits : (plan : PlanView) (owner : Owner) (v : VariableId) (action : VariableAction) (n : ℤ) (e : EventId) (value : ℤ) (room : ℕ) (s : Machine) → Some value ≡ changed_to plan v action n s.players
     → HasRoom room (change_variable plan owner v action n e s) → (length s.lines < room) × (length s.waiting < room)

@@ -1,5 +1,5 @@
 -- What is done at an event that was taken: the machine's work before its handlers, they, and the work after them.
-use Rattle.std.proofs.Common.{◌≡◌, Bool, Some, None, List, refl, ap, sym, ◌∙◌, subst}
+use Rattle.std.proofs.Common.{rules, ◌≡◌, Bool, Some, None, List, refl, ap, sym, ◌∙◌, subst}
 use Rattle.plan_tables.specs.declared.entries.BindingId.{BindingId}
 use Rattle.plan_tables.specs.PlanView.{PlanView, work_of}
 use Rattle.plan_tables.specs.declared.entries.EventId.{EventId}
@@ -9,7 +9,6 @@ use Rattle.mode_stack.specs.Modes.{running_of}
 use Rattle.event_queue.specs.PlanOrder.{in_order}
 use Rattle.written_machine.specs.Machine.{Machine, all_do, do_handler}
 use Rattle.written_machine.specs.EventStep.{is_kept, do_before, do_after}
-use Rattle.written_machine.specs.Moves.{Grows}
 use Rattle.written_machine.proofs.Does.{grows-does}
 use Rattle.written_machine.proofs.Growth.{all_do-grows, handler-grows}
 use Rattle.written_machine.proofs.Parts.{does-handlers, does-before, does-after}
@@ -27,12 +26,10 @@ follow-same f g c same = λ i. record { plan = c.plan; running = running_of (sam
 -- ---- whether the machine has work at an event
 
 pub kept-some : (work : Work) (s : Machine) (kept : Bool) → kept_at work s ≡ Some kept → kept ≡ is_kept work s
-kept-some Nothing s kept is = cc
-kept-some _ s kept is = cc
+kept-some x1 s kept is = search rules
 
 pub kept-none : (work : Work) (s : Machine) → kept_at work s ≡ None → work ≡ Nothing
-kept-none Nothing s is = refl
-kept-none _ s is = cc
+kept-none x1 s is = search rules
 
 -- ---- devices can still be called
 
@@ -76,20 +73,10 @@ module _ (event : EventId) where
 
     module _ (kept : Bool) (kept_is : kept ≡ is_kept work old.machine) where
       whole-is : whole old.plan work kept old.machine ≡ after_taken old.plan event old.machine
-      whole-is =
-          let known : kept ≡ is_kept (work_of old.plan event) old.machine = kept_is ∙ ap (λ (w : Work). is_kept w old.machine) work_is in
-          λ i. whole old.plan (work_is i) (known i) old.machine
-
-      room-whole : HasRoom old.room (whole old.plan work kept old.machine)
-      room-whole = subst (HasRoom old.room) (sym whole-is) room
-
-      work-grows : (s : Machine) → Grows s (do_after old.plan kept work s)
-      work-grows s = subst (λ (w : Work). Grows s (do_after old.plan kept w s)) (sym work_is) (grows-does old.plan (does-after old.plan kept event s))
+      whole-is = search rules
 
       room-handled : HasRoom old.room (handled old.plan (do_before old.plan work old.machine))
-      room-handled =
-          let s = handled old.plan (do_before old.plan work old.machine) in
-          room-before old.room s (whole old.plan work kept old.machine) (work-grows s) room-whole
+      room-handled = search (rules, room-before, grows-does, does-after, whole-is)
 
       pub before-room : HasRoom old.room (do_before old.plan work old.machine)
       before-room =
@@ -110,17 +97,10 @@ module _ (event : EventId) where
         then-work = work_is ∙ ap (λ (p : PlanView). work_of p event) (sym then-plan)
 
         pub then-room : HasRoom then.room (do_after then.plan kept (work_of then.plan event) then.machine)
-        then-room =
-            subst (λ (w : Work). HasRoom then.room (do_after then.plan kept w then.machine)) then-work
-            (subst (λ (c : CoreView). HasRoom c.room (do_after c.plan kept work c.machine)) (sym then_is)
-            (subst (λ (c : CoreView). HasRoom c.room (do_after c.plan kept work (handled c.plan c.machine))) (sym ready_is) room-whole))
+        then-room = search rules
 
         work-is : (last : CoreView) → last ≡ follow (do_after then.plan kept work) then → last ≡ follow (after_taken old.plan event) old
-        work-is last is =
-            is
-            ∙ ap (λ (c : CoreView). follow (do_after c.plan kept work) c) then_is
-            ∙ ap (λ (c : CoreView). follow (do_after c.plan kept work) (after (all_do (do_handler c.plan) (in_order c.plan (running_of c.machine.modes) event)) c)) ready_is
-            ∙ follow-same (whole old.plan work kept) (after_taken old.plan event) old whole-is
+        work-is last is = search rules
 
         pub last-is : (last : CoreView) → last ≡ follow (do_after then.plan kept (work_of then.plan event)) then → last ≡ follow (after_taken old.plan event) old
         last-is last is = work-is last (is ∙ ap (λ (w : Work). follow (do_after then.plan kept w) then) (sym then-work))

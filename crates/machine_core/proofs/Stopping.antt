@@ -1,5 +1,5 @@
 -- Each device of a list of them stops.
-use Rattle.std.proofs.Common.{◌≡◌, ℕ, ◌+◌, ◌<◌, ◌≤◌, List, [], ◌∷◌, ◌++◌, length, map, set, get_or, take, drop, zip, refl, ap, sym, ◌∙◌, arith}
+use Rattle.std.proofs.Common.{rules, ◌≡◌, ℕ, ◌+◌, ◌<◌, ◌≤◌, List, [], ◌∷◌, ◌++◌, length, map, set, get_or, take, drop, zip, refl, ap, sym, ◌∙◌, arith}
 use Rattle.std.proofs.lemmas.List.{append-nil, drop_all, get_or-map, length-map, map-set, take_all}
 use Rattle.std.proofs.lemmas.List.Edits.{map_over_more}
 use Rattle.std.proofs.lemmas.Simd.{map-map}
@@ -71,7 +71,4 @@ machine-stopped row state plan s items lent new world rows states world_is lent_
 
 -- a list that was lent whole and keeps its length is what it was written to
 pub lent-whole : {A : Type 0} (count : ℕ) (items new : List A) → count ≡ length items → length new ≡ length items → take count (new ++ drop (length new) items) ≡ new
-lent-whole count items new all same =
-    ap (λ rest. take count (new ++ rest)) (drop_all (length new) items (omega (arith, same)))
-    ∙ ap (take count) (append-nil new)
-    ∙ take_all count new (omega (arith, all, same))
+lent-whole count items new all same = search (rules, drop_all, append-nil, take_all)

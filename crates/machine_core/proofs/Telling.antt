@@ -1,15 +1,12 @@
 -- The first device that is Away to a target is due.
 use Rattle.std.specs.Prelude.{◌&&◌, find, is_some}
-use Rattle.std.proofs.Common.{◌≡◌, ℕ, Bool, true, false, cond, Option, None, Some, option_map, List, [], ◌∷◌, map, filter, refl, ap, sym, ◌∙◌}
-use Rattle.std.proofs.lemmas.Bool.{true≢false}
+use Rattle.std.proofs.Common.{rules, ◌≡◌, ℕ, Bool, false, cond, Option, None, Some, List, [], ◌∷◌, map, filter, refl, ap, sym, ◌∙◌}
 use Rattle.plan_tables.specs.PlanView.{PlanView, feeds, row_at, row_numbers}
 use Rattle.plan_tables.specs.declared.devices.BallTarget.{BallTarget}
 use Rattle.plan_tables.specs.declared.devices.RowId.{RowId}
 use Rattle.device_objects.specs.declared.state.Eject.{Eject}
-use Rattle.device_objects.specs.declared.state.Eject.TheVariants.{Idle, Pulsing, Away}
 use Rattle.device_objects.specs.declared.state.DeviceState.{DeviceState}
-use Rattle.device_objects.specs.declared.state.DeviceState.TheVariants as states
-use Rattle.device_objects.specs.BallDevice.{is_away, first_due, timeout_of, earlier}
+use Rattle.device_objects.specs.BallDevice.{is_away, timeout_of, earlier}
 use Rattle.device_objects.specs.DeviceStep.{due_of}
 use Rattle.event_queue.specs.Alarms.{least_of}
 use Rattle.event_queue.proofs.Least.{alarms_give_the_least}
@@ -17,29 +14,21 @@ use Rattle.written_machine.specs.Machine.{Machine, device_at, first_away, is_dev
 use Rattle.written_machine.proofs.NextAlarms.{dues-at}
 
 and-false : (b : Bool) → false ≡ (b && false)
-and-false true = refl
-and-false false = refl
+and-false x1 = search rules
 
 -- it waits no longer than its timeout
 eject-due : (due : Option ℕ) (e : Eject) → is_away e ≡ (is_some (earlier due (timeout_of e)) && is_away e)
-eject-due due Idle = and-false (is_some (earlier due None))
-eject-due due (Pulsing a) = and-false (is_some (earlier due (Some a.timeout)))
-eject-due None (Away a) = refl
-eject-due (Some moment) (Away a) = refl
+eject-due x1 x2 = search rules
 
 pub away-due : (s : DeviceState) → is_device_away s ≡ (is_some (due_of s) && is_device_away s)
-away-due (states.Timer s) = and-false (is_some s.due)
-away-due (states.BallDevice s) = eject-due (option_map (λ a. a.0) (first_due s)) s.eject
-away-due (states.BallSave s) = and-false (is_some s.due)
-away-due _ = refl
+away-due x1 = search rules
 
 find-nothing : (p : RowId → Bool) (rows : List RowId) → ((r : RowId) → p r ≡ false) → find p rows ≡ None
 find-nothing p [] none = refl
 find-nothing p (r ∷ rows) none = ap (λ (b : Bool). cond b (Some r) (find p rows)) (none r) ∙ find-nothing p rows none
 
 pub unless-some : {A : Type 0} (o : Option A) → is_some o ≡ false → o ≡ None
-unless-some None e = refl
-unless-some (Some a) e = absurd (true≢false e)
+unless-some x1 e = search rules
 
 -- where no device is due, none is Away
 pub none-away : (plan : PlanView) (target : BallTarget) (s : Machine) → least_of (map due_of s.devices) ≡ None → first_away plan target s ≡ None

@@ -1,13 +1,11 @@
 -- What holds of ball devices, by the names of their settings: their names are names, and their settings are in their ranges.
-use Rattle.std.proofs.Common.{◌≡◌, map, slice_get, refl}
+use Rattle.std.proofs.Common.{rules, ◌≡◌, map, slice_get, refl}
 use Rattle.std.specs.List.{All}
 use Rattle.section_tables.specs.Rows.{Entry}
-use Rattle.section_tables.specs.Entries.{written_at}
 use Rattle.section_tables.specs.Named.{IsNamedEntry, IsShortEntry}
-use Rattle.mpf_tables.specs.SectionTables as tables
 use Rattle.mpf_sections.specs.Rows.{SectionRows}
-use Rattle.mpf_sections.specs.Typed.{text_of, listed_names, name_in, entries_of}
-use Rattle.mpf_sections.specs.TypedBalls.{ball_devices_name, playfield, ball_device_of, ball_devices_in}
+use Rattle.mpf_sections.specs.Typed.{entries_of}
+use Rattle.mpf_sections.specs.TypedBalls.{ball_devices_name, ball_device_of, ball_devices_in}
 use Rattle.mpf_sections.specs.Named.{IsNamedBallDevice, IsNamed}
 use Rattle.mpf_sections.specs.Short.{IsShortBallDevice, IsShortSection}
 use Rattle.mpf_tables.proofs.TableNames.{playfield_named}
@@ -23,13 +21,7 @@ use Rattle.mpf_sections.proofs.ShotRows.{few_all, few_short}
 -- The names in an entry of `ball_devices` are names.
 pub ball_device_named : (e : Entry) → IsNamedEntry e → IsNamedBallDevice (ball_device_of e)
 unfolding ball_device_of
-ball_device_named e h = record {
-  name = h.name;
-  switches = few_all is_name (listed_names (slice_get e.values 0)) (names_named (slice_get e.values 0) (value_at_named e.values 0 h.values));
-  eject_coil = some_named (name_in (text_of (slice_get e.values 1))) (written_named e 1 h);
-  target = either_named (name_in (text_of (slice_get e.values 2))) (written_at 0 playfield) (written_named e 2 h) playfield_named;
-  tags = names_named (slice_get e.values 8) (value_at_named e.values 8 h.values);
-}
+ball_device_named e h = search (rules, few_all, is_name, slice_get, names_named, value_at_named, some_named, written_named, either_named, playfield_named)
 
 -- so they are in a section
 pub ball_devices_named : (s : SectionRows) → IsNamed s → All IsNamedBallDevice (ball_devices_in s)
@@ -41,15 +33,7 @@ ball_devices_named s h = made_each IsNamedBallDevice ball_device_of ball_device_
 -- The settings of a ball device are in their ranges.
 pub ball_device_short : (e : Entry) → IsShortEntry 1024 e → IsShortBallDevice (ball_device_of e)
 unfolding ball_device_of
-ball_device_short e h = record {
-  switches = few_short (listed_names (slice_get e.values 0));
-  ejects = record {
-    entrance = (time_in_range (slice_get tables.ball_devices 4) (slice_get e.values 4) refl).0;
-    exit = (time_in_range (slice_get tables.ball_devices 5) (slice_get e.values 5) refl).0;
-    timeout = (time_in_range (slice_get tables.ball_devices 3) (slice_get e.values 3) refl).0;
-  };
-  tags = names_short (slice_get e.values 8) (value_at_short e.values 8 h);
-}
+ball_device_short e h = search (rules, few_short, slice_get, time_in_range, names_short, value_at_short)
 
 -- so it is with those of a section
 pub ball_devices_short : (s : SectionRows) → IsShortSection s → All IsShortBallDevice (ball_devices_in s)

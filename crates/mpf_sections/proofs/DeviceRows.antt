@@ -1,17 +1,12 @@
 -- What holds of logic blocks and timers, by the names of their settings: their names are names, and their settings are in their ranges.
-use Rattle.std.proofs.Common.{◌≡◌, ℕ, zero, suc, ◌+◌, ◌≤◌, nat_le, ℤ, pos, negsuc, ◌≤ℤ◌, int_le, Bool, true, false, ◌&&◌, if◌then◌else◌, List, [], ◌∷◌, length, Option, Some, None, slice_get, refl, arith}
+use Rattle.std.proofs.Common.{rules, ◌≡◌, ℕ, zero, suc, ◌≤◌, nat_le, Bool, true, ◌&&◌, List, [], ◌∷◌, length, Option, Some, None, slice_get}
 use Rattle.std.specs.List.{All, AllByRecursion}
-use Rattle.std.proofs.lemmas.Bool.{leb-true}
-use Rattle.std.proofs.lemmas.List.Elements.{All-nil, All-cons, All-weaker, All-from_recursion}
+use Rattle.std.proofs.lemmas.List.Elements.{All-nil, All-weaker, All-from_recursion}
 use Rattle.mpf_values.specs.Names.{IsName}
-use Rattle.std.proofs.lemmas.Int.{ints}
-use Rattle.section_tables.specs.Rows.{Plain, number, name, event, Fields, Value, one, steps, maps, Entry}
+use Rattle.section_tables.specs.Rows.{Plain, name, event, Fields, Value, steps, maps, Entry}
 use Rattle.section_tables.specs.Named.{IsNamedHandled, IsNamedPlain, AreNamedEvents, AreNamedPlains, IsNamedValue, IsNamedEntry, IsShortValue, IsShortEntry}
-use Rattle.section_tables.specs.EntryOf.{within}
-use Rattle.machine_settings.specs.declared.words.Direction.{Direction}
-use Rattle.machine_settings.specs.declared.words.Direction.TheVariants.{Up, Down}
 use Rattle.mpf_sections.specs.Rows.{Written, Handled, Control, SectionRows}
-use Rattle.mpf_sections.specs.Typed.{counters_name, timers_name, direction_of, word_of, limit_of, time_of, listed_steps, listed_maps, name_in, event_in, control_from, control_of, with_control, controls_of, end_from, interval_from, counter_of, step_block_of, timer_of, counters_in, timers_in, entries_of}
+use Rattle.mpf_sections.specs.Typed.{counters_name, timers_name, limit_of, listed_steps, listed_maps, name_in, event_in, control_from, control_of, with_control, controls_of, counter_of, step_block_of, timer_of, counters_in, timers_in, entries_of}
 use Rattle.mpf_sections.specs.Inside.{block_at}
 use Rattle.machine_settings.specs.Limits.{IsEndWithin}
 use Rattle.mpf_sections.specs.Named.{AllNamedEvents, IsNamedBlock, IsNamedCounter, IsNamedStepBlock, IsNamedTimer, IsNamed}
@@ -23,14 +18,7 @@ use Rattle.mpf_sections.proofs.ShortRows.{value_at_short, posts_short, entries_o
 -- ---- names
 
 block_named : (first : ℕ) (row : List Value) → AllByRecursion IsNamedValue row → IsNamedBlock (block_at first row)
-block_named first row h = record {
-  enables = events_named (slice_get row (first + 3)) (value_at_named row (first + 3) h);
-  disables = events_named (slice_get row (first + 4)) (value_at_named row (first + 4) h);
-  resets = events_named (slice_get row (first + 5)) (value_at_named row (first + 5) h);
-  restarts = events_named (slice_get row (first + 6)) (value_at_named row (first + 6) h);
-  hit = posts_named (slice_get row (first + 7)) (value_at_named row (first + 7) h);
-  complete = posts_named (slice_get row (first + 8)) (value_at_named row (first + 8) h);
-}
+block_named first row h = search (rules, events_named, slice_get, value_at_named, posts_named)
 
 -- The names in an entry of `counters` are names.
 pub counter_named : (e : Entry) → IsNamedEntry e → IsNamedCounter (counter_of e)
@@ -74,26 +62,22 @@ IsNamedFound None = Unit {0}
 IsNamedFound (Some h) = IsNamedHandled h
 
 event_in_named : (o : Option Plain) → IsNamedText o → IsNamedFound (event_in o)
-event_in_named (Some (event e)) h = h
-event_in_named _ h = tt
+event_in_named x1 h = search rules
 
 abbrev pub IsNamedWritten : Option Written → Type 0
 IsNamedWritten None = Unit {0}
 IsNamedWritten (Some w) = IsName w.text
 
 pub name_in_named : (o : Option Plain) → IsNamedText o → IsNamedWritten (name_in o)
-name_in_named (Some (name w)) h = h
-name_in_named _ h = tt
+name_in_named x1 h = search rules
 
 one_control : (m : Fields) (o : Option Handled) → IsNamedFound o → (cs : List Control) → All HasNames cs → All HasNames (with_control (control_from m o) cs)
-one_control m None h cs rest = rest
-one_control m (Some x) h cs rest = All-cons HasNames _ cs h rest
+one_control m x2 h cs rest = search rules
 
 controls_named : (ms : List Fields) → AllByRecursion (λ m. AreNamedPlains m.values) ms → All HasNames (controls_of ms)
 unfolding control_of
 controls_named [] h = All-nil HasNames
-controls_named (m ∷ ms) h =
-    one_control m (event_in (slice_get m.values 0)) (event_in_named (slice_get m.values 0) (text_at_named m.values 0 h.0)) (controls_of ms) (controls_named ms h.1)
+controls_named (m ∷ ms) h = search (rules, one_control, slice_get, event_in_named, text_at_named, controls_named ms h.1)
 
 maps_named : (o : Option Value) → IsNamedOption o → All HasNames (controls_of (listed_maps o))
 maps_named (Some (maps ms)) h = controls_named ms h
@@ -116,47 +100,16 @@ timers_named s h = made_each IsNamedTimer timer_of timer_named (entries_of timer
 -- ---- ranges
 
 pub both : (a b : Bool) → a && b ≡ true → (a ≡ true) × (b ≡ true)
-both true b e = (refl, e)
-both false b e = absurd cc
-
-pub at_most : (a b : ℤ) → int_le a b ≡ true → a ≤ℤ b
-at_most a b h = grind (arith, ints, h)
-
-limit_by : (n : ℤ) (b : Bool) → within (negsuc 999999999) (pos 1000000000) n ≡ b → IsEndWithin (if b then Some n else None)
-limit_by n true h =
-    let a = both (int_le (negsuc 999999999) n) (int_le n (pos 1000000000)) h in
-    (at_most (negsuc 999999999) n a.0, at_most n (pos 1000000000) a.1)
-limit_by n false h = tt
+both x1 b e = search rules
 
 limit_in_range : (o : Option Value) → IsEndWithin (limit_of o)
-limit_in_range (Some (one (number n))) = limit_by n (within (negsuc 999999999) (pos 1000000000) n) refl
-limit_in_range _ = tt
-
-end_in_range : (direction : Direction) (o : Option ℤ) → IsEndWithin o → IsEndWithin (end_from direction o)
-end_in_range direction (Some n) h = h
-end_in_range Up None h = tt
-end_in_range Down None h = (at_most (negsuc 999999999) (pos 0) refl, at_most (pos 0) (pos 1000000000) refl)
-
-interval_in_range : (ms : ℕ) → 1 ≤ interval_from ms
-interval_in_range zero = omega arith
-interval_in_range (suc ms) = omega arith
-
-steps_by : (ss : List (List Handled)) (b : Bool) → nat_le (length ss) 16 ≡ b → length (if b then ss else []) ≤ 16
-steps_by ss true h = leb-true (length ss) 16 h
-steps_by ss false h = omega arith
-
-no_steps : 0 ≤ 16
-no_steps = omega arith
+limit_in_range x1 = search rules
 
 steps_few : (o : Option Value) → length (listed_steps o) ≤ 16
-steps_few (Some (steps ss)) = steps_by ss (nat_le (length ss) 16) refl
-steps_few _ = no_steps
+steps_few x1 = search rules
 
 block_short : (first : ℕ) (row : List Value) → All (IsShortValue 1024) row → IsShortBlock (block_at first row)
-block_short first row h = record {
-  hit = posts_short (slice_get row (first + 7)) (value_at_short row (first + 7) h);
-  complete = posts_short (slice_get row (first + 8)) (value_at_short row (first + 8) h);
-}
+block_short first row h = search (rules, posts_short, slice_get, value_at_short)
 
 -- What a counter has is in its range, and so it is with what an accrual, a sequence or a timer has.
 pub counter_short : (e : Entry) → IsShortEntry 1024 e → IsShortCounter (counter_of e)
@@ -169,10 +122,7 @@ step_block_short e h = record { steps = steps_few (slice_get e.values 0); block 
 
 pub timer_in_range : (e : Entry) → IsShortTimer (timer_of e)
 unfolding timer_of
-timer_in_range e = (
-  interval_in_range (time_of (slice_get e.values 3)),
-  end_in_range (direction_of (word_of (slice_get e.values 2))) (limit_of (slice_get e.values 1)) (limit_in_range (slice_get e.values 1)),
-)
+timer_in_range e = search rules
 
 -- so it is with those of a section
 pub counters_short : (s : SectionRows) → IsShortSection s → All IsShortCounter (counters_in s)

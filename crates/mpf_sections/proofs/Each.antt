@@ -1,12 +1,11 @@
 -- What holds of each element of a list.
-use Rattle.std.proofs.Common.{◌≡◌, Bool, true, false, if◌then◌else◌, ◌||◌, map, List, [], ◌∷◌, refl, ap}
+use Rattle.std.proofs.Common.{rules, ◌≡◌, Bool, if◌then◌else◌, ◌||◌, map, List, [], ◌∷◌, refl, ap}
 use Rattle.std.specs.List.{All, list_any}
 use Rattle.std.proofs.lemmas.List.Elements.{All-nil, All-cons, All-map, All-weaker}
 
 -- it holds of all, or of none
 pub all_where : {A : Type 0} (P : A → Type 0) (b : Bool) (xs : List A) → All P xs → All P (if b then xs else [])
-all_where P true xs h = h
-all_where P false xs h = All-nil P
+all_where P x2 xs h = search rules
 
 -- it holds of all that a function gives
 pub all_mapped : {A B : Type 0} (P : B → Type 0) (f : A → B) → ((x : A) → P (f x)) → (xs : List A) → All P (map f xs)

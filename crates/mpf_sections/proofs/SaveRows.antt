@@ -1,5 +1,5 @@
 -- What holds of ball saves and multiballs, by the names of their settings: their names are names, and their settings are in their ranges.
-use Rattle.std.proofs.Common.{slice_get, refl}
+use Rattle.std.proofs.Common.{rules, slice_get, refl}
 use Rattle.std.specs.List.{All}
 use Rattle.section_tables.specs.Rows.{Entry}
 use Rattle.section_tables.specs.Named.{IsNamedEntry}
@@ -18,11 +18,7 @@ use Rattle.mpf_sections.proofs.NumberRows.{natural_in_range}
 -- The names in an entry of `ball_saves` are names.
 pub ball_save_named : (e : Entry) → IsNamedEntry e → IsNamedBallSave (ball_save_of e)
 unfolding ball_save_of
-ball_save_named e h = record {
-  name = h.name;
-  enable_events = events_named (slice_get e.values 2) (value_at_named e.values 2 h.values);
-  disable_events = events_named (slice_get e.values 3) (value_at_named e.values 3 h.values);
-}
+ball_save_named e h = search (rules, events_named, slice_get, value_at_named)
 
 -- Those in an entry of `multiballs` are, too.
 pub multiball_named : (e : Entry) → IsNamedEntry e → IsNamedMultiball (multiball_of e)

@@ -1,13 +1,13 @@
 -- No list in the rows of a section has more than 1,024 items, by the names of settings either.
-use Rattle.std.proofs.Common.{ℕ, zero, suc, ◌≤◌, List, [], ◌∷◌, length, Option, Some, None, slice_get, arith}
+use Rattle.std.proofs.Common.{rules, ℕ, zero, suc, ◌≤◌, List, [], ◌∷◌, length, Option, Some, None, slice_get, arith}
 use Rattle.std.specs.List.{All}
 use Rattle.std.specs.Str.{bytes_eq}
 use Rattle.std.proofs.lemmas.List.Elements.{All-head, All-tail}
-use Rattle.section_tables.specs.Rows.{Value, names, posts, events, Entry, Player}
+use Rattle.section_tables.specs.Rows.{Value, Entry, Player}
 use Rattle.section_tables.specs.Named.{IsShortValue, IsShortEntry, IsShortPlayer}
 use Rattle.mpf_sections.specs.Rows.{SectionRows}
 use Rattle.mpf_tables.specs.SectionTables.{switches_name}
-use Rattle.mpf_sections.specs.Typed.{listed_names, listed_events, listed_posts, switch_of, event_player_of, entries_in, entries_of, switches_in}
+use Rattle.mpf_sections.specs.Typed.{listed_names, listed_posts, switch_of, event_player_of, entries_in, entries_of, switches_in}
 use Rattle.mpf_sections.specs.Short.{IsShortSection, IsShortSwitch, IsShortEventPlayer}
 use Rattle.mpf_sections.proofs.Each.{all_where, made_each}
 
@@ -27,25 +27,15 @@ value_at_short (v ∷ vs) zero h = All-head (IsShortValue 1024) v vs h
 value_at_short (v ∷ vs) (suc i) h = value_at_short vs i (All-tail (IsShortValue 1024) v vs h)
 
 pub names_short : (o : Option Value) → IsShortOption o → length (listed_names o) ≤ 1024
-names_short (Some (names xs)) h = h.0
-names_short _ h = none_short
-
-pub events_short : (o : Option Value) → IsShortOption o → length (listed_events o) ≤ 1024
-events_short (Some (events hs)) h = h.0
-events_short _ h = none_short
+names_short x1 h = search rules
 
 pub posts_short : (o : Option Value) → IsShortOption o → length (listed_posts o) ≤ 1024
-posts_short (Some (posts xs)) h = h.0
-posts_short _ h = none_short
+posts_short x1 h = search rules
 
 -- No list in an entry of `switches` has more items.
 pub switch_short : (e : Entry) → IsShortEntry 1024 e → IsShortSwitch (switch_of e)
 unfolding switch_of
-switch_short e h = record {
-  tags = names_short (slice_get e.values 2) (value_at_short e.values 2 h);
-  activated = posts_short (slice_get e.values 3) (value_at_short e.values 3 h);
-  deactivated = posts_short (slice_get e.values 4) (value_at_short e.values 4 h);
-}
+switch_short e h = search (rules, names_short, slice_get, value_at_short, posts_short)
 
 -- No list in an entry of `event_player` has, either.
 pub event_player_short : (p : Player) → IsShortPlayer 1024 p → IsShortEventPlayer (event_player_of p)

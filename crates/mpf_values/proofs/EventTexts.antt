@@ -1,5 +1,5 @@
 -- Handled events are read as they are written.
-use Rattle.std.proofs.Common.{◌≡◌, ℕ, Bool, true, false, cond, eqb, List, [], ◌∷◌, ◌++◌, length, take, drop, Option, Some, None, ℤ, codes, refl, sym, ap, subst, ◌∙◌, inl, inr, arith, take-append-drop}
+use Rattle.std.proofs.Common.{rules, ◌≡◌, ℕ, Bool, true, false, cond, eqb, List, [], ◌∷◌, ◌++◌, length, Option, Some, None, ℤ, codes, refl, sym, ap, subst, ◌∙◌, inl, inr, arith, take-append-drop}
 use Rattle.std.specs.Str.{bytes_eq}
 use Rattle.std.proofs.lemmas.Bool.{eqb-true, ne_eqb}
 use Rattle.std.proofs.lemmas.Option.{same_Some, cond_some}
@@ -24,10 +24,7 @@ use Rattle.mpf_values.proofs.Computing.{Computes}
 -- ---- words
 
 word_sound : (word text rest : List ℕ) → behind_word word text ≡ Some rest → text ≡ word ++ rest
-word_sound word text rest e =
-    let a = cond_some (bytes_eq (take (length word) text) word) (drop (length word) text) rest e in
-    let front : take (length word) text ≡ word = (bytes_eq-Decides (take (length word) text) word).0 a.0 in
-    sym (take-append-drop (length word) text) ∙ ap (λ (xs : List ℕ). xs ++ drop (length word) text) front ∙ ap (λ (xs : List ℕ). word ++ xs) a.1
+word_sound word text rest e = search (rules, cond_some, bytes_eq-Decides, take-append-drop)
 
 -- ---- operators
 
@@ -63,12 +60,7 @@ operator_sound text c e =
 
 operator_complete : {text : List ℕ} {c : Comparison} → IsOperator text c → operator_at text ≡ Some c
 unfolding operator_at
-operator_complete equal = refl
-operator_complete not_equal = refl
-operator_complete less = refl
-operator_complete less_or_equal = refl
-operator_complete greater = refl
-operator_complete greater_or_equal = refl
+operator_complete x1 = search rules
 
 -- an operator is bytes of one, and begins no blank and no name
 record Operator (text : List ℕ) : Type 0 where

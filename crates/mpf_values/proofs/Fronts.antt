@@ -1,5 +1,5 @@
 -- The bytes at the front of a text that pass a test, and what comes after them.
-use Rattle.std.proofs.Common.{◌≡◌, ℕ, suc, ◌≤◌, Bool, true, false, List, [], ◌∷◌, ◌++◌, length, take, drop, refl, ap, ◌∙◌, inl, inr, arith, take-append-drop}
+use Rattle.std.proofs.Common.{rules, ◌≡◌, ℕ, suc, ◌≤◌, Bool, true, false, List, [], ◌∷◌, ◌++◌, length, take, drop, refl, ap, ◌∙◌, inl, inr, arith, take-append-drop}
 use Rattle.std.specs.List.{prefix_len}
 use Rattle.std.proofs.lemmas.Bool.{cases_Bool}
 use Rattle.yaml_bytes.specs.Plain.{Are}
@@ -18,12 +18,7 @@ len_no p x xs t = rw t refl
 
 pub len_le : (p : ℕ → Bool) (xs : List ℕ) → prefix_len p xs ≤ length xs
 len_le p [] = omega arith
-len_le p (x ∷ xs) =
-    let below = len_le p xs in
-    elim (cases_Bool (p x)) [
-      | inl t ↦ let e = len_yes p x xs t in omega arith
-      | inr f ↦ let e = len_no p x xs f in omega arith
-    ]
+len_le p (x ∷ xs) = search (rules, cases_Bool, len_yes, len_no, len_le p xs)
 
 front_yes : (p : ℕ → Bool) (x : ℕ) (xs : List ℕ) → p x ≡ true → front p (x ∷ xs) ≡ x ∷ front p xs
 front_yes p x xs t = ap (λ n. take n (x ∷ xs)) (len_yes p x xs t)
@@ -42,19 +37,11 @@ parts p xs = take-append-drop (prefix_len p xs) xs
 
 pub are_front : (p : ℕ → Bool) (xs : List ℕ) → Are p (front p xs)
 are_front p [] = tt
-are_front p (x ∷ xs) =
-    elim (cases_Bool (p x)) [
-      | inl t ↦ rw (front_yes p x xs t) (t, are_front p xs)
-      | inr f ↦ rw (front_no p x xs f) tt
-    ]
+are_front p (x ∷ xs) = search (rules, cases_Bool, front_yes, front_no, are_front p xs)
 
 pub stops : (p : ℕ → Bool) (xs : List ℕ) → begins p (behind p xs) ≡ false
 stops p [] = refl
-stops p (x ∷ xs) =
-    elim (cases_Bool (p x)) [
-      | inl t ↦ rw (behind_yes p x xs t) (stops p xs)
-      | inr f ↦ rw (behind_no p x xs f) f
-    ]
+stops p (x ∷ xs) = search (rules, cases_Bool, behind_yes, behind_no, stops p xs)
 
 pub front_is : (p : ℕ → Bool) (xs ys : List ℕ) → Are p xs → begins p ys ≡ false → front p (xs ++ ys) ≡ xs
 front_is p [] [] h s = refl

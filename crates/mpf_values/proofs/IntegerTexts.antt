@@ -1,5 +1,5 @@
 -- Integers are read as they are written.
-use Rattle.std.proofs.Common.{◌≡◌, ℕ, ◌≤◌, Bool, true, false, cond, eqb, ltb, List, [], ◌∷◌, Some, None, ℤ, pos, neg_ℤ, refl, sym, ap, ◌∙◌, inl, inr, arith}
+use Rattle.std.proofs.Common.{rules, ◌≡◌, ℕ, ◌≤◌, Bool, true, false, cond, eqb, ltb, List, [], ◌∷◌, Some, None, ℤ, pos, neg_ℤ, refl, sym, ap, ◌∙◌, inl, inr, arith}
 use Rattle.std.proofs.lemmas.Bool.{eqb-true, ne_eqb, ltb-false, le-ltb}
 use Rattle.std.proofs.lemmas.Option.{same_Some}
 use Rattle.yaml_bytes.specs.Numbers.{value_of_digits, number_at}
@@ -7,7 +7,6 @@ use Rattle.yaml_bytes.specs.Numbers.{AreDigits}
 use Rattle.mpf_values.specs.Integers.{with_sign, signed, IsInteger}
 use Rattle.mpf_values.specs.Reading.{◌>>=◌, magnitude_at, integer_at}
 use Rattle.mpf_values.proofs.Steps.{bind_some, guard_false, chosen}
-use Rattle.mpf_values.proofs.ByteKinds.{digit_range}
 use Rattle.yaml_bytes.proofs.WrittenNumbers.{number_sound, number_complete}
 use Rattle.mpf_values.proofs.Computing.{Computes}
 
@@ -57,16 +56,14 @@ integer_sound (b ∷ bs) n e =
 
 plain_complete : (digits : List ℕ) → AreDigits digits → value_of_digits digits ≤ 1000000000 → integer_at digits ≡ Some (pos (value_of_digits digits))
 unfolding integer_at
-plain_complete [] h within = absurd (omega (arith, h.some))
-plain_complete (d ∷ ds) h within = rw (ne_eqb d 45 (λ e. let r = digit_range d h.each.0 in absurd (omega arith)), magnitude_complete (d ∷ ds) h within) refl
+plain_complete x1 h within = search (rules, within, ne_eqb, magnitude_complete)
 
 minus_complete : (digits : List ℕ) → AreDigits digits → value_of_digits digits ≤ 1000000000 → integer_at (45 ∷ digits) ≡ Some (neg_ℤ (pos (value_of_digits digits)))
 unfolding integer_at
 minus_complete digits h within = rw (magnitude_complete digits h within) refl
 
 signed_complete : (negative : Bool) (digits : List ℕ) → AreDigits digits → value_of_digits digits ≤ 1000000000 → integer_at (with_sign negative digits) ≡ Some (signed negative (value_of_digits digits))
-signed_complete true digits h within = minus_complete digits h within
-signed_complete false digits h within = plain_complete digits h within
+signed_complete x1 digits h within = search (rules, within, minus_complete, plain_complete)
 
 integer_complete : (text : List ℕ) (n : ℤ) → IsInteger text n → integer_at text ≡ Some n
 integer_complete text n h = ap integer_at h.parts ∙ signed_complete h.negative h.digits h.are_digits h.within ∙ ap (λ (m : ℤ). Some m) (sym h.value)

@@ -1,5 +1,5 @@
 -- The items of a list text, one after the other.
-use Rattle.std.proofs.Common.{◌≡◌, ℕ, ◌+◌, ◌≤◌, ◌<◌, ◌==◌, Bool, true, false, List, [], ◌∷◌, length, take, drop, refl, sym, ap, subst, ◌∙◌, arith}
+use Rattle.std.proofs.Common.{rules, ◌≡◌, ℕ, ◌+◌, ◌≤◌, ◌<◌, ◌==◌, Bool, true, false, List, [], ◌∷◌, length, take, drop, refl, sym, ap, subst, ◌∙◌, arith}
 use Rattle.std.proofs.lemmas.Bool.{eqb-true}
 use Rattle.mpf_values.specs.Bytes.{is_separator}
 use Rattle.mpf_values.specs.ListText.{open_after, ends_item}
@@ -8,19 +8,14 @@ use Rattle.mpf_values.proofs.Fronts.{begins, behind_yes, behind_no, stops}
 
 -- a separator opens no brace
 pub opens_none : (b : ℕ) (is_open is_close : Bool) → b == 123 ≡ is_open → b == 125 ≡ is_close → is_separator b ≡ true → open_after 0 b ≡ 0
-opens_none b true is_close e d s = absurd (let at : b ≡ 123 = eqb-true b 123 e in let n : is_separator 123 ≡ true = subst (λ c. is_separator c ≡ true) at s in cc)
-opens_none b false true e d s = rw (e, d) refl
-opens_none b false false e d s = rw (e, d) refl
+opens_none b x2 x3 e d s = search rules
 
 pub separator_step : (b : ℕ) (bs : List ℕ) → is_separator b ≡ true → items_of (b ∷ bs) ≡ items_of bs
 unfolding items_of
-separator_step b bs s =
-    let n = opens_none b (b == 123) (b == 125) refl refl s in
-    rw (s, n) refl
+separator_step b bs s = search rules
 
 behind_step : (b : ℕ) (bs : List ℕ) (s : Bool) → is_separator b ≡ s → items_of bs ≡ items_of (behind is_separator bs) → items_of (b ∷ bs) ≡ items_of (behind is_separator (b ∷ bs))
-behind_step b bs true e h = separator_step b bs e ∙ h ∙ ap items_of (sym (behind_yes is_separator b bs e))
-behind_step b bs false e h = ap items_of (sym (behind_no is_separator b bs e))
+behind_step b bs x3 e h = search (rules, separator_step, behind_yes, behind_no)
 
 -- separators in front of a text are dropped
 without_separators : (text : List ℕ) → items_of text ≡ items_of (behind is_separator text)
@@ -35,8 +30,7 @@ cut_step : (n b : ℕ) (bs : List ℕ) (ends : Bool) → ends_item n b ≡ ends
     → items_from (open_after n b) bs ≡ (take (item_len (open_after n b) bs) bs, items_of (drop (item_len (open_after n b) bs) bs))
     → (ends_item n b ≡ true → onto_items (items_from (open_after n b) bs).0 (items_from (open_after n b) bs).1 ≡ items_of (b ∷ bs))
     → items_from n (b ∷ bs) ≡ (take (item_len n (b ∷ bs)) (b ∷ bs), items_of (drop (item_len n (b ∷ bs)) (b ∷ bs)))
-cut_step n b bs true e h s = rw e (ap (λ (items : List (List ℕ)). ([], items)) (s e))
-cut_step n b bs false e h s = rw (e, h) refl
+cut_step n b bs x4 e h s = search rules
 
 ends_zero : (b : ℕ) (bs : List ℕ) → ends_item 0 b ≡ true → onto_items (items_from (open_after 0 b) bs).0 (items_from (open_after 0 b) bs).1 ≡ items_of (b ∷ bs)
 unfolding items_of
@@ -58,9 +52,7 @@ cut n (b ∷ bs) = cut_step n b bs (ends_item n b) refl (cut (open_after n b) bs
 
 item_first : (b : ℕ) (bs : List ℕ) → is_separator b ≡ false → items_of (b ∷ bs) ≡ take (item_len 0 (b ∷ bs)) (b ∷ bs) ∷ items_of (drop (item_len 0 (b ∷ bs)) (b ∷ bs))
 unfolding items_of
-item_first b bs e =
-    let c = cut 0 (b ∷ bs) in
-    rw (c, e) refl
+item_first b bs e = search (rules, cut)
 
 item_has_bytes : (b : ℕ) (bs : List ℕ) → is_separator b ≡ false → 0 < item_len 0 (b ∷ bs)
 item_has_bytes b bs e = rw e (omega arith)
@@ -75,14 +67,9 @@ no_item text (b ∷ bs) is none = let zero_long : length (b ∷ bs) ≡ 0 = eqb-
 pub first_item : (text rest item after : List ℕ) (n : ℕ) → rest ≡ behind is_separator text → length rest == 0 ≡ false → n ≡ item_len 0 rest → item ≡ take n rest → after ≡ drop n rest
     → items_of text ≡ item ∷ items_of after
 first_item text [] item after n is some len i a = absurd cc
-first_item text (b ∷ bs) item after n is some len i a =
-    let e = first_is_none text b bs (sym is) in
-    rw (i, a, len) (without_separators text ∙ ap items_of (sym is) ∙ item_first b bs e)
+first_item text (b ∷ bs) item after n is some len i a = search (rules, first_is_none, without_separators, item_first)
 
 pub first_is_shorter : (text rest after : List ℕ) (n : ℕ) → rest ≡ behind is_separator text → length rest == 0 ≡ false → n ≡ item_len 0 rest → length rest ≤ length text → length after + n ≡ length rest
     → length after < length text
 first_is_shorter text [] after n is some len le a = absurd cc
-first_is_shorter text (b ∷ bs) after n is some len le a =
-    let e = first_is_none text b bs (sym is) in
-    let some_bytes : 0 < item_len 0 (b ∷ bs) = item_has_bytes b bs e in
-    omega arith
+first_is_shorter text (b ∷ bs) after n is some len le a = search (rules, first_is_none, item_has_bytes)

@@ -1,7 +1,7 @@
 -- Lists are read as they are.
-use Rattle.std.proofs.Common.{◌≡◌, ℕ, ◌+◌, ◌<◌, ◌≤◌, true, false, List, [], ◌∷◌, ◌++◌, length, map, filter, drop, get_or, Option, Some, None, Result, Ok, Err, IfOk, IfErr, ◌≢◌, refl, sym, ap, ◌∙◌, append_assoc, add-one}
+use Rattle.std.proofs.Common.{rules, ◌≡◌, ℕ, ◌+◌, ◌<◌, ◌≤◌, true, false, List, [], ◌∷◌, ◌++◌, length, map, filter, drop, get_or, Option, Some, None, Result, IfOk, IfErr, ◌≢◌, refl, sym, ap, ◌∙◌, append_assoc, add-one}
 use Rattle.std.proofs.Math.Seq.{drop-cons}
-use Rattle.std.proofs.lemmas.List.{append-nil, drop_all}
+use Rattle.std.proofs.lemmas.List.{drop_all}
 use Rattle.std.proofs.lemmas.Option.{same_Some, none-some}
 use Rattle.yaml_subset.specs.declared.tree.Tree.{Tree}
 use Rattle.yaml_subset.specs.Node.{Node, scalar, sequence, mapping, list_nodes}
@@ -26,9 +26,7 @@ record Scalars (nodes : List Node) (items : List Item) : Type 0 where
   kept : items ≡ filter has_text scalars
 
 scalar_sound : (node : Node) (item : Item) → scalar_at node ≡ Some item → node ≡ scalar_node item
-scalar_sound (scalar line text) item e = ap scalar_node (same_Some (item_at line text) item e)
-scalar_sound (sequence line nodes) item e = absurd (none-some item e)
-scalar_sound (mapping line pairs) item e = absurd (none-some item e)
+scalar_sound x1 item e = search rules
 
 scalars_sound : (nodes : List Node) (items : List Item) → scalars_at nodes ≡ Some items → Scalars nodes items
 unfolding scalars_at
@@ -55,12 +53,10 @@ abbrev pub with_front : List Item → Option (List Item) → Option (List Item)
 with_front front read = read >>= λ items. Some (front ++ items)
 
 regroup : (front : List Item) (item : Item) (read : Option (List Item)) → with_front front (read >>= λ items. Some (item ∷ items)) ≡ with_front (front ++ item ∷ []) read
-regroup front item (Some items) = ap (λ (is : List Item). Some is) (simp append_assoc)
-regroup front item None = refl
+regroup front item x3 = search (rules, append_assoc)
 
 same : (front : List Item) (read : Option (List Item)) → with_front front (read >>= λ items. Some items) ≡ with_front front read
-same front (Some items) = refl
-same front None = refl
+same front x2 = search rules
 
 pub node_item : (node : Node) (text : List ℕ) (line : ℕ) → Some text ≡ text_in node → line ≡ line_of node → scalar_at node ≡ Some (item_at line text)
 node_item node text line e n = rw (← e, n) refl
@@ -79,28 +75,20 @@ module _ (front : List Item) (node : Node) (nodes all : List Node) (total : Opti
   -- an empty one
   pub skips : (item : Item) → all ≡ node ∷ nodes → scalar_at node ≡ Some item → has_text item ≡ false → with_front front (scalars_at all) ≡ total → with_front front (scalars_at nodes) ≡ total
   unfolding scalars_at
-  skips item e is none so_far =
-      let one : with_front front (scalars_at all) ≡ with_front front (scalars_at nodes) = rw (e, is, none) (same front (scalars_at nodes)) in
-      sym one ∙ so_far
+  skips item e is none so_far = search rules
 
   -- no scalar
   pub fails : all ≡ node ∷ nodes → scalar_at node ≡ None → with_front front (scalars_at all) ≡ total → total ≡ None
   unfolding scalars_at
-  fails e is so_far =
-      let one : with_front front (scalars_at all) ≡ None = rw (e, is) refl in
-      sym so_far ∙ one
+  fails e is so_far = search rules
 
 -- none is left
 pub is_done : (front : List Item) (all : List Node) (total : Option (List Item)) → all ≡ [] → with_front front (scalars_at all) ≡ total → total ≡ Some front
 unfolding scalars_at
-is_done front all total none so_far =
-    let one : with_front front (scalars_at all) ≡ Some front = rw none (ap (λ (is : List Item). Some is) (append-nil front)) in
-    sym so_far ∙ one
+is_done front all total none so_far = search rules
 
 pub nodes_at : (nodes : List Tree) (i : ℕ) (node : Tree) → i < length nodes → node ≡ get_or nodes i node → map node_view (drop i nodes) ≡ node_view node ∷ map node_view (drop (i + 1) nodes)
-nodes_at nodes i node lt is =
-    let cut : drop i nodes ≡ get_or nodes i node ∷ drop (i + 1) nodes = rw add-one (drop-cons nodes i node lt) in
-    ap (map node_view) cut ∙ ap (λ (t : Tree). node_view t ∷ map node_view (drop (i + 1) nodes)) (sym is)
+nodes_at nodes i node lt is = search (rules, get_or, add-one, drop-cons)
 
 pub none_behind : (nodes : List Tree) (i : ℕ) → length nodes ≤ i → map node_view (drop i nodes) ≡ []
 none_behind nodes i le = ap (map node_view) (drop_all i nodes le)
@@ -115,22 +103,15 @@ list_sound (mapping line pairs) items e = absurd (none-some items e)
 
 pub list_complete : (node : Node) (items : List Item) → IsList node items → list_at node ≡ Some items
 unfolding list_at
-list_complete (scalar line text) items h =
-    ap (λ (texts : List (List ℕ)). Some (map (item_at line) texts)) (one_list text h.0 h.1) ∙ ap (λ (is : List Item). Some is) (sym h.2)
-list_complete (sequence line nodes) items h = ap scalars_at h.1 ∙ scalars_complete h.0 ∙ ap (λ (is : List Item). Some is) (sym h.2)
-list_complete (mapping line pairs) items h = absurd h
+list_complete x1 items h = search (rules, one_list, scalars_complete)
 
 -- ---- what `list` answers
 
 pub list_found : {X : Type 0} (view : X → List Item) (node : Node) (r : Result X ListFault) → GivesList view r (list_at node) → IfOk r (λ x. IsList node (view x))
-list_found view node (Ok x) g = list_sound node (view x) g
-list_found view node (Err e) g = tt
+list_found view node x3 g = search (rules, list_sound)
 
 pub list_only : {X : Type 0} (view : X → List Item) (node : Node) (r : Result X ListFault) → GivesList view r (list_at node) → IfOk r (λ x. (items : List Item) → IsList node items → items ≡ view x)
-list_only view node (Ok x) g = λ items h. same_Some items (view x) (sym (list_complete node items h) ∙ g)
-list_only view node (Err e) g = tt
+list_only view node x3 g = search (rules, same_Some, list_complete)
 
 pub list_refused : {X : Type 0} (view : X → List Item) (node : Node) (r : Result X ListFault) → GivesList view r (list_at node) → IfErr r (λ e. e ≢ faults.NoMemory → (items : List Item) → IsList node items → ⊥)
-list_refused view node (Ok x) g = tt
-list_refused view node (Err faults.NoMemory) g = λ other. absurd (other refl)
-list_refused view node (Err faults.BadValue) g = λ other items h. none-some items (sym g ∙ list_complete node items h)
+list_refused view node x3 g = search (rules, none-some, list_complete)

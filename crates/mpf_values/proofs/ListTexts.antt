@@ -1,5 +1,5 @@
 -- The items of a list text are those that are read, and no others.
-use Rattle.std.proofs.Common.{◌≡◌, ℕ, ◌==◌, Bool, true, false, List, [], ◌∷◌, ◌++◌, refl, sym, ap, subst, ◌∙◌}
+use Rattle.std.proofs.Common.{rules, ◌≡◌, ℕ, ◌==◌, Bool, true, false, List, [], ◌∷◌, ◌++◌, refl, sym, ap, subst, ◌∙◌}
 use Rattle.std.proofs.lemmas.Bool.{eqb-true, and_parts}
 use Rattle.yaml_bytes.specs.Plain.{Are}
 use Rattle.mpf_values.specs.Bytes.{is_separator}
@@ -20,9 +20,7 @@ EndsFrom n (b ∷ behind) = ends_item n b ≡ true
 whole_at : (n : ℕ) (item front rest : List ℕ) (b : ℕ) → IsWholeFrom n item → item ≡ front ++ b ∷ rest → ends_item (open_behind n front) b ≡ false
 whole_at n [] [] rest b h e = absurd cc
 whole_at n [] (c ∷ front) rest b h e = absurd cc
-whole_at n (a ∷ item) [] rest b h e =
-    let same : a ≡ b = cc in
-    rw (← same) h.0
+whole_at n (a ∷ item) [] rest b h e = search rules
 whole_at n (a ∷ item) (c ∷ front) rest b h e =
     let same : a ≡ c = cc in
     let behind : item ≡ front ++ b ∷ rest = cc in
@@ -104,5 +102,4 @@ item_in_front (b ∷ item) behind h e = rw (piece_of 0 (b ∷ item) behind (whol
 
 pub one_list : (text : List ℕ) (items : List (List ℕ)) → IsListText text items → items_of text ≡ items
 one_list text [] h = none_in text h
-one_list text (item ∷ items) h =
-    ap items_of h.2 ∙ skips h.0 (item ++ h.1) h.3 ∙ item_in_front item h.1 h.4 h.5 ∙ ap (λ (rest : List (List ℕ)). item ∷ rest) (one_list h.1 items h.6)
+one_list text (item ∷ items) h = search (rules, skips, item_in_front, one_list h.1 items h.6)

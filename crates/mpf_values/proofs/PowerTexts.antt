@@ -1,16 +1,13 @@
 -- Powers are read as they are written.
-use Rattle.std.proofs.Common.{◌≡◌, ℕ, zero, suc, ◌+◌, ◌-◌, ◌*◌, ◌/◌, ◌<◌, ◌≤◌, ◌^◌, ◌&&◌, cond, ltb, leb, List, [], ◌++◌, Some, None, codes, refl, sym, ap, ◌∙◌, ◌⊎◌, inl, inr, arith}
-use Rattle.std.specs.Str.{bytes_eq}
-use Rattle.std.proofs.lemmas.Bool.{and_parts, leb-true, le-leb, ltb-false, le-ltb}
+use Rattle.std.proofs.Common.{rules, ◌≡◌, ℕ, zero, suc, ◌-◌, ◌*◌, ◌/◌, ◌<◌, ◌≤◌, ◌^◌, cond, ltb, List, [], Some, None, codes, refl, sym, ap, ◌∙◌, ◌⊎◌, inl, inr, arith}
+use Rattle.std.proofs.lemmas.Bool.{le-leb, ltb-false, le-ltb}
 use Rattle.std.proofs.lemmas.List.{append-nil}
 use Rattle.std.proofs.lemmas.Option.{same_Some}
-use Rattle.std.proofs.lemmas.Slice.Eq.{bytes_eq-Decides}
 use Rattle.mpf_values.specs.declared.decimals.Decimal.{Decimal}
-use Rattle.yaml_bytes.specs.Numbers.{value_of_digits}
 use Rattle.mpf_values.specs.Numbers.{IsDecimal}
 use Rattle.mpf_values.specs.Powers.{IsFraction, IsPercentage, IsPower}
 use Rattle.mpf_values.specs.Reading.{◌>>=◌, decimal_at, share_at, power_at}
-use Rattle.mpf_values.proofs.Steps.{bind_some, guard_true, guard_false, chosen}
+use Rattle.mpf_values.proofs.Steps.{bind_some, guard_false}
 use Rattle.mpf_values.proofs.WrittenNumbers.{Front, decimal_sound, decimal_complete}
 use Rattle.mpf_values.proofs.Computing.{Computes}
 
@@ -22,38 +19,11 @@ hundreds n zero h = (n * 10, omega arith)
 hundreds n (suc zero) h = (n, omega arith)
 hundreds n (suc (suc places)) h = absurd (omega arith)
 
-whole_hundreds : (number : List ℕ) (n places : ℕ) → IsDecimal number n places → places ≤ 1 → (n / 100) * 100 ≡ n
-whole_hundreds number n places h few =
-    let k = hundreds (value_of_digits h.decimals) places few in
-    let value = h.value in
-    let is : n ≡ (value_of_digits h.whole * 10 + k.0) * 100 = omega (arith, k.1) in
-    omega arith
-
 -- ---- what is read is a power
 
 shared : (text : List ℕ) (d : Decimal) (rest : List ℕ) (power : ℕ) → Front text d rest → share_at d rest ≡ Some power → IsFraction text power ⊎ IsPercentage text power
 unfolding share_at
-shared text d rest power f e =
-    elim (chosen (bytes_eq rest []) (Some d.thousandths) (cond (bytes_eq rest (codes "%") && leb d.places 1) (Some (d.thousandths / 100)) None) (Some power) e) [
-      | inl a ↦
-          let nothing : rest ≡ [] = (bytes_eq-Decides rest []).0 a.0 in
-          let whole : text ≡ f.number = f.parts ∙ ap (λ (xs : List ℕ). f.number ++ xs) nothing ∙ append-nil f.number in
-          let is : IsDecimal text power d.places = rw (whole, ← same_Some d.thousandths power a.1) f.is in
-          inl (d.places, is)
-      | inr b ↦
-          let a = guard_true (bytes_eq rest (codes "%") && leb d.places 1) (Some (d.thousandths / 100)) power b.1 in
-          let both = and_parts (bytes_eq rest (codes "%")) (leb d.places 1) a.0 in
-          let few = leb-true d.places 1 both.1 in
-          inr (record {
-            number = f.number;
-            parts = f.parts ∙ ap (λ (xs : List ℕ). f.number ++ xs) ((bytes_eq-Decides rest (codes "%")).0 both.0);
-            thousandths = d.thousandths;
-            places = d.places;
-            is_number = f.is;
-            few = few;
-            value = ap (λ n. n * 100) (sym (same_Some (d.thousandths / 100) power a.1)) ∙ whole_hundreds f.number d.thousandths d.places f.is few;
-          })
-    ]
+shared text d rest power f e = search rules
 
 power_sound : (text : List ℕ) (power : ℕ) → power_at text ≡ Some power → IsPower text power
 unfolding power_at

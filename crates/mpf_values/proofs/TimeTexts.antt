@@ -1,14 +1,13 @@
 -- Times are read as they are written.
-use Rattle.std.proofs.Common.{◌≡◌, ℕ, ◌-◌, ◌*◌, ◌/◌, ◌%◌, ◌<◌, ◌≤◌, ◌^◌, true, false, not, ◌||◌, cond, eqb, ltb, ◌==◌, Option, List, [], ◌++◌, Some, None, codes, refl, sym, ap, ◌∙◌, inl, inr, arith}
+use Rattle.std.proofs.Common.{rules, ◌≡◌, ℕ, ◌-◌, ◌*◌, ◌<◌, ◌≤◌, ◌^◌, true, false, cond, ◌==◌, Option, List, [], ◌++◌, Some, None, codes, refl, sym, ap, ◌∙◌, inl, inr, arith}
 use Rattle.std.specs.Char.{is_ascii_digit}
 use Rattle.std.specs.Str.{bytes_eq}
 use Rattle.yaml_bytes.specs.Bytes.{is_blank}
-use Rattle.std.proofs.lemmas.Bool.{or_parts, eqb-true, eq-eqb, not-false, ltb-false, le-ltb}
 use Rattle.std.proofs.lemmas.Option.{same_Some}
 use Rattle.std.proofs.lemmas.Slice.Eq.{bytes_eq-Decides}
 use Rattle.mpf_values.specs.Times.{IsUnit, bare, milliseconds, seconds, minutes, hours, days, IsTime}
 use Rattle.mpf_values.specs.Reading.{◌>>=◌, front, behind, within_64_bits, decimal_at, unit_at, whole_at, time_at}
-use Rattle.mpf_values.proofs.Steps.{bind_some, guard_true, guard_false, chosen, within_64_bits-some, within_64_bits-is}
+use Rattle.mpf_values.proofs.Steps.{bind_some, guard_true, chosen, within_64_bits-some, within_64_bits-is}
 use Rattle.mpf_values.proofs.Fronts.{begins, behind_is, begins_behind, parts, are_front}
 use Rattle.mpf_values.proofs.ByteKinds.{no_blank}
 use Rattle.mpf_values.proofs.WrittenNumbers.{decimal_sound, Ends, decimal_complete}
@@ -50,12 +49,7 @@ unit_sound text n e =
 
 unit_complete : {unit : List ℕ} {n : ℕ} → IsUnit unit n → unit_at unit ≡ Some n
 unfolding unit_at
-unit_complete bare = refl
-unit_complete milliseconds = refl
-unit_complete seconds = refl
-unit_complete minutes = refl
-unit_complete hours = refl
-unit_complete days = refl
+unit_complete x1 = search rules
 
 -- a unit begins with no blank, digit or point
 record IsNoNumber (unit : List ℕ) : Type 0 where
@@ -72,30 +66,15 @@ unit_begins hours = record { blank = refl; digit = refl; point = refl }
 unit_begins days = record { blank = refl; digit = refl; point = refl }
 
 unit_not_less : (t : ℕ) {unit : List ℕ} {n : ℕ} → IsUnit unit n → t ≤ t * n
-unit_not_less t bare = omega arith
-unit_not_less t milliseconds = omega arith
-unit_not_less t seconds = omega arith
-unit_not_less t minutes = omega arith
-unit_not_less t hours = omega arith
-unit_not_less t days = omega arith
+unit_not_less t x2 = search rules
 
 -- ---- whole milliseconds
 
 whole_sound : (product ms : ℕ) → whole_at product ≡ Some ms → (ms * 1000 ≡ product) × (ms < 2 ^ 32)
-whole_sound product ms e =
-    let a = guard_false (not (eqb (product % 1000) 0) || ltb (2 ^ 32 - 1) (product / 1000)) (Some (product / 1000)) ms e in
-    let both = or_parts (not (eqb (product % 1000) 0)) (ltb (2 ^ 32 - 1) (product / 1000)) a.0 in
-    let none = eqb-true (product % 1000) 0 (not-false (eqb (product % 1000) 0) both.0) in
-    let below = ltb-false (2 ^ 32 - 1) (product / 1000) both.1 in
-    let is = same_Some (product / 1000) ms a.1 in
-    (omega arith, omega arith)
+whole_sound product ms e = search rules
 
 whole_complete : (ms : ℕ) → ms < 2 ^ 32 → whole_at (ms * 1000) ≡ Some ms
-whole_complete ms below =
-    let none : (ms * 1000) % 1000 ≡ 0 = omega arith in
-    let is : (ms * 1000) / 1000 ≡ ms = omega arith in
-    let small : ms ≤ 2 ^ 32 - 1 = omega arith in
-    rw (eq-eqb ((ms * 1000) % 1000) 0 none, is, le-ltb (2 ^ 32 - 1) ms small) refl
+whole_complete ms below = search rules
 
 -- ---- times
 

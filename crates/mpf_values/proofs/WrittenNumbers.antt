@@ -1,5 +1,5 @@
 -- Numbers are read as they are written.
-use Rattle.std.proofs.Common.{◌≡◌, ℕ, zero, suc, ◌+◌, ◌-◌, ◌*◌, ◌^◌, ◌<◌, ◌≤◌, false, cond, eqb, ◌==◌, List, [], ◌∷◌, ◌++◌, length, Option, Some, None, refl, sym, ap, subst, ◌∙◌, inl, inr, arith, append_assoc}
+use Rattle.std.proofs.Common.{rules, ◌≡◌, ℕ, zero, suc, ◌+◌, ◌-◌, ◌*◌, ◌^◌, ◌<◌, ◌≤◌, false, cond, eqb, ◌==◌, List, [], ◌∷◌, ◌++◌, length, Option, Some, None, refl, sym, ap, subst, ◌∙◌, inl, inr, arith, append_assoc}
 use Rattle.std.specs.Char.{is_ascii_digit}
 use Rattle.std.proofs.lemmas.Bool.{eqb-true}
 use Rattle.std.proofs.lemmas.Option.{same_Some}
@@ -29,11 +29,7 @@ worth_sound n worth e =
     ]
 
 worth_complete : (n : ℕ) → 0 < n → n ≤ 3 → worth_of n ≡ Some (10 ^ (3 - n))
-worth_complete zero some few = absurd (omega arith)
-worth_complete (suc zero) some few = refl
-worth_complete (suc (suc zero)) some few = refl
-worth_complete (suc (suc (suc zero))) some few = refl
-worth_complete (suc (suc (suc (suc n)))) some few = absurd (omega arith)
+worth_complete x1 some few = search rules
 
 -- what decimals are that are read
 record Fraction (decimals : List ℕ) (f : ℕ) : Type 0 where
@@ -63,8 +59,7 @@ pub record Front (text : List ℕ) (d : Decimal) (rest : List ℕ) : Type 0 wher
   pub is : IsDecimal number d.thousandths d.places
 
 text_some : (whole decimals : List ℕ) → 0 < length decimals → decimal_text whole decimals ≡ whole ++ 46 ∷ decimals
-text_some whole [] h = absurd (omega arith)
-text_some whole (d ∷ ds) h = refl
+text_some whole x2 h = search rules
 
 plain_front : (digits rest : List ℕ) (n : ℕ) → AreDigits digits → n ≡ value_of_digits digits * 1000 → Front (digits ++ rest) (record { thousandths = n; places = 0 }) rest
 plain_front digits rest n h value =
@@ -173,9 +168,7 @@ point_complete whole decimals rest n h d few value fits ends =
 written_complete : (whole decimals rest : List ℕ) (n places : ℕ) → AreDigits whole → Are is_ascii_digit decimals → length decimals ≡ places → places ≤ 3
     → n ≡ value_of_digits whole * 1000 + value_of_digits decimals * 10 ^ (3 - places) → n < 2 ^ 64 → Ends rest
     → decimal_at (decimal_text whole decimals ++ rest) ≡ Some (record { thousandths = n; places = places }, rest)
-written_complete whole [] rest n places h d count few value fits ends =
-    let plain : n ≡ value_of_digits whole * 1000 = omega arith in
-    rw (← count) (plain_complete whole rest n h plain fits ends)
+written_complete whole [] rest n places h d count few value fits ends = search (rules, few, value, plain_complete)
 written_complete whole (b ∷ bs) rest n places h d count few value fits ends =
     let decimals : AreDigits (b ∷ bs) = record { some = omega arith; each = d } in
     let short : length (b ∷ bs) ≤ 3 = omega arith in

@@ -1,9 +1,8 @@
 -- Acts on rows by their numbers are on rows of their own place and of the modes that have come: so it is with what the
 -- rows of each text give, whose seats are in its own rows, and so with all contributions of a configuration.
-use Rattle.std.proofs.Common.{◌≡◌, ℕ, suc, ◌+◌, ◌-◌, ◌<◌, ◌≤◌, Bool, true, false, if◌then◌else◌, List, [], ◌∷◌, ◌++◌, length, map, Option, None, Some, slice_get, refl, sym, ◌∙◌, ap, subst, arith, codes, length-append}
+use Rattle.std.proofs.Common.{rules, ◌≡◌, ℕ, suc, ◌+◌, ◌-◌, ◌<◌, ◌≤◌, Bool, false, if◌then◌else◌, List, [], ◌∷◌, ◌++◌, length, map, Option, None, Some, slice_get, refl, sym, ◌∙◌, ap, subst, arith, codes, length-append}
 use Rattle.std.specs.Prelude.{IfSome}
 use Rattle.std.specs.List.{All, flat_map}
-use Rattle.std.specs.Str.{bytes_eq}
 use Rattle.std.proofs.lemmas.Grind.{flat_map-append}
 use Rattle.std.proofs.lemmas.List.{append_assoc, get_or_append_left, get_or-append_right}
 use Rattle.std.proofs.lemmas.Option.{slice_get-get_or, slice_get_within}
@@ -11,34 +10,28 @@ use Rattle.std.proofs.lemmas.List.Elements.{All-nil, All-cons, All-head, All-tai
 use Rattle.mpf_values.specs.Events.{Condition, Event}
 use Rattle.mpf_sections.specs.Rows.{Written, Entry, Player, Switch, EventPlayer, CoilPlayer, VariablePlayer, VariableItem, GameSettings, Shot, ShotGroup, BallDevice, ModeSettings, Content, entries, players, SectionRows}
 use Rattle.mpf_sections.specs.Rows as sections
-use Rattle.mpf_sections.specs.Typed.{switches_name, event_player_name, switch_of, event_player_of, mode_settings}
-use Rattle.mpf_sections.specs.TypedCoils.{coils_name, coil_player_name, coil_of, coil_player_of}
+use Rattle.mpf_sections.specs.Typed.{mode_settings}
 use Rattle.mpf_sections.specs.TypedShots.{shot_of, shot_group_of}
 use Rattle.mpf_sections.specs.TypedBalls.{ball_device_of}
-use Rattle.mpf_sections.specs.TypedGame.{variable_player_name, game_name, variable_player_of, game_of, min_balls_of}
 use Rattle.mpf_config.specs.Rows.{ModeRows, Rows}
-use Rattle.machine_definitions.specs.GameEvents.{game_event_names}
-use Rattle.machine_definitions.specs.Players.{player_event}
 use Rattle.machine_definitions.specs.Shots.{Profile, has_profile, profile_of_name}
 use Rattle.plan_tables.specs.declared.devices.Act.{Act}
 use Rattle.plan_tables.specs.declared.entries.ModeEvent.{ModeEvent}
 use Rattle.plan_tables.specs.declared.entries.ModeEvent.TheVariants.{Starting, Started, Stopping, Stopped}
-use Rattle.plan_tables.specs.declared.table.Table.TheVariants.{Events, Switches}
+use Rattle.plan_tables.specs.declared.table.Table.TheVariants.{Events}
 use Rattle.plan_contributions.specs.declared.contribution.Aim.{Aim}
 use Rattle.plan_contributions.specs.declared.contribution.Aim.TheVariants.{Run, Start, Stop, Do, On}
 use Rattle.plan_rows.specs.declared.place.Place.{Place}
 use Rattle.plan_rows.specs.declared.place.Place.TheVariants.{Machine, Control, Mode}
-use Rattle.row_contributions.specs.VariableEntries.{item_change}
 use Rattle.row_contributions.specs.CoilEntries.{item_effect}
 use Rattle.row_contributions.specs.DeviceEntries.{texts, events, Device, device_of}
 use Rattle.plan_contributions.specs.Effects.{posts}
 use Rattle.row_contributions.specs.ShotEntries.{shot_acts, lone_device, group_device}
-use Rattle.row_contributions.specs.BallEntries.{ball_device_from, is_known}
 use Rattle.plan_rows.specs.declared.destination.Destination.{Destination}
 use Rattle.plan_rows.specs.Seats.{Seat, seat_of, destination_of, rows_after_text}
 use Rattle.plan_rows.specs.Members.{Members, members_of}
-use Rattle.plan_contributions.specs.Contributions.{Contribution, gives, reads, active, inactive, mode, mode_event, binds, does, device, mentions, under, unknown, plays}
-use Rattle.row_contributions.specs.Contributions.{under_where, bound, always, kind_of, confirms, active_posts, inactive_posts, switch_contributions, player_contributions, coil_contributions, coil_player_contributions, item_contributions, variable_player_contributions, game_contributions, later_events, starter, stopper, stopper_where, stops_at_ball_end, stops_at_game_end, controls, mode_contributions, act_binding, effects_from, listens_from, device_contributions, where_device, machine_device, machine_entry_contributions, entry_contributions, alone_contributions, player_entry_contributions, unknown_unless, shot_switch, act_at, seated, shot_contributions, group_contributions, ball_device_contributions, row_contributions, given_by, contributions_of}
+use Rattle.plan_contributions.specs.Contributions.{Contribution, mode, mode_event, binds, does, device, mentions}
+use Rattle.row_contributions.specs.Contributions.{under_where, bound, switch_contributions, player_contributions, coil_contributions, coil_player_contributions, item_contributions, variable_player_contributions, game_contributions, later_events, starter, stopper, stopper_where, stops_at_ball_end, stops_at_game_end, controls, mode_contributions, act_binding, effects_from, listens_from, device_contributions, where_device, machine_entry_contributions, entry_contributions, alone_contributions, player_entry_contributions, unknown_unless, shot_switch, act_at, seated, shot_contributions, group_contributions, ball_device_contributions, row_contributions, given_by, contributions_of}
 use Rattle.plan_rows.specs.Rows.{Row, alone, player, of_mode, entry_row, rows_from, rows_in, text_rows, mode_rows, modes_rows}
 use Rattle.row_contributions.specs.Facts.{row_places, IsAimedAt, AreAimed}
 use Rattle.row_contributions.proofs.Before.{All-every, All-flat_map}
@@ -65,43 +58,22 @@ module _ (A : Place → Aim → Type 0) (place : Place) (n : ℕ) where
   -- their rows are all of its place, and of the modes that have come
   pub places_of_text : (cs : List Contribution) → All (IsOfText A place) cs → All (λ r. r ≡ (place, n)) (row_places n cs)
   places_of_text [] own = All-nil (λ r. r ≡ (place, n))
-  places_of_text (c ∷ cs) own = by c (All-head (IsOfText A place) c cs own) (places_of_text cs (All-tail (IsOfText A place) c cs own))
-    where
-      by : (c : Contribution) → IsOfText A place c → All (λ r. r ≡ (place, n)) (row_places n cs) → All (λ r. r ≡ (place, n)) (row_places n (c ∷ cs))
-      by (mode name priority game holds) is h = absurd is
-      by (device own settings) is h = All-cons (λ r. r ≡ (place, n)) (own, n) (row_places n cs) (ap (λ p. (p, n)) is) h
-      by _ is h = h
+  places_of_text (c ∷ cs) own = search (rules, own, All-head, All-tail, All-cons, places_of_text cs (All-tail (IsOfText A place) c cs own))
 
   -- and come before the rows of what comes after them
   pub places_before : (cs ds : List Contribution) → All (IsOfText A place) cs → row_places n (cs ++ ds) ≡ row_places n cs ++ row_places n ds
   places_before [] ds own = refl
-  places_before (c ∷ cs) ds own = by c (All-head (IsOfText A place) c cs own) (places_before cs ds (All-tail (IsOfText A place) c cs own))
-    where
-      by : (c : Contribution) → IsOfText A place c → row_places n (cs ++ ds) ≡ row_places n cs ++ row_places n ds → row_places n (c ∷ cs ++ ds) ≡ row_places n (c ∷ cs) ++ row_places n ds
-      by (mode name priority game holds) is h = absurd is
-      by (device own settings) is h = ap (λ l. (own, n) ∷ l) h
-      by _ is h = h
+  places_before (c ∷ cs) ds own = search (rules, own, All-head, All-tail, places_before cs ds (All-tail (IsOfText A place) c cs own))
 
   -- and they are as many as the contributions tell of
   pub places_told : (cs : List Contribution) → All (IsOfText A place) cs → length (row_places n cs) ≡ length (flat_map row_given cs)
   places_told [] own = refl
-  places_told (c ∷ cs) own = by c (All-head (IsOfText A place) c cs own) (places_told cs (All-tail (IsOfText A place) c cs own))
-    where
-      by : (c : Contribution) → IsOfText A place c → length (row_places n cs) ≡ length (flat_map row_given cs) → length (row_places n (c ∷ cs)) ≡ length (flat_map row_given (c ∷ cs))
-      by (mode name priority game holds) is h = absurd is
-      by (device own settings) is h = ap suc h
-      by _ is h = h
+  places_told (c ∷ cs) own = search (rules, own, All-head, All-tail, row_given, places_told cs (All-tail (IsOfText A place) c cs own))
 
 -- where they are aimed at these rows, all are
 pub aimed_before : (places : List (Place × ℕ)) (n : ℕ) (place : Place) (cs ds : List Contribution) → All (IsOfText (IsAimedAt places n) place) cs → AreAimed places n ds → AreAimed places n (cs ++ ds)
 aimed_before places n place [] ds own rest = rest
-aimed_before places n place (c ∷ cs) ds own rest =
-    by c (All-head (IsOfText (IsAimedAt places n) place) c cs own) (aimed_before places n place cs ds (All-tail (IsOfText (IsAimedAt places n) place) c cs own) rest)
-  where
-    by : (c : Contribution) → IsOfText (IsAimedAt places n) place c → AreAimed places n (cs ++ ds) → AreAimed places n (c ∷ cs ++ ds)
-    by (mode name priority game holds) is h = absurd is
-    by (binds e own aim) is h = (is, h)
-    by _ is h = (tt, h)
+aimed_before places n place (c ∷ cs) ds own rest = search (rules, own, All-head, All-tail, aimed_before places n place cs ds (All-tail (IsOfText (IsAimedAt places n) place) c cs own) rest)
 
 -- ---- what rows give
 
@@ -112,19 +84,14 @@ module _ (A : Place → Aim → Type 0) (plain : (own : Place) (aim : Aim) → I
 
   in_switch : (machine : List SectionRows) (s : Switch) → All Q (switch_contributions machine s)
   unfolding switch_contributions
-  in_switch machine s =
-      let on = map active (active_posts s) in
-      let off = map inactive (inactive_posts s) in
-      All-cons Q (gives Switches s.name.text) (reads (kind_of machine s) (confirms s.tags) ∷ on ++ off) tt
-      (All-cons Q (reads (kind_of machine s) (confirms s.tags)) (on ++ off) tt (All-append Q on off (All-made Q active (λ e. tt) (active_posts s)) (All-made Q inactive (λ e. tt) (inactive_posts s))))
+  in_switch machine s = search (rules, All-cons, All-append, All-made)
 
   -- a handled event is bound, under its condition
   in_bound : (e : Event) (own : Place) (aim : Aim) → A own aim → All Q (bound e own aim)
   in_bound e own aim is = All-cons Q (binds e.name own aim) (under_where e.condition) is (in_under e.condition)
     where
       in_under : (o : Option Condition) → All Q (under_where o)
-      in_under None = All-nil Q
-      in_under (Some c) = All-cons Q (under c) [] tt (All-nil Q)
+      in_under x1 = search rules
 
   in_player : (own : Place) (p : EventPlayer) → All Q (player_contributions own p)
   unfolding player_contributions
@@ -139,8 +106,7 @@ module _ (A : Place → Aim → Type 0) (plain : (own : Place) (aim : Aim) → I
       (All-made Q (λ item. does (item_effect machine item)) (λ item. tt) p.items)
 
   in_item : (item : VariableItem) → All Q (item_contributions item)
-  in_item item =
-      All-cons Q (mentions Events (player_event item.variable.text)) (does (item_change item) ∷ []) tt (All-cons Q (does (item_change item)) [] tt (All-nil Q))
+  in_item item = search rules
 
   in_variable_player : (own : Place) (p : VariablePlayer) → All Q (variable_player_contributions own p)
   unfolding variable_player_contributions
@@ -149,9 +115,7 @@ module _ (A : Place → Aim → Type 0) (plain : (own : Place) (aim : Aim) → I
 
   in_game : (machine : List SectionRows) (g : GameSettings) → All Q (game_contributions machine g)
   unfolding game_contributions
-  in_game machine g =
-      All-append Q (map (mentions Events) game_event_names) (plays (min_balls_of machine) g.balls_per_game g.max_players ∷ []) (All-made Q (mentions Events) (λ e. tt) game_event_names)
-      (All-cons Q (plays (min_balls_of machine) g.balls_per_game g.max_players) [] tt (All-nil Q))
+  in_game machine g = search rules
 
   in_device : (d : Device) → All Q (device_contributions place d)
   unfolding device_contributions
@@ -166,18 +130,15 @@ module _ (A : Place → Aim → Type 0) (plain : (own : Place) (aim : Aim) → I
       (All-append Q named doing (All-made Q (mentions Events) (λ e. tt) d.mentioned) (All-lists Q (λ e. Unit {0}) (λ k e m. tt) 0 d.lists (λ i l within j e inside. tt)))))
 
   in_where : (o : Option Device) → All Q (where_device place o)
-  in_where None = All-nil Q
-  in_where (Some d) = in_device d
+  in_where x1 = search (rules, All-nil, in_device)
 
   -- ---- shots
 
   in_unknown : (known : Bool) → All Q (unknown_unless known)
-  in_unknown true = All-nil Q
-  in_unknown false = All-cons Q unknown [] tt (All-nil Q)
+  in_unknown x1 = search rules
 
   in_shot_switch : (o : Option Written) → All Q (shot_switch o)
-  in_shot_switch None = All-nil Q
-  in_shot_switch (Some w) = All-cons Q (mentions Switches w.text) [] tt (All-nil Q)
+  in_shot_switch x1 = search rules
 
   -- A holds of each act on the seat, if there is one
   abbrev IsSeated : Option Seat → Type 0
@@ -189,9 +150,7 @@ module _ (A : Place → Aim → Type 0) (plain : (own : Place) (aim : Aim) → I
 
   in_shot : (s : Shot) (seat : Option Seat) (known : Bool) (p : Profile) → IsSeated seat → All Q (shot_contributions place s seat known p)
   unfolding shot_contributions
-  in_shot s seat known p h =
-      All-append Q (unknown_unless known) (shot_switch s.switch ++ seated place p s seat) (in_unknown known)
-      (All-append Q (shot_switch s.switch) (seated place p s seat) (in_shot_switch s.switch) (in_seated p s seat h))
+  in_shot s seat known p h = search (rules, All-append, in_unknown, in_shot_switch, in_seated)
 
   in_group : (g : ShotGroup) (m : Members) → All Q (group_contributions place g m)
   unfolding group_contributions
@@ -200,40 +159,25 @@ module _ (A : Place → Aim → Type 0) (plain : (own : Place) (aim : Aim) → I
   -- a ball device, which is of the machine
   in_ball_device : (machine : List SectionRows) (d : BallDevice) (to : Destination) → place ≡ Machine → All Q (ball_device_contributions machine d to)
   unfolding ball_device_contributions
-  in_ball_device machine d to own =
-      let given = device_contributions Machine (ball_device_from machine d to) in
-      All-append Q (unknown_unless (is_known to)) given (in_unknown (is_known to)) (subst (λ p. All Q (device_contributions p (ball_device_from machine d to))) own (in_device (ball_device_from machine d to)))
+  in_ball_device machine d to own = search (rules, own, All-append, in_unknown, in_device)
 
   -- ---- entries
 
   when : (b : Bool) (cs ds : List Contribution) → All Q cs → All Q ds → All Q (if b then cs else ds)
-  when true cs ds one other = one
-  when false cs ds one other = other
+  when x1 cs ds one other = search rules
 
   in_player_entry : (machine : List SectionRows) (own : Place) (section : List ℕ) (p : Player) → All Q (player_entry_contributions machine own section p)
   unfolding player_entry_contributions
-  in_player_entry machine own section p =
-      let item = coil_player_contributions machine own (coil_player_of p) in
-      let change = variable_player_contributions own (variable_player_of p) in
-      let last = if bytes_eq section variable_player_name then change else [] in
-      when (bytes_eq section event_player_name) (player_contributions own (event_player_of p)) (if bytes_eq section coil_player_name then item else last) (in_player own (event_player_of p))
-      (when (bytes_eq section coil_player_name) item last (in_coil_player machine own (coil_player_of p))
-      (when (bytes_eq section variable_player_name) change [] (in_variable_player own (variable_player_of p)) (All-nil Q)))
+  in_player_entry machine own section p = search (rules, own, when, in_player, in_coil_player, in_variable_player, All-nil)
 
   in_alone : (machine : List SectionRows) (own : Place) (section : List ℕ) (e : Entry) → All Q (alone_contributions machine own section e)
   unfolding alone_contributions
-  in_alone machine Machine section e = when (bytes_eq section game_name) (game_contributions machine (game_of e)) [] (in_game machine (game_of e)) (All-nil Q)
-  in_alone machine _ section e = All-nil Q
+  in_alone machine x2 section e = search (rules, when, in_game, All-nil)
 
 -- an entry of the machine text
 in_machine_entry : (A : Place → Aim → Type 0) (plain : (own : Place) (aim : Aim) → IsUnnumbered aim → A own aim) (machine : List SectionRows) (section : List ℕ) (e : Entry) → All (IsOfText A Machine) (machine_entry_contributions machine section e)
 unfolding machine_entry_contributions coil_contributions
-in_machine_entry A plain machine section e =
-    let Q = IsOfText A Machine in
-    let others = where_device Machine (machine_device machine section e) in
-    when A plain Machine (bytes_eq section coils_name) (coil_contributions (coil_of e)) (if bytes_eq section switches_name then switch_contributions machine (switch_of e) else others)
-    (All-cons Q _ [] tt (All-nil Q))
-    (when A plain Machine (bytes_eq section switches_name) (switch_contributions machine (switch_of e)) others (in_switch A plain Machine machine (switch_of e)) (in_where A plain Machine (machine_device machine section e)))
+in_machine_entry A plain machine section e = search (rules, when, All-cons, All-nil, in_switch, in_where)
 
 -- each entry of a text, in a section of this name
 module _ (A : Place → Aim → Type 0) (plain : (own : Place) (aim : Aim) → IsUnnumbered aim → A own aim) (rows : Rows) where
@@ -271,16 +215,14 @@ module _ (A : Place → Aim → Type 0) (plain : (own : Place) (aim : Aim) → I
 
 -- an aim that says no row by its number is right, whatever the rows are
 unnumbered : (places : List (Place × ℕ)) (n : ℕ) (own : Place) (aim : Aim) → IsUnnumbered aim → IsAimedAt places n own aim
-unnumbered places n own (On r act) is = absurd is
-unnumbered places n own _ is = tt
+unnumbered places n own x4 is = search rules
 
 module _ (A : Place → Aim → Type 0) (plain : (own : Place) (aim : Aim) → IsUnnumbered aim → A own aim) where
   abbrev C : Contribution → Type 0
   C c = IsOfText A Mode c
 
   of_stopper : (holds : Bool) (name : List ℕ) → All C (stopper_where holds name)
-  of_stopper true name = in_bound A plain Mode (always name) Control Stop (plain Control Stop tt)
-  of_stopper false name = All-nil C
+  of_stopper x1 name = search rules
 
   -- the events of a mode, and what starts and stops it
   of_controls : (name : List ℕ) (s : ModeSettings) → All C (later_events name ++ controls s)
@@ -322,8 +264,7 @@ module _ (rows : Rows) (place : Place) (n : ℕ) (ss : List SectionRows) where
   of_any = of_text IsAny (λ own aim is. tt) rows place (seat_of place n ss) (destination_of place n ss) (λ name. any_seat (seat_of place n ss name)) ss
     where
       any_seat : (o : Option Seat) → IfSome o (λ s. (act : Act) → Unit {0})
-      any_seat None = tt
-      any_seat (Some s) = λ act. tt
+      any_seat x1 = search rules
 
   module _ (k : ℕ) where
     -- its rows are those that are counted

@@ -1,6 +1,6 @@
 -- What the contributions of every configuration say of balls: the rows of ball devices are as they are to be, they alone
 -- have to do with balls, and no event acts on them.
-use Rattle.std.proofs.Common.{◌≡◌, ℕ, suc, ◌+◌, ◌<◌, ◌≤◌, ◌==◌, Bool, true, false, if◌then◌else◌, List, [], ◌∷◌, ◌++◌, length, map, get_or, true≢false, refl, sym, ◌∙◌, ap, subst, arith, codes}
+use Rattle.std.proofs.Common.{rules, ◌≡◌, ℕ, suc, ◌+◌, ◌<◌, ◌≤◌, ◌==◌, Bool, true, false, if◌then◌else◌, List, [], ◌∷◌, ◌++◌, length, map, get_or, true≢false, refl, sym, ◌∙◌, ap, subst, arith, codes}
 use Rattle.std.specs.Prelude.{Option, None, Some, option_map, IfSome, slice_get, ◌≢◌}
 use Rattle.std.specs.Str.{bytes_eq}
 use Rattle.std.specs.List.{All, AllPairs, flat_map, list_any}
@@ -10,16 +10,14 @@ use Rattle.std.proofs.lemmas.Grind.{flat_map-append}
 use Rattle.std.proofs.lemmas.List.{append_assoc, length-map}
 use Rattle.std.proofs.lemmas.List.Elements.{All-nil, All-cons, All-head, All-tail, All-append, All-weaker}
 use Rattle.std.proofs.lemmas.List.Folds.{list_any-append}
-use Rattle.std.proofs.lemmas.Option.{slice_get-map, slice_get_within, same_Some}
+use Rattle.std.proofs.lemmas.Option.{slice_get-map, slice_get_within}
 use Rattle.mpf_values.specs.Events.{Condition, Event}
-use Rattle.mpf_sections.specs.Rows.{Written, Entry, BallDevice, Content, entries, players, SectionRows}
-use Rattle.mpf_sections.specs.Rows as sections
+use Rattle.mpf_sections.specs.Rows.{Written, Entry, BallDevice, Content, SectionRows}
 use Rattle.mpf_sections.specs.TypedGame.{game_name, game_of}
 use Rattle.mpf_sections.specs.TypedBalls.{is_drain, ball_devices_in}
 use Rattle.mpf_config.specs.Rows.{Rows}
 use Rattle.plan_tables.specs.declared.devices.Act.{Act}
 use Rattle.plan_tables.specs.declared.devices.Settings.{Settings}
-use Rattle.plan_tables.specs.declared.devices.Settings.TheVariants as kinds
 use Rattle.plan_tables.specs.Valid.{IsTargetThere}
 use Rattle.plan_tables.specs.declared.table.Table.TheVariants.{Events}
 use Rattle.plan_rows.specs.declared.destination.Destination.{Destination}
@@ -34,7 +32,7 @@ use Rattle.row_contributions.specs.CoilEntries.{defaults_called, own_pulse}
 use Rattle.row_contributions.specs.DeviceEntries.{texts}
 use Rattle.plan_contributions.specs.Effects.{Effect, posts, works, enters, leaves, loses, arrives}
 use Rattle.row_contributions.specs.BallEntries.{is_entry, is_game, has_game, drains, ball_event, eject_pulse, ball_lists, target_of, ball_settings, ball_device_from}
-use Rattle.plan_contributions.specs.Contributions.{Contribution, binds, does, device, does_in, listens, mentions, under}
+use Rattle.plan_contributions.specs.Contributions.{Contribution, binds, device, does_in, listens, mentions, under}
 use Rattle.row_contributions.specs.Contributions.{Device, act_binding, effects_from, listens_from, device_contributions, game_contributions, alone_contributions, row_contributions, given_by, contributions_of}
 use Rattle.plan_tables.specs.BallRows.{IsNoBallDevice, IsSwitchOf}
 use Rattle.row_contributions.specs.BallFacts.{IsOfNoBall, IsBallFree, IsRightRow, LastRow, last_after, IsRight, IsFitting, AreFitting, row_settings, IsTargetAmong, HasTarget, ActsOffBalls, is_plays, DrainsIn, DrainsInGame, AllDrainInGame, AreHeardOnce}
@@ -64,23 +62,20 @@ fitting-append (c ∷ cs) ds o h rest = (h.0, fitting-append cs ds (last_after o
 fitting-listens : (place : Place) (settings : Settings) (done : ℕ → List Effect) (rest : List Contribution) → ((heard : ℕ) → AreFitting (at place settings heard done) rest)
     → (k : ℕ) (ns : List (List ℕ)) → ((j : ℕ) → j < k + length ns → IsSwitchOf settings j) → AreFitting (at place settings k done) (listens_from k ns ++ rest)
 fitting-listens place settings done rest then_ k [] own = then_ k
-fitting-listens place settings done rest then_ k (n ∷ ns) own =
-    ((refl, own k (omega arith)), fitting-listens place settings done rest then_ (suc k) ns (λ j within. own j (omega (arith, within))))
+fitting-listens place settings done rest then_ k (n ∷ ns) own = search (rules, fitting-listens place settings done rest then_ (suc k) ns (λ j within. own j (omega (arith, within))))
 
 module _ (place : Place) (settings : Settings) (off : IsNoBallDevice settings) where
   any_switch : (j : ℕ) → IsSwitchOf settings j
   any_switch j = by settings off
     where
       by : (s : Settings) → IsNoBallDevice s → IsSwitchOf s j
-      by (kinds.BallDevice d) is = absurd is
-      by _ is = tt
+      by x1 is = search rules
 
   right_plain : (done : ℕ → List Effect) → ((k : ℕ) → All IsOfNoBall (done k)) → IsRightRow place settings done
   right_plain done each = by settings off
     where
       by : (s : Settings) → IsNoBallDevice s → IsRightRow place s done
-      by (kinds.BallDevice d) is = absurd is
-      by _ is = each
+      by x1 is = search rules
 
   more : (done : ℕ → List Effect) (e : Effect) (j : ℕ) → All IsOfNoBall (done j) → IsOfNoBall e → (b : Bool) → All IsOfNoBall (if b then done j ++ e ∷ [] else done j)
   more done e j before is true = All-append IsOfNoBall (done j) (e ∷ []) before (All-cons IsOfNoBall e [] is (All-nil IsOfNoBall))
@@ -93,8 +88,7 @@ module _ (place : Place) (settings : Settings) (off : IsNoBallDevice settings) w
   fitting-list : (k heard : ℕ) (rest : List Contribution) → ((done : ℕ → List Effect) → AreIdle done → AreFitting (at place settings heard done) rest)
       → (es : List Effect) (done : ℕ → List Effect) → AreIdle done → All IsOfNoBall es → AreFitting (at place settings heard done) (map (does_in k) es ++ rest)
   fitting-list k heard rest then_ [] done idle own = then_ done idle
-  fitting-list k heard rest then_ (e ∷ es) done idle own =
-      (tt, fitting-list k heard rest then_ es (λ j. if j == k then done j ++ e ∷ [] else done j) (λ j. more done e j (idle j) (All-head IsOfNoBall e es own) (j == k)) (All-tail IsOfNoBall e es own))
+  fitting-list k heard rest then_ (e ∷ es) done idle own = search (rules, more, All-head, All-tail, fitting-list k heard rest then_ es (λ j. if j == k then done j ++ e ∷ [] else done j) (λ j. more done e j (idle j) (All-head IsOfNoBall e es own) (j == k)) (All-tail IsOfNoBall e es own))
 
   fitting-effects : (k heard : ℕ) (lists : List (List Effect)) (done : ℕ → List Effect) → AreIdle done → All (All IsOfNoBall) lists → AreFitting (at place settings heard done) (effects_from k lists)
   fitting-effects k heard [] done idle h = right_plain done idle
@@ -236,16 +230,10 @@ fitting_kept rows = record {
 }
   where
     aimed : (aim : Aim) → IsPlainAim (row_kinds rows) aim → (e : List ℕ) (place : Place) (o : Option LastRow) → IsFitting o (binds e place aim)
-    aimed (Do act) is e place o = absurd is
-    aimed _ is e place o = tt
+    aimed x1 is e place o = search rules
 
     first : (c : Contribution) → IsPlain (row_kinds rows) c → (cs : List Contribution) → ((o : Option LastRow) → IsRight o → AreFitting o cs) → (o : Option LastRow) → IsRight o → AreFitting o (c ∷ cs)
-    first (device place settings) is cs rest o right = absurd is
-    first (does_in k e) is cs rest o right = absurd is
-    first (listens k n) is cs rest o right = absurd is
-    first (does e) is cs rest o right = (is, rest o right)
-    first (binds e place aim) is cs rest o right = (aimed aim is e place o, rest o right)
-    first _ is cs rest o right = (tt, rest o right)
+    first x1 is cs rest o right = search rules
 
 -- the rows of devices are as they are to be
 pub rows_are_fitting : (rows : Rows) → AreFitting None (contributions_of rows)
@@ -297,8 +285,7 @@ kinds_are rows = sym (rows_tell row_given silent rows.machine (rows_of rows)) �
     by (c ∷ cs) = first c (by cs)
       where
         first : (c : Contribution) → flat_map row_given cs ≡ map is_ball (row_settings cs) → flat_map row_given (c ∷ cs) ≡ map is_ball (row_settings (c ∷ cs))
-        first (device place settings) rest = ap (λ l. is_ball settings ∷ l) rest
-        first _ rest = rest
+        first x1 rest = search rules
 
 module _ (rows : Rows) where
   abbrev all_settings : List Settings
@@ -310,19 +297,14 @@ module _ (rows : Rows) where
   Q c = HasTarget all_settings c
 
   no_target : (s : Settings) → IsNoBallDevice s → IsTargetAmong all_settings s
-  no_target (kinds.BallDevice d) is = absurd is
-  no_target _ is = tt
+  no_target x1 is = search rules
 
   target : (to : Destination) → IsBallRow (row_kinds rows) to → IsTargetThere (length all_settings) (target_of to)
-  target (destinations.Device r) is =
-      let within : r < length (row_kinds rows) = slice_get_within (row_kinds rows) r true is in
-      let same : length (row_kinds rows) ≡ length all_settings = ap (λ (l : List Bool). length l) (kinds_are rows) ∙ length-map all_settings is_ball in
-      omega (arith, within, same)
+  target (destinations.Device r) is = search (rules, row_kinds, slice_get_within, kinds_are, length-map, is_ball)
   target _ is = tt
 
   plain_target : (c : Contribution) → IsPlain (row_kinds rows) c → Q c
-  plain_target (device place s) is = absurd is
-  plain_target _ is = tt
+  plain_target x1 is = search rules
 
   of_device : (place : Place) (d : Device) → IsTargetAmong all_settings d.settings → All Q (device_contributions place d)
   of_device place d is = device_each Q (λ e. Unit {0}) place d is (λ k n. tt) (acting_any Q (λ e p act. tt) (λ c. tt) place) (λ n. tt) (λ k e m. tt) (any_lists d.lists)
@@ -338,12 +320,10 @@ module _ (rows : Rows) where
   W c = ActsOffBalls all_settings c
 
   no_ball : (s : Settings) → is_ball s ≡ false → IsNoBallDevice s
-  no_ball (kinds.BallDevice d) is = absurd (true≢false is)
-  no_ball _ is = tt
+  no_ball x1 is = search rules
 
   off : (o : Option Settings) → option_map is_ball o ≡ Some false → IfSome o IsNoBallDevice
-  off None is = tt
-  off (Some s) is = no_ball s (same_Some (is_ball s) false is)
+  off x1 is = search rules
 
   aimed_off : (e : List ℕ) (place : Place) (aim : Aim) → IsPlainAim (row_kinds rows) aim → W (binds e place aim)
   aimed_off e place (On r act) is = off (slice_get all_settings r) (sym (slice_get-map is_ball all_settings r) ∙ ap (λ l. slice_get l r) (sym (kinds_are rows)) ∙ is)
@@ -374,11 +354,7 @@ module _ (rows : Rows) where
   in_both seat to s is = let found = both (bytes_eq s.name game_name) (is_entry s.content) is in by s.content found.0 found.1
     where
       by : (content : Content) → bytes_eq s.name game_name ≡ true → is_entry content ≡ true → plays_in (given_by rows.machine (rows_from rows Machine seat to s.name content)) ≡ true
-      by (sections.entry e) named one =
-          list_any-append is_plays (row_contributions rows.machine (alone Machine s.name e)) [] ∙ or_left (plays_in (row_contributions rows.machine (alone Machine s.name e))) false (of_game s.name e named)
-      by (entries es) named one = absurd (true≢false (sym one))
-      by (players ps) named one = absurd (true≢false (sym one))
-      by (sections.listed ws) named one = absurd (true≢false (sym one))
+      by x1 named one = search (rules, list_any-append, or_left, of_game)
 
   in_sections : (seat : List ℕ → Option Seat) (to : List ℕ → Destination) (ss : List SectionRows) → has_game ss ≡ true → plays_in (given_by rows.machine (rows_in rows Machine seat to ss)) ≡ true
   in_sections seat to [] is = absurd (true≢false (sym is))
@@ -407,12 +383,10 @@ module _ (rows : Rows) where
   V c = DrainsInGame is_on c
 
   plain_drain : (c : Contribution) → IsPlain (row_kinds rows) c → V c
-  plain_drain (does_in k e) is = absurd is
-  plain_drain _ is = tt
+  plain_drain x1 is = search rules
 
   no_drain : (e : Effect) → IsOfNoBall e → DrainsIn is_on e
-  no_drain (enters e drain) is = absurd is
-  no_drain _ is = tt
+  no_drain x1 is = search rules
 
   ball_drains : (d : BallDevice) → All (All (DrainsIn is_on)) (ball_lists rows.machine d)
   ball_drains d =
@@ -421,8 +395,7 @@ module _ (rows : Rows) where
       (one D _ tt) (one D arrives tt) (one D _ tt)
     where
       any : (o : Option Written) → IfSome o (λ w. Unit {0})
-      any None = tt
-      any (Some w) = tt
+      any x1 = search rules
 
   drain_device : (place : Place) (d : Device) → All (All (DrainsIn is_on)) d.lists → All V (device_contributions place d)
   drain_device place d h = device_each V (DrainsIn is_on) place d tt (λ k n. tt) (acting_any V (λ e p act. tt) (λ c. tt) place) (λ n. tt) (λ k e m. m) h
@@ -492,9 +465,7 @@ switches_heard_once rows apart =
     apart (λ ns. tt) []
   where
     first : (c : Contribution) → IsPlain (row_kinds rows) c → (cs : List Contribution) → Once cs → Once (c ∷ cs)
-    first (device place settings) is cs rest ns = absurd is
-    first (listens k n) is cs rest ns = absurd is
-    first _ is cs rest ns = (tt, rest ns)
+    first x1 is cs rest ns = search rules
 
     few : (ns : List (List ℕ)) → length ns ≤ 1 → AllPairs (λ m n. m ≢ n) ns
     few ns short i j d less within = absurd (omega (arith, short, less, within))

@@ -1,6 +1,6 @@
 -- What holds of contributions, and still where others come before them.
-use Rattle.std.proofs.Common.{List, [], ◌∷◌, ◌++◌, map, get_or, sym, subst}
-use Rattle.std.specs.Prelude.{Option, None, Some, IfSome, unwrap_or}
+use Rattle.std.proofs.Common.{rules, List, [], ◌∷◌, ◌++◌, map, get_or, sym, subst}
+use Rattle.std.specs.Prelude.{Option, IfSome, unwrap_or}
 use Rattle.std.specs.List.{All, flat_map}
 use Rattle.std.proofs.lemmas.List.{append_assoc}
 use Rattle.std.proofs.lemmas.List.Elements.{All-nil, All-cons, All-head, All-tail, All-append}
@@ -34,26 +34,22 @@ module _ (Q : List Contribution → Type 0) where
 
   -- a condition, if there is one
   pub under_before : ((c : Condition) (cs : List Contribution) → Q cs → Q (under c ∷ cs)) → (o : Option Condition) (cs : List Contribution) → Q cs → Q (under_where o ++ cs)
-  under_before more None cs h = h
-  under_before more (Some c) cs h = more c cs h
+  under_before more x2 cs h = search rules
 
 -- what holds of a binding and of its condition holds of all that a handled event gives
 pub All-bound : (Q : Contribution → Type 0) (e : Event) (place : Place) (aim : Aim) → Q (binds e.name place aim) → IfSome e.condition (λ c. Q (under c)) → All Q (bound e place aim)
 All-bound Q e place aim binding condition = All-cons Q (binds e.name place aim) (under_where e.condition) binding (by e.condition condition)
   where
     by : (o : Option Condition) → IfSome o (λ c. Q (under c)) → All Q (under_where o)
-    by None h = All-nil Q
-    by (Some c) h = All-cons Q (under c) [] h (All-nil Q)
+    by x1 h = search rules
 
 -- where it holds of every condition, it does of one if there is one
 pub each_some : (R : Condition → Type 0) → ((c : Condition) → R c) → (o : Option Condition) → IfSome o R
-each_some R each None = tt
-each_some R each (Some c) = each c
+each_some R each x3 = search rules
 
 -- what is written, or else another
 pub or_else : {A : Type 0} (Q : A → Type 0) (o : Option A) (other : A) → IfSome o Q → Q other → Q (unwrap_or o other)
-or_else Q None other h is = is
-or_else Q (Some x) other h is = h
+or_else Q x2 other h is = search rules
 
 -- what holds of everything holds of each item
 pub All-every : {X : Type 0} (P : X → Type 0) → ((x : X) → P x) → (xs : List X) → All P xs
@@ -62,5 +58,4 @@ All-every P every xs = λ i d within. every (get_or xs i d)
 -- what holds of all that each item gives
 pub All-flat_map : {X Y : Type 0} (P : Y → Type 0) (f : X → List Y) (xs : List X) → All (λ x. All P (f x)) xs → All P (flat_map f xs)
 All-flat_map P f [] all = All-nil P
-All-flat_map P f (x ∷ xs) all =
-    All-append P (f x) (flat_map f xs) (All-head (λ z. All P (f z)) x xs all) (All-flat_map P f xs (All-tail (λ z. All P (f z)) x xs all))
+All-flat_map P f (x ∷ xs) all = search (rules, All-append, All-head, All-tail, All-flat_map P f xs (All-tail (λ z. All P (f z)) x xs all))

@@ -1,6 +1,6 @@
 -- What is collected of the entry of a device, part after part.
-use Rattle.std.proofs.Common.{◌≡◌, true, false, ℕ, suc, ◌+◌, ◌<◌, List, [], ◌∷◌, ◌++◌, length, map, drop, get_or, refl, sym, ◌∙◌, ap, arith}
-use Rattle.std.specs.Prelude.{Option, None, Some}
+use Rattle.std.proofs.Common.{rules, ◌≡◌, true, false, ℕ, ◌+◌, ◌<◌, List, [], ◌∷◌, ◌++◌, length, map, drop, get_or, refl, sym, ◌∙◌, ap}
+use Rattle.std.specs.Prelude.{Option, Some}
 use Rattle.std.proofs.lemmas.List.{append-nil, append_assoc, map-append, drop_more}
 use Rattle.std.proofs.lemmas.Grind.{flat_map-append}
 use Rattle.std.specs.List.{flat_map}
@@ -23,7 +23,7 @@ use Rattle.plan_contributions.specs.Effects.{Effect}
 use Rattle.row_contributions.specs.SaveEntries.{save_device_of}
 use Rattle.plan_contributions.specs.Contributions.{Contribution, device, does_in, listens, mentions}
 use Rattle.row_contributions.specs.Contributions.{Device, act_binding, effects_from, listens_from, device_contributions}
-use Rattle.plan_contributions.specs.View.{contribution_view, contributions_view}
+use Rattle.plan_contributions.specs.View.{contributions_view}
 
 -- what is made of some things, and then of others
 pub mapped_after : {X : Type 0} (f : X → Contribution) (old : List Contribution) (xs ys : List X) → (old ++ map f xs) ++ map f ys ≡ old ++ map f (xs ++ ys)
@@ -35,59 +35,32 @@ made_after f old xs ys = append_assoc old (flat_map f xs) (flat_map f ys) ∙ ap
 
 -- a row with these settings
 pub row_first : (old new : List contributions.Contribution) (place : Place) (s t : Settings) → new ≡ old ++ contribution.Device place s ∷ [] → s ≡ t → contributions_view new ≡ contributions_view old ++ device place t ∷ []
-row_first old new place s t pushed same =
-    ap contributions_view pushed ∙ map-append contribution_view old (contribution.Device place s ∷ []) ∙ ap (λ x. contributions_view old ++ device place x ∷ []) same
+row_first old new place s t pushed same = search (rules, map-append)
 
 -- the three lists of a block
 pub lists_collected : (old a b e : List Contribution) (u : Effect) (hit complete : List Effect) → a ≡ old ++ does_in 0 u ∷ [] → b ≡ a ++ map (does_in 1) hit → e ≡ b ++ map (does_in 2) complete
     → e ≡ old ++ effects_from 0 ((u ∷ []) ∷ hit ∷ complete ∷ [])
-lists_collected old a b e u hit complete first then_ rest =
-    let hits = map (does_in 1) hit in
-    let completes = map (does_in 2) complete in
-    rest ∙ ap (λ l. l ++ completes) (then_ ∙ ap (λ l. l ++ hits) first)
-    ∙ append_assoc (old ++ does_in 0 u ∷ []) hits completes
-    ∙ append_assoc old (does_in 0 u ∷ []) (hits ++ completes)
-    ∙ ap (λ l. old ++ does_in 0 u ∷ (hits ++ l)) (sym (append-nil completes))
+lists_collected old a b e u hit complete first then_ rest = search (rules, append_assoc, append-nil)
 
 -- then what acts on a row that listens to no switch, and the rest
 pub device_collected : (place : Place) (d : Device) (old a b e : List Contribution) → d.listens ≡ [] → a ≡ old ++ device place d.settings ∷ [] → b ≡ a ++ flat_map (act_binding place) d.handled
     → e ≡ b ++ (map (mentions Events) d.mentioned ++ effects_from 0 d.lists) → e ≡ old ++ device_contributions place d
 unfolding device_contributions
-device_collected place d old a b e silent first then_ rest =
-    let row = device place d.settings in
-    let acting = flat_map (act_binding place) d.handled in
-    let doing = map (mentions Events) d.mentioned ++ effects_from 0 d.lists in
-    rest ∙ ap (λ l. l ++ doing) (then_ ∙ ap (λ l. l ++ acting) first)
-    ∙ append_assoc (old ++ row ∷ []) acting doing
-    ∙ append_assoc old (row ∷ []) (acting ++ doing)
-    ∙ ap (λ ns. old ++ row ∷ (listens_from 0 ns ++ (acting ++ doing))) (sym silent)
+device_collected place d old a b e silent first then_ rest = search (rules, append_assoc)
 
 -- one step, and then the others
 pub steps_next : {X : Type 0} (f : Event × Act → List Contribution) (view : X → List Handled) (steps : List X) (i : ℕ) (d : X) → i < length steps
     → flat_map f (acts (Step i) (view (get_or steps i d))) ++ flat_map f (step_acts (i + 1) (map view (drop (i + 1) steps))) ≡ flat_map f (step_acts i (map view (drop i steps)))
-steps_next f view steps i d within =
-    let here = acts (Step i) (view (get_or steps i d)) in
-    let later = map view (drop (i + 1) steps) in
-    let next : i + 1 ≡ suc i = omega arith in
-    ap (λ k. flat_map f here ++ flat_map f (step_acts k later)) next
-    ∙ sym (flat_map-append f here (step_acts (suc i) later))
-    ∙ ap (λ l. flat_map f (step_acts i (map view l))) (sym (drop_more steps i d within))
+steps_next f view steps i d within = search (rules, get_or, flat_map-append, drop_more)
 
 -- one ball switch, and then the others
 pub listens_next : (now : List Contribution) (switches : List Name) (i : ℕ) (d : Name) → i < length switches
     → (now ++ listens i (name_view (get_or switches i d)).text ∷ []) ++ listens_from (i + 1) (texts (map name_view (drop (i + 1) switches))) ≡ now ++ listens_from i (texts (map name_view (drop i switches)))
-listens_next now switches i d within =
-    let here = listens i (name_view (get_or switches i d)).text in
-    let later = texts (map name_view (drop (i + 1) switches)) in
-    let next : i + 1 ≡ suc i = omega arith in
-    append_assoc now (here ∷ []) (listens_from (i + 1) later)
-    ∙ ap (λ k. now ++ here ∷ listens_from k later) next
-    ∙ ap (λ l. now ++ listens_from i (texts (map name_view l))) (sym (drop_more switches i d within))
+listens_next now switches i d within = search (rules, get_or, append_assoc, drop_more)
 
 -- one control, and then the others
 pub control_next : (f : Event × Act → List Contribution) (o : Option Control) (cs : List Control) → flat_map f (map controlled (with_control o [])) ++ flat_map f (map controlled cs) ≡ flat_map f (map controlled (with_control o cs))
-control_next f None cs = refl
-control_next f (Some c) cs = ap (λ l. l ++ flat_map f (map controlled cs)) (append-nil (f (controlled c)))
+control_next f x2 cs = search rules
 
 -- the device of an entry whose section has this name
 module _ (section : List ℕ) (e : Entry) (others : bytes_eq section counters_name ≡ false) where

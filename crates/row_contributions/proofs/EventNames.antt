@@ -1,19 +1,18 @@
 -- The names that contributions use.
-use Rattle.std.proofs.Common.{List, [], ℕ}
+use Rattle.std.proofs.Common.{rules, List, ℕ}
 use Rattle.std.specs.Prelude.{Option, None, Some}
 use Rattle.std.specs.List.{All}
-use Rattle.std.proofs.lemmas.List.Elements.{All-nil, All-cons, All-weaker}
+use Rattle.std.proofs.lemmas.List.Elements.{All-nil, All-weaker}
 use Rattle.mpf_config.specs.Rows.{Rows}
 use Rattle.mpf_sections.specs.Named.{IsName, IsNamed}
 use Rattle.mpf_config.specs.Named.{IsNamedMode}
 use Rattle.plan_tables.specs.declared.table.Table.{Table}
 use Rattle.plan_tables.specs.declared.table.Table.TheVariants.{Events, Switches}
-use Rattle.plan_contributions.specs.Effects.{Effect, posts, works, changes, enters}
-use Rattle.plan_contributions.specs.Contributions.{Contribution, reads, does, device, does_in, unknown, plays}
+use Rattle.plan_contributions.specs.Contributions.{Contribution}
 use Rattle.row_contributions.specs.Contributions.{contributions_of}
-use Rattle.plan_contributions.specs.UsedNames.{used_by, used, uses, name_in_table}
+use Rattle.plan_contributions.specs.UsedNames.{used, uses, name_in_table}
 use Rattle.row_contributions.proofs.Before.{All-flat_map}
-use Rattle.row_contributions.proofs.RowFacts.{IsFitName, IsFitEffect, IsFit, any_name, rows_fit}
+use Rattle.row_contributions.proofs.RowFacts.{IsFitName, IsFit, any_name, rows_fit}
 use Rattle.row_contributions.specs.Facts.{IsOfNames}
 
 -- the name that is used, if there is one, is fit for its table
@@ -22,21 +21,9 @@ IsFitUse P None = Unit {0}
 IsFitUse P (Some u) = IsFitName P u.0 u.1
 
 module _ (P : List ℕ → Type 0) where
-  effect_fit : (e : Effect) → IsFitEffect P e → IsFitUse P (used_by e)
-  effect_fit (posts n) h = h
-  effect_fit (works n deed) h = h
-  effect_fit (changes v action n) h = h
-  effect_fit (enters e drain) h = h
-  effect_fit _ h = tt
 
   use_fit : (c : Contribution) → IsFit P c → IsFitUse P (used c)
-  use_fit (reads kind confirms) h = tt
-  use_fit (does e) h = effect_fit e h
-  use_fit (device place settings) h = tt
-  use_fit (does_in k e) h = effect_fit e h
-  use_fit unknown h = tt
-  use_fit (plays min_balls balls_per_game max_players) h = tt
-  use_fit _ h = h
+  use_fit x1 h = search rules
 
   -- what holds of the names of a table that are used, where it holds of each that is fit for it
   module _ (table : Table) (Q : List ℕ → Type 0) (each : (o : Option (Table × List ℕ)) → IsFitUse P o → All Q (name_in_table table o)) where
@@ -48,16 +35,14 @@ module _ (P : List ℕ → Type 0) where
   event_fit (Some u) h = by u.0 u.1 h
     where
       by : (t : Table) (n : List ℕ) → IsFitName P t n → All P (name_in_table Events (Some (t, n)))
-      by Events n k = All-cons P n [] k (All-nil P)
-      by _ n k = All-nil P
+      by x1 n k = search rules
 
   switch_fit : (o : Option (Table × List ℕ)) → IsFitUse P o → All IsName (name_in_table Switches o)
   switch_fit None h = All-nil IsName
   switch_fit (Some u) h = by u.0 u.1 h
     where
       by : (t : Table) (n : List ℕ) → IsFitName P t n → All IsName (name_in_table Switches (Some (t, n)))
-      by Switches n k = All-cons IsName n [] k (All-nil IsName)
-      by _ n k = All-nil IsName
+      by x1 n k = search rules
 
   -- where the names in the rows are names, each used name of an event meets P
   pub used_names : IsOfNames P → (rows : Rows) → All IsNamed rows.machine → All IsNamedMode rows.modes → All P (uses Events (contributions_of rows))

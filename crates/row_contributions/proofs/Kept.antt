@@ -1,6 +1,6 @@
 -- What holds of no contributions, and still where the contributions of one more row come first, holds of all contributions
 -- of a configuration.
-use Rattle.std.proofs.Common.{◌≡◌, ℕ, zero, suc, ◌+◌, ◌-◌, ◌≤◌, Bool, true, false, if◌then◌else◌, List, [], ◌∷◌, ◌++◌, length, map, get_or, sym, subst, refl, ap, ◌∙◌, codes, arith, length-append}
+use Rattle.std.proofs.Common.{rules, ◌≡◌, ℕ, zero, suc, ◌+◌, ◌-◌, ◌≤◌, Bool, true, false, if◌then◌else◌, List, [], ◌∷◌, ◌++◌, length, map, get_or, sym, subst, refl, ap, ◌∙◌, codes, arith, length-append}
 use Rattle.std.specs.Prelude.{Option, None, Some, IfSome, slice_get}
 use Rattle.std.specs.Str.{bytes_eq}
 use Rattle.std.specs.List.{All, flat_map}
@@ -10,39 +10,33 @@ use Rattle.std.proofs.lemmas.Grind.{flat_map-append}
 use Rattle.mpf_values.specs.Events.{Condition, Event}
 use Rattle.mpf_sections.specs.Rows.{Written, Entry, Player, Switch, EventPlayer, CoilPlayer, VariablePlayer, VariableItem, GameSettings, Coil, Flipper, Autofire, Counter, StepBlock, Timer, Shot, ShotGroup, BallDevice, BallSave, Multiball, ModeSettings, Content, entries, players, SectionRows}
 use Rattle.mpf_sections.specs.Rows as sections
-use Rattle.mpf_sections.specs.Typed.{switches_name, event_player_name, counters_name, accruals_name, sequences_name, timers_name, switch_of, event_player_of, counter_of, step_block_of, timer_of, mode_settings}
-use Rattle.mpf_sections.specs.TypedCoils.{coils_name, coil_player_name, flippers_name, autofire_coils_name, coil_of, coil_player_of, flipper_of, autofire_of}
+use Rattle.mpf_sections.specs.Typed.{mode_settings}
 use Rattle.mpf_sections.specs.TypedShots.{shot_of}
 use Rattle.mpf_sections.specs.TypedBalls.{ball_devices_name, playfield, ball_device_of, ball_devices_in}
-use Rattle.mpf_sections.specs.TypedSaves.{ball_saves_name, multiballs_name, ball_save_of, multiball_of}
-use Rattle.mpf_sections.specs.TypedGame.{variable_player_name, game_name, variable_player_of, game_of, min_balls_of}
 use Rattle.mpf_config.specs.Rows.{ModeRows, Rows}
-use Rattle.machine_definitions.specs.GameEvents.{game_event_names}
 use Rattle.machine_definitions.specs.Players.{player_event}
 use Rattle.machine_definitions.specs.Shots.{Profile}
 use Rattle.plan_tables.specs.declared.devices.Act.{Act}
 use Rattle.plan_tables.specs.declared.devices.Settings.{Settings}
-use Rattle.plan_tables.specs.declared.devices.Settings.TheVariants as kinds
-use Rattle.plan_tables.specs.declared.entries.ModeEvent.TheVariants.{Starting, Started, Stopping, Stopped}
-use Rattle.plan_tables.specs.declared.table.Table.TheVariants.{Events, Switches}
+use Rattle.plan_tables.specs.declared.table.Table.TheVariants.{Events}
 use Rattle.plan_rows.specs.declared.destination.Destination.{Destination}
 use Rattle.plan_rows.specs.declared.destination.Destination.TheVariants as destinations
 use Rattle.plan_rows.specs.declared.place.Place.{Place}
 use Rattle.plan_rows.specs.declared.place.Place.TheVariants.{Machine, Control, Mode}
 use Rattle.plan_rows.specs.Members.{Members}
 use Rattle.plan_rows.specs.Seats.{Seat, seat_of, ball_row_of, row_or_unknown, destination_of, rows_after_text}
-use Rattle.plan_rows.specs.Rows.{Row, entry, alone, shot, group, ball_device, player, of_mode, entry_row, rows_from, text_rows, mode_rows, modes_rows, rows_of}
+use Rattle.plan_rows.specs.Rows.{Row, entry, alone, shot, ball_device, player, of_mode, entry_row, rows_from, text_rows, mode_rows, modes_rows, rows_of}
 use Rattle.plan_contributions.specs.declared.contribution.Aim.{Aim}
 use Rattle.plan_contributions.specs.declared.contribution.Aim.TheVariants.{Run, Start, Stop, Do, On}
 use Rattle.row_contributions.specs.VariableEntries.{item_change}
-use Rattle.row_contributions.specs.CoilEntries.{limits_of_coil, item_effect, flipper_device, autofire_device}
+use Rattle.row_contributions.specs.CoilEntries.{limits_of_coil, flipper_device, autofire_device}
 use Rattle.plan_contributions.specs.Effects.{posts}
-use Rattle.row_contributions.specs.DeviceEntries.{texts, events, device_of, step_settings, step_device, counter_device, timer_event, timer_endings, timer_device, always}
+use Rattle.row_contributions.specs.DeviceEntries.{texts, events, device_of, step_device, counter_device, timer_device}
 use Rattle.row_contributions.specs.ShotEntries.{shot_acts, lone_device, group_device}
 use Rattle.row_contributions.specs.BallEntries.{is_known, ball_device_from}
 use Rattle.row_contributions.specs.SaveEntries.{save_device, multiball_device, save_device_of}
-use Rattle.plan_contributions.specs.Contributions.{Contribution, gives, reads, active, inactive, mode, mode_event, binds, does, device, does_in, listens, mentions, unknown, coil, under, plays}
-use Rattle.row_contributions.specs.Contributions.{under_where, bound, kind_of, confirms, active_posts, inactive_posts, switch_contributions, player_contributions, coil_contributions, coil_player_contributions, item_contributions, variable_player_contributions, game_contributions, starter, stopper, stopper_where, later_events, stops_at_ball_end, stops_at_game_end, controls, mode_contributions, Device, device_contributions, where_device, machine_device, unknown_unless, shot_switch, act_at, seated, shot_contributions, group_contributions, ball_device_contributions, machine_entry_contributions, entry_contributions, alone_contributions, player_entry_contributions, row_contributions, given_by, contributions_of}
+use Rattle.plan_contributions.specs.Contributions.{Contribution, mode, binds, does, device, does_in, listens, mentions, coil}
+use Rattle.row_contributions.specs.Contributions.{under_where, bound, switch_contributions, player_contributions, coil_contributions, coil_player_contributions, item_contributions, variable_player_contributions, game_contributions, starter, stopper, stopper_where, later_events, stops_at_ball_end, stops_at_game_end, controls, mode_contributions, Device, device_contributions, where_device, machine_device, unknown_unless, shot_switch, act_at, seated, shot_contributions, group_contributions, ball_device_contributions, machine_entry_contributions, entry_contributions, alone_contributions, player_entry_contributions, row_contributions, given_by, contributions_of}
 use Rattle.plan_tables.specs.BallRows.{IsNoBallDevice}
 use Rattle.row_contributions.specs.BallFacts.{IsOfNoBall}
 use Rattle.row_contributions.proofs.CoilFacts.{all_flips, fires}
@@ -114,8 +108,7 @@ module _ (machine : List SectionRows) where
   plain_timer : (t : Timer) → IsPlainDevice (timer_device t)
   plain_timer t = record {
     settings = tt;
-    lists = All-map (All IsOfNoBall) (λ ending. posts (timer_event t.name.text ending) ∷ []) timer_endings
-        (λ i d within. All-cons IsOfNoBall (posts (timer_event t.name.text (get_or timer_endings i d))) [] tt (All-nil IsOfNoBall));
+    lists = search rules;
     listens = omega arith;
   }
 
@@ -123,8 +116,7 @@ module _ (machine : List SectionRows) where
   plain_flipper f = record { settings = tt; lists = all_flips IsOfNoBall machine f (tt, tt, tt) (any f.hold_coil) (any f.hold_coil); listens = omega arith }
     where
       any : (o : Option Written) → IfSome o (λ w. Unit {0})
-      any None = tt
-      any (Some w) = tt
+      any x1 = search rules
 
   plain_autofire : (a : Autofire) → IsPlainDevice (autofire_device machine a)
   plain_autofire a = record { settings = tt; lists = fires IsOfNoBall machine a tt; listens = omega arith }
@@ -147,30 +139,18 @@ module _ (machine : List SectionRows) where
   IsPlainWhere (Some d) = IsPlainDevice d
 
   plain_if : (b : Bool) (o q : Option Device) → IsPlainWhere o → IsPlainWhere q → IsPlainWhere (if b then o else q)
-  plain_if true o q first other = first
-  plain_if false o q first other = other
+  plain_if x1 o q first other = search rules
 
   plain_save_entry : (section : List ℕ) (e : Entry) → IsPlainWhere (save_device_of section e)
   unfolding save_device_of
-  plain_save_entry section e =
-      plain_if (bytes_eq section ball_saves_name) (Some (save_device (ball_save_of e))) _ (plain_save (ball_save_of e))
-      (plain_if (bytes_eq section multiballs_name) (Some (multiball_device (multiball_of e))) None (plain_multiball (multiball_of e)) tt)
+  plain_save_entry section e = search rules
 
   plain_entry : (section : List ℕ) (e : Entry) → IsPlainWhere (device_of section e)
   unfolding device_of
-  plain_entry section e =
-      let block = step_block_of e in
-      let accrual = kinds.Accrual (step_settings block) in
-      let sequence = kinds.Sequence (step_settings block) in
-      plain_if (bytes_eq section counters_name) (Some (counter_device (counter_of e))) _ (plain_counter (counter_of e))
-      (plain_if (bytes_eq section accruals_name) (Some (step_device accrual block)) _ (plain_steps accrual block tt)
-      (plain_if (bytes_eq section sequences_name) (Some (step_device sequence block)) _ (plain_steps sequence block tt)
-      (plain_if (bytes_eq section timers_name) (Some (timer_device (timer_of e))) (save_device_of section e) (plain_timer (timer_of e)) (plain_save_entry section e))))
+  plain_entry section e = search (rules, plain_if, plain_counter, plain_steps, plain_timer, plain_save_entry)
 
   plain_machine : (section : List ℕ) (e : Entry) → IsPlainWhere (machine_device machine section e)
-  plain_machine section e =
-      plain_if (bytes_eq section flippers_name) (Some (flipper_device machine (flipper_of e))) _ (plain_flipper (flipper_of e))
-      (plain_if (bytes_eq section autofire_coils_name) (Some (autofire_device machine (autofire_of e))) (device_of section e) (plain_autofire (autofire_of e)) (plain_entry section e))
+  plain_machine section e = search (rules, plain_if, plain_flipper, plain_autofire, plain_entry)
 
 -- ---- what is kept where contributions come first
 
@@ -196,35 +176,27 @@ module _ (kinds : List Bool) (machine : List SectionRows) (B : BallDevice → Ty
   all make keeps (x ∷ xs) = both (make x) (flat_map make xs) (keeps x) (all make keeps xs)
 
   when : (b : Bool) (cs ds : List Contribution) → Keeps cs → Keeps ds → Keeps (if b then cs else ds)
-  when true cs ds one other = one
-  when false cs ds one other = other
+  when x1 cs ds one other = search rules
 
   -- ---- each section
 
   in_switch : (s : Switch) → Keeps (switch_contributions machine s)
   unfolding switch_contributions
-  in_switch s =
-      let read = reads (kind_of machine s) (confirms s.tags) in
-      let on = map active (active_posts s) in
-      let off = map inactive (inactive_posts s) in
-      first (gives Switches s.name.text) (read ∷ on ++ off) tt (first read (on ++ off) tt (both on off (each active (λ n. tt) (active_posts s)) (each inactive (λ n. tt) (inactive_posts s))))
+  in_switch s = search (rules, first, both, each)
 
   in_bound : (e : Event) (place : Place) (aim : Aim) → IsPlainAim kinds aim → Keeps (bound e place aim)
   in_bound e place aim is = first (binds e.name place aim) (under_where e.condition) is (in_under e.condition)
     where
       in_under : (o : Option Condition) → Keeps (under_where o)
-      in_under None = none
-      in_under (Some c) = first (under c) [] tt none
+      in_under x1 = search rules
 
   in_player : (place : Place) (p : EventPlayer) → Keeps (player_contributions place p)
   unfolding player_contributions
-  in_player place p =
-      both (bound p.event.event place Run) (map (λ e. does (posts e)) (texts p.posts)) (in_bound p.event.event place Run tt) (each (λ e. does (posts e)) (λ e. tt) (texts p.posts))
+  in_player place p = search (rules, both, in_bound, each)
 
   in_coil_player : (place : Place) (p : CoilPlayer) → Keeps (coil_player_contributions machine place p)
   unfolding coil_player_contributions
-  in_coil_player place p =
-      both (bound p.event.event place Run) (map (λ item. does (item_effect machine item)) p.items) (in_bound p.event.event place Run tt) (each (λ item. does (item_effect machine item)) (λ item. tt) p.items)
+  in_coil_player place p = search (rules, both, in_bound, each)
 
   in_item : (item : VariableItem) → Keeps (item_contributions item)
   in_item item = first (mentions Events (player_event item.variable.text)) (does (item_change item) ∷ []) tt (first (does (item_change item)) [] tt none)
@@ -235,24 +207,18 @@ module _ (kinds : List Bool) (machine : List SectionRows) (B : BallDevice → Ty
 
   in_game : (g : GameSettings) → Keeps (game_contributions machine g)
   unfolding game_contributions
-  in_game g =
-      let rules = plays (min_balls_of machine) g.balls_per_game g.max_players in
-      both (map (mentions Events) game_event_names) (rules ∷ []) (each (mentions Events) (λ n. tt) game_event_names) (first rules [] tt none)
+  in_game g = search rules
 
   in_coil : (c : Coil) → Keeps (coil_contributions c)
   unfolding coil_contributions
   in_coil c = first (coil c.name.text (limits_of_coil c)) [] tt none
 
   in_where : (place : Place) (o : Option Device) → IsPlainWhere machine o → Keeps (where_device place o)
-  in_where place None is = none
-  in_where place (Some d) is = kept.device place d is
+  in_where place x2 is = search rules
 
   in_machine_entry : (section : List ℕ) (e : Entry) → Keeps (machine_entry_contributions machine section e)
   unfolding machine_entry_contributions
-  in_machine_entry section e =
-      let others = where_device Machine (machine_device machine section e) in
-      when (bytes_eq section coils_name) (coil_contributions (coil_of e)) (if bytes_eq section switches_name then switch_contributions machine (switch_of e) else others) (in_coil (coil_of e))
-      (when (bytes_eq section switches_name) (switch_contributions machine (switch_of e)) others (in_switch (switch_of e)) (in_where Machine (machine_device machine section e) (plain_machine machine section e)))
+  in_machine_entry section e = search (rules, when, in_coil, in_switch, in_where, plain_machine)
 
   in_entry : (place : Place) (section : List ℕ) (e : Entry) → Keeps (entry_contributions machine place section e)
   unfolding entry_contributions
@@ -262,22 +228,14 @@ module _ (kinds : List Bool) (machine : List SectionRows) (B : BallDevice → Ty
 
   in_alone : (place : Place) (section : List ℕ) (e : Entry) → Keeps (alone_contributions machine place section e)
   unfolding alone_contributions
-  in_alone Machine section e = when (bytes_eq section game_name) (game_contributions machine (game_of e)) [] (in_game (game_of e)) none
-  in_alone _ section e = none
+  in_alone x1 section e = search (rules, when, in_game, none)
 
   in_player_entry : (place : Place) (section : List ℕ) (p : Player) → Keeps (player_entry_contributions machine place section p)
   unfolding player_entry_contributions
-  in_player_entry place section p =
-      let item = coil_player_contributions machine place (coil_player_of p) in
-      let change = variable_player_contributions place (variable_player_of p) in
-      let last = if bytes_eq section variable_player_name then change else [] in
-      when (bytes_eq section event_player_name) (player_contributions place (event_player_of p)) (if bytes_eq section coil_player_name then item else last) (in_player place (event_player_of p))
-      (when (bytes_eq section coil_player_name) item last (in_coil_player place (coil_player_of p))
-      (when (bytes_eq section variable_player_name) change [] (in_variable_player place (variable_player_of p)) none))
+  in_player_entry place section p = search (rules, when, in_player, in_coil_player, in_variable_player, none)
 
   in_stopper : (holds : Bool) (name : List ℕ) → Keeps (stopper_where holds name)
-  in_stopper true name = in_bound (always name) Control Stop tt
-  in_stopper false name = none
+  in_stopper x1 name = search rules
 
   in_mode : (name : List ℕ) (s : ModeSettings) → Keeps (mode_contributions name s)
   unfolding mode_contributions
@@ -295,20 +253,15 @@ module _ (kinds : List Bool) (machine : List SectionRows) (B : BallDevice → Ty
       (in_stopper (stops_at_game_end s) (codes "game_ending"))))
     where
       later : Keeps (later_events name)
-      later =
-          first (mode_event Starting name) (mode_event Started name ∷ mode_event Stopping name ∷ mode_event Stopped name ∷ []) tt
-          (first (mode_event Started name) (mode_event Stopping name ∷ mode_event Stopped name ∷ []) tt
-          (first (mode_event Stopping name) (mode_event Stopped name ∷ []) tt (first (mode_event Stopped name) [] tt none)))
+      later = search rules
 
   -- ---- shots and ball devices
 
   in_unknown : (known : Bool) → Keeps (unknown_unless known)
-  in_unknown true = none
-  in_unknown false = first unknown [] tt none
+  in_unknown x1 = search rules
 
   in_shot_switch : (o : Option Written) → Keeps (shot_switch o)
-  in_shot_switch None = none
-  in_shot_switch (Some w) = first (mentions Switches w.text) [] tt none
+  in_shot_switch x1 = search rules
 
   in_seated : (place : Place) (p : Profile) (s : Shot) (seat : Option Seat) → IfSome seat (λ x. IsOffBall kinds x.row) → Keeps (seated place p s seat)
   in_seated place p s None off = kept.device place (lone_device p s) (plain_lone machine p s)
@@ -316,9 +269,7 @@ module _ (kinds : List Bool) (machine : List SectionRows) (B : BallDevice → Ty
 
   in_shot : (place : Place) (s : Shot) (seat : Option Seat) (known : Bool) (p : Profile) → IfSome seat (λ x. IsOffBall kinds x.row) → Keeps (shot_contributions place s seat known p)
   unfolding shot_contributions
-  in_shot place s seat known p off =
-      both (unknown_unless known) (shot_switch s.switch ++ seated place p s seat) (in_unknown known)
-      (both (shot_switch s.switch) (seated place p s seat) (in_shot_switch s.switch) (in_seated place p s seat off))
+  in_shot place s seat known p off = search (rules, both, in_unknown, in_shot_switch, in_seated)
 
   in_group : (place : Place) (g : ShotGroup) (m : Members) → Keeps (group_contributions place g m)
   unfolding group_contributions
@@ -333,13 +284,7 @@ module _ (kinds : List Bool) (machine : List SectionRows) (B : BallDevice → Ty
   -- ---- all rows
 
   in_row : (r : Row) → IsSuch kinds B r → Keeps (row_contributions machine r)
-  in_row (entry place section e) is = in_entry place section e
-  in_row (alone place section e) is = in_alone place section e
-  in_row (shot place s seat known p) is = in_shot place s seat known p is
-  in_row (group place g m) is = in_group place g m
-  in_row (ball_device d to) is = in_ball_device d to is
-  in_row (player place section p) is = in_player_entry place section p
-  in_row (of_mode name s) is = in_mode name s
+  in_row x1 is = search (rules, in_entry, in_alone, in_shot, in_group, ball_device, in_ball_device, in_player_entry, in_mode)
 
   in_rows : (rs : List Row) → All (IsSuch kinds B) rs → Keeps (given_by machine rs)
   in_rows [] is = none
@@ -354,9 +299,7 @@ at_left (y ∷ ys) later zero x is = is
 at_left (y ∷ ys) later (suc r) x is = at_left ys later r x is
 
 at_middle : {X : Type 0} (before own later : List X) (n r : ℕ) (x : X) → length before ≡ n → n ≤ r → slice_get own (r - n) ≡ Some x → slice_get (before ++ (own ++ later)) r ≡ Some x
-at_middle [] own later n r x first from is =
-    let same : r ≡ r - n = omega (arith, first) in
-    at_left own later r x (ap (slice_get own) same ∙ is)
+at_middle [] own later n r x first from is = search (rules, later, first, at_left)
 at_middle (b ∷ bs) own later n zero x first from is = absurd (omega (arith, first, from))
 at_middle (b ∷ bs) own later n (suc r) x first from is =
     let same : r - length bs ≡ suc r - n = omega (arith, first) in
@@ -385,8 +328,7 @@ module _ (rows : Rows) where
       seats_off name = by (seat name) (seat_at place n ss name)
         where
           by : (o : Option Seat) → IfSome o (λ x. IsRowAt n (rows_of_text place ss) false x.row) → IfSome o (λ x. IsOffBall row_kinds x.row)
-          by None h = tt
-          by (Some x) h = in_text false x.row h
+          by x1 h = search (rules, in_text)
 
       module _ (balls : (name : List ℕ) → place ≡ Machine → IsBallRow row_kinds (to name)) where
         entry_is : (section : List ℕ) (e : Entry) → (place ≡ Machine → Where (bytes_eq section ball_devices_name) (B (ball_device_of e))) → R (entry_row rows place seat to section e)

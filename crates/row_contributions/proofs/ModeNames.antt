@@ -1,5 +1,5 @@
 -- The names of the events of modes: no two events of modes have one name.
-use Rattle.std.proofs.Common.{◌≡◌, ℕ, ◌+◌, ◌==◌, List, ◌++◌, cond, get_or, reverse, codes, refl, sym, ◌∙◌, ap}
+use Rattle.std.proofs.Common.{rules, ◌≡◌, ℕ, ◌+◌, ◌==◌, List, ◌++◌, cond, get_or, reverse, codes, sym, ◌∙◌, ap}
 use Rattle.std.proofs.lemmas.List.{reverse-append, append_cancel_left, append_cancel_right}
 use Rattle.plan_tables.specs.declared.entries.ModeEvent.{ModeEvent}
 use Rattle.plan_tables.specs.declared.entries.ModeEvent.TheVariants.{WillStart, Starting, Started, Stopping, Stopped}
@@ -21,15 +21,10 @@ abbrev marked : ℕ → ModeEvent
 marked n = cond (n == 232) WillStart (cond (n == 219) Starting (cond (n == 214) Started (cond (n == 215) Stopping Stopped)))
 
 ending_marked : (which : ModeEvent) → marked (mark which) ≡ which
-ending_marked WillStart = refl
-ending_marked _ = refl
+ending_marked x1 = search rules
 
 mark_by : (before : List ℕ) (which : ModeEvent) → mark_of (before ++ event_ending which) ≡ mark which
-mark_by before WillStart = ap (λ l. get_or l 0 0 + get_or l 3 0) (reverse-append before (event_ending WillStart))
-mark_by before Starting = ap (λ l. get_or l 0 0 + get_or l 3 0) (reverse-append before (event_ending Starting))
-mark_by before Started = ap (λ l. get_or l 0 0 + get_or l 3 0) (reverse-append before (event_ending Started))
-mark_by before Stopping = ap (λ l. get_or l 0 0 + get_or l 3 0) (reverse-append before (event_ending Stopping))
-mark_by before Stopped = ap (λ l. get_or l 0 0 + get_or l 3 0) (reverse-append before (event_ending Stopped))
+mark_by before x2 = search (rules, get_or, reverse-append)
 
 module _ (which other : ModeEvent) (a b : List ℕ) (same : mode_event_name which a ≡ mode_event_name other b) where
   -- of one name there is one event
@@ -41,6 +36,4 @@ module _ (which other : ModeEvent) (a b : List ℕ) (same : mode_event_name whic
 
   -- and one mode
   pub same_mode : a ≡ b
-  same_mode =
-      append_cancel_left (codes "mode_") a b
-      (append_cancel_right (codes "mode_" ++ a) (codes "mode_" ++ b) (event_ending other) (ap (λ w. mode_event_name w a) (sym same_which) ∙ same))
+  same_mode = search (rules, append_cancel_left, append_cancel_right, same_which)

@@ -1,13 +1,11 @@
 -- What is of a mode comes after one, as contributions come.
-use Rattle.std.proofs.Common.{ℕ, suc, ◌≤◌, List, [], ◌∷◌, ◌++◌, arith}
+use Rattle.std.proofs.Common.{rules, ℕ, suc, ◌≤◌, List, [], ◌∷◌, ◌++◌}
 use Rattle.std.specs.Prelude.{Option}
 use Rattle.mpf_values.specs.Events.{Condition}
 use Rattle.plan_contributions.specs.declared.contribution.Aim.{Aim}
-use Rattle.plan_contributions.specs.declared.contribution.Aim.TheVariants.{Start, Stop}
 use Rattle.plan_rows.specs.declared.place.Place.{Place}
-use Rattle.plan_rows.specs.declared.place.Place.TheVariants.{Machine, Control, Mode}
 use Rattle.plan_contributions.specs.Effects.{Effect}
-use Rattle.plan_contributions.specs.Contributions.{Contribution, mode, binds, device, does_in}
+use Rattle.plan_contributions.specs.Contributions.{Contribution, does_in}
 use Rattle.row_contributions.specs.Contributions.{under_where, effects_from, listens_from}
 use Rattle.row_contributions.specs.Facts.{IsOpenPlace, IsOpenAim, IsOpen, modes_after, AreOpened}
 use Rattle.row_contributions.proofs.Before.{each_before, under_before}
@@ -18,31 +16,23 @@ AreOpened-more [] m n more h = tt
 AreOpened-more (c ∷ cs) m n more h = (opened c h.0, AreOpened-more cs (modes_after m c) (modes_after n c) (after c) h.1)
   where
     place_open : (place : Place) → IsOpenPlace m place → IsOpenPlace n place
-    place_open Machine is = tt
-    place_open Control is = omega (arith, more, is)
-    place_open Mode is = omega (arith, more, is)
+    place_open x1 is = search rules
 
     aim_open : (aim : Aim) → IsOpenAim m aim → IsOpenAim n aim
-    aim_open Start is = omega (arith, more, is)
-    aim_open Stop is = omega (arith, more, is)
-    aim_open _ is = tt
+    aim_open x1 is = search rules
 
     opened : (x : Contribution) → IsOpen m x → IsOpen n x
-    opened (binds e place aim) is = (place_open place is.0, aim_open aim is.1)
-    opened (device place settings) is = place_open place is
-    opened _ is = tt
+    opened x1 is = search rules
 
     after : (x : Contribution) → modes_after m x ≤ modes_after n x
-    after (mode name priority game holds) = omega (arith, more)
-    after _ = more
+    after x1 = search rules
 
 pub AreOpened-append : (cs ds : List Contribution) (m n : ℕ) → m ≤ n → AreOpened n cs → AreOpened m ds → AreOpened n (cs ++ ds)
 AreOpened-append [] ds m n some first then_ = AreOpened-more ds m n some then_
 AreOpened-append (c ∷ cs) ds m n some first then_ = (first.0, AreOpened-append cs ds m (modes_after n c) (after c) first.1 then_)
   where
     after : (x : Contribution) → m ≤ modes_after n x
-    after (mode name priority game holds) = omega (arith, some)
-    after _ = some
+    after x1 = search rules
 
 pub AreOpened-under : (n : ℕ) (condition : Option Condition) (cs : List Contribution) → AreOpened n cs → AreOpened n (under_where condition ++ cs)
 AreOpened-under n condition cs h = under_before (AreOpened n) (λ c ds k. (tt, k)) condition cs h

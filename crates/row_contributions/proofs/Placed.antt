@@ -1,16 +1,14 @@
 -- Acts are on rows of devices whose place is that of the binding, and rows of the machine listen, as contributions come.
-use Rattle.std.proofs.Common.{◌≡◌, ℕ, suc, List, [], ◌∷◌, ◌++◌, ap}
+use Rattle.std.proofs.Common.{rules, ◌≡◌, ℕ, suc, List, [], ◌∷◌, ◌++◌}
 use Rattle.std.specs.Prelude.{Option, None, Some}
 use Rattle.std.specs.List.{All}
 use Rattle.std.proofs.lemmas.List.Elements.{All-head, All-tail}
-use Rattle.std.proofs.lemmas.Option.{none-some}
 use Rattle.mpf_values.specs.Events.{Condition}
 use Rattle.plan_contributions.specs.declared.contribution.Aim.{Aim}
-use Rattle.plan_contributions.specs.declared.contribution.Aim.TheVariants.{Run, Start, Stop, Do, On}
 use Rattle.plan_rows.specs.declared.place.Place.{Place}
 use Rattle.plan_rows.specs.declared.place.Place.TheVariants.{Machine}
 use Rattle.plan_contributions.specs.Effects.{Effect}
-use Rattle.plan_contributions.specs.Contributions.{Contribution, mode, binds, device, does_in, listens}
+use Rattle.plan_contributions.specs.Contributions.{Contribution, does_in}
 use Rattle.row_contributions.specs.Contributions.{effects_from, listens_from, under_where}
 use Rattle.row_contributions.specs.Facts.{row_after, IsPlacedAim, IsPlaced, ArePlaced}
 use Rattle.row_contributions.proofs.Before.{each_before, under_before}
@@ -21,21 +19,13 @@ ArePlaced-any o [] h = tt
 ArePlaced-any o (c ∷ cs) h = (placed c h.0, after (ArePlaced-any o cs) c h.1)
   where
     aimed : (place : Place) (aim : Aim) → IsPlacedAim None place aim → IsPlacedAim o place aim
-    aimed place (Do act) is = absurd (none-some place is)
-    aimed place Run is = tt
-    aimed place Start is = tt
-    aimed place Stop is = tt
-    aimed place (On r act) is = tt
+    aimed place x2 is = search rules
 
     placed : (x : Contribution) → IsPlaced None x → IsPlaced o x
-    placed (binds e place aim) is = aimed place aim is
-    placed (listens k n) is = absurd (none-some Machine is)
-    placed _ is = tt
+    placed x1 is = search rules
 
     after : (ArePlaced None cs → ArePlaced o cs) → (x : Contribution) → ArePlaced (row_after None x) cs → ArePlaced (row_after o x) cs
-    after rest (mode n priority game holds) is = is
-    after rest (device place settings) is = is
-    after rest _ is = rest is
+    after rest x2 is = search rules
 
 pub ArePlaced-append : (cs ds : List Contribution) (o : Option Place) → ArePlaced o cs → ArePlaced None ds → ArePlaced o (cs ++ ds)
 ArePlaced-append [] ds o first then_ = ArePlaced-any o ds then_
@@ -47,8 +37,7 @@ ArePlaced-under o condition cs h = under_before (ArePlaced o) (λ c ds k. (tt, k
 
 pub ArePlaced-listens : (place : Place) (k : ℕ) (ns : List (List ℕ)) (rest : List Contribution) → All (λ n. place ≡ Machine) ns → ArePlaced (Some place) rest → ArePlaced (Some place) (listens_from k ns ++ rest)
 ArePlaced-listens place k [] rest own h = h
-ArePlaced-listens place k (n ∷ ns) rest own h =
-    (ap Some (All-head (λ m. place ≡ Machine) n ns own), ArePlaced-listens place (suc k) ns rest (All-tail (λ m. place ≡ Machine) n ns own) h)
+ArePlaced-listens place k (n ∷ ns) rest own h = search (rules, All-head, All-tail, ArePlaced-listens place (suc k) ns rest (All-tail (λ m. place ≡ Machine) n ns own) h)
 
 pub ArePlaced-effects : (o : Option Place) (k : ℕ) (lists : List (List Effect)) → ArePlaced o (effects_from k lists)
 ArePlaced-effects o k [] = tt

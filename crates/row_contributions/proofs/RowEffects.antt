@@ -1,21 +1,20 @@
 -- What holds of each effect of the rows, of each event that their switches post, and of each switch to which their devices
 -- listen, holds of those of their contributions.
-use Rattle.std.proofs.Common.{◌≡◌, ℕ, Bool, true, false, if◌then◌else◌, List, [], ◌∷◌, ◌++◌, map, get_or, zero, suc, refl, sym, true≢false, arith, codes}
-use Rattle.std.specs.Prelude.{Option, None, Some, IfSome, is_some}
+use Rattle.std.proofs.Common.{rules, ◌≡◌, ℕ, Bool, true, false, if◌then◌else◌, List, [], ◌∷◌, ◌++◌, map, get_or, codes}
+use Rattle.std.specs.Prelude.{Option, None, Some, IfSome}
 use Rattle.std.specs.Str.{bytes_eq}
 use Rattle.std.specs.List.{All, flat_map}
 use Rattle.std.proofs.lemmas.List.Elements.{All-nil, All-cons, All-append, All-map, All-weaker, All-head, All-tail}
 use Rattle.std.proofs.lemmas.List.Sums.{list_all-from_AllPass}
 use Rattle.mpf_values.specs.Events.{Condition, Event}
-use Rattle.mpf_sections.specs.Rows.{Written, Entry, Player, Switch, EventPlayer, CoilItem, CoilPlayer, VariablePlayer, VariableItem, GameSettings, Coil, flipper, autofire, Shot, ShotGroup, BallDevice, ModeSettings, Content, entries, players, SectionRows}
-use Rattle.mpf_sections.specs.TypedGame.{variable_player_name, game_name, variable_player_of, game_of, variable_players_in, min_balls_of}
+use Rattle.mpf_sections.specs.Rows.{Written, Entry, Player, Switch, EventPlayer, CoilPlayer, VariablePlayer, VariableItem, GameSettings, Coil, flipper, autofire, Shot, ShotGroup, BallDevice, ModeSettings, Content, entries, players, SectionRows}
+use Rattle.mpf_sections.specs.TypedGame.{variable_player_name, game_name, variable_player_of, game_of, variable_players_in}
 use Rattle.mpf_sections.specs.TypedBalls.{ball_devices_name, ball_device_of, ball_devices_in}
-use Rattle.machine_definitions.specs.GameEvents.{game_event_names}
-use Rattle.machine_definitions.specs.Shots.{Profile, shot_called, has_profile, profile_of_name}
+use Rattle.machine_definitions.specs.Shots.{Profile, has_profile, profile_of_name}
 use Rattle.mpf_sections.specs.TypedShots.{shots_name, shot_groups_name, shot_of, shot_group_of, shots_in, shot_groups_in}
 use Rattle.machine_definitions.specs.Players.{player_event}
 use Rattle.plan_tables.specs.declared.devices.Act.{Act}
-use Rattle.plan_tables.specs.declared.table.Table.TheVariants.{Events, Switches}
+use Rattle.plan_tables.specs.declared.table.Table.TheVariants.{Events}
 use Rattle.row_contributions.specs.VariableEntries.{item_change}
 use Rattle.mpf_config.specs.Rows.{ModeRows, Rows}
 use Rattle.mpf_sections.specs.Rows as sections
@@ -24,16 +23,16 @@ use Rattle.mpf_sections.specs.TypedCoils.{coils_name, coil_player_name, flippers
 use Rattle.plan_rows.specs.declared.place.Place.{Place}
 use Rattle.plan_rows.specs.declared.place.Place.TheVariants.{Machine, Control, Mode}
 use Rattle.plan_contributions.specs.declared.contribution.Aim.{Aim}
-use Rattle.plan_contributions.specs.declared.contribution.Aim.TheVariants.{Run, Start, Stop, Do, On}
-use Rattle.row_contributions.specs.CoilEntries.{limits_of_coil, item_effect, flipper_device, autofire_device, rule_device_of}
-use Rattle.plan_contributions.specs.Effects.{Effect, posts}
-use Rattle.row_contributions.specs.BallEntries.{ball_device_from, is_known}
-use Rattle.row_contributions.specs.ShotEntries.{shot_lists, shot_acts, lone_device, group_device}
+use Rattle.plan_contributions.specs.declared.contribution.Aim.TheVariants.{Start, Stop, Do}
+use Rattle.row_contributions.specs.CoilEntries.{limits_of_coil, flipper_device, autofire_device, rule_device_of}
+use Rattle.plan_contributions.specs.Effects.{Effect}
+use Rattle.row_contributions.specs.BallEntries.{is_known}
+use Rattle.row_contributions.specs.ShotEntries.{shot_lists, lone_device}
 use Rattle.plan_rows.specs.declared.destination.Destination.{Destination}
 use Rattle.plan_rows.specs.Seats.{Seat, seat_of, destination_of, rows_after_text}
 use Rattle.plan_rows.specs.Members.{members_of}
-use Rattle.plan_contributions.specs.Contributions.{Contribution, reads, active, inactive, mode, binds, does, device, mentions, coil, under, plays}
-use Rattle.row_contributions.specs.Contributions.{under_where, bound, always, texts, events, kind_of, confirms, active_posts, inactive_posts, switch_contributions, player_contributions, coil_contributions, coil_player_contributions, item_contributions, variable_player_contributions, game_contributions, starter, stopper, stopper_where, later_events, stops_at_ball_end, stops_at_game_end, controls, mode_contributions, Device, act_binding, listens_from, effects_from, device_contributions, device_of, where_device, machine_device, unknown_unless, shot_switch, act_at, seated, shot_contributions, group_contributions, ball_device_contributions, machine_entry_contributions, entry_contributions, alone_contributions, player_entry_contributions, row_contributions, contributions_of}
+use Rattle.plan_contributions.specs.Contributions.{Contribution, mode, binds, does, device, mentions, coil}
+use Rattle.row_contributions.specs.Contributions.{under_where, bound, events, switch_contributions, player_contributions, coil_contributions, coil_player_contributions, item_contributions, variable_player_contributions, game_contributions, starter, stopper, stopper_where, later_events, stops_at_ball_end, stops_at_game_end, controls, mode_contributions, Device, act_binding, listens_from, effects_from, device_contributions, device_of, where_device, machine_device, unknown_unless, shot_switch, seated, shot_contributions, group_contributions, ball_device_contributions, machine_entry_contributions, entry_contributions, alone_contributions, player_entry_contributions, row_contributions, contributions_of}
 use Rattle.plan_rows.specs.Rows.{Row, entry, alone, player, of_mode, shot_row, group_row, ball_device_row, other_row, entry_row, rows_from, rows_in, mode_rows, modes_rows, rows_of}
 use Rattle.row_contributions.proofs.Before.{All-every, All-flat_map}
 use Rattle.row_contributions.proofs.RowFacts.{All-made, All-listens, All-lists, sections_each, modes_each}
@@ -51,8 +50,7 @@ Where true A = A
 Where false A = Unit {0}
 
 pub where_so : {A : Type 0} (b : Bool) → b ≡ true → Where b A → A
-where_so true is h = h
-where_so false is h = absurd (true≢false (sym is))
+where_so x1 is h = search rules
 
 -- where a section has a name, what holds of its items as they are seen there
 pub where_named : {X Y : Type 0} (R : Y → Type 0) (f : X → Y) (b : Bool) (xs : List X) → All R (map f (if b then xs else [])) → All (λ x. Where b (R (f x))) xs
@@ -65,25 +63,18 @@ module _ (P : Effect → Type 0) (S L : List ℕ → Type 0) where
 
   in_switch : (machine : List SectionRows) (s : Switch) → IsSwitchDoing P S L s → All D (switch_contributions machine s)
   unfolding switch_contributions
-  in_switch machine s h =
-      let on = map active (active_posts s) in
-      let off = map inactive (inactive_posts s) in
-      All-cons D _ (reads (kind_of machine s) (confirms s.tags) ∷ on ++ off) tt (All-cons D _ (on ++ off) tt
-      (All-append D on off (All-map D active (active_posts s) h.0) (All-map D inactive (inactive_posts s) h.1)))
+  in_switch machine s h = search (rules, All-cons, All-append, All-map)
 
   -- a handled event is bound, under its condition
   in_under : (o : Option Condition) → All D (under_where o)
-  in_under None = All-nil D
-  in_under (Some c) = All-cons D (under c) [] tt (All-nil D)
+  in_under x1 = search rules
 
   in_bound : (e : Event) (place : Place) (aim : Aim) → All D (bound e place aim)
   in_bound e place aim = All-cons D (binds e.name place aim) (under_where e.condition) tt (in_under e.condition)
 
   in_player : (place : Place) (p : EventPlayer) → IsPlayerDoing P S L p → All D (player_contributions place p)
   unfolding player_contributions
-  in_player place p h =
-      let make : List ℕ → Contribution = λ e. does (posts e) in
-      All-append D (bound p.event.event place Run) (map make (texts p.posts)) (in_bound p.event.event place Run) (All-map D make (texts p.posts) h)
+  in_player place p h = search (rules, All-append, in_bound, All-map)
 
   in_coil : (c : Coil) → All D (coil_contributions c)
   unfolding coil_contributions
@@ -91,24 +82,18 @@ module _ (P : Effect → Type 0) (S L : List ℕ → Type 0) where
 
   in_coil_player : (rows : Rows) (place : Place) (p : CoilPlayer) → IsCoilPlayerDoing P S L rows p → All D (coil_player_contributions rows.machine place p)
   unfolding coil_player_contributions
-  in_coil_player rows place p h =
-      let make : CoilItem → Contribution = λ item. does (item_effect rows.machine item) in
-      All-append D (bound p.event.event place Run) (map make p.items) (in_bound p.event.event place Run) (All-map D make p.items h)
+  in_coil_player rows place p h = search (rules, All-append, in_bound, All-map)
 
   in_item : (item : VariableItem) → P (item_change item) → All D (item_contributions item)
   in_item item h = All-cons D (mentions Events (player_event item.variable.text)) (does (item_change item) ∷ []) tt (All-cons D (does (item_change item)) [] h (All-nil D))
 
   in_variable_player : (place : Place) (p : VariablePlayer) → IsVariablePlayerDoing P S L p → All D (variable_player_contributions place p)
   unfolding variable_player_contributions
-  in_variable_player place p h =
-      All-append D (bound p.event.event place Run) (flat_map item_contributions p.items) (in_bound p.event.event place Run)
-      (All-flat_map D item_contributions p.items (All-weaker (λ item. P (item_change item)) (λ item. All D (item_contributions item)) in_item p.items h))
+  in_variable_player place p h = search (rules, All-append, in_bound, All-flat_map, All-weaker, in_item)
 
   in_game : (machine : List SectionRows) (g : GameSettings) → All D (game_contributions machine g)
   unfolding game_contributions
-  in_game machine g =
-      All-append D (map (mentions Events) game_event_names) (plays (min_balls_of machine) g.balls_per_game g.max_players ∷ []) (All-made D (mentions Events) (λ n. tt) game_event_names)
-      (All-cons D (plays (min_balls_of machine) g.balls_per_game g.max_players) [] tt (All-nil D))
+  in_game machine g = search rules
 
   in_device : (place : Place) (d : Device) → IsDeviceDoing P S L d → All D (device_contributions place d)
   unfolding device_contributions
@@ -126,12 +111,10 @@ module _ (P : Effect → Type 0) (S L : List ℕ → Type 0) where
       acts_so x = in_bound x.0 place (Do x.1)
 
   in_where : (place : Place) (o : Option Device) → IsEntryDoing P S L o → All D (where_device place o)
-  in_where place None h = All-nil D
-  in_where place (Some d) h = in_device place d h
+  in_where place x2 h = search (rules, All-nil, in_device)
 
   in_stopper : (holds : Bool) (name : List ℕ) → All D (stopper_where holds name)
-  in_stopper true name = in_bound (always name) Control Stop
-  in_stopper false name = All-nil D
+  in_stopper x1 name = search rules
 
   in_each : (aim : Aim) (es : List Event) → All D (flat_map (λ e. bound e Control aim) es)
   in_each aim es = All-flat_map D (λ e. bound e Control aim) es (λ i d within. in_bound (get_or es i d) Control aim)
@@ -149,43 +132,27 @@ module _ (P : Effect → Type 0) (S L : List ℕ → Type 0) where
       (in_stopper (stops_at_game_end s) (codes "game_ending")))
     where
       first : (name : List ℕ) (s : ModeSettings) → All D (mode name s.priority s.game s.holds_ball_end ∷ later_events name)
-      first name s zero d within = tt
-      first name s (suc zero) d within = tt
-      first name s (suc (suc zero)) d within = tt
-      first name s (suc (suc (suc zero))) d within = tt
-      first name s (suc (suc (suc (suc zero)))) d within = tt
-      first name s (suc (suc (suc (suc (suc i))))) d within = absurd (omega (arith, within))
+      first name s x3 d within = search rules
 
   -- ---- shots
 
   in_unknown : (known : Bool) → known ≡ true → All D (unknown_unless known)
-  in_unknown true is = All-nil D
-  in_unknown false is = absurd (true≢false (sym is))
+  in_unknown x1 is = search rules
 
   in_shot_switch : (o : Option Written) → IfSome o (λ w. L w.text) → All D (shot_switch o)
-  in_shot_switch None h = All-nil D
-  in_shot_switch (Some w) h = All-cons D (mentions Switches w.text) [] h (All-nil D)
+  in_shot_switch x1 h = search rules
 
   in_seated : (place : Place) (p : Profile) (s : Shot) (seat : Option Seat) → All (All P) (shot_lists p s.name.text) → All D (seated place p s seat)
   in_seated place p s None h = in_device place (lone_device p s) (record { lists = h; listens = All-nil L })
-  in_seated place p s (Some seat) h =
-      let acting = shot_acts seat.shot s in
-      All-flat_map D (act_at place (Some seat.row)) acting (All-every (λ (x : Event × Act). All D (act_at place (Some seat.row) x)) (λ x. in_bound x.0 place (On seat.row x.1)) acting)
+  in_seated place p s (Some seat) h = search (rules, All-flat_map, All-every, in_bound)
 
   in_shot : (rows : Rows) (place : Place) (s : Shot) (seat : Option Seat) → IsShotDoing P S L rows s → All D (shot_contributions place s seat (has_profile rows s.profile.text) (profile_of_name rows s.profile.text))
   unfolding shot_contributions
-  in_shot rows place s seat h =
-      let known = has_profile rows s.profile.text in
-      let p = profile_of_name rows s.profile.text in
-      All-append D (unknown_unless known) (shot_switch s.switch ++ seated place p s seat) (in_unknown known h.profile)
-      (All-append D (shot_switch s.switch) (seated place p s seat) (in_shot_switch s.switch h.switch) (in_seated place p s seat h.lists))
+  in_shot rows place s seat h = search (rules, All-append, in_unknown, in_shot_switch, in_seated)
 
   in_group : (rows : Rows) (place : Place) (g : ShotGroup) → IsShotGroupDoing P S L rows g → All D (group_contributions place g (members_of rows g))
   unfolding group_contributions
-  in_group rows place g h =
-      let m = members_of rows g in
-      All-append D (unknown_unless m.all_known) (device_contributions place (group_device g m)) (in_unknown m.all_known (list_all-from_AllPass (λ w. is_some (shot_called rows w.text)) g.shots h.shots))
-      (in_device place (group_device g m) (record { lists = h.lists; listens = All-nil L }))
+  in_group rows place g h = search (rules, All-append, in_unknown, list_all-from_AllPass, in_device, All-nil)
 
   -- ---- ball devices
 
@@ -193,9 +160,7 @@ module _ (P : Effect → Type 0) (S L : List ℕ → Type 0) where
     -- a ball device that ejects its balls to what there is
     in_ball_device : (d : BallDevice) (to : Destination) → is_known to ≡ true → IsBallDeviceDoing P S L rows d → All D (ball_device_contributions rows.machine d to)
     unfolding ball_device_contributions
-    in_ball_device d to known h =
-        let own = ball_device_from rows.machine d to in
-        All-append D (unknown_unless (is_known to)) (device_contributions Machine own) (in_unknown (is_known to) known) (in_device Machine own (record { lists = h.lists; listens = h.listens }))
+    in_ball_device d to known h = search (rules, All-append, in_unknown, in_device)
 
   -- ---- rows
 
@@ -211,9 +176,7 @@ module _ (P : Effect → Type 0) (S L : List ℕ → Type 0) where
       where
         by : (f a : Bool) → IsEntryDoing P S L (rule_device_of machine (if f then Some (flipper (flipper_of e)) else (if a then Some (autofire (autofire_of e)) else None))) → IsEntryDoing P S L (device_of section e)
             → IsEntryDoing P S L (if f then Some (flipper_device machine (flipper_of e)) else (if a then Some (autofire_device machine (autofire_of e)) else device_of section e))
-        by true a own h = own
-        by false true own h = own
-        by false false own h = h
+        by x1 x2 own h = search rules
 
     in_machine_entry : (section : List ℕ) (e : Entry) → Where (bytes_eq section switches_name) (IsSwitchDoing P S L (switch_of e)) → IsEntryDoing P S L (machine_device machine section e) → All D (machine_entry_contributions machine section e)
     unfolding machine_entry_contributions
@@ -221,9 +184,7 @@ module _ (P : Effect → Type 0) (S L : List ℕ → Type 0) where
       where
         by : (c s : Bool) → Where s (IsSwitchDoing P S L (switch_of e)) → IsEntryDoing P S L (machine_device machine section e)
             → All D (if c then coil_contributions (coil_of e) else (if s then switch_contributions machine (switch_of e) else where_device Machine (machine_device machine section e)))
-        by true s hs h = in_coil (coil_of e)
-        by false true hs h = in_switch machine (switch_of e) hs
-        by false false hs h = in_where Machine (machine_device machine section e) h
+        by x1 x2 hs h = search (rules, in_coil, in_switch, in_where)
 
     in_player_entry : (place : Place) (section : List ℕ) (p : Player) → Where (bytes_eq section event_player_name) (IsPlayerDoing P S L (event_player_of p)) → Where (bytes_eq section coil_player_name) (IsCoilPlayerDoing P S L rows (coil_player_of p))
         → Where (bytes_eq section variable_player_name) (IsVariablePlayerDoing P S L (variable_player_of p)) → All D (player_entry_contributions machine place section p)
@@ -232,10 +193,7 @@ module _ (P : Effect → Type 0) (S L : List ℕ → Type 0) where
       where
         by : (e c v : Bool) → Where e (IsPlayerDoing P S L (event_player_of p)) → Where c (IsCoilPlayerDoing P S L rows (coil_player_of p)) → Where v (IsVariablePlayerDoing P S L (variable_player_of p))
             → All D (if e then player_contributions place (event_player_of p) else (if c then coil_player_contributions machine place (coil_player_of p) else (if v then variable_player_contributions place (variable_player_of p) else [])))
-        by true c v he hc hv = in_player place (event_player_of p) he
-        by false true v he hc hv = in_coil_player rows place (coil_player_of p) hc
-        by false false true he hc hv = in_variable_player place (variable_player_of p) hv
-        by false false false he hc hv = All-nil D
+        by x1 x2 x3 he hc hv = search (rules, in_player, in_coil_player, in_variable_player, All-nil)
 
     -- the game does nothing of its own
     in_alone : (place : Place) (section : List ℕ) (e : Entry) → All D (alone_contributions machine place section e)
@@ -243,8 +201,7 @@ module _ (P : Effect → Type 0) (S L : List ℕ → Type 0) where
     in_alone Machine section e = by (bytes_eq section game_name)
       where
         by : (g : Bool) → All D (if g then game_contributions machine (game_of e) else [])
-        by true = in_game machine (game_of e)
-        by false = All-nil D
+        by x1 = search (rules, in_game, All-nil)
     in_alone _ section e = All-nil D
 
     in_players : (place : Place) (s : SectionRows) (ps : List Player) → All (IsPlayerDoing P S L) (map event_player_of (if bytes_eq s.name event_player_name then ps else []))
@@ -268,12 +225,10 @@ module _ (P : Effect → Type 0) (S L : List ℕ → Type 0) where
       where
         in_machine : (b : Bool) → (b ≡ true → IsBallDeviceDoing P S L rows (ball_device_of e) × (is_known (to (ball_device_of e).target.text) ≡ true)) → All D (entry_contributions machine Machine section e)
             → GivesDoing (if b then ball_device_row to (ball_device_of e) else entry Machine section e)
-        in_machine true ball h = let own = ball refl in in_ball_device rows (ball_device_of e) (to (ball_device_of e).target.text) own.1 own.0
-        in_machine false ball h = h
+        in_machine x1 ball h = search (rules, in_ball_device)
 
         in_other : (place : Place) → IsBallEntryDoing to place section e → All D (entry_contributions machine place section e) → GivesDoing (other_row to place section e)
-        in_other Machine ball h = in_machine (bytes_eq section ball_devices_name) (ball refl) h
-        in_other _ ball h = h
+        in_other x1 ball h = search (rules, in_machine)
 
         by : (s g : Bool) → Where s (IsShotDoing P S L rows (shot_of e)) → Where g (IsShotGroupDoing P S L rows (shot_group_of e)) → IsBallEntryDoing to place section e → All D (entry_contributions machine place section e)
             → GivesDoing (if s then shot_row rows place seat (shot_of e) else (if g then group_row rows place seat (shot_group_of e) else other_row to place section e))

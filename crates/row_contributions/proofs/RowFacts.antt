@@ -1,5 +1,5 @@
 -- What the contributions of a row are like: proved here once for each section, and all else follows from it.
-use Rattle.std.proofs.Common.{◌≡◌, ℕ, suc, ◌<◌, ◌≤◌, Bool, true, false, if◌then◌else◌, List, [], ◌∷◌, ◌++◌, length, map, get_or, refl, sym, subst, arith, codes}
+use Rattle.std.proofs.Common.{rules, ◌≡◌, ℕ, suc, ◌<◌, ◌≤◌, Bool, true, false, if◌then◌else◌, List, [], ◌∷◌, ◌++◌, length, map, get_or, refl, sym, subst, arith, codes}
 use Rattle.std.specs.Prelude.{Option, None, Some, IfSome}
 use Rattle.std.specs.Str.{bytes_eq}
 use Rattle.std.specs.List.{All, flat_map}
@@ -13,11 +13,10 @@ use Rattle.mpf_sections.specs.Rows as sections
 use Rattle.mpf_sections.specs.Named.{IsName, AllNames, IsNamedHandled, AllNamedEvents, IsNamedEntry, IsNamedPlayer, IsNamedSwitch, IsNamedEventPlayer, IsNamedCoil, IsNamedCoilPlayer, IsNamedVariablePlayer, IsNamedRule, IsNamedFlipper, IsNamedAutofire, IsNamedShot, IsNamedShotGroup, IsNamedBallDevice, IsNamedBallSave, IsNamedMultiball, IsNamedBlock, IsNamedCounter, IsNamedStepBlock, IsNamedTimer, AreNamedSettings, IsNamedContent, IsNamed}
 use Rattle.mpf_config.specs.Named.{IsNamedMode}
 use Rattle.mpf_sections.specs.Typed.{switches_name, event_player_name, counters_name, accruals_name, sequences_name, timers_name, switch_of, event_player_of, counter_of, step_block_of, timer_of, mode_settings}
-use Rattle.mpf_sections.specs.TypedCoils.{coils_name, coil_player_name, flippers_name, autofire_coils_name, coil_of, coil_player_of, flipper_of, autofire_of}
+use Rattle.mpf_sections.specs.TypedCoils.{coils_name, coil_player_name, coil_of, coil_player_of}
 use Rattle.mpf_sections.specs.TypedShots.{shots_name, shot_groups_name, shot_of, shot_group_of}
 use Rattle.mpf_sections.specs.TypedBalls.{ball_devices_name, ball_device_of}
-use Rattle.mpf_sections.specs.TypedSaves.{ball_saves_name, multiballs_name, ball_save_of, multiball_of}
-use Rattle.mpf_sections.specs.TypedGame.{variable_player_name, game_name, variable_player_of, game_of, min_balls_of}
+use Rattle.mpf_sections.specs.TypedGame.{variable_player_name, game_name, variable_player_of, game_of}
 use Rattle.mpf_sections.specs.Short.{IsGameInRange, IsCoilInRange, IsItemInRange, IsCoilPlayerInRange, IsShortEntry, IsShortPlayer, IsShortBlock, IsShortCounter, IsShortStepBlock, IsShortTimer, IsShortBallDevice, IsShortBallSave, IsShortMultiball, IsShortContent, IsShortSection}
 use Rattle.mpf_config.specs.Short.{IsShortMode, AreListsShort}
 use Rattle.mpf_sections.proofs.RowNames.{switch_named, event_player_named, mode_settings_named}
@@ -27,22 +26,21 @@ use Rattle.mpf_sections.proofs.CoilRows.{coil_named, coil_player_named, flipper_
 use Rattle.mpf_sections.proofs.ShotRows.{shot_named, shot_group_named, shot_group_short}
 use Rattle.mpf_sections.proofs.BallRows.{ball_device_named, ball_device_short}
 use Rattle.mpf_sections.proofs.SaveRows.{ball_save_named, multiball_named, ball_save_short, multiball_short}
-use Rattle.mpf_sections.proofs.GameRows.{variable_player_named, variable_player_short, game_in_range, min_balls_few}
+use Rattle.mpf_sections.proofs.GameRows.{variable_player_named, variable_player_short, game_in_range}
 use Rattle.plan_contributions.specs.declared.contribution.Aim.{Aim}
 use Rattle.plan_contributions.specs.declared.contribution.Aim.TheVariants.{Run, Start, Stop, Do, On}
 use Rattle.plan_rows.specs.declared.place.Place.{Place}
 use Rattle.plan_rows.specs.declared.place.Place.TheVariants.{Machine, Control, Mode}
 use Rattle.plan_tables.specs.Devices.{IsWithinLimits}
 use Rattle.plan_tables.specs.declared.devices.Act.{Act}
-use Rattle.plan_tables.specs.declared.devices.Act.TheVariants.{Count, Step, Enable, Disable, Reset, Restart, Start as Begin}
+use Rattle.plan_tables.specs.declared.devices.Act.TheVariants.{Count, Enable, Disable, Start as Begin}
 use Rattle.plan_tables.specs.declared.devices.Settings.{Settings}
 use Rattle.plan_tables.specs.declared.devices.Settings.TheVariants as kinds
-use Rattle.machine_definitions.specs.GameEvents.{game_event_names}
 use Rattle.machine_definitions.specs.Players.{player_event}
 use Rattle.machine_definitions.specs.Shots.{Profile}
 use Rattle.row_contributions.specs.VariableEntries.{item_change}
 use Rattle.row_contributions.specs.CoilEntries.{limits_of_coil, defaults_called, own_pulse, own_hold, item_effect, flipper_on, flipper_off, rule_device, flipper_device, autofire_device}
-use Rattle.plan_contributions.specs.Effects.{disable, Effect, posts, works, changes, enters, leaves, loses, arrives, requests, adds_balls}
+use Rattle.plan_contributions.specs.Effects.{Effect, posts, works, changes, enters, leaves, loses, arrives, requests, adds_balls}
 use Rattle.row_contributions.specs.DeviceEntries.{events, device_of, acts, block_acts, block_mentions, block_event, or_own, block_lists, counter_device, step_acts, step_settings, step_device, controlled, timer_event, timer_endings, timer_device, always}
 use Rattle.row_contributions.specs.BallEntries.{drains, ball_event, ball_endings, eject_pulse, attempt_effects, drain_mentions, ball_device_from, is_known}
 use Rattle.row_contributions.specs.SaveEntries.{save_device, multiball_device, save_device_of}
@@ -54,10 +52,10 @@ use Rattle.plan_tables.specs.declared.entries.ModeEvent.{ModeEvent}
 use Rattle.plan_tables.specs.declared.entries.ModeEvent.TheVariants.{WillStart, Starting, Started, Stopping, Stopped}
 use Rattle.plan_tables.specs.declared.table.Table.{Table}
 use Rattle.plan_tables.specs.declared.table.Table.TheVariants.{Events, Switches, Coils, Variables}
-use Rattle.plan_contributions.specs.Contributions.{Contribution, gives, reads, active, inactive, mode, mode_event, mode_event_name, binds, does, device, does_in, listens, mentions, unknown, coil, under, plays}
+use Rattle.plan_contributions.specs.Contributions.{Contribution, gives, reads, active, inactive, mode, mode_event, mode_event_name, binds, does, device, does_in, listens, mentions, coil, under}
 use Rattle.row_contributions.specs.Contributions.{bound, texts, kind_of, confirms, tag_event, active_posts, inactive_posts, switch_contributions, player_contributions, coil_contributions, coil_player_contributions, item_contributions, variable_player_contributions, game_contributions, starter, stopper, stopper_where, later_events, stops_at_ball_end, stops_at_game_end, controls, mode_contributions, Device, act_binding, effects_from, listens_from, device_contributions, where_device, unknown_unless, shot_switch, act_at, seated, shot_contributions, group_contributions, ball_device_contributions, machine_device, machine_entry_contributions, entry_contributions, alone_contributions, player_entry_contributions, row_contributions, given_by, contributions_of}
 use Rattle.plan_rows.specs.Rows.{Row, entry, alone, shot, group, ball_device, player, of_mode, shot_row, group_row, ball_device_row, other_row, entry_row, rows_from, rows_in, mode_rows, modes_rows, rows_of}
-use Rattle.row_contributions.specs.Facts.{ArePlaced, IsOfNames, effects_in_after, full, IsRoomy, AreShort, AreLimits, AreRules, IsDeedInRange, IsEffectInRange, IsLimited, IsPlaceOf, IsOfMachine, IsPlaced, IsOpenPlace, IsOpen, AreOpened}
+use Rattle.row_contributions.specs.Facts.{ArePlaced, IsOfNames, effects_in_after, full, IsRoomy, AreShort, AreLimits, IsDeedInRange, IsEffectInRange, IsLimited, IsPlaceOf, IsOfMachine, IsPlaced, IsOpenPlace, IsOpen, AreOpened}
 use Rattle.row_contributions.proofs.Before.{each_before, each_alone, all_before, all_alone, All-bound, each_some, All-flat_map}
 use Rattle.row_contributions.proofs.CoilFacts.{pulse_ranged, hold_ranged, item_ranged, all_flips, fires}
 use Rattle.row_contributions.proofs.Short.{AreShort-append, AreShort-under, AreShort-listens, AreShort-does, AreShort-changes, AreShort-lists}
@@ -165,27 +163,12 @@ All-listens Q R each k (n ∷ ns) h = All-cons Q (listens k n) (listens_from (su
 -- and of all effects in a row's lists
 pub All-lists : (Q : Contribution → Type 0) (R : Effect → Type 0) → ((k : ℕ) (e : Effect) → R e → Q (does_in k e)) → (k : ℕ) (lists : List (List Effect)) → All (All R) lists → All Q (effects_from k lists)
 All-lists Q R each k [] h = All-nil Q
-All-lists Q R each k (es ∷ rest) h =
-    All-append Q (map (does_in k) es) (effects_from (suc k) rest)
-    (All-map Q (does_in k) es (All-weaker R (λ e. Q (does_in k e)) (each k) es (All-head (All R) es rest h)))
-    (All-lists Q R each (suc k) rest (All-tail (All R) es rest h))
+All-lists Q R each k (es ∷ rest) h = search (rules, All-append, All-map, All-weaker, All-head, All-tail, All-lists Q R each (suc k) rest (All-tail (All R) es rest h))
 
 -- ---- each section
 
-few_posts : (ns : List (List ℕ)) → length ns ≤ 1024 → IsFew (map posts ns)
-few_posts ns few = omega (arith, few, length-map ns posts)
-
-short_or_own : (ws : List Written) (own : List ℕ) → length ws ≤ 1024 → length (or_own ws own) ≤ 1024
-short_or_own [] own few = omega arith
-short_or_own (w ∷ ws) own few = omega (arith, few, length-map (w ∷ ws) (λ (x : Written). x.text))
-
 short_lists : (name : List ℕ) (b : BlockEvents) → IsShortBlock b → All IsFew (block_lists name b)
-short_lists name b h =
-    let hit = or_own b.hit (block_event name (codes "_hit")) in
-    let complete = or_own b.complete (block_event name (codes "_complete")) in
-    All-cons IsFew (posts (block_event name (codes "_updated")) ∷ []) (map posts hit ∷ map posts complete ∷ []) (omega arith)
-    (All-cons IsFew (map posts hit) (map posts complete ∷ []) (few_posts hit (short_or_own b.hit _ h.hit))
-    (All-cons IsFew (map posts complete) [] (few_posts complete (short_or_own b.complete _ h.complete)) (All-nil IsFew)))
+short_lists name b h = search (rules, All-cons, length-map, All-nil)
 
 -- what holds of each effect that posts holds of all effects of a block
 pub all_block : (Q : Effect → Type 0) → ((n : List ℕ) → Q (posts n)) → (name : List ℕ) (b : BlockEvents) → All (All Q) (block_lists name b)
@@ -226,8 +209,7 @@ short_timer : (place : Place) (t : Timer) → IsShortTimer t → IsRightDevice p
 short_timer place t h = record {
   lists = All-map IsFew (λ ending. posts (timer_event t.name.text ending) ∷ []) timer_endings (λ i d within. omega arith);
   limits = h;
-  effects = All-map (All IsEffectInRange) (λ ending. posts (timer_event t.name.text ending) ∷ []) timer_endings
-      (λ i d within. All-cons IsEffectInRange (posts (timer_event t.name.text (get_or timer_endings i d))) [] tt (All-nil IsEffectInRange));
+  effects = search rules;
   place_of = tt;
 }
 
@@ -260,24 +242,19 @@ short_flipper machine f =
     }
   where
     few_on : (hold : Option Written) → IsFew (flipper_on machine f.main_coil hold)
-    few_on None = omega arith
-    few_on (Some hold) = omega arith
+    few_on x1 = search rules
 
     few_if : (b : Bool) (e : Effect) → IsFew (if b then e ∷ [] else [])
-    few_if true e = omega arith
-    few_if false e = omega arith
+    few_if x1 e = search rules
 
     few_off : (hold : Option Written) → IsFew (flipper_off machine f.main_coil hold)
-    few_off None = few_if (let c = defaults_called machine f.main_coil.text in c.may_hold) (works f.main_coil.text disable)
-    few_off (Some hold) = omega arith
+    few_off x1 = search rules
 
     held : (hold : Option Written) → IfSome hold (λ w. IsDeedInRange (own_hold (defaults_called machine w.text)))
-    held None = tt
-    held (Some hold) = hold_ranged machine hold.text
+    held x1 = search (rules, hold_ranged)
 
     disabled : (hold : Option Written) → IfSome hold (λ w. Unit {0})
-    disabled None = tt
-    disabled (Some hold) = tt
+    disabled x1 = search rules
 
 short_autofire : (machine : List SectionRows) (a : Autofire) → IsRightDevice Machine (autofire_device machine a)
 short_autofire machine a = record {
@@ -314,14 +291,11 @@ attempts machine name Q first other o is =
     All-cons Q (posts (ball_event name (codes "_ball_eject_attempt"))) (ejecting ∷ eject_pulse machine o) first (All-cons Q ejecting (eject_pulse machine o) other (by o is))
   where
     by : (o : Option Written) → IfSome o (λ w. Q (works w.text (own_pulse (defaults_called machine w.text)))) → All Q (eject_pulse machine o)
-    by None is = All-nil Q
-    by (Some w) is = one Q (works w.text (own_pulse (defaults_called machine w.text))) is
+    by x1 is = search rules
 
 -- the seven lists of a ball device
 pub seven : {A : Type 0} (R : A → Type 0) (a b c d e f g : A) → R a → R b → R c → R d → R e → R f → R g → All R (a ∷ b ∷ c ∷ d ∷ e ∷ f ∷ g ∷ [])
-seven R a b c d e f g ra rb rc rd re rf rg =
-    All-cons R a (b ∷ c ∷ d ∷ e ∷ f ∷ g ∷ []) ra (All-cons R b (c ∷ d ∷ e ∷ f ∷ g ∷ []) rb (All-cons R c (d ∷ e ∷ f ∷ g ∷ []) rc
-    (All-cons R d (e ∷ f ∷ g ∷ []) rd (All-cons R e (f ∷ g ∷ []) re (All-cons R f (g ∷ []) rf (All-cons R g [] rg (All-nil R)))))))
+seven R a b c d e f g ra rb rc rd re rf rg = search rules
 
 short_ball_device : (machine : List SectionRows) (d : BallDevice) (to : Destination) → IsShortBallDevice d → IsRightDevice Machine (ball_device_from machine d to)
 short_ball_device machine d to h = record {
@@ -333,12 +307,10 @@ short_ball_device machine d to h = record {
 }
   where
     few : (o : Option Written) → IsFew (attempt_effects machine d.name.text o)
-    few None = omega arith
-    few (Some w) = omega arith
+    few x1 = search rules
 
     ranged : (o : Option Written) → IfSome o (λ w. IsEffectInRange (works w.text (own_pulse (defaults_called machine w.text))))
-    ranged None = tt
-    ranged (Some w) = pulse_ranged machine w.text
+    ranged x1 = search (rules, pulse_ranged)
 
 module _ (machine : List SectionRows) (P : List ℕ → Type 0) (of : IsOfNames P) (n : ℕ) where
   all_names : (ws : List Written) → AllNames ws → All P (texts ws)
@@ -364,8 +336,7 @@ module _ (machine : List SectionRows) (P : List ℕ → Type 0) (of : IsOfNames 
         names = λ h. All-cons (IsFit P) _ (read ∷ on ++ off) h.name (All-cons (IsFit P) _ (on ++ off) tt (fit_switch s h));
         lists = λ h. (tt, (tt, AreShort-append on off 1024 full (omega arith) (λ k. omega arith) (each_alone (AreShort 1024 full) active (λ e cs k. (tt, k)) (active_posts s) tt) (each_alone (AreShort 1024 full) inactive (λ e cs k. (tt, k)) (inactive_posts s) tt)));
         modes = λ h. (tt, (tt, AreOpened-append on off n n (omega arith) (each_alone (AreOpened n) active (λ e cs k. (tt, k)) (active_posts s) tt) (each_alone (AreOpened n) inactive (λ e cs k. (tt, k)) (inactive_posts s) tt)));
-        limits = λ h. All-cons IsRight _ (read ∷ on ++ off) (tt, tt) (All-cons IsRight _ (on ++ off) (tt, tt)
-            (All-append IsRight on off (All-made IsRight active (λ e. (tt, tt)) (active_posts s)) (All-made IsRight inactive (λ e. (tt, tt)) (inactive_posts s))));
+        limits = search (rules, All-cons, All-append, All-made);
         acts = (tt, (tt, ArePlaced-append on off None (each_alone (ArePlaced None) active (λ e cs k. (tt, k)) (active_posts s) tt) (each_alone (ArePlaced None) inactive (λ e cs k. (tt, k)) (inactive_posts s) tt)));
       }
 
@@ -379,13 +350,7 @@ module _ (machine : List SectionRows) (P : List ℕ → Type 0) (of : IsOfNames 
   -- an entry of a player: what its event gives, and what comes after that
   bound_facts : (Named Short : Type 0) (place : Place) (e : Event) (cs : List Contribution) → (Named → IsFitEvent P e × All (IsFit P) cs) → (Short → AreShort 0 full cs × All IsRight cs) → AreOpened n cs → ArePlaced None cs
       → Facts P n Named Short (IsOpenPlace n place) (bound e place Run ++ cs)
-  bound_facts Named Short place e cs named short opened placed = record {
-    names = λ h. All-append (IsFit P) (bound e place Run) cs (All-bound (IsFit P) e place Run (named h).0.0 (named h).0.1) (named h).1;
-    lists = λ h. (tt, AreShort-under 0 full e.condition cs (short h).0);
-    modes = λ h. ((h, tt), AreOpened-under n e.condition cs opened);
-    limits = λ h. All-append IsRight (bound e place Run) cs (right_bound e place Run) (short h).1;
-    acts = (tt, ArePlaced-under None e.condition cs placed);
-  }
+  bound_facts Named Short place e cs named short opened placed = search rules
 
   -- by what it does
   doing_facts : {X : Type 0} (Named Short : Type 0) (place : Place) (e : Event) (effect : X → Effect) (xs : List X)
@@ -430,19 +395,7 @@ module _ (machine : List SectionRows) (P : List ℕ → Type 0) (of : IsOfNames 
 
   game_facts : (g : GameSettings) → Facts P n (Unit {0}) (IsGameInRange g) (Unit {0}) (game_contributions machine g)
   unfolding game_contributions
-  game_facts g =
-      let rules = plays (min_balls_of machine) g.balls_per_game g.max_players in
-      let named = map (mentions Events) game_event_names in
-      record {
-        names = λ h. All-append (IsFit P) named (rules ∷ []) (All-map (IsFit P) (mentions Events) game_event_names of.game_events) (All-cons (IsFit P) rules [] tt (All-nil (IsFit P)));
-        lists = λ h. each_before (AreShort 1024 full) (mentions Events) (λ e cs k. (tt, k)) game_event_names (rules ∷ []) (tt, tt);
-        modes = λ h. each_before (AreOpened n) (mentions Events) (λ e cs k. (tt, k)) game_event_names (rules ∷ []) (tt, tt);
-        limits = λ h. All-append IsRight named (rules ∷ []) (All-made IsRight (mentions Events) (λ e. (tt, tt)) game_event_names) (All-cons IsRight rules [] (limited h, tt) (All-nil IsRight));
-        acts = each_before (ArePlaced None) (mentions Events) (λ e cs k. (tt, k)) game_event_names (rules ∷ []) (tt, tt);
-      }
-    where
-      limited : IsGameInRange g → AreRules (min_balls_of machine) g.balls_per_game g.max_players
-      limited h = record { min_balls_within = min_balls_few machine; some_ball = h.some_balls; balls = h.few_balls; some_player = h.some_players; players = h.few_players }
+  game_facts g = search rules
 
   coil_facts : (c : Coil) → Facts P n (IsNamedCoil c) (IsCoilInRange c) (Unit {0}) (coil_contributions c)
   unfolding coil_contributions
@@ -512,15 +465,10 @@ module _ (machine : List SectionRows) (P : List ℕ → Type 0) (of : IsOfNames 
   all_acts act hs h = All-map (λ (x : Event × Act). IsFitEvent P x.0) (λ (w : Handled). (w.event, act)) hs (All-weaker IsNamedHandled (λ w. IsFitEvent P w.event) fit_handled hs h)
 
   fit_acts : (b : BlockEvents) → IsNamedBlock b → All (λ h. IsFitEvent P h.0) (block_acts b)
-  fit_acts b h =
-      let Q : Event × Act → Type 0 = λ x. IsFitEvent P x.0 in
-      All-append Q (acts Enable b.enables ++ acts Disable b.disables ++ acts Reset b.resets) (acts Restart b.restarts)
-      (All-append Q (acts Enable b.enables ++ acts Disable b.disables) (acts Reset b.resets)
-      (All-append Q (acts Enable b.enables) (acts Disable b.disables) (all_acts Enable b.enables h.enables) (all_acts Disable b.disables h.disables)) (all_acts Reset b.resets h.resets)) (all_acts Restart b.restarts h.restarts)
+  fit_acts b h = search (rules, All-append, acts, all_acts)
 
   fit_or_own : (ws : List Written) (own : List ℕ) → AllNames ws → P own → All P (or_own ws own)
-  fit_or_own [] own h k = All-cons P own [] k (All-nil P)
-  fit_or_own (w ∷ ws) own h k = all_names (w ∷ ws) h
+  fit_or_own x1 own h k = search (rules, All-cons, All-nil, all_names)
 
   fit_posts : (ns : List (List ℕ)) → All P ns → All (IsFitEffect P) (map posts ns)
   fit_posts ns h = All-map (IsFitEffect P) posts ns h
@@ -549,8 +497,7 @@ module _ (machine : List SectionRows) (P : List ℕ → Type 0) (of : IsOfNames 
 
   fit_step_acts : (i : ℕ) (steps : List (List Handled)) → All AllNamedEvents steps → All (λ h. IsFitEvent P h.0) (step_acts i steps)
   fit_step_acts i [] h = All-nil (λ (x : Event × Act). IsFitEvent P x.0)
-  fit_step_acts i (hs ∷ rest) h =
-      All-append (λ (x : Event × Act). IsFitEvent P x.0) (acts (Step i) hs) (step_acts (suc i) rest) (all_acts (Step i) hs (All-head AllNamedEvents hs rest h)) (fit_step_acts (suc i) rest (All-tail AllNamedEvents hs rest h))
+  fit_step_acts i (hs ∷ rest) h = search (rules, All-append, acts, all_acts, All-head, All-tail, fit_step_acts (suc i) rest (All-tail AllNamedEvents hs rest h))
 
   fit_steps : (settings : Settings) (b : StepBlock) → IsNamedStepBlock b → IsFitDevice (step_device settings b)
   fit_steps settings b h = record {
@@ -613,8 +560,7 @@ module _ (machine : List SectionRows) (P : List ℕ → Type 0) (of : IsOfNames 
       all_shot_acts (IsFitEvent P) i s (by s.switch h.switch) (fit_each s.hits h.hits) (fit_each s.advances h.advances) (fit_each s.resets h.resets) (fit_each s.enables h.enables) (fit_each s.disables h.disables)
     where
       by : (o : Option Written) → IfSome o (λ w. IsName w.text) → IfSome o (λ w. IsFitEvent P (always (w.text ++ codes "_active")))
-      by None k = tt
-      by (Some w) k = (of.active w.text k, tt)
+      by x1 k = search rules
 
   -- what a shot posts in each state
   fit_in_states : (p : Profile) (name : List ℕ) → IsName name → IsNamedProfile p → All (λ state. All (IsFitEffect P) (map posts (shot_events name p.name state))) p.states
@@ -648,24 +594,19 @@ module _ (machine : List SectionRows) (P : List ℕ → Type 0) (of : IsOfNames 
   -- ---- modes
 
   short_controls : (holds : Bool) (event : List ℕ) → AreShort 1024 full (stopper_where holds event)
-  short_controls true event = (tt, tt)
-  short_controls false event = tt
+  short_controls x1 event = search rules
 
   fit_where : (holds : Bool) (event : List ℕ) → P event → All (IsFit P) (stopper_where holds event)
-  fit_where true event h = All-cons (IsFit P) (binds event Control Stop) [] h (All-nil (IsFit P))
-  fit_where false event h = All-nil (IsFit P)
+  fit_where x1 event h = search rules
 
   open_where : (m : ℕ) → 0 < m → (holds : Bool) (event : List ℕ) → AreOpened m (stopper_where holds event)
-  open_where m some true event = ((some, some), tt)
-  open_where m some false event = tt
+  open_where m some x3 event = search rules
 
   limited_where : (holds : Bool) (event : List ℕ) → All IsRight (stopper_where holds event)
-  limited_where true event = All-cons IsRight (binds event Control Stop) [] (tt, tt) (All-nil IsRight)
-  limited_where false event = All-nil IsRight
+  limited_where x1 event = search rules
 
   placed_where : (holds : Bool) (event : List ℕ) → ArePlaced None (stopper_where holds event)
-  placed_where true event = (tt, tt)
-  placed_where false event = tt
+  placed_where x1 event = search rules
 
   -- all events of a list
   fit_bound : (place : Place) (aim : Aim) (hs : List Handled) → AllNamedEvents hs → All (IsFit P) (flat_map (λ e. bound e place aim) (events hs))
@@ -749,8 +690,7 @@ module _ (machine : List SectionRows) (P : List ℕ → Type 0) (of : IsOfNames 
 
   -- one of two
   either : {Named Short Open : Type 0} (b : Bool) (cs ds : List Contribution) → Facts P n Named Short Open cs → Facts P n Named Short Open ds → Facts P n Named Short Open (if b then cs else ds)
-  either true cs ds first other = first
-  either false cs ds first other = other
+  either x1 cs ds first other = search rules
 
   -- neither an effect nor a row, and of no mode
   abbrev IsPlain : Contribution → Type 0
@@ -772,17 +712,11 @@ module _ (machine : List SectionRows) (P : List ℕ → Type 0) (of : IsOfNames 
   own_listeners ns i d within = refl
 
   good_where : (place : Place) (e : Entry) (b : Bool) (o q : Option Device) → IsGood place e o → IsGood place e q → IsGood place e (if b then o else q)
-  good_where place e true o q first other = first
-  good_where place e false o q first other = other
+  good_where place e x3 o q first other = search rules
 
   good_save : (place : Place) (section : List ℕ) (e : Entry) → IsGood place e (save_device_of section e)
   unfolding save_device_of
-  good_save place section e =
-      let save = ball_save_of e in
-      let balls = multiball_of e in
-      good_where place e (bytes_eq section ball_saves_name) (Some (save_device save)) _ (λ h. fit_save save (ball_save_named e h), λ h. short_save place save (ball_save_short e), no_listener place)
-      (good_where place e (bytes_eq section multiballs_name) (Some (multiball_device balls)) None
-      (λ h. fit_multiball balls (multiball_named e h), λ h. short_multiball place balls (multiball_short e), no_listener place) tt)
+  good_save place section e = search (rules, good_where, fit_save, ball_save_named, short_save, ball_save_short, no_listener, fit_multiball, multiball_named, short_multiball, multiball_short)
 
   good_device : (place : Place) (section : List ℕ) (e : Entry) → IsGood place e (device_of section e)
   unfolding device_of
@@ -800,12 +734,7 @@ module _ (machine : List SectionRows) (P : List ℕ → Type 0) (of : IsOfNames 
       (good_where place e (bytes_eq section timers_name) (Some timer) _ (λ h. fit_timer (timer_of e) (timer_named e h), λ h. short_timer place (timer_of e) (timer_in_range e), no_listener place) (good_save place section e))))
 
   good_machine : (section : List ℕ) (e : Entry) → IsGood Machine e (machine_device machine section e)
-  good_machine section e =
-      let flipper = flipper_of e in
-      let autofire = autofire_of e in
-      good_where Machine e (bytes_eq section flippers_name) (Some (flipper_device machine flipper)) _ (λ h. fit_flipper flipper (flipper_named e h), λ h. short_flipper machine flipper, own_listener flipper.rule.switch.text)
-      (good_where Machine e (bytes_eq section autofire_coils_name) (Some (autofire_device machine autofire)) (device_of section e)
-      (λ h. fit_autofire autofire (autofire_named e h), λ h. short_autofire machine autofire, own_listener autofire.rule.switch.text) (good_device Machine section e))
+  good_machine section e = search (rules, good_where, fit_flipper, flipper_named, short_flipper, own_listener, fit_autofire, autofire_named, short_autofire, good_device)
 
   where_facts : (place : Place) (e : Entry) (o : Option Device) → IsGood place e o → Facts P n (IsNamedEntry e) (IsShortEntry 1024 e) (IsOpenPlace n place) (where_device place o)
   where_facts place e None good = none_facts (IsNamedEntry e) (IsShortEntry 1024 e) (IsOpenPlace n place)
@@ -870,12 +799,10 @@ module _ (machine : List SectionRows) (P : List ℕ → Type 0) (of : IsOfNames 
   }
 
   unknown_facts : (Named Short Open : Type 0) (known : Bool) → Facts P n Named Short Open (unknown_unless known)
-  unknown_facts Named Short Open true = none_facts Named Short Open
-  unknown_facts Named Short Open false = named_facts Named Short Open unknown (λ h. tt) (tt, tt, (tt, tt), tt)
+  unknown_facts Named Short Open x4 = search rules
 
   shot_switch_facts : (Named Short Open : Type 0) (o : Option Written) → (Named → IfSome o (λ w. IsName w.text)) → Facts P n Named Short Open (shot_switch o)
-  shot_switch_facts Named Short Open None named = none_facts Named Short Open
-  shot_switch_facts Named Short Open (Some w) named = named_facts Named Short Open (mentions Switches w.text) named (tt, tt, (tt, tt), tt)
+  shot_switch_facts Named Short Open x4 named = search rules
 
   seated_facts : (place : Place) (p : Profile) (s : Shot) (seat : Option Seat) → Facts P n (IsNamedShot s × IsNamedProfile p) (IsShortProfile p) (IsOpenPlace n place) (seated place p s seat)
   seated_facts place p s None =
@@ -923,8 +850,7 @@ module _ (machine : List SectionRows) (P : List ℕ → Type 0) (of : IsOfNames 
       }
     where
       drained : (b : Bool) → All P (drain_mentions b)
-      drained true = All-cons P (codes "ball_drain") [] (of.game_events 11 [] (omega arith)) (All-nil P)
-      drained false = All-nil P
+      drained x1 = search rules
 
   ball_device_facts : (d : BallDevice) (to : Destination) → Facts P n (IsNamedBallDevice d) (IsShortBallDevice d) (Unit {0}) (ball_device_contributions machine d to)
   unfolding ball_device_contributions
@@ -952,24 +878,7 @@ module _ (machine : List SectionRows) (P : List ℕ → Type 0) (of : IsOfNames 
 
 -- what holds whatever names are
 pub any_name : IsOfNames (λ n. Unit {0})
-any_name = record {
-  name = λ n k. tt;
-  active = λ n k. tt;
-  inactive = λ n k. tt;
-  tag = λ n k. tt;
-  mode = λ which n k. tt;
-  ball = tt;
-  game = tt;
-  game_events = λ i d within. tt;
-  player = λ n k. tt;
-  block = λ n k i d within. tt;
-  timer = λ n k i d within. tt;
-  ball_device = λ n k i d within. tt;
-  save = λ n k i d within. tt;
-  multiball = λ n k i d within. tt;
-  shot = λ name profile state h k l i d within. tt;
-  group = λ name state h k. (λ i d within. tt, λ i d within. tt);
-}
+any_name = search rules
 
 -- no effect list that rows give has more posts
 all_short : (machine : List SectionRows) (rs : List Row) → All IsShortRow rs → AreShort 1024 full (given_by machine rs)
@@ -1006,23 +915,18 @@ pub entry_such : (R : Row → Type 0) (rows : Rows) (place : Place) (seat : List
 entry_such R rows place seat to section e of_shot of_group of_ball other = by (bytes_eq section shots_name) (bytes_eq section shot_groups_name)
   where
     in_machine : (b : Bool) → (b ≡ true → R (ball_device_row to (ball_device_of e))) → R (entry Machine section e) → R (if b then ball_device_row to (ball_device_of e) else entry Machine section e)
-    in_machine true ball rest = ball refl
-    in_machine false ball rest = rest
+    in_machine x1 ball rest = search rules
 
     in_other : (place : Place) → (place ≡ Machine → bytes_eq section ball_devices_name ≡ true → R (ball_device_row to (ball_device_of e))) → R (entry place section e) → R (other_row to place section e)
-    in_other Machine ball rest = in_machine (bytes_eq section ball_devices_name) (ball refl) rest
-    in_other _ ball rest = rest
+    in_other x1 ball rest = search rules
 
     by : (s g : Bool) → R (if s then shot_row rows place seat (shot_of e) else (if g then group_row rows place seat (shot_group_of e) else other_row to place section e))
-    by true g = of_shot
-    by false true = of_group
-    by false false = in_other place of_ball other
+    by x1 x2 = search rules
 
 -- what holds of each row that stands in a section
 module _ (R : Row → Type 0) (S : SectionRows → Type 0) (rows : Rows) (place : Place) (seat : List ℕ → Option Seat) (to : List ℕ → Destination) (each : (s : SectionRows) → S s → All R (rows_from rows place seat to s.name s.content)) where
   pub sections_each : (sections : List SectionRows) → All S sections → All R (rows_in rows place seat to sections)
-  sections_each sections h =
-      All-flat_map R (λ s. rows_from rows place seat to s.name s.content) sections (All-weaker S (λ s. All R (rows_from rows place seat to s.name s.content)) each sections h)
+  sections_each sections h = search (rules, All-flat_map, All-weaker)
 
 -- what holds of each row of modes, one after the other
 module _ (R : Row → Type 0) (M : ModeRows → Type 0) (rows : Rows) (each : (n : ℕ) (m : ModeRows) → M m → All R (mode_rows rows n m)) where
@@ -1036,22 +940,14 @@ module _ (R : Row → Type 0) (M : ModeRows → Type 0) (rows : Rows) (each : (n
 module _ (R : Row → Type 0) (S : SectionRows → Type 0) (M : ModeRows → Type 0) (rows : Rows) (first : (seat : List ℕ → Option Seat) (to : List ℕ → Destination) (s : SectionRows) → S s → All R (rows_from rows Machine seat to s.name s.content))
     (each : (n : ℕ) (m : ModeRows) → M m → All R (mode_rows rows n m)) where
   pub rows_each : All S rows.machine → All M rows.modes → All R (rows_of rows)
-  rows_each machine modes =
-      let seat = seat_of Machine 0 rows.machine in
-      let to = destination_of Machine 0 rows.machine in
-      let after = rows_after_text Machine 0 rows.machine in
-      All-append R (rows_in rows Machine seat to rows.machine) (modes_rows rows after rows.modes) (sections_each R S rows Machine seat to (first seat to) rows.machine machine) (modes_each R M rows each after rows.modes modes)
+  rows_each machine modes = search (rules, modes, All-append, sections_each, modes_each)
 
 module _ (rows : Rows) (machine : All IsNamed rows.machine) (modes : All IsNamedMode rows.modes) where
   rows_named : (place : Place) (seat : List ℕ → Option Seat) (to : List ℕ → Destination) (s : SectionRows) → IsNamed s → All IsNamedRow (rows_from rows place seat to s.name s.content)
   rows_named place seat to s h = by s.content h
     where
       entry_named : (e : Entry) → IsNamedEntry e → IsNamedRow (entry_row rows place seat to s.name e)
-      entry_named e k =
-          let own = shot_of e in
-          let others = shot_group_of e in
-          entry_such IsNamedRow rows place seat to s.name e (shot_named e k, profile_named rows machine modes own.profile.text) (shot_group_named e k, members_named rows machine modes others)
-          (λ own named. ball_device_named e k) k
+      entry_named e k = search (rules, entry_such, shot_named, profile_named, modes, shot_group_named, members_named, ball_device_named)
 
       by : (content : Content) → IsNamedContent content → All IsNamedRow (rows_from rows place seat to s.name content)
       by (entries es) k = All-map IsNamedRow (entry_row rows place seat to s.name) es (All-weaker IsNamedEntry (λ e. IsNamedRow (entry_row rows place seat to s.name e)) entry_named es k)
@@ -1060,11 +956,7 @@ module _ (rows : Rows) (machine : All IsNamed rows.machine) (modes : All IsNamed
       by (sections.listed ws) k = All-nil IsNamedRow
 
   mode_rows_named : (n : ℕ) (m : ModeRows) → IsNamedMode m → All IsNamedRow (mode_rows rows n m)
-  mode_rows_named n m h =
-      let seat = seat_of Mode n m.sections in
-      let to = destination_of Mode n m.sections in
-      All-cons IsNamedRow (of_mode m.name (mode_settings m.sections)) (rows_in rows Mode seat to m.sections) (h.name, mode_settings_named m.sections h.sections)
-      (sections_each IsNamedRow IsNamed rows Mode seat to (rows_named Mode seat to) m.sections h.sections)
+  mode_rows_named n m h = search (rules, All-cons, mode_settings_named, sections_each, rows_named)
 
   all_rows_named : All IsNamedRow (rows_of rows)
   all_rows_named = rows_each IsNamedRow IsNamed IsNamedMode rows (rows_named Machine) mode_rows_named machine modes
@@ -1074,11 +966,7 @@ module _ (rows : Rows) where
   rows_short place seat to s h = by s.content h
     where
       entry_short : (e : Entry) → IsShortEntry 1024 e → IsShortRow (entry_row rows place seat to s.name e)
-      entry_short e k =
-          let own = shot_of e in
-          let others = shot_group_of e in
-          entry_such IsShortRow rows place seat to s.name e (profile_short rows own.profile.text) (members_short rows others (let short = shot_group_short e k in short.shots))
-          (λ own named. ball_device_short e k) k
+      entry_short e k = search (rules, entry_such, profile_short, members_short, shot_group_short, ball_device_short)
 
       by : (content : Content) → IsShortContent content → All IsShortRow (rows_from rows place seat to s.name content)
       by (entries es) k = All-map IsShortRow (entry_row rows place seat to s.name) es (All-weaker (IsShortEntry 1024) (λ e. IsShortRow (entry_row rows place seat to s.name e)) entry_short es k.0)
@@ -1087,10 +975,7 @@ module _ (rows : Rows) where
       by (sections.listed ws) k = All-nil IsShortRow
 
   mode_rows_short : (n : ℕ) (m : ModeRows) → IsShortMode m → All IsShortRow (mode_rows rows n m)
-  mode_rows_short n m h =
-      let seat = seat_of Mode n m.sections in
-      let to = destination_of Mode n m.sections in
-      All-cons IsShortRow (of_mode m.name (mode_settings m.sections)) (rows_in rows Mode seat to m.sections) tt (sections_each IsShortRow IsShortSection rows Mode seat to (rows_short Mode seat to) m.sections h)
+  mode_rows_short n m h = search (rules, All-cons, sections_each, rows_short)
 
   all_rows_short : AreListsShort rows → All IsShortRow (rows_of rows)
   all_rows_short h = rows_each IsShortRow IsShortSection IsShortMode rows (rows_short Machine) mode_rows_short h.0 h.1

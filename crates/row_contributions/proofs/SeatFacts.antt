@@ -1,17 +1,15 @@
 -- The rows of devices that a text gives, as they are counted before it is read, and which of them the seats of its shots
 -- are in, and which are those of its ball devices.
-use Rattle.std.proofs.Common.{◌≡◌, ℕ, suc, ◌+◌, ◌-◌, ◌≤◌, Bool, true, false, ◌||◌, not, if◌then◌else◌, List, [], ◌∷◌, ◌++◌, length, map, refl, sym, ◌∙◌, ap, subst, arith}
+use Rattle.std.proofs.Common.{rules, ◌≡◌, ℕ, suc, ◌+◌, ◌-◌, ◌≤◌, Bool, true, false, ◌||◌, not, if◌then◌else◌, List, [], ◌∷◌, ◌++◌, length, map, refl, sym, ◌∙◌, ap, subst, arith}
 use Rattle.std.specs.Prelude.{Option, None, Some, IfSome, is_some, fold, slice_get}
 use Rattle.std.specs.Str.{bytes_eq}
 use Rattle.std.specs.List.{All, flat_map, list_any}
 use Rattle.std.proofs.lemmas.Grind.{flat_map-append}
-use Rattle.std.proofs.lemmas.List.Elements.{All-nil, All-cons, All-head, All-tail, All-append, All-weaker}
+use Rattle.std.proofs.lemmas.List.Elements.{All-nil, All-cons, All-tail, All-append, All-weaker}
 use Rattle.std.proofs.lemmas.List.Folds.{list_any-append}
-use Rattle.std.proofs.lemmas.Cmp.{nat_list_eq_equiv}
 use Rattle.std.proofs.lemmas.Slice.Eq.{bytes_eq-Decides}
 use Rattle.yaml_subset.specs.Keys.{is_among}
-use Rattle.mpf_sections.specs.Rows.{Written, Entry, Player, Content, entries, players, SectionRows}
-use Rattle.mpf_sections.specs.Rows as sections
+use Rattle.mpf_sections.specs.Rows.{Written, Entry, Player, Content, SectionRows}
 use Rattle.mpf_sections.specs.Typed.{entries_of, switches_name, counters_name, accruals_name, sequences_name, timers_name, entries_in, counter_of, step_block_of, timer_of}
 use Rattle.mpf_sections.specs.TypedCoils.{coils_name, flippers_name, autofire_coils_name, coil_of, flipper_of, autofire_of}
 use Rattle.mpf_sections.specs.TypedShots.{shots_name, shot_groups_name, shot_of, shot_group_of, shot_groups_in}
@@ -48,23 +46,7 @@ row_given (device place settings) = is_ball settings ∷ []
 row_given _ = []
 
 pub silent : IsSilent row_given
-silent = record {
-  given = λ n. refl;
-  read = λ kind confirms. refl;
-  on = λ n. refl;
-  off = λ n. refl;
-  modes = λ n priority game holds. refl;
-  events = λ which n. refl;
-  bound = λ n place aim. refl;
-  done = λ e. refl;
-  done_in = λ k e. refl;
-  listened = λ k n. refl;
-  mentioned = λ n. refl;
-  needed = λ n. refl;
-  missed = refl;
-  met = λ c. refl;
-  played = λ min_balls balls_per_game max_players. refl;
-}
+silent = search rules
 
 -- those that rows give
 abbrev pub rows_told : List SectionRows → List Row → List Bool
@@ -88,13 +70,11 @@ rows_of_text place ss = rows_of_entries place (is_grouped ss) (text_entries ss)
 
 -- a name is among others in either order of the two
 among_same : (keys : List (List ℕ)) (name : List ℕ) → is_among keys name ≡ list_any (bytes_eq name) keys
-among_same [] name = refl
-among_same (k ∷ ks) name = λ i. nat_list_eq_equiv.symm k name i || among_same ks name i
+among_same x1 name = search rules
 
 -- those of groups are among them
 groups_among : (place : Place) → is_among (row_sections place) shot_groups_name ≡ true
-groups_among Machine = refl
-groups_among _ = refl
+groups_among x1 = search rules
 
 -- what holds of a name holds of what has it
 named : (A : List ℕ → Type 0) (section name : List ℕ) → bytes_eq section name ≡ true → A name → A section
@@ -102,12 +82,10 @@ named A section name is h = subst A (sym ((bytes_eq-Decides section name).0 is))
 
 -- neither shots nor groups are ball devices
 shots_no_balls : (place : Place) → has_balls place shots_name ≡ false
-shots_no_balls Machine = refl
-shots_no_balls _ = refl
+shots_no_balls x1 = search rules
 
 groups_no_balls : (place : Place) → has_balls place shot_groups_name ≡ false
-groups_no_balls Machine = refl
-groups_no_balls _ = refl
+groups_no_balls x1 = search rules
 
 module _ (machine : List SectionRows) where
   -- an entry has a row where it is a ball save or a multiball
@@ -117,9 +95,7 @@ module _ (machine : List SectionRows) where
   save_row place section e = by (bytes_eq section ball_saves_name) (bytes_eq section multiballs_name) (bytes_eq section shot_groups_name)
     where
       by : (s m g : Bool) → g ≡ false → told_where row_given silent place (if s then Some (save_device (ball_save_of e)) else (if m then Some (multiball_device (multiball_of e)) else None)) ≡ row_if (s || (m || (g || false))) false
-      by true m g other = refl
-      by false true g other = refl
-      by false false g other = ap (λ b. row_if (b || false) false) (sym other)
+      by x1 x2 g other = search rules
 
   -- an entry that is neither a shot nor a group has a row where it is a device
   device_row : (place : Place) (section : List ℕ) (e : Entry) → bytes_eq section shot_groups_name ≡ false → told_where row_given silent place (device_of section e) ≡ row_if (list_any (bytes_eq section) (row_sections Mode)) false
@@ -131,11 +107,7 @@ module _ (machine : List SectionRows) where
 
       by : (c a s t : Bool) → told_where row_given silent place (if c then Some (counter_device (counter_of e)) else (if a then Some (step_device (kinds.Accrual (step_settings (step_block_of e))) (step_block_of e))
           else (if s then Some (step_device (kinds.Sequence (step_settings (step_block_of e))) (step_block_of e)) else (if t then Some (timer_device (timer_of e)) else save_device_of section e)))) ≡ row_if (c || (a || (s || (t || saves)))) false
-      by true a s t = refl
-      by false true s t = refl
-      by false false true t = refl
-      by false false false true = refl
-      by false false false false = save_row place section e other
+      by x1 x2 x3 x4 = search (rules, save_row)
 
   -- the machine text has flippers and autofire coils, too, and ball devices
   machine_device_row : (section : List ℕ) (e : Entry) → bytes_eq section shot_groups_name ≡ false → bytes_eq section ball_devices_name ≡ false
@@ -147,9 +119,7 @@ module _ (machine : List SectionRows) where
 
       by : (f a b : Bool) → told_where row_given silent Machine (device_of section e) ≡ row_if others false → b ≡ false
           → told_where row_given silent Machine (if f then Some (flipper_device machine (flipper_of e)) else (if a then Some (autofire_device machine (autofire_of e)) else device_of section e)) ≡ row_if (f || (a || (b || others))) false
-      by true a b h is = refl
-      by false true b h is = refl
-      by false false b h is = h ∙ ap (λ x. row_if (x || others) false) (sym is)
+      by x1 x2 b h is = search rules
 
   -- its coils and switches have none
   machine_row : (section : List ℕ) (e : Entry) → bytes_eq section shot_groups_name ≡ false → bytes_eq section ball_devices_name ≡ false → told_machine row_given silent machine section e ≡ row_if (is_among (row_sections Machine) section) false
@@ -171,8 +141,7 @@ module _ (machine : List SectionRows) where
   other_entry_row to Machine section e other = by (bytes_eq section ball_devices_name) refl
     where
       by : (b : Bool) → bytes_eq section ball_devices_name ≡ b → told row_given silent machine (if b then ball_device_row to (ball_device_of e) else entry Machine section e) ≡ row_if (is_among (row_sections Machine) section) b
-      by true is = named (λ s. true ∷ [] ≡ row_if (is_among (row_sections Machine) s) true) section ball_devices_name is refl
-      by false is = machine_row section e other is
+      by x1 is = search (rules, named, machine_row)
   other_entry_row to Control section e other = device_row Control section e other ∙ ap (λ b. row_if b false) (sym (among_same (row_sections Control) section))
   other_entry_row to Mode section e other = device_row Mode section e other ∙ ap (λ b. row_if b false) (sym (among_same (row_sections Mode) section))
 
@@ -186,8 +155,7 @@ module _ (rows : Rows) (place : Place) (grouped : List ℕ → Bool) (seat : Lis
   shot_row_is e = by (seat e.name.text) (same e.name.text)
     where
       by : (o : Option Seat) → is_some o ≡ grouped e.name.text → told_shot row_given silent place (shot_of e) o (profile_of_name rows (shot_of e).profile.text) ≡ row_if (not (grouped e.name.text)) false
-      by None is = ap (λ b. row_if (not b) false) is
-      by (Some s) is = ap (λ b. row_if (not b) false) is
+      by x1 is = search rules
 
   entry_row_is : (section : List ℕ) (e : Entry) → told row_given silent rows.machine (entry_row rows place seat to section e) ≡ row_if (has_row place grouped (section, e)) (has_balls place section)
   entry_row_is section e = by (bytes_eq section shots_name) (bytes_eq section shot_groups_name) refl refl
@@ -198,9 +166,7 @@ module _ (rows : Rows) (place : Place) (grouped : List ℕ → Bool) (seat : Lis
       by : (s g : Bool) → bytes_eq section shots_name ≡ s → bytes_eq section shot_groups_name ≡ g
           → told row_given silent rows.machine (if s then shot_row rows place seat (shot_of e) else (if g then group_row rows place seat (shot_group_of e) else other_row to place section e))
           ≡ row_if (if s then not (grouped e.name.text) else is_among (row_sections place) section) (has_balls place section)
-      by true g is _ = shot_row_is e ∙ ap (row_if (not (grouped e.name.text))) (sym (named (λ s. has_balls place s ≡ false) section shots_name is (shots_no_balls place)))
-      by false true _ is = named (λ s. false ∷ [] ≡ row_if (is_among (row_sections place) s) (has_balls place s)) section shot_groups_name is (of_groups shot_groups_name (groups_among place) (groups_no_balls place))
-      by false false _ is = other_entry_row rows.machine to place section e is
+      by x1 x2 x3 x4 = search (rules, shot_row_is, named, shots_no_balls, of_groups, groups_among, groups_no_balls, other_entry_row)
 
   abbrev given : List Row → List Bool
   given rs = rows_told rows.machine rs
@@ -217,27 +183,20 @@ module _ (rows : Rows) (place : Place) (grouped : List ℕ → Bool) (seat : Lis
   players_give name (p ∷ ps) = players_give name ps
 
   content_is : (name : List ℕ) (content : Content) → given (rows_from rows place seat to name content) ≡ counted (section_entries (record { name = name; content = content }))
-  content_is name (entries es) = entries_are name es
-  content_is name (players ps) = players_give name ps
-  content_is name _ = refl
+  content_is name x2 = search (rules, entries_are, players_give)
 
   sections_are : (ss : List SectionRows) → given (rows_in rows place seat to ss) ≡ counted (text_entries ss)
   sections_are [] = refl
-  sections_are (s ∷ ss) =
-      flat_map-append (told row_given silent rows.machine) (rows_from rows place seat to s.name s.content) (rows_in rows place seat to ss)
-      ∙ (λ i. content_is s.name s.content i ++ sections_are ss i)
-      ∙ sym (flat_map-append (λ e. row_if (has_row place grouped e) (has_balls place e.0)) (section_entries s) (text_entries ss))
+  sections_are (s ∷ ss) = search (rules, flat_map-append, silent, content_is, sections_are ss)
 
 -- they are as many
 module _ (place : Place) (grouped : List ℕ → Bool) where
   one_more : (n m : ℕ) (b ball : Bool) (rest : List Bool) → (if b then suc n else n) + length rest ≡ m → n + length (row_if b ball ++ rest) ≡ m
-  one_more n m true ball rest is = omega (arith, is)
-  one_more n m false ball rest is = is
+  one_more n m x3 ball rest is = search rules
 
   pub entries_counted : (n : ℕ) (es : List (List ℕ × Entry)) → n + length (rows_of_entries place grouped es) ≡ rows_after_all place grouped n es
   entries_counted n [] = omega arith
-  entries_counted n (e ∷ es) =
-      one_more n (rows_after_all place grouped (rows_after place grouped n e) es) (has_row place grouped e) (has_balls place e.0) (rows_of_entries place grouped es) (entries_counted (rows_after place grouped n e) es)
+  entries_counted n (e ∷ es) = search (rules, one_more, entries_counted (rows_after place grouped n e) es)
 
 -- ---- what is given under names
 
@@ -262,10 +221,7 @@ module _ {X : Type 0} (row : X → ℕ) (give : ℕ → List ℕ × Entry → Li
       )
 
   given_later : (n r : ℕ) (b own : Bool) (rest : List Bool) → IsRowAt (if b then suc n else n) rest ball r → IsRowAt n (row_if b own ++ rest) ball r
-  given_later n r true own rest is =
-      let next : r - n ≡ suc (r - suc n) = omega (arith, is.0) in
-      (omega (arith, is.0), ap (slice_get (own ∷ rest)) next ∙ is.1)
-  given_later n r false own rest is = is
+  given_later n r x3 own rest is = search rules
 
   given_at : ((n : ℕ) (e : List ℕ × Entry) → All (IsOwn n e) (give n e)) → (es : List (List ℕ × Entry)) (n : ℕ) → All (IsAt n es) (given_from give place grouped n es)
   given_at own [] n = All-nil (IsAt n [])
@@ -281,8 +237,7 @@ module _ {X : Type 0} (name : List ℕ) where
   latest_such P (x ∷ xs) found h all = latest_such P xs (latest name found x) (by (bytes_eq name x.0)) (All-tail (λ (y : List ℕ × X). P y.1) x xs all)
     where
       by : (b : Bool) → IfSome (if b then Some x.1 else found) P
-      by true = All-head (λ (y : List ℕ × X). P y.1) x xs all
-      by false = h
+      by x1 = search rules
 
   abbrev has_it : List ℕ × X → Bool
   has_it x = bytes_eq name x.0
@@ -292,14 +247,8 @@ module _ {X : Type 0} (name : List ℕ) where
   latest_some [] found = by (is_some found)
     where
       by : (b : Bool) → b ≡ (b || false)
-      by true = refl
-      by false = refl
-  latest_some (x ∷ xs) found = latest_some xs (latest name found x) ∙ by (bytes_eq name x.0) (is_some found) found refl
-    where
-      by : (b f : Bool) (o : Option X) → is_some o ≡ f → (is_some (if b then Some x.1 else o) || list_any has_it xs) ≡ (f || (b || list_any has_it xs))
-      by true true o is = refl
-      by true false o is = refl
-      by false f o is = ap (λ b. b || list_any has_it xs) is
+      by x1 = search rules
+  latest_some (x ∷ xs) found = search (rules, latest_some xs (latest name found x))
 
   -- that is where an entry of some sections has it
   module _ {Y : Type 0} (give : ℕ → List ℕ × Entry → List (List ℕ × X)) (own : List ℕ) (f : Entry → Y) (p : Y → Bool) where
@@ -327,10 +276,7 @@ module _ {X : Type 0} (name : List ℕ) where
           ∙ sym (list_any-append p (map f (entries_of own s)) (flat_map (λ s. map f (entries_of own s)) ss))
 
       found_some : (place : Place) (n : ℕ) (ss : List SectionRows) → is_some (found_in give place n ss name) ≡ list_any p (flat_map (λ s. map f (entries_of own s)) ss)
-      found_some place n ss =
-          latest_some (given_from give place (is_grouped ss) n (text_entries ss)) None
-          ∙ at_entries place (is_grouped ss) (text_entries ss) n
-          ∙ in_sections ss
+      found_some place n ss = search (rules, latest_some, at_entries, in_sections)
 
 -- ---- seats and ball devices
 
@@ -342,19 +288,16 @@ seats_each : (name : List ℕ) (n : ℕ) (e : List ℕ × Entry) → list_any (h
 seats_each name n e = by (bytes_eq e.0 shot_groups_name)
   where
     by : (b : Bool) → list_any (has_it name) (if b then seats_at n 0 (shot_group_of e.1).shots else []) ≡ (if b then lists_shot name (shot_group_of e.1) else false)
-    by true = at_group name n 0 (shot_group_of e.1).shots
-    by false = refl
+    by x1 = search (rules, at_group)
 
 balls_each : (name : List ℕ) (n : ℕ) (e : List ℕ × Entry) → list_any (has_it name) (entry_ball_row n e) ≡ (if bytes_eq e.0 ball_devices_name then bytes_eq name (ball_device_of e.1).name.text else false)
 balls_each name n e = by (bytes_eq e.0 ball_devices_name)
   where
     either : (b : Bool) → (b || false) ≡ b
-    either true = refl
-    either false = refl
+    either x1 = search rules
 
     by : (b : Bool) → list_any (has_it name) (if b then ((ball_device_of e.1).name.text, n) ∷ [] else []) ≡ (if b then bytes_eq name (ball_device_of e.1).name.text else false)
-    by true = either (bytes_eq name (ball_device_of e.1).name.text)
-    by false = refl
+    by x1 = search rules
 
 abbrev seat_row : Seat → ℕ
 seat_row s = s.row
@@ -368,19 +311,13 @@ seats_own place grouped n e = by (bytes_eq e.0 shot_groups_name) refl
         All-cons (IsOwn seat_row entry_seats place grouped false n e) (w.text, record { row = n; shot = i }) (seats_at n (suc i) ws) (refl, row, none) (in_group (suc i) ws row none)
 
     by : (b : Bool) → bytes_eq e.0 shot_groups_name ≡ b → All (IsOwn seat_row entry_seats place grouped false n e) (if b then seats_at n 0 (shot_group_of e.1).shots else [])
-    by true is =
-        in_group 0 (shot_group_of e.1).shots (named (λ s. has_row place grouped (s, e.1) ≡ true) e.0 shot_groups_name is (groups_among place))
-        (named (λ s. has_balls place s ≡ false) e.0 shot_groups_name is (groups_no_balls place))
-    by false is = All-nil (IsOwn seat_row entry_seats place grouped false n e)
+    by x1 is = search (rules, in_group, named, groups_among, groups_no_balls, All-nil)
 
 balls_own : (grouped : List ℕ → Bool) (n : ℕ) (e : List ℕ × Entry) → All (IsOwn (λ r. r) entry_ball_row Machine grouped true n e) (entry_ball_row n e)
 balls_own grouped n e = by (bytes_eq e.0 ball_devices_name) refl
   where
     by : (b : Bool) → bytes_eq e.0 ball_devices_name ≡ b → All (IsOwn (λ r. r) entry_ball_row Machine grouped true n e) (if b then ((ball_device_of e.1).name.text, n) ∷ [] else [])
-    by true is =
-        All-cons (IsOwn (λ r. r) entry_ball_row Machine grouped true n e) ((ball_device_of e.1).name.text, n) [] (refl, named (λ s. has_row Machine grouped (s, e.1) ≡ true) e.0 ball_devices_name is refl, is)
-        (All-nil (IsOwn (λ r. r) entry_ball_row Machine grouped true n e))
-    by false is = All-nil (IsOwn (λ r. r) entry_ball_row Machine grouped true n e)
+    by x1 is = search rules
 
 -- ---- a text
 
@@ -423,6 +360,4 @@ module _ (n : ℕ) (ss : List SectionRows) where
     where
       by : (b : Bool) (o : Option ℕ) → is_some o ≡ list_any (λ d. bytes_eq name d.name.text) (flat_map ball_devices_in ss)
           → (b || list_any (λ d. bytes_eq name d.name.text) (flat_map ball_devices_in ss)) ≡ true → is_known (if b then destinations.Playfield else row_or_unknown o) ≡ true
-      by true o some known = refl
-      by false None some known = some ∙ known
-      by false (Some r) some known = refl
+      by x1 x2 some known = search rules

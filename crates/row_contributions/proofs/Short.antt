@@ -1,14 +1,12 @@
 -- Effect lists have room for what contributions put in them, as contributions come.
-use Rattle.std.proofs.Common.{◌≡◌, ℕ, suc, ◌+◌, ◌<◌, ◌≤◌, ◌==◌, Bool, true, false, if◌then◌else◌, List, [], ◌∷◌, ◌++◌, length, map, refl, ap, arith}
+use Rattle.std.proofs.Common.{rules, ◌≡◌, ℕ, suc, ◌+◌, ◌<◌, ◌≤◌, ◌==◌, Bool, if◌then◌else◌, List, [], ◌∷◌, ◌++◌, length, map, refl, arith}
 use Rattle.std.specs.Prelude.{Option}
 use Rattle.std.specs.List.{All, flat_map}
-use Rattle.std.proofs.lemmas.Bool.{eqb-true}
 use Rattle.std.proofs.lemmas.List.Elements.{All-head, All-tail}
 use Rattle.mpf_values.specs.Events.{Condition}
 use Rattle.mpf_sections.specs.Rows.{VariableItem}
-use Rattle.plan_contributions.specs.declared.contribution.Aim.TheVariants.{Run}
 use Rattle.plan_contributions.specs.Effects.{Effect}
-use Rattle.plan_contributions.specs.Contributions.{Contribution, binds, does, device, does_in}
+use Rattle.plan_contributions.specs.Contributions.{Contribution, does, device, does_in}
 use Rattle.row_contributions.specs.Contributions.{under_where, item_contributions, effects_from, listens_from}
 use Rattle.row_contributions.specs.Facts.{effects_after, effects_in_after, full, IsRoomy, AreShort}
 use Rattle.row_contributions.proofs.Before.{under_before}
@@ -20,20 +18,13 @@ AreShort-fewer (c ∷ cs) m n f g fewer less h =
     (roomy c h.0, AreShort-fewer cs (effects_after m c) (effects_after n c) (effects_in_after f c) (effects_in_after g c) (after c) (in_after c) h.1)
   where
     roomy : (x : Contribution) → IsRoomy n g x → IsRoomy m f x
-    roomy (does e) is = omega (arith, fewer, is)
-    roomy (does_in k e) is = omega (arith, less k, is)
-    roomy _ is = tt
+    roomy x1 is = search rules
 
     after : (x : Contribution) → effects_after m x ≤ effects_after n x
-    after (binds e place Run) = omega arith
-    after (does e) = omega (arith, fewer)
-    after (device place settings) = omega arith
-    after (does_in k e) = omega arith
-    after _ = fewer
+    after x1 = search rules
 
     raised : (b : Bool) (j : ℕ) → (if b then suc (f j) else f j) ≤ (if b then suc (g j) else g j)
-    raised true j = omega (arith, less j)
-    raised false j = less j
+    raised x1 j = search rules
 
     in_after : (x : Contribution) (j : ℕ) → effects_in_after f x j ≤ effects_in_after g x j
     in_after (does e) j = omega arith
@@ -47,15 +38,10 @@ AreShort-append [] ds n f few some first then_ = AreShort-fewer ds n 1024 f full
 AreShort-append (c ∷ cs) ds n f few some first then_ = (first.0, AreShort-append cs ds (effects_after n c) (effects_in_after f c) (after c first.0) (in_after c first.0) first.1 then_)
   where
     after : (x : Contribution) → IsRoomy n f x → effects_after n x ≤ 1024
-    after (binds e place Run) is = omega arith
-    after (does e) is = omega (arith, is)
-    after (device place settings) is = omega arith
-    after (does_in k e) is = omega arith
-    after _ is = few
+    after x1 is = search rules
 
     raised : (k j : ℕ) → f k < 1024 → (b : Bool) → (j == k) ≡ b → (if b then suc (f j) else f j) ≤ 1024
-    raised k j room true same = omega (arith, room, ap f (eqb-true j k same))
-    raised k j room false other = some j
+    raised k j room x4 x5 = search rules
 
     in_after : (x : Contribution) → IsRoomy n f x → (j : ℕ) → effects_in_after f x j ≤ 1024
     in_after (does e) is j = omega arith
@@ -87,12 +73,10 @@ AreShort-in k c (e ∷ es) rest then_ n f few room empty =
     (omega (arith, few, room), AreShort-in k (suc c) es rest then_ 1024 (effects_in_after f (does_in k e)) (here (k == k)) (omega (arith, room)) (λ j later. there j later (j == k) refl))
   where
     here : (b : Bool) → (if b then suc (f k) else f k) ≤ suc c
-    here true = omega (arith, few)
-    here false = omega (arith, few)
+    here x1 = search rules
 
     there : (j : ℕ) → k < j → (b : Bool) → (j == k) ≡ b → (if b then suc (f j) else f j) ≤ 0
-    there j later true same = absurd (omega (arith, later, eqb-true j k same))
-    there j later false other = empty j later
+    there j later x3 x4 = search rules
 
 -- and in one after the other
 pub AreShort-lists : (k : ℕ) (lists : List (List Effect)) → All (λ es. length es ≤ 1024) lists → (n : ℕ) (f : ℕ → ℕ) → ((j : ℕ) → k ≤ j → f j ≤ 0) → AreShort n f (effects_from k lists)

@@ -1,16 +1,16 @@
 -- What holds of shots and of groups of them: of what acts on them, of their effect lists and settings, and of the
 -- profiles that are found by name.
-use Rattle.std.proofs.Common.{◌≡◌, ℕ, ◌≤◌, Bool, true, false, if◌then◌else◌, List, [], ◌∷◌, ◌++◌, length, map, replicate, refl, arith, codes, length-append}
+use Rattle.std.proofs.Common.{rules, ◌≡◌, ℕ, ◌≤◌, Bool, if◌then◌else◌, List, [], ◌∷◌, ◌++◌, length, map, refl, arith, codes, length-append}
 use Rattle.std.specs.Prelude.{Option, None, Some, IfSome, fold}
 use Rattle.std.specs.Str.{bytes_eq}
 use Rattle.std.specs.List.{All, flat_map}
 use Rattle.std.proofs.lemmas.List.{length-map, length-replicate, length-take-le}
-use Rattle.std.proofs.lemmas.List.Elements.{All-nil, All-cons, All-head, All-tail, All-append, All-map, All-weaker}
+use Rattle.std.proofs.lemmas.List.Elements.{All-nil, All-cons, All-tail, All-append, All-map, All-weaker}
 use Rattle.mpf_values.specs.Events.{Event}
 use Rattle.mpf_values.proofs.NameTexts.{IsName-from_is_name}
 use Rattle.mpf_sections.specs.Rows.{Written, Handled, Shot, ShotGroup, ShotProfile, SectionRows}
 use Rattle.mpf_sections.specs.Named.{IsName, IsNamedShotProfile, IsNamed}
-use Rattle.mpf_sections.specs.TypedShots.{default_profile, shot_profiles_in}
+use Rattle.mpf_sections.specs.TypedShots.{shot_profiles_in}
 use Rattle.mpf_tables.proofs.TableNames.{default_profile_named}
 use Rattle.mpf_sections.proofs.ShotRows.{shot_profiles_named, shot_profiles_short}
 use Rattle.mpf_config.specs.Rows.{ModeRows, Rows}
@@ -18,7 +18,7 @@ use Rattle.mpf_config.specs.Named.{IsNamedMode}
 use Rattle.machine_definitions.specs.Shots.{all_sections, shot_called, Profile, profile_of, standard_profile, latest_profile, profile_called, profile_of_name}
 use Rattle.plan_tables.specs.Devices.{IsWithinLimits}
 use Rattle.plan_tables.specs.declared.devices.Act.{Act}
-use Rattle.plan_tables.specs.declared.devices.Act.TheVariants.{Reset, Hit, Advance, ResetShot, EnableShot, DisableShot, RotateRight, RotateLeft}
+use Rattle.plan_tables.specs.declared.devices.Act.TheVariants.{Hit, Advance, ResetShot, EnableShot, DisableShot}
 use Rattle.plan_contributions.specs.Effects.{Effect, posts}
 use Rattle.row_contributions.specs.DeviceEntries.{always, acts}
 use Rattle.row_contributions.specs.ShotEntries.{shot_events, shot_lists, group_events, state_lists, group_lists, switch_hits, shot_acts, group_acts, bank_settings}
@@ -42,8 +42,7 @@ module _ (Q : Event → Type 0) where
   all_acts act hs h = All-map OfEvent (λ (w : Handled). (w.event, act)) hs h
 
   all_hits : (hit : Act) (switch : Option Written) → IfSome switch OfSwitch → All OfEvent (switch_hits hit switch)
-  all_hits hit None h = All-nil OfEvent
-  all_hits hit (Some w) h = All-cons OfEvent (always (w.text ++ codes "_active"), hit) [] h (All-nil OfEvent)
+  all_hits hit x2 h = search rules
 
   pub all_shot_acts : (i : ℕ) (s : Shot) → IfSome s.switch OfSwitch → All OfHandled s.hits → All OfHandled s.advances → All OfHandled s.resets → All OfHandled s.enables → All OfHandled s.disables → All OfEvent (shot_acts i s)
   all_shot_acts i s switch hits advances resets enables disables =
@@ -64,13 +63,7 @@ module _ (Q : Event → Type 0) where
       (all_acts (DisableShot i) s.disables disables)
 
   pub all_group_acts : (g : ShotGroup) → All OfHandled g.rotates → All OfHandled g.rotates_right → All OfHandled g.rotates_left → All OfHandled g.resets → All OfEvent (group_acts g)
-  all_group_acts g rotates right left resets =
-      let first = acts RotateRight g.rotates in
-      let onwards = acts RotateRight g.rotates_right in
-      let back = acts RotateLeft g.rotates_left in
-      All-append OfEvent (first ++ onwards ++ back) (acts Reset g.resets)
-      (All-append OfEvent (first ++ onwards) back (All-append OfEvent first onwards (all_acts RotateRight g.rotates rotates) (all_acts RotateRight g.rotates_right right)) (all_acts RotateLeft g.rotates_left left))
-      (all_acts Reset g.resets resets)
+  all_group_acts g rotates right left resets = search (rules, All-append, all_acts)
 
 -- ---- effect lists
 
@@ -87,14 +80,7 @@ module _ (Q : List Effect → Type 0) (p : Profile) where
 
   pub all_group_lists : (name : List ℕ) (shots : List (List ℕ)) → All (λ own. InEachState (shot_events own p.name)) shots → InEachState (group_events (codes "_hit") name) → InEachState (group_events (codes "_complete") name)
       → All Q (group_lists p name shots)
-  all_group_lists name shots each hit complete =
-      let of_shots = flat_map (shot_lists p) shots in
-      let of_hits = state_lists (codes "_hit") p name in
-      All-append Q (of_shots ++ of_hits) (state_lists (codes "_complete") p name)
-      (All-append Q of_shots of_hits
-      (All-flat_map Q (shot_lists p) shots (All-weaker (λ own. InEachState (shot_events own p.name)) (λ own. All Q (shot_lists p own)) (λ own k. all_shot_lists own k) shots each))
-      (all_state_lists (codes "_hit") name hit))
-      (all_state_lists (codes "_complete") name complete)
+  all_group_lists name shots each hit complete = search (rules, name, shots, All-append, All-flat_map, All-weaker, all_shot_lists, all_state_lists)
 
 -- each of their effects is a post
 module _ (R : Effect → Type 0) (posted : (n : List ℕ) → R (posts n)) (p : Profile) where
@@ -127,8 +113,7 @@ module _ (p : Profile) where
   shot_lists_few name = all_shot_lists IsFew p name (few_of_shot name)
 
   pub group_lists_few : (name : List ℕ) (shots : List (List ℕ)) → All IsFew (group_lists p name shots)
-  group_lists_few name shots =
-      all_group_lists IsFew p name shots (All-every (λ own. InEachState IsFew p (shot_events own p.name)) few_of_shot shots) (few_of_state (codes "_hit") name) (few_of_state (codes "_complete") name)
+  group_lists_few name shots = search (rules, name, shots, all_group_lists, All-every, few_of_shot, few_of_state)
 
 -- ---- settings
 
@@ -143,9 +128,7 @@ pub record IsShortGroup (g : ShotGroup) (m : Members) : Type 0 where
   pub enabled : length m.enabled ≡ 16
 
 pub flags_of : (bs : List Bool) → length (flags bs) ≡ 16
-flags_of bs =
-    let more = replicate 16 false in
-    length-take-le 16 (bs ++ more) (omega (arith, length-append bs more, length-replicate 16 false))
+flags_of bs = search (rules, length-take-le, length-append, length-replicate)
 
 pub bank_within : (p : Profile) (shots : ℕ) (enabled : List Bool) (group : Bool) → shots ≤ 16 → IsShortProfile p → length enabled ≡ 16 → IsWithinLimits (bank_settings p shots enabled group)
 bank_within p shots enabled group few short same = (few, omega (arith, short), same)
@@ -173,8 +156,7 @@ module _ (Q : Profile → Type 0) (standard : Q standard_profile) where
   latest_such name (p ∷ ps) found h all = latest_such name ps (latest_profile name found p) (by (bytes_eq name p.name)) (All-tail Q p ps all)
     where
       by : (b : Bool) → IfSome (if b then Some p else found) Q
-      by true = All-head Q p ps all
-      by false = h
+      by x1 = search rules
 
   abbrev pub InSection : SectionRows → Type 0
   InSection s = All (λ p. Q (profile_of p)) (shot_profiles_in s)
@@ -187,8 +169,7 @@ module _ (Q : Profile → Type 0) (standard : Q standard_profile) where
         (latest_such name (map profile_of written) None tt (All-map Q profile_of written (All-flat_map (λ p. Q (profile_of p)) shot_profiles_in (all_sections rows) all))) standard
 
     found_if : (o : Option Shot) → Q (profile_if rows o)
-    found_if None = found_such default_profile
-    found_if (Some s) = found_such s.profile.text
+    found_if x1 = search (rules, found_such)
 
     pub first_such : (ws : List Written) → Q (first_profile rows ws)
     first_such [] = found_if None

@@ -1,5 +1,5 @@
 -- What is collected of the entries of shots and of their groups, part after part.
-use Rattle.std.proofs.Common.{◌≡◌, ℕ, suc, ◌+◌, ◌*◌, ◌<◌, List, [], ◌∷◌, ◌++◌, length, map, drop, get_or, sym, ◌∙◌, ap, arith}
+use Rattle.std.proofs.Common.{rules, ◌≡◌, ℕ, suc, ◌+◌, ◌*◌, ◌<◌, List, [], ◌∷◌, ◌++◌, length, map, drop, get_or, sym, ◌∙◌, ap, arith}
 use Rattle.std.specs.List.{flat_map}
 use Rattle.std.specs.Borrow.{Bor}
 use Rattle.std.proofs.lemmas.List.{append_assoc, drop_more, length-append}
@@ -14,20 +14,12 @@ use Rattle.row_contributions.specs.Contributions.{effects_from}
 
 -- some effect lists, and then others
 pub effects-append : (k : ℕ) (xs ys : List (List Effect)) → effects_from k (xs ++ ys) ≡ effects_from k xs ++ effects_from (k + length xs) ys
-effects-append k [] ys =
-    let none : k ≡ k + 0 = omega arith in
-    ap (λ n. effects_from n ys) none
-effects-append k (es ∷ rest) ys =
-    let next : suc k + length rest ≡ k + suc (length rest) = omega arith in
-    ap (λ l. map (does_in k) es ++ l) (effects-append (suc k) rest ys ∙ ap (λ n. effects_from (suc k) rest ++ effects_from n ys) next)
-    ∙ sym (append_assoc (map (does_in k) es) (effects_from (suc k) rest) (effects_from (k + suc (length rest)) ys))
+effects-append k [] ys = search rules
+effects-append k (es ∷ rest) ys = search (rules, append_assoc, effects-append (suc k) rest ys)
 
 -- what is collected of some lists, and then of others
 pub lists_after : (old : List Contribution) (k n : ℕ) (xs ys : List (List Effect)) → n ≡ k + length xs → (old ++ effects_from k xs) ++ effects_from n ys ≡ old ++ effects_from k (xs ++ ys)
-lists_after old k n xs ys next =
-    ap (λ m. (old ++ effects_from k xs) ++ effects_from m ys) next
-    ∙ append_assoc old (effects_from k xs) (effects_from (k + length xs) ys)
-    ∙ ap (λ l. old ++ l) (sym (effects-append k xs ys))
+lists_after old k n xs ys next = search (rules, append_assoc, effects-append)
 
 -- ---- states
 
@@ -38,13 +30,7 @@ lists_of f states = map f (names_view states)
 -- one state, and then the others
 pub state_next : (f : List ℕ → List Effect) (old : List Contribution) (k : ℕ) (states : List (Bor (List ℕ))) (i : ℕ) (d : Bor (List ℕ)) → i < length states
     → (old ++ map (does_in k) (f (get_or states i d).now)) ++ effects_from (k + 1) (lists_of f (drop (i + 1) states)) ≡ old ++ effects_from k (lists_of f (drop i states))
-state_next f old k states i d within =
-    let here = map (does_in k) (f (get_or states i d).now) in
-    let later = lists_of f (drop (i + 1) states) in
-    let next : k + 1 ≡ suc k = omega arith in
-    append_assoc old here (effects_from (k + 1) later)
-    ∙ ap (λ n. old ++ (here ++ effects_from n later)) next
-    ∙ ap (λ l. old ++ effects_from k (lists_of f l)) (sym (drop_more states i d within))
+state_next f old k states i d within = search (rules, get_or, append_assoc, drop_more)
 
 -- ---- shots
 

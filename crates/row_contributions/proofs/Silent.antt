@@ -1,19 +1,19 @@
 -- What contributions tell that only some of them tell: where none but a coil's and a row's tells any of it, it is the
 -- coils and the rows that are told.
-use Rattle.std.proofs.Common.{◌≡◌, ℕ, suc, Bool, true, false, if◌then◌else◌, List, [], ◌∷◌, ◌++◌, Option, None, Some, map, refl, ◌∙◌, ap, true≢false, codes}
+use Rattle.std.proofs.Common.{rules, ◌≡◌, ℕ, suc, Bool, true, false, if◌then◌else◌, List, [], ◌∷◌, ◌++◌, Option, None, Some, map, refl, ◌∙◌, ap}
 use Rattle.std.specs.Str.{bytes_eq}
 use Rattle.std.specs.List.{flat_map}
 use Rattle.std.proofs.lemmas.Grind.{flat_map-append}
 use Rattle.std.proofs.lemmas.List.{append-nil}
 use Rattle.mpf_values.specs.Events.{Condition, Event}
 use Rattle.mpf_sections.specs.Rows.{Written, Entry, Player, Switch, EventPlayer, CoilPlayer, VariablePlayer, VariableItem, GameSettings, Shot, ShotGroup, BallDevice, ModeSettings, SectionRows}
-use Rattle.mpf_sections.specs.TypedGame.{variable_player_name, game_name, variable_player_of, game_of, min_balls_of}
+use Rattle.mpf_sections.specs.TypedGame.{min_balls_of}
 use Rattle.machine_definitions.specs.GameEvents.{game_event_names}
 use Rattle.machine_definitions.specs.Players.{player_event}
 use Rattle.plan_tables.specs.declared.devices.Act.{Act}
 use Rattle.row_contributions.specs.VariableEntries.{item_change}
-use Rattle.mpf_sections.specs.Typed.{switches_name, event_player_name, switch_of, event_player_of}
-use Rattle.mpf_sections.specs.TypedCoils.{coils_name, coil_player_name, coil_of, coil_player_of}
+use Rattle.mpf_sections.specs.Typed.{switches_name, switch_of}
+use Rattle.mpf_sections.specs.TypedCoils.{coils_name, coil_of}
 use Rattle.plan_tables.specs.declared.devices.Settings.{Settings}
 use Rattle.plan_tables.specs.declared.entries.ModeEvent.{ModeEvent}
 use Rattle.plan_tables.specs.declared.entries.ModeEvent.TheVariants.{Starting, Started, Stopping, Stopped}
@@ -21,20 +21,20 @@ use Rattle.plan_tables.specs.declared.entries.SwitchKind.{SwitchKind}
 use Rattle.plan_rows.specs.declared.place.Place.{Place}
 use Rattle.plan_rows.specs.declared.place.Place.TheVariants.{Machine, Control, Mode}
 use Rattle.plan_contributions.specs.declared.contribution.Aim.{Aim}
-use Rattle.plan_contributions.specs.declared.contribution.Aim.TheVariants.{Run, Start, Stop, Do, On}
+use Rattle.plan_contributions.specs.declared.contribution.Aim.TheVariants.{Run, Do}
 use Rattle.plan_tables.specs.declared.table.Table.TheVariants.{Events, Switches}
 use Rattle.row_contributions.specs.CoilEntries.{item_effect}
 use Rattle.plan_contributions.specs.Effects.{Effect, posts}
 use Rattle.row_contributions.specs.DeviceEntries.{device_of}
 use Rattle.machine_definitions.specs.Shots.{Profile}
-use Rattle.row_contributions.specs.ShotEntries.{shot_acts, bank_settings, lone_device, group_device}
-use Rattle.row_contributions.specs.BallEntries.{ball_device_from, is_known}
+use Rattle.row_contributions.specs.ShotEntries.{lone_device, group_device}
+use Rattle.row_contributions.specs.BallEntries.{ball_device_from}
 use Rattle.plan_rows.specs.declared.destination.Destination.{Destination}
 use Rattle.plan_rows.specs.Seats.{Seat}
-use Rattle.plan_rows.specs.Members.{flags, is_enabled, Members}
+use Rattle.plan_rows.specs.Members.{Members}
 use Rattle.plan_contributions.specs.Contributions.{Contribution, gives, reads, active, inactive, mode, mode_event, binds, does, device, does_in, listens, mentions, unknown, under, plays}
-use Rattle.row_contributions.specs.Contributions.{under_where, bound, always, kind_of, confirms, texts, events, active_posts, inactive_posts, switch_contributions, player_contributions, coil_contributions, coil_player_contributions, item_contributions, variable_player_contributions, game_contributions, starter, stopper, stopper_where, later_events, stops_at_ball_end, stops_at_game_end, controls, mode_contributions, Device, act_binding, listens_from, effects_from, device_contributions, where_device, machine_device, unknown_unless, shot_switch, act_at, seated, shot_contributions, group_contributions, ball_device_contributions, machine_entry_contributions, entry_contributions, alone_contributions, player_entry_contributions, row_contributions, given_by}
-use Rattle.plan_rows.specs.Rows.{Row, entry, alone, shot, group, ball_device, player, of_mode}
+use Rattle.row_contributions.specs.Contributions.{under_where, bound, kind_of, confirms, texts, events, active_posts, inactive_posts, switch_contributions, player_contributions, coil_contributions, coil_player_contributions, item_contributions, variable_player_contributions, game_contributions, stopper_where, later_events, controls, mode_contributions, Device, act_binding, listens_from, effects_from, device_contributions, where_device, machine_device, unknown_unless, shot_switch, seated, shot_contributions, group_contributions, ball_device_contributions, machine_entry_contributions, entry_contributions, alone_contributions, player_entry_contributions, row_contributions, given_by}
+use Rattle.plan_rows.specs.Rows.{Row, entry, shot, group, ball_device}
 
 -- each contribution but a coil's and a row's tells nothing
 pub record IsSilent {X : Type 0} (tell : Contribution → List X) : Type 0 where
@@ -77,8 +77,7 @@ module _ {X : Type 0} (tell : Contribution → List X) (silent : IsSilent tell) 
   each_all f none (y ∷ ys) = both (f y) (flat_map f ys) (none y) (each_all f none ys)
 
   when : (b : Bool) (cs ds : List Contribution) → TellsNone cs → TellsNone ds → TellsNone (if b then cs else ds)
-  when true cs ds none other = none
-  when false cs ds none other = other
+  when x1 cs ds none other = search rules
 
   -- ---- each row
 
@@ -116,8 +115,7 @@ module _ {X : Type 0} (tell : Contribution → List X) (silent : IsSilent tell) 
 
   in_variable_player : (place : Place) (p : VariablePlayer) → TellsNone (variable_player_contributions place p)
   unfolding variable_player_contributions
-  in_variable_player place p =
-      both (bound p.event.event place Run) (flat_map item_contributions p.items) (in_bound p.event.event place Run) (each_all item_contributions in_item p.items)
+  in_variable_player place p = search (rules, both, bound, in_bound, each_all, in_item)
 
   in_game : (machine : List SectionRows) (g : GameSettings) → TellsNone (game_contributions machine g)
   unfolding game_contributions
@@ -157,8 +155,7 @@ module _ {X : Type 0} (tell : Contribution → List X) (silent : IsSilent tell) 
   told_where place (Some d) = told_row place d
 
   in_where : (place : Place) (o : Option Device) → Tells (where_device place o) (told_where place o)
-  in_where place None = refl
-  in_where place (Some d) = in_device place d
+  in_where place x2 = search (rules, in_device)
 
   -- an entry of the machine text tells what a coil does, where it is one
   abbrev pub told_machine : List SectionRows → List ℕ → Entry → List X
@@ -171,9 +168,7 @@ module _ {X : Type 0} (tell : Contribution → List X) (silent : IsSilent tell) 
     where
       by : (c s : Bool) → Tells (if c then coil_contributions (coil_of e) else (if s then switch_contributions machine (switch_of e) else where_device Machine (machine_device machine section e)))
           (if c then flat_map tell (coil_contributions (coil_of e)) else (if s then [] else told_where Machine (machine_device machine section e)))
-      by true s = refl
-      by false true = in_switch machine (switch_of e)
-      by false false = in_where Machine (machine_device machine section e)
+      by x1 x2 = search (rules, in_switch, in_where)
 
   abbrev pub told_entry : List SectionRows → Place → List ℕ → Entry → List X
   told_entry machine Machine section e = told_machine machine section e
@@ -182,38 +177,21 @@ module _ {X : Type 0} (tell : Contribution → List X) (silent : IsSilent tell) 
 
   in_entry : (machine : List SectionRows) (place : Place) (section : List ℕ) (e : Entry) → Tells (entry_contributions machine place section e) (told_entry machine place section e)
   unfolding entry_contributions
-  in_entry machine Machine section e = in_machine_entry machine section e
-  in_entry machine Control section e = in_where Control (device_of section e)
-  in_entry machine Mode section e = in_where Mode (device_of section e)
+  in_entry machine x2 section e = search (rules, in_machine_entry, in_where)
 
   in_player_entry : (machine : List SectionRows) (place : Place) (section : List ℕ) (p : Player) → TellsNone (player_entry_contributions machine place section p)
   unfolding player_entry_contributions
-  in_player_entry machine place section p =
-      let item = coil_player_contributions machine place (coil_player_of p) in
-      let change = variable_player_contributions place (variable_player_of p) in
-      let last = if bytes_eq section variable_player_name then change else [] in
-      when (bytes_eq section event_player_name) (player_contributions place (event_player_of p)) (if bytes_eq section coil_player_name then item else last) (in_player place (event_player_of p))
-      (when (bytes_eq section coil_player_name) item last (in_coil_player machine place (coil_player_of p))
-      (when (bytes_eq section variable_player_name) change [] (in_variable_player place (variable_player_of p)) refl))
+  in_player_entry machine place section p = search (rules, when, in_player, in_coil_player, in_variable_player)
 
   in_alone : (machine : List SectionRows) (place : Place) (section : List ℕ) (e : Entry) → TellsNone (alone_contributions machine place section e)
   unfolding alone_contributions
-  in_alone machine Machine section e = when (bytes_eq section game_name) (game_contributions machine (game_of e)) [] (in_game machine (game_of e)) refl
-  in_alone machine _ section e = refl
+  in_alone machine x2 section e = search (rules, when, in_game)
 
   in_stopper : (holds : Bool) (name : List ℕ) → TellsNone (stopper_where holds name)
-  in_stopper true name = in_bound (always name) Control Stop
-  in_stopper false name = refl
+  in_stopper x1 name = search rules
 
   in_controls : (s : ModeSettings) → TellsNone (controls s)
-  in_controls s =
-      let starts = flat_map starter (events s.starts) in
-      let stops = flat_map stopper (events s.stops) in
-      let ball = stopper_where (stops_at_ball_end s) (codes "ball_ending") in
-      let game = stopper_where (stops_at_game_end s) (codes "game_ending") in
-      both (starts ++ stops ++ ball) game
-      (both (starts ++ stops) ball (both starts stops (each_all starter (λ e. in_bound e Control Start) (events s.starts)) (each_all stopper (λ e. in_bound e Control Stop) (events s.stops))) (in_stopper (stops_at_ball_end s) (codes "ball_ending")))
-      (in_stopper (stops_at_game_end s) (codes "game_ending"))
+  in_controls s = search (rules, events, both, each_all, in_bound, in_stopper)
 
   in_later : (name : List ℕ) → TellsNone (later_events name)
   in_later name =
@@ -233,12 +211,7 @@ module _ {X : Type 0} (tell : Contribution → List X) (silent : IsSilent tell) 
   told_shot place s (Some seat) p = []
 
   in_seated : (place : Place) (p : Profile) (s : Shot) (seat : Option Seat) → Tells (seated place p s seat) (told_shot place s seat p)
-  in_seated place p s None = in_device place (lone_device p s)
-  in_seated place p s (Some seat) = each_all (act_at place (Some seat.row)) (λ (h : Event × Act). in_bound h.0 place (On seat.row h.1)) (shot_acts seat.shot s)
-
-  -- what is unknown, and the switch of a shot, before others
-  after_none : (cs ds : List Contribution) (xs : List X) → TellsNone cs → Tells ds xs → Tells (cs ++ ds) xs
-  after_none cs ds xs none others = flat_map-append tell cs ds ∙ (λ i. none i ++ others i)
+  in_seated place p s x4 = search (rules, in_device, each_all, in_bound)
 
   in_unknown : (known : Bool) → TellsNone (unknown_unless known)
   in_unknown true = refl
@@ -250,20 +223,15 @@ module _ {X : Type 0} (tell : Contribution → List X) (silent : IsSilent tell) 
 
   in_shot : (place : Place) (s : Shot) (seat : Option Seat) (known : Bool) (p : Profile) → Tells (shot_contributions place s seat known p) (told_shot place s seat p)
   unfolding shot_contributions
-  in_shot place s seat known p =
-      after_none (unknown_unless known) (shot_switch s.switch ++ seated place p s seat) (told_shot place s seat p) (in_unknown known)
-      (after_none (shot_switch s.switch) (seated place p s seat) (told_shot place s seat p) (in_shot_switch s.switch) (in_seated place p s seat))
+  in_shot place s seat known p = search (rules, flat_map-append, in_unknown, in_shot_switch, in_seated)
 
   in_group : (place : Place) (g : ShotGroup) (m : Members) → Tells (group_contributions place g m) (told_row place (group_device g m))
   unfolding group_contributions
-  in_group place g m =
-      after_none (unknown_unless m.all_known) (device_contributions place (group_device g m)) (told_row place (group_device g m)) (in_unknown m.all_known) (in_device place (group_device g m))
+  in_group place g m = search (rules, flat_map-append, in_unknown, in_device)
 
   in_ball_device : (machine : List SectionRows) (d : BallDevice) (to : Destination) → Tells (ball_device_contributions machine d to) (told_row Machine (ball_device_from machine d to))
   unfolding ball_device_contributions
-  in_ball_device machine d to =
-      let own = ball_device_from machine d to in
-      after_none (unknown_unless (is_known to)) (device_contributions Machine own) (told_row Machine own) (in_unknown (is_known to)) (in_device Machine own)
+  in_ball_device machine d to = search (rules, flat_map-append, in_unknown, in_device)
 
   -- ---- all rows
 
@@ -276,13 +244,7 @@ module _ {X : Type 0} (tell : Contribution → List X) (silent : IsSilent tell) 
     told _ = []
 
     pub row_tells : (r : Row) → Tells (row_contributions machine r) (told r)
-    row_tells (entry place section e) = in_entry machine place section e
-    row_tells (alone place section e) = in_alone machine place section e
-    row_tells (shot place s seat known p) = in_shot place s seat known p
-    row_tells (group place g m) = in_group place g m
-    row_tells (ball_device d to) = in_ball_device machine d to
-    row_tells (player place section p) = in_player_entry machine place section p
-    row_tells (of_mode name s) = in_mode name s
+    row_tells x1 = search (rules, in_entry, in_alone, in_shot, in_group, in_ball_device, in_player_entry, in_mode)
 
     pub rows_tell : (rs : List Row) → Tells (given_by machine rs) (flat_map told rs)
     rows_tell [] = refl
@@ -290,21 +252,9 @@ module _ {X : Type 0} (tell : Contribution → List X) (silent : IsSilent tell) 
 
   -- where rows tell nothing either, no entry does but a coil of the machine text
   module _ (none : (place : Place) (settings : Settings) → tell (device place settings) ≡ []) (machine : List SectionRows) where
-    pub none_where : (place : Place) (o : Option Device) → told_where place o ≡ []
-    none_where place None = refl
-    none_where place (Some d) = none place d.settings
 
     pub none_machine : (section : List ℕ) (e : Entry) → bytes_eq section coils_name ≡ false → told_machine machine section e ≡ []
     none_machine section e other = by (bytes_eq section coils_name) (bytes_eq section switches_name) other
       where
         by : (c s : Bool) → c ≡ false → (if c then flat_map tell (coil_contributions (coil_of e)) else (if s then [] else told_where Machine (machine_device machine section e))) ≡ []
-        by true s is = absurd (true≢false is)
-        by false true is = refl
-        by false false is = none_where Machine (machine_device machine section e)
-
-    pub none_mode : (section : List ℕ) (e : Entry) → told_entry machine Mode section e ≡ []
-    none_mode section e = none_where Mode (device_of section e)
-
-    pub none_shot : (place : Place) (s : Shot) (seat : Option Seat) (p : Profile) → told_shot place s seat p ≡ []
-    none_shot place s None p = none place (bank_settings p 1 (flags (is_enabled s ∷ [])) false)
-    none_shot place s (Some seat) p = refl
+        by x1 x2 is = search rules

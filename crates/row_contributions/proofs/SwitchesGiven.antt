@@ -1,5 +1,5 @@
 -- Each switch of the machine text is given by contributions.
-use Rattle.std.proofs.Common.{◌≡◌, ℕ, Bool, true, false, ◌||◌, if◌then◌else◌, List, [], ◌∷◌, ◌++◌, map, refl, sym, ◌∙◌, ap, subst, inl, inr, true≢false}
+use Rattle.std.proofs.Common.{rules, ◌≡◌, ℕ, Bool, true, false, ◌||◌, if◌then◌else◌, List, [], ◌∷◌, ◌++◌, map, refl, sym, ◌∙◌, ap, inl, inr, true≢false}
 use Rattle.std.specs.Prelude.{Option}
 use Rattle.std.specs.Str.{bytes_eq}
 use Rattle.std.specs.List.{flat_map, list_any}
@@ -8,7 +8,6 @@ use Rattle.std.proofs.lemmas.Grind.{flat_map-append}
 use Rattle.std.proofs.lemmas.List.Folds.{list_any-append}
 use Rattle.std.proofs.lemmas.Slice.Eq.{bytes_eq-Decides}
 use Rattle.mpf_sections.specs.Rows.{Entry, Switch, Content, entries, SectionRows}
-use Rattle.mpf_sections.specs.Rows as sections
 use Rattle.mpf_sections.specs.Typed.{switches_name, switch_of, switches_in}
 use Rattle.mpf_config.specs.Rows.{Rows}
 use Rattle.plan_tables.specs.declared.table.Table.TheVariants.{Switches}
@@ -60,16 +59,14 @@ module _ (n : List ℕ) (rows : Rows) (seat : List ℕ → Option Seat) (to : Li
       ∙ or_weaker (is_it (switch_of e)) (list_any is_it (map switch_of es)) _ _ (of_switch e) (of_entries es) is
 
   none_named : (b : Bool) → list_any is_it (map switch_of (if b then [] else [])) ≡ false
-  none_named true = refl
-  none_named false = refl
+  none_named x1 = search rules
 
   of_content : (name : List ℕ) (content : Content) → list_any is_it (switches_in (record { name = name; content = content })) ≡ true → given_in (rows_from rows Machine seat to name content) ≡ true
   unfolding switches_in
   of_content name (entries es) is = by (bytes_eq name switches_name) refl is
     where
       by : (b : Bool) → bytes_eq name switches_name ≡ b → list_any is_it (map switch_of (if b then es else [])) ≡ true → given_in (map (row_of name) es) ≡ true
-      by true same is = subst (λ (m : List ℕ). given_in (map (row_of m) es) ≡ true) (sym ((bytes_eq-Decides name switches_name).0 same)) (of_entries es is)
-      by false same is = absurd (true≢false (sym is))
+      by x1 same is = search (rules, bytes_eq-Decides, of_entries)
   of_content name _ is = absurd (true≢false (sym is ∙ none_named (bytes_eq name switches_name)))
 
   of_sections : (ss : List SectionRows) → list_any is_it (flat_map switches_in ss) ≡ true → given_in (rows_in rows Machine seat to ss) ≡ true

@@ -1,5 +1,5 @@
 -- Names of which none stands twice.
-use Rattle.std.proofs.Common.{◌≡◌, ◌≢◌, ℕ, ◌+◌, ◌-◌, ◌<◌, Bool, true, false, ◌&&◌, ◌||◌, not, List, [], ◌∷◌, length, map, take, drop, length-drop, get_or, refl, sym, ap, ◌∙◌, arith}
+use Rattle.std.proofs.Common.{rules, ◌≡◌, ◌≢◌, ℕ, ◌+◌, ◌-◌, ◌<◌, Bool, true, false, ◌&&◌, ◌||◌, not, List, [], ◌∷◌, length, map, take, drop, length-drop, get_or, refl, sym, ap, ◌∙◌, arith}
 use Rattle.std.specs.List.{AllPairs, AllByRecursion, IsDistinct, list_any}
 use Rattle.std.specs.Str.{bytes_eq}
 use Rattle.std.proofs.lemmas.List.{take_all}
@@ -14,12 +14,10 @@ use Rattle.section_tables.proofs.Finding.{cut}
 -- ---- what it means
 
 none_and : (a b : Bool) → not a && b ≡ true → (a ≡ false) × (b ≡ true)
-none_and true b e = absurd cc
-none_and false b e = (refl, e)
+none_and x1 b e = search rules
 
 neither : (a b : Bool) → a || b ≡ false → (a ≡ false) × (b ≡ false)
-neither true b e = absurd cc
-neither false b e = (refl, e)
+neither x1 b e = search rules
 
 none_passes : (p : List ℕ → Bool) (ks : List (List ℕ)) → list_any p ks ≡ false → AllByRecursion (λ k. p k ≡ false) ks
 none_passes p [] e = tt

@@ -1,8 +1,8 @@
 -- The nodes of a YAML list that count as items, good or bad, are no more than the items that are read.
-use Rattle.std.proofs.Common.{◌≡◌, ℕ, ◌+◌, ◌<◌, ◌≤◌, ◌==◌, Bool, true, false, List, [], ◌∷◌, length, map, filter, drop, get_or, Some, refl, ap, ◌∙◌, arith}
+use Rattle.std.proofs.Common.{rules, ◌≡◌, ℕ, ◌+◌, ◌<◌, ◌≤◌, ◌==◌, Bool, true, false, List, [], ◌∷◌, length, map, filter, drop, get_or, Some, refl, ap, ◌∙◌, arith}
 use Rattle.std.proofs.lemmas.Option.{same_Some, none-some}
 use Rattle.yaml_subset.specs.declared.tree.Tree.{Tree}
-use Rattle.yaml_subset.specs.Node.{Node, scalar, sequence, mapping, list_nodes}
+use Rattle.yaml_subset.specs.Node.{Node, scalar, sequence, mapping}
 use Rattle.yaml_subset.specs.View.{items_in, node_view}
 use Rattle.mpf_values.specs.Lists.{Item, item_at}
 use Rattle.mpf_values.specs.Reading.{◌>>=◌, scalar_at, onto_list, scalars_at, list_at}
@@ -43,9 +43,7 @@ count_scalars (node ∷ nodes) items e =
 
 pub count_few : (node : Node) (items : List Item) → list_at node ≡ Some items → count_of (items_in node) ≤ length items
 unfolding list_at
-count_few (scalar line text) items e = omega arith
-count_few (sequence line nodes) items e = count_scalars (list_nodes nodes) items e
-count_few (mapping line pairs) items e = omega arith
+count_few x1 items e = search (rules, count_scalars)
 
 -- ---- node by node
 

@@ -1,5 +1,5 @@
 -- What a call for each element gave, and what reading each element gives.
-use Rattle.std.proofs.Common.{◌≡◌, ℕ, zero, suc, ◌+◌, ◌<◌, Bool, true, false, cond, List, [], ◌∷◌, ◌++◌, length, take, drop, get_or, map, filter, Result, Ok, Err, refl, sym, ap, subst, ◌∙◌, inl, inr, arith, append-nil}
+use Rattle.std.proofs.Common.{rules, ◌≡◌, ℕ, zero, suc, ◌+◌, ◌<◌, Bool, true, false, cond, List, [], ◌∷◌, ◌++◌, length, take, drop, get_or, map, filter, Result, Ok, Err, refl, sym, ap, subst, ◌∙◌, inl, inr, arith, append-nil}
 use Rattle.std.specs.List.{AllZip}
 use Rattle.std.specs.Borrow.{Bor}
 use Rattle.std.specs.Fn.{Shared, FnReturnsAt}
@@ -84,14 +84,10 @@ module _ {A B X Y : Type 0} (gave : A → Result B ConfigFault → Type 0) (seen
   one_failed (faults.Bundle g) (x ∷ xs) (inr h) = rw (one x (Ok h.0) h.1, one_failed (faults.Bundle g) xs h.2) refl
 
   gives_all : (xs : List A) (r : Result (Vec B) ConfigFault) → GaveUpTo gave xs r → GivesRows (λ ys. map view ys.items) r (each_read f (map seen xs))
-  gives_all xs (Ok ys) h = all_gave xs ys.items h
-  gives_all xs (Err faults.NoMemory) h = tt
-  gives_all xs (Err (faults.Bundle g)) (inl h) = absurd (let no : faults.Bundle g ≡ faults.NoMemory = h in cc)
-  gives_all xs (Err (faults.Bundle g)) (inr h) = one_failed (faults.Bundle g) xs h
+  gives_all xs x2 x3 = search (rules, all_gave, one_failed)
 
 -- what each call of a function gave is what reading each gives
 pub gives_each : {F A B X Y : Type 0} {g : Shared F (Bor A × Unit {0}) (Result B ConfigFault)} {f : F} (seen : A → X) (view : B → Y) (read : X → Result Y RowsFault)
     (xs : List A) (r : Result (Vec B) ConfigFault) → GaveEach (FnReturnsAt g f) xs r
     → ((p : Bor A) (s : Result B ConfigFault) → g.post f (p, tt) s → GivesRows view s (read (seen p.now))) → GivesRows (λ ys. map view ys.items) r (each_read read (map seen xs))
-gives_each {g = g} {f = f} seen view read xs r h one =
-    gives_all (FnReturnsAt g f) seen view read (λ x s k. subst (λ z. GivesRows view s (read (seen z))) k.shows (one k.shown s k.says.met)) xs r h.up_to
+gives_each {g = g} {f = f} seen view read xs r h one = search (rules, gives_all)

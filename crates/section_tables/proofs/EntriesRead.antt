@@ -1,5 +1,5 @@
 -- The entries of a section are those that are read, and no others.
-use Rattle.std.proofs.Common.{◌≡◌, ◌<◌, ℕ, Bool, true, false, List, Ok, refl, sym, subst, ◌∙◌, inl, true≢false}
+use Rattle.std.proofs.Common.{rules, ◌≡◌, ◌<◌, ℕ, Bool, false, List, Ok, refl, sym, subst, ◌∙◌, inl, true≢false}
 use Rattle.yaml_subset.specs.Node.{Node, Pair}
 use Rattle.mpf_values.specs.Reading.{is_name}
 use Rattle.mpf_values.proofs.NameTexts.{IsName-from_is_name, is_name-from_IsName}
@@ -9,7 +9,7 @@ use Rattle.section_tables.specs.Kinds.{at_least, Setting, PlayerKinds}
 use Rattle.section_tables.specs.Entries.{pairs_below, is_ignored, written_at}
 use Rattle.section_tables.specs.Tables.{setting_key, setting_default, setting_lacks}
 use Rattle.section_tables.specs.EntryOf.{IsWritten, IsSetting, IsOneOf, places_written, IsEntry, IsOtherEntry, AreEntries, IsPlayer, ArePlayers, AreNamesListed}
-use Rattle.section_tables.specs.Reading.{most_items, IsReadOr, IsReadOrLong, ◌>>=◌, key_spot, expect, each_read, scalar_of, value_at, setting_at, values_at, is_one_of, entry_at, other_entry_at, entries_at, player_at, players_at, written_in, names_at}
+use Rattle.section_tables.specs.Reading.{most_items, IsReadOr, IsReadOrLong, ◌>>=◌, key_spot, expect, each_read, setting_at, values_at, is_one_of, entry_at, other_entry_at, entries_at, player_at, players_at, written_in, names_at}
 use Rattle.config_faults.specs.Faults.{Spot, rows_fault_at}
 use Rattle.section_tables.proofs.Steps.{bind_ok, guard_true, guard_false, ok_is, expected}
 use Rattle.section_tables.proofs.Outcomes.{then_or, each_sound, each_or}
@@ -59,8 +59,7 @@ other_sound text barred table p e is =
     record { other = λ one. true≢false (sym (among_complete barred p.key one) ∙ a.0); entry = entry_sound text table p e a.1 }
 
 none_among : (barred : List (List ℕ)) (key : List ℕ) (b : Bool) → is_one_of barred key ≡ b → (IsOneOf barred key → ⊥) → is_one_of barred key ≡ false
-none_among barred key true is none = absurd (none (among_sound barred key is))
-none_among barred key false is none = is
+none_among barred key x3 is none = search (rules, among_sound)
 
 other_complete : (text : List ℕ) (barred : List (List ℕ)) (table : List Setting) (p : Pair) (longest : ℕ) (e : Entry) → IsOtherEntry longest barred table p e → IsReadOrLong longest (other_entry_at text barred table p) e
 unfolding other_entry_at
@@ -84,20 +83,11 @@ player_made key value = record { event = key; value = value }
 
 player_sound : (text : List ℕ) (kinds : PlayerKinds) (p : Pair) (row : Player) → player_at text kinds p ≡ Ok row → IsPlayer 1024 kinds p row
 unfolding player_at
-player_sound text kinds p row e =
-    let spot = key_spot text p in
-    let key = scalar_of kinds.key p.line p.key in
-    let a = bind_ok (expect spot key) (λ event. value_at kinds.value spot p.value >>= λ value. Ok (player_made event value)) row e in
-    let b = bind_ok (value_at kinds.value spot p.value) (λ value. Ok (player_made a.0 value)) row a.2 in
-    subst (IsPlayer 1024 kinds p) (ok_is (player_made a.0 b.0) row b.2)
-    (record { key = scalar_sound kinds.key p.line p.key a.0 (expected spot key a.0 a.1); value = value_sound kinds.value spot p.value b.0 b.1 })
+player_sound text kinds p row e = search (rules, bind_ok, ok_is, scalar_sound, value_sound)
 
 player_complete : (text : List ℕ) (kinds : PlayerKinds) (p : Pair) (longest : ℕ) (row : Player) → IsPlayer longest kinds p row → IsReadOrLong longest (player_at text kinds p) row
 unfolding player_at
-player_complete text kinds p longest row h =
-    rw (scalar_complete kinds.key p.line p.key row.event h.key)
-    (then_or (most_items < longest) (value_at kinds.value (key_spot text p) p.value) (λ value. Ok (player_made row.event value)) row.value row
-    (value_complete longest kinds.value (key_spot text p) p.value row.value h.value) (inl refl))
+player_complete text kinds p longest row h = search (rules, scalar_complete, then_or, value_complete)
 
 pub players_sound : (text : List ℕ) (kinds : PlayerKinds) (p : Pair) (rows : List Player) → players_at text kinds p ≡ Ok rows → ArePlayers 1024 kinds p rows
 unfolding players_at

@@ -1,5 +1,5 @@
 -- Looking for a key in a table, and for what is lacking in a row, from a place on.
-use Rattle.std.proofs.Common.{◌≡◌, ℕ, zero, suc, ◌+◌, ◌<◌, Bool, true, false, if◌then◌else◌, slice_get, List, [], ◌∷◌, length, drop, get_or, map, Option, Some, None, refl, sym, ap, ◌∙◌, arith, add-one}
+use Rattle.std.proofs.Common.{rules, ◌≡◌, ℕ, zero, suc, ◌+◌, ◌<◌, Bool, true, false, if◌then◌else◌, slice_get, List, [], ◌∷◌, length, drop, get_or, map, Option, Some, None, refl, sym, ◌∙◌, arith, add-one}
 use Rattle.std.specs.List.{list_any}
 use Rattle.std.specs.Str.{bytes_eq}
 use Rattle.std.proofs.Math.Seq.{drop-cons}
@@ -12,24 +12,17 @@ shifted i None = None
 shifted i (Some p) = Some (i + p.0, p.1)
 
 pub at_start : {T : Type 0} (o : Option (ℕ × T)) → shifted 0 o ≡ o
-at_start None = refl
-at_start (Some p) = let e : 0 + p.0 ≡ p.0 = omega arith in ap (λ n. Some (n, p.1)) e
+at_start x1 = search rules
 
 later : {T : Type 0} (i : ℕ) (o : Option (ℕ × T)) → shifted i (behind_one o) ≡ shifted (i + 1) o
-later i None = refl
-later i (Some p) = let e : i + suc p.0 ≡ (i + 1) + p.0 = omega arith in ap (λ n. Some (n, p.1)) e
+later i x2 = search rules
 
 module _ {T : Type 0} (key_of : T → List ℕ) (key : List ℕ) (i : ℕ) (all : List T) (total : Option (ℕ × T)) (so_far : shifted i (found_in key_of key all) ≡ total) where
   pub hits : (s : T) (ss : List T) → all ≡ s ∷ ss → bytes_eq (key_of s) key ≡ true → total ≡ Some (i, s)
-  hits s ss e h =
-      let zero_more : i + 0 ≡ i = omega arith in
-      let one : shifted i (found_in key_of key all) ≡ Some (i + 0, s) = rw (e, h) refl in
-      sym so_far ∙ one ∙ ap (λ n. Some (n, s)) zero_more
+  hits s ss e h = search rules
 
   pub misses : (s : T) (ss : List T) → all ≡ s ∷ ss → bytes_eq (key_of s) key ≡ false → shifted (i + 1) (found_in key_of key ss) ≡ total
-  misses s ss e h =
-      let one : shifted i (found_in key_of key all) ≡ shifted (i + 1) (found_in key_of key ss) = rw (e, h) (later i (found_in key_of key ss)) in
-      sym one ∙ so_far
+  misses s ss e h = search rules
 
   pub ends : all ≡ [] → total ≡ None
   ends e = let one : shifted i (found_in key_of key all) ≡ None = rw e refl in sym so_far ∙ one
@@ -45,10 +38,7 @@ any_here p f xs i d lt h so_far = sym so_far ∙ rw (cut xs i d lt, h) refl
 pub not_here : {S T X V : Type 0} (key_of : T → List ℕ) (lacks : T → V → Bool) (seen : S → T) (view : X → V) (table : List S) (row : List X) (i : ℕ) (d : S) (x : X) (total : Option (List ℕ))
     → i < length table → i < length row → x ≡ get_or row i x → lacks (seen (get_or table i d)) (view x) ≡ false
     → lacking key_of lacks (map seen (drop i table)) (map view (drop i row)) ≡ total → lacking key_of lacks (map seen (drop (i + 1) table)) (map view (drop (i + 1) row)) ≡ total
-not_here key_of lacks seen view table row i d x total lt less is h so_far =
-    let here : drop i row ≡ x ∷ drop (i + 1) row = cut row i x less ∙ ap (λ z. z ∷ drop (i + 1) row) (sym is) in
-    let one : lacking key_of lacks (map seen (drop i table)) (map view (drop i row)) ≡ lacking key_of lacks (map seen (drop (i + 1) table)) (map view (drop (i + 1) row)) = rw (cut table i d lt, here, h) refl in
-    sym one ∙ so_far
+not_here key_of lacks seen view table row i d x total lt less is h so_far = search (rules, cut)
 
 -- what is lacking from a place on: what lacks its value there, or is lacking later
 pub lacking_at : {S T V : Type 0} (key_of : T → List ℕ) (lacks : T → V → Bool) (seen : S → T) (table : List S) (row : List V) (i : ℕ) (d : S) → i < length table → length row ≡ length table

@@ -1,20 +1,20 @@
 -- Values that are texts or lists are those that are read, and no others.
-use Rattle.std.proofs.Common.{◌≡◌, ℕ, ◌<◌, ◌≤◌, nat_lt, Bool, true, false, if◌then◌else◌, List, length, Option, Some, Result, Ok, refl, sym, subst, inl, inr, arith}
-use Rattle.std.proofs.lemmas.Bool.{ltb-true, ltb-false}
+use Rattle.std.proofs.Common.{rules, ◌≡◌, ℕ, ◌<◌, ◌≤◌, nat_lt, Bool, true, false, List, length, Option, Some, Result, Ok, refl, inl, inr, arith}
+use Rattle.std.proofs.lemmas.Bool.{ltb-true}
 use Rattle.yaml_subset.specs.Node.{Node}
-use Rattle.yaml_subset.specs.View.{line_of, text_in, items_in}
+use Rattle.yaml_subset.specs.View.{line_of, items_in}
 use Rattle.mpf_values.specs.Lists.{Item}
-use Rattle.mpf_values.specs.Reading.{is_name, list_at, event_at}
+use Rattle.mpf_values.specs.Reading.{list_at, event_at}
 use Rattle.mpf_values.proofs.NameTexts.{IsName-from_is_name, is_name-from_IsName}
 use Rattle.mpf_values.proofs.EventTexts.{event_computes}
 use Rattle.mpf_values.proofs.ListNodes.{list_sound, list_complete}
-use Rattle.config_faults.specs.declared.fault.FaultKind.TheVariants.{BadValue, Limit}
+use Rattle.config_faults.specs.declared.fault.FaultKind.TheVariants.{Limit}
 use Rattle.section_tables.specs.Rows.{Written, Handled, Plain}
-use Rattle.config_faults.specs.Faults.{RowsFault, Spot, rows_fault_at, refused}
+use Rattle.config_faults.specs.Faults.{RowsFault, Spot, rows_fault_at}
 use Rattle.section_tables.specs.Kinds.{Scalar, Bounds, fits}
-use Rattle.section_tables.specs.Entries.{nodes_below, written_at, handled_at}
+use Rattle.section_tables.specs.Entries.{nodes_below, handled_at}
 use Rattle.section_tables.specs.EntryOf.{IsPlain, AreListed, AreNodes, IsWritten, IsHandled}
-use Rattle.section_tables.specs.Reading.{most_items, IsReadOr, IsReadOrLong, ◌>>=◌, expect, give, each_read, scalar_of, plain_at, written_in, handled_in, count_at, count_of, list_items_at, listed_at, list_nodes_at, nodes_at}
+use Rattle.section_tables.specs.Reading.{most_items, IsReadOr, IsReadOrLong, ◌>>=◌, expect, give, each_read, plain_at, written_in, handled_in, count_at, count_of, list_items_at, listed_at, list_nodes_at, nodes_at}
 use Rattle.section_tables.proofs.Steps.{bind_ok, guard_true, guard_false, ok_is, expected}
 use Rattle.section_tables.proofs.Outcomes.{then_or, each_sound, each_or}
 use Rattle.section_tables.proofs.Counting.{count_few}
@@ -25,9 +25,7 @@ use Rattle.section_tables.proofs.ScalarTexts.{scalar_sound, scalar_complete}
 
 pub plain_sound : (kind : Scalar) (spot : Spot) (node : Node) (v : Plain) → plain_at kind spot node ≡ Ok v → IsPlain kind node v
 unfolding plain_at
-plain_sound kind spot node v e =
-    let a = bind_ok (expect spot (text_in node)) (λ text. expect spot (scalar_of kind (line_of node) text)) v e in
-    (a.0, expected spot (text_in node) a.0 a.1, scalar_sound kind (line_of node) a.0 v (expected spot (scalar_of kind (line_of node) a.0) v a.2))
+plain_sound kind spot node v e = search (rules, bind_ok, scalar_sound)
 
 pub plain_complete : (longest : ℕ) (kind : Scalar) (spot : Spot) (node : Node) (v : Plain) → IsPlain kind node v → IsReadOrLong longest (plain_at kind spot node) v
 unfolding plain_at
@@ -35,9 +33,7 @@ plain_complete longest kind spot node v h = inl (rw (h.1, scalar_complete kind (
 
 pub name_sound : (spot : Spot) (item : Item) (w : Written) → written_in spot item ≡ Ok w → IsWritten item w
 unfolding written_in
-name_sound spot item w e =
-    let a = guard_true (is_name item.text) (Ok (written_at item.line item.text)) (rows_fault_at BadValue spot) w e in
-    (IsName-from_is_name item.text a.0, sym (ok_is (written_at item.line item.text) w a.1))
+name_sound spot item w e = search (rules, guard_true, IsName-from_is_name, ok_is)
 
 pub name_complete : (Above : Type 0) (spot : Spot) (item : Item) (w : Written) → IsWritten item w → IsReadOr Above (written_in spot item) w
 unfolding written_in
@@ -57,35 +53,22 @@ handled_complete Above spot item w h = inl (rw ((event_computes item.text).compl
 
 count_sound : (most : ℕ) (bounds : Bounds) (spot : Spot) (n : ℕ) (u : Unit {0}) → count_at most bounds spot n ≡ Ok u → (n ≤ most) × (fits bounds n ≡ true)
 unfolding count_at
-count_sound most bounds spot n u e =
-    let a = guard_false (nat_lt most n) (if fits bounds n then Ok tt else refused BadValue spot) (rows_fault_at Limit spot) u e in
-    let b = guard_true (fits bounds n) (Ok tt) (rows_fault_at BadValue spot) u a.1 in
-    (ltb-false most n a.0, b.0)
+count_sound most bounds spot n u e = search rules
 
 count_by : (most longest : ℕ) (bounds : Bounds) (spot : Spot) (n : ℕ) → n ≤ longest → fits bounds n ≡ true → (long : Bool) → nat_lt most n ≡ long
     → IsReadOr (most < longest) (count_at most bounds spot n) tt
 unfolding count_at
-count_by most longest bounds spot n few fit true e =
-    let many : most < n = ltb-true most n e in
-    let above : most < longest = omega (arith, many, few) in
-    inr (above, rw e refl)
-count_by most longest bounds spot n few fit false e = inl (rw (e, fit) refl)
+count_by most longest bounds spot n few fit x8 e = search rules
 
 module _ {A : Type 0} (most : ℕ) (bounds : Bounds) (spot : Spot) (o : Option (List A)) where
   abbrev pub counted : Result (List A) RowsFault
   counted = expect spot o >>= λ xs. count_at most bounds spot (length xs) >>= λ _. Ok xs
 
   pub counted_sound : (xs : List A) → counted ≡ Ok xs → (o ≡ Some xs) × (length xs ≤ most) × (fits bounds (length xs) ≡ true)
-  counted_sound xs e =
-      let a = bind_ok (expect spot o) (λ ys. count_at most bounds spot (length ys) >>= λ _. Ok ys) xs e in
-      let b = bind_ok (count_at most bounds spot (length a.0)) (λ _. Ok a.0) xs a.2 in
-      let few = count_sound most bounds spot (length a.0) b.0 b.1 in
-      subst (λ ys. (o ≡ Some ys) × (length ys ≤ most) × (fits bounds (length ys) ≡ true)) (ok_is a.0 xs b.2) (expected spot o a.0 a.1, few.0, few.1)
+  counted_sound xs e = search (rules, bind_ok, count_sound, ok_is)
 
   pub counted_complete : (longest : ℕ) (xs : List A) → o ≡ Some xs → length xs ≤ longest → fits bounds (length xs) ≡ true → IsReadOr (most < longest) counted xs
-  counted_complete longest xs is few fit =
-      let count = count_by most longest bounds spot (length xs) few fit (nat_lt most (length xs)) refl in
-      rw is (then_or (most < longest) (count_at most bounds spot (length xs)) (λ _. Ok xs) tt xs count (inl refl))
+  counted_complete longest xs is few fit = search (rules, is, count_by, nat_lt, then_or)
 
 -- ---- lists
 

@@ -1,20 +1,19 @@
 -- A name that is a list text is its only item.
-use Rattle.std.proofs.Common.{◌≡◌, ℕ, ◌<◌, nat_lt, cond, not, ◌&&◌, eqb, leb, Bool, true, false, List, [], ◌∷◌, length, map, Some, None, Result, Ok, Err, refl, sym, ap, subst, ◌∙◌, arith, append-nil}
+use Rattle.std.proofs.Common.{rules, ◌≡◌, ℕ, ◌<◌, nat_lt, cond, eqb, Bool, true, false, List, [], ◌∷◌, Some, None, Result, Ok, refl, sym, ap, subst, ◌∙◌, arith, append-nil}
 use Rattle.std.specs.List.{list_all}
 use Rattle.std.proofs.lemmas.Bool.{and_parts, or_from, eqb-true, ltb-true}
 use Rattle.std.proofs.lemmas.Option.{same_Some, none-some}
 use Rattle.yaml_bytes.specs.Bytes.{is_blank}
-use Rattle.yaml_subset.specs.Node.{Node, scalar, sequence, mapping}
+use Rattle.yaml_subset.specs.Node.{Node, scalar}
 use Rattle.yaml_subset.specs.View.{line_of, text_in}
 use Rattle.mpf_values.specs.Bytes.{is_name_byte, is_separator}
 use Rattle.mpf_values.specs.ListText.{open_after}
 use Rattle.mpf_values.specs.Lists.{Item, item_at}
-use Rattle.mpf_values.specs.Reading.{is_name, onto_items, items_from, items_of, list_at, event_at}
+use Rattle.mpf_values.specs.Reading.{is_name, items_from, items_of, list_at, event_at}
 use Rattle.mpf_values.proofs.EventTexts.{event_computes}
 use Rattle.mpf_values.proofs.NameTexts.{IsName-from_is_name}
-use Rattle.config_faults.specs.declared.fault.FaultKind.TheVariants.{Limit}
 use Rattle.section_tables.specs.Kinds.{Bounds}
-use Rattle.config_faults.specs.Faults.{RowsFault, Spot, refused}
+use Rattle.config_faults.specs.Faults.{RowsFault, Spot}
 use Rattle.section_tables.specs.Entries.{written_at, handled_at}
 use Rattle.section_tables.specs.Reading.{◌>>=◌, each_read, count_at, written_in, handled_in, list_items_at, listed_at}
 
@@ -44,10 +43,7 @@ one_piece (b ∷ bs) h =
 
 one_item : (text : List ℕ) → is_name text ≡ true → items_of text ≡ text ∷ []
 unfolding items_of
-one_item [] h = absurd cc
-one_item (b ∷ bs) h =
-    let a = and_parts (not (eqb (length (b ∷ bs)) 0) && leb (length (b ∷ bs)) 64) (list_all is_name_byte (b ∷ bs)) h in
-    ap (λ (pieces : List ℕ × List (List ℕ)). onto_items pieces.0 pieces.1) (one_piece (b ∷ bs) a.1)
+one_item x1 h = search (rules, and_parts, one_piece)
 
 -- a name is the event of this name, handled always
 pub name_is_event : (text : List ℕ) → is_name text ≡ true → event_at text ≡ Some (record { name = text; condition = None })
@@ -65,21 +61,17 @@ never n = by (nat_lt n 0) refl
     by false e = e
 
 not_long : {A : Type 0} (long : Bool) (d r : Result A RowsFault) → long ≡ false → cond long d r ≡ r
-not_long true d r e = absurd cc
-not_long false d r e = refl
+not_long x1 d r e = search rules
 
 module _ {B : Type 0} (f : Spot → Item → Result B RowsFault) (spot : Spot) where
   one_items : (most : ℕ) (bounds : Bounds) (line : ℕ) (text : List ℕ) → is_name text ≡ true
       → list_items_at most bounds spot (scalar line text) ≡ (count_at most bounds spot 1 >>= λ _. Ok (item_at line text ∷ []))
   unfolding list_items_at list_at
-  one_items most bounds line text named =
-      not_long (nat_lt most 0) (refused Limit spot) (count_at most bounds spot (length (map (item_at line) (items_of text))) >>= λ _. Ok (map (item_at line) (items_of text))) (never most)
-      ∙ ap (λ (texts : List (List ℕ)). count_at most bounds spot (length (map (item_at line) texts)) >>= λ _. Ok (map (item_at line) texts)) (one_item text named)
+  one_items most bounds line text named = search (rules, not_long, nat_lt, never, one_item)
 
   one_read : (item : Item) (y : B) → f spot item ≡ Ok y → (r : Result (Unit {0}) RowsFault) → (r >>= λ _. Ok (y ∷ [])) ≡ ((r >>= λ _. Ok (item ∷ [])) >>= each_read (f spot))
   unfolding each_read
-  one_read item y is (Ok u) = rw is refl
-  one_read item y is (Err e) = refl
+  one_read item y is x4 = search rules
 
   -- what a name is read as that is the text of a list
   one_listed : (most : ℕ) (bounds : Bounds) (line : ℕ) (text : List ℕ) (y : B) → is_name text ≡ true → f spot (item_at line text) ≡ Ok y
@@ -89,11 +81,7 @@ module _ {B : Type 0} (f : Spot → Item → Result B RowsFault) (spot : Spot) w
 
   pub one_name : (most : ℕ) (bounds : Bounds) (node : Node) (text : List ℕ) (y : B) → text_in node ≡ Some text → is_name text ≡ true → f spot (item_at (line_of node) text) ≡ Ok y
       → (count_at most bounds spot 1 >>= λ _. Ok (y ∷ [])) ≡ listed_at f most bounds spot node
-  one_name most bounds (scalar line words) text y here named is =
-      let same = same_Some words text here in
-      one_listed most bounds line words y (rw same named) (rw same is)
-  one_name most bounds (sequence line nodes) text y here named is = absurd (none-some text here)
-  one_name most bounds (mapping line pairs) text y here named is = absurd (none-some text here)
+  one_name most bounds x3 text y here named is = search (rules, same_Some, one_listed, none-some)
 
 pub one_written : (most : ℕ) (bounds : Bounds) (spot : Spot) (node : Node) (text : List ℕ) → text_in node ≡ Some text → is_name text ≡ true
     → (count_at most bounds spot 1 >>= λ _. Ok (written_at (line_of node) text ∷ [])) ≡ listed_at written_in most bounds spot node

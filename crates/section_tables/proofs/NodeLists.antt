@@ -1,8 +1,8 @@
 -- The nodes of a YAML list that count are read as its items are.
-use Rattle.std.proofs.Common.{◌≡◌, ℕ, ◌+◌, nat_lt, ◌==◌, Bool, true, false, List, [], ◌∷◌, length, map, filter, Option, Some, None, Result, Ok, Err, refl, sym, ap, ◌∙◌, arith}
+use Rattle.std.proofs.Common.{rules, ◌≡◌, ℕ, ◌+◌, nat_lt, ◌==◌, Bool, true, false, List, [], ◌∷◌, length, map, filter, Option, Some, None, Result, Ok, Err, refl, sym, ap, arith}
 use Rattle.std.proofs.lemmas.Option.{same_Some, none-some}
 use Rattle.yaml_subset.specs.declared.tree.Tree.{Tree}
-use Rattle.yaml_subset.specs.Node.{Node, scalar, sequence, mapping, list_nodes}
+use Rattle.yaml_subset.specs.Node.{Node, scalar, sequence, mapping}
 use Rattle.yaml_subset.specs.View.{items_in, node_view}
 use Rattle.mpf_values.specs.Lists.{Item, item_at}
 use Rattle.mpf_values.specs.Reading.{is_name, onto_list, scalars_at, list_at, event_at}
@@ -33,8 +33,7 @@ OnlyBad spot (Ok y) = Unit {0}
 OnlyBad spot (Err e) = e ≡ rows_fault_at BadValue spot
 
 only_expected : {B : Type 0} (spot : Spot) (o : Option B) → OnlyBad spot (expect spot o)
-only_expected spot (Some y) = tt
-only_expected spot None = refl
+only_expected spot x2 = search rules
 
 pub only_names : (spot : Spot) (item : Item) → OnlyBad spot (written_in spot item)
 unfolding written_in
@@ -75,13 +74,11 @@ module _ {B : Type 0} (f : Spot → Item → Result B RowsFault) (spot : Spot) w
 
   -- where it has none, the value is bad
   bad_onto : (r : Result B RowsFault) (rest : Result (List B) RowsFault) → OnlyBad spot r → rest ≡ refused BadValue spot → (r >>= λ y. rest >>= λ ys. Ok (y ∷ ys)) ≡ refused BadValue spot
-  bad_onto (Ok y) rest only e = rw e refl
-  bad_onto (Err d) rest only e = rw only refl
+  bad_onto x1 rest only e = search rules
 
   some_none : (line : ℕ) (text : List ℕ) (nodes : List Node) (o : Option (List Item)) → scalars_at nodes ≡ o → scalars_at (scalar line text ∷ nodes) ≡ None → scalars_at nodes ≡ None
   unfolding scalars_at
-  some_none line text nodes None is e = is
-  some_none line text nodes (Some items) is e = absurd (none-some (onto_list (item_at line text) items) (sym e ∙ rw is refl))
+  some_none line text nodes x4 is e = search rules
 
   bad : ((item : Item) → OnlyBad spot (f spot item)) → (nodes : List Node) → scalars_at nodes ≡ None → read nodes ≡ refused BadValue spot
   unfolding scalars_at each_read counts
@@ -129,14 +126,9 @@ module _ {B : Type 0} (f : Spot → Item → Result B RowsFault) (spot : Spot) w
 
   counted_sequence : (most : ℕ) (bounds : Bounds) (node : Node) (nodes : List Node) → ((item : Item) → OnlyBad spot (f spot item)) → items_in node ≡ Some nodes → list_at node ≡ scalars_at nodes
       → (b : Bool) → nat_lt most (length (filter counts nodes)) ≡ b → counted_at f most bounds spot nodes ≡ listed_at f most bounds spot node
-  counted_sequence most bounds node nodes only is at_nodes true long = counted_long most bounds nodes long ∙ sym (listed_long most bounds node nodes is long)
-  counted_sequence most bounds node nodes only is at_nodes false few =
-      counted_by most bounds nodes (scalars_at nodes) only refl few ∙ sym (listed_few most bounds node nodes is at_nodes few)
+  counted_sequence most bounds node nodes only is at_nodes x8 x9 = search (rules, counted_long, listed_long, counted_by, listed_few)
 
   -- the items of a YAML list, read node by node
   pub counted_listed : (most : ℕ) (bounds : Bounds) (node : Node) (nodes : List Node) → ((item : Item) → OnlyBad spot (f spot item)) → items_in node ≡ Some nodes → counted_at f most bounds spot nodes ≡ listed_at f most bounds spot node
   unfolding list_at
-  counted_listed most bounds (sequence line inner) nodes only is =
-      rw (← same_Some (list_nodes inner) nodes is) (counted_sequence most bounds (sequence line inner) (list_nodes inner) only refl refl (nat_lt most (length (filter counts (list_nodes inner)))) refl)
-  counted_listed most bounds (scalar line text) nodes only is = absurd (none-some nodes is)
-  counted_listed most bounds (mapping line pairs) nodes only is = absurd (none-some nodes is)
+  counted_listed most bounds x3 nodes only is = search (rules, same_Some, counted_sequence, nat_lt, none-some)

@@ -1,19 +1,19 @@
 -- Every name in a row is one, and no list in it is longer than its limit.
-use Rattle.std.proofs.Common.{◌≡◌, ℕ, zero, suc, ◌≤◌, Bool, true, false, List, [], ◌∷◌, length, map, set, Option, Some, None, IfSome, refl, sym, ap, subst, arith}
+use Rattle.std.proofs.Common.{rules, ◌≡◌, ℕ, zero, suc, ◌≤◌, Bool, false, List, [], ◌∷◌, length, map, set, Option, Some, None, IfSome, refl, sym, ap, subst, arith}
 use Rattle.std.specs.List.{All, AllByRecursion, AllZip}
 use Rattle.std.proofs.lemmas.List.Elements.{All-nil, All-from_recursion}
 use Rattle.std.specs.Str.{bytes_eq}
 use Rattle.yaml_subset.specs.Node.{Node, Pair}
-use Rattle.yaml_subset.specs.View.{line_of, text_in}
+use Rattle.yaml_subset.specs.View.{line_of}
 use Rattle.mpf_values.specs.Names.{IsName}
-use Rattle.mpf_values.specs.Events.{Condition, Event, IsUnder, IsEvent}
+use Rattle.mpf_values.specs.Events.{Condition, IsUnder}
 use Rattle.mpf_values.specs.Lists.{Item}
 use Rattle.section_tables.specs.Rows.{Written, Handled, Plain, Keyed, Value, Entry, Player}
-use Rattle.section_tables.specs.Kinds.{Scalar, a_flag, number_within, time_within, a_power, one_of, a_name, an_event, Bounds, at_least, Field, Kind, single, name_list, post_list, event_list, step_list, map_list, named_maps, keyed_maps, Setting, PlayerKinds}
-use Rattle.section_tables.specs.Entries.{is_ignored, handled_at}
+use Rattle.section_tables.specs.Kinds.{Scalar, Bounds, at_least, Field, Kind, single, name_list, post_list, event_list, step_list, map_list, named_maps, keyed_maps, Setting, PlayerKinds}
+use Rattle.section_tables.specs.Entries.{is_ignored}
 use Rattle.section_tables.specs.Tables.{behind_one, found_in, field_key, field_default, setting_key, setting_default}
 use Rattle.section_tables.specs.EntryOf.{IsScalar, IsPlain, AreListed, AreNodes, AreNamesListed, IsWritten, IsHandled, OverwritesAt, IsOverwritten, IsField, pass, AreFields, IsKeyedRow, IsKeyed, AreKeyed, IsStep, IsValue, IsSetting, IsEntry, IsOtherEntry, AreEntries, IsPlayer, ArePlayers}
-use Rattle.section_tables.specs.Named.{IsNamedHandled, IsNamedPlain, IsNamedEvent, AreNames, AreNamedEvents, AreNamedPlains, IsNamedKeyed, IsNamedValue, IsNamedEntry, IsNamedPlayer, AreNamedFields, IsNamedKind, IsNamedTable, IsEventKind, IsNamedKinds, IsShortValue, IsShortEntry, IsShortPlayer, IsShortTable}
+use Rattle.section_tables.specs.Named.{IsNamedPlain, IsNamedEvent, AreNames, AreNamedEvents, AreNamedPlains, IsNamedKeyed, IsNamedValue, IsNamedEntry, IsNamedPlayer, AreNamedFields, IsNamedKind, IsNamedTable, IsEventKind, IsNamedKinds, IsShortValue, IsShortEntry, IsShortPlayer, IsShortTable}
 
 -- ---- lists
 
@@ -46,12 +46,10 @@ module _ {T : Type 0} (key_of : T → List ℕ) (Q : T → Type 0) (key : List �
   Holds (Some p) = Q p.1
 
   behind : (o : Option (ℕ × T)) → Holds o → Holds (behind_one o)
-  behind None h = tt
-  behind (Some p) h = h
+  behind x1 h = search rules
 
   found_by : (s : T) (ss : List T) (b : Bool) → bytes_eq (key_of s) key ≡ b → Q s → Holds (found_in key_of key ss) → Holds (found_in key_of key (s ∷ ss))
-  found_by s ss true e q h = rw e q
-  found_by s ss false e q h = rw e (behind (found_in key_of key ss) h)
+  found_by s ss x3 e q h = search rules
 
   holds_found : (table : List T) → AllByRecursion Q table → Holds (found_in key_of key table)
   holds_found [] h = tt
@@ -61,8 +59,7 @@ module _ {T : Type 0} (key_of : T → List ℕ) (Q : T → Type 0) (key : List �
 
 module _ {T V : Type 0} (key_of : T → List ℕ) (IsOf : T → Node → V → Type 0) (passes : List ℕ → Bool) (Q : T → Type 0) (P : V → Type 0) (so : (t : T) (node : Node) (v : V) → Q t → IsOf t node v → P v) where
   overwrites_all : (b : Bool) (p : Pair) (row next : List V) (o : Option (ℕ × T)) → Holds key_of Q p.key o → OverwritesAt IsOf b p row next o → AllByRecursion P row → AllByRecursion P next
-  overwrites_all b p row next None q h all = subst (AllByRecursion P) (sym h.1) all
-  overwrites_all b p row next (Some found) q h all = subst (AllByRecursion P) (sym h.2) (set_all P row found.0 h.0 all (so found.1 p.value h.0 q h.1))
+  overwrites_all b p row next x5 q h all = search (rules, set_all)
 
   overwritten_all : (table : List T) (ps : List Pair) (row made : List V) → AllByRecursion Q table → IsOverwritten key_of IsOf passes table ps row made → AllByRecursion P row → AllByRecursion P made
   overwritten_all table [] row made q h all = subst (AllByRecursion P) (sym h) all
@@ -72,31 +69,19 @@ module _ {T V : Type 0} (key_of : T → List ℕ) (IsOf : T → Node → V → T
 -- ---- names in values
 
 variable_named : (text : List ℕ) (o : Option Condition) → IsUnder text o → IfSome o (λ c. IsName c.variable)
-variable_named text None h = tt
-variable_named text (Some c) h = h.is_variable
-
-read_named : (line : ℕ) (text : List ℕ) (e : Event) → IsEvent text e → IsNamedHandled (handled_at line e)
-read_named line text e h = record { name = h.is_name; variable = variable_named h.rest e.condition h.is_under }
+variable_named text x2 h = search rules
 
 scalar_named : (kind : Scalar) (line : ℕ) (text : List ℕ) (v : Plain) → IsScalar kind line text v → IsNamedPlain v
-scalar_named a_flag line text v h = subst IsNamedPlain (sym h.2) tt
-scalar_named (number_within least greatest) line text v h = subst IsNamedPlain (sym h.3) tt
-scalar_named (time_within least greatest) line text v h = subst IsNamedPlain (sym h.4) tt
-scalar_named a_power line text v h = subst IsNamedPlain (sym h.2) tt
-scalar_named (one_of words) line text v h = subst IsNamedPlain (sym h.1) tt
-scalar_named a_name line text v h = subst IsNamedPlain (sym h.1) h.0
-scalar_named an_event line text v h = subst IsNamedPlain (sym h.2) (read_named line text h.0 h.1)
+scalar_named x1 line text v h = search rules
 
 plain_named : (kind : Scalar) (node : Node) (v : Plain) → IsPlain kind node v → IsNamedPlain v
 plain_named kind node v h = scalar_named kind (line_of node) h.0 v h.2
 
 written_named : (bounds : Bounds) (longest : ℕ) (node : Node) (xs : List Written) → AreListed IsWritten bounds longest node xs → AreNames xs
-written_named bounds longest node xs h =
-    all_zip IsWritten (λ w. IsName w.text) (λ item w k. subst (λ (x : Written). IsName x.text) (sym k.1) k.0) h.items xs h.each
+written_named bounds longest node xs h = search (rules, all_zip)
 
 handled_named : (bounds : Bounds) (longest : ℕ) (node : Node) (xs : List Handled) → AreListed IsHandled bounds longest node xs → AreNamedEvents xs
-handled_named bounds longest node xs h =
-    all_zip IsHandled IsNamedHandled (λ item x k. subst IsNamedHandled (sym k.2) (read_named item.line item.text k.0 k.1)) h.items xs h.each
+handled_named bounds longest node xs h = search (rules, all_zip, variable_named)
 
 row_named : (table : List Field) (others : Bool) (ps : List Pair) (row : List Plain) → AreNamedFields table → IsOverwritten field_key IsField (pass others) table ps (map field_default table) row → AreNamedPlains row
 row_named table others ps row q h =
@@ -109,20 +94,16 @@ keyed_row_named table place short node row (Some text) q h =
 keyed_row_named table place short node row None q h = row_named table false h.pairs row q h.overwritten
 
 keyed_named : (table : List Field) (place : ℕ) (short : Scalar) → AreNamedFields table → (p : Pair) (k : Keyed) → IsKeyed table place short p k → IsNamedKeyed k
-keyed_named table place short q p k h =
-    (subst (λ (w : Written). IsName w.text) (sym h.name) h.is_name, keyed_row_named table place short p.value k.values (text_in p.value) q h.row)
+keyed_named table place short q p k h = search (rules, keyed_row_named)
 
 value_named : (longest : ℕ) (kind : Kind) (node : Node) (v : Value) → IsNamedKind kind → IsValue longest kind node v → IsNamedValue v
 value_named longest (single kind) node v q h = subst IsNamedValue (sym h.2) (plain_named kind node h.0 h.1)
 value_named longest (name_list bounds) node v q h = subst IsNamedValue (sym h.2) (written_named bounds longest node h.0 h.1)
 value_named longest (post_list bounds) node v q h = subst IsNamedValue (sym h.2) (written_named bounds longest node h.0 h.1)
 value_named longest (event_list bounds) node v q h = subst IsNamedValue (sym h.2) (handled_named bounds longest node h.0 h.1)
-value_named longest (step_list bounds) node v q h =
-    subst IsNamedValue (sym h.2) (all_zip (IsStep longest) AreNamedEvents (handled_named _ longest) h.1.nodes h.0 h.1.each)
-value_named longest (map_list table others bounds) node v q h =
-    subst IsNamedValue (sym h.2) (all_zip (AreFields table others) (λ m. AreNamedPlains m.values) (λ n m k. row_named table others k.row.pairs m.values q k.row.overwritten) h.1.nodes h.0 h.1.each)
-value_named longest (named_maps table others bounds) node v q h =
-    subst IsNamedValue (sym h.3) (all_zip (AreFields table others) (λ m. AreNamedPlains m.values) (λ n m k. row_named table others k.row.pairs m.values q k.row.overwritten) h.1.nodes h.0 h.1.each)
+value_named longest (step_list bounds) node v q h = search (rules, all_zip, handled_named)
+value_named longest (map_list table others bounds) node v q h = search (rules, all_zip, row_named)
+value_named longest (named_maps table others bounds) node v q h = search (rules, all_zip, row_named)
 value_named longest (keyed_maps table place short) node v q h =
     subst IsNamedValue (sym h.2) (all_zip (IsKeyed table place short) IsNamedKeyed (keyed_named table place short q) h.1.pairs h.0 h.1.each)
 
@@ -168,12 +149,7 @@ default_named (s ∷ ss) q = (q.0.0, default_named ss q.1)
 
 -- Each name in an entry is one, where those are that hold by default.
 pub entry_named : (longest : ℕ) (table : List Setting) (p : Pair) (e : Entry) → IsNamedTable table → IsEntry longest table p e → IsNamedEntry e
-entry_named longest table p e q h = record {
-  name = subst (λ (w : Written). IsName w.text) (sym h.name) h.is_name;
-  values =
-      overwritten_all setting_key (IsSetting longest) is_ignored (λ s. IsNamedValue (setting_default s) × IsNamedKind s.kind) IsNamedValue (λ s node v k i. value_named longest s.kind node v k.1 i) table h.row.pairs
-      (map setting_default table) e.values q h.row.overwritten (default_named table q);
-}
+entry_named longest table p e q h = search (rules, overwritten_all, value_named, default_named)
 
 pub entries_named : (longest : ℕ) (barred : List (List ℕ)) (table : List Setting) (p : Pair) (es : List Entry) → IsNamedTable table → AreEntries longest barred table p es → AllByRecursion IsNamedEntry es
 entries_named longest barred table p es q h = all_zip (IsOtherEntry longest barred table) IsNamedEntry (λ x e k. entry_named longest table x e q k.entry) h.0 es h.2
@@ -193,13 +169,7 @@ entries_short longest barred table p es q h =
 -- ---- players
 
 event_named : (kind : Scalar) (line : ℕ) (text : List ℕ) (v : Plain) → IsEventKind kind → IsScalar kind line text v → IsNamedEvent v
-event_named a_flag line text v q h = absurd q
-event_named (number_within least greatest) line text v q h = absurd q
-event_named (time_within least greatest) line text v q h = absurd q
-event_named a_power line text v q h = absurd q
-event_named (one_of words) line text v q h = absurd q
-event_named a_name line text v q h = subst IsNamedEvent (sym h.1) h.0
-event_named an_event line text v q h = subst IsNamedEvent (sym h.2) (read_named line text h.0 h.1)
+event_named x1 line text v q h = search rules
 
 player_named : (longest : ℕ) (kinds : PlayerKinds) → IsNamedKinds kinds → (p : Pair) (row : Player) → IsPlayer longest kinds p row → IsNamedPlayer row
 player_named longest kinds q p row h = record { event = event_named kinds.key p.line p.key row.event q.key h.key; value = value_named longest kinds.value p.value row.value q.value h.value }

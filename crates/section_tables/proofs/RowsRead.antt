@@ -1,21 +1,19 @@
 -- The row of a mapping by a table is the one that is read, and no other.
-use Rattle.std.proofs.Common.{◌≡◌, ◌<◌, ℕ, Bool, true, false, List, [], ◌∷◌, length, map, set, Option, Some, None, Result, Ok, refl, sym, ap, subst, ◌∙◌, inl, arith}
-use Rattle.std.proofs.lemmas.List.{length-map, length-set}
+use Rattle.std.proofs.Common.{rules, ◌≡◌, ◌<◌, ℕ, Bool, List, [], ◌∷◌, length, map, Option, None, Result, Ok, refl, sym, ap, subst, ◌∙◌, inl, arith}
+use Rattle.std.proofs.lemmas.List.{length-map}
 use Rattle.yaml_subset.specs.Node.{Node, Pair}
-use Rattle.config_faults.specs.declared.fault.FaultKind.TheVariants.{UnknownSetting}
-use Rattle.config_faults.specs.Faults.{RowsFault, Spot, rows_fault_at}
+use Rattle.config_faults.specs.Faults.{RowsFault, Spot}
 use Rattle.section_tables.specs.Tables.{found_in}
 use Rattle.section_tables.specs.EntryOf.{OverwritesAt, IsOverwritten, IsWhole}
 use Rattle.section_tables.specs.Reading.{most_items, IsReadOrLong, key_spot, put_at, overwritten_at, lacking, whole_from, row_at}
-use Rattle.section_tables.proofs.Steps.{bind_ok, guard_true, ok_is}
+use Rattle.section_tables.proofs.Steps.{bind_ok, ok_is}
 use Rattle.section_tables.proofs.Outcomes.{then_or}
 
 -- ---- nothing lacks
 
 module _ {T V : Type 0} (key_of : T → List ℕ) (lacks : T → V → Bool) where
   whole_by : (s : T) (ss : List T) (v : V) (vs : List V) (b : Bool) → lacks s v ≡ b → lacking key_of lacks (s ∷ ss) (v ∷ vs) ≡ None → (lacking key_of lacks ss vs ≡ None → IsWhole lacks ss vs) → IsWhole lacks (s ∷ ss) (v ∷ vs)
-  whole_by s ss v vs true e h rest = absurd (let no = rw e at h in cc)
-  whole_by s ss v vs false e h rest = (e, rest (rw e at h))
+  whole_by s ss v vs x5 e h rest = search rules
 
   pub none_lacks : (table : List T) (row : List V) → length row ≡ length table → lacking key_of lacks table row ≡ None → IsWhole lacks table row
   none_lacks [] [] len h = tt
@@ -30,15 +28,13 @@ module _ {T V : Type 0} (key_of : T → List ℕ) (lacks : T → V → Bool) whe
   is_whole (s ∷ ss) (v ∷ vs) h = rw h.0 (is_whole ss vs h.1)
 
 whole_sound : {V : Type 0} (spot : Spot) (row made : List V) (o : Option (List ℕ)) → whole_from spot row o ≡ Ok made → (o ≡ None) × (row ≡ made)
-whole_sound spot row made None e = (refl, ok_is row made e)
-whole_sound spot row made (Some key) e = absurd cc
+whole_sound spot row made x4 e = search rules
 
 -- ---- overwritten
 
 module _ {T V : Type 0} (key_of : T → List ℕ) (value_at : T → Spot → Node → Result V RowsFault) (IsOf : T → Node → V → Type 0) (passes : List ℕ → Bool) where
   keeps_length : (b : Bool) (p : Pair) (row next : List V) (o : Option (ℕ × T)) → OverwritesAt IsOf b p row next o → length next ≡ length row
-  keeps_length b p row next (Some found) h = ap length h.2 ∙ length-set row found.0 h.0
-  keeps_length b p row next None h = ap length h.1
+  keeps_length b p row next x5 h = search rules
 
   pub same_length : (table : List T) (ps : List Pair) (row made : List V) → IsOverwritten key_of IsOf passes table ps row made → length made ≡ length row
   same_length table [] row made h = ap length h
@@ -46,12 +42,7 @@ module _ {T V : Type 0} (key_of : T → List ℕ) (value_at : T → Spot → Nod
 
   module _ (sound : (t : T) (spot : Spot) (node : Node) (v : V) → value_at t spot node ≡ Ok v → IsOf t node v) where
     put_sound : (b : Bool) (spot : Spot) (p : Pair) (row next : List V) (o : Option (ℕ × T)) → put_at value_at b spot p.value row o ≡ Ok next → OverwritesAt IsOf b p row next o
-    put_sound b spot p row next (Some found) e =
-        let a = bind_ok (value_at found.1 spot p.value) (λ v. Ok (set row found.0 v)) next e in
-        (a.0, sound found.1 spot p.value a.0 a.1, sym (ok_is (set row found.0 a.0) next a.2))
-    put_sound b spot p row next None e =
-        let a = guard_true b (Ok row) (rows_fault_at UnknownSetting spot) next e in
-        (a.0, sym (ok_is row next a.1))
+    put_sound b spot p row next x6 e = search rules
 
     pub overwritten_sound : (text : List ℕ) (table : List T) (ps : List Pair) (row made : List V) → overwritten_at key_of value_at passes text table ps row ≡ Ok made → IsOverwritten key_of IsOf passes table ps row made
     overwritten_sound text table [] row made e = sym (ok_is row made e)
@@ -72,9 +63,7 @@ module _ {T V : Type 0} (key_of : T → List ℕ) (value_at : T → Spot → Nod
 
   module _ (longest : ℕ) (complete : (t : T) (spot : Spot) (node : Node) (v : V) → IsOf t node v → IsReadOrLong longest (value_at t spot node) v) where
     put_complete : (b : Bool) (spot : Spot) (p : Pair) (row next : List V) (o : Option (ℕ × T)) → OverwritesAt IsOf b p row next o → IsReadOrLong longest (put_at value_at b spot p.value row o) next
-    put_complete b spot p row next (Some found) h =
-        then_or (most_items < longest) (value_at found.1 spot p.value) (λ v. Ok (set row found.0 v)) h.0 next (complete found.1 spot p.value h.0 h.1) (inl (ap (λ (r : List V). Ok r) (sym h.2)))
-    put_complete b spot p row next None h = inl (rw (h.0, h.1) refl)
+    put_complete b spot p row next x6 h = search rules
 
     overwritten_complete : (text : List ℕ) (table : List T) (ps : List Pair) (row made : List V) → IsOverwritten key_of IsOf passes table ps row made → IsReadOrLong longest (overwritten_at key_of value_at passes text table ps row) made
     overwritten_complete text table [] row made h = inl (ap (λ (r : List V). Ok r) (sym h))
@@ -86,6 +75,4 @@ module _ {T V : Type 0} (key_of : T → List ℕ) (value_at : T → Spot → Nod
     pub row_complete : (default_of : T → V) (lacks : T → V → Bool) (spot : Spot) (table : List T) (ps : List Pair) (row : List V) → IsOverwritten key_of IsOf passes table ps (map default_of table) row → IsWhole lacks table row
         → IsReadOrLong longest (row_at key_of value_at passes default_of lacks spot table ps) row
     unfolding row_at
-    row_complete default_of lacks spot table ps row made whole =
-        then_or (most_items < longest) (overwritten_at key_of value_at passes spot.text table ps (map default_of table)) (λ r. whole_from spot r (lacking key_of lacks table r)) row row
-        (overwritten_complete spot.text table ps (map default_of table) row made) (inl (rw (is_whole key_of lacks table row whole) refl))
+    row_complete default_of lacks spot table ps row made whole = search (rules, then_or, overwritten_complete, is_whole)

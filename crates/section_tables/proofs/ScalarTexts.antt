@@ -1,26 +1,25 @@
 -- What a text says is what it is read as, and nothing else.
-use Rattle.std.proofs.Common.{◌≡◌, ℕ, ◌≤◌, nat_le, ◌&&◌, Bool, true, false, List, [], ◌∷◌, Some, refl, sym, inl, inr}
+use Rattle.std.proofs.Common.{rules, ◌≡◌, ℕ, ◌≤◌, nat_le, ◌&&◌, Bool, true, List, [], ◌∷◌, Some, refl, sym, inl, inr}
 use Rattle.std.specs.Str.{bytes_eq}
 use Rattle.std.proofs.lemmas.Bool.{leb-true, le-leb}
-use Rattle.mpf_values.specs.Reading.{is_name, boolean_at, integer_at, time_at, power_at, event_at}
+use Rattle.mpf_values.specs.Reading.{boolean_at, integer_at, time_at, power_at, event_at}
 use Rattle.mpf_values.proofs.BooleanTexts.{boolean_computes}
 use Rattle.mpf_values.proofs.IntegerTexts.{integer_computes}
 use Rattle.mpf_values.proofs.TimeTexts.{time_computes}
 use Rattle.mpf_values.proofs.PowerTexts.{power_computes}
 use Rattle.mpf_values.proofs.NameTexts.{IsName-from_is_name, is_name-from_IsName}
 use Rattle.mpf_values.proofs.EventTexts.{event_computes}
-use Rattle.section_tables.specs.Rows.{Plain, flag, number, time, power, word, name, event}
+use Rattle.section_tables.specs.Rows.{Plain, flag, number, time, power, event}
 use Rattle.section_tables.specs.Kinds.{Scalar, a_flag, number_within, time_within, a_power, one_of, a_name, an_event}
-use Rattle.section_tables.specs.Entries.{written_at, handled_at}
+use Rattle.section_tables.specs.Entries.{handled_at}
 use Rattle.section_tables.specs.EntryOf.{within, IsOneOf, IsScalar}
 use Rattle.section_tables.specs.Reading.{keep, is_one_of, scalar_of}
-use Rattle.section_tables.proofs.Steps.{word_is, is_word}
-use Rattle.section_tables.proofs.Options.{gave, kept, chosen_some}
+use Rattle.section_tables.proofs.Steps.{is_word}
+use Rattle.section_tables.proofs.Options.{gave, kept}
 
 among_by : (xs : List (List ℕ)) (w : List ℕ) (x : List ℕ) (b : Bool) → bytes_eq x w ≡ b → is_one_of (x ∷ xs) w ≡ true → (is_one_of xs w ≡ true → IsOneOf xs w) → IsOneOf (x ∷ xs) w
 unfolding is_one_of
-among_by xs w x true e h rest = inl (sym (word_is x w e))
-among_by xs w x false e h rest = inr (rest (rw e at h))
+among_by xs w x x4 e h rest = search rules
 
 pub among_sound : (words : List (List ℕ)) (w : List ℕ) → is_one_of words w ≡ true → IsOneOf words w
 unfolding is_one_of
@@ -29,8 +28,7 @@ among_sound (x ∷ xs) w h = among_by xs w x (bytes_eq x w) refl h (among_sound 
 
 among_again : (xs : List (List ℕ)) (w : List ℕ) (x : List ℕ) (b : Bool) → bytes_eq x w ≡ b → is_one_of xs w ≡ true → is_one_of (x ∷ xs) w ≡ true
 unfolding is_one_of
-among_again xs w x true e h = rw e refl
-among_again xs w x false e h = rw e h
+among_again xs w x x4 e h = search rules
 
 pub among_complete : (words : List (List ℕ)) (w : List ℕ) → IsOneOf words w → is_one_of words w ≡ true
 unfolding is_one_of
@@ -39,8 +37,7 @@ among_complete (x ∷ xs) w (inl e) = rw (is_word x w (sym e)) refl
 among_complete (x ∷ xs) w (inr h) = among_again xs w x (bytes_eq x w) refl (among_complete xs w h)
 
 both : (a b : Bool) → a && b ≡ true → (a ≡ true) × (b ≡ true)
-both true b e = (refl, e)
-both false b e = absurd cc
+both x1 b e = search rules
 
 between : (least ms greatest : ℕ) → (nat_le least ms && nat_le ms greatest) ≡ true → (least ≤ ms) × (ms ≤ greatest)
 between least ms greatest h = let a = both (nat_le least ms) (nat_le ms greatest) h in (leb-true least ms a.0, leb-true ms greatest a.1)
@@ -61,12 +58,8 @@ scalar_sound (time_within least greatest) line text v e =
     let c = between least a.0 greatest b.1 in
     (a.0, (time_computes text).sound a.0 b.0, c.0, c.1, a.2)
 scalar_sound a_power line text v e = let a = gave power (power_at text) v e in (a.0, (power_computes text).sound a.0 a.1, a.2)
-scalar_sound (one_of words) line text v e =
-    let a = chosen_some (is_one_of words text) (word text) v e in
-    (among_sound words text a.0, a.1)
-scalar_sound a_name line text v e =
-    let a = chosen_some (is_name text) (name (written_at line text)) v e in
-    (IsName-from_is_name text a.0, a.1)
+scalar_sound (one_of words) line text v e = search (rules, among_sound)
+scalar_sound a_name line text v e = search (rules, IsName-from_is_name)
 scalar_sound an_event line text v e =
     let a = gave (λ x. event (handled_at line x)) (event_at text) v e in
     (a.0, (event_computes text).sound a.0 a.1, a.2)

@@ -1,5 +1,5 @@
 -- The values of settings are those that are read, and no others.
-use Rattle.std.proofs.Common.{◌≡◌, ◌<◌, ℕ, Bool, true, false, if◌then◌else◌, List, length, map, set, Option, Some, None, Result, Ok, refl, sym, ap, subst, inl, arith}
+use Rattle.std.proofs.Common.{rules, ◌≡◌, ◌<◌, ℕ, Bool, true, false, if◌then◌else◌, List, length, map, set, Option, Some, None, Result, Ok, refl, sym, ap, subst, inl, arith}
 use Rattle.std.proofs.lemmas.Bool.{le-leb}
 use Rattle.yaml_subset.specs.Node.{Node, Pair}
 use Rattle.yaml_subset.specs.View.{line_of, text_in}
@@ -12,8 +12,8 @@ use Rattle.section_tables.specs.Kinds.{Scalar, Bounds, at_least, fits, Field, Ki
 use Rattle.section_tables.specs.Entries.{pairs_below, written_at}
 use Rattle.section_tables.specs.Tables.{field_key, field_default, field_lacks}
 use Rattle.section_tables.specs.EntryOf.{IsWritten, IsHandled, AreNodes, IsField, pass, IsFieldRow, AreFields, own_name, HaveOwnNames, IsKeyedRow, IsKeyed, AreKeyed, IsStep, IsValue}
-use Rattle.section_tables.specs.Reading.{most_items, IsReadOrLong, ◌>>=◌, key_spot, expect, each_read, plain_at, written_in, handled_in, listed_at, nodes_at, field_at, fields_row_at, fields_at, are_apart, named_maps_at, keyed_row_at, keyed_at, few_pairs_at, keyed_list_at, value_at}
-use Rattle.section_tables.proofs.Steps.{bind_ok, guard_true, ok_is, expected}
+use Rattle.section_tables.specs.Reading.{most_items, IsReadOrLong, ◌>>=◌, key_spot, each_read, plain_at, written_in, handled_in, listed_at, nodes_at, field_at, fields_row_at, fields_at, are_apart, named_maps_at, keyed_row_at, keyed_at, few_pairs_at, keyed_list_at, value_at}
+use Rattle.section_tables.proofs.Steps.{bind_ok, guard_true, ok_is}
 use Rattle.section_tables.proofs.Outcomes.{then_or, each_sound, each_or}
 use Rattle.section_tables.proofs.ListValues.{plain_sound, plain_complete, name_sound, name_complete, handled_sound, handled_complete, listed_sound, counted_sound, counted_complete, listed_complete, nodes_sound, nodes_complete}
 use Rattle.section_tables.proofs.RowsRead.{row_sound, row_complete}
@@ -30,20 +30,14 @@ field_row_sound table others spot node pairs row has e =
     record { pairs = pairs; has = has; overwritten = s.0; whole = s.1 }
 
 field_row_complete : (longest : ℕ) (table : List Field) (others : Bool) (spot : Spot) (node : Node) (row : List Plain) (h : IsFieldRow table others node row) → IsReadOrLong longest (fields_row_at others spot table h.pairs) row
-field_row_complete longest table others spot node row h =
-    row_complete field_key field_at IsField (pass others) longest (λ f s n v. plain_complete longest f.kind s n v) field_default field_lacks spot table h.pairs row h.overwritten h.whole
+field_row_complete longest table others spot node row h = search (rules, row_complete, plain_complete)
 
 abbrev fields_made : Node → List Plain → Fields
 fields_made node row = record { line = line_of node; values = row }
 
 fields_sound : (table : List Field) (others : Bool) (spot : Spot) (node : Node) (m : Fields) → fields_at table others spot node ≡ Ok m → AreFields table others node m
 unfolding fields_at
-fields_sound table others spot node m e =
-    let at : Spot = record { text = spot.text; line = line_of node; key = spot.key } in
-    let a = bind_ok (expect spot (pairs_below node)) (λ pairs. fields_row_at others at table pairs >>= λ row. Ok (fields_made node row)) m e in
-    let b = bind_ok (fields_row_at others at table a.0) (λ row. Ok (fields_made node row)) m a.2 in
-    subst (AreFields table others node) (ok_is (fields_made node b.0) m b.2)
-    (record { line = refl; row = field_row_sound table others at node a.0 b.0 (expected spot (pairs_below node) a.0 a.1) b.1 })
+fields_sound table others spot node m e = search (rules, bind_ok, ok_is, field_row_sound)
 
 fields_complete : (longest : ℕ) (table : List Field) (others : Bool) (spot : Spot) (node : Node) (m : Fields) → AreFields table others node m → IsReadOrLong longest (fields_at table others spot node) m
 unfolding fields_at
@@ -76,12 +70,7 @@ named_maps_complete longest table others bounds spot node ms h apart =
 -- ---- maps of names
 
 keyed_row_sound : (table : List Field) (place : ℕ) (short : Scalar) (spot : Spot) (node : Node) (row : List Plain) (o : Option (List ℕ)) → keyed_row_at table place short spot node o ≡ Ok row → IsKeyedRow table place short node row o
-keyed_row_sound table place short spot node row (Some text) e =
-    let a = bind_ok (plain_at short spot node) (λ v. Ok (set (map field_default table) place v)) row e in
-    (a.0, plain_sound short spot node a.0 a.1, sym (ok_is (set (map field_default table) place a.0) row a.2))
-keyed_row_sound table place short spot node row None e =
-    let a = bind_ok (expect spot (pairs_below node)) (λ pairs. fields_row_at false spot table pairs) row e in
-    field_row_sound table false spot node a.0 row (expected spot (pairs_below node) a.0 a.1) a.2
+keyed_row_sound table place short spot node row x7 e = search (rules, bind_ok, plain_sound, ok_is, field_row_sound)
 
 keyed_row_complete : (longest : ℕ) (table : List Field) (place : ℕ) (short : Scalar) (spot : Spot) (node : Node) (row : List Plain) (o : Option (List ℕ)) → IsKeyedRow table place short node row o
     → IsReadOrLong longest (keyed_row_at table place short spot node o) row
@@ -94,13 +83,7 @@ keyed_made p row = record { name = written_at p.line p.key; values = row }
 
 keyed_sound : (text : List ℕ) (table : List Field) (place : ℕ) (short : Scalar) (p : Pair) (k : Keyed) → keyed_at text table place short p ≡ Ok k → IsKeyed table place short p k
 unfolding keyed_at
-keyed_sound text table place short p k e =
-    let spot = key_spot text p in
-    let row = keyed_row_at table place short spot p.value (text_in p.value) in
-    let a = guard_true (is_name p.key) (row >>= λ r. Ok (keyed_made p r)) (rows_fault_at BadValue spot) k e in
-    let b = bind_ok row (λ r. Ok (keyed_made p r)) k a.1 in
-    subst (IsKeyed table place short p) (ok_is (keyed_made p b.0) k b.2)
-    (record { is_name = IsName-from_is_name p.key a.0; name = refl; row = keyed_row_sound table place short spot p.value b.0 (text_in p.value) b.1 })
+keyed_sound text table place short p k e = search (rules, guard_true, bind_ok, ok_is, IsName-from_is_name, keyed_row_sound)
 
 keyed_complete : (longest : ℕ) (text : List ℕ) (table : List Field) (place : ℕ) (short : Scalar) (p : Pair) (k : Keyed) → IsKeyed table place short p k → IsReadOrLong longest (keyed_at text table place short p) k
 unfolding keyed_at
@@ -138,19 +121,14 @@ step_complete longest spot node step h = listed_complete handled_in IsHandled mo
 
 -- a value that is read, and made into that of a setting
 put_in : {A : Type 0} (r : Result A RowsFault) (made : A → Value) (v : Value) → (r >>= λ x. Ok (made x)) ≡ Ok v → (x : A) × (r ≡ Ok x) × (v ≡ made x)
-put_in r made v e =
-    let a = bind_ok r (λ x. Ok (made x)) v e in
-    (a.0, a.1, sym (ok_is (made a.0) v a.2))
+put_in r made v e = search rules
 
 pub value_sound : (kind : Kind) (spot : Spot) (node : Node) (v : Value) → value_at kind spot node ≡ Ok v → IsValue 1024 kind node v
 unfolding value_at
 value_sound (single kind) spot node v e = let a = put_in (plain_at kind spot node) one v e in (a.0, plain_sound kind spot node a.0 a.1, a.2)
-value_sound (name_list bounds) spot node v e =
-    let a = put_in (listed_at written_in most_items bounds spot node) names v e in (a.0, listed_sound written_in IsWritten name_sound most_items bounds spot node a.0 a.1, a.2)
-value_sound (post_list bounds) spot node v e =
-    let a = put_in (listed_at written_in most_items bounds spot node) posts v e in (a.0, listed_sound written_in IsWritten name_sound most_items bounds spot node a.0 a.1, a.2)
-value_sound (event_list bounds) spot node v e =
-    let a = put_in (listed_at handled_in most_items bounds spot node) events v e in (a.0, listed_sound handled_in IsHandled handled_sound most_items bounds spot node a.0 a.1, a.2)
+value_sound (name_list bounds) spot node v e = search (rules, put_in, listed_sound, name_sound)
+value_sound (post_list bounds) spot node v e = search (rules, put_in, listed_sound, name_sound)
+value_sound (event_list bounds) spot node v e = search (rules, put_in, listed_sound, handled_sound)
 value_sound (step_list bounds) spot node v e =
     let a = put_in (nodes_at (listed_at handled_in most_items (at_least 1)) bounds spot node) steps v e in
     (a.0, nodes_sound (listed_at handled_in most_items (at_least 1)) (IsStep 1024) step_sound bounds spot node a.0 a.1, a.2)
@@ -161,8 +139,7 @@ value_sound (named_maps table others bounds) spot node v e =
     let a = put_in (named_maps_at table others bounds spot node) maps v e in
     let b = named_maps_sound table others bounds spot node a.0 a.1 in
     (a.0, b.0, b.1, a.2)
-value_sound (keyed_maps table place short) spot node v e =
-    let a = put_in (keyed_list_at table place short spot node) keyed v e in (a.0, keyed_list_sound table place short spot node a.0 a.1, a.2)
+value_sound (keyed_maps table place short) spot node v e = search (rules, put_in, keyed_list_sound)
 
 then_put : {A : Type 0} (longest : ℕ) (r : Result A RowsFault) (made : A → Value) (x : A) (v : Value) → IsReadOrLong longest r x → v ≡ made x → IsReadOrLong longest (r >>= λ y. Ok (made y)) v
 then_put longest r made x v h is = then_or (most_items < longest) r (λ y. Ok (made y)) x v h (inl (ap (λ (z : Value). Ok z) (sym is)))

@@ -1,5 +1,5 @@
 -- A row with what is written into it.
-use Rattle.std.proofs.Common.{◌≡◌, ℕ, zero, suc, ◌+◌, ◌<◌, ◌≤◌, true, false, List, [], ◌∷◌, ◌++◌, length, set, take, drop, map, get_or, slice_get, Option, Some, None, Result, option_map, refl, sym, ap, ◌∙◌, arith, add-one}
+use Rattle.std.proofs.Common.{rules, ◌≡◌, ℕ, zero, suc, ◌+◌, ◌<◌, ◌≤◌, true, false, List, [], ◌∷◌, ◌++◌, length, set, take, drop, map, get_or, slice_get, Option, Some, None, Result, option_map, refl, sym, ap, ◌∙◌, arith, add-one}
 use Rattle.std.specs.Borrow.{Bor}
 use Rattle.std.specs.Slice.{IsItemAt}
 use Rattle.std.proofs.lemmas.Option.{slice_get-map}
@@ -9,7 +9,6 @@ use Rattle.section_tables.specs.Rows.{Value as Seen}
 use Rattle.section_tables.specs.Tables.{setting_key, setting_lacks, lacks_if}
 use Rattle.section_tables.specs.TableView.{setting_view, without_view}
 use Rattle.config_faults.specs.declared.fault.ConfigFault.{ConfigFault}
-use Rattle.config_faults.specs.declared.fault.ConfigFault.TheVariants.{NoMemory, Bundle}
 use Rattle.config_faults.specs.Faults.{RowsFault, FailsRows}
 use Rattle.section_tables.specs.Reading.{◌>>=◌, lacking}
 use Rattle.section_tables.proofs.Finding.{lacking_at}
@@ -17,9 +16,7 @@ use Rattle.section_tables.specs.View.{value_view, values_view, value_option_view
 
 module _ {V : Type 0} where
   set-long : (row : List V) (p : ℕ) (v : V) → length (set row p v) ≡ length row
-  set-long [] p v = refl
-  set-long (x ∷ xs) zero v = refl
-  set-long (x ∷ xs) (suc p) v = ap suc (set-long xs p v)
+  set-long x1 x2 v = search rules
 
   pub written-long : (row : List V) (ps : List ℕ) (vs : List V) → length (with_written row ps vs) ≡ length row
   written-long row [] vs = refl
@@ -74,13 +71,11 @@ module _ {V : Type 0} where
 
 -- an item of a row, as it is seen
 pub seen-at : (xs : List Value) (i : ℕ) (r : Option (Bor Value)) → IsItemAt xs i r → value_option_view r ≡ slice_get (values_view xs) i
-seen-at xs i None item = sym (slice_get-map value_view xs i ∙ ap (option_map value_view) (past xs i item.3))
-seen-at xs i (Some v) item = sym (slice_get-map value_view xs i ∙ ap (option_map value_view) (present xs i v.now item.3.0 ∙ ap (λ (x : Value). Some x) (sym item.1)))
+seen-at xs i x3 item = search (rules, slice_get-map, option_map, past, present)
 
 -- there is nothing past the end of a row
 pub seen-past : (row : List Value) (ps : List ℕ) (vs : List Value) (place : ℕ) → length row ≤ place → slice_get (values_view (with_written row ps vs)) place ≡ None
-seen-past row ps vs place over =
-    slice_get-map value_view (with_written row ps vs) place ∙ ap (option_map value_view) (past (with_written row ps vs) place (omega (arith, over, written-long row ps vs)))
+seen-past row ps vs place over = search (rules, slice_get-map, option_map, past, written-long)
 
 -- places of two rows with the same values in them are seen alike
 pub seen-same : (xs ys : List Value) (i j : ℕ) → slice_get xs i ≡ slice_get ys j → slice_get (values_view xs) i ≡ slice_get (values_view ys) j
@@ -104,5 +99,4 @@ module _ (table : List Setting) (row : List Seen) (i : ℕ) (d : Setting) (o : O
 
 -- where reading fails, reading more fails alike
 pub fails-then : {A B : Type 0} (e : ConfigFault) (r : Result A RowsFault) (f : A → Result B RowsFault) → FailsRows e r → FailsRows e (r >>= f)
-fails-then NoMemory r f h = tt
-fails-then (Bundle fault) r f h = rw h refl
+fails-then x1 r f h = search rules

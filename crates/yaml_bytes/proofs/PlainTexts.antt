@@ -1,5 +1,5 @@
 -- The plain text at the front of a line is what reading it from the left gives.
-use Rattle.std.proofs.Common.{◌≡◌, ℕ, zero, suc, ◌<◌, ◌≤◌, Bool, true, false, List, [], ◌∷◌, ◌++◌, length, take, drop, get_or, refl, sym, ap, subst, ◌∙◌, inl, inr, arith, append_assoc, length-take-le, take-append-drop}
+use Rattle.std.proofs.Common.{rules, ◌≡◌, ℕ, zero, suc, ◌<◌, ◌≤◌, Bool, true, false, List, [], ◌∷◌, ◌++◌, length, drop, get_or, refl, sym, ap, subst, ◌∙◌, inl, inr, arith, append_assoc, length-take-le, take-append-drop}
 use Rattle.std.proofs.lemmas.Bool.{cases_Bool, cases_lt, both_ways}
 use Rattle.std.proofs.lemmas.List.{append-nil}
 use Rattle.std.proofs.Math.Seq.{take-append_seam, drop-append_seam}
@@ -87,11 +87,7 @@ one_end x [] b f e = let same : x ≡ b = cc in subst (λ y. is_blank y ≡ fals
 one_end x (g ∷ gs) b f e = let more : [] ≡ gs ++ b ∷ [] = cc in absurd (push_is_no_nil gs b more)
 
 onto_ends : (x : ℕ) (ts : List ℕ) → EndsInNoBlank ts → EndsInNoBlank (onto_trimmed x ts)
-onto_ends x [] h front b e =
-    elim (cases_Bool (is_blank x)) [
-      | inl t ↦ absurd (push_is_no_nil front b (rw t at e))
-      | inr f ↦ one_end x front b f (rw f at e)
-    ]
+onto_ends x [] h front b e = search (rules, cases_Bool, push_is_no_nil, one_end)
 onto_ends x (t ∷ ts) h [] b e = absurd cc
 onto_ends x (t ∷ ts) h (f ∷ fs) b e = let k : t ∷ ts ≡ fs ++ b ∷ [] = cc in h fs b k
 
@@ -129,8 +125,7 @@ is_behind_blanks (b ∷ bs) =
     ]
 
 pub no_blanks : (rest : List ℕ) → begins_blank rest ≡ false → behind_blanks rest ≡ rest
-no_blanks [] h = refl
-no_blanks (b ∷ bs) h = behind_other b bs h
+no_blanks x1 h = search rules
 
 -- blanks in front of a text are dropped
 pub in_front : (blanks text : List ℕ) → AreBlank blanks → behind_blanks (blanks ++ text) ≡ behind_blanks text
@@ -152,10 +147,4 @@ plain_word flow text begins =
     (r.0, record { begins = begins; parts = whole; ends = subst (IsWordEnd flow text) (sym len) (word_end flow text); are_blank = r.1; no_more = trimmed_ends front }, r.2)
 
 pub plain_word-is : (flow : Bool) (text plain blanks rest : List ℕ) → IsPlainWord flow text plain blanks rest → (word_front flow text ≡ plain ++ blanks) × (word_rest flow text ≡ rest) × (trimmed (plain ++ blanks) ≡ plain)
-plain_word-is flow text plain blanks rest h =
-    let len = word_end-is flow text (length (plain ++ blanks)) h.ends in
-    let whole : text ≡ (plain ++ blanks) ++ rest = h.parts ∙ sym (append_assoc plain blanks rest) in (
-      ap (λ n. take n text) (sym len) ∙ ap (take (length (plain ++ blanks))) whole ∙ take-append_seam (plain ++ blanks) rest,
-      ap (λ n. drop n text) (sym len) ∙ ap (drop (length (plain ++ blanks))) whole ∙ drop-append_seam (plain ++ blanks) rest,
-      trimmed_is plain blanks h.are_blank h.no_more,
-    )
+plain_word-is flow text plain blanks rest h = search (rules, word_end-is, append_assoc, take-append_seam, drop-append_seam, trimmed_is)

@@ -1,6 +1,6 @@
 -- The spaces at the front of a text.
-use Rattle.std.proofs.Common.{◌≡◌, ℕ, zero, suc, ◌==◌, false, List, [], ◌∷◌, ◌++◌, drop, replicate, refl, ap, ◌∙◌, inl, inr}
-use Rattle.std.proofs.lemmas.Bool.{cases_Bool, eqb-true, or_parts}
+use Rattle.std.proofs.Common.{rules, ◌≡◌, ℕ, zero, suc, ◌==◌, false, List, [], ◌∷◌, ◌++◌, drop, replicate, refl, ap, ◌∙◌, inl, inr}
+use Rattle.std.proofs.lemmas.Bool.{cases_Bool, eqb-true}
 use Rattle.yaml_bytes.specs.Bytes.{begins_blank}
 use Rattle.yaml_bytes.specs.Plain.{AreBlank}
 use Rattle.yaml_bytes.specs.Scanning.{behind_blanks, spaces_len}
@@ -19,8 +19,7 @@ spaces_are_blank zero = tt
 spaces_are_blank (suc n) = (refl, spaces_are_blank n)
 
 no_space : (text : List ℕ) → begins_blank text ≡ false → spaces_len text ≡ 0
-no_space [] h = refl
-no_space (b ∷ bs) h = rw (or_parts (b == 32) (b == 9) h).0 refl
+no_space x1 h = search rules
 
 pub spaces_len-is : (n : ℕ) (text : List ℕ) → begins_blank text ≡ false → spaces_len (replicate n 32 ++ text) ≡ n
 spaces_len-is zero text h = no_space text h

@@ -1,6 +1,6 @@
 -- The first line of a text, and the lines after it.
-use Rattle.std.proofs.Common.{◌≡◌, ℕ, suc, ◌-◌, ◌<◌, ◌≤◌, ◌==◌, Bool, ◌&&◌, true, false, cond, List, [], ◌∷◌, Option, Some, None, take, drop, get_or, slice_index, length, refl, sym, ap, subst, ◌∙◌, arith, one-add}
-use Rattle.std.specs.List.{slice_split, position_or_len, onto_first}
+use Rattle.std.proofs.Common.{rules, ◌≡◌, ℕ, ◌-◌, ◌<◌, ◌≤◌, ◌==◌, Bool, ◌&&◌, true, false, cond, List, [], ◌∷◌, Option, Some, None, take, drop, get_or, slice_index, length, refl, sym, ap, subst, ◌∙◌, arith, one-add}
+use Rattle.std.specs.List.{slice_split, position_or_len}
 use Rattle.std.specs.Str.Lines.{strip_carriage_return}
 use Rattle.std.proofs.Math.Seq.{take-length}
 use Rattle.std.proofs.lemmas.Bool.{or_parts}
@@ -8,28 +8,18 @@ use Rattle.yaml_bytes.specs.Lines.{is_lf, ends_line, line_with, cut_line, parts_
 
 -- ---- where a text is cut
 
-onto_parts : (b : ℕ) (part rest : List ℕ) → onto_first b (parts_from part rest) ≡ parts_from (b ∷ part) rest
-onto_parts b part [] = refl
-onto_parts b part (c ∷ after) = refl
-
 parts_step : (b : ℕ) (bs : List ℕ) (n : Bool) → is_lf b ≡ n
     → slice_split is_lf bs ≡ parts_from (take (position_or_len is_lf bs) bs) (drop (position_or_len is_lf bs) bs)
     → slice_split is_lf (b ∷ bs) ≡ parts_from (take (position_or_len is_lf (b ∷ bs)) (b ∷ bs)) (drop (position_or_len is_lf (b ∷ bs)) (b ∷ bs))
-parts_step b bs true e h = rw e refl
-parts_step b bs false e h = rw (e, one-add, h) (onto_parts b (take (position_or_len is_lf bs) bs) (drop (position_or_len is_lf bs) bs))
+parts_step b bs x3 e h = search rules
 
 -- the parts between the LFs of a text are the first, and those after it
 pub parts_at : (text : List ℕ) → slice_split is_lf text ≡ parts_from (take (position_or_len is_lf text) text) (drop (position_or_len is_lf text) text)
 parts_at [] = refl
 parts_at (b ∷ bs) = parts_step b bs (is_lf b) refl (parts_at bs)
 
-more_onto : (part : List ℕ) (b : ℕ) (parts : List (List ℕ)) → lines_between (part ∷ onto_first b parts) ≡ strip_carriage_return part ∷ lines_between (onto_first b parts)
-more_onto part b [] = refl
-more_onto part b (next ∷ more) = refl
-
 more_step : (part : List ℕ) (b : ℕ) (bs : List ℕ) (n : Bool) → is_lf b ≡ n → lines_between (part ∷ slice_split is_lf (b ∷ bs)) ≡ strip_carriage_return part ∷ lines_between (slice_split is_lf (b ∷ bs))
-more_step part b bs true e = rw e refl
-more_step part b bs false e = rw e (more_onto part b (slice_split is_lf bs))
+more_step part b bs x4 e = search rules
 
 -- a part that another follows ends with LF or CR LF
 more_lines : (part after : List ℕ) → lines_between (part ∷ slice_split is_lf after) ≡ strip_carriage_return part ∷ lines_between (slice_split is_lf after)
@@ -48,8 +38,7 @@ after_first (x ∷ xs) h =
     ap (λ (ys : List ℕ). x ∷ ys) (sym (subst (λ n. take n xs ≡ xs) e (take-length xs)))
 
 lines_with : (front rest : List ℕ) → lines_between (parts_from front rest) ≡ (line_with front rest).0 ∷ lines_after (line_with front rest).1
-lines_with front [] = refl
-lines_with front (lf ∷ after) = more_lines front after
+lines_with front x2 = search (rules, more_lines)
 
 -- the lines of a text are the first, and those of what comes after it
 pub lines_at : (text : List ℕ) → lines_of text ≡ (cut_line text).0 ∷ lines_after (cut_line text).1
@@ -86,23 +75,11 @@ onto_line b r = (b ∷ r.0, r.1)
 abbrev strip_at : ℕ → List ℕ → List ℕ
 strip_at n line = cond (slice_index line n == 13) (take n line) line
 
-strip_step : (b n : ℕ) (line : List ℕ) (cr : Bool) → (slice_index line n == 13) ≡ cr → strip_at (suc n) (b ∷ line) ≡ b ∷ strip_at n line
-strip_step b n line true e = rw e refl
-strip_step b n line false e = rw e refl
-
-strip_more : (b c : ℕ) (cs : List ℕ) → strip_carriage_return (b ∷ c ∷ cs) ≡ b ∷ strip_carriage_return (c ∷ cs)
-strip_more b c cs =
-    let line = c ∷ cs in
-    let long : length (b ∷ line) - 1 ≡ suc (length line - 1) = omega arith in
-    ap (λ n. strip_at n (b ∷ line)) long ∙ strip_step b (length line - 1) line (slice_index line (length line - 1) == 13) refl
-
 with_more : (b c : ℕ) (front rest : List ℕ) → line_with (b ∷ c ∷ front) rest ≡ onto_line b (line_with (c ∷ front) rest)
-with_more b c front [] = refl
-with_more b c front (lf ∷ after) = ap (λ (xs : List ℕ). (xs, Some after)) (strip_more b c front)
+with_more b c front x4 = search rules
 
 and_true_left : (x : Bool) → (x && true) ≡ false → x ≡ false
-and_true_left true e = e
-and_true_left false e = refl
+and_true_left x1 e = search rules
 
 other_step : (b c : ℕ) (cs : List ℕ) (lf : Bool) → is_lf c ≡ lf → is_lf b ≡ false → ((b == 13) && lf) ≡ false → cut_line (b ∷ c ∷ cs) ≡ onto_line b (cut_line (c ∷ cs))
 other_step b c cs true e f g = rw (f, e) (rw (and_true_left (b == 13) g) refl)
@@ -110,5 +87,4 @@ other_step b c cs false e f g = rw (f, e) (simp one-add (with_more b c (take (po
 
 -- a byte where no line ends is in front of the first line of what follows it
 pub cut_other : (b : ℕ) (bs : List ℕ) → ends_line b bs ≡ false → cut_line (b ∷ bs) ≡ onto_line b (cut_line bs)
-cut_other b [] e = let p = or_parts (is_lf b) ((b == 13) && false) e in rw p.0 refl
-cut_other b (c ∷ cs) e = let p = or_parts (is_lf b) ((b == 13) && is_lf c) e in other_step b c cs (is_lf c) refl p.0 p.1
+cut_other b x2 e = search (rules, or_parts, other_step)

@@ -1,5 +1,5 @@
 -- Numbers are read as digits write them.
-use Rattle.std.proofs.Common.{◌≡◌, ℕ, ◌^◌, ◌<◌, ◌&&◌, nat_lt, true, false, Option, Some, None, Result, Ok, Err, List, length, refl, sym, ap, subst, ◌∙◌, rules}
+use Rattle.std.proofs.Common.{◌≡◌, ℕ, ◌^◌, ◌<◌, nat_lt, true, false, Option, Some, None, Result, List, length, sym, ◌∙◌, rules}
 use Rattle.std.specs.List.{list_all}
 use Rattle.std.specs.Char.{is_ascii_digit}
 use Rattle.std.specs.Result.{result_ok, OkIff, MatchResult}
@@ -7,7 +7,7 @@ use Rattle.std.specs.Str.{IsUtf8}
 use Rattle.std.specs.Str.Parse.{ParsesUnsigned}
 use Rattle.std.proofs.lemmas.Bool.{and_parts, ltb-true, lt-ltb, false≢true}
 use Rattle.std.proofs.lemmas.Fmt.{IsAscii-from_digits}
-use Rattle.std.proofs.lemmas.Option.{cond_some, none-some, same_Some}
+use Rattle.std.proofs.lemmas.Option.{cond_some}
 use Rattle.std.proofs.lemmas.Str.{IsUtf8-from_ascii}
 use Rattle.std.proofs.lemmas.Str.Parse.{IsNumeralModel, numerals_by_weight, parse_digits}
 use Rattle.yaml_bytes.specs.Numbers.{value_of_digits, IsNumber, number_at}
@@ -25,22 +25,14 @@ digits_are_utf8 text h = IsUtf8-from_ascii text (IsAscii-from_digits text (own.t
 
 pub number_sound : (text : List ℕ) (n : ℕ) → number_at text ≡ Some n → IsNumber text n
 unfolding number_at
-number_sound text n e =
-    let are = nat_lt 0 (length text) && list_all is_ascii_digit text in
-    let a = cond_some (are && nat_lt (value_of_digits text) (2 ^ 64)) (value_of_digits text) n e in
-    let b = and_parts are (nat_lt (value_of_digits text) (2 ^ 64)) a.0 in
-    let c = and_parts (nat_lt 0 (length text)) (list_all is_ascii_digit text) b.0 in
-    record { digits = record { some = ltb-true 0 (length text) c.0; each = Are-from_list_all is_ascii_digit text c.1 }; value = a.1; fits = subst (λ k. k < 2 ^ 64) a.1 (ltb-true (value_of_digits text) (2 ^ 64) b.1) }
+number_sound text n e = search (rules, nat_lt, cond_some, and_parts, ltb-true, Are-from_list_all)
 
 pub number_complete : (text : List ℕ) (n : ℕ) → IsNumber text n → number_at text ≡ Some n
 unfolding number_at
-number_complete text n h =
-    let fits : value_of_digits text < 2 ^ 64 = subst (λ k. k < 2 ^ 64) (sym h.value) h.fits in
-    rw (lt-ltb 0 (length text) h.digits.some, list_all-from_Are is_ascii_digit text h.digits.each, lt-ltb (value_of_digits text) (2 ^ 64) fits) (ap Some h.value)
+number_complete text n h = search (rules, lt-ltb, list_all-from_Are)
 
 pub none_of : (o : Option ℕ) → ((n : ℕ) → o ≡ Some n → ⊥) → o ≡ None
-none_of None h = refl
-none_of (Some n) h = absurd (h n refl)
+none_of x1 h = search rules
 
 no_number : (text : List ℕ) → ((n : ℕ) → IsNumber text n → ⊥) → number_at text ≡ None
 no_number text h = none_of (number_at text) (λ n e. h n (number_sound text n e))
@@ -52,16 +44,13 @@ pub not_digits : (text : List ℕ) → list_all is_ascii_digit text ≡ false �
 not_digits text h = no_number text (λ n k. false≢true (sym h ∙ list_all-from_Are is_ascii_digit text k.digits.each))
 
 pub no_fault : {T E : Type 0} (r : Result T E) (P : T → Type 0) (Q : E → Type 0) → MatchResult r P Q → ((e : E) → Q e → ⊥) → result_ok r ≡ None → ⊥
-no_fault (Ok x) P Q h never e = cc
-no_fault (Err y) P Q h never e = never y h
+no_fault x1 P Q h never e = search rules
 
 pub found_ok : {T E : Type 0} (r : Result T E) (P : T → Type 0) (Q : E → Type 0) (x : T) → MatchResult r P Q → result_ok r ≡ Some x → P x
-found_ok (Ok y) P Q x h e = subst P (same_Some y x e) h
-found_ok (Err y) P Q x h e = absurd (none-some x e)
+found_ok x1 P Q x h e = search rules
 
 pub parsed : {E : Type 0} (text : List ℕ) (r : Result ℕ E) → list_all is_ascii_digit text ≡ true → ParsesUnsigned 64 10 text r → result_ok r ≡ number_at text
 parsed {E} text r digits h = as_parsed r (parse_digits own 64 text r h digits)
   where
     as_parsed : (r : Result ℕ E) → OkIff r ((0 < length text) × (value_of_digits text < 2 ^ 64)) (value_of_digits text) → result_ok r ≡ number_at text
-    as_parsed (Ok n) k = sym (number_complete text n (record { digits = record { some = k.0.0; each = Are-from_list_all is_ascii_digit text digits }; value = sym k.1; fits = subst (λ m. m < 2 ^ 64) (sym k.1) k.0.1 }))
-    as_parsed (Err e) k = sym (no_number text (λ n s. k (s.digits.some, subst (λ m. m < 2 ^ 64) (sym s.value) s.fits)))
+    as_parsed x1 k = search (rules, number_complete, Are-from_list_all, no_number)

@@ -1,12 +1,11 @@
 -- A line has no blemish where it is UTF-8 without a forbidden character.
-use Rattle.std.proofs.Common.{◌≡◌, ℕ, zero, suc, ◌+◌, ◌-◌, ◌≤◌, ◌<◌, ltb, Bool, true, false, cond, List, [], ◌∷◌, length, take, drop, get_or, Option, Some, None, refl, sym, ap, subst, ◌∙◌, inl, inr, arith, length-take-le}
+use Rattle.std.proofs.Common.{rules, ◌≡◌, ℕ, zero, suc, ◌+◌, ◌-◌, ◌≤◌, ◌<◌, ltb, Bool, true, false, cond, List, [], ◌∷◌, length, take, drop, get_or, Option, Some, None, refl, sym, ap, subst, ◌∙◌, inl, inr, arith, length-take-le}
 use Rattle.std.specs.Char.{len_utf8}
-use Rattle.std.specs.Prelude.{nat_le, ◌==◌, ◌&&◌}
 use Rattle.std.specs.List.{All, AllByRecursion, list_all}
 use Rattle.std.specs.Str.{IsUtf8, is_utf8, chars, encode_utf8_all}
 use Rattle.std.specs.Str.Lossy.{utf8_valid_len, valid_len_up_to}
 use Rattle.std.proofs.Math.Seq.{take-length}
-use Rattle.std.proofs.lemmas.Bool.{cases_Bool, or_cases, and_parts, le-ltb, ltb-false, leb-true, lt-leb, eqb-true, ne_eqb}
+use Rattle.std.proofs.lemmas.Bool.{cases_Bool, and_parts, le-ltb, ltb-false}
 use Rattle.std.proofs.lemmas.List.Elements.{All-nil, All-cons}
 use Rattle.std.proofs.lemmas.List.{length-append, at_drop_more}
 use Rattle.std.proofs.lemmas.Str.Ascii.{IsAscii-from_all}
@@ -95,8 +94,7 @@ module _ (cs : List ℕ) (n c : ℕ) (here : (n < length cs) × (c ≡ get_or cs
 -- ---- lines
 
 none_of : (b : Bool) (f : PlacedFault) (o : Option PlacedFault) → cond b (Some f) o ≡ None → (b ≡ false) × (o ≡ None)
-none_of true f o e = absurd cc
-none_of false f o e = (refl, e)
+none_of x1 f o e = search rules
 
 pub clean_sound : (n : ℕ) (raw : List ℕ) → blemish_at n raw ≡ None → IsUtf8 raw × AreAllowed (chars raw)
 unfolding blemish_at
@@ -113,26 +111,12 @@ clean_sound n raw e =
 
 pub clean_complete : (n : ℕ) (raw : List ℕ) → IsUtf8 raw → AreAllowed (chars raw) → blemish_at n raw ≡ None
 unfolding blemish_at
-clean_complete n raw u h =
-    let no : ltb (length raw) (length raw) ≡ false = le-ltb (length raw) (length raw) (omega arith) in
-    rw (whole_front raw u, allowed_left (chars raw) h, no) refl
+clean_complete n raw u h = search (rules, le-ltb, whole_front, allowed_left)
 
 -- ---- lines of plain bytes
 
-printed_allowed : (b : ℕ) → 32 ≤ b → b ≤ 126 → is_forbidden b ≡ false
-printed_allowed b least greatest =
-    rw (le-ltb b 32 least, lt-leb 127 b (omega arith), ne_eqb b 65279 (λ e. omega arith), ne_eqb b 65534 (λ e. omega arith), ne_eqb b 65535 (λ e. omega arith)) refl
-
 plain_allowed : (b : ℕ) → is_plain_byte b ≡ true → (b < 128) × (is_forbidden b ≡ false)
-plain_allowed b h =
-    elim (or_cases (nat_le 32 b && nat_le b 126) (b == 9) h) [
-      | inl printed ↦
-          let p = and_parts (nat_le 32 b) (nat_le b 126) printed in
-          let least = leb-true 32 b p.0 in
-          let greatest = leb-true b 126 p.1 in
-          (omega arith, printed_allowed b least greatest)
-      | inr tab ↦ let is = eqb-true b 9 tab in subst (λ x. (x < 128) × (is_forbidden x ≡ false)) (sym is) (omega arith, refl)
-    ]
+plain_allowed b h = search rules
 
 plain_lines : (raw : List ℕ) → list_all is_plain_byte raw ≡ true → All (λ b. b < 128) raw × AreAllowed raw
 plain_lines [] h = (All-nil (λ b. b < 128), tt)

@@ -1,14 +1,12 @@
 -- The parts of a list or mapping are what reading them from the left gives.
-use Rattle.std.proofs.Common.{◌≡◌, ◌≢◌, ℕ, zero, suc, ◌≤◌, ◌<◌, ◌==◌, Bool, true, false, ◌&&◌, cond, List, [], ◌∷◌, ◌++◌, length, Result, Ok, Err, refl, sym, ap, subst, ◌∙◌, inl, inr, arith, append_assoc, length-append}
-use Rattle.std.proofs.lemmas.Bool.{cases_Bool, eqb-true, eq-eqb, ne_eqb}
+use Rattle.std.proofs.Common.{rules, ◌≡◌, ◌≢◌, ℕ, zero, suc, ◌≤◌, ◌<◌, Bool, true, false, ◌&&◌, List, [], ◌∷◌, ◌++◌, length, Result, Ok, refl, sym, ap, subst, ◌∙◌, inl, inr, arith, append_assoc, length-append}
+use Rattle.std.proofs.lemmas.Bool.{eqb-true, eq-eqb, ne_eqb}
 use Rattle.std.proofs.lemmas.List.{append-nil}
-use Rattle.yaml_subset.specs.declared.fault.FaultKind.TheVariants.{Flow}
 use Rattle.yaml_subset.specs.declared.place.PlacedFault.{PlacedFault}
 use Rattle.yaml_bytes.specs.Bytes.{begins_blank, begins_gap}
 use Rattle.yaml_bytes.specs.Results.{◌>>=◌}
 use Rattle.yaml_bytes.specs.Plain.{IsBehindBlanks}
-use Rattle.yaml_bytes.specs.Scanning.{behind_blanks}
-use Rattle.yaml_subset.specs.Flow.{begins_with, begins_colon, IsClosed, IsParted, ArePartsTo, IsBetween, is_ended, start_at, unexpected, behind_close_at, parted_at, behind_colon_at, parts_at, between_at}
+use Rattle.yaml_subset.specs.Flow.{begins_with, IsClosed, IsParted, ArePartsTo, IsBetween, is_ended, start_at, behind_close_at, parted_at, behind_colon_at, parts_at, between_at}
 use Rattle.yaml_bytes.proofs.Steps.{bind_ok, guard_true, guard_false, ok_is}
 use Rattle.yaml_bytes.proofs.Steps.{chosen}
 use Rattle.yaml_bytes.proofs.PlainTexts.{is_behind_blanks, behind_blanks-is}
@@ -42,8 +40,7 @@ abbrev pub GoesOn : List ℕ → Type 0
 GoesOn text = (blank : Bool) → is_ended blank text ≡ false
 
 and_false : (b : Bool) → (b && false) ≡ false
-and_false true = refl
-and_false false = refl
+and_false x1 = search rules
 
 byte_goes_on : (b : ℕ) (bs : List ℕ) → b ≢ 35 → GoesOn (b ∷ bs)
 byte_goes_on b bs other blank = rw (ne_eqb b 35 other) (and_false blank)
@@ -53,9 +50,7 @@ part_goes_on text p = subst GoesOn (sym p.parts) (byte_goes_on p.first p.others 
 
 pub start_sound : (n : ℕ) (after text : List ℕ) → start_at n after ≡ Ok text → IsBehindBlanks after text
 unfolding start_at
-start_sound n after text e =
-    let g = guard_false (is_ended (begins_blank after) (behind_blanks after)) (read_to (behind_blanks after)) (record { kind = Flow; line = n; left = 0 }) text e in
-    subst (IsBehindBlanks after) (part_is (behind_blanks after) text g.1) (is_behind_blanks after)
+start_sound n after text e = search (rules, guard_false, part_is, is_behind_blanks)
 
 pub start_complete : (n : ℕ) (after text : List ℕ) → IsBehindBlanks after text → GoesOn text → start_at n after ≡ Ok text
 unfolding start_at
@@ -64,24 +59,12 @@ start_complete n after text h on = rw (behind_blanks-is after text h, on (begins
 pub behind_shorter : (after text : List ℕ) → IsBehindBlanks after text → length text ≤ length after
 behind_shorter after text h = omega (arith, ap length h.parts, length-append h.blanks text)
 
-pub begins_with-is : (b : ℕ) (text : List ℕ) → begins_with b text ≡ true → (after : List ℕ) × (text ≡ b ∷ after)
-begins_with-is b [] e = absurd cc
-begins_with-is b (c ∷ cs) e = (cs, ap (λ (x : ℕ). x ∷ cs) (eqb-true c b e))
-
 pub begins_with-here : (b : ℕ) (text after : List ℕ) → text ≡ b ∷ after → begins_with b text ≡ true
 begins_with-here b text after e = rw e (eq-eqb b b refl)
 
 close_sound : (n : ℕ) (close : ℕ) (text rest : List ℕ) → begins_with close text ≡ true → behind_close_at n text ≡ Ok rest → IsClosed close text rest
 unfolding behind_close_at
-close_sound n close [] rest b e = absurd cc
-close_sound n close (c ∷ after) rest b e =
-    let g = guard_false (begins_with 35 after) (read_to (behind_blanks after)) (record { kind = Flow; line = n; left = length after }) rest e in
-    record {
-      after = after;
-      closes = ap (λ (x : ℕ). x ∷ after) (eqb-true c close b);
-      apart = g.0;
-      behind = subst (IsBehindBlanks after) (part_is (behind_blanks after) rest g.1) (is_behind_blanks after);
-    }
+close_sound n close x3 rest b e = search (rules, guard_false, eqb-true, part_is, is_behind_blanks)
 
 close_complete : (n : ℕ) (close : ℕ) (text rest : List ℕ) → IsClosed close text rest → behind_close_at n text ≡ Ok rest
 unfolding behind_close_at
@@ -89,41 +72,22 @@ close_complete n close text rest h = rw (h.closes, h.apart, behind_blanks-is h.a
 
 pub parted_sound : (n : ℕ) (close : ℕ) (text next : List ℕ) → parted_at n close text ≡ Ok next → IsParted close text next
 unfolding parted_at
-parted_sound n close [] next e = absurd cc
-parted_sound n close (b ∷ after) next e =
-    elim (chosen (b == 44) (start_at n after) (cond (b == close) (Ok (b ∷ after)) (Err (unexpected n (b ∷ after)))) (Ok next) e) [
-      | inl p ↦ inl (after, ap (λ (x : ℕ). x ∷ after) (eqb-true b 44 p.0), start_sound n after next p.1)
-      | inr p ↦
-          let g = guard_true (b == close) (read_to (b ∷ after)) (unexpected n (b ∷ after)) next p.1 in
-          inr (g.0, sym (part_is (b ∷ after) next g.1))
-    ]
+parted_sound n close x3 next e = search (rules, eqb-true, start_sound, guard_true, part_is)
 
 pub parted_complete : (n : ℕ) (close : ℕ) (text next : List ℕ) → close ≢ 44 → GoesOn next → IsParted close text next → parted_at n close text ≡ Ok next
 unfolding parted_at
 parted_complete n close text next other on (inl p) = rw p.1 (start_complete n p.0 next p.2 on)
-parted_complete n close text next other on (inr p) =
-    let h = begins_with-is close text p.0 in
-    rw (p.1, h.1, ne_eqb close 44 other, eq-eqb close close refl) refl
+parted_complete n close text next other on (inr p) = search rules
 
 parted_shorter : (close : ℕ) (text next : List ℕ) → IsParted close text next → length next ≤ length text
-parted_shorter close text next (inl p) = omega (arith, ap length p.1, behind_shorter p.0 next p.2)
-parted_shorter close text next (inr p) = omega (arith, ap length p.1)
+parted_shorter close text next x4 = search (rules, behind_shorter)
 
 pub parted_less : (n : ℕ) (close : ℕ) (text next : List ℕ) → parted_at n close text ≡ Ok next → length next ≤ length text
 parted_less n close text next e = parted_shorter close text next (parted_sound n close text next e)
 
 pub colon_sound : (n : ℕ) (text after : List ℕ) → behind_colon_at n text ≡ Ok after → (text ≡ 58 ∷ after) × (begins_gap after ≡ true)
 unfolding behind_colon_at
-colon_sound n [] after e = absurd cc
-colon_sound n (b ∷ bs) after e =
-    let g = guard_true (begins_colon (b ∷ bs)) (read_to bs) (unexpected n (b ∷ bs)) after e in
-    let same : bs ≡ after = part_is bs after g.1 in
-    elim (cases_Bool (b == 58)) [
-      | inl t ↦
-          let gap = rw t at g.0 in
-          (ap (λ (x : ℕ). x ∷ bs) (eqb-true b 58 t) ∙ ap (λ (xs : List ℕ). 58 ∷ xs) same, subst (λ xs. begins_gap xs ≡ true) same gap)
-      | inr f ↦ let none = rw f at g.0 in absurd cc
-    ]
+colon_sound n x2 after e = search rules
 
 pub colon_complete : (n : ℕ) (after : List ℕ) → begins_gap after ≡ true → behind_colon_at n (58 ∷ after) ≡ Ok after
 unfolding behind_colon_at
@@ -188,10 +152,7 @@ module _ {A : Type 0} (n close : ℕ) (closer : IsCloser close) (part : List A �
 
   pub between_sound : (opening : ℕ) (after : List ℕ) (xs : List A) (rest : List ℕ) → between_at n close part after ≡ Ok (xs, rest) → IsBetween opening close R (opening ∷ after) xs rest
   unfolding between_at
-  between_sound opening after xs rest e =
-      let b = bind_ok (start_at n after) (λ body. parts_at n close part (suc (length body)) [] body) (xs, rest) e in
-      let p = parts_sound (suc (length b.0)) [] b.0 xs rest b.2 in
-      record { after = after; opens = refl; body = b.0; behind = start_sound n after b.0 b.1; each = subst (λ ys. ArePartsTo close R [] b.0 ys rest) (sym p.1) p.2 }
+  between_sound opening after xs rest e = search (rules, bind_ok, parts_sound, start_sound)
 
   pub between_complete : (opening : ℕ) (text : List ℕ) (xs : List A) (rest : List ℕ) (h : IsBetween opening close R text xs rest) → between_at n close part h.after ≡ Ok (xs, rest)
   unfolding between_at
@@ -199,5 +160,4 @@ module _ {A : Type 0} (n close : ℕ) (closer : IsCloser close) (part : List A �
       rw (start_complete n h.after h.body h.behind (parts_go_on [] h.body xs rest h.each)) (parts_complete (suc (length h.body)) [] h.body xs rest (omega arith) h.each)
 
   pub between_shorter : (opening : ℕ) (text : List ℕ) (xs : List A) (rest : List ℕ) → IsBetween opening close R text xs rest → length rest < length text
-  between_shorter opening text xs rest h =
-      omega (arith, ap length h.opens, behind_shorter h.after h.body h.behind, parts_shorter [] h.body xs rest h.each)
+  between_shorter opening text xs rest h = search (rules, behind_shorter, parts_shorter)

@@ -1,8 +1,8 @@
 -- A list or mapping is what reading it from the left gives, and nothing else.
-use Rattle.std.proofs.Common.{◌≡◌, ℕ, zero, suc, ◌+◌, ◌-◌, ◌≤◌, ◌<◌, ltb, ◌==◌, true, false, cond, List, [], ◌∷◌, ◌++◌, length, take, Result, Ok, Err, refl, sym, ap, subst, ◌∙◌, inl, inr, arith, length-append, zero-add}
+use Rattle.std.proofs.Common.{rules, ◌≡◌, ℕ, zero, suc, ◌+◌, ◌-◌, ◌≤◌, ◌<◌, ltb, true, false, cond, List, [], ◌∷◌, ◌++◌, length, take, Result, Ok, refl, sym, ap, subst, ◌∙◌, inl, inr, arith, length-append, zero-add}
 use Rattle.std.proofs.lemmas.Bool.{eqb-true, le-ltb, ltb-false}
 use Rattle.std.proofs.Math.Seq.{take-append_seam}
-use Rattle.yaml_subset.specs.declared.fault.FaultKind.TheVariants.{DuplicateKey, Flow, NotInSubset}
+use Rattle.yaml_subset.specs.declared.fault.FaultKind.TheVariants.{DuplicateKey, NotInSubset}
 use Rattle.yaml_subset.specs.declared.place.PlacedFault.{PlacedFault}
 use Rattle.yaml_bytes.specs.Bytes.{characters}
 use Rattle.yaml_subset.specs.Keys.{is_among}
@@ -10,7 +10,7 @@ use Rattle.yaml_subset.specs.Node.{Node, scalar, sequence, mapping, Pair, nodes_
 use Rattle.yaml_bytes.specs.Results.{◌>>=◌}
 use Rattle.yaml_subset.specs.Placed.{fault_at}
 use Rattle.yaml_subset.specs.Words.{IsWordAt, word_at}
-use Rattle.yaml_subset.specs.Flow.{begins_bracket, keys_of, ArePartsTo, IsBetween, IsFlowPair, IsBracketed, IsFlowValue, IsFlow, start_at, behind_colon_at, between_at, flow_pair_at, flow_list_at, flow_mapping_at, bracketed_at, flow_value_at, flow_at}
+use Rattle.yaml_subset.specs.Flow.{begins_bracket, keys_of, ArePartsTo, IsBetween, IsFlowPair, IsBracketed, IsFlowValue, IsFlow, start_at, behind_colon_at, flow_pair_at, flow_list_at, flow_mapping_at, bracketed_at, flow_value_at, flow_at}
 use Rattle.yaml_subset.proofs.KeySets.{fresh_sound, fresh_complete}
 use Rattle.yaml_bytes.proofs.Steps.{bind_ok, guard_true, guard_false}
 use Rattle.yaml_bytes.proofs.Steps.{chosen}
@@ -29,10 +29,6 @@ front_is : (text front rest : List ℕ) → text ≡ front ++ rest → take (len
 front_is text front rest e =
     let k : length front ≡ length text - length rest = omega (arith, ap length e, length-append front rest) in
     subst (λ n. take n text ≡ front) k (ap (take (length front)) e ∙ take-append_seam front rest)
-
-bind_same : {A B : Type 0} (r : Result A PlacedFault) (f g : A → Result B PlacedFault) → ((x : A) → f x ≡ g x) → (r >>= f) ≡ (r >>= g)
-bind_same (Ok x) f g same = same x
-bind_same (Err e) f g same = refl
 
 -- ---- pairs
 
@@ -56,9 +52,7 @@ module _ (n : ℕ) (value : ValueReader) where
   -- a key is compared with those before it, whatever their order
   pub pair_same : (keys others : List (List ℕ)) (text : List ℕ) → ((q : List ℕ) → is_among keys q ≡ is_among others q) → flow_pair_at n value keys text ≡ flow_pair_at n value others text
   unfolding flow_pair_at
-  pair_same keys others text same =
-      bind_same (word_at n true text) (behind_key keys text) (behind_key others text)
-      (λ w. bind_same (behind_colon_at n w.1) (compared keys text w) (compared others text w) (λ after. rw (same w.0) refl))
+  pair_same keys others text same = search rules
 
 module _ (n : ℕ) (value : ValueReader) (R : ValueRelation) (reads : Reads value R) where
   pair_of : (before : List Pair) (text : List ℕ) (w : List ℕ × List ℕ) (after inner : List ℕ) (v : Node × List ℕ) (p : Pair) (rest : List ℕ)
@@ -85,15 +79,7 @@ module _ (n : ℕ) (value : ValueReader) (R : ValueRelation) (reads : Reads valu
 
   pair_sound : (before : List Pair) (text : List ℕ) (p : Pair) (rest : List ℕ) → flow_pair_at n value (keys_of before) text ≡ Ok (p, rest) → IsFlowPair n R before text p rest
   unfolding flow_pair_at
-  pair_sound before text p rest e =
-      let keys = keys_of before in
-      let w = bind_ok (word_at n true text) (behind_key n value keys text) (p, rest) e in
-      let c = bind_ok (behind_colon_at n w.0.1) (compared n value keys text w.0) (p, rest) w.2 in
-      let a = guard_false (is_among keys w.0.0) (measured n value text w.0 c.0) (record { kind = DuplicateKey; line = n; left = length text }) (p, rest) c.2 in
-      let l = guard_false (ltb 1024 (characters (take (length text - length w.0.1) text))) (inside n value w.0.0 c.0) (record { kind = NotInSubset; line = n; left = length w.0.1 }) (p, rest) a.1 in
-      let s = bind_ok (start_at n c.0) (λ inner. value inner >>= made n value w.0.0) (p, rest) l.1 in
-      let v = bind_ok (value s.0) (made n value w.0.0) (p, rest) s.2 in
-      pair_of before text w.0 c.0 s.0 v.0 p rest w.1 c.1 a.0 l.0 s.1 v.1 v.2
+  pair_sound before text p rest e = search (rules, bind_ok, guard_false, pair_of)
 
   pair_complete : (before : List Pair) (text : List ℕ) (p : Pair) (rest : List ℕ) → IsFlowPair n R before text p rest → flow_pair_at n value (keys_of before) text ≡ Ok (p, rest)
   unfolding flow_pair_at
@@ -105,8 +91,7 @@ module _ (n : ℕ) (value : ValueReader) (R : ValueRelation) (reads : Reads valu
       (ap (λ (m : ℕ). Ok (record { line = m; key = p.key; value = p.value }, rest)) (sym h.line))
 
   pair_shorter : (before : List Pair) (text : List ℕ) (p : Pair) (rest : List ℕ) → IsFlowPair n R before text p rest → length rest < length text
-  pair_shorter before text p rest h =
-      omega (arith, ap length h.parts, length-append h.front (58 ∷ h.after), behind_shorter h.after h.inner h.behind, reads.shorter h.inner p.value rest h.value)
+  pair_shorter before text p rest h = search (rules, length-append, behind_shorter)
 
   pub pair_reads : (before : List Pair) → Reads (flow_pair_at n value (keys_of before)) (IsFlowPair n R before)
   pair_reads before = record {
@@ -120,33 +105,15 @@ module _ (n : ℕ) (value : ValueReader) (R : ValueRelation) (reads : Reads valu
 
   list_sound : (after : List ℕ) (t : Node) (rest : List ℕ) → flow_list_at n value after ≡ Ok (t, rest) → (items : List Node) × IsBetween 91 93 (λ before. R) (91 ∷ after) items rest × (t ≡ sequence n (nodes_of items))
   unfolding flow_list_at
-  list_sound after t rest e =
-      let b = bind_ok (between_at n 93 (λ before. value) after) (λ r. Ok (sequence n (nodes_of r.0), r.1)) (t, rest) e in
-      let q = part_is (sequence n (nodes_of b.0.0), b.0.1) (t, rest) b.2 in
-      let ends : b.0.1 ≡ rest = ap (λ (z : Node × List ℕ). z.1) q in
-      let between : IsBetween 91 93 (λ before. R) (91 ∷ after) b.0.0 b.0.1 = between_sound n 93 closes_list (λ before. value) (λ before. R) (λ before. reads) 91 after b.0.0 b.0.1 b.1 in
-      (b.0.0, subst (IsBetween 91 93 (λ before. R) (91 ∷ after) b.0.0) ends between, sym (ap (λ (z : Node × List ℕ). z.0) q))
+  list_sound after t rest e = search (rules, bind_ok, part_is, between_sound, closes_list)
 
   mapping_sound : (after : List ℕ) (t : Node) (rest : List ℕ) → flow_mapping_at n value after ≡ Ok (t, rest) → (pairs : List Pair) × IsBetween 123 125 (IsFlowPair n R) (123 ∷ after) pairs rest × (t ≡ mapping n (pairs_of pairs))
   unfolding flow_mapping_at
-  mapping_sound after t rest e =
-      let part : List Pair → List ℕ → Result (Pair × List ℕ) PlacedFault = λ before. flow_pair_at n value (keys_of before) in
-      let b = bind_ok (between_at n 125 part after) (λ r. Ok (mapping n (pairs_of r.0), r.1)) (t, rest) e in
-      let q = part_is (mapping n (pairs_of b.0.0), b.0.1) (t, rest) b.2 in
-      let ends : b.0.1 ≡ rest = ap (λ (z : Node × List ℕ). z.1) q in
-      let between : IsBetween 123 125 (IsFlowPair n R) (123 ∷ after) b.0.0 b.0.1 = between_sound n 125 closes_mapping part (IsFlowPair n R) pair_reads 123 after b.0.0 b.0.1 b.1 in
-      (b.0.0, subst (IsBetween 123 125 (IsFlowPair n R) (123 ∷ after) b.0.0) ends between, sym (ap (λ (z : Node × List ℕ). z.0) q))
+  mapping_sound after t rest e = search (rules, bind_ok, part_is, between_sound, closes_mapping, pair_reads)
 
   bracketed_sound : (text : List ℕ) (t : Node) (rest : List ℕ) → bracketed_at n value text ≡ Ok (t, rest) → IsBracketed n R text t rest
   unfolding bracketed_at
-  bracketed_sound [] t rest e = absurd cc
-  bracketed_sound (b ∷ after) t rest e =
-      elim (chosen (b == 91) (flow_list_at n value after) (cond (b == 123) (flow_mapping_at n value after) (fault_at Flow n (length (b ∷ after)))) (Ok (t, rest)) e) [
-        | inl p ↦ inl (subst (λ (x : ℕ). (items : List Node) × IsBetween 91 93 (λ before. R) (x ∷ after) items rest × (t ≡ sequence n (nodes_of items))) (sym (eqb-true b 91 p.0)) (list_sound after t rest p.1))
-        | inr p ↦
-            let g = guard_true (b == 123) (flow_mapping_at n value after) (record { kind = Flow; line = n; left = length (b ∷ after) }) (t, rest) p.1 in
-            inr (subst (λ (x : ℕ). (pairs : List Pair) × IsBetween 123 125 (IsFlowPair n R) (x ∷ after) pairs rest × (t ≡ mapping n (pairs_of pairs))) (sym (eqb-true b 123 g.0)) (mapping_sound after t rest g.1))
-      ]
+  bracketed_sound x1 t rest e = search (rules, eqb-true, list_sound, guard_true, mapping_sound)
 
   bracketed_complete : (text : List ℕ) (t : Node) (rest : List ℕ) → IsBracketed n R text t rest → bracketed_at n value text ≡ Ok (t, rest)
   unfolding bracketed_at flow_list_at flow_mapping_at
@@ -160,10 +127,7 @@ module _ (n : ℕ) (value : ValueReader) (R : ValueRelation) (reads : Reads valu
   bracketed_shorter text t rest (inr h) = between_shorter n 125 closes_mapping (λ before. flow_pair_at n value (keys_of before)) (IsFlowPair n R) pair_reads 123 text h.0 rest h.1
 
 bracketed_begins : (n : ℕ) (R : ValueRelation) (text : List ℕ) (t : Node) (rest : List ℕ) → IsBracketed n R text t rest → BeginsPart text × (begins_bracket text ≡ true)
-bracketed_begins n R text t rest (inl h) =
-    (record { first = 91; others = h.1.after; parts = h.1.opens; no_list_end = λ e. omega (arith, e); no_mapping_end = λ e. omega (arith, e); no_comment = λ e. omega (arith, e) }, rw h.1.opens refl)
-bracketed_begins n R text t rest (inr h) =
-    (record { first = 123; others = h.1.after; parts = h.1.opens; no_list_end = λ e. omega (arith, e); no_mapping_end = λ e. omega (arith, e); no_comment = λ e. omega (arith, e) }, rw h.1.opens refl)
+bracketed_begins n R text t rest x6 = search rules
 
 -- ---- values
 
@@ -200,8 +164,7 @@ module _ (n : ℕ) (inner : ValueReader) (R : ValueRelation) (reads : Reads inne
 
 -- a list or mapping begins with its bracket or brace
 pub flow_begins : (levels n : ℕ) (text : List ℕ) (t : Node) (rest : List ℕ) → IsFlow levels n text t rest → begins_bracket text ≡ true
-flow_begins zero n text t rest h = absurd h
-flow_begins (suc levels) n text t rest h = (bracketed_begins n (IsFlowValue n (IsFlow levels n)) text t rest h).1
+flow_begins x1 n text t rest h = search rules
 
 pub flow_reads : (levels n : ℕ) → Reads (flow_at levels n) (IsFlow levels n)
 unfolding flow_at
@@ -244,33 +207,17 @@ module _ (n : ℕ) (R S : ValueRelation) (more : (text : List ℕ) (t : Node) (r
   items_more before text (t ∷ ts) rest h = (h.0, h.1, more text t h.0 h.2, h.3, items_more (before ++ t ∷ []) h.1 ts rest h.4)
 
   pair_more : (before : List Pair) (text : List ℕ) (p : Pair) (rest : List ℕ) → IsFlowPair n R before text p rest → IsFlowPair n S before text p rest
-  pair_more before text p rest h = record {
-    line = h.line;
-    after = h.after;
-    is_key = h.is_key;
-    gap = h.gap;
-    fresh = h.fresh;
-    front = h.front;
-    parts = h.parts;
-    near = h.near;
-    inner = h.inner;
-    behind = h.behind;
-    value = more h.inner p.value rest h.value;
-  }
+  pair_more before text p rest h = search rules
 
   pairs_more : (before : List Pair) (text : List ℕ) (ps : List Pair) (rest : List ℕ) → ArePartsTo 125 (IsFlowPair n R) before text ps rest → ArePartsTo 125 (IsFlowPair n S) before text ps rest
   pairs_more before text [] rest h = h
   pairs_more before text (p ∷ ps) rest h = (h.0, h.1, pair_more before text p h.0 h.2, h.3, pairs_more (before ++ p ∷ []) h.1 ps rest h.4)
 
   bracketed_more : (text : List ℕ) (t : Node) (rest : List ℕ) → IsBracketed n R text t rest → IsBracketed n S text t rest
-  bracketed_more text t rest (inl h) =
-      inl (h.0, record { after = h.1.after; opens = h.1.opens; body = h.1.body; behind = h.1.behind; each = items_more [] h.1.body h.0 rest h.1.each }, h.2)
-  bracketed_more text t rest (inr h) =
-      inr (h.0, record { after = h.1.after; opens = h.1.opens; body = h.1.body; behind = h.1.behind; each = pairs_more [] h.1.body h.0 rest h.1.each }, h.2)
+  bracketed_more text t rest x4 = search (rules, items_more, pairs_more)
 
 value_more : (n : ℕ) (R S : ValueRelation) (more : (text : List ℕ) (t : Node) (rest : List ℕ) → R text t rest → S text t rest) (text : List ℕ) (t : Node) (rest : List ℕ) → IsFlowValue n R text t rest → IsFlowValue n S text t rest
-value_more n R S more text t rest (inl w) = inl w
-value_more n R S more text t rest (inr h) = inr (more text t rest h)
+value_more n R S more text t rest x8 = search rules
 
 one_more : (levels n : ℕ) (text : List ℕ) (t : Node) (rest : List ℕ) → IsFlow levels n text t rest → IsFlow (suc levels) n text t rest
 one_more zero n text t rest h = absurd h

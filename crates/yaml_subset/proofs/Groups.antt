@@ -1,11 +1,10 @@
 -- Groups of lines, and the loop over them.
-use Rattle.std.proofs.Common.{◌≡◌, ℕ, zero, suc, ◌+◌, ◌-◌, ◌≤◌, Bool, true, false, ◌||◌, List, [], ◌∷◌, ◌++◌, length, take, drop, Option, Some, None, Result, Ok, Err, refl, sym, ap, subst, ◌∙◌, arith, append_assoc, get_or}
+use Rattle.std.proofs.Common.{rules, ◌≡◌, ℕ, zero, suc, ◌+◌, ◌-◌, ◌≤◌, Bool, ◌||◌, List, [], ◌∷◌, ◌++◌, length, take, drop, Option, Result, Ok, refl, ap, subst, ◌∙◌, arith, append_assoc, get_or}
 use Rattle.std.specs.Str.{bytes_eq}
 use Rattle.std.proofs.lemmas.List.{append-nil, length-drop, drop-drop, drop_all}
 use Rattle.std.proofs.Math.Seq.{drop-cons, take-length}
 use Rattle.yaml_subset.specs.declared.place.PlacedFault.{PlacedFault}
 use Rattle.yaml_subset.specs.declared.place.Halt.{Halt}
-use Rattle.yaml_subset.specs.declared.place.Halt.TheVariants as halts
 use Rattle.yaml_subset.specs.declared.line.Line as lines
 use Rattle.yaml_subset.specs.Node.{Node, Pair}
 use Rattle.yaml_subset.specs.TextLines.{Line}
@@ -21,8 +20,7 @@ use Rattle.yaml_subset.specs.Reading.{key_at, BlockReader, chunks, groups_of, ha
 chunks_step : (hangs : Line → Bool) (l : Line) (ls : List Line) (b : Bool) → hangs l ≡ b →
     chunks hangs ls ≡ (take (hanging_len hangs ls) ls, groups_of hangs (drop (hanging_len hangs ls) ls)) →
     chunks hangs (l ∷ ls) ≡ (take (hanging_len hangs (l ∷ ls)) (l ∷ ls), groups_of hangs (drop (hanging_len hangs (l ∷ ls)) (l ∷ ls)))
-chunks_step hangs l ls true e h = rw (e, h) refl
-chunks_step hangs l ls false e h = rw e refl
+chunks_step hangs l ls x4 e h = search rules
 
 chunks_at : (hangs : Line → Bool) (ls : List Line) → chunks hangs ls ≡ (take (hanging_len hangs ls) ls, groups_of hangs (drop (hanging_len hangs ls) ls))
 chunks_at hangs [] = refl
@@ -66,14 +64,12 @@ abbrev pub SameKeys : List (List ℕ) → List (List ℕ) → Type 0
 SameKeys ks js = (q : List ℕ) → is_among ks q ≡ is_among js q
 
 bind-same : {A B : Type 0} (r : Result A PlacedFault) (f g : A → Result B PlacedFault) → ((x : A) → f x ≡ g x) → (r >>= f) ≡ (r >>= g)
-bind-same (Ok x) f g same = same x
-bind-same (Err e) f g same = refl
+bind-same x1 f g same = search rules
 
 module _ (depth : ℕ) (block : BlockReader) (around : Option ℕ) (i : ℕ) where
   pair_from-same : (ks js : List (List ℕ)) (g : Group) (found : Option (List ℕ × List ℕ)) → SameKeys ks js → pair_from depth block i ks g found ≡ pair_from depth block i js g found
   unfolding pair_from
-  pair_from-same ks js g None same = refl
-  pair_from-same ks js g (Some k) same = rw (same k.0) refl
+  pair_from-same ks js g x4 same = search rules
 
   pair_at-same : (ks js : List (List ℕ)) (g : Group) → SameKeys ks js → pair_at depth block around i ks g ≡ pair_at depth block around i js g
   unfolding pair_at
@@ -94,37 +90,26 @@ abbrev pub with_front : {A : Type 0} → List A → Result (List A) PlacedFault 
 with_front front read = read >>= λ xs. Ok (front ++ xs)
 
 regroup : {A : Type 0} (front : List A) (x : A) (read : Result (List A) PlacedFault) → with_front front (read >>= λ xs. Ok (x ∷ xs)) ≡ with_front (front ++ x ∷ []) read
-regroup front x (Ok xs) = ap (λ ys. Ok ys) (simp append_assoc)
-regroup front x (Err f) = refl
+regroup front x x3 = search (rules, append_assoc)
 
 module _ (depth : ℕ) (block : BlockReader) (around : Option ℕ) (i : ℕ) (front : List Pair) (seen : List (List ℕ)) (groups : List Group) (g : Group) (gs : List Group) (total : Result (List Pair) PlacedFault) (is : groups ≡ g ∷ gs) where
   pub pairs_go_on : (p : Pair) (known : List (List ℕ)) → ((q : List ℕ) → is_among known q ≡ (bytes_eq p.key q || is_among seen q))
       → pair_at depth block around i seen g ≡ Ok p → with_front front (pairs_at depth block around i seen groups) ≡ total → with_front (front ++ p ∷ []) (pairs_at depth block around i known gs) ≡ total
   unfolding pairs_at
-  pairs_go_on p known is_known h so_far =
-      let one : with_front front (pairs_at depth block around i seen groups) ≡ with_front (front ++ p ∷ []) (pairs_at depth block around i (p.key ∷ seen) gs) = rw (is, h) (regroup front p (pairs_at depth block around i (p.key ∷ seen) gs)) in
-      ap (with_front (front ++ p ∷ [])) (pairs_at-same depth block around i known (p.key ∷ seen) gs is_known) ∙ sym one ∙ so_far
+  pairs_go_on p known is_known h so_far = search (rules, regroup, pairs_at-same)
 
   pub pairs_stop : (e : Halt) → HaltsAs e (pair_at depth block around i seen g) → with_front front (pairs_at depth block around i seen groups) ≡ total → HaltsAs e total
   unfolding pairs_at
-  pairs_stop halts.NoMemory h so_far = tt
-  pairs_stop (halts.At f) h so_far =
-      let one : with_front front (pairs_at depth block around i seen groups) ≡ Err f = rw (is, h) refl in
-      sym so_far ∙ one
+  pairs_stop x1 h so_far = search rules
 
 module _ (depth : ℕ) (block : BlockReader) (around : Option ℕ) (i : ℕ) (front : List Node) (groups : List Group) (g : Group) (gs : List Group) (total : Result (List Node) PlacedFault) (is : groups ≡ g ∷ gs) where
   pub items_go_on : (t : Node) → sequence_item_at depth block around i g ≡ Ok t → with_front front (sequence_items_at depth block around i groups) ≡ total → with_front (front ++ t ∷ []) (sequence_items_at depth block around i gs) ≡ total
   unfolding sequence_items_at
-  items_go_on t h so_far =
-      let one : with_front front (sequence_items_at depth block around i groups) ≡ with_front (front ++ t ∷ []) (sequence_items_at depth block around i gs) = rw (is, h) (regroup front t (sequence_items_at depth block around i gs)) in
-      sym one ∙ so_far
+  items_go_on t h so_far = search (rules, regroup)
 
   pub items_stop : (e : Halt) → HaltsAs e (sequence_item_at depth block around i g) → with_front front (sequence_items_at depth block around i groups) ≡ total → HaltsAs e total
   unfolding sequence_items_at
-  items_stop halts.NoMemory h so_far = tt
-  items_stop (halts.At f) h so_far =
-      let one : with_front front (sequence_items_at depth block around i groups) ≡ Err f = rw (is, h) refl in
-      sym so_far ∙ one
+  items_stop x1 h so_far = search rules
 
 module _ (depth : ℕ) (block : BlockReader) (around : Option ℕ) (i at : ℕ) (hangs : Line → Bool) (ls : List lines.Line) (past : length ls ≤ at) where
   no_groups : groups_of hangs (lines_view (drop at ls)) ≡ []
@@ -132,21 +117,15 @@ module _ (depth : ℕ) (block : BlockReader) (around : Option ℕ) (i at : ℕ) 
 
   pub pairs_done : (front : List Pair) (seen : List (List ℕ)) (total : Result (List Pair) PlacedFault) → with_front front (pairs_at depth block around i seen (groups_of hangs (lines_view (drop at ls)))) ≡ total → total ≡ Ok front
   unfolding pairs_at
-  pairs_done front seen total so_far =
-      let one : with_front front (pairs_at depth block around i seen (groups_of hangs (lines_view (drop at ls)))) ≡ Ok front = rw no_groups (ap (λ (xs : List Pair). Ok xs) (append-nil front)) in
-      sym so_far ∙ one
+  pairs_done front seen total so_far = search (rules, no_groups, append-nil)
 
   pub items_done : (front : List Node) (total : Result (List Node) PlacedFault) → with_front front (sequence_items_at depth block around i (groups_of hangs (lines_view (drop at ls)))) ≡ total → total ≡ Ok front
   unfolding sequence_items_at
-  items_done front total so_far =
-      let one : with_front front (sequence_items_at depth block around i (groups_of hangs (lines_view (drop at ls)))) ≡ Ok front = rw no_groups (ap (λ (xs : List Node). Ok xs) (append-nil front)) in
-      sym so_far ∙ one
+  items_done front total so_far = search (rules, no_groups, append-nil)
 
 pub fails_then : {A B : Type 0} (e : Halt) (read : Result A PlacedFault) (f : A → Result B PlacedFault) → HaltsAs e read → HaltsAs e (read >>= f)
-fails_then halts.NoMemory read f h = tt
-fails_then (halts.At d) read f h = rw h refl
+fails_then x1 read f h = search rules
 
 -- before anything was read
 pub at_start : {A : Type 0} (read : Result (List A) PlacedFault) → with_front [] read ≡ read
-at_start (Ok xs) = refl
-at_start (Err f) = refl
+at_start x1 = search rules

@@ -1,18 +1,18 @@
 -- What a line is read as is what it is.
-use Rattle.std.proofs.Common.{◌≡◌, ◌≢◌, ℕ, suc, zero, ◌+◌, ◌-◌, ◌≤◌, ltb, ◌==◌, true, false, ◌&&◌, List, [], ◌∷◌, ◌++◌, length, take, Option, Some, None, Result, Ok, Err, refl, sym, ap, subst, ◌∙◌, ◌⊎◌, inl, inr, arith}
-use Rattle.std.proofs.lemmas.Bool.{eqb-true, ne_eqb, le-ltb, ltb-false, cases_Bool, and_parts, or_cases, both_ways}
+use Rattle.std.proofs.Common.{rules, ◌≡◌, ℕ, ◌+◌, ◌-◌, ◌≤◌, ltb, true, false, ◌&&◌, List, ◌∷◌, ◌++◌, length, take, Option, Some, None, Result, Ok, refl, sym, ap, subst, ◌∙◌, ◌⊎◌, inl, inr, arith}
+use Rattle.std.proofs.lemmas.Bool.{le-ltb, ltb-false}
 use Rattle.std.proofs.lemmas.List.{length-append}
 use Rattle.std.proofs.Math.Seq.{take-append_seam}
 use Rattle.yaml_subset.specs.declared.place.PlacedFault.{PlacedFault}
 use Rattle.yaml_subset.specs.declared.fault.FaultKind.TheVariants.{Flow}
-use Rattle.yaml_bytes.specs.Bytes.{is_blank, is_indicator, is_mark, begins_blank, begins_gap, begins_item, is_over, characters}
+use Rattle.yaml_bytes.specs.Bytes.{is_mark, begins_blank, begins_gap, begins_item, is_over, characters}
 use Rattle.yaml_subset.specs.Node.{Node, scalar}
 use Rattle.yaml_bytes.specs.Results.{◌>>=◌}
 use Rattle.yaml_bytes.specs.Plain.{ends_word}
 use Rattle.yaml_subset.specs.Values.{IsKey, IsShortKey, IsNode, IsInline}
 use Rattle.yaml_subset.specs.Words.{IsWordAt, word_at}
 use Rattle.yaml_subset.specs.Flow.{IsFlow, begins_bracket, flow_at}
-use Rattle.yaml_bytes.specs.Scanning.{behind_blanks, behind_dash, before_colon}
+use Rattle.yaml_bytes.specs.Scanning.{behind_dash, before_colon}
 use Rattle.yaml_subset.specs.TreeOf.{IsDash}
 use Rattle.yaml_subset.specs.Reading.{Head, item, entry, alone, word_head, flow_head, text_head, head_from, head_at, key_in, key_from, key_at, node_from, inline_at}
 use Rattle.yaml_bytes.proofs.Steps.{bind_ok, guard_true, chosen, ok_is}
@@ -23,52 +23,24 @@ use Rattle.yaml_subset.proofs.FlowReads.{flow_sound, flow_complete}
 -- ---- items
 
 pub dash_sound : (text after : List ℕ) → behind_dash text ≡ Some after → IsDash text after
-dash_sound [] after e = absurd cc
-dash_sound (b ∷ bs) after e =
-    elim (chosen ((b == 45) && begins_gap bs) (Some bs) None (Some after) e) [
-      | inl p ↦
-          let both = and_parts (b == 45) (begins_gap bs) p.0 in
-          let h : Some bs ≡ Some after = p.1 in
-          let same : bs ≡ after = cc in
-          (ap (λ (x : ℕ). x ∷ bs) (eqb-true b 45 both.0) ∙ ap (λ (xs : List ℕ). 45 ∷ xs) same, ap begins_gap (sym same) ∙ both.1)
-      | inr p ↦ let h : None ≡ Some after = p.1 in absurd cc
-    ]
+dash_sound x1 after e = search rules
 
 pub dash_complete : (text after : List ℕ) → IsDash text after → behind_dash text ≡ Some after
 dash_complete text after h = rw (h.0, h.1) refl
 
-item_dash : (text : List ℕ) → begins_item text ≡ true → (after : List ℕ) × (behind_dash text ≡ Some after)
-item_dash [] e = absurd cc
-item_dash (b ∷ bs) e = (bs, rw e refl)
-
 -- ---- how words, lists and mappings begin
 
 no_dash : (b : ℕ) (bs : List ℕ) → (is_mark b && begins_gap bs) ≡ false → behind_dash (b ∷ bs) ≡ None
-no_dash b bs e =
-    elim (cases_Bool ((b == 45) && begins_gap bs)) [
-      | inl t ↦
-          let both = and_parts (b == 45) (begins_gap bs) t in
-          let m : is_mark b ≡ true = rw both.0 refl in
-          let bad : (is_mark b && begins_gap bs) ≡ true = rw (m, both.1) refl in
-          absurd (both_ways (is_mark b && begins_gap bs) e bad)
-      | inr f ↦ rw f refl
-    ]
+no_dash b bs e = search rules
 
 word_no_dash : (text : List ℕ) → BeginsWord false text → behind_dash text ≡ None
 word_no_dash text w = rw w.parts (no_dash w.first w.others w.no_mark)
 
 word_no_bracket : (text : List ℕ) → BeginsWord false text → begins_bracket text ≡ false
-word_no_bracket text w =
-    let not_it : (x : ℕ) → is_indicator x ≡ true → x ≢ 39 → x ≢ 34 → (w.first == x) ≡ false = λ x i s d. ne_eqb w.first x (w.no_indicator x i s d) in
-    rw (w.parts, not_it 91 refl (λ e. omega (arith, e)) (λ e. omega (arith, e)), not_it 123 refl (λ e. omega (arith, e)) (λ e. omega (arith, e))) refl
+word_no_bracket text w = search rules
 
 flow_begins_so : (depth n : ℕ) (text : List ℕ) (t : Node) (rest : List ℕ) → IsFlow depth n text t rest → (behind_dash text ≡ None) × (begins_bracket text ≡ true)
-flow_begins_so zero n text t rest h = absurd h
-flow_begins_so (suc depth) n text t rest h =
-    elim h [
-      | inl l ↦ (rw l.1.opens refl, rw l.1.opens refl)
-      | inr m ↦ (rw m.1.opens refl, rw m.1.opens refl)
-    ]
+flow_begins_so x1 n text t rest h = search rules
 
 -- ---- values
 
@@ -77,53 +49,25 @@ ok_head h = Ok h
 
 is_alone : (n : ℕ) (text : List ℕ) (h : Head) (t : Node) → node_from n text h ≡ Ok t → h ≡ alone t
 unfolding node_from
-is_alone n text (item after) t e = absurd cc
-is_alone n text (entry key after) t e = absurd cc
-is_alone n text (alone u) t e = ap (λ (v : Node). alone v) (ok_is u t e)
-
--- after a word a comment is, or a colon
-over_or_colon : (rest : List ℕ) → ends_word false 32 rest ≡ true → (is_over rest ≡ true) ⊎ ((after : List ℕ) × (rest ≡ 58 ∷ after))
-over_or_colon [] e = inl refl
-over_or_colon (b ∷ bs) e =
-    elim (or_cases ((b == 35) && is_blank 32) ((b == 58) && begins_gap bs) e) [
-      | inl c ↦ inl (and_parts (b == 35) (is_blank 32) c).0
-      | inr c ↦ inr (bs, ap (λ (x : ℕ). x ∷ bs) (eqb-true b 58 (and_parts (b == 58) (begins_gap bs) c).0))
-    ]
+is_alone n text x3 t e = search rules
 
 head_over : (n : ℕ) (value rest : List ℕ) → is_over rest ≡ true → word_head n value rest ≡ alone (scalar n value)
 unfolding word_head
-head_over n value [] e = refl
-head_over n value (b ∷ after) e =
-    let no : (b == 58) ≡ false = ne_eqb b 58 (λ k. omega (arith, eqb-true b 35 e)) in
-    rw no refl
+head_over n value x3 e = search rules
 
 word_alone : (n : ℕ) (value rest : List ℕ) (t : Node) → ends_word false 32 rest ≡ true → word_head n value rest ≡ alone t → (is_over rest ≡ true) × (t ≡ scalar n value)
 unfolding word_head
-word_alone n value rest t ends e =
-    elim (over_or_colon rest ends) [
-      | inl over ↦ let h : alone (scalar n value) ≡ alone t = sym (head_over n value rest over) ∙ e in (over, cc)
-      | inr colon ↦ let h : entry value colon.0 ≡ alone t = ap (word_head n value) (sym colon.1) ∙ e in absurd cc
-    ]
+word_alone n value rest t ends e = search rules
 
 word_entry : (n : ℕ) (value rest key after : List ℕ) → word_head n value rest ≡ entry key after → (rest ≡ 58 ∷ after) × (value ≡ key)
 unfolding word_head
-word_entry n value [] key after e = absurd cc
-word_entry n value (b ∷ bs) key after e =
-    elim (chosen (b == 58) (entry value bs) (alone (scalar n value)) (entry key after) e) [
-      | inl p ↦
-          let h : entry value bs ≡ entry key after = p.1 in
-          let k : value ≡ key = cc in
-          let a : bs ≡ after = cc in
-          (ap (λ (x : ℕ). x ∷ bs) (eqb-true b 58 p.0) ∙ ap (λ (xs : List ℕ). 58 ∷ xs) a, k)
-      | inr p ↦ let h : alone (scalar n value) ≡ entry key after = p.1 in absurd cc
-    ]
+word_entry n value x3 key after e = search rules
 
 -- ---- from the line to its text
 
 head_from_cases : (depth n : ℕ) (text : List ℕ) (found : Option (List ℕ)) (h : Head) → head_from depth n text found ≡ Ok h → ((after : List ℕ) × (found ≡ Some after) × (h ≡ item after)) ⊎ (text_head depth n text ≡ Ok h)
 unfolding head_from
-head_from_cases depth n text None h e = inr e
-head_from_cases depth n text (Some after) h e = inl (after, refl, sym (ok_is (item after) h e))
+head_from_cases depth n text x4 h e = search rules
 
 -- an item, or no item
 head_cases : (depth n : ℕ) (text : List ℕ) (h : Head) → head_at depth n text ≡ Ok h → ((after : List ℕ) × (behind_dash text ≡ Some after) × (h ≡ item after)) ⊎ (text_head depth n text ≡ Ok h)
@@ -179,16 +123,7 @@ alone_complete depth n text t h =
 -- ---- keys
 
 pub key_sound : (depth n : ℕ) (text key after : List ℕ) → head_at depth n text ≡ Ok (entry key after) → IsKey text key after
-key_sound depth n text key after e =
-    elim (head_cases depth n text (entry key after) e) [
-      | inl i ↦ let h : entry key after ≡ item i.0 = i.2 in absurd cc
-      | inr w ↦ elim (text_cases depth n text (entry key after) w) [
-        | inl f ↦ let h : entry key after ≡ alone f.0 = f.4 in absurd cc
-        | inr v ↦
-            let a = word_entry n v.0 v.1 key after v.3 in
-            subst (λ k. IsWordAt false text k (58 ∷ after)) a.1 (subst (λ rest. IsWordAt false text v.0 rest) a.0 v.2)
-      ]
-    ]
+key_sound depth n text key after e = search (rules, head_cases, text_cases, word_entry)
 
 pub key_complete : (depth n : ℕ) (text key after : List ℕ) → IsKey text key after → head_at depth n text ≡ Ok (entry key after)
 unfolding head_at head_from text_head word_head
@@ -198,19 +133,10 @@ key_complete depth n text key after h =
 
 -- a key begins with no blank, and with no comment
 pub key_begins : (text key after : List ℕ) → IsKey text key after → (begins_blank text ≡ false) × (is_over text ≡ false)
-key_begins text key after h =
-    let w = word_begins false text key (58 ∷ after) h in
-    (rw w.parts w.no_blank, rw w.parts (ne_eqb w.first 35 (w.no_indicator 35 refl (λ e. omega (arith, e)) (λ e. omega (arith, e)))))
+key_begins text key after h = search rules
 
 pub key_no_item : (text key after : List ℕ) → IsKey text key after → begins_item text ≡ false
-key_no_item text key after h =
-    elim (cases_Bool (begins_item text)) [
-      | inl t ↦
-          let d = item_dash text t in
-          let both : None ≡ Some d.0 = sym (word_no_dash text (word_begins false text key (58 ∷ after) h)) ∙ d.1 in
-          absurd cc
-      | inr f ↦ f
-    ]
+key_no_item text key after h = search rules
 
 -- what an item is read as
 pub item_head : (depth n : ℕ) (text after : List ℕ) → behind_dash text ≡ Some after → head_at depth n text ≡ Ok (item after)
@@ -227,22 +153,11 @@ before_colon-is text front after e =
 -- the key of a line that is an entry
 key_in_sound : (word rest : List ℕ) (k : List ℕ × List ℕ) → key_in word rest ≡ Some k → (rest ≡ 58 ∷ k.1) × (word ≡ k.0)
 unfolding key_in
-key_in_sound word [] k e = absurd cc
-key_in_sound word (b ∷ bs) k e =
-    elim (chosen (b == 58) (Some (word, bs)) None (Some k) e) [
-      | inl p ↦
-          let h : Some (word, bs) ≡ Some k = p.1 in
-          let same : (word, bs) ≡ k = cc in
-          (ap (λ (x : ℕ). x ∷ bs) (eqb-true b 58 p.0) ∙ ap (λ (w : List ℕ × List ℕ). 58 ∷ w.1) same, ap (λ (w : List ℕ × List ℕ). w.0) same)
-      | inr p ↦ let h : None ≡ Some k = p.1 in absurd cc
-    ]
+key_in_sound word x2 k e = search rules
 
 key_from_sound : (n : ℕ) (text : List ℕ) (read : Result (List ℕ × List ℕ) PlacedFault) (k : List ℕ × List ℕ) → word_at n false text ≡ read → key_from read ≡ Some k → IsKey text k.0 k.1
 unfolding key_from
-key_from_sound n text (Err f) k w e = absurd cc
-key_from_sound n text (Ok r) k w e =
-    let a = key_in_sound r.0 r.1 k e in
-    subst (λ word. IsWordAt false text word (58 ∷ k.1)) a.1 (subst (λ rest. IsWordAt false text r.0 rest) a.0 (word_sound n false text r.0 r.1 w))
+key_from_sound n text x3 k w e = search (rules, key_in_sound, word_sound)
 
 pub key_at_sound : (n : ℕ) (text : List ℕ) (k : List ℕ × List ℕ) → key_at n text ≡ Some k → IsKey text k.0 k.1
 unfolding key_at
@@ -266,16 +181,7 @@ entry_short text key after h = rw (before_colon-is text h.front after h.parts) (
 
 pub inline_sound : (depth n : ℕ) (text : List ℕ) (value : Option Node) → inline_at depth n text ≡ Ok value → IsInline depth n text value
 unfolding inline_at
-inline_sound depth n text value e =
-    let rest = behind_blanks text in
-    let made : Head → Result (Option Node) PlacedFault = λ h. node_from n rest h >>= λ t. Ok (Some t) in
-    elim (chosen (is_over rest) (Ok None) (head_at depth n rest >>= made) (Ok value) e) [
-      | inl p ↦ subst (IsInline depth n text) (ok_is None value p.1) (rest, is_behind_blanks text, p.0)
-      | inr p ↦
-          let b = bind_ok (head_at depth n rest) made value p.1 in
-          let c = bind_ok (node_from n rest b.0) (λ t. Ok (Some t)) value b.2 in
-          subst (IsInline depth n text) (ok_is (Some c.0) value c.2) (rest, is_behind_blanks text, p.0, alone_sound depth n rest c.0 (b.1 ∙ ap ok_head (is_alone n rest b.0 c.0 c.1)))
-    ]
+inline_sound depth n text value e = search (rules, ok_is, is_behind_blanks, bind_ok, alone_sound, is_alone)
 
 pub inline_complete : (depth n : ℕ) (text : List ℕ) (value : Option Node) → IsInline depth n text value → inline_at depth n text ≡ Ok value
 unfolding inline_at node_from

@@ -1,5 +1,5 @@
 -- A set of keys, by their bytes.
-use Rattle.std.proofs.Common.{is_eq, ◌≡◌, ℕ, Bool, true, false, cond, ◌||◌, List, [], ◌∷◌, ◌++◌, map, refl, sym, ap, ◌∙◌, inl, inr, arith}
+use Rattle.std.proofs.Common.{rules, is_eq, ◌≡◌, ℕ, Bool, true, false, cond, ◌||◌, List, [], ◌∷◌, ◌++◌, map, refl, sym, ap, ◌∙◌, arith}
 use Rattle.std.specs.Bool.{Decides}
 use Rattle.std.specs.List.{list_any, Contains}
 use Rattle.std.specs.Str.{bytes_eq}
@@ -30,18 +30,13 @@ slice_cmp-same [] = refl
 slice_cmp-same (x ∷ xs) = rw (nat_cmp-same x) (slice_cmp-same xs)
 
 equal : (o : Ordering) → is_eq o ≡ true → o ≡ Equal
-equal Less e = absurd cc
-equal Equal e = refl
-equal Greater e = absurd cc
+equal x1 e = search rules
 
 or_swap : (a b c : Bool) → (a || (b || c)) ≡ (b || (a || c))
-or_swap true true c = refl
-or_swap true false c = refl
-or_swap false b c = refl
+or_swap x1 x2 c = search rules
 
 or_again : (a c : Bool) → (a || c) ≡ (a || (a || c))
-or_again true c = refl
-or_again false c = refl
+or_again x1 c = search rules
 
 module _ {K : Type 0} (bytes_of : K → List ℕ) where
   -- the order of keys, which is that of their bytes
@@ -82,11 +77,7 @@ pub fresh_sound : (keys : List (List ℕ)) (key : List ℕ) → is_among keys ke
 fresh_sound keys key e h = both_ways (is_among keys key) e ((among_decides keys key).1 h)
 
 pub fresh_complete : (keys : List (List ℕ)) (key : List ℕ) → (Contains keys key → ⊥) → is_among keys key ≡ false
-fresh_complete keys key h =
-    elim (cases_Bool (is_among keys key)) [
-      | inl e ↦ absurd (h ((among_decides keys key).0 e))
-      | inr e ↦ e
-    ]
+fresh_complete keys key h = search (rules, cases_Bool, among_decides)
 
 -- a key after others is among them as well as in front of them
 pub among-push : (keys : List (List ℕ)) (key q : List ℕ) → is_among (keys ++ key ∷ []) q ≡ (bytes_eq key q || is_among keys q)
@@ -97,11 +88,7 @@ among-push (k ∷ ks) key q = ap (λ b. bytes_eq k q || b) (among-push ks key q)
 
 -- a key that is among others changes nothing
 among-again : (keys : List (List ℕ)) (key q : List ℕ) → is_among keys key ≡ true → is_among keys q ≡ (bytes_eq key q || is_among keys q)
-among-again keys key q e =
-    elim (cases_Bool (bytes_eq key q)) [
-      | inl t ↦ rw t (ap (is_among keys) (sym ((bytes_eq-Decides key q).0 t)) ∙ e)
-      | inr f ↦ rw f refl
-    ]
+among-again keys key q e = search rules
 
 turned : (k q : List ℕ) → bytes_eq q k ≡ bytes_eq k q
 turned k q = same_from_decides (bytes_eq q k) (bytes_eq k q) (λ e. sym ((bytes_eq-Decides q k).0 e), λ p. (bytes_eq-Decides q k).1 (sym p)) (bytes_eq-Decides k q)

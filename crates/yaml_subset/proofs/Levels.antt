@@ -1,5 +1,5 @@
 -- More levels change nothing, so lines have one tree.
-use Rattle.std.proofs.Common.{◌≡◌, ℕ, zero, suc, ◌+◌, ◌≤◌, ◌-◌, List, [], ◌∷◌, Option, Some, None, zero-add, sym, subst, ◌∙◌, inl, inr, arith}
+use Rattle.std.proofs.Common.{rules, ◌≡◌, ℕ, zero, suc, ◌+◌, ◌≤◌, ◌-◌, List, [], ◌∷◌, Option, None, zero-add, sym, subst, ◌∙◌, inl, inr, arith}
 use Rattle.yaml_subset.specs.Node.{Node, Pair}
 use Rattle.yaml_subset.specs.Values.{IsNode, IsInline}
 use Rattle.yaml_subset.specs.TextLines.{Line}
@@ -13,17 +13,14 @@ module _ (depth limit : ℕ) (within : depth ≤ limit) where
   node_more n text t h = (h.0, elim h.1 [ inl w ↦ inl w | inr f ↦ inr (more_flow_levels depth limit n text t h.0 within f) ], h.2)
 
   inline_more : (n : ℕ) (text : List ℕ) (inline : Option Node) → IsInline depth n text inline → IsInline limit n text inline
-  inline_more n text None h = h
-  inline_more n text (Some t) h = (h.0, h.1, h.2, node_more n h.0 t h.3)
+  inline_more n text x3 h = search (rules, node_more)
 
   alone_more : (first : Line) (others : List Line) (t : Node) → IsAlone depth first others t → IsAlone limit first others t
   alone_more first others t h = record { alone = h.alone; value = node_more first.number first.text t h.value }
 
   module _ (R S : List Line → Node → Type 0) (more : (ls : List Line) (t : Node) → R ls t → S ls t) where
     value_more : (n : ℕ) (inline : Option Node) (below : List Line) (t : Node) → IsEntryValue R n inline below t → IsEntryValue S n inline below t
-    value_more n (Some u) below t h = h
-    value_more n None [] t h = h
-    value_more n None (l ∷ ls) t h = more (l ∷ ls) t h
+    value_more n x2 x3 t h = search rules
 
     pairs_more : (before : List (List ℕ)) (gs : List Group) (ps : List Pair) → ArePairs depth R before gs ps → ArePairs limit S before gs ps
     pairs_more before [] [] h = tt
@@ -46,14 +43,7 @@ module _ (depth limit : ℕ) (within : depth ≤ limit) where
     mapping_more first others t h = record { groups = h.groups; pairs = h.pairs; run = h.run; each = pairs_more [] h.groups h.pairs h.each; tree = h.tree }
 
     item_more : (g : Group) (t : Node) → IsSequenceItem depth R g t → IsSequenceItem limit S g t
-    item_more g t h = record {
-      after = h.after;
-      dash = h.dash;
-      node = elim h.node [
-        | inl v ↦ inl (v.0, inline_more g.head.number h.after v.0 v.1, value_more g.head.number v.0 g.below t v.2)
-        | inr m ↦ inr (m.0, m.1, more (m.0 ∷ g.below) t m.2)
-      ];
-    }
+    item_more g t h = search (rules, inline_more, value_more)
 
     items_more : (gs : List Group) (ts : List Node) → AreSequenceItems depth R gs ts → AreSequenceItems limit S gs ts
     items_more [] [] h = tt

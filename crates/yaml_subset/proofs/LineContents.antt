@@ -1,5 +1,5 @@
 -- The lines with content are those that reading finds.
-use Rattle.std.proofs.Common.{◌≡◌, ℕ, ◌+◌, false, cond, List, [], ◌∷◌, ◌++◌, length, drop, Option, Some, None, Result, Ok, Err, refl, sym, ap, subst, ◌∙◌, inl, inr}
+use Rattle.std.proofs.Common.{rules, ◌≡◌, ℕ, ◌+◌, cond, List, [], ◌∷◌, ◌++◌, length, Option, Some, None, Result, Ok, refl, sym, ap, subst, ◌∙◌, inl, inr}
 use Rattle.std.specs.Option.{option_to_list}
 use Rattle.yaml_subset.specs.declared.place.PlacedFault.{PlacedFault}
 use Rattle.yaml_subset.specs.declared.fault.FaultKind.TheVariants.{NotInSubset, Tab}
@@ -35,20 +35,13 @@ content_sound n raw found e =
 content_complete : (n : ℕ) (raw : List ℕ) (found : Option Line) → Holds n raw found → content_at n raw ≡ Ok found
 unfolding content_at
 content_complete n raw None h = rw (behind_blanks-is raw h.0 h.1, h.2) refl
-content_complete n raw (Some l) h =
-    let c = h.1 in
-    let len : spaces_len raw ≡ l.indent = ap spaces_len c.parts ∙ spaces_len-is l.indent l.text c.no_more in
-    let text : drop l.indent raw ≡ l.text = ap (drop l.indent) c.parts ∙ drop_spaces l.indent l.text in
-    let over : is_over (behind_blanks raw) ≡ false = ap is_over (blanks_are_spaces raw l.text l.indent c.parts c.no_more) ∙ c.not_over in
-    rw (over, len, text, c.no_more, c.no_marker, h.0) refl
+content_complete n raw (Some l) h = search (rules, spaces_len-is, drop_spaces, blanks_are_spaces)
 
 -- ---- all lines
 
 add_none : (r : Result (Option Line) PlacedFault) (blemish : Option PlacedFault) (rest : List Line × Option PlacedFault) (lines : List Line) → add_line r blemish rest ≡ (lines, None)
     → (found : Option Line) × (r ≡ Ok found) × (blemish ≡ None) × (rest.1 ≡ None) × (lines ≡ option_to_list found ++ rest.0)
-add_none (Ok found) None rest lines e = (found, refl, refl, ap (λ (p : List Line × Option PlacedFault). p.1) e, sym (ap (λ (p : List Line × Option PlacedFault). p.0) e))
-add_none (Ok found) (Some f) rest lines e = let k : Some f ≡ None = ap (λ (p : List Line × Option PlacedFault). p.1) e in absurd cc
-add_none (Err f) blemish rest lines e = let k : Some f ≡ None = ap (λ (p : List Line × Option PlacedFault). p.1) e in absurd cc
+add_none x1 x2 rest lines e = search rules
 
 pub contents_sound : (n : ℕ) (raws : List (List ℕ)) (lines : List Line) → contents_from n raws ≡ (lines, None) → HaveContent n raws lines
 unfolding contents_from

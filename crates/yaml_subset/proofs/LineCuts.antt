@@ -1,7 +1,6 @@
 -- The lines of a text, one after the other.
-use Rattle.std.proofs.Common.{◌≡◌, ℕ, suc, ◌+◌, List, ◌∷◌, ◌++◌, length, Option, Some, None, Ok, Err, refl, sym, ap, ◌∙◌, append_assoc}
+use Rattle.std.proofs.Common.{rules, ◌≡◌, ℕ, suc, ◌+◌, List, ◌∷◌, ◌++◌, length, Option, Some, None, Ok, Err, append_assoc}
 use Rattle.std.specs.Borrow.{Bor}
-use Rattle.std.proofs.lemmas.List.{append-nil}
 use Rattle.std.specs.Option.{option_to_list}
 use Rattle.yaml_subset.specs.declared.place.PlacedFault.{PlacedFault}
 use Rattle.yaml_subset.specs.TextLines.{Line}
@@ -21,25 +20,16 @@ room (Some text) = suc (length text.now)
 module _ (front : List Line) (n : ℕ) (rest : Option (List ℕ)) (raw : List ℕ) (after : Option (List ℕ)) (total : List Line × Option PlacedFault) (lines : lines_after rest ≡ raw ∷ lines_after after) (so_far : in_front front (contents_from n (lines_after rest)) ≡ total) where
   pub goes_on : (found : Option Line) → content_at n raw ≡ Ok found → blemish_at n raw ≡ None → in_front (front ++ option_to_list found) (contents_from (n + 1) (lines_after after)) ≡ total
   unfolding contents_from
-  goes_on found e b =
-      let r = contents_from (n + 1) (lines_after after) in
-      let one : in_front front (contents_from n (lines_after rest)) ≡ in_front (front ++ option_to_list found) r = rw (lines, e, b) (ap (λ (ls : List Line). (ls, r.1)) (sym (append_assoc front (option_to_list found) r.0))) in
-      sym one ∙ so_far
+  goes_on found e b = search (rules, append_assoc)
 
   pub stops : (f : PlacedFault) → content_at n raw ≡ Err f → total ≡ (front, Some f)
   unfolding contents_from
-  stops f e =
-      let one : in_front front (contents_from n (lines_after rest)) ≡ (front, Some f) = rw (lines, e) (ap (λ (ls : List Line). (ls, Some f)) (append-nil front)) in
-      sym so_far ∙ one
+  stops f e = search rules
 
   pub stops_behind : (found : Option Line) (f : PlacedFault) → content_at n raw ≡ Ok found → blemish_at n raw ≡ Some f → total ≡ (front ++ option_to_list found, Some f)
   unfolding contents_from
-  stops_behind found f e b =
-      let one : in_front front (contents_from n (lines_after rest)) ≡ (front ++ option_to_list found, Some f) = rw (lines, e, b) refl in
-      sym so_far ∙ one
+  stops_behind found f e b = search rules
 
 pub all_read : (front : List Line) (n : ℕ) (rest : Option (List ℕ)) (total : List Line × Option PlacedFault) → rest ≡ None → in_front front (contents_from n (lines_after rest)) ≡ total → total ≡ (front, None)
 unfolding contents_from
-all_read front n rest total e so_far =
-    let one : in_front front (contents_from n (lines_after rest)) ≡ (front, None) = rw e (ap (λ (ls : List Line). (ls, None)) (append-nil front)) in
-    sym so_far ∙ one
+all_read front n rest total e so_far = search rules

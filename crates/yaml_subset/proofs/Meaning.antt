@@ -1,12 +1,12 @@
 -- The tree that lines are read as is the tree that they are, and no other.
-use Rattle.std.proofs.Common.{◌≡◌, ℕ, zero, suc, ◌+◌, ◌==◌, ltb, ◌&&◌, Bool, true, false, cond, List, [], ◌∷◌, ◌++◌, drop, length, Option, Some, None, Result, Ok, refl, sym, ap, subst, ◌∙◌, inl, inr, arith}
-use Rattle.std.proofs.lemmas.Bool.{eqb-true, eq-eqb, le-ltb}
+use Rattle.std.proofs.Common.{rules, ◌≡◌, ℕ, zero, suc, ◌+◌, ◌==◌, ltb, ◌&&◌, Bool, true, false, cond, List, [], ◌∷◌, ◌++◌, drop, length, Option, Some, None, Result, Ok, refl, sym, ap, subst, ◌∙◌, inl, inr}
+use Rattle.std.proofs.lemmas.Bool.{eqb-true, eq-eqb}
 use Rattle.yaml_subset.specs.declared.place.PlacedFault.{PlacedFault}
 use Rattle.yaml_subset.specs.declared.fault.FaultKind.TheVariants.{Tab, DuplicateKey, NotInSubset}
 use Rattle.yaml_bytes.specs.Bytes.{begins_blank, begins_item, is_over, characters}
-use Rattle.yaml_subset.specs.Node.{Node, scalar, sequence, nodes_of, mapping, no_pairs, Pair, pairs_of}
+use Rattle.yaml_subset.specs.Node.{Node, scalar, sequence, nodes_of, mapping, Pair, pairs_of}
 use Rattle.yaml_subset.specs.Keys.{is_among}
-use Rattle.yaml_subset.specs.Values.{IsKey, IsNode, IsInline}
+use Rattle.yaml_subset.specs.Values.{IsKey, IsInline}
 use Rattle.yaml_bytes.specs.Scanning.{behind_blanks, spaces_len, behind_spaces, behind_dash, before_colon}
 use Rattle.yaml_subset.specs.TextLines.{Line}
 use Rattle.yaml_subset.specs.TreeOf.{Group, AreGroups, IsEntryValue, IsPair, ArePairs, IsMapping, IsDash, IsInner, IsSequenceItem, AreSequenceItems, IsSequence, IsAlone, IsBlock, ByLines, IsTree}
@@ -27,14 +27,12 @@ pub record Computes (f : List Line → Result Node PlacedFault) (R : List Line �
 
 -- a line at an indentation hangs from none there, unless it is an item
 hangs_not : (entry : Bool) (i : ℕ) (l : Line) → l.indent ≡ i → (entry && begins_item l.text) ≡ false → hangs entry i l ≡ false
-hangs_not false i l e f = le-ltb i l.indent (omega (arith, e))
-hangs_not true i l e f = rw (le-ltb i l.indent (omega (arith, e)), eq-eqb l.indent i e, f) refl
+hangs_not x1 i l e f = search rules
 
 -- a value on a line, with nothing below it
 closed_sound : (around : Option ℕ) (u : Node) (below : List Line) (t : Node) → closed_at around u below ≡ Ok t → (below ≡ []) × (t ≡ u)
 unfolding closed_at
-closed_sound around u [] t e = (refl, sym (ok_is u t e))
-closed_sound around u (l ∷ ls) t e = absurd cc
+closed_sound around u x3 t e = search rules
 
 closed_complete : (around : Option ℕ) (u : Node) (below : List Line) (t : Node) → (below ≡ []) × (t ≡ u) → closed_at around u below ≡ Ok t
 unfolding closed_at
@@ -43,9 +41,7 @@ closed_complete around u below t h = rw (h.0, h.1) refl
 -- ---- a block of one line
 
 alone_is : (depth : ℕ) (around : Option ℕ) (first : Line) (others : List Line) (t u : Node) → head_at depth first.number first.text ≡ Ok (alone u) → closed_at around u others ≡ Ok t → IsAlone depth first others t
-alone_is depth around first others t u e k =
-    let v = closed_sound around u others t k in
-    record { alone = v.0; value = subst (IsNode depth first.number first.text) (sym v.1) (alone_sound depth first.number first.text u e) }
+alone_is depth around first others t u e k = search (rules, closed_sound, alone_sound)
 
 -- ---- what comes after a `-`
 
@@ -165,12 +161,7 @@ module _ (depth : ℕ) (block : BlockReader) (R : List Line → Node → Type 0)
 
   mapping_complete : (around : Option ℕ) (first : Line) (others : List Line) (t : Node) → IsMapping depth R first others t → mapping_at depth block around first others ≡ Ok t
   unfolding mapping_at
-  mapping_complete around first others t h =
-      let i = first.indent in
-      let at = run_stands (hangs true i) i (first ∷ others) h.groups h.run in
-      let ps : pairs_at depth block around i [] (groups_of (hangs true i) (first ∷ others)) ≡ Ok h.pairs =
-      subst (λ gs. pairs_at depth block around i [] gs ≡ Ok h.pairs) (run_is_groups (hangs true i) i (first ∷ others) h.groups h.run) (pairs_complete around i [] h.groups h.pairs at h.each) in
-      rw (ps, h.tree) refl
+  mapping_complete around first others t h = search (rules, run_stands, run_is_groups, pairs_complete)
 
   -- a mapping begins with an entry
   mapping_head : (first : Line) (others : List Line) (gs : List Group) (ps : List Pair) → AreGroups (hangs true first.indent) first.indent (first ∷ others) gs → ArePairs depth R [] gs ps → (key : List ℕ) × (after : List ℕ) × (head_at depth first.number first.text ≡ Ok (entry key after))
@@ -210,9 +201,7 @@ module _ (depth : ℕ) (block : BlockReader) (R : List Line → Node → Type 0)
 
   item_sound : (around : Option ℕ) (i : ℕ) (g : Group) (t : Node) → sequence_item_at depth block around i g ≡ Ok t → (g.head.indent ≡ i) × IsSequenceItem depth R g t
   unfolding sequence_item_at
-  item_sound around i g t e =
-      let a = guard_true (g.head.indent == i) (item_from depth block i g (behind_dash g.head.text)) (record { kind = misplaced around g.head; line = g.head.number; left = length g.head.text }) t e in
-      (eqb-true g.head.indent i a.0, item_from_sound i g (behind_dash g.head.text) t refl a.1)
+  item_sound around i g t e = search (rules, guard_true, eqb-true, item_from_sound)
 
   -- an item with a value as entries have them
   valued : (i : ℕ) (g : Group) (after : List ℕ) (inline : Option Node) (t : Node) → behind_dash g.head.text ≡ Some after → IsInline depth g.head.number after inline → IsEntryValue R g.head.number inline g.below t
@@ -271,36 +260,23 @@ module _ (depth : ℕ) (block : BlockReader) (R : List Line → Node → Type 0)
 
   sequence_complete : (around : Option ℕ) (first : Line) (others : List Line) (t : Node) → IsSequence depth R first others t → sequence_at depth block around first others ≡ Ok t
   unfolding sequence_at
-  sequence_complete around first others t h =
-      let i = first.indent in
-      let at = run_stands (hangs false i) i (first ∷ others) h.groups h.run in
-      let ts : sequence_items_at depth block around i (groups_of (hangs false i) (first ∷ others)) ≡ Ok h.nodes =
-      subst (λ gs. sequence_items_at depth block around i gs ≡ Ok h.nodes) (run_is_groups (hangs false i) i (first ∷ others) h.groups h.run) (items_complete around i h.groups h.nodes at h.each) in
-      rw (ts, h.tree) refl
+  sequence_complete around first others t h = search (rules, run_stands, run_is_groups, items_complete)
 
   -- a sequence begins with an item
   sequence_head : (first : Line) (others : List Line) (gs : List Group) (ts : List Node) → AreGroups (hangs false first.indent) first.indent (first ∷ others) gs → AreSequenceItems depth R gs ts → (after : List ℕ) × (head_at depth first.number first.text ≡ Ok (item after))
   sequence_head first others [] ts run each = absurd cc
   sequence_head first others (g ∷ gs) [] run each = absurd each
-  sequence_head first others (g ∷ gs) (t ∷ ts) run each =
-      let heads : first ∷ others ≡ g.head ∷ (g.below ++ run.0) = run.1 in
-      let same : g.head ≡ first = cc in
-      (each.0.after, subst (λ (l : Line). head_at depth l.number l.text ≡ Ok (item each.0.after)) same (item_head depth g.head.number g.head.text each.0.after (dash_complete g.head.text each.0.after each.0.dash)))
+  sequence_head first others (g ∷ gs) (t ∷ ts) run each = search (rules, item_head, dash_complete)
 
   -- ---- blocks
 
   block_from_sound : (around : Option ℕ) (first : Line) (others : List Line) (h : Head) (t : Node) → head_at depth first.number first.text ≡ Ok h → block_from depth block around first others h ≡ Ok t → IsBlock depth R first others t
   unfolding block_from
-  block_from_sound around first others (item after) t e k = inl (sequence_sound around first others t k)
-  block_from_sound around first others (entry key after) t e k = inr (inl (mapping_sound around first others t k))
-  block_from_sound around first others (alone u) t e k = inr (inr (alone_is depth around first others t u e k))
+  block_from_sound around first others x4 t e k = search (rules, sequence_sound, mapping_sound, alone_is)
 
   block_sound : (around : Option ℕ) (ls : List Line) (t : Node) → block_at depth (block_from depth block) around ls ≡ Ok t → ByLines (IsBlock depth R) ls t
   unfolding block_at
-  block_sound around [] t e = sym (ok_is (mapping 1 no_pairs) t e)
-  block_sound around (first ∷ others) t e =
-      let a = bind_ok (head_at depth first.number first.text) (λ h. block_from depth block around first others h) t e in
-      block_from_sound around first others a.0 t a.1 a.2
+  block_sound around x2 t e = search (rules, ok_is, bind_ok, block_from_sound)
 
   block_complete : (around : Option ℕ) (ls : List Line) (t : Node) → ByLines (IsBlock depth R) ls t → block_at depth (block_from depth block) around ls ≡ Ok t
   unfolding block_at block_from
@@ -318,16 +294,11 @@ module _ (depth : ℕ) (block : BlockReader) (R : List Line → Node → Type 0)
 
 deep_from_sound : (depth : ℕ) (around : Option ℕ) (first : Line) (others : List Line) (h : Head) (t : Node) → head_at depth first.number first.text ≡ Ok h → deep_from around first others h ≡ Ok t → IsAlone depth first others t
 unfolding deep_from
-deep_from_sound depth around first others (item after) t e k = absurd cc
-deep_from_sound depth around first others (entry key after) t e k = absurd cc
-deep_from_sound depth around first others (alone u) t e k = alone_is depth around first others t u e k
+deep_from_sound depth around first others x5 t e k = search (rules, alone_is)
 
 deep_sound : (depth : ℕ) (around : Option ℕ) (ls : List Line) (t : Node) → block_at depth deep_from around ls ≡ Ok t → ByLines (λ first others t. IsAlone depth first others t) ls t
 unfolding block_at
-deep_sound depth around [] t e = sym (ok_is (mapping 1 no_pairs) t e)
-deep_sound depth around (first ∷ others) t e =
-    let a = bind_ok (head_at depth first.number first.text) (λ h. deep_from around first others h) t e in
-    deep_from_sound depth around first others a.0 t a.1 a.2
+deep_sound depth around x3 t e = search (rules, ok_is, bind_ok, deep_from_sound)
 
 deep_complete : (depth : ℕ) (around : Option ℕ) (ls : List Line) (t : Node) → ByLines (λ first others t. IsAlone depth first others t) ls t → block_at depth deep_from around ls ≡ Ok t
 unfolding block_at deep_from

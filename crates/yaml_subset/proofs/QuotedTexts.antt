@@ -1,15 +1,14 @@
 -- A text in quotes is what reading it from the left gives.
-use Rattle.std.proofs.Common.{◌≡◌, ◌≢◌, ℕ, suc, ◌≤◌, ◌<◌, ◌-◌, ◌==◌, Bool, true, false, List, [], ◌∷◌, ◌++◌, length, take, drop, get_or, Option, Some, None, Result, Ok, Err, refl, sym, ap, subst, ◌∙◌, inl, inr, arith, append_assoc}
+use Rattle.std.proofs.Common.{rules, ◌≡◌, ◌≢◌, ℕ, suc, ◌≤◌, ◌<◌, ◌-◌, ◌==◌, Bool, true, false, List, [], ◌∷◌, ◌++◌, length, take, drop, get_or, Option, Some, Result, Ok, Err, refl, sym, ap, subst, ◌∙◌, inl, inr, arith, append_assoc}
 use Rattle.std.specs.List.{prefix_len}
 use Rattle.std.proofs.lemmas.Bool.{cases_Bool, both_ways, eqb-true, eq-eqb, ne_eqb}
 use Rattle.std.proofs.lemmas.List.{append-nil}
 use Rattle.yaml_subset.specs.declared.fault.FaultKind.TheVariants.{Quote}
 use Rattle.yaml_subset.specs.declared.place.PlacedFault.{PlacedFault}
 use Rattle.yaml_subset.specs.declared.place.Halt.{Halt}
-use Rattle.yaml_subset.specs.declared.place.Halt.TheVariants as halts
 use Rattle.yaml_bytes.specs.Results.{◌>>=◌}
 use Rattle.yaml_subset.specs.Placed.{fault_at, HaltsAs}
-use Rattle.yaml_subset.specs.Quoted.{IsSingleByte, unescaped, IsDoubleByte, is_itself_in_single, is_itself_in_double, IsWrittenBy, begins_single, IsSingle, IsDouble, onto_value, single_at, escape_at, double_at, byte_behind_backslash, double_byte_at}
+use Rattle.yaml_subset.specs.Quoted.{IsSingleByte, unescaped, IsDoubleByte, is_itself_in_single, is_itself_in_double, IsWrittenBy, begins_single, IsSingle, IsDouble, onto_value, single_at, escape_at, double_at, double_byte_at}
 use Rattle.yaml_bytes.proofs.Steps.{ok_is}
 use Rattle.yaml_bytes.proofs.TextLines.{none_at, after_first}
 
@@ -20,23 +19,19 @@ with_value front (Ok r) = Ok (front ++ r.0, r.1)
 with_value front (Err f) = Err f
 
 pub regroup : (front : List ℕ) (b : ℕ) (read : Result (List ℕ × List ℕ) PlacedFault) → with_value front (onto_value b read) ≡ with_value (front ++ b ∷ []) read
-regroup front b (Ok r) = ap (λ (xs : List ℕ). Ok (xs, r.1)) (sym (append_assoc front (b ∷ []) r.0))
-regroup front b (Err f) = refl
+regroup front b x3 = search (rules, append_assoc)
 
 -- ---- single quotes, byte for byte
 
 pub begins_single-long : (text : List ℕ) → begins_single text ≡ true → 1 ≤ length text
-begins_single-long [] e = absurd cc
-begins_single-long (b ∷ bs) e = omega arith
+begins_single-long x1 e = search rules
 
 begins_single-first : (text : List ℕ) → begins_single text ≡ true → (get_or text 0 0 == 39) ≡ true
-begins_single-first [] e = absurd cc
-begins_single-first (b ∷ bs) e = e
+begins_single-first x1 e = search rules
 
 pub single-ends : (n : ℕ) (b : ℕ) (bs : List ℕ) → (b == 39) ≡ true → begins_single bs ≡ false → single_at n (b ∷ bs) ≡ Ok ([], bs)
 unfolding single_at
-single-ends n b [] e f = rw e refl
-single-ends n b (c ∷ cs) e f = rw (e, f) refl
+single-ends n b x3 e f = search rules
 
 pub single-quote : (n : ℕ) (b c : ℕ) (cs : List ℕ) → (b == 39) ≡ true → (c == 39) ≡ true → single_at n (b ∷ c ∷ cs) ≡ onto_value 39 (single_at n cs)
 unfolding single_at
@@ -44,68 +39,35 @@ single-quote n b c cs e f = rw (e, f) refl
 
 pub single-other : (n : ℕ) (b : ℕ) (bs : List ℕ) → (b == 39) ≡ false → single_at n (b ∷ bs) ≡ onto_value b (single_at n bs)
 unfolding single_at
-single-other n b [] e = rw e refl
-single-other n b (c ∷ cs) e = rw e refl
+single-other n b x3 e = search rules
 
 -- ---- double quotes, byte for byte
 
 pub double-ends : (n : ℕ) (b : ℕ) (bs : List ℕ) → (b == 34) ≡ true → double_at n (b ∷ bs) ≡ Ok ([], bs)
 unfolding double_at
-double-ends n b [] e = rw e refl
-double-ends n b (c ∷ cs) e = rw e refl
+double-ends n b x3 e = search rules
 
 double-other : (n : ℕ) (b : ℕ) (bs : List ℕ) → (b == 34) ≡ false → (b == 92) ≡ false → double_at n (b ∷ bs) ≡ onto_value b (double_at n bs)
 unfolding double_at
-double-other n b [] f g = rw (f, g) refl
-double-other n b (c ∷ cs) f g = rw (f, g) refl
-
-escape_step : (n : ℕ) (o : Option ℕ) (left : ℕ) (cs : List ℕ) → escape_at n o left (double_at n cs) ≡ (byte_behind_backslash n o left cs >>= λ r. onto_value r.0 (double_at n r.1))
-escape_step n None left cs = refl
-escape_step n (Some b) left cs = refl
+double-other n b x3 f g = search rules
 
 pub double-goes_on : (n : ℕ) (b : ℕ) (bs : List ℕ) → (b == 34) ≡ false → double_at n (b ∷ bs) ≡ (double_byte_at n (b ∷ bs) >>= λ r. onto_value r.0 (double_at n r.1))
 unfolding double_at double_byte_at
-double-goes_on n b [] e =
-    elim (cases_Bool (b == 92)) [
-      | inl t ↦ rw (e, t) refl
-      | inr f ↦ rw (e, f) refl
-    ]
-double-goes_on n b (c ∷ cs) e =
-    elim (cases_Bool (b == 92)) [
-      | inl t ↦ rw (e, t) (escape_step n (unescaped c) (length (b ∷ c ∷ cs)) cs)
-      | inr f ↦ rw (e, f) refl
-    ]
-
-shorter_from : (n : ℕ) (o : Option ℕ) (left : ℕ) (after : List ℕ) (byte : ℕ) (more : List ℕ) → byte_behind_backslash n o left after ≡ Ok (byte, more) → more ≡ after
-shorter_from n None left after byte more e = absurd cc
-shorter_from n (Some b) left after byte more e = sym (ap (λ (r : ℕ × List ℕ). r.1) (ok_is (b, after) (byte, more) e))
+double-goes_on n b [] e = search rules
+double-goes_on n b (c ∷ cs) e = search rules
 
 pub double_byte-shorter : (n : ℕ) (text : List ℕ) (byte : ℕ) (more : List ℕ) → double_byte_at n text ≡ Ok (byte, more) → length more < length text
 unfolding double_byte_at
-double_byte-shorter n [] byte more e = absurd cc
-double_byte-shorter n (b ∷ []) byte more e =
-    elim (cases_Bool (b == 92)) [
-      | inl t ↦ let k = rw t at e in absurd cc
-      | inr f ↦ let k = rw f at e in let same : [] ≡ more = ap (λ (r : ℕ × List ℕ). r.1) (ok_is (b, []) (byte, more) k) in rw (sym same) (omega arith)
-    ]
-double_byte-shorter n (b ∷ c ∷ cs) byte more e =
-    elim (cases_Bool (b == 92)) [
-      | inl t ↦ let k = rw t at e in let same = shorter_from n (unescaped c) (length (b ∷ c ∷ cs)) cs byte more k in rw same (omega arith)
-      | inr f ↦ let k = rw f at e in let same : c ∷ cs ≡ more = ap (λ (r : ℕ × List ℕ). r.1) (ok_is (b, c ∷ cs) (byte, more) k) in rw (sym same) (omega arith)
-    ]
+double_byte-shorter n x2 byte more e = search rules
 
 -- ---- the loops: a value so far, and the rest of the text
 
 abbrev behind : List ℕ → List ℕ
 behind rest = take (length rest - 1) (drop 1 rest)
 
-value_is : (value after : List ℕ) → with_value value (Ok ([], after)) ≡ Ok (value, after)
-value_is value after = ap (λ (xs : List ℕ). Ok (xs, after)) (append-nil value)
-
 module _ (n : ℕ) (rest value : List ℕ) (total : Result (List ℕ × List ℕ) PlacedFault) where
   pub single_stops : with_value value (single_at n rest) ≡ total → 1 ≤ length rest → get_or rest 0 0 ≡ 39 → begins_single (behind rest) ≡ false → total ≡ Ok (value, behind rest)
-  single_stops so_far long quote ends =
-      sym so_far ∙ ap (λ xs. with_value value (single_at n xs)) (after_first rest long) ∙ ap (with_value value) (single-ends n (get_or rest 0 0) (behind rest) (eq-eqb _ 39 quote) ends) ∙ value_is value (behind rest)
+  single_stops so_far long quote ends = search (rules, after_first, single-ends, get_or, eq-eqb, append-nil)
 
   pub single_twice : with_value value (single_at n rest) ≡ total → 1 ≤ length rest → get_or rest 0 0 ≡ 39 → begins_single (behind rest) ≡ true
       → with_value (value ++ get_or rest 0 0 ∷ []) (single_at n (behind (behind rest))) ≡ total
@@ -118,36 +80,23 @@ module _ (n : ℕ) (rest value : List ℕ) (total : Result (List ℕ × List ℕ
       ∙ so_far
 
   pub single_once : with_value value (single_at n rest) ≡ total → 1 ≤ length rest → get_or rest 0 0 ≢ 39 → with_value (value ++ get_or rest 0 0 ∷ []) (single_at n (behind rest)) ≡ total
-  single_once so_far long other =
-      sym (regroup value (get_or rest 0 0) (single_at n (behind rest)))
-      ∙ ap (with_value value) (sym (single-other n (get_or rest 0 0) (behind rest) (ne_eqb _ 39 other)))
-      ∙ ap (λ xs. with_value value (single_at n xs)) (sym (after_first rest long))
-      ∙ so_far
+  single_once so_far long other = search (rules, regroup, get_or, single-other, ne_eqb, after_first)
 
   pub single_open : with_value value (single_at n rest) ≡ total → length rest < 1 → total ≡ fault_at Quote n 0
   unfolding single_at
   single_open so_far short = sym so_far ∙ ap (λ xs. with_value value (single_at n xs)) (none_at rest short)
 
   pub double_stops : with_value value (double_at n rest) ≡ total → 1 ≤ length rest → get_or rest 0 0 ≡ 34 → total ≡ Ok (value, behind rest)
-  double_stops so_far long quote =
-      sym so_far ∙ ap (λ xs. with_value value (double_at n xs)) (after_first rest long) ∙ ap (with_value value) (double-ends n (get_or rest 0 0) (behind rest) (eq-eqb _ 34 quote)) ∙ value_is value (behind rest)
+  double_stops so_far long quote = search (rules, after_first, double-ends, get_or, eq-eqb, append-nil)
 
   one_byte : 1 ≤ length rest → get_or rest 0 0 ≢ 34 → double_at n rest ≡ (double_byte_at n rest >>= λ r. onto_value r.0 (double_at n r.1))
-  one_byte long other =
-      ap (double_at n) (after_first rest long)
-      ∙ double-goes_on n (get_or rest 0 0) (behind rest) (ne_eqb _ 34 other)
-      ∙ ap (λ xs. double_byte_at n xs >>= λ r. onto_value r.0 (double_at n r.1)) (sym (after_first rest long))
+  one_byte long other = search (rules, after_first, double-goes_on, get_or, ne_eqb)
 
   pub double_once : with_value value (double_at n rest) ≡ total → 1 ≤ length rest → get_or rest 0 0 ≢ 34 → (byte : ℕ) (more : List ℕ) → double_byte_at n rest ≡ Ok (byte, more) → with_value (value ++ byte ∷ []) (double_at n more) ≡ total
-  double_once so_far long other byte more e =
-      let one : double_at n rest ≡ onto_value byte (double_at n more) = one_byte long other ∙ ap (λ read. read >>= λ r. onto_value r.0 (double_at n r.1)) e in
-      sym (regroup value byte (double_at n more)) ∙ ap (with_value value) (sym one) ∙ so_far
+  double_once so_far long other byte more e = search (rules, one_byte, regroup)
 
   pub double_fails : with_value value (double_at n rest) ≡ total → 1 ≤ length rest → get_or rest 0 0 ≢ 34 → (e : Halt) → HaltsAs e (double_byte_at n rest) → HaltsAs e total
-  double_fails so_far long other halts.NoMemory h = tt
-  double_fails so_far long other (halts.At f) h =
-      let one : double_at n rest ≡ Err f = one_byte long other ∙ ap (λ read. read >>= λ r. onto_value r.0 (double_at n r.1)) h in
-      sym so_far ∙ ap (with_value value) one
+  double_fails so_far long other x4 h = search (rules, one_byte)
 
   pub double_open : with_value value (double_at n rest) ≡ total → length rest < 1 → total ≡ fault_at Quote n 0
   unfolding double_at
@@ -169,9 +118,7 @@ one_more p b bs after read t e = ap (onto_value b) e ∙ ap (λ k. Ok (take k (b
 -- none is in front of the quote
 none_more : (p : ℕ → Bool) (b x : ℕ) (bs after : List ℕ) (read : Result (List ℕ × List ℕ) PlacedFault) → p b ≡ false → drop (prefix_len p (b ∷ bs)) (b ∷ bs) ≡ x ∷ after → read ≡ Ok ([], bs)
     → read ≡ Ok (take (prefix_len p (b ∷ bs)) (b ∷ bs), after)
-none_more p b x bs after read f e is =
-    let here : b ∷ bs ≡ x ∷ after = ap (λ k. drop k (b ∷ bs)) (sym (len_no p b bs f)) ∙ e in
-    is ∙ ap (λ (xs : List ℕ). Ok ([], xs)) (ap (drop 1) here) ∙ ap (λ k. Ok (take k (b ∷ bs), after)) (sym (len_no p b bs f))
+none_more p b x bs after read f e is = search rules
 
 single_front : (n : ℕ) (text : List ℕ) (x : ℕ) (after : List ℕ) → drop (prefix_len is_itself_in_single text) text ≡ x ∷ after → begins_single after ≡ false
     → single_at n text ≡ Ok (take (prefix_len is_itself_in_single text) text, after)
@@ -216,27 +163,18 @@ module _ (n : ℕ) (text front end : List ℕ) (len : ℕ) where
       ∙ ap (λ (xs : List ℕ). Ok (xs, behind end)) (sym cut)
 
   pub double_cut : len ≡ prefix_len is_itself_in_double text → front ≡ take len text → end ≡ drop len text → 1 ≤ length end → get_or end 0 0 ≡ 34 → double_at n text ≡ Ok (front, behind end)
-  double_cut is cut rest long quote =
-      double_front n text (behind end) (ap (λ k. drop k text) (sym is) ∙ sym rest ∙ after_first end long ∙ ap (λ b. b ∷ behind end) quote)
-      ∙ ap (λ k. Ok (take k text, behind end)) (sym is)
-      ∙ ap (λ (xs : List ℕ). Ok (xs, behind end)) (sym cut)
+  double_cut is cut rest long quote = search (rules, double_front, after_first)
 
 -- ---- the value is written so
 
 onto_ok : (b : ℕ) (read : Result (List ℕ × List ℕ) PlacedFault) (value after : List ℕ) → onto_value b read ≡ Ok (value, after) → (v : List ℕ) × (value ≡ b ∷ v) × (read ≡ Ok (v, after))
-onto_ok b (Ok r) value after e =
-    let same = ok_is (b ∷ r.0, r.1) (value, after) e in
-    (r.0, sym (ap (λ (p : List ℕ × List ℕ). p.0) same), ap (λ (xs : List ℕ). Ok (r.0, xs)) (ap (λ (p : List ℕ × List ℕ). p.1) same))
-onto_ok b (Err f) value after e = absurd cc
+onto_ok b x2 value after e = search rules
 
 escape_ok : (n : ℕ) (o : Option ℕ) (left : ℕ) (read : Result (List ℕ × List ℕ) PlacedFault) (value after : List ℕ) → escape_at n o left read ≡ Ok (value, after) → (b : ℕ) × (o ≡ Some b) × (v : List ℕ) × (value ≡ b ∷ v) × (read ≡ Ok (v, after))
-escape_ok n None left read value after e = absurd cc
-escape_ok n (Some b) left read value after e = let p = onto_ok b read value after e in (b, refl, p.0, p.1, p.2)
+escape_ok n x2 left read value after e = search rules
 
 single_none : (n : ℕ) (b : ℕ) (bs value after : List ℕ) → (b == 39) ≡ true → begins_single bs ≡ false → single_at n (b ∷ bs) ≡ Ok (value, after) → IsSingle (b ∷ bs) value after
-single_none n b bs value after t ends e =
-    let same = ok_is ([], bs) (value, after) (sym (single-ends n b bs t ends) ∙ e) in
-    subst (λ (p : List ℕ × List ℕ). IsSingle (b ∷ bs) p.0 p.1) same (record { written = []; is_written = refl; parts = ap (λ x. x ∷ bs) (eqb-true b 39 t); ends = ends })
+single_none n b bs value after t ends e = search (rules, ok_is, single-ends, eqb-true)
 
 single_more : (b : ℕ) (bs v after : List ℕ) → (b == 39) ≡ false → IsSingle bs v after → IsSingle (b ∷ bs) (b ∷ v) after
 single_more b bs v after f h = record {
@@ -257,11 +195,7 @@ single_doubled b c cs v after t u h = record {
 pub single_sound : (n : ℕ) (text value after : List ℕ) → single_at n text ≡ Ok (value, after) → IsSingle text value after
 unfolding single_at
 single_sound n [] value after e = absurd cc
-single_sound n (b ∷ []) value after e =
-    elim (cases_Bool (b == 39)) [
-      | inl t ↦ single_none n b [] value after t refl e
-      | inr f ↦ let k = rw f at e in absurd cc
-    ]
+single_sound n (b ∷ []) value after e = search rules
 single_sound n (b ∷ c ∷ cs) value after e =
     elim (cases_Bool (b == 39)) [
       | inl t ↦ elim (cases_Bool (c == 39)) [
@@ -297,9 +231,7 @@ pub single_complete : (n : ℕ) (text value after : List ℕ) → IsSingle text 
 single_complete n text value after h = ap (single_at n) h.parts ∙ single_reads n value h.written after h.is_written h.ends
 
 double_none : (n : ℕ) (b : ℕ) (bs value after : List ℕ) → (b == 34) ≡ true → double_at n (b ∷ bs) ≡ Ok (value, after) → IsDouble (b ∷ bs) value after
-double_none n b bs value after t e =
-    let same = ok_is ([], bs) (value, after) (sym (double-ends n b bs t) ∙ e) in
-    subst (λ (p : List ℕ × List ℕ). IsDouble (b ∷ bs) p.0 p.1) same (record { written = []; is_written = refl; parts = ap (λ x. x ∷ bs) (eqb-true b 34 t) })
+double_none n b bs value after t e = search (rules, ok_is, double-ends, eqb-true)
 
 double_more : (b : ℕ) (bs v after : List ℕ) → (b == 34) ≡ false → (b == 92) ≡ false → IsDouble bs v after → IsDouble (b ∷ bs) (b ∷ v) after
 double_more b bs v after f g h = record {
@@ -322,14 +254,7 @@ double-escape n b c cs f t = rw (f, t) refl
 pub double_sound : (n : ℕ) (text value after : List ℕ) → double_at n text ≡ Ok (value, after) → IsDouble text value after
 unfolding double_at
 double_sound n [] value after e = absurd cc
-double_sound n (b ∷ []) value after e =
-    elim (cases_Bool (b == 34)) [
-      | inl t ↦ double_none n b [] value after t e
-      | inr f ↦ elim (cases_Bool (b == 92)) [
-        | inl u ↦ let k = rw (f, u) at e in absurd cc
-        | inr g ↦ let k = rw (f, g) at e in absurd cc
-      ]
-    ]
+double_sound n (b ∷ []) value after e = search rules
 double_sound n (b ∷ c ∷ cs) value after e =
     elim (cases_Bool (b == 34)) [
       | inl t ↦ double_none n b (c ∷ cs) value after t e

@@ -1,5 +1,5 @@
 -- The groups of lines are those that reading makes, and no others.
-use Rattle.std.proofs.Common.{◌≡◌, ℕ, Bool, true, false, List, [], ◌∷◌, ◌++◌, refl, sym, ap, ◌∙◌}
+use Rattle.std.proofs.Common.{rules, ◌≡◌, ℕ, Bool, true, false, List, [], ◌∷◌, ◌++◌, refl, sym, ap, ◌∙◌}
 use Rattle.std.specs.List.{AllByRecursion}
 use Rattle.yaml_subset.specs.TextLines.{Line}
 use Rattle.yaml_subset.specs.TreeOf.{Group, Stands, AreGroups}
@@ -17,22 +17,15 @@ abbrev IsCut : (Line → Bool) → ℕ → List Line → List Line × List Group
 IsCut hangs i ls r = AllHang hangs r.0 × ((rest : List Line) × (ls ≡ r.0 ++ rest) × AreGroups hangs i rest r.1)
 
 cut_step : (hangs : Line → Bool) (i : ℕ) (l : Line) (ls : List Line) (b : Bool) → hangs l ≡ b → (AllStand hangs i (chunks hangs ls).1 → IsCut hangs i ls (chunks hangs ls)) → AllStand hangs i (chunk_step b l (chunks hangs ls)).1 → IsCut hangs i (l ∷ ls) (chunk_step b l (chunks hangs ls))
-cut_step hangs i l ls true e ih h =
-    let r = ih h in
-    ((e, r.0), (r.1.0, ap (λ (xs : List Line). l ∷ xs) r.1.1, r.1.2))
-cut_step hangs i l ls false e ih h =
-    let r = ih h.1 in
-    (tt, (l ∷ ls, refl, (r.1.0, ap (λ (xs : List Line). l ∷ xs) r.1.1, h.0, r.0, r.1.2)))
+cut_step hangs i l ls true e ih h = search rules
+cut_step hangs i l ls false e ih h = search rules
 
 cut : (hangs : Line → Bool) (i : ℕ) (ls : List Line) → AllStand hangs i (chunks hangs ls).1 → IsCut hangs i ls (chunks hangs ls)
 cut hangs i [] h = (tt, ([], refl, refl))
 cut hangs i (l ∷ ls) h = cut_step hangs i l ls (hangs l) refl (cut hangs i ls) h
 
 pub groups_are_run : (hangs : Line → Bool) (i : ℕ) (ls : List Line) → AllStand hangs i (groups_of hangs ls) → AreGroups hangs i ls (groups_of hangs ls)
-groups_are_run hangs i [] h = refl
-groups_are_run hangs i (l ∷ ls) h =
-    let r = cut hangs i ls h.1 in
-    (r.1.0, ap (λ (xs : List Line). l ∷ xs) r.1.1, h.0, r.0, r.1.2)
+groups_are_run hangs i x3 h = search (rules, cut)
 
 pub run_stands : (hangs : Line → Bool) (i : ℕ) (ls : List Line) (gs : List Group) → AreGroups hangs i ls gs → AllStand hangs i gs
 run_stands hangs i ls [] h = tt

@@ -1,5 +1,5 @@
 -- What a text is read as is its tree, and it has no other.
-use Rattle.std.proofs.Common.{◌≡◌, ◌≢◌, ℕ, ◌≤◌, ◌^◌, ltb, List, length, Option, Some, None, Result, Ok, Err, IfOk, IfErr, refl, sym, ap, subst, ◌∙◌, inl, inr}
+use Rattle.std.proofs.Common.{rules, ◌≡◌, ◌≢◌, ℕ, ◌≤◌, ◌^◌, ltb, List, length, Option, None, Result, Ok, Err, IfOk, IfErr, refl, sym, ap, subst, ◌∙◌, inl, inr}
 use Rattle.std.proofs.lemmas.Bool.{cases_lt, le-ltb}
 use Rattle.yaml_subset.specs.declared.fault.Fault.{Fault}
 use Rattle.yaml_subset.specs.declared.place.PlacedFault.{PlacedFault}
@@ -12,7 +12,7 @@ use Rattle.yaml_subset.specs.View.{node_view, GivesTree}
 use Rattle.yaml_bytes.specs.Lines.{lines_of}
 use Rattle.yaml_subset.specs.TreeOf.{IsTree, IsTreeOf, IsTextAbove}
 use Rattle.yaml_subset.specs.Reading.{tree_at, contents_from, unless, without_place, read_at}
-use Rattle.yaml_bytes.proofs.Steps.{guard_false, ok_is}
+use Rattle.yaml_bytes.proofs.Steps.{guard_false}
 use Rattle.yaml_subset.proofs.Meaning.{tree_computes}
 use Rattle.yaml_subset.proofs.Levels.{more_levels, one_tree}
 use Rattle.yaml_subset.proofs.LineContents.{contents_sound, contents_complete, one_content}
@@ -21,10 +21,7 @@ abbrev ok_node : Node → Result Node PlacedFault
 ok_node t = Ok t
 
 no_fault : (known : Option PlacedFault) (read : Result Node PlacedFault) (t : Node) → without_place (unless known read) ≡ Ok t → (known ≡ None) × (read ≡ Ok t)
-no_fault None (Ok u) t e = (refl, ap ok_node (ok_is u t e))
-no_fault (Some f) (Ok u) t e = absurd cc
-no_fault None (Err f) t e = absurd cc
-no_fault (Some g) (Err f) t e = absurd cc
+no_fault x1 x2 t e = search rules
 
 pub read_sound : (text : List ℕ) (t : Node) → read_at text ≡ Ok t → IsTreeOf 32 8 text t
 unfolding read_at
@@ -45,8 +42,7 @@ read_complete text t short h =
     rw (le-ltb (2 ^ 20) (length text) short, contents_complete 1 (lines_of text) h.lines h.content, (tree_computes 32 8 None).complete h.lines t h.is_tree) refl
 
 pub is_found : (text : List ℕ) (r : Result Tree YamlFault) → GivesTree node_view r (read_at text) → IfOk r (λ tree. IsTreeOf 32 8 text (node_view tree))
-is_found text (Ok tree) h = read_sound text (node_view tree) h
-is_found text (Err e) h = tt
+is_found text x2 h = search (rules, read_sound)
 
 pub is_only : (text : List ℕ) (r : Result Tree YamlFault) → GivesTree node_view r (read_at text) → IfOk r (λ tree. (levels depth : ℕ) (t : Node) → IsTreeOf levels depth text t → t ≡ node_view tree)
 is_only text (Ok tree) h = λ levels depth t k.

@@ -1,17 +1,16 @@
 -- The word at the front of a text is what reading it from the left gives.
-use Rattle.std.proofs.Common.{◌≡◌, ◌≢◌, ℕ, ◌≤◌, ◌<◌, ◌==◌, ◌&&◌, ◌||◌, Bool, true, false, not, cond, List, [], ◌∷◌, ◌++◌, length, drop, get_or, Result, Ok, Err, refl, sym, ap, subst, ◌∙◌, inl, inr, arith, append_assoc, length-append}
-use Rattle.std.proofs.lemmas.Bool.{cases_Bool, both_ways, eqb-true, ne_eqb, not-true, and_parts, and_cases, and_from, and_left, and_right, or_cases, or_from, or_left, or_right}
+use Rattle.std.proofs.Common.{rules, ◌≡◌, ◌≢◌, ℕ, ◌≤◌, ◌<◌, ◌==◌, ◌&&◌, Bool, true, false, cond, List, [], ◌∷◌, ◌++◌, length, drop, get_or, Result, Ok, Err, refl, sym, ap, subst, ◌∙◌, inl, inr, arith, append_assoc, length-append}
+use Rattle.std.proofs.lemmas.Bool.{eqb-true}
 use Rattle.std.proofs.Math.Seq.{drop-append_seam}
 use Rattle.yaml_subset.specs.declared.fault.FaultKind.TheVariants.{Quote, Flow}
 use Rattle.yaml_subset.specs.declared.place.PlacedFault.{PlacedFault}
 use Rattle.yaml_bytes.specs.Results.{◌>>=◌}
-use Rattle.yaml_bytes.specs.Bytes.{is_blank, begins_blank, begins_gap, is_flow_indicator, begins_flow_indicator, begins_break, is_indicator, is_mark, begins_word}
+use Rattle.yaml_bytes.specs.Bytes.{is_blank, begins_blank, is_flow_indicator, begins_break, is_indicator, is_mark, begins_word}
 use Rattle.yaml_bytes.specs.Plain.{IsBehindBlanks, ends_word, IsWordEnd}
 use Rattle.yaml_bytes.specs.Scanning.{trimmed, behind_blanks, word_front, word_rest}
 use Rattle.yaml_subset.specs.Quoted.{IsSingle, IsDouble, single_at, double_at}
 use Rattle.yaml_subset.specs.Words.{breaks_flow, may_follow, IsPlainAt, IsQuotedAt, IsWordAt, misfit, plain_word_at, behind_quote, quoted_at, word_at}
 use Rattle.yaml_bytes.proofs.Steps.{bind_ok, guard_true, guard_false, ok_is}
-use Rattle.yaml_bytes.proofs.Steps.{chosen}
 use Rattle.yaml_bytes.proofs.PlainTexts.{plain_word, plain_word-is, is_behind_blanks, behind_blanks-is}
 use Rattle.yaml_subset.proofs.QuotedTexts.{single_sound, single_complete, double_sound, double_complete}
 
@@ -30,9 +29,7 @@ plain_sound n flow text value rest e =
 
 plain_complete : (n : ℕ) (flow : Bool) (text value rest : List ℕ) → IsPlainAt flow text value rest → plain_word_at n flow text ≡ Ok (value, rest)
 unfolding plain_word_at
-plain_complete n flow text value rest h =
-    let p = plain_word-is flow text value h.blanks rest h.is_plain in
-    rw (h.is_plain.begins, p.0, p.1, h.unbroken, p.2) refl
+plain_complete n flow text value rest h = search (rules, plain_word-is)
 
 -- ---- texts in quotes
 
@@ -74,27 +71,11 @@ quoted_complete n quote IsInside read complete flow text value rest h =
 
 pub word_sound : (n : ℕ) (flow : Bool) (text value rest : List ℕ) → word_at n flow text ≡ Ok (value, rest) → IsWordAt flow text value rest
 unfolding word_at
-word_sound n flow [] value rest e = inl (plain_sound n flow [] value rest e)
-word_sound n flow (b ∷ bs) value rest e =
-    elim (chosen (b == 39) (quoted_at n flow (single_at n bs)) (cond (b == 34) (quoted_at n flow (double_at n bs)) (plain_word_at n flow (b ∷ bs))) (Ok (value, rest)) e) [
-      | inl p ↦ inr (inl (quoted_sound n 39 IsSingle (single_at n) (single_sound n) flow b bs value rest p.0 p.1))
-      | inr p ↦ elim (chosen (b == 34) (quoted_at n flow (double_at n bs)) (plain_word_at n flow (b ∷ bs)) (Ok (value, rest)) p.1) [
-        | inl q ↦ inr (inr (quoted_sound n 34 IsDouble (double_at n) (double_sound n) flow b bs value rest q.0 q.1))
-        | inr q ↦ inl (plain_sound n flow (b ∷ bs) value rest q.1)
-      ]
-    ]
-
--- a plain word begins with no quote
-no_quote : (flow : Bool) (b : ℕ) (bs : List ℕ) → begins_word flow (b ∷ bs) ≡ true → ((b == 39) ≡ false) × ((b == 34) ≡ false)
-no_quote flow b bs h = (
-  ne_eqb b 39 (λ is. let k : begins_word flow (39 ∷ bs) ≡ true = subst (λ x. begins_word flow (x ∷ bs) ≡ true) is h in absurd cc),
-  ne_eqb b 34 (λ is. let k : begins_word flow (34 ∷ bs) ≡ true = subst (λ x. begins_word flow (x ∷ bs) ≡ true) is h in absurd cc),
-)
+word_sound n flow x3 value rest e = search (rules, plain_sound, quoted_sound, single_sound, double_sound)
 
 plain_word_at-word : (n : ℕ) (flow : Bool) (text value rest : List ℕ) → IsPlainAt flow text value rest → word_at n flow text ≡ plain_word_at n flow text
 unfolding word_at
-plain_word_at-word n flow [] value rest h = refl
-plain_word_at-word n flow (b ∷ bs) value rest h = let n = no_quote flow b bs h.is_plain.begins in rw (n.0, n.1) refl
+plain_word_at-word n flow x3 value rest h = search rules
 
 single_at-word : (n : ℕ) (flow : Bool) (inside : List ℕ) → word_at n flow (39 ∷ inside) ≡ quoted_at n flow (single_at n inside)
 unfolding word_at
@@ -127,17 +108,7 @@ pub record BeginsWord (flow : Bool) (text : List ℕ) : Type 0 where
 
 plain_begins : (flow : Bool) (text : List ℕ) → begins_word flow text ≡ true → BeginsWord flow text
 plain_begins flow [] h = absurd cc
-plain_begins flow (b ∷ bs) h =
-    let p = and_parts (not (is_blank b)) (not (is_indicator b) && not (is_mark b && begins_break flow bs)) h in
-    let q = and_parts (not (is_indicator b)) (not (is_mark b && begins_break flow bs)) p.1 in
-    record {
-      first = b;
-      others = bs;
-      parts = refl;
-      no_blank = not-true (is_blank b) p.0;
-      no_indicator = λ x indicator _ _ same. both_ways (is_indicator b) (not-true (is_indicator b) q.0) (ap is_indicator same ∙ indicator);
-      no_mark = not-true (is_mark b && begins_break flow bs) q.1;
-    }
+plain_begins flow (b ∷ bs) h = search rules
 
 pub word_begins : (flow : Bool) (text value rest : List ℕ) → IsWordAt flow text value rest → BeginsWord flow text
 word_begins flow text value rest h =
@@ -151,42 +122,15 @@ word_begins flow text value rest h =
 
 -- ---- how a word goes on
 
-or_others : (f p q r s t u v w x y z : Bool) → f ≡ true → (f || p || q || r || s || t || u || v || w || x || y || z) ≡ true
-or_others f p q r s t u v w x y z e = rw e refl
-
 is_indicator-flow : (b : ℕ) → is_indicator b ≡ false → is_flow_indicator b ≡ false
-is_indicator-flow b h =
-    elim (cases_Bool (is_flow_indicator b)) [
-      | inl t ↦ absurd (both_ways (is_indicator b) h (or_others (is_flow_indicator b) (b == 35) (b == 38) (b == 42) (b == 33) (b == 124) (b == 62) (b == 39) (b == 34) (b == 37) (b == 64) (b == 96) t))
-      | inr f ↦ f
-    ]
-
--- where a plain word begins none ends
-begins-no_end : (flow : Bool) (text : List ℕ) → begins_word flow text ≡ true → ends_word flow 32 text ≡ false
-begins-no_end flow [] h = absurd cc
-begins-no_end flow (b ∷ bs) h =
-    let p = and_parts (not (is_blank b)) (not (is_indicator b) && not (is_mark b && begins_break flow bs)) h in
-    let q = and_parts (not (is_indicator b)) (not (is_mark b && begins_break flow bs)) p.1 in
-    let other = not-true (is_indicator b) q.0 in
-    let comment : (b == 35) ≡ false = ne_eqb b 35 (λ same. both_ways (is_indicator b) other (ap is_indicator same)) in
-    let colon : ((b == 58) && begins_break flow bs) ≡ false =
-    elim (and_cases (is_mark b) (begins_break flow bs) (not-true (is_mark b && begins_break flow bs) q.1)) [
-      | inl no_mark ↦ and_left (b == 58) (begins_break flow bs) (ne_eqb b 58 (λ same. both_ways (is_mark b) no_mark (ap is_mark same)))
-      | inr no_break ↦ and_right (b == 58) (begins_break flow bs) no_break
-    ] in
-    or_from (flow && is_flow_indicator b) _ (and_right flow (is_flow_indicator b) (is_indicator-flow b other)) (or_from ((b == 35) && is_blank 32) _ (and_left (b == 35) (is_blank 32) comment) colon)
+is_indicator-flow b h = search rules
 
 plain_long : (flow : Bool) (text front : List ℕ) → begins_word flow text ≡ true → IsWordEnd flow text (length front) → 1 ≤ length front
-plain_long flow text [] begins ends = absurd (both_ways (ends_word flow 32 text) (begins-no_end flow text begins) ends.here)
-plain_long flow text (x ∷ xs) begins ends = omega arith
+plain_long flow text x3 begins ends = search rules
 
 quoted_parts : (quote : ℕ) (text inside written after blanks rest : List ℕ) → text ≡ quote ∷ inside → inside ≡ written ++ quote ∷ after → after ≡ blanks ++ rest
     → text ≡ (quote ∷ (written ++ quote ∷ blanks)) ++ rest
-quoted_parts quote text inside written after blanks rest opens parts behind =
-    opens
-    ∙ ap (λ (xs : List ℕ). quote ∷ xs) parts
-    ∙ ap (λ (xs : List ℕ). quote ∷ (written ++ quote ∷ xs)) behind
-    ∙ ap (λ (xs : List ℕ). quote ∷ xs) (sym (append_assoc written (quote ∷ blanks) rest))
+quoted_parts quote text inside written after blanks rest opens parts behind = search (rules, parts, append_assoc)
 
 -- a word has at least a byte, and the rest is what comes after it
 pub word_parts : (flow : Bool) (text value rest : List ℕ) → IsWordAt flow text value rest → (front : List ℕ) × (text ≡ front ++ rest) × (1 ≤ length front)
@@ -207,39 +151,12 @@ word_shorter flow text value rest h =
 
 -- ---- what comes after a word
 
-one_of_three : (p q r s t : Bool) → (p || r || t) ≡ true → (p || q || r || s || t) ≡ true
-one_of_three true q r s t h = refl
-one_of_three false true r s t h = refl
-one_of_three false false true s t h = refl
-one_of_three false false false true t h = refl
-one_of_three false false false false t h = h
-
 follows-ends : (flow blank : Bool) (rest : List ℕ) → may_follow flow blank rest ≡ true → ends_word flow 32 rest ≡ true
-follows-ends flow blank [] h = refl
-follows-ends flow blank (b ∷ after) h =
-    elim (or_cases (flow && ((b == 44) || (b == 93) || (b == 125))) (((b == 35) && blank) || ((b == 58) && begins_gap after)) h) [
-      | inl t ↦
-          let p = and_parts flow ((b == 44) || (b == 93) || (b == 125)) t in
-          or_left (flow && is_flow_indicator b) _ (and_from flow (is_flow_indicator b) p.0 (one_of_three (b == 44) (b == 91) (b == 93) (b == 123) (b == 125) p.1))
-      | inr t ↦ or_right (flow && is_flow_indicator b) _ (elim (or_cases ((b == 35) && blank) ((b == 58) && begins_gap after) t) [
-        | inl u ↦ or_left ((b == 35) && is_blank 32) _ (and_from (b == 35) (is_blank 32) (and_parts (b == 35) blank u).0 refl)
-        | inr u ↦
-            let p = and_parts (b == 58) (begins_gap after) u in
-            or_right ((b == 35) && is_blank 32) _ (and_from (b == 58) (begins_break flow after) p.0 (or_right (flow && begins_flow_indicator after) (begins_gap after) p.1))
-      ])
-    ]
+follows-ends flow blank x3 h = search rules
 
 -- a plain word that ends after some byte ends after a blank
 ends-blank : (flow : Bool) (before : ℕ) (rest : List ℕ) → ends_word flow before rest ≡ true → ends_word flow 32 rest ≡ true
-ends-blank flow before [] h = refl
-ends-blank flow before (b ∷ after) h =
-    elim (or_cases (flow && is_flow_indicator b) (((b == 35) && is_blank before) || ((b == 58) && begins_break flow after)) h) [
-      | inl t ↦ or_left (flow && is_flow_indicator b) _ t
-      | inr t ↦ or_right (flow && is_flow_indicator b) _ (elim (or_cases ((b == 35) && is_blank before) ((b == 58) && begins_break flow after) t) [
-        | inl u ↦ or_left ((b == 35) && is_blank 32) _ (and_from (b == 35) (is_blank 32) (and_parts (b == 35) (is_blank before) u).0 refl)
-        | inr u ↦ or_right ((b == 35) && is_blank 32) _ u
-      ])
-    ]
+ends-blank flow before x3 h = search rules
 
 -- The rest is nothing, or begins with `#`, with `:` before a break, or in flow with one of `, [ ] { }`.
 pub word-rest_ends : (flow : Bool) (text value rest : List ℕ) → IsWordAt flow text value rest → ends_word flow 32 rest ≡ true

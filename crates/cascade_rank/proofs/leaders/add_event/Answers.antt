@@ -1,4 +1,4 @@
-use Rattle.std.proofs.Common.{◌<◌, List, length, get_or, refl, subst, arith, take_all}
+use Rattle.std.proofs.Common.{rules, ◌<◌, List, length, get_or, refl, subst, arith, take_all}
 use Rattle.std.proofs.lemmas.List.Elements.{All-get_or}
 use Rattle.plan_tables.specs.Valid.{IsEventWithin}
 use Rattle.plan_tables.specs.declared.entries.EventId.{EventId}
@@ -12,9 +12,7 @@ pub loop-posted-init : goal.loop-posted-init
 loop-posted-init c = adds-none c.args.event (Lines 0) c.args.leaders.now (λ f. refl)
 
 pub add-requires : goal.add-requires
-add-requires c =
-    let below = All-get_or (IsEventWithin (length c.args.leaders.now)) c.args.posts.now c.loop-posted.posted-index no_event c.loop-posted-test.true c.requires in
-    omega (arith, below, c.loop-posted.invariant.count)
+add-requires c = search (rules, All-get_or)
 
 pub loop-posted-preserved : goal.loop-posted-preserved
 loop-posted-preserved c =
@@ -25,5 +23,4 @@ loop-posted-preserved c =
     (adds-more c.args.event cost_of_post c.args.posts.now c.loop-posted.posted-index no_event c.args.leaders.now c.loop-posted.leaders _ c.loop-posted-test.true c.loop-posted.invariant (adds-one c.args.event posted c.loop-posted.leaders inside))
 
 pub returns : goal.returns
-returns c =
-    subst (λ (es : List EventId). AddsLeader c.args.event (each_of cost_of_post es) c.args.leaders.now c.loop-posted.leaders) (take_all c.loop-posted.posted-index c.args.posts.now c.loop-posted-test.false) c.loop-posted.invariant
+returns c = search (rules, take_all)

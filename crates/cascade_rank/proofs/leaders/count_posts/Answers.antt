@@ -1,4 +1,4 @@
-use Rattle.std.proofs.Common.{List, length, sym, subst, ap, ◌∙◌}
+use Rattle.std.proofs.Common.{rules, List, length, sym, subst, ap, ◌∙◌}
 use Rattle.plan_tables.specs.declared.entries.EventId.{EventId}
 use Rattle.cascade_rank.specs.Cost.{each_of, cost_of_post}
 use Rattle.cascade_rank.specs.Leaders.{AddsLeader}
@@ -12,8 +12,4 @@ add_event-requires c =
     posts_of_event-within c.args.plan.now c.in_ok-list_posts.ensures.valid.entries (event c.loop-number.number) (length c.loop-number.leaders) c.deref.result.now c.loop-number.invariant.count (c.deref.ensures.value ∙ c.in_ok-list_posts.ensures.posts)
 
 pub loop-number-preserved : goal.loop-number-preserved
-loop-number-preserved c =
-    let posts = c.deref.ensures.value ∙ c.in_ok-list_posts.ensures.posts in
-    let adds = subst (λ (es : List EventId). AddsLeader (event c.loop-number.number) (each_of cost_of_post es) c.loop-number.leaders c.add_event.new.leaders) posts c.in_ok-add_event.ensures in
-    rw c.in_ok-push.ensures.items
-    (leaders_more c.args.plan.now c.loop-number.number c.len.result c.loop-number.leaders c.add_event.new.leaders c.loop-number.left.items c.loop-number.invariant adds (c.len.ensures ∙ sym c.deref.ensures.len ∙ ap length posts))
+loop-number-preserved c = search (rules, leaders_more)

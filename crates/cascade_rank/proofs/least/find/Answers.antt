@@ -1,4 +1,4 @@
-use Rattle.std.proofs.Common.{List, ℕ, nat_lt, Option, position, Err, Ok, ap, ◌∙◌, sym, subst, arith}
+use Rattle.std.proofs.Common.{rules, List, ℕ, nat_lt, Option, position, Err, Ok, ap, ◌∙◌, sym, subst, arith}
 use Rattle.std.specs.Option.{option_map}
 use Rattle.plan_tables.specs.declared.entries.EventId.{EventId}
 use Rattle.cascade_rank.specs.Weights.{IsLeastFitting, IsWithinLimit}
@@ -12,16 +12,10 @@ use Rattle.cascade_rank.proofs.Finds.{left_is_open, found_past_is, first_is_open
 use Rattle.cascade_rank.proofs.least.find.Goals as goal
 
 pub overflow_cast-start : goal.overflow_cast-start
-overflow_cast-start c =
-    let g = c.in_ok-grounding.ensures in
-    let is = c.first_left.ensures ∙ ap (position (λ n. nat_lt 0 n)) c.deref.ensures.value in
-    let below = (first_is_open c.args.plan.now g.valid.entries c.in_ok-grounding.grounding.left.items c.in_ok-grounding.grounding.order.items g.order c.first_left.result is c.in-Some.place c.in-Some.is).0 in
-    omega (arith, below, events-few c.args.plan.now g.valid)
+overflow_cast-start c = search (rules, nat_lt, first_is_open, events-few)
 
 pub walk-requires-clause-left : goal.walk-requires-clause-left
-walk-requires-clause-left c =
-    let g = c.in_ok-grounding.ensures in
-    subst (IsLeft c.args.plan.now) (sym c.deref-in-Some.ensures.value) (left_is_open c.args.plan.now g.valid.entries c.in_ok-grounding.grounding.left.items c.in_ok-grounding.grounding.order.items g.order)
+walk-requires-clause-left c = search (rules, left_is_open)
 
 pub walk-requires-clause-first : goal.walk-requires-clause-first
 walk-requires-clause-first c =
@@ -43,10 +37,7 @@ returns-in-Some-clause-refused c =
     (walked.is_one, walked.reported, cycle-no_fit c.args.plan.now _ walked.is_one)
 
 pub weigh-requires : goal.weigh-requires
-weigh-requires c =
-    let g = c.in_ok-grounding.ensures in
-    let is = c.first_left.ensures ∙ ap (position (λ n. nat_lt 0 n)) c.deref.ensures.value in
-    subst (IsWholeOrder c.args.plan.now) (sym c.deref-2.ensures.value) (whole_order c.args.plan.now g.valid.entries c.in_ok-grounding.grounding.left.items c.in_ok-grounding.grounding.order.items g.order c.first_left.result is c.in_default.is)
+weigh-requires c = search (rules, nat_lt, whole_order)
 
 pub returns-in-None-clause-exact : goal.returns-in-None-clause-exact
 returns-in-None-clause-exact c =
@@ -61,14 +52,7 @@ returns-in-None-clause-exact c =
     ∙ found_above c.args.plan.now g.valid.entries all c.in_ok-weights.weights.items c.in_ok-weights.ensures above
 
 pub returns-in-None-clause-refused : goal.returns-in-None-clause-refused
-returns-in-None-clause-refused c =
-    let g = c.in_ok-grounding.ensures in
-    let left = c.in_ok-grounding.grounding.left.items in
-    let order = c.in_ok-grounding.grounding.order.items in
-    let is = c.first_left.ensures ∙ ap (position (λ n. nat_lt 0 n)) c.deref.ensures.value in
-    let all = all_grounded c.args.plan.now g.valid.entries left order g.order c.first_left.result is c.in_default.is in
-    let above = subst (λ (ws : List ℕ). ¬ (IsWithinLimit c.args.plan.now ws)) c.deref-3.ensures.value c.in-None.ensures.above in
-    too_dear c.args.plan.now g.valid.entries all c.in_ok-weights.weights.items c.in_ok-weights.ensures above
+returns-in-None-clause-refused c = search (rules, nat_lt, all_grounded, too_dear)
 
 pub returns-clause-exact : goal.returns-clause-exact
 returns-clause-exact c =
@@ -84,11 +68,4 @@ returns-clause-exact c =
     ∙ ap Ok (sym c.of.ensures)
 
 pub returns-clause-least : goal.returns-clause-least
-returns-clause-least c =
-    let g = c.in_ok-grounding.ensures in
-    let left = c.in_ok-grounding.grounding.left.items in
-    let order = c.in_ok-grounding.grounding.order.items in
-    let is = c.first_left.ensures ∙ ap (position (λ n. nat_lt 0 n)) c.deref.ensures.value in
-    let all = all_grounded c.args.plan.now g.valid.entries left order g.order c.first_left.result is c.in_default.is in
-    let within = subst (IsWithinLimit c.args.plan.now) c.deref-3.ensures.value c.in-Some-limited_bound.ensures.within.0 in
-    subst (IsLeastFitting c.args.plan.now) (sym c.of.ensures) (least_within c.args.plan.now g.valid.entries all c.in_ok-weights.weights.items c.in_ok-weights.ensures within)
+returns-clause-least c = search (rules, nat_lt, all_grounded, least_within)

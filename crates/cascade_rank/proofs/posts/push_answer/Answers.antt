@@ -1,4 +1,4 @@
-use Rattle.std.proofs.Common.{◌++◌, List, ap, ◌∙◌}
+use Rattle.std.proofs.Common.{rules, ◌++◌, List, ap, ◌∙◌}
 use Rattle.plan_tables.specs.PlanView.{list_of_row}
 use Rattle.plan_tables.specs.declared.entries.Action.{Action}
 use Rattle.plan_tables.specs.declared.entries.ListId.{ListId}
@@ -17,5 +17,4 @@ loop-list-preserved g c =
     c.loop-list.invariant here
 
 pub returns : goal.returns
-returns g c =
-    pushes-all (λ k. cost_of_list_by c.args.plan.now (g.C.Tells.cost c.args.plan.now) (list_of_row c.args.plan.now c.args.row k)) c.args.lists.now c.loop-list.list-index c.args.posts.now.items c.loop-list.posts.items c.loop-list-test.false c.loop-list.invariant
+returns g c = search (rules, pushes-all)

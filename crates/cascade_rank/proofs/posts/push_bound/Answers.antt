@@ -1,4 +1,4 @@
-use Rattle.std.proofs.Common.{◌++◌, sym, ap, ◌∙◌}
+use Rattle.std.proofs.Common.{rules, ◌++◌, sym, ap, ◌∙◌}
 use Rattle.cascade_rank.specs.Cost.{Cost}
 use Rattle.cascade_rank.specs.Mentions.{weights_in}
 use Rattle.cascade_rank.proofs.Places.{cost_at_place, binding-within, place-within, place-cost, bound-places}
@@ -6,8 +6,7 @@ use Rattle.cascade_rank.proofs.Posted.{pushes-more, pushes-all}
 use Rattle.cascade_rank.proofs.posts.push_bound.Goals as goal
 
 pub binding-requires : goal.binding-requires
-binding-requires c =
-    place-within c.args.plan.now c.args.event c.bindings_of-place-items.result.now c.bindings_of-place-items.ensures.places c.loop-place.place-index c.loop-place-test.true
+binding-requires c = search (rules, place-within)
 
 pub push_binding-requires : goal.push_binding-requires
 push_binding-requires c = binding-within c.args.plan.now c.binding.ensures.valid.entries _ c.binding.result c.binding.ensures.binding

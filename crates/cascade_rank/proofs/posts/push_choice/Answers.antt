@@ -1,4 +1,4 @@
-use Rattle.std.proofs.Common.{[], ◌∷◌, ◌++◌, ap, ◌∙◌}
+use Rattle.std.proofs.Common.{rules, [], ◌∷◌, ◌++◌, ap, ◌∙◌}
 use Rattle.plan_tables.specs.PlanView.{game_event}
 use Rattle.plan_tables.specs.declared.entries.EventId.{EventId}
 use Rattle.plan_tables.specs.declared.entries.GameEvent.TheVariants.{SwStart}
@@ -12,5 +12,4 @@ loop-which-preserved c =
     c.loop-which.invariant (c.in_ok-push.ensures.items ∙ ap (λ (e : EventId). c.loop-which.posts.items ++ e ∷ []) c.game_event.ensures.event)
 
 pub returns : goal.returns
-returns c =
-    pushes-all (λ which. cost_of_post (game_event c.args.plan.now which)) c.args.choice.now c.loop-which.which-index c.args.posts.now.items c.loop-which.posts.items c.loop-which-test.false c.loop-which.invariant
+returns c = search (rules, pushes-all)

@@ -1,4 +1,4 @@
-use Rattle.std.proofs.Common.{◌<◌, ◌≤◌, ◌++◌, List, [], length, map, ap, sym, ◌∙◌, arith, Bor}
+use Rattle.std.proofs.Common.{rules, ◌<◌, ◌≤◌, ◌++◌, List, [], length, map, ap, sym, ◌∙◌, arith, Bor}
 use Rattle.std.proofs.lemmas.List.{get_or-map, length-map}
 use Rattle.plan_tables.specs.declared.entries.EventId.{EventId}
 use Rattle.plan_tables.specs.declared.entries.GameEvent.{GameEvent}
@@ -16,9 +16,4 @@ loop-choice-preserved c =
     (c.in_ok-push_choice.ensures ∙ ap (λ posts. c.loop-choice.posts.items ++ weights_in (cost_of_choice c.args.plan.now posts)) (sym here))
 
 pub returns : goal.returns
-returns c =
-    let ways = map (λ (posts : Bor (List GameEvent)). posts.now) c.choices-choice-items.result.now in
-    let whole : length ways ≤ c.loop-choice.choice-index = omega (arith, c.loop-choice-test.false, length-map c.choices-choice-items.result.now (λ (posts : Bor (List GameEvent)). posts.now)) in
-    pushes-all (cost_of_choice c.args.plan.now) ways c.loop-choice.choice-index c.args.posts.now.items c.loop-choice.posts.items whole c.loop-choice.invariant
-    ∙ ap (λ (es : List EventId). c.args.posts.now.items ++ es) (weights-dearest (cost_of_choice c.args.plan.now) ways)
-    ∙ ap (λ (all : List (List GameEvent)). c.args.posts.now.items ++ weights_in (dearest_of (cost_of_choice c.args.plan.now) all)) c.choices-choice-items.ensures
+returns c = search (rules, length-map, pushes-all, weights-dearest)

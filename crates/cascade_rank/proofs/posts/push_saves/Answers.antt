@@ -1,4 +1,4 @@
-use Rattle.std.proofs.Common.{◌<◌, ◌≤◌, ◌++◌, List, length, sym, ap, ◌∙◌, arith}
+use Rattle.std.proofs.Common.{rules, ◌<◌, ◌≤◌, ◌++◌, List, length, sym, ap, ◌∙◌, arith}
 use Rattle.plan_tables.specs.PlanView.{is_save, row_at, save_rows}
 use Rattle.plan_tables.specs.declared.devices.Act.TheVariants.{Save}
 use Rattle.plan_tables.specs.declared.devices.DeviceRow.{DeviceRow}
@@ -12,21 +12,7 @@ use Rattle.cascade_rank.proofs.posts.push_saves.Goals as goal
 use Rattle.cascade_rank.proofs.posts.push_saves.Goals.{then-is_save+in_ok-push_call, else-is_save}
 
 pub loop-number-preserved : goal.loop-number-preserved
-loop-number-preserved c =
-    let plan = c.args.plan.now in
-    let i = c.loop-number.number in
-    let cost = λ (r : RowId). cost_of_call plan r (calls.Act Save) in
-    let passes = λ (r : RowId). is_save (row_at plan r).settings in
-    let there : i < length plan.rows = omega (arith, c.loop-number-test.true, ap (λ rows. length rows) c.rows-number-end.ensures.rows) in
-    let is = ap (λ (row : DeviceRow). is_save row.settings) (sym c.row.ensures.row) ∙ sym c.is_save.ensures in
-    elim c.if-is_save.branch [
-      | then-is_save+in_ok-push_call w ↦
-          rw w.posts-is
-          (pushes-passed plan passes cost i there (is ∙ w.if-is_save.true) c.args.posts.now.items c.loop-number.posts.items w.push_call.new.posts.items c.loop-number.invariant w.in_ok-push_call.ensures)
-      | else-is_save w ↦
-          rw w.posts-is
-          (pushes-over plan passes cost i there (is ∙ w.if-is_save.false) c.args.posts.now.items c.loop-number.posts.items c.loop-number.invariant)
-    ]
+loop-number-preserved c = search (rules, then-is_save+in_ok-push_call, pushes-passed, else-is_save, pushes-over)
 
 pub returns : goal.returns
 returns c =

@@ -1,4 +1,4 @@
-use Rattle.std.proofs.Common.{◌+◌, ◌^◌, take_all, ap, ◌∙◌, arith}
+use Rattle.std.proofs.Common.{rules, ◌+◌, ◌^◌, take_all, ap, ◌∙◌, arith}
 use Rattle.plan_tables.specs.declared.entries.Action.TheVariants.{Post}
 use Rattle.cascade_rank.specs.Events.{weight_of}
 use Rattle.cascade_rank.specs.Cost.{price, each_of, cost_of_action_by}
@@ -7,16 +7,10 @@ use Rattle.cascade_rank.proofs.Prices.{price-each_more}
 use Rattle.cascade_rank.proofs.price.price_of_actions.Goals as goal
 
 pub loop-action-init : goal.loop-action-init
-loop-action-init g c = record {
-  price = omega arith;
-  small = sum-none (2 ^ 33 + g.C.Tells.most);
-}
+loop-action-init g c = search (rules, sum-none)
 
 pub overflow_add-total : goal.overflow_add-total
-overflow_add-total g c =
-    let few = g.met.C.Tells.few in
-    let so_far = sum-few c.loop-action.action-index 1024 (2 ^ 33 + g.C.Tells.most) c.loop-action.total (omega (arith, c.loop-action-test.true, c.requires.few)) c.loop-action.invariant.small in
-    omega (arith, few, so_far, c.price_of_action-total.ensures.small)
+overflow_add-total g c = search (rules, sum-few)
 
 pub loop-action-preserved : goal.loop-action-preserved
 loop-action-preserved g c =
@@ -27,10 +21,7 @@ loop-action-preserved g c =
     }
 
 pub returns-clause-price : goal.returns-clause-price
-returns-clause-price g c =
-    c.loop-action.invariant.price
-    ∙ ap (λ actions. price (weight_of c.args.weights.now) (each_of (cost_of_action_by c.args.plan.now (g.C.Tells.cost c.args.plan.now)) actions)) (take_all c.loop-action.action-index c.args.actions.now c.loop-action-test.false)
+returns-clause-price g c = search (rules, take_all)
 
 pub returns-clause-small : goal.returns-clause-small
-returns-clause-small g c =
-    sum-few c.loop-action.action-index 1024 (2 ^ 33 + g.C.Tells.most) c.loop-action.total (omega (arith, c.requires.few)) c.loop-action.invariant.small
+returns-clause-small g c = search (rules, sum-few)

@@ -1,4 +1,4 @@
-use Rattle.std.proofs.Common.{◌≡◌, List, max, ap, ◌∙◌, arith, take_all}
+use Rattle.std.proofs.Common.{rules, ◌≡◌, List, max, ap, ◌∙◌, arith, take_all}
 use Rattle.plan_tables.specs.declared.devices.RowId.{RowId}
 use Rattle.plan_tables.specs.declared.devices.Telling.TheVariants.{Arrived}
 use Rattle.cascade_rank.specs.Events.{weight_of}
@@ -20,8 +20,4 @@ loop-row-preserved c =
     }
 
 pub returns-clause-price : goal.returns-clause-price
-returns-clause-price c =
-    let rows = c.feeders-row-items in
-    c.loop-row.invariant.price
-    ∙ ap (λ (rs : List RowId). price (weight_of c.args.weights.now) (dearest_of (cost_of_told c.args.plan.now (Arrived c.args.target)) rs))
-    (take_all c.loop-row.row-index rows.result.now c.loop-row-test.false ∙ rows.ensures.feeders)
+returns-clause-price c = search (rules, take_all)

@@ -1,4 +1,4 @@
-use Rattle.std.proofs.Common.{List, length, ap, ◌∙◌, arith, take_all}
+use Rattle.std.proofs.Common.{rules, List, length, ap, ◌∙◌, arith, take_all}
 use Rattle.plan_tables.specs.declared.entries.Owner.TheVariants as owners
 use Rattle.plan_tables.specs.declared.devices.RowId.{RowId}
 use Rattle.device_objects.specs.declared.device.Call.TheVariants as calls
@@ -13,9 +13,7 @@ pub price_of_call-total-requires-clause-row : goal.price_of_call-total-requires-
 price_of_call-total-requires-clause-row c = c.rows_of_mode-row-items.ensures.within c.loop-row.row-index (record { 0 = 0 }) c.loop-row-test.true
 
 pub overflow_add-total : goal.overflow_add-total
-overflow_add-total c =
-    let rows = c.rows_of_mode-row-items in
-    omega (arith, c.loop-row-test.true, ap length rows.ensures.rows, rows_of-few c.args.plan.now (owners.Mode c.args.mode), rows-few c.args.plan.now rows.ensures.valid, c.loop-row.invariant.small, c.price_of_call-total.ensures.small)
+overflow_add-total c = search (rules, rows_of-few, rows-few)
 
 pub loop-row-preserved : goal.loop-row-preserved
 loop-row-preserved c =
@@ -27,12 +25,7 @@ loop-row-preserved c =
     }
 
 pub returns-clause-price : goal.returns-clause-price
-returns-clause-price c =
-    let rows = c.rows_of_mode-row-items in
-    c.loop-row.invariant.price
-    ∙ ap (λ (rs : List RowId). price (weight_of c.args.weights.now) (each_of (λ r. cost_of_call c.args.plan.now r calls.ModeStart) rs)) (take_all c.loop-row.row-index rows.result.now c.loop-row-test.false ∙ rows.ensures.rows)
+returns-clause-price c = search (rules, take_all)
 
 pub returns-clause-small : goal.returns-clause-small
-returns-clause-small c =
-    let rows = c.rows_of_mode-row-items in
-    omega (arith, ap length rows.ensures.rows, rows_of-few c.args.plan.now (owners.Mode c.args.mode), rows-few c.args.plan.now rows.ensures.valid, c.loop-row.invariant.small)
+returns-clause-small c = search (rules, rows_of-few, rows-few)

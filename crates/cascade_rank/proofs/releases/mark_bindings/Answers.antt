@@ -1,4 +1,4 @@
-use Rattle.std.proofs.Common.{get_or, sym, ap, ◌∙◌, subst, take_all}
+use Rattle.std.proofs.Common.{rules, get_or, sym, ap, ◌∙◌, subst, take_all}
 use Rattle.std.specs.List.{flat_map}
 use Rattle.std.proofs.lemmas.Option.{get_or_from_slice_get}
 use Rattle.plan_tables.specs.declared.entries.Binding.{Binding}
@@ -25,9 +25,4 @@ loop-place-preserved c =
     (subst (λ (b : Binding). AreMarked c.loop-place.marks (actions_of_target plan b.target) c.mark_target.new.marks) (sym here) c.mark_target.ensures)
 
 pub returns : goal.returns
-returns c =
-    let plan = c.args.plan.now in
-    let owner = owners.Mode c.args.mode in
-    let places = c.bindings_of_mode-place-items in
-    let whole = ap (flat_map (actions_at_place plan)) (take_all c.loop-place.place-index places.result.now c.loop-place-test.false ∙ places.ensures.places) ∙ actions_of_bindings plan owner in
-    subst (λ acts. AreMarked c.args.marks.now acts c.loop-place.marks) whole c.loop-place.invariant
+returns c = search (rules, actions_at_place, take_all, actions_of_bindings)

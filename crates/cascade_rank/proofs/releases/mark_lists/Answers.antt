@@ -1,4 +1,4 @@
-use Rattle.std.proofs.Common.{◌≡◌, ◌<◌, get_or, sym, ap, ◌∙◌, subst, arith, take_all}
+use Rattle.std.proofs.Common.{rules, ◌≡◌, ◌<◌, get_or, sym, ap, ◌∙◌, subst, arith, take_all}
 use Rattle.std.specs.List.{flat_map, range_with_len}
 use Rattle.std.proofs.lemmas.List.FromFn.{length-range_with_len, get_or-range_with_len}
 use Rattle.plan_tables.specs.Devices.{list_count}
@@ -24,11 +24,4 @@ loop-list-preserved c =
     (subst (λ acts. AreMarked c.loop-list.marks acts c.mark_actions.new.marks) (c.list.ensures.actions ∙ ap (actions_at plan) c.list_of_row.ensures.list) c.mark_actions.ensures))
 
 pub returns : goal.returns
-returns c =
-    let plan = c.args.plan.now in
-    let row = c.args.row in
-    let count = list_count (row_at plan row).settings in
-    let rows = ap (λ r. list_count r.settings) c.row.ensures.row in
-    let few = few_lists c.row.result.settings c.row.ensures.limits in
-    subst (λ ks. AreMarked c.args.marks.now (flat_map (λ k. actions_at plan (list_of_row plan row k)) ks) c.loop-list.marks)
-    (take_all c.loop-list.list (range_with_len 0 count) (omega (arith, c.loop-list-test.false, c.list_count-count.ensures, rows, few, length-range_with_len 0 count))) c.loop-list.invariant
+returns c = search (rules, few_lists, take_all, length-range_with_len)

@@ -1,4 +1,4 @@
-use Rattle.std.proofs.Common.{◌≡◌, ◌<◌, ◌≤◌, List, max, length, ap, ◌∙◌, arith, take_all}
+use Rattle.std.proofs.Common.{rules, ◌≡◌, ◌<◌, ◌≤◌, List, max, length, ap, ◌∙◌, arith, take_all}
 use Rattle.plan_tables.specs.PlanView.{row_numbers}
 use Rattle.plan_tables.specs.declared.devices.RowId.{RowId}
 use Rattle.device_objects.specs.declared.device.Call.TheVariants as calls
@@ -19,8 +19,4 @@ loop-number-preserved c =
     omega (arith, price-dearest_more w (λ r. cost_of_call plan r calls.Fire) (row_numbers plan) c.loop-number.number (record { 0 = 0 }) listed, here, c.loop-number.invariant, larger, c.price_of_call.ensures.price)
 
 pub returns : goal.returns
-returns c =
-    let plan = c.args.plan.now in
-    let whole : length (row_numbers c.args.plan.now) ≤ c.loop-number.number = omega (arith, c.loop-number-test.false, ap length c.rows-number-end.ensures.rows, length-rows plan) in
-    c.loop-number.invariant
-    ∙ ap (λ (rs : List RowId). price (weight_of c.args.weights.now) (dearest_of (λ r. cost_of_call c.args.plan.now r calls.Fire) rs)) (take_all c.loop-number.number (row_numbers plan) whole)
+returns c = search (rules, length-rows, take_all)

@@ -1,4 +1,4 @@
-use Rattle.std.proofs.Common.{◌≡◌, ◌<◌, ◌≤◌, List, max, length, ap, ◌∙◌, arith, take_all}
+use Rattle.std.proofs.Common.{rules, ◌≡◌, ◌<◌, ◌≤◌, List, max, length, ap, ◌∙◌, arith, take_all}
 use Rattle.plan_tables.specs.declared.entries.SwitchId.{SwitchId}
 use Rattle.cascade_rank.specs.Events.{weight_of}
 use Rattle.cascade_rank.specs.Cost.{price, dearest_of, cost_of_switch, switches_of}
@@ -17,8 +17,4 @@ loop-number-preserved c =
     omega (arith, price-dearest_more w (cost_of_switch plan) (switches_of plan) c.loop-number.number (record { 0 = 0 }) listed, here, c.loop-number.invariant, larger, c.price_of_switch.ensures)
 
 pub returns : goal.returns
-returns c =
-    let plan = c.args.plan.now in
-    let whole : length (switches_of c.args.plan.now) ≤ c.loop-number.number = omega (arith, length-switches plan) in
-    c.loop-number.invariant
-    ∙ ap (λ (ss : List SwitchId). price (weight_of c.args.weights.now) (dearest_of (cost_of_switch c.args.plan.now) ss)) (take_all c.loop-number.number (switches_of plan) whole)
+returns c = search (rules, length-switches, take_all)

@@ -1,16 +1,11 @@
-use Rattle.std.proofs.Common.{◌≤◌, ℕ, below_more, arith}
+use Rattle.std.proofs.Common.{rules, ◌≤◌, ℕ, below_more, arith}
 use Rattle.cascade_rank.specs.Events.{weight_of}
 use Rattle.cascade_rank.specs.Weights.{need}
 use Rattle.cascade_rank.proofs.Events.{event}
 use Rattle.cascade_rank.proofs.verdict.first_short.Goals as goal
 
 pub returns-then-from-needed-clause-short : goal.returns-then-from-needed-clause-short
-returns-then-from-needed-clause-short c = record {
-  within = omega arith;
-  needed_is = c.need-needed.ensures.price;
-  short_is = omega arith;
-  first = c.loop-number.invariant;
-}
+returns-then-from-needed-clause-short c = search rules
 
 pub loop-number-preserved : goal.loop-number-preserved
 loop-number-preserved c =

@@ -1,4 +1,4 @@
-use Rattle.std.proofs.Common.{◌≡◌, ◌≢◌, List, ℕ, length, Result, refl, sym, ap, subst, arith}
+use Rattle.std.proofs.Common.{rules, ◌≡◌, ◌≢◌, List, ℕ, length, Result, refl, sym, ap, subst, arith}
 use Rattle.cascade_rank.specs.declared.fault.RankFault.{RankFault}
 use Rattle.cascade_rank.specs.declared.verdict.Bound.{Bound}
 use Rattle.cascade_rank.specs.Finding.{short, wrong_events, verified_at}
@@ -8,10 +8,7 @@ use Rattle.cascade_rank.proofs.Verifying.{verified_at-wrong, verified_at-short, 
 use Rattle.cascade_rank.proofs.verdict.verify.Goals as goal
 
 pub returns-then-weights-event_count-clause-exact : goal.returns-then-weights-event_count-clause-exact
-returns-then-weights-event_count-clause-exact c =
-    let same = ap length c.as_slice-weights.ensures in
-    let differ : length c.args.weights.now ≢ length c.args.plan.now.events = omega (arith, same) in
-    (wrong_events, refl, verified_at-wrong c.args.plan.now c.args.weights.now differ)
+returns-then-weights-event_count-clause-exact c = search (rules, verified_at-wrong)
 
 pub returns-in-Some-clause-exact : goal.returns-in-Some-clause-exact
 returns-in-Some-clause-exact c =
@@ -22,9 +19,4 @@ returns-in-Some-clause-exact c =
     (short c.in-Some.event c.in-Some.needed, refl, verified_at-short c.args.plan.now c.args.weights.now count c.in-Some.event c.in-Some.needed found)
 
 pub returns-in-None-clause-exact : goal.returns-in-None-clause-exact
-returns-in-None-clause-exact c =
-    let weights = c.as_slice-weights.result.now in
-    let count : length weights ≡ length c.args.plan.now.events = omega arith in
-    subst (λ (ws : List ℕ). GivesBound c.ok_or.result (verified_at c.args.plan.now ws)) c.as_slice-weights.ensures
-    (subst (λ (r : Result Bound RankFault). GivesBound r (verified_at c.args.plan.now weights)) (sym c.ok_or.ensures.value)
-    (GivesBound-limited c.args.plan.now weights count c.in-None.ensures.fits c.limited_bound.result c.limited_bound.ensures.within c.limited_bound.ensures.above))
+returns-in-None-clause-exact c = search (rules, GivesBound-limited)

@@ -1,4 +1,4 @@
-use Rattle.std.proofs.Common.{◌≡◌, ◌<◌, true, false, List, [], ◌∷◌, ◌++◌, length, set, slice_index_or, ap, ◌∙◌, sym, subst, arith}
+use Rattle.std.proofs.Common.{rules, ◌≡◌, ◌<◌, true, false, List, [], ◌∷◌, ◌++◌, length, set, slice_index_or, ap, ◌∙◌, sym, subst, arith}
 use Rattle.std.proofs.lemmas.Result.{IfOk-weaker}
 use Rattle.std.proofs.lemmas.List.{get_or_read}
 use Rattle.plan_tables.specs.declared.entries.EventId.{EventId}
@@ -20,15 +20,7 @@ loop-passed-preserved c =
     (walk_goes c.args.plan.now c.args.start c.requires.first passed path at w c.event_count.ensures.valid.entries c.requires.left.leads_on new))
 
 pub returns-clause-cycle : goal.returns-clause-cycle
-returns-clause-cycle c =
-    let path = c.loop-passed.path.items in
-    let passed = c.loop-passed.passed.items in
-    let at = c.loop-passed.at in
-    let w = c.loop-passed.invariant in
-    let inside : at.0 < length passed = omega (arith, w.below, w.count) in
-    let again : slice_index_or passed at.0 false ≡ true = sym (get_or_read passed at.0 c.index.result.now inside c.index.ensures false) ∙ c.loop-passed-test.false in
-    let same = ap (from_first c.loop-passed.at) c.deref.ensures.value in
-    IfOk-weaker c.part_from.result _ _ (λ part is. is ∙ same ∙ cycle_is c.args.plan.now c.args.start c.requires.first passed path at w again) c.part_from.ensures
+returns-clause-cycle c = search (rules, slice_index_or, get_or_read, IfOk-weaker, cycle_is)
 
 pub returns-clause-reported : goal.returns-clause-reported
 returns-clause-reported c =

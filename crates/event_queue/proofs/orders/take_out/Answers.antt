@@ -1,4 +1,4 @@
-use Rattle.std.proofs.Common.{List, length, sym, subst, ap, ◌∙◌, arith}
+use Rattle.std.proofs.Common.{rules, List, length, sym, subst, ap, ◌∙◌, arith}
 use Rattle.std.specs.List.{remove}
 use Rattle.plan_tables.specs.declared.entries.BindingId.{BindingId}
 use Rattle.event_queue.specs.Inside.{IsOrdered, IsPlaceOf, runs_before}
@@ -7,9 +7,7 @@ use Rattle.event_queue.proofs.Joined.{runs-order}
 use Rattle.event_queue.proofs.orders.take_out.Goals as goal
 
 pub index_of-at-requires : goal.index_of-at-requires
-index_of-at-requires c =
-    let plan = c.args.plan.now in
-    subst (IsOrdered (runs_before plan)) (sym (c.deref.ensures.value ∙ c.requires.2)) (ordered-put (runs_before plan) (runs-order plan) c.args.place c.requires.0 c.requires.1)
+index_of-at-requires c = search (rules, ordered-put, runs-order)
 
 pub remove-taken-requires : goal.remove-taken-requires
 remove-taken-requires c =
@@ -21,9 +19,4 @@ remove-taken-requires c =
     omega (arith, within, ap length c.requires.2, c.args.order.now.ok.0)
 
 pub returns-clause-items : goal.returns-clause-items
-returns-clause-items c rest was =
-    let plan = c.args.plan.now in
-    let at = c.index_of-at.result in
-    let found = taken-at (runs_before plan) (runs-order plan) c.args.place rest at
-    (subst (λ (places : List BindingId). IsPlaceOf (runs_before plan) c.args.place places at) (c.deref.ensures.value ∙ was) c.index_of-at.ensures) in
-    c.remove-taken.ensures.items ∙ ap (λ (places : List BindingId). remove places at) was ∙ found.1
+returns-clause-items c rest was = search (rules, taken-at, runs-order)

@@ -1,4 +1,4 @@
-use Rattle.std.proofs.Common.{◌≡◌, ◌+◌, ◌<◌, ◌≤◌, ◌∷◌, List, drop, get_or, length, ap, sym, ◌∙◌, subst}
+use Rattle.std.proofs.Common.{rules, ◌≡◌, ◌+◌, ◌<◌, ◌≤◌, ◌∷◌, List, drop, get_or, length, ap, sym, ◌∙◌, subst}
 use Rattle.std.specs.List.{All}
 use Rattle.std.proofs.lemmas.List.{drop_all, drop_more}
 use Rattle.std.proofs.lemmas.List.Elements.{All-get_or}
@@ -17,12 +17,7 @@ none = record { 0 = 0 }
 
 pub call_device-requires-clause-row : goal.call_device-requires-clause-row
 unfolding none
-call_device-requires-clause-row g c =
-    let rows = c.rows_of_mode-rows.result.now in
-    let i = c.loop-row.row-index in
-    let within : All (λ r. r.0 < length c.args.core.now.plan.rows) rows = subst (λ (p : PlanView). All (λ r. r.0 < length p.rows) rows) c.plan.ensures c.rows_of_mode-rows.ensures.within in
-    subst (λ (v : CoreView). (get_or rows i none).0 < length v.plan.rows) (sym c.loop-row.invariant.0)
-    (All-get_or (λ r. r.0 < length c.args.core.now.plan.rows) rows i none c.loop-row-test.true within)
+call_device-requires-clause-row g c = search (rules, get_or, none, All-get_or)
 
 pub call_device-requires-clause-room : goal.call_device-requires-clause-room
 unfolding none
@@ -53,11 +48,4 @@ loop-row-preserved g c =
     )
 
 pub returns : goal.returns
-returns g c =
-    let plan = c.args.core.now.plan in
-    let owner = owners.Mode c.args.mode in
-    let i = c.loop-row.row-index in
-    let rows = c.rows_of_mode-rows.result.now in
-    let is : rows ≡ rows_of plan owner = c.rows_of_mode-rows.ensures.rows ∙ ap (λ (p : PlanView). rows_of p owner) c.plan.ensures in
-    let past : length (rows_of plan owner) ≤ i = subst (λ (rs : List RowId). length rs ≤ i) is c.loop-row-test.false in
-    subst (λ (rs : List RowId). after (all_do (call_device c.loop-row.core.plan c.args.call) rs) c.loop-row.core ≡ after (call_devices plan c.args.call c.args.mode) c.args.core.now) (drop_all i (rows_of plan owner) past) c.loop-row.invariant.0
+returns g c = search (rules, drop_all)

@@ -1,4 +1,4 @@
-use Rattle.std.proofs.Common.{sym}
+use Rattle.std.proofs.Common.{rules, sym}
 use Rattle.machine_core.proofs.Draining.{step-room, end-calls, end-room, drain-done}
 use Rattle.machine_core.proofs.drains.drain_ball.Goals as goal
 
@@ -12,5 +12,4 @@ pub end_multiballs-requires-clause-room : goal.end_multiballs-requires-clause-ro
 end_multiballs-requires-clause-room g c = end-room c.args.core.now c.requires.room (sym c.in-None.ensures.first) c.step_game.new.core c.step_game.ensures
 
 pub returns-in-None : goal.returns-in-None
-returns-in-None g c =
-    drain-done c.args.core.now c.requires.room (sym c.in-None.ensures.first) c.step_game.new.core c.step_game.ensures c.end_multiballs.new.core c.end_multiballs.ensures
+returns-in-None g c = search (rules, drain-done)

@@ -1,4 +1,4 @@
-use Rattle.std.proofs.Common.{true, ◌≡◌, ◌+◌, ◌<◌, ◌≤◌, List, filter, length, sym, ap, ◌∙◌, subst, arith}
+use Rattle.std.proofs.Common.{rules, true, ◌≡◌, ◌+◌, ◌<◌, ◌≤◌, List, filter, length, sym, ap, ◌∙◌, subst, arith}
 use Rattle.plan_tables.specs.PlanView.{PlanView, is_multiball, multiball_rows, row_at}
 use Rattle.plan_tables.specs.declared.devices.Act.TheVariants.{End}
 use Rattle.plan_tables.specs.declared.devices.DeviceRow.{DeviceRow}
@@ -17,9 +17,7 @@ pub row-requires : goal.row-requires
 row-requires g c = omega (arith, c.loop-number-test.true, ap (λ rows. length rows) c.rows-number-end.ensures.rows)
 
 pub call_device-requires-clause-row : goal.call_device-requires-clause-row
-call_device-requires-clause-row g c =
-    let same = ap (λ (p : PlanView). length p.rows) (c.plan-plan.ensures ∙ sym (ap (λ (v : CoreView). v.plan) c.loop-number.invariant.0)) in
-    omega (arith, same, c.loop-number-test.true, ap (λ rows. length rows) c.rows-number-end.ensures.rows)
+call_device-requires-clause-row g c = search rules
 
 pub call_device-requires-clause-room : goal.call_device-requires-clause-room
 call_device-requires-clause-room g c =
@@ -60,10 +58,4 @@ loop-number-preserved g c =
     ]
 
 pub returns : goal.returns
-returns g c =
-    let plan = c.args.core.now.plan in
-    let call = calls.Act End in
-    let same = ap (λ (p : PlanView). length p.rows) c.plan-plan.ensures in
-    let past : length plan.rows ≤ c.loop-number.number = omega (arith, same, c.loop-number-test.false, ap (λ rows. length rows) c.rows-number-end.ensures.rows) in
-    subst (λ (rs : List RowId). after (all_do (call_device c.loop-number.core.plan call) (filter (multiplies plan) rs)) c.loop-number.core ≡ after (all_do (call_device plan call) (multiball_rows plan)) c.args.core.now)
-    (rows-end plan c.loop-number.number past) c.loop-number.invariant.0
+returns g c = search (rules, rows-end)

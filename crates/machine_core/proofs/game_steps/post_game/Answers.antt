@@ -1,4 +1,4 @@
-use Rattle.std.proofs.Common.{◌+◌, drop, get_or, ap, sym, ◌∙◌}
+use Rattle.std.proofs.Common.{rules, ◌+◌, drop, get_or, ap, sym, ◌∙◌}
 use Rattle.std.proofs.lemmas.List.{drop_more}
 use Rattle.plan_tables.specs.PlanView.{PlanView, game_event}
 use Rattle.plan_tables.specs.declared.entries.EventId.{EventId}
@@ -17,13 +17,4 @@ post-requires g c =
     (drop_more events i SwStart c.loop-event-test.true) c.loop-event.invariant c.requires.room
 
 pub loop-event-preserved : goal.loop-event-preserved
-loop-event-preserved g c =
-    let core = c.loop-event.core in
-    let events = c.args.events.now in
-    let i = c.loop-event.event-index in
-    let event = get_or events i SwStart in
-    let plan_is = c.plan-plan.ensures ∙ sym (ap (λ (v : CoreView). v.plan) c.loop-event.invariant) in
-    let event_is = c.game_event.ensures.event ∙ ap (λ (p : PlanView). game_event p event) plan_is in
-    all_do-first post_game core c.post.new.self (after (all_do (post_game c.args.core.now.plan) events) c.args.core.now) event (drop (i + 1) events) (drop i events)
-    (drop_more events i SwStart c.loop-event-test.true) c.loop-event.invariant
-    (c.post.ensures ∙ ap (λ (e : EventId). after (post Machine e) core) event_is)
+loop-event-preserved g c = search (rules, get_or, all_do-first, drop_more)

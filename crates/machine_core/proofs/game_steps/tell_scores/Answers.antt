@@ -20,13 +20,4 @@ tell_score-requires-clause-room g c =
     (finals-first place count there) c.loop-place.invariant.0 room
 
 pub loop-place-preserved : goal.loop-place-preserved
-loop-place-preserved g c =
-    let core = c.loop-place.core in
-    let place = c.loop-place.place in
-    let count = c.player_count-place-end.result in
-    let players = range_with_len 1 (length c.args.core.now.machine.players.players) in
-    let there : place < count = omega arith in (
-      all_do-first write_final core c.tell_score.new.self (after (all_do (write_final c.args.core.now.plan) players) c.args.core.now) (place + 1) (range_with_len (place + 1 + 1) (count - (place + 1))) (range_with_len (place + 1) (count - place))
-          (finals-first place count there) c.loop-place.invariant.0 c.tell_score.ensures,
-      ap (λ (v : CoreView). length v.machine.players.players) c.tell_score.ensures ∙ c.loop-place.invariant.1,
-    )
+loop-place-preserved g c = search (rules, all_do-first, finals-first)

@@ -1,4 +1,4 @@
-use Rattle.std.proofs.Common.{◌+◌, drop, get_or, sym, subst}
+use Rattle.std.proofs.Common.{rules, ◌+◌, drop, get_or, sym, subst}
 use Rattle.std.proofs.lemmas.List.{drop_more}
 use Rattle.std.proofs.lemmas.List.Elements.{All-get_or}
 use Rattle.plan_tables.specs.PlanView.{PlanView}
@@ -17,11 +17,7 @@ none = Post (record { 0 = 0 })
 
 pub run_by-requires-clause-action : goal.run_by-requires-clause-action
 unfolding none
-run_by-requires-clause-action g c =
-    let actions = c.args.actions.now in
-    let i = c.loop-action.action-index in
-    subst (λ (v : CoreView). IsActionWithin v.plan (get_or actions i none)) (sym c.loop-action.invariant.0)
-    (All-get_or (IsActionWithin c.args.core.now.plan) actions i none c.loop-action-test.true c.requires.actions)
+run_by-requires-clause-action g c = search (rules, get_or, none, All-get_or)
 
 pub run_by-requires-clause-room : goal.run_by-requires-clause-room
 unfolding none

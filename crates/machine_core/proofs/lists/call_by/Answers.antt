@@ -1,4 +1,4 @@
-use Rattle.std.proofs.Common.{◌<◌, List, ℕ, length, ap, sym, ◌∙◌, subst}
+use Rattle.std.proofs.Common.{rules, ◌<◌, List, ℕ, length, ap, sym, ◌∙◌, subst}
 use Rattle.std.specs.List.{All}
 use Rattle.plan_tables.specs.PlanView.{row_at}
 use Rattle.plan_tables.specs.Devices.{list_count}
@@ -20,27 +20,10 @@ lists_by-requires-clause-lists g c =
     (subst (All (λ k. k < list_count (row_at core.plan r).settings)) (sym is) (answer-lists core.plan c.args.call r core.machine c.requires.row c.requires.calls.devices c.requires.may))
 
 pub lists_by-requires-clause-calls : goal.lists_by-requires-clause-calls
-lists_by-requires-clause-calls g c =
-    let core = c.args.core.now in
-    let r = c.args.row in
-    subst CanCall (sym c.call-lists.ensures.called)
-    (goes-can core (set_device r (called core.plan c.args.call r core.machine).0) (goes-turn core.plan c.args.call r core.machine) c.requires.calls)
+lists_by-requires-clause-calls g c = search (rules, goes-can, goes-turn)
 
 pub lists_by-requires-clause-room : goal.lists_by-requires-clause-room
-lists_by-requires-clause-room g c =
-    let core = c.args.core.now in
-    let r = c.args.row in
-    let turned = set_device r (called core.plan c.args.call r core.machine).0 core.machine in
-    let is = c.deref.ensures.0 ∙ c.call-lists.ensures.lists in
-    subst (λ (v : CoreView). HasRoom v.room (do_answer_by v.plan (g.T.Tells.tell v.plan) r c.deref.result.now v.machine)) (sym c.call-lists.ensures.called)
-    (subst (λ (ls : List ℕ). HasRoom core.room (do_answer_by core.plan (g.T.Tells.tell core.plan) r ls turned)) (sym is) c.requires.room)
+lists_by-requires-clause-room g c = search rules
 
 pub returns : goal.returns
-returns g c =
-    let core = c.args.core.now in
-    let r = c.args.row in
-    let turned = set_device r (called core.plan c.args.call r core.machine).0 core.machine in
-    let is = c.deref.ensures.0 ∙ c.call-lists.ensures.lists in
-    c.lists_by.ensures
-    ∙ ap (λ (v : CoreView). after (do_answer_by v.plan (g.T.Tells.tell v.plan) r c.deref.result.now) v) c.call-lists.ensures.called
-    ∙ ap (λ (ls : List ℕ). record core { machine = do_answer_by core.plan (g.T.Tells.tell core.plan) r ls turned }) is
+returns g c = search rules

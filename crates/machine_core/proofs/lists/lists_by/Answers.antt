@@ -1,4 +1,4 @@
-use Rattle.std.proofs.Common.{◌≡◌, ◌+◌, ◌<◌, ℕ, List, drop, get_or, length, sym, ap, ◌∙◌, subst}
+use Rattle.std.proofs.Common.{rules, ◌≡◌, ◌+◌, ◌<◌, ℕ, List, drop, get_or, length, sym, ap, ◌∙◌, subst}
 use Rattle.std.proofs.lemmas.List.{drop_more}
 use Rattle.std.proofs.lemmas.List.Elements.{All-get_or}
 use Rattle.plan_tables.specs.PlanView.{PlanView, actions_at, list_of_row, row_at}
@@ -23,19 +23,10 @@ pub list_of_row-requires-clause-row : goal.list_of_row-requires-clause-row
 list_of_row-requires-clause-row g c = subst (λ (p : PlanView). c.args.row.0 < length p.rows) (sym c.plan-plan.ensures) c.requires.row
 
 pub list_of_row-requires-clause-list : goal.list_of_row-requires-clause-list
-list_of_row-requires-clause-list g c =
-    let lists = c.args.lists.now in
-    let i = c.loop-list.list-index in
-    let r = c.args.row in
-    subst (λ (p : PlanView). get_or lists i 0 < list_count (row_at p r).settings) (sym c.plan-plan.ensures)
-    (All-get_or (λ k. k < list_count (row_at c.args.core.now.plan r).settings) lists i 0 c.loop-list-test.true c.requires.lists)
+list_of_row-requires-clause-list g c = search (rules, get_or, All-get_or)
 
 pub actions_by-requires-clause-actions : goal.actions_by-requires-clause-actions
-actions_by-requires-clause-actions g c =
-    let plan = c.plan-plan.result.now in
-    let is : plan ≡ c.loop-list.core.plan = c.plan-plan.ensures ∙ sym (ap (λ (v : CoreView). v.plan) c.loop-list.invariant.0) in
-    subst (λ (p : PlanView). All (IsActionWithin p) c.list.result.now) is
-    (subst (All (IsActionWithin plan)) (sym c.list.ensures.actions) (actions-within plan c.list.ensures.valid.entries c.list_of_row.result c.list_of_row.ensures.within))
+actions_by-requires-clause-actions g c = search (rules, actions-within)
 
 pub actions_by-requires-clause-room : goal.actions_by-requires-clause-room
 actions_by-requires-clause-room g c =

@@ -1,4 +1,4 @@
-use Rattle.std.proofs.Common.{Option, ap, sym, ◌∙◌, subst}
+use Rattle.std.proofs.Common.{rules, Option, ap, sym, ◌∙◌, subst}
 use Rattle.switch_core.specs.declared.change.Change.{Change}
 use Rattle.switch_core.specs.Switches.{after_change}
 use Rattle.written_machine.specs.Machine.{do_accepted, do_if_accepted, set_switches}
@@ -6,9 +6,7 @@ use Rattle.machine_core.specs.Core.{CoreView, CanCall, after}
 use Rattle.machine_core.proofs.parts.change.Goals as goal
 
 pub run_accepted-requires-clause-calls : goal.run_accepted-requires-clause-calls
-run_accepted-requires-clause-calls g c =
-    subst CanCall (sym c.change.ensures.changed)
-    (record { devices = c.requires.core.devices; coils = c.requires.core.coils; early = c.requires.moment })
+run_accepted-requires-clause-calls g c = search rules
 
 pub returns-in-Some : goal.returns-in-Some
 returns-in-Some g c =

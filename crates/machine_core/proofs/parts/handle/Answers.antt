@@ -1,4 +1,4 @@
-use Rattle.std.proofs.Common.{◌≡◌, ◌<◌, ◌≤◌, Some, [], ◌∷◌, length, refl, sym, ◌∙◌, subst, arith}
+use Rattle.std.proofs.Common.{rules, ◌≡◌, ◌<◌, ◌≤◌, Some, [], ◌∷◌, length, refl, sym, ◌∙◌, subst, arith}
 use Rattle.std.specs.Prelude.{slice_get}
 use Rattle.plan_tables.specs.PlanView.{PlanView}
 use Rattle.plan_tables.specs.Valid.{IsBindingWithin}
@@ -11,16 +11,10 @@ pub loop-place-init : goal.loop-place-init
 loop-place-init g c = (refl, c.requires.calls)
 
 pub binding-requires : goal.binding-requires
-binding-requires g c =
-    subst (λ (p : PlanView). c.in-Some.place.0 < length p.bindings) (sym c.plan-plan.ensures)
-    (handler-place (running_of c.args.core.now.machine.modes) c.args.core.now c.loop-place.core c.requires.handlers c.args.event c.loop-place.k c.loop-place.invariant.0
-    c.in-Some.place c.in-Some.ensures.handler c.in-Some.ensures.within)
+binding-requires g c = search (rules, handler-place)
 
 pub run_binding-requires-clause-binding : goal.run_binding-requires-clause-binding
-run_binding-requires-clause-binding g c =
-    let same = plan-now (running_of c.args.core.now.machine.modes) c.args.core.now c.loop-place.core c.requires.handlers c.args.event c.loop-place.k c.loop-place.invariant.0 in
-    subst (λ (p : PlanView). IsBindingWithin p c.binding.result) (c.plan-plan.ensures ∙ sym same)
-    (binding-within c.plan-plan.result.now c.binding.ensures.valid.entries c.in-Some.place c.binding.result c.binding.ensures.binding)
+run_binding-requires-clause-binding g c = search (rules, plan-now, binding-within)
 
 pub run_binding-requires-clause-calls : goal.run_binding-requires-clause-calls
 run_binding-requires-clause-calls g c = c.loop-place.invariant.1
@@ -43,16 +37,10 @@ loop-place-preserved g c =
     )
 
 pub returns : goal.returns
-returns g c =
-    handlers-end (running_of c.args.core.now.machine.modes) c.args.core.now c.loop-place.core c.requires.handlers c.args.event c.loop-place.k c.loop-place.invariant.0 c.in_default.ensures.handler
+returns g c = search (rules, handlers-end)
 
 pub overflow_add-k : goal.overflow_add-k
-overflow_add-k g c =
-    let count = handler-count (running_of c.args.core.now.machine.modes) c.args.core.now c.loop-place.core c.requires.handlers c.args.event c.loop-place.k c.loop-place.invariant.0 c.in-Some.place c.in-Some.ensures.handler in
-    let limit = subst (λ (p : PlanView). length p.bindings ≤ 16384) c.plan-plan.ensures c.binding.ensures.valid.binding_limit in
-    omega (arith, count, limit)
+overflow_add-k g c = search (rules, handler-count)
 
 pub loop-place-smaller : goal.loop-place-smaller
-loop-place-smaller g c =
-    let left = handler-left (running_of c.args.core.now.machine.modes) c.args.core.now c.loop-place.core c.requires.handlers c.args.event c.loop-place.k c.loop-place.invariant.0 c.in-Some.place c.in-Some.ensures.handler in
-    omega (arith, left)
+loop-place-smaller g c = search (rules, handler-left)

@@ -1,4 +1,4 @@
-use Rattle.std.proofs.Common.{◌∙◌, ap, sym}
+use Rattle.std.proofs.Common.{rules, ◌∙◌, ap, sym}
 use Rattle.plan_tables.specs.PlanView.{PlanView, mode_at}
 use Rattle.plan_tables.specs.declared.entries.EventId.{EventId}
 use Rattle.plan_tables.specs.declared.entries.Mode.{Mode as ModeValue}
@@ -13,20 +13,10 @@ use Rattle.machine_core.proofs.Releasing.{stopped-room, stopped-coils}
 use Rattle.machine_core.proofs.parts.mode_after.Goals as goal
 
 pub returns-then-kept : goal.returns-then-kept
-returns-then-kept g c =
-    let m = c.args.mode in
-    let core = c.args.core.now in
-    c.stop.ensures
-    ∙ follow-still (stop_mode core.plan m) core c.requires.handlers (stop-still core.plan m core.machine)
-    ∙ (λ i. follow (do_after core.plan (sym c.if-kept.true i) (sym (ap (Mode c.args.mode) c.in-Started.is) i)) core)
+returns-then-kept g c = search (rules, follow-still, stop-still)
 
 pub returns-in-Stopped : goal.returns-in-Stopped
-returns-in-Stopped g c =
-    let m = c.args.mode in
-    let core = c.args.core.now in
-    c.release_ball_end.ensures
-    ∙ follow-still (release_ball_end core.plan m) core c.requires.handlers (release-still core.plan m core.machine)
-    ∙ ap (λ (w : Work). follow (do_after core.plan c.args.kept w) core) (sym (ap (Mode c.args.mode) c.in-Stopped.is))
+returns-in-Stopped g c = search (rules, follow-still, release-still)
 
 pub returns-in-Stopping : goal.returns-in-Stopping
 returns-in-Stopping g c =
@@ -39,8 +29,7 @@ returns-in-Stopping g c =
     ∙ ap (λ (w : Work). follow (do_after core.plan c.args.kept w) core) (sym (ap (Mode c.args.mode) c.in-Stopping.is))
 
 pub call_devices-requires-clause-room : goal.call_devices-requires-clause-room
-call_devices-requires-clause-room g c =
-    stopped-room c.args.core.now.plan c.args.kept c.args.mode (Mode c.args.mode c.args.which) c.args.core.now.room c.args.core.now.machine (ap (Mode c.args.mode) c.in-Stopping.is) c.requires.room
+call_devices-requires-clause-room g c = search (rules, stopped-room)
 
 pub release_coils-requires-clause-coils : goal.release_coils-requires-clause-coils
 release_coils-requires-clause-coils g c = stopped-coils c.args.mode c.args.core.now c.call_devices.new.core c.call_devices.ensures c.requires.calls

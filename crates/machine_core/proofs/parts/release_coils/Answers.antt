@@ -1,4 +1,4 @@
-use Rattle.std.proofs.Common.{refl}
+use Rattle.std.proofs.Common.{rules, refl}
 use Rattle.machine_core.proofs.Releasing.{releasing-end, releasing-next, releasing-room, releasing-smaller}
 use Rattle.machine_core.proofs.parts.release_coils.Goals as goal
 
@@ -11,15 +11,10 @@ write-requires g c =
     c.release.new.self c.in-Some.ensures.released _ refl c.requires.room
 
 pub loop-command-smaller : goal.loop-command-smaller
-loop-command-smaller g c =
-    releasing-smaller c.args.core.now.plan c.args.owner c.args.core.now c.loop-command.core c.loop-command.invariant c.in-Some.command c.in-Some.ensures.command
-    c.release.new.self c.in-Some.ensures.released c.write.new.self c.write.ensures c.requires.room
+loop-command-smaller g c = search (rules, releasing-smaller)
 
 pub loop-command-preserved : goal.loop-command-preserved
-loop-command-preserved g c =
-    releasing-next c.args.core.now.plan c.args.owner c.args.core.now c.loop-command.core c.loop-command.invariant c.in-Some.command c.in-Some.ensures.command
-    c.release.new.self c.in-Some.ensures.released c.write.new.self c.write.ensures
+loop-command-preserved g c = search (rules, releasing-next)
 
 pub returns : goal.returns
-returns g c =
-    releasing-end c.args.core.now.plan c.args.owner c.args.core.now c.loop-command.core c.loop-command.invariant c.in_default.ensures.command c.release.new.self c.in_default.ensures.released
+returns g c = search (rules, releasing-end)

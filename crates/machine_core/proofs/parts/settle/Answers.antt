@@ -1,4 +1,4 @@
-use Rattle.std.proofs.Common.{◌+◌, refl}
+use Rattle.std.proofs.Common.{rules, ◌+◌, refl}
 use Rattle.machine_core.proofs.Settling.{follow-none, took-room, written-handles, written-room, written-calls, next-steps, next-smaller}
 use Rattle.machine_core.proofs.Stepping.{taken-calls}
 use Rattle.machine_core.proofs.parts.settle.Goals as goal
@@ -13,10 +13,7 @@ write-requires g c =
     took-room c.args.core.now c.loop-first.core c.requires.room count is c.in-Some.first rest waits c.take.new.self _ took_is refl
 
 pub take_step-requires-clause-handlers : goal.take_step-requires-clause-handlers
-take_step-requires-clause-handlers g c =
-    let (count, is, can) = c.loop-first.invariant in
-    let (rest, waits, took_is) = c.in-Some.ensures in
-    written-handles c.args.core.now c.loop-first.core c.requires.room count is c.in-Some.first rest waits c.take.new.self c.write.new.self took_is c.write.ensures
+take_step-requires-clause-handlers g c = search (rules, written-handles)
 
 pub take_step-requires-clause-room : goal.take_step-requires-clause-room
 take_step-requires-clause-room g c =
@@ -40,7 +37,4 @@ loop-first-preserved g c =
     )
 
 pub take_step-requires-clause-calls : goal.take_step-requires-clause-calls
-take_step-requires-clause-calls g c =
-    let (count, is, can) = c.loop-first.invariant in
-    let (rest, waits, took_is) = c.in-Some.ensures in
-    written-calls c.loop-first.core c.take.new.self c.write.new.self _ _ took_is c.write.ensures can
+take_step-requires-clause-calls g c = search (rules, written-calls)

@@ -1,4 +1,4 @@
-use Rattle.std.proofs.Common.{◌≡◌, ◌+◌, ◌<◌, drop, get_or, length, ap, sym, ◌∙◌, subst}
+use Rattle.std.proofs.Common.{rules, ◌≡◌, ◌+◌, ◌<◌, drop, get_or, length, ap, sym, ◌∙◌, subst}
 use Rattle.std.proofs.lemmas.List.{drop_more}
 use Rattle.std.proofs.lemmas.List.Elements.{All-get_or}
 use Rattle.plan_tables.specs.PlanView.{PlanView, act_of_listener}
@@ -18,12 +18,7 @@ none = record { row = record { 0 = 0 }; switch = 0 }
 
 pub call_device-requires-clause-row : goal.call_device-requires-clause-row
 unfolding none
-call_device-requires-clause-row g c =
-    let plan = c.args.core.now.plan in
-    let listeners = c.args.listeners.now in
-    let i = c.loop-listener.listener-index in
-    subst (λ (v : CoreView). (get_or listeners i none).row.0 < length v.plan.rows) (sym c.loop-listener.invariant.0)
-    (All-get_or (IsListenerWithin (length plan.rows)) listeners i none c.loop-listener-test.true c.requires.listeners)
+call_device-requires-clause-row g c = search (rules, get_or, none, All-get_or)
 
 pub call_device-requires-clause-calls : goal.call_device-requires-clause-calls
 call_device-requires-clause-calls g c = c.loop-listener.invariant.1

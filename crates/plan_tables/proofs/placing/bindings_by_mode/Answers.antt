@@ -1,4 +1,4 @@
-use Rattle.std.proofs.Common.{◌≡◌, length, get_or, refl, sym, ap, subst, ◌∙◌, arith}
+use Rattle.std.proofs.Common.{rules, ◌≡◌, length, get_or, refl, sym, ap, subst, ◌∙◌, arith}
 use Rattle.std.proofs.lemmas.List.{get_or_default}
 use Rattle.plan_tables.specs.PlanView.{no_binding}
 use Rattle.plan_tables.specs.Inside.{lists_view}
@@ -22,8 +22,4 @@ loop-place-preserved c =
     record { count = more.0; listed = more.1 }
 
 pub returns : goal.returns
-returns c plan count same =
-    let bindings = c.args.bindings.now in
-    let lists = c.loop-place.lists.items in
-    let all : c.loop-place.place ≡ length bindings = omega (arith, c.loop-place.auto.place-end, c.loop-place-test.false) in
-    mode_bindings_whole plan bindings same lists (c.loop-place.invariant.count ∙ sym count) (subst (λ n. BindingsListed bindings n (lists_view lists)) all c.loop-place.invariant.listed)
+returns c plan count same = search (rules, mode_bindings_whole)

@@ -1,4 +1,4 @@
-use Rattle.std.proofs.Common.{◌≡◌, ◌+◌, length, get_or, refl, ap, subst, ◌∙◌, arith}
+use Rattle.std.proofs.Common.{rules, ◌≡◌, ◌+◌, length, get_or, refl, ap, subst, ◌∙◌, arith}
 use Rattle.std.proofs.lemmas.List.{get_or_default}
 use Rattle.plan_tables.specs.PlanView.{no_row}
 use Rattle.plan_tables.specs.Inside.{lists_view}
@@ -23,9 +23,4 @@ loop-number-preserved c =
     record { count = more.0; listed = more.1 }
 
 pub returns : goal.returns
-returns c plan same =
-    let rows = c.args.rows.now in
-    let lists = c.loop-number.lists.items in
-    let all : c.loop-number.number ≡ length rows = omega (arith, c.loop-number.auto.number-end, c.loop-number-test.false) in
-    feeders_whole plan rows same lists c.loop-number.invariant.count
-    (subst (λ n. RowsListed row_target rows n (lists_view lists)) all c.loop-number.invariant.listed)
+returns c plan same = search (rules, feeders_whole, row_target)

@@ -1,4 +1,4 @@
-use Rattle.std.proofs.Common.{◌≡◌, length, get_or, refl, sym, ap, subst, ◌∙◌, arith}
+use Rattle.std.proofs.Common.{rules, ◌≡◌, length, get_or, refl, sym, ap, subst, ◌∙◌, arith}
 use Rattle.std.proofs.lemmas.List.{get_or_default}
 use Rattle.plan_tables.specs.PlanView.{no_row}
 use Rattle.plan_tables.specs.Inside.{lists_view}
@@ -22,8 +22,4 @@ loop-number-preserved c =
     record { count = more.0; listed = more.1 }
 
 pub returns : goal.returns
-returns c plan count same =
-    let rows = c.args.rows.now in
-    let lists = c.loop-number.lists.items in
-    let all : c.loop-number.number ≡ length rows = omega (arith, c.loop-number.auto.number-end, c.loop-number-test.false) in
-    mode_rows_whole plan rows same lists (c.loop-number.invariant.count ∙ sym count) (subst (λ n. RowsListed row_mode rows n (lists_view lists)) all c.loop-number.invariant.listed)
+returns c plan count same = search (rules, mode_rows_whole, row_mode)

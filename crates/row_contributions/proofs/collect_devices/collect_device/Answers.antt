@@ -1,4 +1,4 @@
-use Rattle.std.proofs.Common.{◌≡◌, ◌++◌, sym, ap, subst, ◌∙◌}
+use Rattle.std.proofs.Common.{rules, ◌≡◌, ◌++◌, sym, ap, subst, ◌∙◌}
 use Rattle.std.specs.Prelude.{OnOk}
 use Rattle.mpf_sections.specs.View.{entry_view, step_block_view}
 use Rattle.plan_tables.specs.declared.devices.Settings.TheVariants as kinds
@@ -9,24 +9,10 @@ use Rattle.row_contributions.proofs.DeviceParts.{accrual_there, sequence_there, 
 use Rattle.row_contributions.proofs.collect_devices.collect_device.Goals as goal
 
 pub returns-then-eq-2 : goal.returns-then-eq-2
-returns-then-eq-2 c =
-    let place = c.args.place in
-    let row = step_block_view c.as_step_block-row.result in
-    let there = accrual_there c.args.section.now (entry_view c.args.entry.now) (sym c.eq.ensures ∙ c.if-eq.false) (sym c.eq-2.ensures ∙ c.if-eq-2.true) in
-    subst (λ cs. OnOk c.collect_step_block.result (contributions_view c.collect_step_block.new.contributions.items ≡ contributions_view c.args.contributions.now.items ++ cs))
-    (ap (λ s. device_contributions place (step_device (kinds.Accrual s) row)) c.step_settings.ensures ∙ ap (λ b. device_contributions place (step_device (kinds.Accrual (step_settings b)) b)) c.as_step_block-row.ensures
-    ∙ ap (λ d. where_device place d) there)
-    c.collect_step_block.ensures
+returns-then-eq-2 c = search (rules, accrual_there)
 
 pub returns-then-eq-3 : goal.returns-then-eq-3
-returns-then-eq-3 c =
-    let place = c.args.place in
-    let row = step_block_view c.as_step_block-row-then-eq-3.result in
-    let there = sequence_there c.args.section.now (entry_view c.args.entry.now) (sym c.eq.ensures ∙ c.if-eq.false) (sym c.eq-2.ensures ∙ c.if-eq-2.false) (sym c.eq-3.ensures ∙ c.if-eq-3.true) in
-    subst (λ cs. OnOk c.collect_step_block-then-eq-3.result (contributions_view c.collect_step_block-then-eq-3.new.contributions.items ≡ contributions_view c.args.contributions.now.items ++ cs))
-    (ap (λ s. device_contributions place (step_device (kinds.Sequence s) row)) c.step_settings-then-eq-3.ensures ∙ ap (λ b. device_contributions place (step_device (kinds.Sequence (step_settings b)) b)) c.as_step_block-row-then-eq-3.ensures
-    ∙ ap (λ d. where_device place d) there)
-    c.collect_step_block-then-eq-3.ensures
+returns-then-eq-3 c = search (rules, sequence_there)
 
 pub returns-then-eq-4 : goal.returns-then-eq-4
 returns-then-eq-4 c =
@@ -37,7 +23,4 @@ returns-then-eq-4 c =
     c.collect_timer.ensures
 
 pub returns : goal.returns
-returns c =
-    let place = c.args.place in
-    let there = save_there c.args.section.now (entry_view c.args.entry.now) (sym c.eq.ensures ∙ c.if-eq.false) (sym c.eq-2.ensures ∙ c.if-eq-2.false) (sym c.eq-3.ensures ∙ c.if-eq-3.false) (sym c.eq-4.ensures ∙ c.if-eq-4.false) in
-    subst (λ cs. OnOk c.collect_save_device.result (contributions_view c.collect_save_device.new.contributions.items ≡ contributions_view c.args.contributions.now.items ++ cs)) (ap (λ d. where_device place d) there) c.collect_save_device.ensures
+returns c = search (rules, save_there)

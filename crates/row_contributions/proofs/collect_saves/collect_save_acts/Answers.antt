@@ -1,4 +1,4 @@
-use Rattle.std.proofs.Common.{◌++◌, map, ap, ◌∙◌}
+use Rattle.std.proofs.Common.{rules, ◌++◌, map, ap, ◌∙◌}
 use Rattle.std.specs.List.{flat_map}
 use Rattle.mpf_sections.specs.View.{handler_view}
 use Rattle.plan_tables.specs.declared.devices.Act.TheVariants.{Enable, Disable}
@@ -9,9 +9,4 @@ use Rattle.row_contributions.proofs.DeviceParts.{made_after}
 use Rattle.row_contributions.proofs.collect_saves.collect_save_acts.Goals as goal
 
 pub returns : goal.returns
-returns c =
-    let f = act_binding c.args.place in
-    let old = contributions_view c.args.contributions.now.items in
-    let enables = acts Enable (map handler_view c.args.row.enable_events.now) in
-    let disables = acts Disable (map handler_view c.args.row.disable_events.now) in
-    c.in_ok-collect_acts-2.ensures ∙ ap (λ l. l ++ flat_map f disables) c.in_ok-collect_acts.ensures ∙ made_after f old enables disables
+returns c = search (rules, made_after)

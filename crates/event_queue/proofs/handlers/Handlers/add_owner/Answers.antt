@@ -1,4 +1,4 @@
-use Rattle.std.proofs.Common.{◌≡◌, ◌+◌, ◌<◌, ◌≤◌, List, Vec, Global, true, false, length, get_or, slice_set, sym, subst, ap, ◌∙◌, arith}
+use Rattle.std.proofs.Common.{rules, ◌≡◌, ◌+◌, ◌<◌, ◌≤◌, List, Vec, Global, true, false, length, get_or, slice_set, sym, subst, ap, ◌∙◌, arith}
 use Rattle.std.proofs.lemmas.List.{length-set, get_or_default}
 use Rattle.plan_tables.specs.declared.entries.BindingId.{BindingId}
 use Rattle.event_queue.specs.Handlers.{HandlersView, runs_at}
@@ -12,28 +12,11 @@ none = record { 0 = 0 }
 
 pub add_place-requires-clause-place : goal.add_place-requires-clause-place
 unfolding none
-add_place-requires-clause-place c =
-    let plan = c.self.inside.plan.now in
-    let k = c.loop-place.place-index in
-    let there : c.args.mode.0 < length plan.modes = omega (arith, c.requires, ap (λ (h : HandlersView). length h.plan.modes) c.self.view_is) in
-    let own = c.deref-place-items.ensures.value ∙ ap (λ (v : Vec BindingId Global). v.items) c.index-2.ensures ∙ c.self.invariant.1.each c.args.mode.0 c.index-2.result.now there in
-    let within : k < length (places_in plan c.args.mode) = omega (arith, c.loop-place-test.true, ap length own) in
-    subst (λ (p : BindingId). p.0 < length plan.bindings) (sym (ap (λ (ps : List BindingId). get_or ps k none) own)) (places_in-within plan c.args.mode k none within)
+add_place-requires-clause-place c = search (rules, get_or, none, places_in-within)
 
 pub add_place-requires-clause-orders : goal.add_place-requires-clause-orders
 unfolding none
-add_place-requires-clause-orders c =
-    let plan = c.self.inside.plan.now in
-    let running = c.self.inside.running.items in
-    let k = c.loop-place.place-index in
-    let there : c.args.mode.0 < length plan.modes = omega (arith, c.requires, ap (λ (h : HandlersView). length h.plan.modes) c.self.view_is) in
-    let own = c.deref-place-items.ensures.value ∙ ap (λ (v : Vec BindingId Global). v.items) c.index-2.ensures ∙ c.self.invariant.1.each c.args.mode.0 c.index-2.result.now there in
-    let within : k < length (places_in plan c.args.mode) = omega (arith, c.loop-place-test.true, ap length own) in
-    let runs : get_or running c.args.mode.0 false ≡ false = get_or_default running c.args.mode.0 false c.index.result.now (omega (arith, there, c.self.invariant.0)) ∙ sym c.index.ensures ∙ c.if-index.false in (
-      joining plan running c.args.mode k,
-      c.loop-place.invariant,
-      ap (λ (ps : List BindingId). joining plan running c.args.mode k (get_or ps k none)) own ∙ joining-next plan running c.args.mode k none within runs,
-    )
+add_place-requires-clause-orders c = search (rules, get_or, get_or_default, none, joining-next)
 
 pub loop-place-preserved : goal.loop-place-preserved
 unfolding none

@@ -1,4 +1,4 @@
-use Rattle.std.proofs.Common.{◌≡◌, ◌<◌, length, map, slice_set, ap, sym, ◌∙◌, arith}
+use Rattle.std.proofs.Common.{rules, ◌≡◌, ◌<◌, length, map, slice_set, ap, sym, ◌∙◌, arith}
 use Rattle.std.proofs.lemmas.List.{length-map, map-set}
 use Rattle.device_objects.specs.declared.state.World.{World}
 use Rattle.player_game.specs.GameStep.{in_play}
@@ -31,16 +31,4 @@ invariant_of-self g c =
     }
 
 pub returns-clause-called : goal.returns-clause-called
-returns-clause-called g c =
-    let items = c.self.inside.devices.items in
-    let within : c.args.row.0 < length items = omega (arith, c.requires.row, ap (λ (v : CoreView). length v.machine.devices) c.self.view_is, length-map items g.D.Device.state_of) in
-    let world : World = record { games = c.self.inside.game.state.begun; player = c.self.inside.players.state.current; in_play = in_play c.self.inside.game.state } in
-    let world_is : c.world-world.result ≡ world = λ i. record { games = c.world-world.ensures.games i; player = c.world-world.ensures.player i; in_play = c.world-world.ensures.in_play i } in
-    let turned = states-turned g.D.Device.row_of g.D.Device.state_of c.self.inside.plan.now items c.args.row c.index_mut-device.result.now c.call_one-lists.new.device c.self.invariant.rows_are c.index_mut-device.ensures.value within
-    c.args.call c.self.inside.moment world (c.call_one-lists.ensures.state ∙ (λ i. (device_step (g.D.Device.row_of c.index_mut-device.result.now).settings c.args.call c.self.inside.moment (world_is i) (g.D.Device.state_of c.index_mut-device.result.now)).0)) in
-    rw (← c.self.view_is) (λ i. record {
-      plan = c.self.inside.plan.now;
-      running = c.self.inside.handlers.running;
-      machine = record { moment = c.self.inside.moment; switches = c.self.inside.switches; modes = c.self.inside.modes.modes; devices = turned i; coils = c.self.inside.coils; ledger = c.self.inside.ledger; players = c.self.inside.players.state; game = c.self.inside.game.state; waiting = c.self.inside.queue.waiting; lines = c.self.inside.lines.items };
-      room = c.self.inside.queue.size;
-    })
+returns-clause-called g c = search (rules, length-map, states-turned)

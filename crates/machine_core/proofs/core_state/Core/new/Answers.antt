@@ -1,4 +1,4 @@
-use Rattle.std.proofs.Common.{map, length, ap, sym, subst, ◌∙◌, arith}
+use Rattle.std.proofs.Common.{rules, map, length, ap, sym, subst, ◌∙◌, arith}
 use Rattle.written_machine.specs.Devices.{HasDevices}
 use Rattle.written_machine.proofs.Alarms.{initial-devices}
 use Rattle.std.proofs.lemmas.List.{length-replicate}
@@ -24,19 +24,4 @@ returns-clause-whole g c =
     }
 
 pub invariant_of-result : goal.invariant_of-result
-invariant_of-result g c =
-    let plan = c.args.plan.now in
-    let waiting = c.in_ok-waiting.ensures in
-    let first = c.in_ok-first.ensures in
-    let items_are = sym c.deref.ensures.value in
-    record {
-      modes_are = ap (λ m. m.plan) first.modes;
-      handlers_are = ap (λ h. h.plan) waiting.handlers;
-      players_are = ap (λ p. p.plan) first.players;
-      game_is = ap (λ g. g.rules) c.new.ensures;
-      rows_are = ap (map g.D.Device.row_of) items_are ∙ c.in_default.ensures.fit.rows_are;
-      counted_are = ap (λ l. length l.counted) first.ledger ∙ length-replicate (length plan.rows) 0;
-      balls_few = rw (ap (λ l. l.known) first.ledger) (omega arith);
-      alarms_are = waiting.alarms ∙ sym (ap (map due_of) (ap (map g.D.Device.state_of) items_are ∙ c.in_default.ensures.fit.states_are) ∙ first-dues plan.rows);
-      lines_fit = rw (ap (λ q. q.size) waiting.queue) waiting.room;
-    }
+invariant_of-result g c = search (rules, length-replicate, first-dues)

@@ -1,4 +1,4 @@
-use Rattle.std.proofs.Common.{◌<◌, List, length, sym, subst, ◌∙◌, arith}
+use Rattle.std.proofs.Common.{rules, ◌<◌, List, length, sym, subst, ◌∙◌, arith}
 use Rattle.std.specs.List.{All}
 use Rattle.plan_tables.specs.declared.entries.BindingId.{BindingId}
 use Rattle.plan_tables.specs.declared.entries.Owner.TheVariants.{Mode}
@@ -9,16 +9,10 @@ use Rattle.plan_tables.proofs.ListsBy.{lists_count, mode_bindings_read, bindings
 use Rattle.plan_tables.proofs.tables.Plan.bindings_of_mode.Goals as goal
 
 pub index-requires : goal.index-requires
-index-requires c =
-    let plan = plan_view c.self.inside in
-    let lists = c.self.inside.mode_bindings in
-    let within : c.args.mode.0 < length plan.modes = subst (λ (p : PlanView). c.args.mode.0 < length p.modes) (sym c.self.view_is) c.requires in
-    omega (arith, within, lists_count lists.items (λ m. bindings_of_owner plan (Mode (record { 0 = m }))) (length plan.modes) c.self.invariant.5, lists.ok.0)
+index-requires c = search (rules, lists_count)
 
 pub returns-clause-places : goal.returns-clause-places
-returns-clause-places c =
-    c.as_slice.ensures.value
-    ∙ mode_bindings_read (plan_view c.self.inside) c.args.self.now c.self.view_is c.self.inside.mode_bindings.items c.args.mode c.index.result.now c.self.invariant.5 c.requires c.index.ensures
+returns-clause-places c = search (rules, mode_bindings_read)
 
 pub returns-clause-within : goal.returns-clause-within
 returns-clause-within c =

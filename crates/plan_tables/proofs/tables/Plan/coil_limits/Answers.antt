@@ -1,4 +1,4 @@
-use Rattle.std.proofs.Common.{◌≡◌, ◌<◌, length, refl, sym, ap, subst, ◌∙◌, arith}
+use Rattle.std.proofs.Common.{rules, ◌≡◌, ◌<◌, length, refl, sym, ap, subst, ◌∙◌, arith}
 use Rattle.plan_tables.specs.declared.table.Table.TheVariants.{Coils}
 use Rattle.plan_tables.specs.PlanView.{PlanView, no_coil, coil_at}
 use Rattle.plan_tables.specs.Inside.{name_sets_view, coil_entry_view}
@@ -6,11 +6,7 @@ use Rattle.plan_tables.proofs.Shown.{length-shown, entry_shown}
 use Rattle.plan_tables.proofs.tables.Plan.coil_limits.Goals as goal
 
 pub index-requires : goal.index-requires
-index-requires c =
-    let names = name_sets_view c.self.inside.tables.names Coils in
-    let entries = c.self.inside.tables.coils.items in
-    let count = length-shown coil_entry_view names entries c.self.invariant.4 in
-    omega (arith, c.requires, ap (λ p. length p.coils) c.self.view_is, count, c.self.invariant.4, c.self.inside.tables.coils.ok.0)
+index-requires c = search (rules, length-shown)
 
 pub returns-clause-limits : goal.returns-clause-limits
 returns-clause-limits c =

@@ -1,4 +1,4 @@
-use Rattle.std.proofs.Common.{◌<◌, ◌+◌, List, length, sym, subst, ◌∙◌, arith}
+use Rattle.std.proofs.Common.{rules, ◌<◌, ◌+◌, List, length, sym, subst, ◌∙◌, arith}
 use Rattle.std.specs.List.{All}
 use Rattle.plan_tables.specs.declared.devices.RowId.{RowId}
 use Rattle.plan_tables.specs.PlanView.{PlanView, feeders_of}
@@ -8,16 +8,10 @@ use Rattle.plan_tables.proofs.ListsBy.{lists_count, target_within, feeders_read,
 use Rattle.plan_tables.proofs.tables.Plan.feeders.Goals as goal
 
 pub index-requires : goal.index-requires
-index-requires c =
-    let plan = plan_view c.self.inside in
-    let lists = c.self.inside.feeders in
-    let there = subst (λ (p : PlanView). IsTargetThere (length p.rows) c.args.target) (sym c.self.view_is) c.requires in
-    omega (arith, target_within (length plan.rows) c.args.target there, c.target_place.ensures, lists_count lists.items (λ n. feeders_of plan (target_at n)) (length plan.rows + 1) c.self.invariant.7, lists.ok.0)
+index-requires c = search (rules, target_within, lists_count)
 
 pub returns-clause-feeders : goal.returns-clause-feeders
-returns-clause-feeders c =
-    c.as_slice.ensures.value
-    ∙ feeders_read (plan_view c.self.inside) c.args.self.now c.self.view_is c.self.inside.feeders.items c.args.target c.target_place.result c.index.result.now c.self.invariant.7 c.requires c.target_place.ensures c.index.ensures
+returns-clause-feeders c = search (rules, feeders_read)
 
 pub returns-clause-within : goal.returns-clause-within
 returns-clause-within c =

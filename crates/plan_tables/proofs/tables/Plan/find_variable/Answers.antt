@@ -1,4 +1,4 @@
-use Rattle.std.proofs.Common.{◌≡◌, Some, None, sym, ap, subst, ◌∙◌}
+use Rattle.std.proofs.Common.{rules, ◌≡◌, Some, None, sym, ap, subst, ◌∙◌}
 use Rattle.std.specs.Str.{bytes_eq}
 use Rattle.std.specs.List.{position}
 use Rattle.std.specs.Option.{option_map}
@@ -9,9 +9,7 @@ use Rattle.plan_tables.proofs.tables.Plan.find_variable.Goals as goal
 
 -- the variable of the name, by the place that the set gives
 named_in_err : (c : goal.After-from_residual) → variable_named c.args.self.now c.args.name.now ≡ None
-named_in_err c =
-    let at = ap (position (bytes_eq c.args.name.now)) (sym c.of.ensures.names) ∙ position-map (λ v. v.items) (bytes_eq c.args.name.now) c.of.result.now.keys ∙ sym c.get_index_of.ensures.index ∙ c.in_err-place.was in
-    subst (λ p. variable_named p c.args.name.now ≡ None) c.self.view_is (ap (option_map (λ n. record { 0 = n })) at)
+named_in_err c = search (rules, position-map)
 
 pub returns-in_err-place-clause-variable : goal.returns-in_err-place-clause-variable
 returns-in_err-place-clause-variable c = c.from_residual.ensures ∙ sym (named_in_err c)
@@ -20,9 +18,7 @@ pub returns-in_err-place-clause-absent : goal.returns-in_err-place-clause-absent
 returns-in_err-place-clause-absent c = rw c.from_residual.ensures (variable_absent c.args.self.now c.args.name.now (named_in_err c))
 
 named_in_ok : (c : goal.In_ok-place) → variable_named c.args.self.now c.args.name.now ≡ Some (record { 0 = c.in_ok-place.place })
-named_in_ok c =
-    let at = ap (position (bytes_eq c.args.name.now)) (sym c.of.ensures.names) ∙ position-map (λ v. v.items) (bytes_eq c.args.name.now) c.of.result.now.keys ∙ sym c.get_index_of.ensures.index ∙ c.in_ok-place.was in
-    subst (λ p. variable_named p c.args.name.now ≡ Some (record { 0 = c.in_ok-place.place })) c.self.view_is (ap (option_map (λ n. record { 0 = n })) at)
+named_in_ok c = search (rules, position-map)
 
 pub returns-clause-variable : goal.returns-clause-variable
 returns-clause-variable c = sym (named_in_ok c)

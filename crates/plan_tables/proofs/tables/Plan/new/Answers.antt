@@ -1,4 +1,4 @@
-use Rattle.std.proofs.Common.{◌≡◌, ◌<◌, ◌+◌, ℕ, List, length, map, refl, ap, sym, subst, ◌∙◌}
+use Rattle.std.proofs.Common.{rules, ◌≡◌, ◌<◌, ◌+◌, ℕ, List, length, map, refl, ap, sym, subst, ◌∙◌}
 use Rattle.std.specs.Prelude.{IfSome}
 use Rattle.std.specs.Option.{option_map}
 use Rattle.std.specs.Vec.{vec_len}
@@ -15,21 +15,13 @@ use Rattle.plan_tables.proofs.ListsBy.{bindings_placed, rows_placed, targets_pla
 use Rattle.plan_tables.proofs.tables.Plan.new.Goals as goal
 
 pub places_by_event-requires-clause-events : goal.places_by_event-requires-clause-events
-places_by_event-requires-clause-events c =
-    let plan = tables_view c.args.tables in
-    let count : length plan.events ≡ c.len-events.result = sym (ap length c.of.ensures.names) ∙ length-map c.of.result.now.keys (λ v. v.items) ∙ sym c.len-events.ensures.len in
-    let known : All (λ b. b.event.0 < length plan.events) plan.bindings =
-    All-weaker (IsBindingWithin plan) (λ b. b.event.0 < length plan.events) (λ b h. h.0) plan.bindings c.requires.valid.entries.bindings in
-    subst (λ bs. All (λ b. b.event.0 < c.len-events.result) bs) (sym c.deref.ensures.value) (subst (λ n. All (λ b. b.event.0 < n) plan.bindings) count known)
+places_by_event-requires-clause-events c = search (rules, length-map, All-weaker)
 
 modes_count : (t : Tables) (n : ℕ) → n ≡ vec_len t.modes → length (tables_view t).modes ≡ n
 modes_count t n is = length-map t.modes.items mode_entry_view ∙ sym t.modes.ok.0 ∙ sym is
 
 pub bindings_by_mode-requires-clause-modes : goal.bindings_by_mode-requires-clause-modes
-bindings_by_mode-requires-clause-modes c =
-    let plan = tables_view c.args.tables in
-    subst (λ (bs : List Binding). All (λ b. IfSome (mode_place b.owner) (λ p. p < c.len-modes.result)) bs) (sym c.deref-3.ensures.value)
-    (subst (λ n. All (λ b. IfSome (mode_place b.owner) (λ p. p < n)) plan.bindings) (modes_count c.args.tables c.len-modes.result c.len-modes.ensures) (bindings_placed plan c.requires.valid))
+bindings_by_mode-requires-clause-modes c = search (rules, modes_count, bindings_placed)
 
 pub rows_by_mode-requires-clause-modes : goal.rows_by_mode-requires-clause-modes
 rows_by_mode-requires-clause-modes c =

@@ -1,4 +1,4 @@
-use Rattle.std.proofs.Common.{◌≡◌, ◌<◌, Bool, true, false, length, refl, sym, ap, subst, ◌∙◌, arith}
+use Rattle.std.proofs.Common.{rules, ◌≡◌, ◌<◌, Bool, true, false, length, refl, sym, ap, subst, ◌∙◌, arith}
 use Rattle.plan_tables.specs.declared.table.Table.TheVariants.{Switches}
 use Rattle.plan_tables.specs.PlanView.{PlanView, no_switch, posts_of}
 use Rattle.plan_tables.specs.Inside.{name_sets_view, switch_entry_view}
@@ -6,12 +6,7 @@ use Rattle.plan_tables.proofs.Shown.{length-shown, entry_shown}
 use Rattle.plan_tables.proofs.tables.Plan.posts.Goals as goal
 
 pub index-posts-requires : goal.index-posts-requires
-index-posts-requires c =
-    let names = name_sets_view c.self.inside.tables.names Switches in
-    let entries = c.self.inside.tables.switches.items in
-    let count = length-shown switch_entry_view names entries c.self.invariant.3 in
-    let within : c.args.switch.0 < length names = omega (arith, c.requires, ap (λ p. length p.switches) c.self.view_is, count) in
-    omega (arith, within, c.self.invariant.3, c.self.inside.tables.switches.ok.0)
+index-posts-requires c = search (rules, length-shown)
 
 pub returns-then-active-clause-posts : goal.returns-then-active-clause-posts
 returns-then-active-clause-posts c =

@@ -1,4 +1,4 @@
-use Rattle.std.proofs.Common.{◌<◌, List, length, sym, subst, ◌∙◌, arith}
+use Rattle.std.proofs.Common.{rules, ◌<◌, List, length, sym, subst, ◌∙◌, arith}
 use Rattle.std.specs.List.{All}
 use Rattle.plan_tables.specs.declared.devices.RowId.{RowId}
 use Rattle.plan_tables.specs.declared.entries.Owner.TheVariants.{Mode}
@@ -9,15 +9,10 @@ use Rattle.plan_tables.proofs.ListsBy.{lists_count, mode_rows_read}
 use Rattle.plan_tables.proofs.tables.Plan.rows_of_mode.Goals as goal
 
 pub index-requires : goal.index-requires
-index-requires c =
-    let plan = plan_view c.self.inside in
-    let lists = c.self.inside.mode_rows in
-    let within : c.args.mode.0 < length plan.modes = subst (λ (p : PlanView). c.args.mode.0 < length p.modes) (sym c.self.view_is) c.requires in
-    omega (arith, within, lists_count lists.items (λ m. rows_of plan (Mode (record { 0 = m }))) (length plan.modes) c.self.invariant.6, lists.ok.0)
+index-requires c = search (rules, lists_count)
 
 pub returns-clause-rows : goal.returns-clause-rows
-returns-clause-rows c =
-    c.as_slice.ensures.value ∙ mode_rows_read (plan_view c.self.inside) c.args.self.now c.self.view_is c.self.inside.mode_rows.items c.args.mode c.index.result.now c.self.invariant.6 c.requires c.index.ensures
+returns-clause-rows c = search (rules, mode_rows_read)
 
 pub returns-clause-within : goal.returns-clause-within
 returns-clause-within c =

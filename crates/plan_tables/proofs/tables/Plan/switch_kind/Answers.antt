@@ -1,4 +1,4 @@
-use Rattle.std.proofs.Common.{◌≡◌, ◌<◌, length, refl, sym, ap, subst, ◌∙◌, arith}
+use Rattle.std.proofs.Common.{rules, ◌≡◌, ◌<◌, length, refl, sym, ap, subst, ◌∙◌, arith}
 use Rattle.plan_tables.specs.declared.table.Table.TheVariants.{Switches}
 use Rattle.plan_tables.specs.PlanView.{PlanView, no_switch, switch_at}
 use Rattle.plan_tables.specs.Inside.{name_sets_view, switch_entry_view}
@@ -6,11 +6,7 @@ use Rattle.plan_tables.proofs.Shown.{length-shown, entry_shown}
 use Rattle.plan_tables.proofs.tables.Plan.switch_kind.Goals as goal
 
 pub index-requires : goal.index-requires
-index-requires c =
-    let names = name_sets_view c.self.inside.tables.names Switches in
-    let entries = c.self.inside.tables.switches.items in
-    let count = length-shown switch_entry_view names entries c.self.invariant.3 in
-    omega (arith, c.requires, ap (λ p. length p.switches) c.self.view_is, count, c.self.invariant.3, c.self.inside.tables.switches.ok.0)
+index-requires c = search (rules, length-shown)
 
 pub returns-clause-kind : goal.returns-clause-kind
 returns-clause-kind c =

@@ -1,4 +1,4 @@
-use Rattle.std.proofs.Common.{◌≡◌, ◌<◌, ℕ, [], length, get_or, Vec, Global, refl, sym, ap, subst, ◌∙◌, arith}
+use Rattle.std.proofs.Common.{rules, ◌≡◌, ◌<◌, ℕ, [], length, get_or, Vec, Global, refl, sym, ap, subst, ◌∙◌, arith}
 use Rattle.std.proofs.lemmas.List.{length-map, get_or-map}
 use Rattle.plan_tables.specs.declared.table.Table.TheVariants.{Switches}
 use Rattle.plan_tables.specs.PlanView.{PlanView, no_switch, switch_at}
@@ -7,10 +7,7 @@ use Rattle.plan_tables.proofs.Shown.{length-shown, name_shown}
 use Rattle.plan_tables.proofs.tables.Plan.switch_name.Goals as goal
 
 pub bounds-names-switch : goal.bounds-names-switch
-bounds-names-switch c =
-    let count = length-shown switch_entry_view (name_sets_view c.self.inside.tables.names Switches) c.self.inside.tables.switches.items c.self.invariant.3 in
-    let kept = length-map c.of.result.now.keys (λ (v : Vec ℕ Global). v.items) in
-    omega (arith, c.requires, ap (λ p. length p.switches) c.self.view_is, count, ap length c.of.ensures.names, kept, ap length c.as_slice-names.ensures.keys)
+bounds-names-switch c = search (rules, length-shown, length-map)
 
 pub returns-clause-name : goal.returns-clause-name
 returns-clause-name c =
