@@ -9,6 +9,7 @@ from functools import cache
 from pathlib import Path
 from typing import NamedTuple
 
+import antt_imports
 from rooms import TOP, below, listed
 
 # A function at the front of a line, with its visibility.
@@ -19,9 +20,8 @@ INNER = re.compile(r"(?:pub\([a-z]+\) )?(?:struct|enum|type|const|static|trait) 
 NAMED = re.compile(r"(?:pub (?:const )?(?:fn|struct|enum|type|const|static|trait) (\w+)|impl)")
 OF_IMPL = re.compile(r"^impl.*?(\w+)(?:<[^{]*>)?(?: where.*)? \{$")
 METHOD = re.compile(r"    (?:pub )?(?:const )?fn (\w+)")
-# An import of code, and one of definitions: its crate, its room, its file, and the names, if it has names.
+# An import in code, with the names, if it has names.
 CODE_IMPORT = re.compile(r"^ *(pub )?(ghost )?use ([^;{]*)(?:\{([^{}]*)\})?;", re.M)
-IMPORT = re.compile(r"^ *(?:pub )?(?:ghost )?use Rattle\.(\w+)\.(specs|proofs)\.([\w.]*\w)(?:\.\{(.*)\}| as \w+)?", re.M)
 # A declaration in a file of definitions, with the name that it declares.
 DECLARATION = re.compile(r"^ *(?:(?:abbrev |unfoldable |pub |record |data )+|(?=[^\s:]+ : ))([^\s:]+)", re.M)
 
@@ -167,8 +167,12 @@ def named_by(words: set[str], items: Iterable[Item]) -> set[Item]:
 
 def imports_of(text: str) -> list[tuple[str, str, str, set[str]]]:
     """What a text imports from the repository: crate, specs or proofs, file, and names; `*` stands for all."""
-    return [(crate, room, file, {it.strip().partition(" as ")[0] for it in (names or "*").split(",")})
-            for crate, room, file, names in IMPORT.findall(text) if crate in listed()]
+    found: dict[tuple[str, ...], set[str]] = {}
+    for it in antt_imports.imports_in(text):
+        place = antt_imports.file_of(it.module)
+        if place and place[0] in listed():
+            found.setdefault(place, set()).add(it.name or "*")
+    return [(*place, names) for place, names in found.items()]
 
 
 @cache
@@ -178,10 +182,12 @@ def read(crate: str, room: str, file: str) -> File | None:
         return None
     text = path.read_text()
     texts, name = {"": ""}, ""
-    for line in text.splitlines():
-        if line.startswith("pub use "):
+    for use in antt_imports.uses_in(text):
+        if "pub" in use.marks:
+            line = text[use.start : use.end]
             texts.update((it, line) for *_, names in imports_of(line) for it in names)
-        if line.startswith(("--", "use ", "pub use ")) or not line.strip():
+    for line in antt_imports.without_imports(text).splitlines():
+        if line.startswith("--") or not line.strip():
             continue
         declared = not line.startswith(" ") and DECLARATION.match(line)
         if declared or line.startswith("module "):
