@@ -13,17 +13,13 @@ use Rattle.ball_devices.specs.declared.booking.Origin.TheVariants.{Awaited, Foun
 use Rattle.ball_devices.specs.declared.booking.Booking.{Booking}
 use Rattle.ball_devices.specs.declared.booking.Booking.TheVariants.{Entered, Left, Lost, Arrived}
 use Rattle.ball_devices.specs.Ledger.{Ledger, no_balls, counted_in, transit_to, set_counted, origin_of, taken, left, lost, arrived, IsLedger}
-use Rattle.ball_devices.specs.Bookings.{LedgerCall, Enter, Leave, Lose, Arrive, after_call, booked, MayBook, after_calls, booked_by, MayBookAll, is_new_entry, is_found_entry, is_entry_into, is_exit_from, is_start_for, is_end_for, is_loose, HasBooked, origin_after}
+use Rattle.ball_devices.specs.Bookings.{LedgerCall, Enter, Leave, Lose, Arrive, after_call, booked, MayBook, after_calls, booked_by, MayBookAll, is_new_entry, is_found_entry, is_entry_into, is_exit_from, is_start_for, is_end_for, is_loose, HasBooked, origin_after, Says, one}
 use Rattle.plan_tables.specs.Valid.{IsTargetThere}
 use Rattle.plan_tables.specs.PlanView.{is_target}
 use Rattle.ball_devices.specs.Laws.{BallsAreSomewhere, LedgersFollowBookings, OriginsFollowBookings}
-use Rattle.ball_devices.proofs.Ledgers.{Says, origin-says, new-is, call-is, calls-are}
+use Rattle.ball_devices.proofs.Ledgers.{origin-says, new-is, call-is, calls-are}
 
 -- ---- one number more, and one less
-
--- 1 where this holds
-abbrev pub one : Bool → ℕ
-one b = cond b 1 0
 
 one-same : (i j : ℕ) → i ≡ j → one (i == j) ≡ 1
 one-same i j same = ap one (eq-eqb i j same)

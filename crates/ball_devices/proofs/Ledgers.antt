@@ -11,7 +11,7 @@ use Rattle.plan_tables.specs.PlanView.{PlanView}
 use Rattle.ball_devices.specs.declared.booking.Origin.{Origin}
 use Rattle.ball_devices.specs.declared.booking.Origin.TheVariants.{Awaited, Found, New}
 use Rattle.ball_devices.specs.Ledger.{Ledger, no_balls, counted_in, transit_to, total, set_counted, origin_of, taken, entered, left, lost, arrived, IsLedger}
-use Rattle.ball_devices.specs.Bookings.{LedgerCall, Enter, Leave, Lose, Arrive, after_call, MayBook, after_calls, MayBookAll}
+use Rattle.ball_devices.specs.Bookings.{LedgerCall, Enter, Leave, Lose, Arrive, after_call, MayBook, after_calls, MayBookAll, Says}
 use Rattle.plan_tables.specs.Valid.{IsTargetThere}
 
 -- ---- totals
@@ -31,12 +31,6 @@ total-none : (n : ℕ) → total (replicate n 0) ≡ 0
 total-none n = omega (arith, sum_by-replicate (λ (k : ℕ). k) n 0)
 
 -- ---- where a ball comes from
-
--- what an origin says of how many are on their way to the device, and on the playfield
-abbrev pub Says : Origin → ℕ → ℕ → Type 0
-Says Awaited to_devices playfield = 0 < to_devices
-Says Found to_devices playfield = (to_devices ≡ 0) × (0 < playfield)
-Says New to_devices playfield = (to_devices ≡ 0) × (playfield ≡ 0)
 
 pub origin-says : (d : RowId) (l : Ledger) → Says (origin_of d l) (transit_to l (Device d)) l.playfield
 origin-says d l =

@@ -1,5 +1,5 @@
 -- What the ledger has booked, and what follows from that alone.
-use Rattle.std.specs.Prelude.{◌≡◌, ℕ, ◌+◌, ◌==◌, ◌<◌, ◌^◌, nat_lt, Bool, true, false, ◌&&◌, if◌then◌else◌, List, [], ◌∷◌, length}
+use Rattle.std.specs.Prelude.{◌≡◌, ℕ, ◌+◌, ◌==◌, ◌<◌, ◌^◌, nat_lt, Bool, true, false, ◌&&◌, cond, if◌then◌else◌, List, [], ◌∷◌, length}
 use Rattle.std.specs.List.{count_by}
 use Rattle.plan_tables.specs.declared.devices.RowId.{RowId}
 use Rattle.plan_tables.specs.declared.devices.BallTarget.{BallTarget}
@@ -133,3 +133,13 @@ abbrev pub origin_after : List Booking → RowId → Origin
 origin_after bookings d =
     if nat_lt (count_by (is_end_for (Device d)) bookings) (count_by (is_start_for (Device d)) bookings) then Awaited
     else (if nat_lt (count_by is_found_entry bookings) (count_by is_loose bookings) then Found else New)
+
+-- what an origin says of how many are on their way to the device, and on the playfield
+abbrev pub Says : Origin → ℕ → ℕ → Type 0
+Says Awaited to_devices playfield = 0 < to_devices
+Says Found to_devices playfield = (to_devices ≡ 0) × (0 < playfield)
+Says New to_devices playfield = (to_devices ≡ 0) × (playfield ≡ 0)
+
+-- 1 where this holds
+abbrev pub one : Bool → ℕ
+one b = cond b 1 0

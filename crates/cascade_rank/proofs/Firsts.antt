@@ -79,14 +79,8 @@ lowest-append n p (e ∷ es) ds h = omega (arith, lowest-append n p es ds h)
 pub lowest-posts : (n : ℕ) (p : EventId → Bool) (c : Cost) → IsBelow n c → lowest n p (each_of cost_of_post (weights_in c)) ≡ lowest n p c
 lowest-posts n p (Lines k) h = refl
 lowest-posts n p (Weight e) h = omega (arith, lowest-at_most n p (Weight e) h)
-lowest-posts n p (Both a b) h =
-    let one = lowest-posts n p a h.0 in
-    let two = lowest-posts n p b h.1 in
-    omega (arith, one, two, lowest-append n p (weights_in a) (weights_in b) (omega (arith, two, lowest-at_most n p b h.1)))
-lowest-posts n p (Greater a b) h =
-    let one = lowest-posts n p a h.0 in
-    let two = lowest-posts n p b h.1 in
-    omega (arith, one, two, lowest-append n p (weights_in a) (weights_in b) (omega (arith, two, lowest-at_most n p b h.1)))
+lowest-posts n p (Both a b) h = search (rules, lowest-append, lowest-at_most, lowest-posts n p a h.0, lowest-posts n p b h.1)
+lowest-posts n p (Greater a b) h = search (rules, lowest-append, lowest-at_most, lowest-posts n p a h.0, lowest-posts n p b h.1)
 
 -- ---- the first of the plan's events
 

@@ -1,14 +1,13 @@
 -- The events of a plan's game, and what they can post.
-use Rattle.std.proofs.Common.{◌≡◌, ◌∙◌, ap, ℕ, suc, ◌<◌, ◌≤◌, nat_le, Bool, true, List, [], ◌∷◌, length, map, get_or, Option, inl, inr, arith, rules}
+use Rattle.std.proofs.Common.{◌≡◌, ◌∙◌, ap, ℕ, suc, ◌<◌, ◌≤◌, nat_le, Bool, true, List, [], ◌∷◌, length, map, get_or, Option, arith, rules}
 use Rattle.std.specs.Prelude.{IfSome}
 use Rattle.std.specs.List.{list_all}
 use Rattle.std.proofs.lemmas.Bool.{cases_lt, leb-true}
 use Rattle.std.proofs.lemmas.List.Sums.{AllPass-from_list_all}
 use Rattle.std.proofs.lemmas.List.{get_or_past, get_or-map, length-map}
 use Rattle.std.proofs.lemmas.List.Elements.{All-get_or}
-use Rattle.plan_tables.specs.PlanView.{PlanMode, PlanView, no_event, event_in_game, event_of_game, game_event, game_work, or_work, which_event, work_from, work_of, work_or}
-use Rattle.plan_tables.specs.Valid.{HasEntries, IsEventWithin, IsGameWithin}
-use Rattle.plan_tables.specs.GameEvents.{order_of}
+use Rattle.plan_tables.specs.PlanView.{PlanMode, PlanView, event_of_game, game_event, which_event, work_from, work_of, work_or}
+use Rattle.plan_tables.specs.Valid.{HasEntries, IsGameWithin}
 use Rattle.plan_tables.specs.declared.entries.EventId.{EventId}
 use Rattle.plan_tables.specs.declared.entries.GameEvent.{GameEvent}
 use Rattle.plan_tables.specs.declared.entries.GameRules.{GameRules}
@@ -19,14 +18,8 @@ use Rattle.player_game.specs.Choices.{choices}
 
 -- ---- events of the game are events of the plan
 
-event_in_game-below : (n : ℕ) (rules : GameRules) → IsGameWithin n rules → 0 < n → (which : GameEvent) → (event_in_game rules which).0 < n
-event_in_game-below n rules within some which = elim (cases_lt (order_of which) (length rules.events)) [
-  | inl there ↦ All-get_or (IsEventWithin n) rules.events (order_of which) no_event there within.within
-  | inr past ↦ rw (get_or_past rules.events (order_of which) no_event past) some
-]
-
 event_of_game-below : (n : ℕ) (game : Option GameRules) → IfSome game (IsGameWithin n) → 0 < n → (which : GameEvent) → (event_of_game game which).0 < n
-event_of_game-below n game within some which = search (rules, event_in_game-below)
+event_of_game-below n game within some which = search (rules, cases_lt, All-get_or, get_or_past)
 
 -- ---- where there is work in the game, the plan has an event
 
@@ -47,18 +40,12 @@ abbrev IsSomeEvent : ℕ → Work → Type 0
 IsSomeEvent n (works.Game which) = 0 < n
 IsSomeEvent n _ = Unit {0}
 
-some_event-or : (n : ℕ) (w v : Work) → IsOfMode w → IsSomeEvent n v → IsSomeEvent n (or_work w v)
-some_event-or n w v h some = search rules
-
-some_event-game : (n : ℕ) (game : Option GameRules) (e : EventId) → IfSome game (IsGameWithin n) → IsSomeEvent n (game_work game e)
-some_event-game n game e within = search rules
-
 module _ (plan : PlanView) (valid : HasEntries plan) where
   pub game_event-below : 0 < length plan.events → (which : GameEvent) → (game_event plan which).0 < length plan.events
   game_event-below some which = event_of_game-below (length plan.events) plan.game valid.game some which
 
   pub game_has-event : (e : EventId) (which : GameEvent) → work_of plan e ≡ works.Game which → 0 < length plan.events
-  game_has-event e which is = search (rules, some_event-or, of_mode, some_event-game)
+  game_has-event e which is = search (rules, of_mode)
 
 -- ---- what an event of the game can post
 

@@ -1,5 +1,5 @@
 -- How many events, bindings, rows and actions of a list a valid plan has at most, and sums of so many prices.
-use Rattle.std.proofs.Common.{rules, ◌≡◌, ℕ, ◌+◌, ◌*◌, ◌<◌, ◌≤◌, List, [], length, arith}
+use Rattle.std.proofs.Common.{rules, ◌≡◌, ℕ, ◌+◌, ◌*◌, ◌<◌, ◌≤◌, List, length, arith}
 use Rattle.std.proofs.Math.Nat.{add-mul, mul-le-mul_right, one-mul}
 use Rattle.plan_tables.specs.PlanView.{PlanView, actions_at}
 use Rattle.plan_tables.specs.declared.entries.ListId.{ListId}

@@ -18,12 +18,9 @@ use Rattle.plan_tables.specs.declared.entries.CoilId.{CoilId}
 use Rattle.plan_tables.specs.declared.entries.Owner.{Owner}
 use Rattle.cascade_rank.specs.Marks.{mark_of, numbered, AreMarked}
 
-or-regroup : (a b c : Bool) → ((a || b) || c) ≡ (a || (b || c))
-or-regroup a b c = search rules
-
 -- some actions, and then others
 pub marked-then : (old mid new : List Bool) (first later : List Action) → AreMarked old first mid → AreMarked mid later new → AreMarked old (first ++ later) new
-marked-then old mid new first later h k = search (rules, or-regroup, list_any-append)
+marked-then old mid new first later h k = search (rules, list_any-append)
 
 -- one more of the things that have actions
 pub marked-more : {X : Type 0} (f : X → List Action) (xs : List X) (n : ℕ) (d : X) (old mid new : List Bool) → n < length xs
@@ -44,11 +41,7 @@ actions_of_lists plan r = flat_map (λ k. actions_at plan (list_of_row plan r k)
 -- those of what passes a test, and of all where the others have none
 flat_map-filter : {X : Type 0} (p : X → Bool) (f : X → List Action) (xs : List X) → flat_map f (filter p xs) ≡ flat_map (λ x. if p x then f x else []) xs
 flat_map-filter p f [] = refl
-flat_map-filter p f (x ∷ xs) = by (p x) ∙ ap (λ acts. (if p x then f x else []) ++ acts) (flat_map-filter p f xs)
-  where
-    by : (b : Bool) → flat_map f (cond b (x ∷ filter p xs) (filter p xs)) ≡ (if b then f x else []) ++ flat_map f (filter p xs)
-    by true = refl
-    by false = refl
+flat_map-filter p f (x ∷ xs) = search (rules, flat_map-filter p f xs)
 
 flat_map-map : {X Y : Type 0} (f : Y → List Action) (g : X → Y) (xs : List X) → flat_map f (map g xs) ≡ flat_map (λ x. f (g x)) xs
 flat_map-map f g [] = refl
@@ -72,9 +65,7 @@ module _ (plan : PlanView) (owner : Owner) where
 -- tests that agree on each item keep the same
 pub filter-among : {X : Type 0} (p q : X → Bool) (xs : List X) → All (λ x. p x ≡ q x) xs → filter p xs ≡ filter q xs
 filter-among p q [] all = refl
-filter-among p q (x ∷ xs) all =
-    ap (λ b. cond b (x ∷ filter p xs) (filter p xs)) (All-head (λ y. p y ≡ q y) x xs all)
-    ∙ ap (λ (rest : List _). cond (q x) (x ∷ rest) rest) (filter-among p q xs (All-tail (λ y. p y ≡ q y) x xs all))
+filter-among p q (x ∷ xs) all = search (rules, All-head, All-tail, filter-among p q xs (All-tail (λ y. p y ≡ q y) x xs all))
 
 pub numbered-within : (count : ℕ) → All (λ c. c.0 < count) (numbered count)
 numbered-within count k d there = search (rules, length-map-range_with_len, get_or-map-range_with_len)

@@ -1,5 +1,5 @@
 -- Walks over the rows of a plan that pass a test.
-use Rattle.std.proofs.Common.{◌≡◌, ℕ, ◌+◌, ◌<◌, ◌≤◌, max, Bool, true, false, cond, List, [], ◌∷◌, ◌++◌, length, take, sym, ap, ◌∙◌, arith, take_all}
+use Rattle.std.proofs.Common.{rules, ◌≡◌, ℕ, ◌+◌, ◌<◌, ◌≤◌, max, Bool, true, false, cond, List, [], ◌∷◌, ◌++◌, length, take, sym, ap, ◌∙◌, arith, take_all}
 use Rattle.std.specs.List.{filter}
 use Rattle.std.proofs.lemmas.List.{append_assoc, append-nil}
 use Rattle.std.proofs.lemmas.List.Elements.{filter_more}
@@ -22,8 +22,7 @@ price-each_last w f (y ∷ ys) x = omega (arith, price-each_last w f ys x)
 
 weights-each_last : {X : Type 0} (f : X → Cost) (xs : List X) (x : X) → weights_in (each_of f (xs ++ x ∷ [])) ≡ weights_in (each_of f xs) ++ weights_in (f x)
 weights-each_last f [] x = append-nil (weights_in (f x))
-weights-each_last f (y ∷ ys) x =
-    ap (λ (es : List EventId). weights_in (f y) ++ es) (weights-each_last f ys x) ∙ sym (append_assoc (weights_in (f y)) (weights_in (each_of f ys)) (weights_in (f x)))
+weights-each_last f (y ∷ ys) x = search (rules, append_assoc, weights-each_last f ys x)
 
 module _ (plan : PlanView) (p : RowId → Bool) where
   -- those that pass, of the first so many rows

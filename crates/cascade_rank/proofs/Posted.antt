@@ -1,10 +1,9 @@
 -- The events whose weights are in a cost, listed part by part.
-use Rattle.std.proofs.Common.{rules, ◌≡◌, ℕ, zero, suc, ◌+◌, ◌<◌, ◌≤◌, false, List, [], ◌∷◌, ◌++◌, length, take, get_or, refl, sym, ap, ◌∙◌, arith, length-append, take_all}
+use Rattle.std.proofs.Common.{rules, ◌≡◌, ℕ, zero, suc, ◌+◌, ◌<◌, ◌≤◌, false, List, [], ◌∷◌, ◌++◌, length, take, get_or, refl, ap, ◌∙◌, arith, length-append, take_all}
 use Rattle.std.proofs.lemmas.List.{append_assoc, append-nil}
 use Rattle.plan_tables.specs.declared.entries.EventId.{EventId}
-use Rattle.plan_tables.specs.declared.entries.Work.{Work}
 use Rattle.plan_tables.specs.PlanView.{PlanView, work_of}
-use Rattle.cascade_rank.specs.Cost.{Cost, Lines, Weight, Both, Greater, each_of, dearest_of, cost_of_post, cost_of_starts, cost_of_releases, cost_if_led, led_by, cost_of_game, cost_of_work}
+use Rattle.cascade_rank.specs.Cost.{Cost, Lines, Weight, Both, Greater, each_of, dearest_of, cost_of_post, cost_of_starts, cost_if_led, led_by, cost_of_game, cost_of_work}
 use Rattle.cascade_rank.specs.Mentions.{weights_in}
 use Rattle.cascade_rank.specs.Order.{unmet, occurrences}
 
@@ -13,10 +12,7 @@ use Rattle.cascade_rank.specs.Order.{unmet, occurrences}
 pub weights-each_more : {X : Type 0} (f : X → Cost) (xs : List X) (i : ℕ) (d : X) → i < length xs → weights_in (each_of f (take (i + 1) xs)) ≡ weights_in (each_of f (take i xs)) ++ weights_in (f (get_or xs i d))
 weights-each_more f [] i d h = absurd (omega (arith, h))
 weights-each_more f (x ∷ xs) zero d h = append-nil (weights_in (f x))
-weights-each_more f (x ∷ xs) (suc i) d h =
-    let one : suc i + 1 ≡ suc (i + 1) = omega arith in
-    let r = weights-each_more f xs i d (omega (arith, h)) in
-    rw one (ap (λ (es : List EventId). weights_in (f x) ++ es) r ∙ sym (append_assoc (weights_in (f x)) (weights_in (each_of f (take i xs))) (weights_in (f (get_or xs i d)))))
+weights-each_more f (x ∷ xs) (suc i) d h = search (rules, append_assoc, get_or, weights-each_more f xs i d (omega (arith, h)))
 
 -- the weights of the first of a list are added to others, then those of one more
 pub pushes-more : {X : Type 0} (f : X → Cost) (xs : List X) (i : ℕ) (d : X) (old posts new : List EventId) → i < length xs →
@@ -39,17 +35,9 @@ weights-dearest f (x ∷ xs) = ap (λ (es : List EventId). weights_in (f x) ++ e
 
 -- ---- the machine's work at an event
 
--- no event's weight is in what a mode releases
-releases-none : (plan : PlanView) (w : Work) → weights_in (cost_of_releases plan w) ≡ []
-releases-none plan w = search rules
-
--- one part after the other, and one in between that has none
-one_after_another : (old s r l g started led new : List EventId) → r ≡ [] → started ≡ old ++ s → led ≡ started ++ l → new ≡ led ++ g → new ≡ old ++ (s ++ (r ++ (l ++ g)))
-one_after_another old s r l g started led new none h1 h2 h3 = search (rules, append_assoc)
-
 pub pushes_work : (plan : PlanView) (e : EventId) (old started led new : List EventId) → started ≡ old ++ weights_in (cost_of_starts plan (work_of plan e))
     → led ≡ started ++ weights_in (cost_if_led (led_by plan (work_of plan e))) → new ≡ led ++ weights_in (cost_of_game plan (work_of plan e)) → new ≡ old ++ weights_in (cost_of_work plan e)
-pushes_work plan e old started led new h1 h2 h3 = search (rules, one_after_another, releases-none)
+pushes_work plan e old started led new h1 h2 h3 = search (rules, append_assoc)
 
 -- ---- how often an event is there
 

@@ -18,15 +18,12 @@ use Rattle.cascade_rank.proofs.FirstEvent.{first_event-Some, first_event-None, f
 
 -- ---- weights within the limit
 
-pub are_limited-All : (ws : List ℕ) → list_all (λ w. nat_le w greatest) ws ≡ true → All (λ w. w ≤ greatest) ws
-are_limited-All ws h = search (rules, All-weaker, nat_le, leb-true, AllPass-from_list_all)
-
 pub All-are_limited : (ws : List ℕ) → All (λ w. w ≤ greatest) ws → list_all (λ w. nat_le w greatest) ws ≡ true
 All-are_limited ws h = search (rules, list_all-from_AllPass, nat_le, All-weaker, le-leb)
 
 module _ (plan : PlanView) (ws : List ℕ) where
   pub IsWithinLimit-from_test : is_within_limit plan ws ≡ true → IsWithinLimit plan ws
-  IsWithinLimit-from_test h = search (rules, and_parts, nat_le, are_limited-All, leb-true)
+  IsWithinLimit-from_test h = search (rules, and_parts, nat_le, All-weaker, leb-true, AllPass-from_list_all)
 
   pub is_within_limit-true : IsWithinLimit plan ws → is_within_limit plan ws ≡ true
   is_within_limit-true h = and_from _ _ (All-are_limited ws h.weights_within) (le-leb (bound_of plan (weight_of ws)) greatest h.bound_within)

@@ -202,9 +202,6 @@ module _ (plan : PlanView) (path : List EventId) (at : EventId) (walk : IsWalk p
   pub cycle : IsCycle plan (from_first at path)
   cycle = subst (IsCycle plan) (sym (from_first-drop at path)) (is_cycle (position_or_len (λ d. d.0 == at.0) path) refl)
 
-position_or_end : {X : Type 0} (p : X → Bool) (xs : List X) → unwrap_or (position p xs) (length xs) ≡ position_or_len p xs
-position_or_end p xs = search (rules, cases_lt, unwrap_or, lt-ltb, le-ltb, prefix_len-le-length)
-
 pub part_is : (path part : List EventId) (e : EventId) (place : ℕ) (found : Option ℕ) → found ≡ position (λ d. d.0 == e.0) path → place ≡ unwrap_or found (length path) →
     part ≡ take (length path - place) (drop place path) → part ≡ from_first e path
-part_is path part e place found is_found is_place is_part = search (rules, place, unwrap_or, position_or_end, take_rest, from_first-drop)
+part_is path part e place found is_found is_place is_part = search (rules, place, unwrap_or, cases_lt, lt-ltb, le-ltb, prefix_len-le-length, take_rest, from_first-drop)

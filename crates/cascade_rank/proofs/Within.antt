@@ -34,7 +34,7 @@ use Rattle.device_objects.specs.declared.device.Call.{Call}
 use Rattle.device_objects.specs.declared.device.Call.TheVariants as calls
 use Rattle.device_objects.specs.Outcomes.{outcomes}
 use Rattle.plan_tables.specs.declared.entries.Binding.{Binding}
-use Rattle.cascade_rank.specs.Cost.{Cost, Lines, Weight, Both, Greater, mentions, each_of, dearest_of, cost_of_post, cost_of_drain, cost_of_action_by, cost_of_list_by, cost_of_answer_by, cost_of_call_by, cost_of_nobody, cost_of_told, cost_of_arrival, cost_of_trough, cost_of_telling, cost_of_call, cost_of_target, cost_of_binding, led_by, cost_if_led, cost_of_starts, cost_of_releases, cost_of_choice, cost_of_request, cost_of_drained_ball, cost_of_game, cost_of_work, cost_of_event}
+use Rattle.cascade_rank.specs.Cost.{Cost, Lines, Weight, Both, Greater, mentions, each_of, dearest_of, cost_of_post, cost_of_action_by, cost_of_list_by, cost_of_answer_by, cost_of_call_by, cost_of_nobody, cost_of_told, cost_of_arrival, cost_of_trough, cost_of_telling, cost_of_call, cost_of_target, cost_of_binding, led_by, cost_if_led, cost_of_starts, cost_of_releases, cost_of_choice, cost_of_request, cost_of_drained_ball, cost_of_game, cost_of_work, cost_of_event}
 use Rattle.cascade_rank.specs.Below.{IsBelow}
 use Rattle.cascade_rank.specs.Mentions.{weights_in}
 use Rattle.cascade_rank.specs.Tellings.{IsTellingWithin}
@@ -78,11 +78,7 @@ dearest_within n f P each xs h = search (rules, IsBelow-dearest_of, recursion_fr
 -- what holds of each of a list holds of the first that passes a test
 IfSome-find_by : {X : Type 0} (p : X → Bool) (P : X → Type 0) (xs : List X) → AllByRecursion P xs → IfSome (find p xs) P
 IfSome-find_by p P [] h = tt
-IfSome-find_by p P (x ∷ xs) h = by (p x) (IfSome-find_by p P xs h.1)
-  where
-    by : (b : Bool) → IfSome (find p xs) P → IfSome (if b then Some x else find p xs) P
-    by true rest = h.0
-    by false rest = rest
+IfSome-find_by p P (x ∷ xs) h = search (rules, IfSome-find_by p P xs h.1)
 
 IfSome-find : {X : Type 0} (p : X → Bool) (P : X → Type 0) (xs : List X) → All P xs → IfSome (find p xs) P
 IfSome-find p P xs h = IfSome-find_by p P xs (recursion_from_All P xs h)
@@ -113,17 +109,13 @@ module _ (plan : PlanView) (valid : HasEntries plan) where
   IsBelow-led (works.Mode m Stopped) e h = IsBelow-end m h.0 (may_hold_ball_end plan m)
   IsBelow-led _ e h = tt
 
-  -- the event of the game at which a ball drains
-  IsBelow-drain : (drain : Bool) → 0 < length plan.events → IsBelow (length plan.events) (cost_of_drain plan drain)
-  IsBelow-drain drain some = search (rules, game_event-below)
-
   list_of_row-within : (r : RowId) → r.0 < length plan.rows → (k : ℕ) → k < list_count (row_at plan r).settings → (list_of_row plan r k).0 < length plan.lists
   list_of_row-within r l k less = omega (arith, less, (valid.rows r l).lists)
 
   -- what a device of the plan answers to a call, where what telling costs is within
   module _ (tell : Telling → Cost) (within : (telling : Telling) → IsTellingWithin (length plan.rows) telling → IsBelow (length plan.events) (tell telling)) where
     IsBelow-action : (a : Action) → IsActionWithin plan a → IsBelow (length plan.events) (cost_of_action_by plan tell a)
-    IsBelow-action a h = search (rules, IsBelow-drain)
+    IsBelow-action a h = search (rules, game_event-below)
 
     IsBelow-list : (l : ListId) → l.0 < length plan.lists → IsBelow (length plan.events) (cost_of_list_by plan tell l)
     IsBelow-list l h =

@@ -8,14 +8,7 @@ use Rattle.coil_guard.specs.declared.command.Command.{Command}
 use Rattle.coil_guard.specs.Boards.{IsToldAfter, MemoryView, told_by_memory, after_taking}
 use Rattle.coil_guard.specs.Inside.{IsMemory}
 
-by-tests : (command : Command) (kept new : List Command) (b d : Bool) → (b ≡ false → d ≡ false) → (d ≡ true → new ≡ kept ++ command ∷ [])
-    → IsToldAfter command (Ok tt) (if b then Some kept else None) (if d then Some new else None)
-by-tests command kept new b d less grown = search rules
-
-told-taken : (command : Command) (b : MemoryView) → length b.kept ≡ min b.count 1024 → IsToldAfter command (Ok tt) (told_by_memory b) (told_by_memory (after_taking command b))
-told-taken command b kept_is = search (rules, by-tests, nat_le, cases_lt, min-eq_right, le-leb, length-append, min-eq_left)
-
 -- the same by the facts of the call
 pub told-after : (command : Command) (kept : List Command) (room count : ℕ) (old : MemoryView) (items : List Command) (counted : ℕ) → record { kept = kept; count = count } ≡ old → IsMemory kept room count
     → items ≡ keep_last room (kept ++ command ∷ []) → counted ≡ min (count + 1) 1025 → IsToldAfter command (Ok tt) (told_by_memory old) (told_by_memory (record { kept = items; count = counted }))
-told-after command kept room count old items counted view memory items_are counted_is = search (rules, told-taken)
+told-after command kept room count old items counted view memory items_are counted_is = search (rules, cases_lt, min-eq_right, le-leb, length-append, min-eq_left)

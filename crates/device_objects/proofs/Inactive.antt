@@ -4,12 +4,8 @@ use Rattle.plan_tables.specs.declared.devices.Settings.{Settings}
 use Rattle.device_objects.specs.declared.device.Call.TheVariants as calls
 use Rattle.device_objects.specs.declared.state.DeviceState.{DeviceState}
 use Rattle.device_objects.specs.declared.state.World.{World}
-use Rattle.device_objects.specs.DeviceStep.{first_state, device_step, save_state, multiball_state}
+use Rattle.device_objects.specs.DeviceStep.{first_state, device_step, save_state, multiball_state, IsInactive}
 use Rattle.device_objects.specs.Laws.{HasShape}
-
--- neither an active ball save nor a running multiball
-abbrev pub IsInactive : DeviceState → Type 0
-IsInactive state = IfSome (save_state state) (λ s. s.active ≡ false) × IfSome (multiball_state state) (λ s. s.running ≡ false)
 
 pub first-inactive : (settings : Settings) → IsInactive (first_state settings)
 first-inactive settings = search rules

@@ -1,5 +1,5 @@
 -- What a device of each kind remembers at first, and what is done with it.
-use Rattle.std.specs.Prelude.{ℕ, zero, suc, Option, None, Some, List, []}
+use Rattle.std.specs.Prelude.{◌≡◌, ℕ, zero, suc, false, IfSome, Option, None, Some, List, []}
 use Rattle.plan_tables.specs.declared.devices.Settings.{Settings}
 use Rattle.plan_tables.specs.declared.devices.Settings.TheVariants as kinds
 use Rattle.device_objects.specs.declared.device.Call.{Call}
@@ -110,6 +110,11 @@ save_state _ = None
 abbrev pub multiball_state : DeviceState → Option MultiballState
 multiball_state (states.Multiball s) = Some s
 multiball_state _ = None
+
+-- neither an active ball save nor a running multiball
+abbrev pub IsInactive : DeviceState → Type 0
+IsInactive state =
+    IfSome (save_state state) (λ s. s.active ≡ false) × IfSome (multiball_state state) (λ s. s.running ≡ false)
 
 -- ---- steps
 

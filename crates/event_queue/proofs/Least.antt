@@ -44,9 +44,6 @@ alarm_of-least row due = search rules
 abbrev pub IsDue : List (Option ℕ) → ℕ → ℕ → Type 0
 IsDue dues r t = slice_index_or dues r None ≡ Some t
 
-due_within : (dues : List (Option ℕ)) (r t : ℕ) → IsDue dues r t → r < length dues
-due_within dues r t h = search (rules, cases_lt, none-some, get_or_past)
-
 -- a row is due, where the rows are numbered from k on
 record IsFrom (k : ℕ) (dues : List (Option ℕ)) (r t : ℕ) : Type 0 where
   place : ℕ
@@ -75,7 +72,7 @@ least_of-least dues =
 -- ---- the row that `least` gives
 
 pub answer-within : (dues : List (Option ℕ)) (o : Option (ℕ × RowId)) → LeastAmong (IsDue dues) o → IfSome o (λ alarm. alarm.1.0 < length dues)
-answer-within dues o p = search (rules, due_within)
+answer-within dues o p = search (rules, cases_lt, none-some, get_or_past)
 
 pub least-within : (dues : List (Option ℕ)) (o : Option (ℕ × RowId)) → o ≡ least_of dues → IfSome o (λ alarm. alarm.1.0 < length dues)
 least-within dues o is = answer-within dues o (subst (LeastAmong (IsDue dues)) (sym is) (least_of-least dues))

@@ -86,15 +86,6 @@ module _ (plan : PlanView) where
 part-own : (running : List Bool) (m : ModeId) (owner : Owner) → is_owner (Mode m) owner ≡ true → takes_part running owner ≡ get_or running m.0 false
 part-own running m owner is = search rules
 
-part-set : (running : List Bool) (m : ModeId) (runs : Bool) (owner : Owner) → m.0 < length running → takes_part (slice_set running m.0 runs) owner ≡ cond (is_owner (Mode m) owner) runs (takes_part running owner)
-part-set running m runs owner within = search rules
-
-or-cond : (b c : Bool) → (b || c) ≡ cond c true b
-or-cond b c = search rules
-
-and-cond : (b c : Bool) → (b && not c) ≡ cond c false b
-and-cond b c = search rules
-
 or-assoc : (a b c : Bool) → ((a || b) || c) ≡ (a || (b || c))
 or-assoc a b c = search rules
 
@@ -142,10 +133,10 @@ module _ (plan : PlanView) (running : List Bool) (m : ModeId) where
     among = ap (λ ps. has ps p) (take_all k (places_in plan m) all) ∙ has-owned plan m p within
 
     pub joining-all : joining k p ≡ runs_at plan (slice_set running m.0 true) p
-    joining-all = search (rules, among, or-cond, part-set)
+    joining-all = search (rules, among, within)
 
     pub leaving-all : leaving k p ≡ runs_at plan (slice_set running m.0 false) p
-    leaving-all = search (rules, among, and-cond, part-set)
+    leaving-all = search (rules, among, within)
 
 -- ---- the lists of all modes, as they are made
 

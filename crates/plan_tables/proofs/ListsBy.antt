@@ -28,10 +28,6 @@ abbrev is_at : ℕ → Option ℕ → Bool
 is_at e None = false
 is_at e (Some place) = e == place
 
--- a list more has an item more, and there are as many lists
-length-added : {Y : Type 0} (lists : List (List Y)) (at : Option ℕ) (y : Y) → length (added lists at y) ≡ length lists
-length-added lists at y = search rules
-
 module _ {X Y : Type 0} (make : ℕ → Y) (number : Y → ℕ) (back : (n : ℕ) → number (make n) ≡ n) (place : X → Option ℕ) (d : X) (items : List X) where
   -- of the first i items, the numbers of those whose place is e
   abbrev pub listed : ℕ → ℕ → List Y
@@ -48,10 +44,6 @@ module _ {X Y : Type 0} (make : ℕ → Y) (number : Y → ℕ) (back : (n : ℕ
       filter_of_map_range_with_len_more (λ (y : Y). is_at e (place (get_or items (number y) d))) make 0 i i (omega arith)
       ∙ ap (λ n. listed e i ++ alone (is_at e (place (get_or items n d))) i) (back i)
 
-  -- one item more
-  pub listed_more : (i : ℕ) (lists : List (List Y)) (at : Option ℕ) → place (get_or items i d) ≡ at → IfSome at (λ p. p < length lists) → AreListed i lists → AreListed (i + 1) (added lists at (make i))
-  listed_more i lists at is known so_far e within = search (rules, append-nil, one_more, get_or, eqb_tells, get_or-set_same, get_or-set_other, length-set)
-
   -- where each list is empty, nothing is listed
   pub listed_none : (lists : List (Vec Y Global)) → All (λ v. v.items ≡ []) lists → AreListed 0 (lists_view lists)
   listed_none lists empty e within = All-get_or (λ ys. ys ≡ []) (lists_view lists) e [] within (All-map (λ ys. ys ≡ []) (λ (v : Vec Y Global). v.items) lists empty)
@@ -59,7 +51,7 @@ module _ {X Y : Type 0} (make : ℕ → Y) (number : Y → ℕ) (back : (n : ℕ
   -- one item more in the lists as they lie in memory
   pub item_listed : (n : ℕ) (old new : List (Vec Y Global)) (at : Option ℕ) (count : ℕ) → lists_view new ≡ added (lists_view old) at (make n) → at ≡ place (get_or items n d)
       → IfSome (place (get_or items n d)) (λ p. p < count) → length old ≡ count → AreListed n (lists_view old) → (length new ≡ count) × AreListed (n + 1) (lists_view new)
-  item_listed n old new at count is at_is known many so_far = search (rules, length-map, length-added, listed_more)
+  item_listed n old new at count is at_is known many so_far = search (rules, length-map, append-nil, one_more, eqb_tells, get_or-set_same, get_or-set_other, length-set)
 
 module _ {Y : Type 0} where
   -- an item is pushed to the list at a place
@@ -172,12 +164,9 @@ module _ (inside plan : PlanView) (is : inside ≡ plan) where
   pub mode_rows_read : (lists : List (Vec RowId Global)) (m : ModeId) (v : Vec RowId Global) → HasModeRows inside lists → m.0 < length plan.modes → v ≡ get_or lists m.0 v → v.items ≡ rows_of plan (Mode m)
   mode_rows_read lists m v has within at = search (rules, list_at)
 
-  target_placed : (t : BallTarget) → target_at (target_place t) ≡ t
-  target_placed t = search rules
-
   pub feeders_read : (lists : List (Vec RowId Global)) (t : BallTarget) (place : ℕ) (v : Vec RowId Global) → HasFeeders inside lists → IsTargetThere (length plan.rows) t → place ≡ target_place t → v ≡ get_or lists place v
       → v.items ≡ feeders_of plan t
-  feeders_read lists t place v has there placed at = search (rules, target_within, list_at, target_placed)
+  feeders_read lists t place v has there placed at = search (rules, target_within, list_at)
 
 -- each feeder is a row
 pub feeders-within : (plan : PlanView) (target : BallTarget) → All (λ r. r.0 < length plan.rows) (feeders_of plan target)

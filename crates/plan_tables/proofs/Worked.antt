@@ -97,17 +97,8 @@ module _ (plan : PlanView) (e : EventId) where
       let here = sym (number_same (get_or rules.events i no_event) e stands) ∙ ap (λ k. get_or rules.events k no_event) (sym (game_event_at i which is)) in
       (ap is_some has, here ∙ ap (λ game. event_of_game game which) (sym has))
 
-  game_found-where : (rules : GameRules) → plan.game ≡ Some rules → (i : ℕ) → position (λ f. f.0 == e.0) rules.events ≡ Some i
-      → (o : Option GameEvent) → slice_get game_events i ≡ o → IsWorkAt plan e (work_in_game o)
-  game_found-where rules has i at None is = tt
-  game_found-where rules has i at (Some which) is = game_found-at rules has i at which is
-
-  game_found-placed : (rules : GameRules) → plan.game ≡ Some rules → (o : Option ℕ) → position (λ f. f.0 == e.0) rules.events ≡ o → IsWorkAt plan e (work_in_game (placed_in_game o))
-  game_found-placed rules has None at = tt
-  game_found-placed rules has (Some i) at = game_found-where rules has i at (slice_get game_events i) refl
-
   game_found : (game : Option GameRules) → plan.game ≡ game → IsWorkAt plan e (game_work game e)
-  game_found game has = search (rules, game_found-placed)
+  game_found game has = search (rules, game_found-at)
 
 -- work is found at the event that it names
 pub work_found : (plan : PlanView) (e : EventId) → IsWorkAt plan e (work_of plan e)

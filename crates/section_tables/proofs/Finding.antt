@@ -3,13 +3,8 @@ use Rattle.std.proofs.Common.{rules, ◌≡◌, ℕ, zero, suc, ◌+◌, ◌<◌
 use Rattle.std.specs.List.{list_any}
 use Rattle.std.specs.Str.{bytes_eq}
 use Rattle.std.proofs.Math.Seq.{drop-cons}
-use Rattle.section_tables.specs.Tables.{behind_one, found_in}
+use Rattle.section_tables.specs.Tables.{behind_one, found_in, shifted}
 use Rattle.section_tables.specs.Reading.{lacking}
-
--- what is found from the place i on
-abbrev pub shifted : {T : Type 0} → ℕ → Option (ℕ × T) → Option (ℕ × T)
-shifted i None = None
-shifted i (Some p) = Some (i + p.0, p.1)
 
 pub at_start : {T : Type 0} (o : Option (ℕ × T)) → shifted 0 o ≡ o
 at_start x1 = search rules

@@ -1,5 +1,5 @@
 -- What a table says of its settings.
-use Rattle.std.specs.Prelude.{ℕ, suc, Bool, true, false, if◌then◌else◌, List, [], ◌∷◌, Option, Some, None}
+use Rattle.std.specs.Prelude.{ℕ, suc, ◌+◌, Bool, true, false, if◌then◌else◌, List, [], ◌∷◌, Option, Some, None}
 use Rattle.std.specs.Str.{bytes_eq}
 use Rattle.section_tables.specs.Rows.{Plain, nothing, Value, one}
 use Rattle.section_tables.specs.Kinds.{Absent, required, default, Field, Setting}
@@ -12,6 +12,11 @@ behind_one (Some p) = Some (suc p.0, p.1)
 abbrev pub found_in : {T : Type 0} → (T → List ℕ) → List ℕ → List T → Option (ℕ × T)
 found_in key_of key [] = None
 found_in key_of key (s ∷ ss) = if bytes_eq (key_of s) key then Some (0, s) else behind_one (found_in key_of key ss)
+
+-- what is found, where the first row has the number i
+abbrev pub shifted : {T : Type 0} → ℕ → Option (ℕ × T) → Option (ℕ × T)
+shifted i None = None
+shifted i (Some p) = Some (i + p.0, p.1)
 
 abbrev pub setting_key : Setting → List ℕ
 setting_key s = s.key

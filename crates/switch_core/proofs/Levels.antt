@@ -38,9 +38,6 @@ last-push : (o : Option RawChange) (xs : List RawChange) (x : RawChange) → las
 last-push o [] x = refl
 last-push o (y ∷ ys) x = last-push (Some y) ys x
 
-active-push : (contact : Contact) (xs : List RawChange) (c : RawChange) (b : Bool) → active_after contact (last_or None (xs ++ cond b (c ∷ []) [])) ≡ cond b (is_active contact c.level) (active_after contact (last_or None xs))
-active-push contact xs c b = search (rules, last-push, append-nil)
-
 -- The later change is accepted once its delay is over; until then the level is the one at its moment.
 pub accepted-push : (kind : SwitchKind) (moment : ℕ) (past : List RawChange) (c : RawChange) → c.at ≤ moment → accepted_level kind moment (past ++ c ∷ []) ≡ cond (is_delay_over (delay_of kind) moment c) (is_active kind.contact c.level) (accepted_level kind c.at past)
-accepted-push kind moment past c before = search (rules, standing-push, active-push)
+accepted-push kind moment past c before = search (rules, standing-push, last-push)

@@ -7,30 +7,13 @@ use Rattle.plan_tables.specs.declared.entries.SwitchId.{SwitchId}
 use Rattle.plan_tables.specs.declared.entries.SwitchKind.{SwitchKind}
 use Rattle.plan_tables.specs.PlanView.{PlanView}
 use Rattle.switch_core.specs.SwitchStep.{SwitchState, is_active, raw_at_rest, idle, changed, is_taken, fired}
-use Rattle.switch_core.specs.Switches.{SwitchesView, kind_at, state_at, active_at, set_state, due_of, all_idle, after_change, accept}
+use Rattle.switch_core.specs.Switches.{SwitchesView, kind_at, state_at, active_at, set_state, due_of, all_idle, after_change, accept, IsReadBy, IsRead, AreRead}
 use Rattle.switch_core.proofs.DueMoments.{state-other, state-same, set-past, idle-kind, idle-state}
 
 -- ---- one switch
 
--- a raw level that is not due was accepted, and only a switch that is not quick has one that is due
-abbrev pub IsReadBy : SwitchKind → SwitchState → Option ℕ → Type 0
-IsReadBy kind x None = x.active ≡ is_active kind.contact x.raw
-IsReadBy kind x (Some at) = (kind.quick ≡ false) × (x.active ≡ not (is_active kind.contact x.raw))
-
-abbrev pub IsRead : SwitchKind → SwitchState → Type 0
-IsRead kind x = IsReadBy kind x x.due
-
 twice : (a : Bool) → not (not a) ≡ a
 twice a = search rules
-
-rest-inactive : (contact : Contact) → false ≡ is_active contact (raw_at_rest contact)
-rest-inactive contact = search rules
-
-pub idle-read : (kind : SwitchKind) → IsRead kind (idle kind)
-idle-read kind = rest-inactive kind.contact
-
-changed-read : (kind : SwitchKind) (now : ℕ) (level : Bool) (x : SwitchState) → IsRead kind x → IsRead kind (changed kind now level x)
-changed-read kind now level x h = search rules
 
 -- a change that is not accepted at once changes no level
 untaken-same : (kind : SwitchKind) (now : ℕ) (level : Bool) (x : SwitchState) → is_taken kind level x ≡ false → (changed kind now level x).active ≡ x.active
@@ -38,11 +21,8 @@ untaken-same kind now level x is = search rules
 
 -- ---- all switches
 
-abbrev pub AreRead : SwitchesView → Type 0
-AreRead s = (n : SwitchId) → IsRead (kind_at s n) (state_at s n)
-
 pub idle-all_read : (plan : PlanView) → AreRead (all_idle plan)
-idle-all_read plan n = search (rules, idle-kind, idle-state, idle-read)
+idle-all_read plan n = search (rules, idle-kind, idle-state)
 
 pub idle-inactive : (plan : PlanView) (n : SwitchId) → active_at (all_idle plan) n ≡ false
 idle-inactive plan n = ap (λ (x : SwitchState). x.active) (idle-state plan n)
@@ -66,7 +46,7 @@ module _ (s : SwitchesView) (set : SwitchId) (x : SwitchState) where
 
 module _ (s : SwitchesView) (n : SwitchId) where
   pub change-read : (level : Bool) (now : ℕ) → AreRead s → AreRead (after_change n level now s)
-  change-read level now h = search (rules, set-read, changed-read)
+  change-read level now h = search (rules, set-read)
 
   pub accept-read : AreRead s → AreRead (accept n s)
   accept-read h = set-read s n (fired (kind_at s n) (state_at s n)) refl h

@@ -1,11 +1,11 @@
 -- All switches of a plan, and what each call does with them.
-use Rattle.std.specs.Prelude.{◌≡◌, ℕ, ◌+◌, ◌<◌, ◌≤◌, ◌⊎◌, Bool, if◌then◌else◌, Option, None, Some, option_map, List, [], ◌∷◌, length, map, slice_index_or, slice_set}
+use Rattle.std.specs.Prelude.{◌≡◌, ℕ, ◌+◌, ◌<◌, ◌≤◌, ◌⊎◌, Bool, false, not, if◌then◌else◌, Option, None, Some, option_map, List, [], ◌∷◌, length, map, slice_index_or, slice_set}
 use Rattle.plan_tables.specs.declared.entries.SwitchId.{SwitchId}
 use Rattle.plan_tables.specs.declared.entries.SwitchKind.{SwitchKind}
 use Rattle.plan_tables.specs.PlanView.{PlanView, no_switch}
 use Rattle.plan_tables.specs.Due.{sooner}
 use Rattle.switch_core.specs.declared.change.Change.{Change}
-use Rattle.switch_core.specs.SwitchStep.{SwitchState, idle, changed, is_taken, fired}
+use Rattle.switch_core.specs.SwitchStep.{SwitchState, is_active, idle, changed, is_taken, fired}
 
 -- how each switch is read, and its state, by number
 pub record SwitchesView : Type 0 where
@@ -106,3 +106,16 @@ after_fire s = accept_due (next_due s) s
 -- It is reported.
 abbrev pub reported_by_fire : SwitchesView → Option Change
 reported_by_fire s = option_map (λ d. reported (after_fire s) d.1) (next_due s)
+
+-- ---- what a state says
+
+-- a raw level that is not due was accepted, and only a switch that is not quick has one that is due
+abbrev pub IsReadBy : SwitchKind → SwitchState → Option ℕ → Type 0
+IsReadBy kind x None = x.active ≡ is_active kind.contact x.raw
+IsReadBy kind x (Some at) = (kind.quick ≡ false) × (x.active ≡ not (is_active kind.contact x.raw))
+
+abbrev pub IsRead : SwitchKind → SwitchState → Type 0
+IsRead kind x = IsReadBy kind x x.due
+
+abbrev pub AreRead : SwitchesView → Type 0
+AreRead s = (n : SwitchId) → IsRead (kind_at s n) (state_at s n)

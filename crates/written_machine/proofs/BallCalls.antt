@@ -21,10 +21,10 @@ use Rattle.ball_devices.specs.declared.booking.Booking.TheVariants.{Entered}
 use Rattle.ball_devices.specs.declared.booking.Origin.{Origin}
 use Rattle.ball_devices.specs.declared.booking.Origin.TheVariants.{Awaited}
 use Rattle.ball_devices.specs.Ledger.{counted_in, transit_to, origin_of}
-use Rattle.ball_devices.specs.Bookings.{LedgerCall, MayBook, booked, is_new_entry, is_entry_into, is_exit_from, is_start_for, is_end_for}
+use Rattle.ball_devices.specs.Bookings.{LedgerCall, MayBook, booked, is_new_entry, is_entry_into, is_exit_from, is_start_for, is_end_for, one}
 use Rattle.ball_devices.specs.Bookings as ledger_calls
 use Rattle.ball_devices.proofs.Ledgers.{origin-says, call-is}
-use Rattle.ball_devices.proofs.Booked.{one, call-told}
+use Rattle.ball_devices.proofs.Booked.{call-told}
 use Rattle.cascade_rank.proofs.Rows.{rows-within}
 use Rattle.device_objects.specs.declared.device.Call.{Call}
 use Rattle.device_objects.specs.declared.device.Call.TheVariants as calls

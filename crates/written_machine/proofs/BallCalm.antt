@@ -17,9 +17,7 @@ use Rattle.plan_tables.specs.declared.devices.Settings.TheVariants as kinds
 use Rattle.plan_tables.specs.declared.entries.Owner.{Owner}
 use Rattle.ball_devices.specs.declared.booking.Origin.{Origin}
 use Rattle.ball_devices.specs.Ledger.{Ledger, counted_in, transit_to, all_counted, all_in_transit, IsLedger}
-use Rattle.ball_devices.specs.Bookings.{LedgerCall, MayBook, after_call, booked, can_book, is_new}
-use Rattle.ball_devices.proofs.Ledgers.{Says}
-use Rattle.ball_devices.proofs.Booked.{one}
+use Rattle.ball_devices.specs.Bookings.{LedgerCall, MayBook, after_call, booked, can_book, is_new, one, Says}
 use Rattle.cascade_rank.proofs.Rows.{length-rows}
 use Rattle.device_objects.specs.declared.state.BallState.{BallState}
 use Rattle.device_objects.specs.declared.state.DeviceState.{DeviceState}

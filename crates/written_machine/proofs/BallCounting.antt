@@ -11,13 +11,13 @@ use Rattle.plan_tables.specs.PlanView.{PlanView, PlanSwitch, listeners_of, no_sw
 use Rattle.plan_tables.specs.declared.devices.RowId.{RowId}
 use Rattle.plan_tables.specs.declared.entries.Listener.{Listener}
 use Rattle.plan_tables.specs.declared.entries.SwitchId.{SwitchId}
-use Rattle.ball_devices.proofs.Booked.{one}
 use Rattle.cascade_rank.specs.Cost.{switches_of}
 use Rattle.device_objects.specs.declared.state.BallSwitch.{BallSwitch}
 use Rattle.device_objects.specs.BallDevice.{empty}
 use Rattle.plan_tables.specs.BallRows.{AreApart, AreOfTwoRows}
 use Rattle.written_machine.specs.Counted.{ball_switches}
 use Rattle.written_machine.proofs.BallFeeders.{filter-count}
+use Rattle.ball_devices.specs.Bookings.{one}
 
 -- ---- pairs
 

@@ -7,7 +7,7 @@ use Rattle.std.proofs.lemmas.List.Elements.{All-head, All-tail}
 use Rattle.std.proofs.lemmas.List.Sums.{sum_by-cons}
 use Rattle.std.proofs.lemmas.Option.{none-some, same_Some}
 use Rattle.plan_tables.specs.declared.devices.RowId.{RowId}
-use Rattle.ball_devices.proofs.Booked.{one}
+use Rattle.ball_devices.specs.Bookings.{one}
 
 -- ---- counts among those that pass a test
 

@@ -32,9 +32,9 @@ use Rattle.device_objects.proofs.BallMoments.{ball-parts_none, ball-parts_first}
 use Rattle.switch_core.specs.declared.change.Change.{Change}
 use Rattle.switch_core.specs.SwitchStep.{SwitchState, changed, is_taken}
 use Rattle.switch_core.specs.SwitchStep as switch_steps
-use Rattle.switch_core.specs.Switches.{SwitchesView, no_kind, kind_at, state_at, active_at, due_of, after_change, accept, reported}
+use Rattle.switch_core.specs.Switches.{SwitchesView, no_kind, kind_at, state_at, active_at, due_of, after_change, accept, reported, AreRead}
 use Rattle.switch_core.proofs.Lists as switch_lists
-use Rattle.switch_core.proofs.Reading.{AreRead, idle-all_read, idle-inactive, active-other, change-read, accept-read, change-other_level, accept-other_level, change-same_levels}
+use Rattle.switch_core.proofs.Reading.{idle-all_read, idle-inactive, active-other, change-read, accept-read, change-other_level, accept-other_level, change-same_levels}
 use Rattle.switch_core.proofs.DueMoments.{due-set, idle-kind, idle-nothing_due, changes_arm_later, accept-due, accept-done}
 use Rattle.written_machine.specs.declared.line.Happening.TheVariants as lines
 use Rattle.written_machine.specs.declared.line.Line.{Line}

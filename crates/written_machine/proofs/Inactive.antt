@@ -9,9 +9,9 @@ use Rattle.device_objects.specs.declared.device.Call.TheVariants as calls
 use Rattle.device_objects.specs.declared.state.DeviceState.{DeviceState}
 use Rattle.device_objects.specs.declared.state.DeviceState.TheVariants as states
 use Rattle.device_objects.specs.declared.state.World.{World}
-use Rattle.device_objects.specs.DeviceStep.{device_step, first_state}
+use Rattle.device_objects.specs.DeviceStep.{device_step, first_state, IsInactive}
 use Rattle.device_objects.specs.Laws.{HasShape}
-use Rattle.device_objects.proofs.Inactive.{IsInactive, first-inactive, stopped-inactive}
+use Rattle.device_objects.proofs.Inactive.{first-inactive, stopped-inactive}
 use Rattle.written_machine.specs.Machine.{Machine, device_at, call_device, is_active_save}
 
 -- whether it is an active ball save, or a running multiball
