@@ -1,8 +1,6 @@
 -- What a fault is, where it stands, and what a result with one says.
 use Rattle.std.specs.Prelude.{◌≡◌, ℕ, List, Result, Ok, Err}
-use Rattle.config_faults.specs.declared.fault.Fault.{Fault}
-use Rattle.config_faults.specs.declared.fault.FaultKind.{FaultKind}
-use Rattle.config_faults.specs.declared.fault.ConfigFault.{ConfigFault}
+use Rattle.config_faults.specs.declared.fault.{Fault.Fault, FaultKind.FaultKind, ConfigFault.ConfigFault}
 use Rattle.config_faults.specs.declared.fault.ConfigFault.TheVariants as faults
 use Rattle.config_faults.specs.declared.spot.Spot as spots
 

@@ -1,7 +1,6 @@
 -- The ends that values reach.
 use Rattle.std.specs.Prelude.{ℤ, int_le, Bool, false, Option, None, Some}
-use Rattle.machine_settings.specs.declared.words.Direction.{Direction}
-use Rattle.machine_settings.specs.declared.words.Direction.TheVariants.{Up, Down}
+use Rattle.machine_settings.specs.declared.words.Direction.{Direction, TheVariants.{Up, Down}}
 
 -- whether a value has reached or passed its end, if it has one
 abbrev pub is_at_end : Direction → Option ℤ → ℤ → Bool

@@ -1,10 +1,8 @@
 -- The limits of settings.
 use Rattle.std.specs.Prelude.{◌≤◌, ℤ, pos, neg_ℤ, ◌≤ℤ◌, Option, IfSome}
 use Rattle.machine_settings.specs.declared.settings.CounterSettings.{CounterSettings}
-use Rattle.machine_settings.specs.declared.settings.StepSettings.{StepSettings}
-use Rattle.machine_settings.specs.declared.settings.TimerSettings.{TimerSettings}
-use Rattle.machine_settings.specs.declared.settings.EjectSettings.{EjectSettings}
-use Rattle.machine_settings.specs.declared.settings.SaveSettings.{SaveSettings}
+use Rattle.machine_settings.specs.declared.settings.{StepSettings.StepSettings, SaveSettings.SaveSettings}
+use Rattle.machine_settings.specs.declared.settings.{TimerSettings.TimerSettings, EjectSettings.EjectSettings}
 use Rattle.machine_settings.specs.declared.settings.MultiballSettings.{MultiballSettings}
 
 -- a number of a setting

@@ -1,8 +1,6 @@
 -- Bytes of one kind are none of another.
-use Rattle.std.proofs.Common.{rules, ◌≡◌, ℕ, Bool, true, false, List, [], ◌∷◌}
-use Rattle.std.specs.Char.{is_ascii_digit}
-use Rattle.yaml_bytes.specs.Bytes.{is_blank}
-use Rattle.yaml_bytes.specs.Plain.{Are}
+use Rattle.std.{proofs.Common.{rules, ◌≡◌, ℕ, Bool, true, false, List, [], ◌∷◌}, specs.Char.is_ascii_digit}
+use Rattle.yaml_bytes.specs.{Bytes.is_blank, Plain.Are}
 use Rattle.mpf_values.specs.Bytes.{is_operator_byte, is_word_byte}
 
 -- what holds of neither blank holds of no blank

@@ -1,8 +1,7 @@
 -- From what reading a text gives to what its value is.
 use Rattle.std.proofs.Common.{◌≡◌, Option, Some, Result, Ok, Err, IfOk, IfErr, sym, ◌∙◌}
 use Rattle.std.proofs.lemmas.Option.{same_Some, none-some}
-use Rattle.mpf_values.specs.declared.fault.BadValue.{BadValue}
-use Rattle.mpf_values.specs.View.{Gives}
+use Rattle.mpf_values.specs.{declared.fault.BadValue.BadValue, View.Gives}
 
 -- reading gives just the values of a text
 pub record Computes {V : Type 0} (read : Option V) (IsValue : V → Type 0) : Type 0 where

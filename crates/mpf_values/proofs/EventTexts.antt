@@ -1,25 +1,17 @@
 -- Handled events are read as they are written.
 use Rattle.std.proofs.Common.{rules, ◌≡◌, ℕ, Bool, true, false, cond, eqb, List, [], ◌∷◌, ◌++◌, length, Option, Some, None, ℤ, codes, refl, sym, ap, subst, ◌∙◌, inl, inr, arith, take-append-drop}
 use Rattle.std.specs.Str.{bytes_eq}
-use Rattle.std.proofs.lemmas.Bool.{eqb-true, ne_eqb}
-use Rattle.std.proofs.lemmas.Option.{same_Some, cond_some}
-use Rattle.std.proofs.lemmas.Slice.Eq.{bytes_eq-Decides}
-use Rattle.yaml_bytes.specs.Bytes.{is_blank}
-use Rattle.mpf_values.specs.declared.handled.Comparison.{Comparison}
+use Rattle.std.proofs.lemmas.{Bool.{eqb-true, ne_eqb}, Option.{same_Some, cond_some}, Slice.Eq.bytes_eq-Decides}
+use Rattle.yaml_bytes.specs.{Bytes.is_blank, Plain.{Are, AreBlank}, Numbers.AreDigits}
+use Rattle.mpf_values.specs.{declared.handled.Comparison.Comparison, Integers.{with_sign, IsInteger}, Names.IsName}
 use Rattle.mpf_values.specs.declared.handled.Comparison.TheVariants.{Equal, NotEqual, Less, LessOrEqual, Greater, GreaterOrEqual}
-use Rattle.yaml_bytes.specs.Plain.{Are, AreBlank}
 use Rattle.mpf_values.specs.Bytes.{is_name_byte, is_operator_byte, is_word_byte}
-use Rattle.yaml_bytes.specs.Numbers.{AreDigits}
-use Rattle.mpf_values.specs.Integers.{with_sign, IsInteger}
-use Rattle.mpf_values.specs.Names.{IsName}
 use Rattle.mpf_values.specs.Events.{Condition, Event, IsOperator, equal, not_equal, less, less_or_equal, greater, greater_or_equal, IsCondition, IsUnder, IsEvent}
 use Rattle.mpf_values.specs.Reading.{◌>>=◌, front, behind, name_at, integer_at, behind_word, variable_at, operator_at, comparison_at, last_integer_at, condition_at, event_at}
-use Rattle.mpf_values.proofs.Steps.{bind_some, guard_true, chosen}
+use Rattle.mpf_values.proofs.{Steps.{bind_some, guard_true, chosen}, NameTexts.{name_sound, name_complete}}
 use Rattle.mpf_values.proofs.Fronts.{begins, parts, are_front, front_is, behind_is, begins_behind, no_bytes}
 use Rattle.mpf_values.proofs.ByteKinds.{no_blank, digit_is_no_blank, digit_is_no_operator, digits_are_word}
-use Rattle.mpf_values.proofs.NameTexts.{name_sound, name_complete}
-use Rattle.mpf_values.proofs.IntegerTexts.{integer_computes}
-use Rattle.mpf_values.proofs.Computing.{Computes}
+use Rattle.mpf_values.proofs.{IntegerTexts.integer_computes, Computing.Computes}
 
 -- ---- words
 

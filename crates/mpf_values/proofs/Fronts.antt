@@ -1,7 +1,6 @@
 -- The bytes at the front of a text that pass a test, and what comes after them.
-use Rattle.std.proofs.Common.{rules, ◌≡◌, ℕ, suc, ◌≤◌, Bool, true, false, List, [], ◌∷◌, ◌++◌, length, take, drop, refl, ap, ◌∙◌, inl, inr, arith, take-append-drop}
-use Rattle.std.specs.List.{prefix_len}
-use Rattle.std.proofs.lemmas.Bool.{cases_Bool}
+use Rattle.std.proofs.Common.{rules, ◌≡◌, ℕ, suc, Bool, true, false, List, [], ◌∷◌, ◌++◌, length, take, drop, refl, ap, ◌∙◌, arith, take-append-drop}
+use Rattle.std.{specs.List.prefix_len, proofs.lemmas.Bool.cases_Bool}
 use Rattle.yaml_bytes.specs.Plain.{Are}
 use Rattle.mpf_values.specs.Reading.{front, behind}
 
@@ -15,10 +14,6 @@ len_yes p x xs t = rw t (omega arith)
 
 len_no : (p : ℕ → Bool) (x : ℕ) (xs : List ℕ) → p x ≡ false → prefix_len p (x ∷ xs) ≡ 0
 len_no p x xs t = rw t refl
-
-pub len_le : (p : ℕ → Bool) (xs : List ℕ) → prefix_len p xs ≤ length xs
-len_le p [] = omega arith
-len_le p (x ∷ xs) = search (rules, cases_Bool, len_yes, len_no, len_le p xs)
 
 front_yes : (p : ℕ → Bool) (x : ℕ) (xs : List ℕ) → p x ≡ true → front p (x ∷ xs) ≡ x ∷ front p xs
 front_yes p x xs t = ap (λ n. take n (x ∷ xs)) (len_yes p x xs t)

@@ -1,14 +1,10 @@
 -- Integers are read as they are written.
 use Rattle.std.proofs.Common.{rules, ◌≡◌, ℕ, ◌≤◌, Bool, true, false, cond, eqb, ltb, List, [], ◌∷◌, Some, None, ℤ, pos, neg_ℤ, refl, sym, ap, ◌∙◌, inl, inr, arith}
-use Rattle.std.proofs.lemmas.Bool.{eqb-true, ne_eqb, ltb-false, le-ltb}
-use Rattle.std.proofs.lemmas.Option.{same_Some}
-use Rattle.yaml_bytes.specs.Numbers.{value_of_digits, number_at}
-use Rattle.yaml_bytes.specs.Numbers.{AreDigits}
-use Rattle.mpf_values.specs.Integers.{with_sign, signed, IsInteger}
-use Rattle.mpf_values.specs.Reading.{◌>>=◌, magnitude_at, integer_at}
-use Rattle.mpf_values.proofs.Steps.{bind_some, guard_false, chosen}
+use Rattle.std.proofs.lemmas.{Bool.{eqb-true, ne_eqb, ltb-false, le-ltb}, Option.same_Some}
+use Rattle.yaml_bytes.specs.Numbers.{value_of_digits, number_at, AreDigits}
+use Rattle.mpf_values.specs.{Integers.{with_sign, signed, IsInteger}, Reading.{◌>>=◌, magnitude_at, integer_at}}
+use Rattle.mpf_values.proofs.{Steps.{bind_some, guard_false, chosen}, Computing.Computes}
 use Rattle.yaml_bytes.proofs.WrittenNumbers.{number_sound, number_complete}
-use Rattle.mpf_values.proofs.Computing.{Computes}
 
 -- what digits are that are read
 record Magnitude (digits : List ℕ) (n : ℕ) : Type 0 where

@@ -1,8 +1,7 @@
 -- The items of a list text, one after the other.
 use Rattle.std.proofs.Common.{rules, ◌≡◌, ℕ, ◌+◌, ◌≤◌, ◌<◌, ◌==◌, Bool, true, false, List, [], ◌∷◌, length, take, drop, refl, sym, ap, subst, ◌∙◌, arith}
 use Rattle.std.proofs.lemmas.Bool.{eqb-true}
-use Rattle.mpf_values.specs.Bytes.{is_separator}
-use Rattle.mpf_values.specs.ListText.{open_after, ends_item}
+use Rattle.mpf_values.specs.{Bytes.is_separator, ListText.{open_after, ends_item}}
 use Rattle.mpf_values.specs.Reading.{behind, onto_items, items_from, items_of, item_len}
 use Rattle.mpf_values.proofs.Fronts.{begins, behind_yes, behind_no, stops}
 

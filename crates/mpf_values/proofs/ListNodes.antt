@@ -1,18 +1,13 @@
 -- Lists are read as they are.
 use Rattle.std.proofs.Common.{rules, ◌≡◌, ℕ, ◌+◌, ◌<◌, ◌≤◌, true, false, List, [], ◌∷◌, ◌++◌, length, map, filter, drop, get_or, Option, Some, None, Result, IfOk, IfErr, ◌≢◌, refl, sym, ap, ◌∙◌, append_assoc, add-one}
-use Rattle.std.proofs.Math.Seq.{drop-cons}
-use Rattle.std.proofs.lemmas.List.{drop_all}
-use Rattle.std.proofs.lemmas.Option.{same_Some, none-some}
-use Rattle.yaml_subset.specs.declared.tree.Tree.{Tree}
+use Rattle.std.proofs.{Math.Seq.drop-cons, lemmas.{List.drop_all, Option.{same_Some, none-some}}}
+use Rattle.yaml_subset.specs.{declared.tree.Tree.Tree, View.{line_of, text_in, node_view}}
 use Rattle.yaml_subset.specs.Node.{Node, scalar, sequence, mapping, list_nodes}
-use Rattle.yaml_subset.specs.View.{line_of, text_in, node_view}
-use Rattle.mpf_values.specs.declared.fault.ListFault.{ListFault}
+use Rattle.mpf_values.specs.{declared.fault.ListFault.ListFault, View.GivesList}
 use Rattle.mpf_values.specs.declared.fault.ListFault.TheVariants as faults
 use Rattle.mpf_values.specs.Lists.{Item, item_at, has_text, scalar_node, IsList}
 use Rattle.mpf_values.specs.Reading.{◌>>=◌, items_of, scalar_at, onto_list, scalars_at, list_at}
-use Rattle.mpf_values.specs.View.{GivesList}
-use Rattle.mpf_values.proofs.Steps.{bind_some}
-use Rattle.mpf_values.proofs.ListTexts.{is_list_text, one_list}
+use Rattle.mpf_values.proofs.{Steps.bind_some, ListTexts.{is_list_text, one_list}}
 
 -- ---- nodes that are scalars
 

@@ -2,8 +2,7 @@
 use Rattle.std.proofs.Common.{rules, ◌≡◌, ℕ, ◌==◌, Bool, true, false, List, [], ◌∷◌, ◌++◌, refl, sym, ap, subst, ◌∙◌}
 use Rattle.std.proofs.lemmas.Bool.{eqb-true, and_parts}
 use Rattle.yaml_bytes.specs.Plain.{Are}
-use Rattle.mpf_values.specs.Bytes.{is_separator}
-use Rattle.mpf_values.specs.Reading.{onto_items, onto_item, items_from, items_of}
+use Rattle.mpf_values.specs.{Bytes.is_separator, Reading.{onto_items, onto_item, items_from, items_of}}
 use Rattle.mpf_values.specs.ListText.{open_after, open_behind, ends_item, IsItemText, EndsBefore, IsListText}
 use Rattle.mpf_values.proofs.ListItems.{opens_none, separator_step, ends_step}
 

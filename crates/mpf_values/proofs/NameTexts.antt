@@ -1,9 +1,7 @@
 -- Names are told from other texts.
-use Rattle.std.proofs.Common.{rules, ◌≡◌, ℕ, true, false, List, Some, refl, sym}
+use Rattle.std.proofs.{Common.{rules, ◌≡◌, ℕ, true, false, List, Some, refl, sym}, lemmas.Option.cond_some}
 use Rattle.std.proofs.lemmas.Bool.{and_parts, and_from, eqb-false, ne_eqb, leb-true, le-leb, not-true, not_from_false, both_ways}
-use Rattle.std.proofs.lemmas.Option.{cond_some}
-use Rattle.mpf_values.specs.Names.{IsName}
-use Rattle.mpf_values.specs.Reading.{is_name, name_at}
+use Rattle.mpf_values.specs.{Names.IsName, Reading.{is_name, name_at}}
 use Rattle.yaml_bytes.proofs.AllBytes.{Are-from_list_all, list_all-from_Are}
 
 pub IsName-from_is_name : (text : List ℕ) → is_name text ≡ true → IsName text

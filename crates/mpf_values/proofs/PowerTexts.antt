@@ -1,15 +1,11 @@
 -- Powers are read as they are written.
 use Rattle.std.proofs.Common.{rules, ◌≡◌, ℕ, zero, suc, ◌-◌, ◌*◌, ◌/◌, ◌<◌, ◌≤◌, ◌^◌, cond, ltb, List, [], Some, None, codes, refl, sym, ap, ◌∙◌, ◌⊎◌, inl, inr, arith}
-use Rattle.std.proofs.lemmas.Bool.{le-leb, ltb-false, le-ltb}
-use Rattle.std.proofs.lemmas.List.{append-nil}
-use Rattle.std.proofs.lemmas.Option.{same_Some}
-use Rattle.mpf_values.specs.declared.decimals.Decimal.{Decimal}
-use Rattle.mpf_values.specs.Numbers.{IsDecimal}
+use Rattle.std.proofs.lemmas.{Bool.{le-leb, ltb-false, le-ltb}, List.append-nil, Option.same_Some}
+use Rattle.mpf_values.specs.{declared.decimals.Decimal.Decimal, Numbers.IsDecimal}
 use Rattle.mpf_values.specs.Powers.{IsFraction, IsPercentage, IsPower}
 use Rattle.mpf_values.specs.Reading.{◌>>=◌, decimal_at, share_at, power_at}
-use Rattle.mpf_values.proofs.Steps.{bind_some, guard_false}
+use Rattle.mpf_values.proofs.{Steps.{bind_some, guard_false}, Computing.Computes}
 use Rattle.mpf_values.proofs.WrittenNumbers.{Front, decimal_sound, decimal_complete}
-use Rattle.mpf_values.proofs.Computing.{Computes}
 
 -- ---- hundredths
 

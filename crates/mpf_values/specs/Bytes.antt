@@ -1,6 +1,5 @@
 -- What the bytes of a value are.
-use Rattle.std.specs.Prelude.{ℕ, Bool, not, ◌&&◌, ◌||◌, ◌==◌}
-use Rattle.std.specs.Char.{is_ascii_alphanumeric}
+use Rattle.std.specs.{Prelude.{ℕ, Bool, not, ◌&&◌, ◌||◌, ◌==◌}, Char.is_ascii_alphanumeric}
 use Rattle.yaml_bytes.specs.Bytes.{is_blank}
 
 -- an ASCII letter, a digit, `_`, `-` or `.`

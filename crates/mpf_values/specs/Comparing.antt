@@ -1,6 +1,5 @@
 -- How a value compares with a number.
-use Rattle.std.specs.Prelude.{Bool, not, ℤ, int_le, int_lt}
-use Rattle.std.specs.Ordering.{int_eq}
+use Rattle.std.specs.{Prelude.{Bool, not, ℤ, int_le, int_lt}, Ordering.int_eq}
 use Rattle.mpf_values.specs.declared.handled.Comparison.{Comparison}
 use Rattle.mpf_values.specs.declared.handled.Comparison.TheVariants.{Equal, NotEqual, Less, LessOrEqual, Greater, GreaterOrEqual}
 

@@ -1,10 +1,8 @@
 -- Texts that are handled events.
 use Rattle.std.specs.Prelude.{◌≡◌, ℕ, List, [], ◌++◌, Option, Some, None, ℤ, codes}
-use Rattle.mpf_values.specs.declared.handled.Comparison.{Comparison}
+use Rattle.mpf_values.specs.{declared.handled.Comparison.Comparison, Integers.IsInteger, Names.IsName}
 use Rattle.mpf_values.specs.declared.handled.Comparison.TheVariants.{Equal, NotEqual, Less, LessOrEqual, Greater, GreaterOrEqual}
 use Rattle.yaml_bytes.specs.Plain.{AreBlank}
-use Rattle.mpf_values.specs.Integers.{IsInteger}
-use Rattle.mpf_values.specs.Names.{IsName}
 
 -- that a variable of the current player compares so with a number
 pub record Condition : Type 0 where

@@ -1,9 +1,6 @@
 -- What the readers' own contracts see of the values that they pass on.
-use Rattle.std.specs.Prelude.{ℕ, List, [], ◌∷◌, Option, Some, None}
-use Rattle.std.specs.Borrow.{Bor}
-use Rattle.mpf_values.specs.declared.decimals.Decimal.{Decimal}
-use Rattle.mpf_values.specs.declared.handled.Comparison.{Comparison}
-use Rattle.mpf_values.specs.Reading.{items_of}
+use Rattle.std.specs.{Prelude.{ℕ, List, [], ◌∷◌, Option, Some, None}, Borrow.Bor}
+use Rattle.mpf_values.specs.{declared.{decimals.Decimal.Decimal, handled.Comparison.Comparison}, Reading.items_of}
 
 abbrev pub decimal_view : Decimal × Bor (List ℕ) → Decimal × List ℕ
 decimal_view d = (d.0, d.1.now)

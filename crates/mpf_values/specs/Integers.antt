@@ -1,7 +1,6 @@
 -- Texts that are integers.
 use Rattle.std.specs.Prelude.{◌≡◌, ℕ, ◌≤◌, Bool, true, false, List, ◌∷◌, ℤ, pos, neg_ℤ}
-use Rattle.yaml_bytes.specs.Numbers.{value_of_digits}
-use Rattle.yaml_bytes.specs.Numbers.{AreDigits}
+use Rattle.yaml_bytes.specs.Numbers.{value_of_digits, AreDigits}
 
 -- digits, with a `-` in front or without
 abbrev pub with_sign : Bool → List ℕ → List ℕ

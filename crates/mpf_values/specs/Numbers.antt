@@ -1,8 +1,6 @@
 -- Numbers as they are written, in decimal digits.
-use Rattle.std.specs.Prelude.{◌≡◌, ℕ, ◌+◌, ◌-◌, ◌*◌, ◌^◌, ◌≤◌, List, [], ◌∷◌, ◌++◌, length}
-use Rattle.std.specs.Char.{is_ascii_digit}
-use Rattle.yaml_bytes.specs.Numbers.{value_of_digits, AreDigits}
-use Rattle.yaml_bytes.specs.Plain.{Are}
+use Rattle.std.specs.{Prelude.{◌≡◌, ℕ, ◌+◌, ◌-◌, ◌*◌, ◌^◌, ◌≤◌, List, [], ◌∷◌, ◌++◌, length}, Char.is_ascii_digit}
+use Rattle.yaml_bytes.specs.{Numbers.{value_of_digits, AreDigits}, Plain.Are}
 
 -- digits, or digits, a point and more digits
 abbrev pub decimal_text : List ℕ → List ℕ → List ℕ

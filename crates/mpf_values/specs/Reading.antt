@@ -1,20 +1,13 @@
 -- Reading a value from its first byte to its last.
 use Rattle.std.specs.Prelude.{ℕ, suc, ◌+◌, ◌-◌, ◌*◌, ◌/◌, ◌%◌, ◌^◌, Bool, true, false, not, ◌&&◌, ◌||◌, ◌==◌, nat_lt, nat_le, if◌then◌else◌, List, [], ◌∷◌, length, take, drop, map, Option, Some, None, ℤ, pos, neg_ℤ, codes}
-use Rattle.std.specs.List.{prefix_len, list_all}
-use Rattle.std.specs.Char.{is_ascii_digit}
-use Rattle.std.specs.Str.{bytes_eq}
-use Rattle.yaml_bytes.specs.Scanning.{behind_blanks}
-use Rattle.yaml_bytes.specs.Numbers.{number_at}
-use Rattle.yaml_subset.specs.Node.{Node}
-use Rattle.yaml_subset.specs.View.{line_of, text_in, items_in}
-use Rattle.mpf_values.specs.declared.decimals.Decimal.{Decimal}
-use Rattle.mpf_values.specs.declared.handled.Comparison.{Comparison}
+use Rattle.std.specs.{List.{prefix_len, list_all}, Char.is_ascii_digit, Str.bytes_eq}
+use Rattle.yaml_bytes.specs.{Scanning.behind_blanks, Numbers.number_at}
+use Rattle.yaml_subset.specs.{Node.Node, View.{line_of, text_in, items_in}}
+use Rattle.mpf_values.specs.declared.{decimals.Decimal.Decimal, handled.Comparison.Comparison}
 use Rattle.mpf_values.specs.declared.handled.Comparison.TheVariants.{Equal, NotEqual, Less, LessOrEqual, Greater, GreaterOrEqual}
 use Rattle.mpf_values.specs.Bytes.{is_name_byte, is_operator_byte, is_word_byte}
-use Rattle.mpf_values.specs.Booleans.{capital, with_capital}
-use Rattle.mpf_values.specs.Events.{Condition, Event}
-use Rattle.mpf_values.specs.ListText.{open_after, ends_item}
-use Rattle.mpf_values.specs.Lists.{Item, item_at, has_text}
+use Rattle.mpf_values.specs.{Booleans.{capital, with_capital}, ListText.{open_after, ends_item}}
+use Rattle.mpf_values.specs.{Events.{Condition, Event}, Lists.{Item, item_at, has_text}}
 
 infixl 10 ◌>>=◌
 abbrev pub ◌>>=◌ : {A B : Type 0} → Option A → (A → Option B) → Option B

@@ -1,13 +1,11 @@
 -- What contracts see of an answer.
 use Rattle.std.specs.Prelude.{◌≡◌, List, map, Option, Some, None, Result, Ok, Err}
-use Rattle.mpf_values.specs.declared.fault.BadValue.{BadValue}
-use Rattle.mpf_values.specs.declared.fault.ListFault.{ListFault}
+use Rattle.mpf_values.specs.declared.fault.{BadValue.BadValue, ListFault.ListFault}
 use Rattle.mpf_values.specs.declared.fault.ListFault.TheVariants as faults
 use Rattle.mpf_values.specs.declared.handled.Condition as conditions
 use Rattle.mpf_values.specs.declared.handled.Event as events
 use Rattle.mpf_values.specs.declared.items.Item as items
-use Rattle.mpf_values.specs.Events.{Condition, Event}
-use Rattle.mpf_values.specs.Lists.{Item}
+use Rattle.mpf_values.specs.{Events.{Condition, Event}, Lists.Item}
 
 -- An answer, seen by view, is what reading gives.
 abbrev pub Gives : {X Y : Type 0} → (X → Y) → Result X BadValue → Option Y → Type 0

@@ -1,14 +1,9 @@
 -- The places of what is bound to an event: what stands at them is what is bound to it, in plan order.
 use Rattle.std.proofs.Common.{rules, ◌≡◌, ℕ, suc, ◌+◌, ◌<◌, Bool, true, false, cond, ◌==◌, List, [], ◌∷◌, ◌++◌, length, map, filter, get_or, refl, ◌∙◌, ap, arith}
-use Rattle.std.specs.List.{All, range_with_len}
-use Rattle.std.proofs.lemmas.Bool.{eqb-true}
-use Rattle.std.proofs.lemmas.List.{map-append}
+use Rattle.std.{specs.List.{All, range_with_len}, proofs.lemmas.{Bool.eqb-true, Simd.map-map}}
+use Rattle.std.proofs.lemmas.List.{map-append, FromFn.{length-range_with_len, get_or-range_with_len}}
 use Rattle.std.proofs.lemmas.List.Elements.{All-weaker, All-map, All-filter, All-from_get_or, filter_passes}
-use Rattle.std.proofs.lemmas.List.FromFn.{length-range_with_len, get_or-range_with_len}
-use Rattle.std.proofs.lemmas.Simd.{map-map}
-use Rattle.plan_tables.specs.declared.entries.EventId.{EventId}
-use Rattle.plan_tables.specs.declared.entries.BindingId.{BindingId}
-use Rattle.plan_tables.specs.declared.entries.Binding.{Binding}
+use Rattle.plan_tables.specs.declared.entries.{EventId.EventId, BindingId.BindingId, Binding.Binding}
 use Rattle.plan_tables.specs.PlanView.{PlanView, no_binding, binding_at, bound_to, places_of}
 
 -- ---- the numbers, from one on, of the items that pass

@@ -1,9 +1,7 @@
 -- Modes that hold the end of the ball.
-use Rattle.std.proofs.Common.{◌≡◌, true, is_some}
-use Rattle.std.proofs.lemmas.Bool.{and_parts}
+use Rattle.std.proofs.{Common.{◌≡◌, true, is_some}, lemmas.Bool.and_parts}
 use Rattle.plan_tables.specs.PlanView.{PlanView, may_hold_ball_end, mode_at}
-use Rattle.plan_tables.specs.Valid.{HasGame}
-use Rattle.plan_tables.specs.declared.entries.ModeId.{ModeId}
+use Rattle.plan_tables.specs.{Valid.HasGame, declared.entries.ModeId.ModeId}
 
 -- where the end of the ball waits for a mode, there is a game
 pub holds-game : (plan : PlanView) (m : ModeId) → may_hold_ball_end plan m ≡ true → HasGame plan

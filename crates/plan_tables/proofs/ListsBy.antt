@@ -1,27 +1,18 @@
 -- Adding the number of one entry after the other to the list of its place: of a row or a binding to that of its mode, and
 -- of a ball device to that of its target.
 use Rattle.std.proofs.Common.{rules, ◌≡◌, ℕ, ◌+◌, ◌<◌, ◌==◌, Bool, false, cond, List, [], ◌∷◌, ◌++◌, length, map, get_or, set, Option, Some, None, Vec, Global, refl, sym, ◌∙◌, ap, subst, arith}
-use Rattle.std.specs.Prelude.{IfSome, unwrap_or}
-use Rattle.std.specs.List.{All, filter, range_with_len}
+use Rattle.std.specs.{Prelude.{IfSome, unwrap_or}, List.{All, filter, range_with_len}}
 use Rattle.std.specs.Option.{option_map, option_map_or}
-use Rattle.std.proofs.lemmas.Bool.Decides.{eqb_tells}
+use Rattle.std.proofs.lemmas.{Bool.Decides.eqb_tells, List.Elements.{All-filter, All-from_get_or, All-get_or, All-map}}
 use Rattle.std.proofs.lemmas.List.{append-nil, get_or-map, get_or-set_same, get_or-set_other, length-map, length-set, map-set}
-use Rattle.std.proofs.lemmas.List.Elements.{All-filter, All-from_get_or, All-get_or, All-map}
 use Rattle.std.proofs.lemmas.List.FromFn.{fill_by_all, filter_of_map_range_with_len_more, get_or-map-range_with_len, length-map-range_with_len}
-use Rattle.plan_tables.specs.declared.devices.BallTarget.{BallTarget}
-use Rattle.plan_tables.specs.declared.devices.BallTarget.TheVariants.{Playfield}
-use Rattle.plan_tables.specs.declared.devices.DeviceRow.{DeviceRow}
-use Rattle.plan_tables.specs.declared.devices.RowId.{RowId}
-use Rattle.plan_tables.specs.declared.entries.Binding.{Binding}
-use Rattle.plan_tables.specs.declared.entries.BindingId.{BindingId}
-use Rattle.plan_tables.specs.declared.entries.ModeId.{ModeId}
-use Rattle.plan_tables.specs.declared.entries.Owner.{Owner}
-use Rattle.plan_tables.specs.declared.entries.Owner.TheVariants.{Mode}
+use Rattle.plan_tables.specs.declared.devices.BallTarget.{BallTarget, TheVariants.Playfield}
+use Rattle.plan_tables.specs.declared.devices.{DeviceRow.DeviceRow, RowId.RowId}
+use Rattle.plan_tables.specs.declared.entries.{Binding.Binding, BindingId.BindingId, ModeId.ModeId}
+use Rattle.plan_tables.{specs.declared.entries.Owner.{Owner, TheVariants.Mode}, proofs.Owners.row_numbers-within}
 use Rattle.plan_tables.specs.PlanView.{PlanView, binding_at, feeders_of, feeds, is_owner, is_target, no_binding, no_row, row_at, row_numbers, rows_of, target_in}
-use Rattle.plan_tables.specs.Owned.{binding_numbers, bindings_of_owner}
-use Rattle.plan_tables.specs.Valid.{IsOwnerWithin, IsTargetThere, IsValid}
+use Rattle.plan_tables.specs.{Owned.{binding_numbers, bindings_of_owner}, Valid.{IsOwnerWithin, IsTargetThere, IsValid}}
 use Rattle.plan_tables.specs.Inside.{added, lists_view, mode_place, target_at, target_place, HasFeeders, HasModeBindings, HasModeRows}
-use Rattle.plan_tables.proofs.Owners.{row_numbers-within}
 
 -- whether something is in the list at a place
 abbrev is_at : ℕ → Option ℕ → Bool

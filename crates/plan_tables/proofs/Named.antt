@@ -1,13 +1,7 @@
 -- What the events, variables, switches and coils of a name are.
 use Rattle.std.proofs.Common.{rules, ◌≡◌, ℕ, ◌<◌, List, [], length, slice_get, Option, Some, None, Contains, refl, ◌∙◌, ap}
-use Rattle.std.specs.Str.{bytes_eq}
-use Rattle.std.specs.List.{position}
-use Rattle.std.specs.Option.{option_map}
-use Rattle.std.proofs.lemmas.Option.{slice_get-get_or}
-use Rattle.plan_tables.specs.declared.entries.EventId.{EventId}
-use Rattle.plan_tables.specs.declared.entries.VariableId.{VariableId}
-use Rattle.plan_tables.specs.declared.entries.SwitchId.{SwitchId}
-use Rattle.plan_tables.specs.declared.entries.CoilId.{CoilId}
+use Rattle.std.{specs.{Str.bytes_eq, List.position, Option.option_map}, proofs.lemmas.Option.slice_get-get_or}
+use Rattle.plan_tables.specs.declared.entries.{EventId.EventId, VariableId.VariableId, SwitchId.SwitchId, CoilId.CoilId}
 use Rattle.plan_tables.specs.PlanView.{PlanView, PlanSwitch, PlanCoil, event_named, variable_named, no_switch, switch_at, switch_named, no_coil, coil_at, coil_named}
 use Rattle.plan_tables.proofs.Places.{found_at, found_within, absent}
 

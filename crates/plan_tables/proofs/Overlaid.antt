@@ -1,14 +1,10 @@
 -- The works of modes, set one after the other, the first mode last.
 use Rattle.std.proofs.Common.{rules, ◌≡◌, ℕ, ◌<◌, ◌==◌, Bool, cond, List, length, map, get_or, set, Option, Some, None, sym, ◌∙◌, ap, subst, arith}
-use Rattle.std.specs.List.{range_with_len}
-use Rattle.std.proofs.lemmas.List.{length-set}
+use Rattle.std.{specs.List.range_with_len, proofs.lemmas.List.length-set}
 use Rattle.std.proofs.lemmas.List.FromFn.{fill_by_all, length-map-range_with_len, get_or-map-range_with_len}
-use Rattle.plan_tables.specs.declared.entries.EventId.{EventId}
-use Rattle.plan_tables.specs.declared.entries.GameRules.{GameRules}
-use Rattle.plan_tables.specs.declared.entries.ModeEvent.{ModeEvent}
+use Rattle.plan_tables.specs.declared.entries.{EventId.EventId, ModeEvents.ModeEvents, Work.Work}
+use Rattle.plan_tables.specs.declared.entries.{GameRules.GameRules, ModeEvent.ModeEvent}
 use Rattle.plan_tables.specs.declared.entries.ModeEvent.TheVariants.{WillStart, Starting, Started, Stopping, Stopped}
-use Rattle.plan_tables.specs.declared.entries.ModeEvents.{ModeEvents}
-use Rattle.plan_tables.specs.declared.entries.Work.{Work}
 use Rattle.plan_tables.specs.declared.entries.Work.TheVariants as works
 use Rattle.plan_tables.specs.PlanView.{PlanMode, PlanView, game_work, or_work, work_from, work_of, work_or}
 use Rattle.plan_tables.specs.Inside.{work_at, AreModeWorks, AreWorksFrom, HasWorks}

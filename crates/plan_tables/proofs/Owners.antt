@@ -1,11 +1,8 @@
 -- Owners, and their rows of devices.
 use Rattle.std.proofs.Common.{rules, ◌≡◌, ◌<◌, zero, suc, Bool, true, false, cond, List, [], ◌∷◌, length, filter, ap, ◌∙◌, arith}
-use Rattle.std.specs.Prelude.{Contains}
-use Rattle.std.specs.List.{All}
-use Rattle.std.proofs.lemmas.List.Elements.{All-filter}
-use Rattle.std.proofs.lemmas.List.FromFn.{length-map-range_with_len, get_or-map-range_with_len}
-use Rattle.plan_tables.specs.declared.entries.Owner.{Owner}
-use Rattle.plan_tables.specs.declared.devices.RowId.{RowId}
+use Rattle.std.specs.{Prelude.Contains, List.All}
+use Rattle.std.proofs.lemmas.List.{Elements.All-filter, FromFn.{length-map-range_with_len, get_or-map-range_with_len}}
+use Rattle.plan_tables.specs.declared.{entries.Owner.Owner, devices.RowId.RowId}
 use Rattle.plan_tables.specs.PlanView.{PlanView, is_owner, row_at, row_numbers, rows_of}
 
 -- owners that are found to be the same are the same

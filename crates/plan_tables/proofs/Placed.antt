@@ -1,15 +1,10 @@
 -- Adding the place of one binding after the other to its event's list.
 use Rattle.std.proofs.Common.{rules, ◌≡◌, ℕ, ◌+◌, ◌<◌, ◌==◌, cond, List, [], ◌∷◌, ◌++◌, length, map, get_or, set, take, Vec, Global, sym, ◌∙◌, ap, subst, arith}
-use Rattle.std.proofs.lemmas.Bool.Decides.{eqb_tells}
+use Rattle.std.{proofs.lemmas.{Bool.Decides.eqb_tells, List.Elements.{All-map, All-get_or}}, specs.List.All}
 use Rattle.std.proofs.lemmas.List.{append-nil, get_or-map, length-map, length-set, map-set, length-take-le, get_or-set_same, get_or-set_other, take_more}
-use Rattle.std.specs.List.{All}
-use Rattle.std.proofs.lemmas.List.Elements.{All-map, All-get_or}
 use Rattle.std.proofs.lemmas.List.FromFn.{fill_by_all, length-map-range_with_len, get_or-map-range_with_len}
-use Rattle.plan_tables.specs.declared.entries.EventId.{EventId}
-use Rattle.plan_tables.specs.declared.entries.BindingId.{BindingId}
-use Rattle.plan_tables.specs.declared.entries.Binding.{Binding}
-use Rattle.plan_tables.specs.PlanView.{PlanView, places_of}
-use Rattle.plan_tables.specs.Inside.{HasPlaces}
+use Rattle.plan_tables.specs.declared.entries.{EventId.EventId, BindingId.BindingId, Binding.Binding}
+use Rattle.plan_tables.specs.{PlanView.{PlanView, places_of}, Inside.HasPlaces}
 use Rattle.plan_tables.proofs.BoundTo.{places_among, places_among-more, places_of-among}
 
 abbrev event : ℕ → EventId

@@ -1,13 +1,8 @@
 -- The place of a name among named things: it is there, and nothing else has the name.
 use Rattle.std.proofs.Common.{rules, ◌≡◌, ℕ, ◌+◌, ◌<◌, ◌≤◌, ◌≢◌, Bool, cond, not, List, [], ◌∷◌, length, map, get_or, Some, None, nat_lt, refl, sym, ap}
-use Rattle.std.specs.Str.{bytes_eq}
-use Rattle.std.specs.List.{position, position_or_len}
-use Rattle.std.proofs.lemmas.Bool.{ltb-false}
-use Rattle.std.proofs.lemmas.List.{length-map}
-use Rattle.std.proofs.lemmas.List.Quantifiers.{position-Some}
+use Rattle.std.specs.{Str.bytes_eq, List.{position, position_or_len}, Prelude.unwrap_or}
+use Rattle.std.proofs.lemmas.{Bool.ltb-false, List.{length-map, Quantifiers.position-Some}, Slice.Eq.bytes_eq-Decides}
 use Rattle.std.proofs.lemmas.List.Sums.{fails_before_first, prefix_len-le-length}
-use Rattle.std.specs.Prelude.{unwrap_or}
-use Rattle.std.proofs.lemmas.Slice.Eq.{bytes_eq-Decides}
 
 -- the first place where an item passes as it is seen
 pub position_or_len-map : {X Y : Type 0} (f : X → Y) (p : Y → Bool) (xs : List X) → position_or_len p (map f xs) ≡ position_or_len (λ x. p (f x)) xs

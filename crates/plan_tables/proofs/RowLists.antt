@@ -1,7 +1,6 @@
 -- A row of a plan has few effect lists.
 use Rattle.std.proofs.Common.{rules, ◌≤◌, Bool, if◌then◌else◌}
-use Rattle.plan_tables.specs.declared.devices.Settings.{Settings}
-use Rattle.plan_tables.specs.Devices.{IsWithinLimits, list_count}
+use Rattle.plan_tables.specs.{declared.devices.Settings.Settings, Devices.{IsWithinLimits, list_count}}
 
 of_group : (group : Bool) → (if group then 2 else 0) ≤ 2
 of_group group = search rules

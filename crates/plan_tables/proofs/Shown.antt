@@ -1,8 +1,6 @@
 -- Entries of a plan, each at the place of its name.
 use Rattle.std.proofs.Common.{◌≡◌, ℕ, zero, suc, ◌<◌, List, [], ◌∷◌, length, map, get_or, refl, sym, ◌∙◌, ap, arith}
-use Rattle.std.specs.List.{zip, position}
-use Rattle.std.specs.Str.{bytes_eq}
-use Rattle.std.proofs.lemmas.Slice.Zip.{firsts-zip}
+use Rattle.std.{specs.{List.{zip, position}, Str.bytes_eq}, proofs.lemmas.Slice.Zip.firsts-zip}
 use Rattle.plan_tables.proofs.Places.{position-map}
 
 -- entries E, of which the plan shows V

@@ -1,10 +1,8 @@
 -- The first row that passes a test, by its place.
 use Rattle.std.proofs.Common.{rules, ◌≡◌, ℕ, suc, ◌+◌, ◌<◌, Bool, cond, not, nat_lt, List, [], ◌∷◌, length, map, get_or, Some, None, refl, ◌∙◌, sym, ap, inl, inr, arith}
-use Rattle.std.specs.List.{find, position, position_or_len, range_with_len, slice_get}
-use Rattle.std.specs.Option.{option_map}
+use Rattle.std.specs.{List.{find, position, position_or_len, range_with_len, slice_get}, Option.option_map}
 use Rattle.std.proofs.lemmas.Bool.{cases_lt, cond-true, cond-false, lt-ltb, le-ltb}
-use Rattle.std.proofs.lemmas.List.Folds.{find_at}
-use Rattle.std.proofs.lemmas.List.FromFn.{length-range_with_len, get_or-range_with_len}
+use Rattle.std.proofs.lemmas.List.{Folds.find_at, FromFn.{length-range_with_len, get_or-range_with_len}}
 use Rattle.std.proofs.lemmas.Option.{slice_get-get_or, slice_get-map, slice_get_past}
 use Rattle.plan_tables.specs.PlanView.{PlanView, first_trough, is_trough, no_row, row_at}
 

@@ -1,19 +1,11 @@
 -- What a plan does with balls.
-use Rattle.std.specs.Prelude.{◌≡◌, ℕ, ◌<◌, Bool, List, [], ◌∷◌, length}
-use Rattle.std.specs.List.{All, AllPairs, flat_map}
-use Rattle.plan_tables.specs.Devices.{list_count}
+use Rattle.std.specs.{Prelude.{◌≡◌, ℕ, ◌<◌, Bool, List, [], ◌∷◌, length}, List.{All, AllPairs, flat_map}}
+use Rattle.plan_tables.specs.{Devices.list_count, declared.entries.Owner.{Owner, TheVariants.Machine}}
 use Rattle.plan_tables.specs.PlanView.{PlanView, actions_at, list_of_row, row_at}
-use Rattle.plan_tables.specs.declared.devices.RowId.{RowId}
-use Rattle.plan_tables.specs.declared.devices.Settings.{Settings}
-use Rattle.plan_tables.specs.declared.devices.Settings.TheVariants.{BallDevice}
-use Rattle.plan_tables.specs.declared.entries.Action.{Action}
+use Rattle.plan_tables.specs.declared.devices.{RowId.RowId, Settings.{Settings, TheVariants.BallDevice}}
+use Rattle.plan_tables.specs.declared.entries.{Action.Action, EventId.EventId, Listener.Listener}
 use Rattle.plan_tables.specs.declared.entries.Action.TheVariants.{Enter, Leave, Lose, Arrive, Request, AddBalls}
-use Rattle.plan_tables.specs.declared.entries.EventId.{EventId}
-use Rattle.plan_tables.specs.declared.entries.Listener.{Listener}
-use Rattle.plan_tables.specs.declared.entries.Owner.{Owner}
-use Rattle.plan_tables.specs.declared.entries.Owner.TheVariants.{Machine}
-use Rattle.plan_tables.specs.declared.entries.Target.{Target}
-use Rattle.plan_tables.specs.declared.entries.Target.TheVariants.{Run, Start, Stop, Act}
+use Rattle.plan_tables.specs.declared.entries.Target.{Target, TheVariants.{Run, Start, Stop, Act}}
 
 -- ---- devices
 

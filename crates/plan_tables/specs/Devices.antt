@@ -1,9 +1,7 @@
 -- The limits of a device's settings, and how many effect lists it has.
 use Rattle.std.specs.Prelude.{◌≡◌, ℕ, suc, ◌+◌, ◌*◌, ◌≤◌, if◌then◌else◌, length}
 use Rattle.machine_settings.specs.Limits.{IsCounterWithin, AreStepsWithin, IsTimerWithin, IsEjectWithin, IsSaveWithin, IsMultiballWithin}
-use Rattle.plan_tables.specs.declared.devices.BallSettings.{BallSettings}
-use Rattle.plan_tables.specs.declared.devices.BankSettings.{BankSettings}
-use Rattle.plan_tables.specs.declared.devices.Settings.{Settings}
+use Rattle.plan_tables.specs.declared.devices.{BallSettings.BallSettings, BankSettings.BankSettings, Settings.Settings}
 use Rattle.plan_tables.specs.declared.devices.Settings.TheVariants.{Counter, Accrual, Sequence, Timer, Bank, Flipper, Autofire, BallDevice, BallSave, Multiball}
 
 -- at most 16 ball switches

@@ -1,29 +1,15 @@
 -- What the fields of a plan hold.
 use Rattle.std.specs.Prelude.{ℕ, zero, suc, ◌+◌, ◌≡◌, ◌<◌, List, [], ◌∷◌, ◌++◌, Option, Some, None, length, map, slice_get, slice_index_or, slice_set, Vec, zip}
-use Rattle.std.specs.List.{range_with_len}
-use Rattle.std.specs.Global.{Global}
-use Rattle.plan_tables.specs.declared.names.NameSets.{NameSets}
-use Rattle.plan_tables.specs.declared.entries.ModeEntry.{ModeEntry}
-use Rattle.plan_tables.specs.declared.entries.SwitchEntry.{SwitchEntry}
-use Rattle.plan_tables.specs.declared.entries.CoilLimits.{CoilLimits}
-use Rattle.plan_tables.specs.declared.entries.Action.{Action}
-use Rattle.plan_tables.specs.declared.entries.BindingId.{BindingId}
-use Rattle.plan_tables.specs.declared.entries.EventId.{EventId}
-use Rattle.plan_tables.specs.declared.entries.Owner.{Owner}
-use Rattle.plan_tables.specs.declared.entries.Owner.TheVariants.{Machine, Mode}
-use Rattle.plan_tables.specs.declared.devices.BallTarget.{BallTarget}
-use Rattle.plan_tables.specs.declared.devices.BallTarget.TheVariants.{Playfield, Device}
-use Rattle.plan_tables.specs.declared.devices.RowId.{RowId}
-use Rattle.plan_tables.specs.declared.entries.ModeEvents.{ModeEvents}
-use Rattle.plan_tables.specs.declared.entries.Work.{Work}
-use Rattle.plan_tables.specs.declared.entries.Work.TheVariants.{Nothing}
-use Rattle.plan_tables.specs.declared.table.Table.{Table}
-use Rattle.plan_tables.specs.declared.table.Table.TheVariants.{Events, Switches, Coils, Variables}
-use Rattle.plan_tables.specs.declared.tables.Tables.{Tables}
-use Rattle.plan_tables.specs.declared.tables.Plan.TheInside.{Inside}
-use Rattle.plan_tables.specs.Limits.{order_of}
-use Rattle.plan_tables.specs.NamesKept.{names_kept}
-use Rattle.plan_tables.specs.Owned.{bindings_of_owner}
+use Rattle.std.specs.{List.range_with_len, Global.Global}
+use Rattle.plan_tables.specs.declared.{names.NameSets.NameSets, entries.Work.{Work, TheVariants.Nothing}}
+use Rattle.plan_tables.specs.declared.entries.{ModeEntry.ModeEntry, BindingId.BindingId}
+use Rattle.plan_tables.specs.declared.entries.{SwitchEntry.SwitchEntry, Action.Action, EventId.EventId}
+use Rattle.plan_tables.specs.declared.entries.{CoilLimits.CoilLimits, ModeEvents.ModeEvents}
+use Rattle.plan_tables.specs.declared.entries.Owner.{Owner, TheVariants.{Machine, Mode}}
+use Rattle.plan_tables.specs.declared.devices.{BallTarget.{BallTarget, TheVariants.{Playfield, Device}}, RowId.RowId}
+use Rattle.plan_tables.specs.declared.table.Table.{Table, TheVariants.{Events, Switches, Coils, Variables}}
+use Rattle.plan_tables.specs.declared.tables.{Tables.Tables, Plan.TheInside.Inside}
+use Rattle.plan_tables.specs.{Limits.order_of, NamesKept.names_kept, Owned.bindings_of_owner}
 use Rattle.plan_tables.specs.PlanView.{PlanMode, PlanSwitch, PlanCoil, PlanView, feeders_of, or_work, places_of, rows_of, which_event, work_from, work_of, work_or}
 
 -- the names of each table

@@ -1,8 +1,7 @@
 -- How many entries each table of a plan may have.
 use Rattle.std.specs.Prelude.{ℕ, ◌<◌, ◌≤◌, List, [], ◌∷◌, Option, length, map, nat_lt, find, codes}
-use Rattle.plan_tables.specs.declared.table.Table.{Table}
+use Rattle.plan_tables.specs.{declared.table.Table.Table, PlanView.PlanView}
 use Rattle.plan_tables.specs.declared.table.Table.TheVariants.{Events, Bindings, Switches, Coils, Variables, Rows}
-use Rattle.plan_tables.specs.PlanView.{PlanView}
 
 abbrev pub entry_count : PlanView → Table → ℕ
 entry_count plan Events = length plan.events

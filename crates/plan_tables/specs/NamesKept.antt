@@ -1,6 +1,5 @@
 -- The names that a table keeps.
-use Rattle.std.specs.Prelude.{ℕ, List, [], Option, None, Some, map, Vec}
-use Rattle.std.specs.Global.{Global}
+use Rattle.std.specs.{Prelude.{ℕ, List, [], Option, None, Some, map, Vec}, Global.Global}
 use Rattle.plan_tables.specs.declared.names.NameTable.{NameTable}
 
 -- the names in a set of them

@@ -1,8 +1,6 @@
 -- The bindings of an owner.
-use Rattle.std.specs.Prelude.{List, length, map, filter}
-use Rattle.std.specs.List.{range_with_len}
-use Rattle.plan_tables.specs.declared.entries.BindingId.{BindingId}
-use Rattle.plan_tables.specs.declared.entries.Owner.{Owner}
+use Rattle.std.specs.{Prelude.{List, length, map, filter}, List.range_with_len}
+use Rattle.plan_tables.specs.declared.entries.{BindingId.BindingId, Owner.Owner}
 use Rattle.plan_tables.specs.PlanView.{PlanView, binding_at, is_owner}
 
 -- the places of all bindings

@@ -1,46 +1,24 @@
 -- A plan, apart from where it lies in memory.
 use Rattle.std.specs.Prelude.{ℕ, suc, ◌+◌, ◌==◌, List, [], ◌∷◌, ◌++◌, Bool, true, false, ◌&&◌, Option, Some, None, is_some, if◌then◌else◌, length, map, filter, find, slice_get, slice_index_or, position, option_map, unwrap_or}
-use Rattle.std.specs.Option.{option_map_or}
-use Rattle.std.specs.List.{range_with_len, flat_map, list_any}
-use Rattle.std.specs.Str.{bytes_eq}
+use Rattle.std.specs.{Option.option_map_or, List.{range_with_len, flat_map, list_any}, Str.bytes_eq}
 use Rattle.machine_settings.specs.declared.words.Contact.TheVariants.{NormallyOpen}
-use Rattle.plan_tables.specs.declared.entries.EventId.{EventId}
-use Rattle.plan_tables.specs.declared.entries.SwitchId.{SwitchId}
-use Rattle.plan_tables.specs.declared.entries.SwitchKind.{SwitchKind}
-use Rattle.plan_tables.specs.declared.entries.Listener.{Listener}
-use Rattle.plan_tables.specs.declared.entries.CoilId.{CoilId}
-use Rattle.plan_tables.specs.declared.entries.CoilLimits.{CoilLimits}
-use Rattle.plan_tables.specs.declared.entries.Mode.{Mode}
-use Rattle.plan_tables.specs.declared.entries.ModeId.{ModeId}
-use Rattle.plan_tables.specs.declared.entries.ModeEvent.{ModeEvent}
+use Rattle.plan_tables.specs.declared.entries.{EventId.EventId, Listener.Listener, Target.{Target, TheVariants.Run}}
+use Rattle.plan_tables.specs.declared.entries.{SwitchId.SwitchId, BindingId.BindingId}
+use Rattle.plan_tables.specs.declared.entries.{SwitchKind.SwitchKind, VariableId.VariableId}
+use Rattle.plan_tables.specs.declared.entries.{CoilId.CoilId, ModeId.ModeId, ListId.ListId, Binding.Binding}
+use Rattle.plan_tables.specs.declared.entries.{CoilLimits.CoilLimits, ModeEvents.ModeEvents}
+use Rattle.plan_tables.specs.declared.entries.{Mode.Mode, ModeEvent.ModeEvent, Work.Work}
 use Rattle.plan_tables.specs.declared.entries.ModeEvent.TheVariants.{WillStart, Starting, Started, Stopping, Stopped}
-use Rattle.plan_tables.specs.declared.entries.ModeEvents.{ModeEvents}
-use Rattle.plan_tables.specs.declared.entries.VariableId.{VariableId}
-use Rattle.plan_tables.specs.declared.entries.GameEvent.{GameEvent}
-use Rattle.plan_tables.specs.declared.entries.GameRules.{GameRules}
-use Rattle.plan_tables.specs.GameEvents.{game_events, order_of}
-use Rattle.plan_tables.specs.declared.entries.Work.{Work}
+use Rattle.plan_tables.specs.declared.entries.{GameEvent.GameEvent, GameRules.GameRules}
+use Rattle.plan_tables.specs.{GameEvents.{game_events, order_of}, Devices.list_count}
 use Rattle.plan_tables.specs.declared.entries.Work.TheVariants as works
-use Rattle.plan_tables.specs.declared.entries.ListId.{ListId}
-use Rattle.plan_tables.specs.declared.entries.BindingId.{BindingId}
-use Rattle.plan_tables.specs.declared.entries.Owner.{Owner}
-use Rattle.plan_tables.specs.declared.entries.Owner.TheVariants.{Machine}
+use Rattle.plan_tables.specs.declared.entries.{Owner.{Owner, TheVariants.Machine}, Action.{Action, TheVariants.Enable}}
 use Rattle.plan_tables.specs.declared.entries.Owner.TheVariants as owners
-use Rattle.plan_tables.specs.declared.entries.Action.{Action}
-use Rattle.plan_tables.specs.declared.entries.Action.TheVariants.{Enable}
-use Rattle.plan_tables.specs.declared.entries.Target.{Target}
-use Rattle.plan_tables.specs.declared.entries.Target.TheVariants.{Run}
-use Rattle.plan_tables.specs.Devices.{list_count}
-use Rattle.plan_tables.specs.declared.entries.Binding.{Binding}
-use Rattle.plan_tables.specs.declared.devices.RowId.{RowId}
-use Rattle.plan_tables.specs.declared.devices.Act.{Act}
-use Rattle.plan_tables.specs.declared.devices.Act.TheVariants.{SwitchOn, SwitchOff, Confirm, Request}
-use Rattle.plan_tables.specs.declared.devices.Telling.{Telling}
-use Rattle.plan_tables.specs.declared.devices.Telling.TheVariants.{Arrived, Wanted}
-use Rattle.plan_tables.specs.declared.devices.DeviceRow.{DeviceRow}
-use Rattle.plan_tables.specs.declared.devices.BallTarget.{BallTarget}
+use Rattle.plan_tables.specs.declared.devices.{RowId.RowId, Settings.Settings}
+use Rattle.plan_tables.specs.declared.devices.Act.{Act, TheVariants.{SwitchOn, SwitchOff, Confirm, Request}}
+use Rattle.plan_tables.specs.declared.devices.Telling.{Telling, TheVariants.{Arrived, Wanted}}
+use Rattle.plan_tables.specs.declared.devices.{DeviceRow.DeviceRow, BallTarget.BallTarget}
 use Rattle.plan_tables.specs.declared.devices.BallTarget.TheVariants as targets
-use Rattle.plan_tables.specs.declared.devices.Settings.{Settings}
 use Rattle.plan_tables.specs.declared.devices.Settings.TheVariants.{Accrual, BallDevice, BallSave, Multiball}
 
 -- a switch: its name, how it is read, which devices listen to it, whether a ball that presses it is on the playfield, and

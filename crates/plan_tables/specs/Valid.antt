@@ -1,28 +1,16 @@
 -- What holds of every plan: each number in it is that of an entry, no two entries of a table have one name, and no table is above its limit.
-use Rattle.std.specs.Prelude.{ℕ, ◌+◌, ◌≡◌, ◌<◌, ◌≤◌, ◌≢◌, true, Option, IsSome, IfSome, length}
-use Rattle.std.specs.List.{All, AllPairs}
-use Rattle.plan_tables.specs.declared.entries.EventId.{EventId}
-use Rattle.plan_tables.specs.declared.entries.Owner.{Owner}
-use Rattle.plan_tables.specs.declared.entries.Owner.TheVariants.{Machine, Mode}
-use Rattle.plan_tables.specs.declared.entries.Action.{Action}
+use Rattle.std.specs.{Prelude.{ℕ, ◌+◌, ◌≡◌, ◌<◌, ◌≤◌, ◌≢◌, true, Option, IsSome, IfSome, length}, List.{All, AllPairs}}
+use Rattle.plan_tables.specs.declared.entries.{EventId.EventId, Listener.Listener}
+use Rattle.plan_tables.specs.declared.entries.Owner.{Owner, TheVariants.{Machine, Mode}}
+use Rattle.plan_tables.specs.declared.entries.{Action.Action, ModeId.ModeId, Work.Work, Binding.Binding}
 use Rattle.plan_tables.specs.declared.entries.Action.TheVariants.{Post, Pulse, Enable, Disable, Change, Enter, Leave, Lose, Arrive, Request, AddBalls}
-use Rattle.plan_tables.specs.declared.entries.Condition.{Condition}
-use Rattle.plan_tables.specs.declared.entries.GameEvent.{GameEvent}
-use Rattle.plan_tables.specs.declared.entries.GameRules.{GameRules}
-use Rattle.plan_tables.specs.declared.entries.Listener.{Listener}
-use Rattle.plan_tables.specs.declared.entries.Target.{Target}
-use Rattle.plan_tables.specs.declared.entries.Target.TheVariants.{Run, Start, Stop, Act}
-use Rattle.plan_tables.specs.declared.entries.ModeId.{ModeId}
-use Rattle.plan_tables.specs.declared.entries.ModeEvent.{ModeEvent}
-use Rattle.plan_tables.specs.declared.entries.Work.{Work}
+use Rattle.plan_tables.specs.declared.entries.{Condition.Condition, GameEvent.GameEvent}
+use Rattle.plan_tables.specs.declared.entries.{GameRules.GameRules, ModeEvent.ModeEvent}
+use Rattle.plan_tables.specs.declared.entries.Target.{Target, TheVariants.{Run, Start, Stop, Act}}
 use Rattle.plan_tables.specs.declared.entries.Work.TheVariants as work_kinds
-use Rattle.plan_tables.specs.declared.entries.Binding.{Binding}
-use Rattle.plan_tables.specs.declared.devices.BallTarget.{BallTarget}
+use Rattle.plan_tables.specs.declared.{devices.{BallTarget.BallTarget, RowId.RowId}, table.Table.Table}
 use Rattle.plan_tables.specs.declared.devices.BallTarget.TheVariants as targets
-use Rattle.plan_tables.specs.declared.devices.RowId.{RowId}
-use Rattle.plan_tables.specs.declared.table.Table.{Table}
-use Rattle.plan_tables.specs.Devices.{IsWithinLimits, list_count}
-use Rattle.plan_tables.specs.Limits.{entry_names}
+use Rattle.plan_tables.specs.{Devices.{IsWithinLimits, list_count}, Limits.entry_names}
 use Rattle.plan_tables.specs.PlanView.{PlanMode, PlanSwitch, PlanCoil, PlanView, game_event, list_of_row, mode_event, row_at, target_of, work_of}
 
 abbrev pub IsEventWithin : ℕ → EventId → Type 0

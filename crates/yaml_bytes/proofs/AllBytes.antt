@@ -1,7 +1,6 @@
 -- That every byte passes a test, as a fact and as a test.
-use Rattle.std.proofs.Common.{◌≡◌, ℕ, Bool, true, List, [], ◌∷◌, refl}
+use Rattle.std.proofs.{Common.{◌≡◌, ℕ, Bool, true, List, [], ◌∷◌, refl}, lemmas.Bool.{and_parts, and_from}}
 use Rattle.std.specs.List.{list_all}
-use Rattle.std.proofs.lemmas.Bool.{and_parts, and_from}
 use Rattle.yaml_bytes.specs.Plain.{Are}
 
 pub Are-from_list_all : (p : ℕ → Bool) (xs : List ℕ) → list_all p xs ≡ true → Are p xs

@@ -1,9 +1,7 @@
 -- The plain text at the front of a line is what reading it from the left gives.
 use Rattle.std.proofs.Common.{rules, ◌≡◌, ℕ, zero, suc, ◌<◌, ◌≤◌, Bool, true, false, List, [], ◌∷◌, ◌++◌, length, drop, get_or, refl, sym, ap, subst, ◌∙◌, inl, inr, arith, append_assoc, length-take-le, take-append-drop}
-use Rattle.std.proofs.lemmas.Bool.{cases_Bool, cases_lt, both_ways}
-use Rattle.std.proofs.lemmas.List.{append-nil}
-use Rattle.std.proofs.Math.Seq.{take-append_seam, drop-append_seam}
-use Rattle.std.specs.List.{prefix_len}
+use Rattle.std.proofs.lemmas.{Bool.{cases_Bool, cases_lt, both_ways}, List.append-nil}
+use Rattle.std.{proofs.Math.Seq.{take-append_seam, drop-append_seam}, specs.List.prefix_len}
 use Rattle.yaml_bytes.specs.Bytes.{is_blank, begins_blank, begins_word}
 use Rattle.yaml_bytes.specs.Plain.{AreBlank, IsBehindBlanks, ends_word, ends_word_at, IsWordEnd, EndsInNoBlank, IsPlainWord}
 use Rattle.yaml_bytes.specs.Scanning.{word_len, onto_trimmed, trimmed, behind_blanks, word_front, word_rest}

@@ -1,8 +1,6 @@
 -- What a search for a byte finds, as a length.
 use Rattle.std.proofs.Common.{rules, ◌≡◌, ℕ, Bool, true, false, List, length, Option, Some, None, slice_index, sym, arith}
-use Rattle.std.specs.List.{position_or_len}
-use Rattle.std.specs.Option.{unwrap_or}
-use Rattle.std.proofs.lemmas.List.Sums.{position_or_len_is}
+use Rattle.std.{specs.{List.position_or_len, Option.unwrap_or}, proofs.lemmas.List.Sums.position_or_len_is}
 use Rattle.memchr.specs.Find.{IsFirstByte}
 
 none_passes : (b : Bool) → (b ≡ true → ⊥) → b ≡ false

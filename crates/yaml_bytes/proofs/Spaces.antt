@@ -1,9 +1,7 @@
 -- The spaces at the front of a text.
 use Rattle.std.proofs.Common.{rules, ◌≡◌, ℕ, zero, suc, ◌==◌, false, List, [], ◌∷◌, ◌++◌, drop, replicate, refl, ap, ◌∙◌, inl, inr}
 use Rattle.std.proofs.lemmas.Bool.{cases_Bool, eqb-true}
-use Rattle.yaml_bytes.specs.Bytes.{begins_blank}
-use Rattle.yaml_bytes.specs.Plain.{AreBlank}
-use Rattle.yaml_bytes.specs.Scanning.{behind_blanks, spaces_len}
+use Rattle.yaml_bytes.specs.{Bytes.begins_blank, Plain.AreBlank, Scanning.{behind_blanks, spaces_len}}
 use Rattle.yaml_bytes.proofs.PlainTexts.{behind_blanks-is}
 
 pub spaces_parts : (raw : List ℕ) → raw ≡ replicate (spaces_len raw) 32 ++ drop (spaces_len raw) raw

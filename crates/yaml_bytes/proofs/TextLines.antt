@@ -1,9 +1,7 @@
 -- The first line of a text, and the lines after it.
 use Rattle.std.proofs.Common.{rules, ◌≡◌, ℕ, ◌-◌, ◌<◌, ◌≤◌, ◌==◌, Bool, ◌&&◌, true, false, cond, List, [], ◌∷◌, Option, Some, None, take, drop, get_or, slice_index, length, refl, sym, ap, subst, ◌∙◌, arith, one-add}
-use Rattle.std.specs.List.{slice_split, position_or_len}
-use Rattle.std.specs.Str.Lines.{strip_carriage_return}
-use Rattle.std.proofs.Math.Seq.{take-length}
-use Rattle.std.proofs.lemmas.Bool.{or_parts}
+use Rattle.std.specs.{List.{slice_split, position_or_len}, Str.Lines.strip_carriage_return}
+use Rattle.std.proofs.{Math.Seq.take-length, lemmas.Bool.or_parts}
 use Rattle.yaml_bytes.specs.Lines.{is_lf, ends_line, line_with, cut_line, parts_from, lines_between, lines_of, lines_after}
 
 -- ---- where a text is cut
@@ -60,12 +58,6 @@ module _ (text front rest : List ℕ) (n : ℕ) (first_lf : n ≡ position_or_le
   next_line some = lines_here (strip_carriage_return front, Some (take (length rest - 1) (drop 1 rest))) (ap (line_with front) (after_first rest some))
 
 -- ---- the first line, from the first byte on
-
-pub cut_lf : (after : List ℕ) → cut_line (10 ∷ after) ≡ ([], Some after)
-cut_lf after = refl
-
-pub cut_cr_lf : (after : List ℕ) → cut_line (13 ∷ 10 ∷ after) ≡ ([], Some after)
-cut_cr_lf after = refl
 
 -- a byte in front of a first line
 abbrev pub onto_line : ℕ → List ℕ × Option (List ℕ) → List ℕ × Option (List ℕ)

@@ -1,8 +1,7 @@
 -- Blanks at the end of a text.
 use Rattle.std.proofs.Common.{◌≡◌, ℕ, suc, ◌-◌, ◌≤◌, ◌<◌, true, false, List, [], ◌∷◌, ◌++◌, length, take, get_or, refl, sym, ap, subst, ◌∙◌, arith}
 use Rattle.std.proofs.Math.Seq.{take-suc, take-length}
-use Rattle.yaml_bytes.specs.Bytes.{is_blank}
-use Rattle.yaml_bytes.specs.Scanning.{onto_trimmed, trimmed}
+use Rattle.yaml_bytes.specs.{Bytes.is_blank, Scanning.{onto_trimmed, trimmed}}
 
 -- a list is what stands before its last element, and that
 pub last_split : (xs : List ℕ) → 1 ≤ length xs → take (length xs - 1) xs ++ get_or xs (length xs - 1) 0 ∷ [] ≡ xs

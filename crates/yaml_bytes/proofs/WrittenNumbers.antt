@@ -1,15 +1,9 @@
 -- Numbers are read as digits write them.
 use Rattle.std.proofs.Common.{◌≡◌, ℕ, ◌^◌, ◌<◌, nat_lt, true, false, Option, Some, None, Result, List, length, sym, ◌∙◌, rules}
-use Rattle.std.specs.List.{list_all}
-use Rattle.std.specs.Char.{is_ascii_digit}
+use Rattle.std.specs.{List.list_all, Char.is_ascii_digit, Str.{IsUtf8, Parse.ParsesUnsigned}}
 use Rattle.std.specs.Result.{result_ok, OkIff, MatchResult}
-use Rattle.std.specs.Str.{IsUtf8}
-use Rattle.std.specs.Str.Parse.{ParsesUnsigned}
-use Rattle.std.proofs.lemmas.Bool.{and_parts, ltb-true, lt-ltb, false≢true}
-use Rattle.std.proofs.lemmas.Fmt.{IsAscii-from_digits}
-use Rattle.std.proofs.lemmas.Option.{cond_some}
-use Rattle.std.proofs.lemmas.Str.{IsUtf8-from_ascii}
-use Rattle.std.proofs.lemmas.Str.Parse.{IsNumeralModel, numerals_by_weight, parse_digits}
+use Rattle.std.proofs.lemmas.{Bool.{and_parts, ltb-true, lt-ltb, false≢true}, Fmt.IsAscii-from_digits, Option.cond_some}
+use Rattle.std.proofs.lemmas.Str.{IsUtf8-from_ascii, Parse.{IsNumeralModel, numerals_by_weight, parse_digits}}
 use Rattle.yaml_bytes.specs.Numbers.{value_of_digits, IsNumber, number_at}
 use Rattle.yaml_bytes.proofs.AllBytes.{Are-from_list_all, list_all-from_Are}
 

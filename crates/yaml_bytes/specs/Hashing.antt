@@ -1,9 +1,7 @@
 -- Where the hashers of keys and names start.
-use Rattle.std.specs.Prelude.{ℕ, List}
-use Rattle.std.specs.List.{fold}
+use Rattle.std.specs.{Prelude.{ℕ, List}, List.fold, declared.hash.FoldHasher.FoldHasher}
 use Rattle.std.specs.Hash.FoldHasher as folding
 use Rattle.std.specs.Hash.DefaultHasher as sip
-use Rattle.std.specs.declared.hash.FoldHasher.{FoldHasher}
 use Rattle.std.specs.Hash as fed
 
 -- a hasher that has hashed the SipHash of a text

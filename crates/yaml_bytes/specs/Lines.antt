@@ -1,7 +1,6 @@
 -- The lines of a text. LF ends each line but the last, and a CR directly before that LF is no part of the line.
 use Rattle.std.specs.Prelude.{ℕ, ◌==◌, Bool, false, ◌&&◌, ◌||◌, List, [], ◌∷◌, take, drop, Option, Some, None}
-use Rattle.std.specs.List.{slice_split, position_or_len}
-use Rattle.std.specs.Str.Lines.{strip_carriage_return}
+use Rattle.std.specs.{List.{slice_split, position_or_len}, Str.Lines.strip_carriage_return}
 
 abbrev pub is_lf : ℕ → Bool
 is_lf b = b == 10

@@ -1,8 +1,7 @@
 -- What a pass over a line finds.
 use Rattle.std.specs.Prelude.{ℕ, suc, ◌+◌, ◌-◌, Bool, List, [], ◌∷◌, length, take, drop, Option, Some, None, ◌&&◌, if◌then◌else◌, ◌==◌}
 use Rattle.std.specs.List.{prefix_len}
-use Rattle.yaml_bytes.specs.Bytes.{is_blank, begins_gap}
-use Rattle.yaml_bytes.specs.Plain.{ends_word}
+use Rattle.yaml_bytes.specs.{Bytes.{is_blank, begins_gap}, Plain.ends_word}
 
 -- how many bytes a plain word has up to where it ends, the blanks at its end too; `before` is the byte in front
 abbrev pub word_len : Bool → ℕ → List ℕ → ℕ

@@ -1,6 +1,5 @@
 -- What contracts see of a part of a text.
-use Rattle.std.specs.Prelude.{ℕ, List, Option, Some, None}
-use Rattle.std.specs.Borrow.{Bor}
+use Rattle.std.specs.{Prelude.{ℕ, List, Option, Some, None}, Borrow.Bor}
 
 -- the rest of a text, apart from where it lies in memory
 abbrev pub rest_view : Bor (List ℕ) → List ℕ

@@ -1,20 +1,14 @@
 -- A line has no blemish where it is UTF-8 without a forbidden character.
 use Rattle.std.proofs.Common.{rules, ◌≡◌, ℕ, zero, suc, ◌+◌, ◌-◌, ◌≤◌, ◌<◌, ltb, Bool, true, false, cond, List, [], ◌∷◌, length, take, drop, get_or, Option, Some, None, refl, sym, ap, subst, ◌∙◌, inl, inr, arith, length-take-le}
-use Rattle.std.specs.Char.{len_utf8}
-use Rattle.std.specs.List.{All, AllByRecursion, list_all}
-use Rattle.std.specs.Str.{IsUtf8, is_utf8, chars, encode_utf8_all}
-use Rattle.std.specs.Str.Lossy.{utf8_valid_len, valid_len_up_to}
-use Rattle.std.proofs.Math.Seq.{take-length}
-use Rattle.std.proofs.lemmas.Bool.{cases_Bool, and_parts, le-ltb, ltb-false}
-use Rattle.std.proofs.lemmas.List.Elements.{All-nil, All-cons}
-use Rattle.std.proofs.lemmas.List.{length-append, at_drop_more}
-use Rattle.std.proofs.lemmas.Str.Ascii.{IsAscii-from_all}
+use Rattle.std.specs.{Char.len_utf8, List.{All, AllByRecursion, list_all}}
+use Rattle.std.specs.Str.{IsUtf8, is_utf8, chars, encode_utf8_all, Lossy.{utf8_valid_len, valid_len_up_to}}
+use Rattle.std.proofs.{Math.Seq.take-length, lemmas.List.{length-append, at_drop_more, Elements.{All-nil, All-cons}}}
+use Rattle.std.proofs.lemmas.{Bool.{cases_Bool, and_parts, le-ltb, ltb-false}, Str.Ascii.IsAscii-from_all}
 use Rattle.std.proofs.lemmas.Str.{chars-IsAscii, IsUtf8-from_ascii, IsUtf8-nil, IsUtf8-from_is_utf8, utf8_valid_len_le, utf8_valid_len-IsUtf8, encodes-chars, length-encode, len_utf8_bounds}
-use Rattle.yaml_subset.specs.declared.place.PlacedFault.{PlacedFault}
+use Rattle.yaml_subset.specs.{declared.place.PlacedFault.PlacedFault, Inside.is_plain_byte}
 use Rattle.yaml_subset.specs.declared.fault.FaultKind.TheVariants.{NotInSubset, NotUtf8}
 use Rattle.yaml_bytes.specs.Bytes.{is_forbidden}
 use Rattle.yaml_subset.specs.Reading.{forbidden_left, utf8_front, blemish_at}
-use Rattle.yaml_subset.specs.Inside.{is_plain_byte}
 
 -- no character of a text is forbidden
 abbrev pub AreAllowed : List ℕ → Type 0

@@ -1,11 +1,8 @@
 -- What comes after the `-` of a line, as a line at its own column.
-use Rattle.std.proofs.Common.{◌≡◌, ℕ, suc, ◌+◌, List, ◌∷◌, drop, sym, ap, ◌∙◌, arith}
-use Rattle.std.proofs.lemmas.List.{drop-drop}
+use Rattle.std.proofs.{Common.{◌≡◌, ℕ, suc, ◌+◌, List, ◌∷◌, drop, sym, ap, ◌∙◌, arith}, lemmas.List.drop-drop}
 use Rattle.yaml_subset.specs.declared.line.Line as lines
 use Rattle.yaml_bytes.specs.Scanning.{spaces_len}
-use Rattle.yaml_subset.specs.TextLines.{Line}
-use Rattle.yaml_subset.specs.Reading.{inner}
-use Rattle.yaml_subset.specs.Inside.{line_view}
+use Rattle.yaml_subset.specs.{TextLines.Line, Reading.inner, Inside.line_view}
 
 pub inner_is : (l : lines.Line) (after : List ℕ) (spaces : ℕ) → drop l.indent l.raw.now ≡ 45 ∷ after → spaces ≡ spaces_len after
     → line_view (record { number = l.number; indent = l.indent + 1 + spaces; raw = l.raw }) ≡ inner (line_view l) after

@@ -1,10 +1,8 @@
 -- Reading parts one after the other, as a loop does.
 use Rattle.std.proofs.Common.{◌≡◌, ℕ, suc, ◌-◌, ◌<◌, true, false, List, [], ◌∷◌, ◌++◌, length, Result, Ok, Err, refl, sym, ap, ◌∙◌, arith}
-use Rattle.yaml_subset.specs.declared.place.PlacedFault.{PlacedFault}
-use Rattle.yaml_subset.specs.declared.place.Halt.{Halt}
+use Rattle.yaml_subset.specs.{declared.place.{PlacedFault.PlacedFault, Halt.Halt}, Placed.HaltsAs}
 use Rattle.yaml_subset.specs.declared.place.Halt.TheVariants as halts
 use Rattle.yaml_subset.proofs.Groups.{fails_then}
-use Rattle.yaml_subset.specs.Placed.{HaltsAs}
 use Rattle.yaml_subset.specs.Flow.{begins_with, start_at, behind_close_at, parted_at, parts_at, between_at}
 
 -- The parts so far, after which the others are still read: with so many parts left to read, this gives what the whole does.

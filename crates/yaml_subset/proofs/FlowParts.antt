@@ -1,14 +1,10 @@
 -- The parts of a list or mapping are what reading them from the left gives.
 use Rattle.std.proofs.Common.{rules, ◌≡◌, ◌≢◌, ℕ, zero, suc, ◌≤◌, ◌<◌, Bool, true, false, ◌&&◌, List, [], ◌∷◌, ◌++◌, length, Result, Ok, refl, sym, ap, subst, ◌∙◌, inl, inr, arith, append_assoc, length-append}
-use Rattle.std.proofs.lemmas.Bool.{eqb-true, eq-eqb, ne_eqb}
-use Rattle.std.proofs.lemmas.List.{append-nil}
+use Rattle.std.proofs.lemmas.{Bool.{eqb-true, eq-eqb, ne_eqb}, List.append-nil}
 use Rattle.yaml_subset.specs.declared.place.PlacedFault.{PlacedFault}
-use Rattle.yaml_bytes.specs.Bytes.{begins_blank, begins_gap}
-use Rattle.yaml_bytes.specs.Results.{◌>>=◌}
-use Rattle.yaml_bytes.specs.Plain.{IsBehindBlanks}
+use Rattle.yaml_bytes.specs.{Bytes.{begins_blank, begins_gap}, Results.◌>>=◌, Plain.IsBehindBlanks}
 use Rattle.yaml_subset.specs.Flow.{begins_with, IsClosed, IsParted, ArePartsTo, IsBetween, is_ended, start_at, behind_close_at, parted_at, behind_colon_at, parts_at, between_at}
-use Rattle.yaml_bytes.proofs.Steps.{bind_ok, guard_true, guard_false, ok_is}
-use Rattle.yaml_bytes.proofs.Steps.{chosen}
+use Rattle.yaml_bytes.proofs.Steps.{bind_ok, guard_true, guard_false, ok_is, chosen}
 use Rattle.yaml_bytes.proofs.PlainTexts.{is_behind_blanks, behind_blanks-is}
 
 abbrev read_to : {A : Type 0} → A → Result A PlacedFault

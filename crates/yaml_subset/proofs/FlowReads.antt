@@ -1,22 +1,14 @@
 -- A list or mapping is what reading it from the left gives, and nothing else.
 use Rattle.std.proofs.Common.{rules, ◌≡◌, ℕ, zero, suc, ◌+◌, ◌-◌, ◌≤◌, ◌<◌, ltb, true, false, cond, List, [], ◌∷◌, ◌++◌, length, take, Result, Ok, refl, sym, ap, subst, ◌∙◌, inl, inr, arith, length-append, zero-add}
-use Rattle.std.proofs.lemmas.Bool.{eqb-true, le-ltb, ltb-false}
-use Rattle.std.proofs.Math.Seq.{take-append_seam}
+use Rattle.std.proofs.{lemmas.Bool.{eqb-true, le-ltb, ltb-false}, Math.Seq.take-append_seam}
 use Rattle.yaml_subset.specs.declared.fault.FaultKind.TheVariants.{DuplicateKey, NotInSubset}
-use Rattle.yaml_subset.specs.declared.place.PlacedFault.{PlacedFault}
-use Rattle.yaml_bytes.specs.Bytes.{characters}
-use Rattle.yaml_subset.specs.Keys.{is_among}
+use Rattle.yaml_subset.{specs.declared.place.PlacedFault.PlacedFault, proofs.FlowWords.{word_begins_part, word_reads}}
+use Rattle.yaml_bytes.{specs.{Bytes.characters, Results.◌>>=◌}, proofs.Steps.{bind_ok, guard_true, guard_false, chosen}}
+use Rattle.yaml_subset.specs.{Keys.is_among, Placed.fault_at, Words.{IsWordAt, word_at}}
 use Rattle.yaml_subset.specs.Node.{Node, scalar, sequence, mapping, Pair, nodes_of, pairs_of}
-use Rattle.yaml_bytes.specs.Results.{◌>>=◌}
-use Rattle.yaml_subset.specs.Placed.{fault_at}
-use Rattle.yaml_subset.specs.Words.{IsWordAt, word_at}
 use Rattle.yaml_subset.specs.Flow.{begins_bracket, keys_of, ArePartsTo, IsBetween, IsFlowPair, IsBracketed, IsFlowValue, IsFlow, start_at, behind_colon_at, flow_pair_at, flow_list_at, flow_mapping_at, bracketed_at, flow_value_at, flow_at}
-use Rattle.yaml_subset.proofs.KeySets.{fresh_sound, fresh_complete}
-use Rattle.yaml_bytes.proofs.Steps.{bind_ok, guard_true, guard_false}
-use Rattle.yaml_bytes.proofs.Steps.{chosen}
-use Rattle.yaml_subset.proofs.WordTexts.{word_parts}
+use Rattle.yaml_subset.proofs.{KeySets.{fresh_sound, fresh_complete}, WordTexts.word_parts}
 use Rattle.yaml_subset.proofs.FlowParts.{part_is, BeginsPart, Reads, part_goes_on, start_sound, start_complete, behind_shorter, colon_sound, colon_complete, closes_list, closes_mapping, between_sound, between_complete, between_shorter}
-use Rattle.yaml_subset.proofs.FlowWords.{word_begins_part, word_reads}
 
 abbrev pub ValueReader : Type 0
 ValueReader = List ℕ → Result (Node × List ℕ) PlacedFault
@@ -231,11 +223,3 @@ added_levels (suc k) levels n text t rest h =
 
 pub more_flow_levels : (levels limit n : ℕ) (text : List ℕ) (t : Node) (rest : List ℕ) → levels ≤ limit → IsFlow levels n text t rest → IsFlow limit n text t rest
 more_flow_levels levels limit n text t rest le h = subst (λ m. IsFlow m n text t rest) (let e : limit - levels + levels ≡ limit = omega arith in e) (added_levels (limit - levels) levels n text t rest h)
-
--- a text begins with one list or mapping, however many levels are allowed
-pub one_flow : (levels limit n : ℕ) (text : List ℕ) (t u : Node) (rest other : List ℕ) → IsFlow levels n text t rest → IsFlow limit n text u other → (t ≡ u) × (rest ≡ other)
-one_flow levels limit n text t u rest other h k =
-    let a = flow_complete (levels + limit) n text t rest (more_flow_levels levels (levels + limit) n text t rest (omega arith) h) in
-    let b = flow_complete (levels + limit) n text u other (more_flow_levels limit (levels + limit) n text u other (omega arith) k) in
-    let q = part_is (t, rest) (u, other) (sym a ∙ b) in
-    (ap (λ (z : Node × List ℕ). z.0) q, ap (λ (z : Node × List ℕ). z.1) q)

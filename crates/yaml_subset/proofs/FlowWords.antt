@@ -1,10 +1,7 @@
 -- Words in flow, as parts of a list or mapping.
-use Rattle.std.proofs.Common.{rules, ◌≡◌, ℕ, ◌≤◌, true, false, List, length, Ok, arith}
-use Rattle.std.proofs.lemmas.Bool.{ne_eqb}
-use Rattle.yaml_subset.specs.Words.{IsWordAt, word_at}
-use Rattle.yaml_subset.specs.Flow.{begins_bracket}
+use Rattle.std.proofs.{Common.{rules, ◌≡◌, ℕ, ◌≤◌, true, false, List, length, Ok, arith}, lemmas.Bool.ne_eqb}
+use Rattle.yaml_subset.{specs.{Words.{IsWordAt, word_at}, Flow.begins_bracket}, proofs.FlowParts.{BeginsPart, Reads}}
 use Rattle.yaml_subset.proofs.WordTexts.{word_sound, word_complete, word_begins, word_shorter}
-use Rattle.yaml_subset.proofs.FlowParts.{BeginsPart, Reads}
 
 pub word_begins_part : (text value rest : List ℕ) → IsWordAt true text value rest → BeginsPart text × (begins_bracket text ≡ false)
 word_begins_part text value rest h = search (rules, word_begins, ne_eqb)

@@ -1,17 +1,11 @@
 -- Groups of lines, and the loop over them.
 use Rattle.std.proofs.Common.{rules, ◌≡◌, ℕ, zero, suc, ◌+◌, ◌-◌, ◌≤◌, Bool, ◌||◌, List, [], ◌∷◌, ◌++◌, length, take, drop, Option, Result, Ok, refl, ap, subst, ◌∙◌, arith, append_assoc, get_or}
 use Rattle.std.specs.Str.{bytes_eq}
-use Rattle.std.proofs.lemmas.List.{append-nil, length-drop, drop-drop, drop_all}
-use Rattle.std.proofs.Math.Seq.{drop-cons, take-length}
-use Rattle.yaml_subset.specs.declared.place.PlacedFault.{PlacedFault}
-use Rattle.yaml_subset.specs.declared.place.Halt.{Halt}
+use Rattle.std.proofs.{lemmas.List.{append-nil, length-drop, drop-drop, drop_all}, Math.Seq.{drop-cons, take-length}}
+use Rattle.yaml_subset.specs.declared.place.{PlacedFault.PlacedFault, Halt.Halt}
 use Rattle.yaml_subset.specs.declared.line.Line as lines
-use Rattle.yaml_subset.specs.Node.{Node, Pair}
-use Rattle.yaml_subset.specs.TextLines.{Line}
-use Rattle.yaml_subset.specs.TreeOf.{Group}
-use Rattle.yaml_subset.specs.Placed.{HaltsAs}
-use Rattle.yaml_subset.specs.Inside.{line_view, lines_view}
-use Rattle.yaml_subset.specs.Keys.{is_among}
+use Rattle.yaml_subset.specs.{Node.{Node, Pair}, TreeOf.Group, Keys.is_among}
+use Rattle.yaml_subset.specs.{TextLines.Line, Placed.HaltsAs, Inside.{line_view, lines_view}}
 use Rattle.yaml_bytes.specs.Results.{◌>>=◌}
 use Rattle.yaml_subset.specs.Reading.{key_at, BlockReader, chunks, groups_of, hanging_len, pair_from, pair_at, pairs_at, sequence_item_at, sequence_items_at}
 

@@ -1,19 +1,11 @@
 -- What a line is read as is what it is.
 use Rattle.std.proofs.Common.{rules, ◌≡◌, ℕ, ◌+◌, ◌-◌, ◌≤◌, ltb, true, false, ◌&&◌, List, ◌∷◌, ◌++◌, length, take, Option, Some, None, Result, Ok, refl, sym, ap, subst, ◌∙◌, ◌⊎◌, inl, inr, arith}
-use Rattle.std.proofs.lemmas.Bool.{le-ltb, ltb-false}
-use Rattle.std.proofs.lemmas.List.{length-append}
-use Rattle.std.proofs.Math.Seq.{take-append_seam}
-use Rattle.yaml_subset.specs.declared.place.PlacedFault.{PlacedFault}
-use Rattle.yaml_subset.specs.declared.fault.FaultKind.TheVariants.{Flow}
+use Rattle.std.proofs.{lemmas.{Bool.{le-ltb, ltb-false}, List.length-append}, Math.Seq.take-append_seam}
+use Rattle.yaml_subset.specs.declared.{place.PlacedFault.PlacedFault, fault.FaultKind.TheVariants.Flow}
 use Rattle.yaml_bytes.specs.Bytes.{is_mark, begins_blank, begins_gap, begins_item, is_over, characters}
-use Rattle.yaml_subset.specs.Node.{Node, scalar}
-use Rattle.yaml_bytes.specs.Results.{◌>>=◌}
-use Rattle.yaml_bytes.specs.Plain.{ends_word}
-use Rattle.yaml_subset.specs.Values.{IsKey, IsShortKey, IsNode, IsInline}
-use Rattle.yaml_subset.specs.Words.{IsWordAt, word_at}
-use Rattle.yaml_subset.specs.Flow.{IsFlow, begins_bracket, flow_at}
-use Rattle.yaml_bytes.specs.Scanning.{behind_dash, before_colon}
-use Rattle.yaml_subset.specs.TreeOf.{IsDash}
+use Rattle.yaml_subset.specs.{Node.{Node, scalar}, Words.{IsWordAt, word_at}, TreeOf.IsDash}
+use Rattle.yaml_bytes.specs.{Results.◌>>=◌, Plain.ends_word, Scanning.{behind_dash, before_colon}}
+use Rattle.yaml_subset.specs.{Values.{IsKey, IsShortKey, IsNode, IsInline}, Flow.{IsFlow, begins_bracket, flow_at}}
 use Rattle.yaml_subset.specs.Reading.{Head, item, entry, alone, word_head, flow_head, text_head, head_from, head_at, key_in, key_from, key_at, node_from, inline_at}
 use Rattle.yaml_bytes.proofs.Steps.{bind_ok, guard_true, chosen, ok_is}
 use Rattle.yaml_bytes.proofs.PlainTexts.{is_behind_blanks, behind_blanks-is}

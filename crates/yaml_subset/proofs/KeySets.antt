@@ -1,26 +1,13 @@
 -- A set of keys, by their bytes.
 use Rattle.std.proofs.Common.{rules, is_eq, ◌≡◌, ℕ, Bool, true, false, cond, ◌||◌, List, [], ◌∷◌, ◌++◌, map, refl, sym, ap, ◌∙◌, arith}
-use Rattle.std.specs.Bool.{Decides}
-use Rattle.std.specs.List.{list_any, Contains}
-use Rattle.std.specs.Str.{bytes_eq}
-use Rattle.std.specs.Cow.{cow_slice_items}
-use Rattle.std.specs.Ordering.{nat_cmp, match_ordering}
-use Rattle.std.specs.declared.cmp.Ordering.{Ordering}
-use Rattle.std.specs.declared.cmp.Ordering.TheVariants.{Less, Equal, Greater}
-use Rattle.std.specs.Cmp.Lexicographic.{slice_cmp}
-use Rattle.std.specs.BTreeMap.{is_at}
-use Rattle.std.specs.BTreeSet.{insert_key}
-use Rattle.std.proofs.lemmas.Bool.{le-ltb, eq-eqb, cases_Bool, both_ways}
-use Rattle.std.proofs.lemmas.Bool.Decides.{same_from_decides, Decides-by_or}
-use Rattle.std.proofs.lemmas.List.{map-append}
-use Rattle.std.proofs.lemmas.List.Elements.{Decides-contains}
-use Rattle.std.proofs.lemmas.Slice.Eq.{bytes_eq-Decides}
-use Rattle.std.proofs.lemmas.Map.Lookups.{exact_bytes}
-use Rattle.yaml_subset.specs.Flow.{keys_of}
-use Rattle.yaml_subset.specs.Keys.{is_among}
-use Rattle.yaml_subset.specs.View.{pair_view}
-use Rattle.yaml_subset.specs.declared.tree.Key.{Key}
-use Rattle.yaml_subset.specs.declared.tree.Tree.{Tree}
+use Rattle.std.specs.{Bool.Decides, Str.bytes_eq, Cmp.Lexicographic.slice_cmp}
+use Rattle.std.specs.{List.{list_any, Contains}, Cow.cow_slice_items}
+use Rattle.std.specs.{Ordering.{nat_cmp, match_ordering}, BTreeMap.is_at, BTreeSet.insert_key}
+use Rattle.std.specs.declared.cmp.Ordering.{Ordering, TheVariants.{Less, Equal, Greater}}
+use Rattle.std.proofs.lemmas.Bool.{le-ltb, eq-eqb, cases_Bool, both_ways, Decides.{same_from_decides, Decides-by_or}}
+use Rattle.std.proofs.lemmas.List.{map-append, Elements.Decides-contains}
+use Rattle.std.proofs.lemmas.{Slice.Eq.bytes_eq-Decides, Map.Lookups.exact_bytes}
+use Rattle.yaml_subset.specs.{Flow.keys_of, Keys.is_among, View.pair_view, declared.tree.{Key.Key, Tree.Tree}}
 
 nat_cmp-same : (x : ℕ) → nat_cmp x x ≡ Equal
 nat_cmp-same x = rw (le-ltb x x (omega arith), eq-eqb x x refl) refl

@@ -1,12 +1,9 @@
 -- More levels change nothing, so lines have one tree.
 use Rattle.std.proofs.Common.{rules, ◌≡◌, ℕ, zero, suc, ◌+◌, ◌≤◌, ◌-◌, List, [], ◌∷◌, Option, None, zero-add, sym, subst, ◌∙◌, inl, inr, arith}
-use Rattle.yaml_subset.specs.Node.{Node, Pair}
-use Rattle.yaml_subset.specs.Values.{IsNode, IsInline}
-use Rattle.yaml_subset.specs.TextLines.{Line}
+use Rattle.yaml_subset.specs.{Node.{Node, Pair}, Values.{IsNode, IsInline}, TextLines.Line}
 use Rattle.yaml_subset.specs.TreeOf.{Group, IsEntryValue, ArePairs, IsMapping, IsSequenceItem, AreSequenceItems, IsSequence, IsAlone, IsBlock, ByLines, IsTree}
 use Rattle.yaml_bytes.proofs.Steps.{ok_is}
-use Rattle.yaml_subset.proofs.FlowReads.{more_flow_levels}
-use Rattle.yaml_subset.proofs.Meaning.{tree_computes}
+use Rattle.yaml_subset.proofs.{FlowReads.more_flow_levels, Meaning.tree_computes}
 
 module _ (depth limit : ℕ) (within : depth ≤ limit) where
   node_more : (n : ℕ) (text : List ℕ) (t : Node) → IsNode depth n text t → IsNode limit n text t

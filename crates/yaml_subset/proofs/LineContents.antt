@@ -1,15 +1,12 @@
 -- The lines with content are those that reading finds.
 use Rattle.std.proofs.Common.{rules, ◌≡◌, ℕ, ◌+◌, cond, List, [], ◌∷◌, ◌++◌, length, Option, Some, None, Result, Ok, refl, sym, ap, subst, ◌∙◌, inl, inr}
 use Rattle.std.specs.Option.{option_to_list}
-use Rattle.yaml_subset.specs.declared.place.PlacedFault.{PlacedFault}
-use Rattle.yaml_subset.specs.declared.fault.FaultKind.TheVariants.{NotInSubset, Tab}
+use Rattle.yaml_subset.specs.declared.{place.PlacedFault.PlacedFault, fault.FaultKind.TheVariants.{NotInSubset, Tab}}
 use Rattle.yaml_bytes.specs.Bytes.{begins_blank, is_over, is_document_marker}
-use Rattle.yaml_subset.specs.TextLines.{Line, Holds, HaveContent}
+use Rattle.yaml_subset.specs.{TextLines.{Line, Holds, HaveContent}, Placed.fault_at}
 use Rattle.yaml_bytes.specs.Scanning.{behind_blanks, spaces_len, behind_spaces}
-use Rattle.yaml_subset.specs.Placed.{fault_at}
 use Rattle.yaml_subset.specs.Reading.{content_at, blemish_at, add_line, contents_from}
-use Rattle.yaml_bytes.proofs.Steps.{guard_false, chosen, ok_is}
-use Rattle.yaml_bytes.proofs.PlainTexts.{is_behind_blanks, behind_blanks-is}
+use Rattle.yaml_bytes.proofs.{Steps.{guard_false, chosen, ok_is}, PlainTexts.{is_behind_blanks, behind_blanks-is}}
 use Rattle.yaml_bytes.proofs.Spaces.{spaces_parts, spaces_len-is, drop_spaces, blanks_are_spaces}
 use Rattle.yaml_subset.proofs.Blemishes.{clean_sound, clean_complete}
 

@@ -1,9 +1,7 @@
 -- The lines of a text, one after the other.
 use Rattle.std.proofs.Common.{rules, ◌≡◌, ℕ, suc, ◌+◌, List, ◌∷◌, ◌++◌, length, Option, Some, None, Ok, Err, append_assoc}
-use Rattle.std.specs.Borrow.{Bor}
-use Rattle.std.specs.Option.{option_to_list}
-use Rattle.yaml_subset.specs.declared.place.PlacedFault.{PlacedFault}
-use Rattle.yaml_subset.specs.TextLines.{Line}
+use Rattle.std.specs.{Borrow.Bor, Option.option_to_list}
+use Rattle.yaml_subset.specs.{declared.place.PlacedFault.PlacedFault, TextLines.Line}
 use Rattle.yaml_subset.specs.Reading.{content_at, blemish_at, contents_from}
 use Rattle.yaml_bytes.specs.Lines.{lines_after}
 

@@ -1,21 +1,16 @@
 -- The tree that lines are read as is the tree that they are, and no other.
 use Rattle.std.proofs.Common.{rules, ◌≡◌, ℕ, zero, suc, ◌+◌, ◌==◌, ltb, ◌&&◌, Bool, true, false, cond, List, [], ◌∷◌, ◌++◌, drop, length, Option, Some, None, Result, Ok, refl, sym, ap, subst, ◌∙◌, inl, inr}
 use Rattle.std.proofs.lemmas.Bool.{eqb-true, eq-eqb}
-use Rattle.yaml_subset.specs.declared.place.PlacedFault.{PlacedFault}
+use Rattle.yaml_subset.specs.{declared.place.PlacedFault.PlacedFault, Keys.is_among, TextLines.Line}
 use Rattle.yaml_subset.specs.declared.fault.FaultKind.TheVariants.{Tab, DuplicateKey, NotInSubset}
-use Rattle.yaml_bytes.specs.Bytes.{begins_blank, begins_item, is_over, characters}
+use Rattle.yaml_bytes.specs.{Bytes.{begins_blank, begins_item, is_over, characters}, Results.◌>>=◌}
 use Rattle.yaml_subset.specs.Node.{Node, scalar, sequence, nodes_of, mapping, Pair, pairs_of}
-use Rattle.yaml_subset.specs.Keys.{is_among}
-use Rattle.yaml_subset.specs.Values.{IsKey, IsInline}
+use Rattle.yaml_subset.{specs.{Values.{IsKey, IsInline}, Placed.fault_at}, proofs.KeySets.{fresh_sound, fresh_complete}}
 use Rattle.yaml_bytes.specs.Scanning.{behind_blanks, spaces_len, behind_spaces, behind_dash, before_colon}
-use Rattle.yaml_subset.specs.TextLines.{Line}
 use Rattle.yaml_subset.specs.TreeOf.{Group, AreGroups, IsEntryValue, IsPair, ArePairs, IsMapping, IsDash, IsInner, IsSequenceItem, AreSequenceItems, IsSequence, IsAlone, IsBlock, ByLines, IsTree}
-use Rattle.yaml_bytes.specs.Results.{◌>>=◌}
-use Rattle.yaml_subset.specs.Placed.{fault_at}
 use Rattle.yaml_subset.specs.Reading.{Head, item, entry, alone, head_at, key_at, inline_at, BlockReader, hangs, groups_of, misplaced, closed_at, entry_value_at, pair_from, pair_at, pairs_at, mapping_at, inner, item_with, item_from, sequence_item_at, sequence_items_at, sequence_at, block_from, deep_from, block_at, tree_at}
 use Rattle.yaml_bytes.proofs.Steps.{bind_ok, guard_true, guard_false, chosen, ok_is}
 use Rattle.yaml_bytes.proofs.PlainTexts.{is_behind_blanks, behind_blanks-is}
-use Rattle.yaml_subset.proofs.KeySets.{fresh_sound, fresh_complete}
 use Rattle.yaml_bytes.proofs.Spaces.{spaces_parts, spaces_len-is, drop_spaces, blanks_are_spaces}
 use Rattle.yaml_subset.proofs.Heads.{dash_sound, dash_complete, item_head, alone_sound, alone_complete, key_sound, key_complete, key_begins, key_no_item, key_at_sound, key_at_complete, entry_sound, entry_short, inline_sound, inline_complete}
 use Rattle.yaml_subset.proofs.Runs.{AllStand, groups_are_run, run_stands, run_is_groups}

@@ -1,16 +1,11 @@
 -- A text in quotes is what reading it from the left gives.
 use Rattle.std.proofs.Common.{rules, ◌≡◌, ◌≢◌, ℕ, suc, ◌≤◌, ◌<◌, ◌-◌, ◌==◌, Bool, true, false, List, [], ◌∷◌, ◌++◌, length, take, drop, get_or, Option, Some, Result, Ok, Err, refl, sym, ap, subst, ◌∙◌, inl, inr, arith, append_assoc}
 use Rattle.std.specs.List.{prefix_len}
-use Rattle.std.proofs.lemmas.Bool.{cases_Bool, both_ways, eqb-true, eq-eqb, ne_eqb}
-use Rattle.std.proofs.lemmas.List.{append-nil}
-use Rattle.yaml_subset.specs.declared.fault.FaultKind.TheVariants.{Quote}
-use Rattle.yaml_subset.specs.declared.place.PlacedFault.{PlacedFault}
-use Rattle.yaml_subset.specs.declared.place.Halt.{Halt}
-use Rattle.yaml_bytes.specs.Results.{◌>>=◌}
+use Rattle.std.proofs.lemmas.{Bool.{cases_Bool, both_ways, eqb-true, eq-eqb, ne_eqb}, List.append-nil}
+use Rattle.yaml_subset.specs.declared.{fault.FaultKind.TheVariants.Quote, place.{PlacedFault.PlacedFault, Halt.Halt}}
+use Rattle.yaml_bytes.{specs.Results.◌>>=◌, proofs.{Steps.ok_is, TextLines.{none_at, after_first}}}
 use Rattle.yaml_subset.specs.Placed.{fault_at, HaltsAs}
 use Rattle.yaml_subset.specs.Quoted.{IsSingleByte, unescaped, IsDoubleByte, is_itself_in_single, is_itself_in_double, IsWrittenBy, begins_single, IsSingle, IsDouble, onto_value, single_at, escape_at, double_at, double_byte_at}
-use Rattle.yaml_bytes.proofs.Steps.{ok_is}
-use Rattle.yaml_bytes.proofs.TextLines.{none_at, after_first}
 
 -- ---- after bytes that were read
 

@@ -1,8 +1,7 @@
 -- The groups of lines are those that reading makes, and no others.
 use Rattle.std.proofs.Common.{rules, ◌≡◌, ℕ, Bool, true, false, List, [], ◌∷◌, ◌++◌, refl, sym, ap, ◌∙◌}
 use Rattle.std.specs.List.{AllByRecursion}
-use Rattle.yaml_subset.specs.TextLines.{Line}
-use Rattle.yaml_subset.specs.TreeOf.{Group, Stands, AreGroups}
+use Rattle.yaml_subset.specs.{TextLines.Line, TreeOf.{Group, Stands, AreGroups}}
 use Rattle.yaml_subset.specs.Reading.{chunk_step, chunks, groups_of}
 
 -- each group begins at the indentation

@@ -1,20 +1,13 @@
 -- What a text is read as is its tree, and it has no other.
 use Rattle.std.proofs.Common.{rules, ◌≡◌, ◌≢◌, ℕ, ◌≤◌, ◌^◌, ltb, List, length, Option, None, Result, Ok, Err, IfOk, IfErr, refl, sym, ap, subst, ◌∙◌, inl, inr}
 use Rattle.std.proofs.lemmas.Bool.{cases_lt, le-ltb}
-use Rattle.yaml_subset.specs.declared.fault.Fault.{Fault}
-use Rattle.yaml_subset.specs.declared.place.PlacedFault.{PlacedFault}
-use Rattle.yaml_subset.specs.declared.fault.FaultKind.TheVariants.{TooLong}
-use Rattle.yaml_subset.specs.declared.fault.YamlFault.{YamlFault}
+use Rattle.yaml_subset.specs.declared.fault.{Fault.Fault, FaultKind.TheVariants.TooLong, YamlFault.YamlFault}
+use Rattle.yaml_subset.specs.declared.{place.PlacedFault.PlacedFault, tree.Tree.Tree}
 use Rattle.yaml_subset.specs.declared.fault.YamlFault.TheVariants as faults
-use Rattle.yaml_subset.specs.declared.tree.Tree.{Tree}
-use Rattle.yaml_subset.specs.Node.{Node}
-use Rattle.yaml_subset.specs.View.{node_view, GivesTree}
-use Rattle.yaml_bytes.specs.Lines.{lines_of}
-use Rattle.yaml_subset.specs.TreeOf.{IsTree, IsTreeOf, IsTextAbove}
+use Rattle.yaml_subset.specs.{Node.Node, View.{node_view, GivesTree}, TreeOf.{IsTree, IsTreeOf, IsTextAbove}}
+use Rattle.yaml_bytes.{specs.Lines.lines_of, proofs.Steps.guard_false}
 use Rattle.yaml_subset.specs.Reading.{tree_at, contents_from, unless, without_place, read_at}
-use Rattle.yaml_bytes.proofs.Steps.{guard_false}
-use Rattle.yaml_subset.proofs.Meaning.{tree_computes}
-use Rattle.yaml_subset.proofs.Levels.{more_levels, one_tree}
+use Rattle.yaml_subset.proofs.{Meaning.tree_computes, Levels.{more_levels, one_tree}}
 use Rattle.yaml_subset.proofs.LineContents.{contents_sound, contents_complete, one_content}
 
 abbrev ok_node : Node → Result Node PlacedFault

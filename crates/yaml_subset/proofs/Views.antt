@@ -1,11 +1,7 @@
 -- What is seen of a tree, case by case.
 use Rattle.std.proofs.Common.{◌≡◌, ℕ, List, [], ◌∷◌, map, Some, Vec, Global, refl, sym, ap, ◌∙◌}
-use Rattle.yaml_subset.specs.declared.tree.Key.{Key}
-use Rattle.yaml_subset.specs.declared.tree.Tree.{Tree}
-use Rattle.yaml_subset.specs.declared.tree.Tree.TheViews.{Map, List as ListTree}
-use Rattle.yaml_subset.specs.declared.tree.Tree.TheVariants.{rolls-Map, rolls-List}
-use Rattle.yaml_subset.specs.declared.tree.Tree.TheOpen.{Tree-F}
-use Rattle.yaml_subset.specs.declared.tree.Tree.TheFolds.{fold-roll-Tree}
+use Rattle.yaml_subset.specs.declared.tree.{Key.Key, Tree.{Tree, TheOpen.Tree-F, TheFolds.fold-roll-Tree}}
+use Rattle.yaml_subset.specs.declared.tree.Tree.{TheViews.{Map, List as ListTree}, TheVariants.{rolls-Map, rolls-List}}
 use Rattle.yaml_subset.specs.Node.{Node, mapping, sequence, Pair, pairs_of, nodes_of, list_nodes, list_pairs}
 use Rattle.yaml_subset.specs.View.{node_view, node_step, pair_step, pair_view, items_in, pairs_in}
 

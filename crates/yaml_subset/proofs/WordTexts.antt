@@ -1,12 +1,9 @@
 -- The word at the front of a text is what reading it from the left gives.
 use Rattle.std.proofs.Common.{rules, ◌≡◌, ◌≢◌, ℕ, ◌≤◌, ◌<◌, ◌==◌, ◌&&◌, Bool, true, false, cond, List, [], ◌∷◌, ◌++◌, length, drop, get_or, Result, Ok, Err, refl, sym, ap, subst, ◌∙◌, inl, inr, arith, append_assoc, length-append}
-use Rattle.std.proofs.lemmas.Bool.{eqb-true}
-use Rattle.std.proofs.Math.Seq.{drop-append_seam}
-use Rattle.yaml_subset.specs.declared.fault.FaultKind.TheVariants.{Quote, Flow}
-use Rattle.yaml_subset.specs.declared.place.PlacedFault.{PlacedFault}
-use Rattle.yaml_bytes.specs.Results.{◌>>=◌}
-use Rattle.yaml_bytes.specs.Bytes.{is_blank, begins_blank, is_flow_indicator, begins_break, is_indicator, is_mark, begins_word}
-use Rattle.yaml_bytes.specs.Plain.{IsBehindBlanks, ends_word, IsWordEnd}
+use Rattle.std.proofs.{lemmas.Bool.eqb-true, Math.Seq.drop-append_seam}
+use Rattle.yaml_subset.specs.declared.{fault.FaultKind.TheVariants.{Quote, Flow}, place.PlacedFault.PlacedFault}
+use Rattle.yaml_bytes.specs.{Results.◌>>=◌, Plain.{IsBehindBlanks, ends_word, IsWordEnd}}
+use Rattle.yaml_bytes.specs.Bytes.{is_blank, begins_blank, begins_break, is_indicator, is_mark, begins_word}
 use Rattle.yaml_bytes.specs.Scanning.{trimmed, behind_blanks, word_front, word_rest}
 use Rattle.yaml_subset.specs.Quoted.{IsSingle, IsDouble, single_at, double_at}
 use Rattle.yaml_subset.specs.Words.{breaks_flow, may_follow, IsPlainAt, IsQuotedAt, IsWordAt, misfit, plain_word_at, behind_quote, quoted_at, word_at}
@@ -121,9 +118,6 @@ word_begins flow text value rest h =
     ]
 
 -- ---- how a word goes on
-
-is_indicator-flow : (b : ℕ) → is_indicator b ≡ false → is_flow_indicator b ≡ false
-is_indicator-flow b h = search rules
 
 plain_long : (flow : Bool) (text front : List ℕ) → begins_word flow text ≡ true → IsWordEnd flow text (length front) → 1 ≤ length front
 plain_long flow text x3 begins ends = search rules

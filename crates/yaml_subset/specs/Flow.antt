@@ -5,12 +5,8 @@ use Rattle.yaml_subset.specs.declared.place.PlacedFault.{PlacedFault}
 use Rattle.yaml_subset.specs.declared.fault.FaultKind.TheVariants.{DuplicateKey, Flow, NotInSubset, TooDeep}
 use Rattle.yaml_bytes.specs.Bytes.{begins_blank, begins_gap, characters}
 use Rattle.yaml_subset.specs.Node.{Node, scalar, sequence, mapping, Pair, nodes_of, pairs_of}
-use Rattle.yaml_bytes.specs.Results.{◌>>=◌}
-use Rattle.yaml_subset.specs.Placed.{fault_at}
-use Rattle.yaml_bytes.specs.Plain.{IsBehindBlanks}
-use Rattle.yaml_subset.specs.Keys.{is_among}
-use Rattle.yaml_bytes.specs.Scanning.{behind_blanks}
-use Rattle.yaml_subset.specs.Words.{IsWordAt, word_at}
+use Rattle.yaml_bytes.specs.{Results.◌>>=◌, Plain.IsBehindBlanks, Scanning.behind_blanks}
+use Rattle.yaml_subset.specs.{Placed.fault_at, Keys.is_among, Words.{IsWordAt, word_at}}
 
 -- whether a byte comes first
 abbrev pub begins_with : ℕ → List ℕ → Bool

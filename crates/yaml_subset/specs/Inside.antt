@@ -1,18 +1,11 @@
 -- What the reader's own contracts see of the values that it passes on.
 use Rattle.std.specs.Prelude.{◌≡◌, ℕ, nat_le, ◌==◌, Bool, ◌&&◌, ◌||◌, List, map, drop, Option, Some, None, Result, Ok, Err}
-use Rattle.std.specs.Borrow.{Bor}
-use Rattle.std.specs.Cow.{cow_slice_items}
-use Rattle.std.specs.Global.{Vec, Global}
-use Rattle.std.specs.declared.borrow.CowSlice.{CowSlice}
-use Rattle.yaml_subset.specs.declared.place.PlacedFault.{PlacedFault}
+use Rattle.std.specs.{Borrow.Bor, Cow.cow_slice_items, Global.{Vec, Global}, declared.borrow.CowSlice.CowSlice}
+use Rattle.yaml_subset.specs.declared.{place.PlacedFault.PlacedFault, tree.{Key.Key, Tree.Tree}}
 use Rattle.yaml_subset.specs.declared.entry.Head as heads
 use Rattle.yaml_subset.specs.declared.line.Line as lines
-use Rattle.yaml_subset.specs.declared.tree.Key.{Key}
-use Rattle.yaml_subset.specs.declared.tree.Tree.{Tree}
-use Rattle.yaml_subset.specs.Node.{Node, Pair}
-use Rattle.yaml_subset.specs.TextLines.{Line}
+use Rattle.yaml_subset.specs.{Node.{Node, Pair}, TextLines.Line, View.{node_view, pair_view}}
 use Rattle.yaml_subset.specs.Reading.{Head, item, entry, alone}
-use Rattle.yaml_subset.specs.View.{node_view, pair_view}
 
 -- An answer, seen by view, is what reading gives; memory does not run out.
 abbrev pub GivesOrFaults : {X Y : Type 0} → (X → Y) → Result X PlacedFault → Result Y PlacedFault → Type 0

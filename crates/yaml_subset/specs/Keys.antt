@@ -1,11 +1,6 @@
 -- The keys of a mapping.
-use Rattle.std.specs.Prelude.{◌≡◌, ◌⊎◌, ℕ, Bool, List, [], map}
-use Rattle.std.specs.List.{list_any}
-use Rattle.std.specs.Str.{bytes_eq}
-use Rattle.std.specs.Cow.{cow_slice_items}
-use Rattle.std.specs.Global.{Global}
-use Rattle.std.specs.HashSet.{HashSet}
-use Rattle.std.specs.declared.borrow.CowSlice.{CowSlice}
+use Rattle.std.specs.{Prelude.{◌≡◌, ◌⊎◌, ℕ, Bool, List, [], map}, Str.bytes_eq, Cow.cow_slice_items, Global.Global}
+use Rattle.std.specs.{List.list_any, HashSet.HashSet, declared.borrow.CowSlice.CowSlice}
 
 -- whether a key is among these
 abbrev pub is_among : List (List ℕ) → List ℕ → Bool

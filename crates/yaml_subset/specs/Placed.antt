@@ -1,8 +1,6 @@
 -- Reading lines and parts of them: what it gives, or the first fault and its place.
 use Rattle.std.specs.Prelude.{◌≡◌, ℕ, Result, Ok, Err}
-use Rattle.yaml_subset.specs.declared.fault.FaultKind.{FaultKind}
-use Rattle.yaml_subset.specs.declared.place.PlacedFault.{PlacedFault}
-use Rattle.yaml_subset.specs.declared.place.Halt.{Halt}
+use Rattle.yaml_subset.specs.declared.{fault.FaultKind.FaultKind, place.{PlacedFault.PlacedFault, Halt.Halt}}
 use Rattle.yaml_subset.specs.declared.place.Halt.TheVariants as halts
 
 -- a fault on the line n where so many bytes of the line are left

@@ -1,7 +1,6 @@
 -- Texts in quotes, as they are on a line after the opening quote.
 use Rattle.std.specs.Prelude.{◌≡◌, ◌≢◌, ℕ, Bool, false, not, ◌||◌, List, [], ◌∷◌, ◌++◌, length, Option, Some, None, Result, Ok, Err, if◌then◌else◌, ◌==◌, ◌⊎◌}
-use Rattle.yaml_subset.specs.declared.fault.FaultKind.TheVariants.{Quote}
-use Rattle.yaml_subset.specs.declared.place.PlacedFault.{PlacedFault}
+use Rattle.yaml_subset.specs.declared.{fault.FaultKind.TheVariants.Quote, place.PlacedFault.PlacedFault}
 use Rattle.yaml_subset.specs.Placed.{fault_at}
 
 -- ---- what is in quotes

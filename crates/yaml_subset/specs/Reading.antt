@@ -1,23 +1,14 @@
 -- Reading a text from its first line to its last, with the first fault that is met.
 use Rattle.std.specs.Prelude.{ℕ, zero, suc, ◌+◌, ◌-◌, ◌^◌, Bool, true, false, ◌&&◌, ◌||◌, List, [], ◌∷◌, ◌++◌, take, length, Option, Some, None, Result, Ok, Err, nat_lt, ◌==◌, if◌then◌else◌}
-use Rattle.std.specs.Str.{chars, encode_utf8_all}
-use Rattle.std.specs.Str.Lossy.{utf8_valid_len}
-use Rattle.std.specs.Option.{option_to_list}
-use Rattle.yaml_subset.specs.declared.fault.Fault.{Fault}
-use Rattle.yaml_subset.specs.declared.place.PlacedFault.{PlacedFault}
-use Rattle.yaml_subset.specs.declared.fault.FaultKind.{FaultKind}
+use Rattle.std.specs.{Str.{chars, encode_utf8_all, Lossy.utf8_valid_len}, Option.option_to_list}
+use Rattle.yaml_subset.specs.declared.{fault.{Fault.Fault, FaultKind.FaultKind}, place.PlacedFault.PlacedFault}
 use Rattle.yaml_subset.specs.declared.fault.FaultKind.TheVariants.{NotUtf8, Tab, Indent, DuplicateKey, Flow, NotInSubset, TooDeep, TooLong}
-use Rattle.yaml_subset.specs.Keys.{is_among}
+use Rattle.yaml_subset.specs.{Keys.is_among, Words.word_at, Flow.{begins_bracket, flow_at}}
 use Rattle.yaml_bytes.specs.Bytes.{begins_blank, is_over, is_document_marker, characters, is_forbidden}
-use Rattle.yaml_bytes.specs.Results.{◌>>=◌}
-use Rattle.yaml_subset.specs.Placed.{fault_at}
+use Rattle.yaml_bytes.specs.{Results.◌>>=◌, Lines.lines_of}
+use Rattle.yaml_subset.specs.{Placed.fault_at, TextLines.Line, TreeOf.{Group, is_deeper, hangs_from_entry}}
 use Rattle.yaml_subset.specs.Node.{Node, scalar, sequence, nodes_of, mapping, no_pairs, Pair, pairs_of}
 use Rattle.yaml_bytes.specs.Scanning.{behind_blanks, spaces_len, behind_spaces, behind_dash, before_colon}
-use Rattle.yaml_subset.specs.Words.{word_at}
-use Rattle.yaml_subset.specs.Flow.{begins_bracket, flow_at}
-use Rattle.yaml_bytes.specs.Lines.{lines_of}
-use Rattle.yaml_subset.specs.TextLines.{Line}
-use Rattle.yaml_subset.specs.TreeOf.{Group, is_deeper, hangs_from_entry}
 
 -- a fault at the beginning of a line
 abbrev pub fault_of : {A : Type 0} → FaultKind → Line → Result A PlacedFault

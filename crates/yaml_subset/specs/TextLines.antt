@@ -1,10 +1,7 @@
 -- The lines of a text, and which of them have content.
 use Rattle.std.specs.Prelude.{◌≡◌, ℕ, ◌+◌, true, false, List, [], ◌∷◌, ◌++◌, replicate, Option, Some, None}
-use Rattle.std.specs.List.{AllByRecursion}
-use Rattle.std.specs.Option.{option_to_list}
-use Rattle.std.specs.Str.{IsUtf8, chars}
-use Rattle.yaml_bytes.specs.Bytes.{begins_blank, is_over, is_document_marker, is_forbidden}
-use Rattle.yaml_bytes.specs.Plain.{IsBehindBlanks}
+use Rattle.std.specs.{List.AllByRecursion, Option.option_to_list, Str.{IsUtf8, chars}}
+use Rattle.yaml_bytes.specs.{Bytes.{begins_blank, is_over, is_document_marker, is_forbidden}, Plain.IsBehindBlanks}
 
 -- a line with content: its number, its indentation, and what comes after the spaces at its front
 pub record Line : Type 0 where

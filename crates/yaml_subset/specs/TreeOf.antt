@@ -1,11 +1,9 @@
 -- What a text says: the tree of its lines.
 use Rattle.std.specs.Prelude.{◌≡◌, ℕ, zero, suc, ◌<◌, ◌+◌, ◌^◌, nat_lt, ◌==◌, Bool, true, false, ◌&&◌, ◌||◌, List, [], ◌∷◌, ◌++◌, length, replicate, Option, Some, None, ◌⊎◌}
 use Rattle.std.specs.List.{Contains, AllByRecursion}
-use Rattle.yaml_bytes.specs.Bytes.{begins_gap, begins_item}
+use Rattle.yaml_bytes.specs.{Bytes.{begins_gap, begins_item}, Lines.lines_of}
 use Rattle.yaml_subset.specs.Node.{Node, scalar, sequence, nodes_of, mapping, no_pairs, Pair, pairs_of}
-use Rattle.yaml_subset.specs.Values.{IsKey, IsShortKey, IsInline, IsNode}
-use Rattle.yaml_bytes.specs.Lines.{lines_of}
-use Rattle.yaml_subset.specs.TextLines.{Line, HaveContent}
+use Rattle.yaml_subset.specs.{Values.{IsKey, IsShortKey, IsInline, IsNode}, TextLines.{Line, HaveContent}}
 
 -- a line of a block, and the lines that hang from it
 pub record Group : Type 0 where

@@ -1,10 +1,7 @@
 -- What is on a line of a block: keys and values.
 use Rattle.std.specs.Prelude.{◌≡◌, ℕ, ◌≤◌, true, false, List, ◌∷◌, ◌++◌, Option, Some, None, ◌⊎◌}
-use Rattle.yaml_bytes.specs.Bytes.{is_over, characters}
-use Rattle.yaml_subset.specs.Node.{Node, scalar}
-use Rattle.yaml_bytes.specs.Plain.{IsBehindBlanks}
-use Rattle.yaml_subset.specs.Words.{IsWordAt}
-use Rattle.yaml_subset.specs.Flow.{IsFlow}
+use Rattle.yaml_bytes.specs.{Bytes.{is_over, characters}, Plain.IsBehindBlanks}
+use Rattle.yaml_subset.specs.{Node.{Node, scalar}, Words.IsWordAt, Flow.IsFlow}
 
 -- `KEY:`, and what comes after it
 abbrev pub IsKey : List ℕ → List ℕ → List ℕ → Type 0

@@ -1,13 +1,9 @@
 -- What contracts see of a tree, and of an answer.
-use Rattle.std.specs.Prelude.{◌≡◌, ℕ, List, map, Option, Some, None, Result, Ok, Err}
-use Rattle.std.specs.Cow.{cow_slice_items}
+use Rattle.std.specs.{Prelude.{◌≡◌, ℕ, List, map, Option, Some, None, Result, Ok, Err}, Cow.cow_slice_items}
 pub use Rattle.yaml_bytes.specs.View.{option_slice}
-use Rattle.yaml_subset.specs.declared.fault.Fault.{Fault}
-use Rattle.yaml_subset.specs.declared.fault.YamlFault.{YamlFault}
+use Rattle.yaml_subset.specs.declared.fault.{Fault.Fault, YamlFault.YamlFault}
 use Rattle.yaml_subset.specs.declared.fault.YamlFault.TheVariants as faults
-use Rattle.yaml_subset.specs.declared.tree.Key.{Key}
-use Rattle.yaml_subset.specs.declared.tree.Tree.{Tree, fold-Tree}
-use Rattle.yaml_subset.specs.declared.tree.Tree.TheOpen.{Tree-F}
+use Rattle.yaml_subset.specs.declared.tree.{Key.Key, Tree.{Tree, fold-Tree, TheOpen.Tree-F}}
 use Rattle.yaml_subset.specs.Node.{Node, scalar, sequence, mapping, Pair, nodes_of, list_nodes, pairs_of, list_pairs}
 
 -- one level of a tree, each value in it seen already

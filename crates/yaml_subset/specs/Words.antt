@@ -1,12 +1,9 @@
 -- Words: the keys and scalars of a line, plain or in quotes, in blocks and in flow.
 use Rattle.std.specs.Prelude.{◌≡◌, ℕ, Bool, true, false, ◌&&◌, ◌||◌, List, [], ◌∷◌, length, Result, Ok, if◌then◌else◌, ◌==◌, ◌⊎◌}
-use Rattle.yaml_subset.specs.declared.fault.FaultKind.{FaultKind}
-use Rattle.yaml_subset.specs.declared.fault.FaultKind.TheVariants.{Quote, Flow, NotInSubset}
-use Rattle.yaml_subset.specs.declared.place.PlacedFault.{PlacedFault}
+use Rattle.yaml_subset.specs.declared.fault.FaultKind.{FaultKind, TheVariants.{Quote, Flow, NotInSubset}}
+use Rattle.yaml_subset.specs.{declared.place.PlacedFault.PlacedFault, Placed.fault_at}
 use Rattle.yaml_bytes.specs.Bytes.{begins_blank, begins_gap, is_flow_indicator, begins_flow_indicator, begins_bare_colon, is_mark, begins_word}
-use Rattle.yaml_bytes.specs.Results.{◌>>=◌}
-use Rattle.yaml_subset.specs.Placed.{fault_at}
-use Rattle.yaml_bytes.specs.Plain.{IsBehindBlanks, IsPlainWord}
+use Rattle.yaml_bytes.specs.{Results.◌>>=◌, Plain.{IsBehindBlanks, IsPlainWord}}
 use Rattle.yaml_bytes.specs.Scanning.{trimmed, behind_blanks, word_front, word_rest}
 use Rattle.yaml_subset.specs.Quoted.{IsSingle, IsDouble, single_at, double_at}
 

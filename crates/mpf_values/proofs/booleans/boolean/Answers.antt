@@ -1,7 +1,5 @@
-use Rattle.mpf_values.specs.Booleans.{IsBoolean}
-use Rattle.mpf_values.specs.Reading.{boolean_at}
-use Rattle.mpf_values.proofs.Computing.{is_found, is_only, is_refused}
-use Rattle.mpf_values.proofs.BooleanTexts.{boolean_computes}
+use Rattle.mpf_values.specs.{Booleans.IsBoolean, Reading.boolean_at}
+use Rattle.mpf_values.proofs.{Computing.{is_found, is_only, is_refused}, BooleanTexts.boolean_computes}
 use Rattle.mpf_values.proofs.booleans.boolean.Goals as goal
 
 pub returns-clause-found : goal.returns-clause-found

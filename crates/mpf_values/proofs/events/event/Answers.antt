@@ -1,8 +1,5 @@
-use Rattle.mpf_values.specs.Events.{IsEvent}
-use Rattle.mpf_values.specs.Reading.{event_at}
-use Rattle.mpf_values.specs.View.{event_view}
-use Rattle.mpf_values.proofs.Computing.{is_found, is_only, is_refused}
-use Rattle.mpf_values.proofs.EventTexts.{event_computes}
+use Rattle.mpf_values.specs.{Events.IsEvent, Reading.event_at, View.event_view}
+use Rattle.mpf_values.proofs.{Computing.{is_found, is_only, is_refused}, EventTexts.event_computes}
 use Rattle.mpf_values.proofs.events.event.Goals as goal
 
 pub returns-clause-found : goal.returns-clause-found

@@ -1,7 +1,5 @@
-use Rattle.mpf_values.specs.Integers.{IsInteger}
-use Rattle.mpf_values.specs.Reading.{integer_at}
-use Rattle.mpf_values.proofs.Computing.{is_found, is_only, is_refused}
-use Rattle.mpf_values.proofs.IntegerTexts.{integer_computes}
+use Rattle.mpf_values.specs.{Integers.IsInteger, Reading.integer_at}
+use Rattle.mpf_values.proofs.{Computing.{is_found, is_only, is_refused}, IntegerTexts.integer_computes}
 use Rattle.mpf_values.proofs.integers.integer.Goals as goal
 
 pub returns-clause-found : goal.returns-clause-found

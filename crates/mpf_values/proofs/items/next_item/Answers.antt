@@ -1,4 +1,4 @@
-use Rattle.std.proofs.Common.{sym, ◌∙◌}
+use Rattle.std.proofs.Common.{rules, sym, ◌∙◌}
 use Rattle.mpf_values.proofs.ListItems.{no_item, first_item, first_is_shorter}
 use Rattle.mpf_values.proofs.items.next_item.Goals as goal
 
@@ -6,11 +6,7 @@ pub returns-then-is_empty-clause-items : goal.returns-then-is_empty-clause-items
 returns-then-is_empty-clause-items c = no_item c.args.text.now c.behind_separators-rest.result.now c.behind_separators-rest.ensures.value (sym c.is_empty.ensures ∙ c.if-is_empty.true)
 
 pub returns-clause-items : goal.returns-clause-items
-returns-clause-items c =
-    first_item c.args.text.now c.behind_separators-rest.result.now c.split_at.result.0.now c.split_at.result.1.now c.item_len.result
-    c.behind_separators-rest.ensures.value (sym c.is_empty.ensures ∙ c.if-is_empty.false) c.item_len.ensures.value c.split_at.ensures.front c.split_at.ensures.back
+returns-clause-items c = search (rules, first_item)
 
 pub returns-clause-shorter : goal.returns-clause-shorter
-returns-clause-shorter c =
-    first_is_shorter c.args.text.now c.behind_separators-rest.result.now c.split_at.result.1.now c.item_len.result
-    c.behind_separators-rest.ensures.value (sym c.is_empty.ensures ∙ c.if-is_empty.false) c.item_len.ensures.value c.behind_separators-rest.ensures.shorter c.split_at.ensures.back_len
+returns-clause-shorter c = search (rules, first_is_shorter)

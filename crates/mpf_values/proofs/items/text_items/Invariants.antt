@@ -1,7 +1,5 @@
 use Rattle.std.proofs.Common.{◌≡◌, ◌++◌, length, map}
-use Rattle.mpf_values.specs.Lists.{item_at}
-use Rattle.mpf_values.specs.Reading.{items_of}
-use Rattle.mpf_values.specs.View.{items_view}
+use Rattle.mpf_values.specs.{Lists.item_at, Reading.items_of, View.items_view}
 use Rattle.mpf_values.proofs.items.text_items.Given as goal
 
 abbrev pub invariant-loop-item : goal.invariant-loop-item

@@ -1,6 +1,5 @@
 use Rattle.yaml_subset.specs.View.{node_view}
-use Rattle.mpf_values.specs.View.{items_view}
-use Rattle.mpf_values.proofs.ListNodes.{list_found, list_only, list_refused}
+use Rattle.mpf_values.{specs.View.items_view, proofs.ListNodes.{list_found, list_only, list_refused}}
 use Rattle.mpf_values.proofs.lists.list.Goals as goal
 
 pub returns-clause-found : goal.returns-clause-found

@@ -1,9 +1,7 @@
-use Rattle.std.proofs.Common.{◌≡◌, ◌+◌, not, [], ◌∷◌, ◌++◌, drop, map, refl, sym, ap, ◌∙◌}
+use Rattle.std.proofs.Common.{rules, ◌≡◌, ◌+◌, not, [], ◌∷◌, ◌++◌, drop, map, refl, sym, ap, ◌∙◌}
 use Rattle.std.proofs.lemmas.List.{map_push}
 use Rattle.yaml_subset.specs.View.{node_view, line_of}
-use Rattle.mpf_values.specs.Lists.{item_at}
-use Rattle.mpf_values.specs.Reading.{scalars_at}
-use Rattle.mpf_values.specs.View.{item_view, items_view}
+use Rattle.mpf_values.specs.{Lists.item_at, Reading.scalars_at, View.{item_view, items_view}}
 use Rattle.mpf_values.proofs.ListNodes.{node_item, no_item, adds, skips, fails, is_done, nodes_at, none_behind}
 use Rattle.mpf_values.proofs.lists.scalar_items.Goals.{then-not-is_empty+in_ok-push, else-not-is_empty}
 use Rattle.mpf_values.proofs.lists.scalar_items.Goals as goal
@@ -40,7 +38,4 @@ loop-node-preserved c =
     ]
 
 pub returns : goal.returns
-returns c =
-    let nodes = c.args.nodes.now in
-    is_done (items_view c.loop-node.items.items) (map node_view (drop c.loop-node.node-index nodes)) (scalars_at (map node_view nodes))
-    (none_behind nodes c.loop-node.node-index c.loop-node-test.false) c.loop-node.invariant
+returns c = search (rules, is_done, none_behind)

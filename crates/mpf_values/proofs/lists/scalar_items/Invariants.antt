@@ -1,8 +1,6 @@
 use Rattle.std.proofs.Common.{◌≡◌, drop, map}
 use Rattle.yaml_subset.specs.View.{node_view}
-use Rattle.mpf_values.specs.Reading.{scalars_at}
-use Rattle.mpf_values.specs.View.{items_view}
-use Rattle.mpf_values.proofs.ListNodes.{with_front}
+use Rattle.mpf_values.{specs.{Reading.scalars_at, View.items_view}, proofs.ListNodes.with_front}
 use Rattle.mpf_values.proofs.lists.scalar_items.Given as goal
 
 abbrev pub invariant-loop-node : goal.invariant-loop-node

@@ -1,7 +1,5 @@
-use Rattle.mpf_values.specs.Powers.{IsPower}
-use Rattle.mpf_values.specs.Reading.{power_at}
-use Rattle.mpf_values.proofs.Computing.{is_found, is_only, is_refused}
-use Rattle.mpf_values.proofs.PowerTexts.{power_computes}
+use Rattle.mpf_values.specs.{Powers.IsPower, Reading.power_at}
+use Rattle.mpf_values.proofs.{Computing.{is_found, is_only, is_refused}, PowerTexts.power_computes}
 use Rattle.mpf_values.proofs.powers.power.Goals as goal
 
 pub returns-clause-found : goal.returns-clause-found

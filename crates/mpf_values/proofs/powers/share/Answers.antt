@@ -1,5 +1,4 @@
-use Rattle.std.proofs.Common.{rules, arith}
-use Rattle.std.proofs.lemmas.Grind.{common_steps}
+use Rattle.std.proofs.{Common.{rules, arith}, lemmas.Grind.common_steps}
 use Rattle.mpf_values.specs.Reading.{share_at}
 use Rattle.mpf_values.proofs.powers.share.Goals as goal
 

@@ -1,7 +1,5 @@
-use Rattle.mpf_values.specs.Times.{IsTime}
-use Rattle.mpf_values.specs.Reading.{time_at}
-use Rattle.mpf_values.proofs.Computing.{is_found, is_only, is_refused}
-use Rattle.mpf_values.proofs.TimeTexts.{time_computes}
+use Rattle.mpf_values.specs.{Times.IsTime, Reading.time_at}
+use Rattle.mpf_values.proofs.{Computing.{is_found, is_only, is_refused}, TimeTexts.time_computes}
 use Rattle.mpf_values.proofs.times.time.Goals as goal
 
 pub returns-clause-found : goal.returns-clause-found

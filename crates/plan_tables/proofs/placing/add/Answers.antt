@@ -1,6 +1,4 @@
-use Rattle.std.proofs.Common.{rules, ◌<◌, length, sym, ap, subst, ◌∙◌}
-use Rattle.std.specs.Prelude.{IfSome}
-use Rattle.plan_tables.specs.Inside.{added, lists_view}
+use Rattle.std.proofs.Common.{rules}
 use Rattle.plan_tables.proofs.ListsBy.{lists_pushed}
 use Rattle.plan_tables.proofs.placing.add.Goals as goal
 

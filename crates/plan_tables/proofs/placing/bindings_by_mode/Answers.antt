@@ -1,8 +1,6 @@
-use Rattle.std.proofs.Common.{rules, ◌≡◌, length, get_or, refl, sym, ap, subst, ◌∙◌, arith}
-use Rattle.std.proofs.lemmas.List.{get_or_default}
+use Rattle.std.proofs.{Common.{rules, ◌≡◌, get_or, refl, ap, ◌∙◌}, lemmas.List.get_or_default}
 use Rattle.plan_tables.specs.PlanView.{no_binding}
-use Rattle.plan_tables.specs.Inside.{lists_view}
-use Rattle.plan_tables.proofs.ListsBy.{BindingsListed, binding_mode, binding_number, listed_none, item_listed, mode_bindings_whole}
+use Rattle.plan_tables.proofs.ListsBy.{binding_mode, binding_number, listed_none, item_listed, mode_bindings_whole}
 use Rattle.plan_tables.proofs.placing.bindings_by_mode.Goals as goal
 
 pub loop-place-init : goal.loop-place-init

@@ -1,8 +1,6 @@
-use Rattle.std.proofs.Common.{rules, ◌≡◌, ◌+◌, length, get_or, refl, ap, subst, ◌∙◌, arith}
-use Rattle.std.proofs.lemmas.List.{get_or_default}
+use Rattle.std.proofs.{Common.{rules, ◌≡◌, ◌+◌, length, get_or, refl, ap, ◌∙◌}, lemmas.List.get_or_default}
 use Rattle.plan_tables.specs.PlanView.{no_row}
-use Rattle.plan_tables.specs.Inside.{lists_view}
-use Rattle.plan_tables.proofs.ListsBy.{RowsListed, row_target, row_number, listed_none, item_listed, feeders_whole}
+use Rattle.plan_tables.proofs.ListsBy.{row_target, row_number, listed_none, item_listed, feeders_whole}
 use Rattle.plan_tables.proofs.placing.feeders_by_target.Goals as goal
 
 pub loop-number-init : goal.loop-number-init

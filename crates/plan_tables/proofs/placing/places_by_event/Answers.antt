@@ -1,7 +1,5 @@
-use Rattle.std.proofs.Common.{rules, map, sym, ◌∙◌, subst, arith}
-use Rattle.std.proofs.lemmas.List.{length-set, take_all}
-use Rattle.plan_tables.specs.PlanView.{no_binding}
-use Rattle.plan_tables.proofs.Placed.{ArePlaced, placed_none, placed_pushed, placed_all}
+use Rattle.std.proofs.{Common.rules, lemmas.List.{length-set, take_all}}
+use Rattle.plan_tables.proofs.Placed.{placed_none, placed_pushed, placed_all}
 use Rattle.plan_tables.proofs.placing.places_by_event.Goals as goal
 
 pub loop-place-init : goal.loop-place-init

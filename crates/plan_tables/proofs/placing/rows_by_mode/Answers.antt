@@ -1,8 +1,6 @@
-use Rattle.std.proofs.Common.{rules, ◌≡◌, length, get_or, refl, sym, ap, subst, ◌∙◌, arith}
-use Rattle.std.proofs.lemmas.List.{get_or_default}
+use Rattle.std.proofs.{Common.{rules, ◌≡◌, get_or, refl, ap, ◌∙◌}, lemmas.List.get_or_default}
 use Rattle.plan_tables.specs.PlanView.{no_row}
-use Rattle.plan_tables.specs.Inside.{lists_view}
-use Rattle.plan_tables.proofs.ListsBy.{RowsListed, row_mode, row_number, listed_none, item_listed, mode_rows_whole}
+use Rattle.plan_tables.proofs.ListsBy.{row_mode, row_number, listed_none, item_listed, mode_rows_whole}
 use Rattle.plan_tables.proofs.placing.rows_by_mode.Goals as goal
 
 pub loop-number-init : goal.loop-number-init

@@ -1,6 +1,4 @@
-use Rattle.std.proofs.Common.{rules, ◌≡◌, length, map, drop, sym, ap, subst, ◌∙◌}
-use Rattle.std.proofs.lemmas.List.{take_at}
-use Rattle.plan_tables.specs.Inside.{mode_entry_view, AreWorksFrom, HasWorks}
+use Rattle.std.proofs.{Common.rules, lemmas.List.take_at}
 use Rattle.plan_tables.proofs.Overlaid.{works_whole}
 use Rattle.plan_tables.proofs.works.works_by_event.Goals as goal
 

@@ -1,6 +1,5 @@
-use Rattle.std.proofs.Common.{◌∷◌, ◌++◌, [], map, sym, ap, ◌∙◌, arith}
+use Rattle.std.proofs.{Common.{◌∷◌, ◌++◌, [], map, sym, ap, ◌∙◌, arith}, lemmas.List.FromFn.map-range_with_len_more}
 use Rattle.std.specs.List.{range_with_len}
-use Rattle.std.proofs.lemmas.List.FromFn.{map-range_with_len_more}
 use Rattle.plan_tables.specs.PlanView.{game_work}
 use Rattle.plan_tables.proofs.works.works_of_game.Goals as goal
 

@@ -1,5 +1,4 @@
-use Rattle.std.proofs.Common.{◌≡◌, map}
-use Rattle.std.specs.List.{range_with_len}
+use Rattle.std.{proofs.Common.{◌≡◌, map}, specs.List.range_with_len}
 use Rattle.plan_tables.specs.PlanView.{game_work}
 use Rattle.plan_tables.proofs.works.works_of_game.Given as goal
 

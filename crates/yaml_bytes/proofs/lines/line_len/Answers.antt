@@ -1,6 +1,5 @@
 use Rattle.std.proofs.Common.{◌∙◌}
-use Rattle.yaml_bytes.specs.Lines.{is_lf}
-use Rattle.yaml_bytes.proofs.Searching.{len_before}
+use Rattle.yaml_bytes.{specs.Lines.is_lf, proofs.Searching.len_before}
 use Rattle.yaml_bytes.proofs.lines.line_len.Goals as goal
 
 pub returns-clause-value : goal.returns-clause-value

@@ -1,5 +1,4 @@
-use Rattle.std.proofs.Common.{ℕ, List, sym, subst, ◌∙◌}
-use Rattle.std.specs.Str.Parse.{ParsesUnsigned}
+use Rattle.std.{proofs.Common.{ℕ, List, sym, subst, ◌∙◌}, specs.Str.Parse.ParsesUnsigned}
 use Rattle.yaml_bytes.proofs.WrittenNumbers.{digits_are_utf8, not_digits, no_fault, found_ok, parsed}
 use Rattle.yaml_bytes.proofs.numbers.number.Goals as goal
 

@@ -1,16 +1,11 @@
 use Rattle.std.proofs.Common.{◌≡◌, ℕ, ◌+◌, Bool, true, false, List, [], ◌∷◌, ◌++◌, length, map, drop, Ok, refl, inl, arith}
-use Rattle.std.proofs.lemmas.Result.{err_from_is_err_and}
-use Rattle.std.proofs.lemmas.List.{map_push}
-use Rattle.yaml_subset.specs.Node.{Pair, mapping, pairs_of, sequence, nodes_of}
-use Rattle.yaml_subset.specs.TreeOf.{Group}
+use Rattle.std.proofs.lemmas.{Result.err_from_is_err_and, List.map_push}
+use Rattle.yaml_subset.specs.{Node.{Pair, mapping, pairs_of, sequence, nodes_of}, Inside.{line_view, lines_view}}
+use Rattle.yaml_subset.specs.{TreeOf.Group, Flow.keys_of, View.{node_view, pair_view}}
 use Rattle.yaml_subset.specs.Reading.{hangs, groups_of, pairs_at, mapping_at, sequence_items_at, sequence_at, tree_at}
-use Rattle.yaml_subset.specs.Flow.{keys_of}
-use Rattle.yaml_subset.specs.View.{node_view, pair_view}
-use Rattle.yaml_subset.specs.Inside.{line_view, lines_view}
 use Rattle.yaml_subset.specs.declared.line.Line as lines
 use Rattle.yaml_subset.proofs.Groups.{groups_at, at_start, pairs_go_on, pairs_stop, pairs_done, items_go_on, items_stop, items_done, fails_then}
-use Rattle.yaml_subset.proofs.KeySets.{among-push}
-use Rattle.yaml_subset.proofs.Views.{node_view-Map, node_view-List}
+use Rattle.yaml_subset.proofs.{KeySets.among-push, Views.{node_view-Map, node_view-List}}
 use Rattle.yaml_subset.proofs.block.+block.Goals as goal
 
 abbrev group : lines.Line → List lines.Line → Group

@@ -1,10 +1,7 @@
 use Rattle.std.proofs.Common.{◌≡◌, ◌+◌, ◌*◌, ◌-◌, ◌∷◌, drop, length, map, true, false, []}
 use Rattle.yaml_subset.specs.Reading.{tree_at, hangs, pairs_at, sequence_items_at, groups_of}
-use Rattle.yaml_subset.specs.Keys.{copies_view, HasNoneOrAll}
-use Rattle.yaml_subset.specs.Flow.{keys_of}
-use Rattle.yaml_subset.specs.View.{node_view, pair_view}
-use Rattle.yaml_subset.specs.Inside.{lines_view}
-use Rattle.yaml_subset.proofs.Groups.{with_front}
+use Rattle.yaml_subset.{specs.Keys.{copies_view, HasNoneOrAll}, proofs.Groups.with_front}
+use Rattle.yaml_subset.specs.{Flow.keys_of, View.{node_view, pair_view}, Inside.lines_view}
 use Rattle.yaml_subset.proofs.block.+block.Given as goal
 
 abbrev pub decreases-block : goal.decreases-block

@@ -1,6 +1,5 @@
 use Rattle.std.proofs.Common.{◌≡◌, ◌+◌, length}
-use Rattle.yaml_subset.specs.Reading.{hangs, hanging_len}
-use Rattle.yaml_subset.specs.Inside.{lines_view}
+use Rattle.yaml_subset.specs.{Reading.{hangs, hanging_len}, Inside.lines_view}
 use Rattle.yaml_subset.proofs.block.hanging_len.Given as goal
 
 abbrev pub invariant-loop-rest : goal.invariant-loop-rest

@@ -1,5 +1,4 @@
-use Rattle.yaml_subset.specs.Reading.{hangs}
-use Rattle.yaml_subset.proofs.Groups.{chunks-split}
+use Rattle.yaml_subset.{specs.Reading.hangs, proofs.Groups.chunks-split}
 use Rattle.yaml_subset.proofs.block.split_below.Goals as goal
 
 pub returns-clause-parts : goal.returns-clause-parts

@@ -1,16 +1,10 @@
 use Rattle.std.proofs.Common.{◌≡◌, ℕ, ◌<◌, List, [], ◌∷◌, ◌++◌, length, map, Result, Ok, refl, sym, inl, ◌∙◌, arith}
-use Rattle.std.proofs.lemmas.Result.{err_from_is_err_and}
-use Rattle.std.proofs.lemmas.List.{map_push}
-use Rattle.std.specs.Cow.{cow_slice_items}
-use Rattle.yaml_subset.specs.declared.place.PlacedFault.{PlacedFault}
+use Rattle.std.{proofs.lemmas.{Result.err_from_is_err_and, List.map_push}, specs.Cow.cow_slice_items}
+use Rattle.yaml_subset.specs.{declared.place.PlacedFault.PlacedFault, View.{node_view, pair_view}}
 use Rattle.yaml_subset.specs.Node.{Node, Pair, sequence, mapping, nodes_of, pairs_of}
 use Rattle.yaml_subset.specs.Flow.{keys_of, between_at, flow_pair_at, flow_list_at, flow_mapping_at, flow_value_at, flow_at}
-use Rattle.yaml_subset.specs.View.{node_view, pair_view}
-use Rattle.yaml_subset.proofs.Views.{node_view-List, node_view-Map}
-use Rattle.yaml_subset.proofs.FlowParts.{parted_less}
-use Rattle.yaml_subset.proofs.FlowWords.{word_less}
-use Rattle.yaml_subset.proofs.FlowReads.{value_less, pair_less}
-use Rattle.yaml_subset.proofs.Groups.{fails_then}
+use Rattle.yaml_subset.proofs.{Views.{node_view-List, node_view-Map}, FlowWords.word_less, Groups.fails_then}
+use Rattle.yaml_subset.proofs.{FlowParts.parted_less, FlowReads.{value_less, pair_less}}
 use Rattle.yaml_subset.proofs.FlowLoops.{begun, begin_fails, closed, close_fails, part_fails, parted_fails, goes_on}
 use Rattle.yaml_subset.proofs.flow.+flow.Goals as goal
 

@@ -1,8 +1,6 @@
 use Rattle.std.proofs.Common.{◌+◌, ◌*◌, map, length}
-use Rattle.yaml_subset.specs.Keys.{copies_view, HasNoneOrAll}
+use Rattle.yaml_subset.{specs.{Keys.{copies_view, HasNoneOrAll}, View.{node_view, pair_view}}, proofs.FlowLoops.IsSoFar}
 use Rattle.yaml_subset.specs.Flow.{keys_of, between_at, flow_pair_at, flow_value_at, flow_at}
-use Rattle.yaml_subset.specs.View.{node_view, pair_view}
-use Rattle.yaml_subset.proofs.FlowLoops.{IsSoFar}
 use Rattle.yaml_subset.proofs.flow.+flow.Given as goal
 
 abbrev pub decreases-flow : goal.decreases-flow

@@ -1,11 +1,6 @@
-use Rattle.std.proofs.Common.{rules, tests, ◌∙◌}
-use Rattle.std.specs.Cow.{cow_slice_items}
-use Rattle.std.specs.Str.{bytes_eq}
-use Rattle.std.proofs.lemmas.Iterator.Search.{any_from_yields_List}
-use Rattle.std.proofs.lemmas.Iterator.{YieldsList-from_slice}
-use Rattle.yaml_subset.specs.declared.tree.Key.{Key}
-use Rattle.yaml_subset.specs.declared.tree.Tree.{Tree}
-use Rattle.yaml_subset.proofs.KeySets.{among_pairs}
+use Rattle.std.proofs.{Common.{rules, tests, ◌∙◌}, lemmas.Iterator.{YieldsList-from_slice, Search.any_from_yields_List}}
+use Rattle.std.specs.{Cow.cow_slice_items, Str.bytes_eq}
+use Rattle.yaml_subset.{specs.declared.tree.{Key.Key, Tree.Tree}, proofs.KeySets.among_pairs}
 use Rattle.yaml_subset.proofs.keys.has_key.Goals as goal
 
 pub returns : goal.returns

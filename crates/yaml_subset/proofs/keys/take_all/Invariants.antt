@@ -1,7 +1,5 @@
 use Rattle.std.proofs.Common.{◌≡◌, ◌||◌, ℕ, List, map, length}
-use Rattle.yaml_subset.specs.Keys.{is_among, copies_view}
-use Rattle.yaml_subset.specs.Flow.{keys_of}
-use Rattle.yaml_subset.specs.View.{pair_view}
+use Rattle.yaml_subset.specs.{Keys.{is_among, copies_view}, Flow.keys_of, View.pair_view}
 use Rattle.yaml_subset.proofs.keys.take_all.Given as goal
 
 -- what is taken and what is left together are those of before and all

@@ -1,8 +1,5 @@
-use Rattle.std.proofs.Common.{◌≡◌, ◌||◌, ◌⊎◌, ℕ, List, not, ap, ◌∙◌, inl, inr}
-use Rattle.std.specs.Cow.{cow_slice_items}
-use Rattle.std.specs.List.{AllZip}
-use Rattle.std.specs.Str.{bytes_eq}
-use Rattle.std.proofs.lemmas.List.Elements.{same_from_all_zip}
+use Rattle.std.proofs.{Common.{◌≡◌, ◌||◌, ◌⊎◌, ℕ, List, not, ap, ◌∙◌, inl, inr}, lemmas.List.Elements.same_from_all_zip}
+use Rattle.std.specs.{Cow.cow_slice_items, List.AllZip, Str.bytes_eq}
 use Rattle.yaml_subset.specs.Keys.{is_among, copies_view}
 use Rattle.yaml_subset.proofs.keys.take_copy.Goals as goal
 

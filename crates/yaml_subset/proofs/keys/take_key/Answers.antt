@@ -1,5 +1,4 @@
-use Rattle.std.proofs.Common.{not, ap, ◌∙◌}
-use Rattle.std.specs.Cow.{cow_slice_items}
+use Rattle.std.{proofs.Common.{not, ap, ◌∙◌}, specs.Cow.cow_slice_items}
 use Rattle.yaml_subset.proofs.KeySets.{hashed_key, hashed_key-among}
 use Rattle.yaml_subset.proofs.keys.take_key.Goals as goal
 

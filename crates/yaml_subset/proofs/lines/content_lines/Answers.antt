@@ -1,11 +1,7 @@
 use Rattle.std.proofs.Common.{◌≡◌, ◌<◌, Option, Some, None, List, ℕ, ◌∷◌, length, sym, ap, ◌∙◌, arith}
-use Rattle.std.specs.Borrow.{Bor}
-use Rattle.std.specs.Option.{IfSome}
-use Rattle.yaml_bytes.specs.Lines.{lines_of}
-use Rattle.yaml_subset.specs.Reading.{contents_from}
-use Rattle.yaml_bytes.specs.View.{option_slice}
-use Rattle.yaml_bytes.specs.Lines.{lines_after}
-use Rattle.yaml_subset.specs.Inside.{lines_view, line_option_view}
+use Rattle.std.specs.{Borrow.Bor, Option.IfSome}
+use Rattle.yaml_bytes.specs.{Lines.{lines_of, lines_after}, View.option_slice}
+use Rattle.yaml_subset.specs.{Reading.contents_from, Inside.{lines_view, line_option_view}}
 use Rattle.yaml_subset.proofs.LineCuts.{room, goes_on, stops, stops_behind, all_read}
 use Rattle.yaml_subset.proofs.lines.content_lines.Goals as goal
 

@@ -1,10 +1,6 @@
 use Rattle.std.proofs.Common.{◌≡◌, ◌+◌, ◌≤◌, length}
-use Rattle.yaml_bytes.specs.Lines.{lines_of}
-use Rattle.yaml_subset.specs.Reading.{contents_from}
-use Rattle.yaml_bytes.specs.View.{option_slice}
-use Rattle.yaml_bytes.specs.Lines.{lines_after}
-use Rattle.yaml_subset.specs.Inside.{lines_view}
-use Rattle.yaml_subset.proofs.LineCuts.{in_front, room}
+use Rattle.yaml_bytes.specs.{Lines.{lines_of, lines_after}, View.option_slice}
+use Rattle.yaml_subset.{specs.{Reading.contents_from, Inside.lines_view}, proofs.LineCuts.{in_front, room}}
 use Rattle.yaml_subset.proofs.lines.content_lines.Given as goal
 
 abbrev pub invariant-loop-rest : goal.invariant-loop-rest

@@ -1,8 +1,6 @@
-use Rattle.std.proofs.Common.{length, refl, sym, ◌∙◌, arith}
+use Rattle.std.proofs.{Common.{length, refl, sym, ◌∙◌, arith}, lemmas.List.{at_drop_all, length_push}}
 use Rattle.std.specs.Str.{chars}
-use Rattle.std.proofs.lemmas.Iterator.{YieldsList-from_chars}
-use Rattle.std.proofs.lemmas.Iterator.Consumers.{YieldsList-turn, YieldsList-end}
-use Rattle.std.proofs.lemmas.List.{at_drop_all, length_push}
+use Rattle.std.proofs.lemmas.Iterator.{YieldsList-from_chars, Consumers.{YieldsList-turn, YieldsList-end}}
 use Rattle.yaml_subset.specs.Reading.{forbidden_left}
 use Rattle.yaml_subset.proofs.Blemishes.{bytes_len-chars, bytes_len-step, left_found, left_step}
 use Rattle.yaml_subset.proofs.lines.forbidden_left.Goals as goal

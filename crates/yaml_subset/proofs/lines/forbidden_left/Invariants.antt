@@ -1,7 +1,5 @@
-use Rattle.std.proofs.Common.{◌≡◌, ◌≤◌, length, drop}
-use Rattle.std.specs.Str.{chars}
-use Rattle.yaml_subset.specs.Reading.{forbidden_left}
-use Rattle.yaml_subset.proofs.Blemishes.{bytes_len}
+use Rattle.std.{proofs.Common.{◌≡◌, ◌≤◌, length, drop}, specs.Str.chars}
+use Rattle.yaml_subset.{specs.Reading.forbidden_left, proofs.Blemishes.bytes_len}
 use Rattle.yaml_subset.proofs.lines.forbidden_left.Given as goal
 
 abbrev pub invariant-loop-c : goal.invariant-loop-c

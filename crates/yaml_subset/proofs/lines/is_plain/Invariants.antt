@@ -1,5 +1,4 @@
-use Rattle.std.proofs.Common.{◌≡◌, ◌&&◌, length}
-use Rattle.std.specs.List.{list_all}
+use Rattle.std.{proofs.Common.{◌≡◌, ◌&&◌, length}, specs.List.list_all}
 use Rattle.yaml_subset.specs.Inside.{is_plain_byte}
 use Rattle.yaml_subset.proofs.lines.is_plain.Given as goal
 

@@ -1,6 +1,5 @@
 use Rattle.std.proofs.Common.{◌≡◌, length}
-use Rattle.yaml_subset.specs.Quoted.{double_at}
-use Rattle.yaml_subset.proofs.QuotedTexts.{with_value}
+use Rattle.yaml_subset.{specs.Quoted.double_at, proofs.QuotedTexts.with_value}
 use Rattle.yaml_subset.proofs.quotes.each_double.Given as goal
 
 abbrev pub invariant-loop-rest : goal.invariant-loop-rest

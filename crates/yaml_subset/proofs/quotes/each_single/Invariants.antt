@@ -1,6 +1,5 @@
 use Rattle.std.proofs.Common.{◌≡◌, length}
-use Rattle.yaml_subset.specs.Quoted.{single_at}
-use Rattle.yaml_subset.proofs.QuotedTexts.{with_value}
+use Rattle.yaml_subset.{specs.Quoted.single_at, proofs.QuotedTexts.with_value}
 use Rattle.yaml_subset.proofs.quotes.each_single.Given as goal
 
 abbrev pub invariant-loop-rest : goal.invariant-loop-rest

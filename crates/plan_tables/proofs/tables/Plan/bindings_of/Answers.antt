@@ -1,6 +1,4 @@
-use Rattle.std.proofs.Common.{rules, ◌≡◌, ◌<◌, length, sym, subst, ◌∙◌, arith}
-use Rattle.plan_tables.specs.PlanView.{PlanView, places_of}
-use Rattle.plan_tables.specs.Inside.{plan_view}
+use Rattle.std.proofs.Common.{rules}
 use Rattle.plan_tables.proofs.Placed.{places_count, places_at}
 use Rattle.plan_tables.proofs.tables.Plan.bindings_of.Goals as goal
 

@@ -1,10 +1,5 @@
-use Rattle.std.proofs.Common.{rules, ◌<◌, List, length, sym, subst, ◌∙◌, arith}
-use Rattle.std.specs.List.{All}
-use Rattle.plan_tables.specs.declared.entries.BindingId.{BindingId}
-use Rattle.plan_tables.specs.declared.entries.Owner.TheVariants.{Mode}
-use Rattle.plan_tables.specs.Owned.{bindings_of_owner}
-use Rattle.plan_tables.specs.PlanView.{PlanView}
-use Rattle.plan_tables.specs.Inside.{plan_view}
+use Rattle.std.{proofs.Common.{rules, ◌<◌, List, length, sym, subst, ◌∙◌}, specs.List.All}
+use Rattle.plan_tables.specs.{declared.entries.{BindingId.BindingId, Owner.TheVariants.Mode}, Inside.plan_view}
 use Rattle.plan_tables.proofs.ListsBy.{lists_count, mode_bindings_read, bindings_of_owner-within}
 use Rattle.plan_tables.proofs.tables.Plan.bindings_of_mode.Goals as goal
 

@@ -1,6 +1,4 @@
-use Rattle.std.proofs.Common.{rules, length, ap, arith}
-use Rattle.plan_tables.specs.declared.table.Table.TheVariants.{Coils}
-use Rattle.plan_tables.specs.Inside.{name_sets_view, coil_entry_view}
+use Rattle.std.proofs.Common.{rules}
 use Rattle.plan_tables.proofs.Shown.{length-shown}
 use Rattle.plan_tables.proofs.tables.Plan.coil_count.Goals as goal
 

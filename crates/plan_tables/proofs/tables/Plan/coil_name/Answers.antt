@@ -1,9 +1,7 @@
 use Rattle.std.proofs.Common.{rules, ◌≡◌, ◌<◌, ℕ, [], length, get_or, Vec, Global, refl, sym, ap, subst, ◌∙◌, arith}
 use Rattle.std.proofs.lemmas.List.{length-map, get_or-map}
-use Rattle.plan_tables.specs.declared.table.Table.TheVariants.{Coils}
-use Rattle.plan_tables.specs.PlanView.{PlanView, no_coil, coil_at}
-use Rattle.plan_tables.specs.Inside.{name_sets_view, coil_entry_view}
-use Rattle.plan_tables.proofs.Shown.{length-shown, name_shown}
+use Rattle.plan_tables.specs.{declared.table.Table.TheVariants.Coils, PlanView.{PlanView, no_coil, coil_at}}
+use Rattle.plan_tables.{specs.Inside.{name_sets_view, coil_entry_view}, proofs.Shown.{length-shown, name_shown}}
 use Rattle.plan_tables.proofs.tables.Plan.coil_name.Goals as goal
 
 pub bounds-names-coil : goal.bounds-names-coil

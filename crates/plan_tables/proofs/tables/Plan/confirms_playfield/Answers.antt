@@ -1,8 +1,6 @@
 use Rattle.std.proofs.Common.{rules, ◌≡◌, ◌<◌, length, refl, sym, ap, subst, ◌∙◌, arith}
-use Rattle.plan_tables.specs.declared.table.Table.TheVariants.{Switches}
-use Rattle.plan_tables.specs.PlanView.{PlanView, no_switch, switch_at}
-use Rattle.plan_tables.specs.Inside.{name_sets_view, switch_entry_view}
-use Rattle.plan_tables.proofs.Shown.{length-shown, entry_shown}
+use Rattle.plan_tables.specs.{declared.table.Table.TheVariants.Switches, PlanView.{PlanView, no_switch, switch_at}}
+use Rattle.plan_tables.{specs.Inside.{name_sets_view, switch_entry_view}, proofs.Shown.{length-shown, entry_shown}}
 use Rattle.plan_tables.proofs.tables.Plan.confirms_playfield.Goals as goal
 
 pub index-requires : goal.index-requires

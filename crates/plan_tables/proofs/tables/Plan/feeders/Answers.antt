@@ -1,9 +1,5 @@
-use Rattle.std.proofs.Common.{rules, ◌<◌, ◌+◌, List, length, sym, subst, ◌∙◌, arith}
-use Rattle.std.specs.List.{All}
-use Rattle.plan_tables.specs.declared.devices.RowId.{RowId}
-use Rattle.plan_tables.specs.PlanView.{PlanView, feeders_of}
-use Rattle.plan_tables.specs.Valid.{IsTargetThere}
-use Rattle.plan_tables.specs.Inside.{plan_view, target_at}
+use Rattle.std.{proofs.Common.{rules, ◌<◌, List, length, sym, subst, ◌∙◌}, specs.List.All}
+use Rattle.plan_tables.specs.{declared.devices.RowId.RowId, Inside.plan_view}
 use Rattle.plan_tables.proofs.ListsBy.{lists_count, target_within, feeders_read, feeders-within}
 use Rattle.plan_tables.proofs.tables.Plan.feeders.Goals as goal
 

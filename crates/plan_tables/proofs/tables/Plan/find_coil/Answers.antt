@@ -1,13 +1,8 @@
 use Rattle.std.proofs.Common.{◌≡◌, Some, None, refl, sym, ap, subst, ◌∙◌}
-use Rattle.std.specs.Str.{bytes_eq}
-use Rattle.std.specs.List.{position}
-use Rattle.std.specs.Option.{option_map}
-use Rattle.plan_tables.specs.declared.table.Table.TheVariants.{Coils}
-use Rattle.plan_tables.specs.PlanView.{coil_named}
+use Rattle.std.specs.{Str.bytes_eq, List.position, Option.option_map}
+use Rattle.plan_tables.specs.{declared.table.Table.TheVariants.Coils, PlanView.coil_named}
 use Rattle.plan_tables.specs.Inside.{name_sets_view, coil_entry_view}
-use Rattle.plan_tables.proofs.Places.{position-map}
-use Rattle.plan_tables.proofs.Named.{coil_found, coil_within}
-use Rattle.plan_tables.proofs.Shown.{position-shown}
+use Rattle.plan_tables.proofs.{Places.position-map, Named.{coil_found, coil_within}, Shown.position-shown}
 use Rattle.plan_tables.proofs.tables.Plan.find_coil.Goals as goal
 
 -- the switch of the name, by the place that the set gives

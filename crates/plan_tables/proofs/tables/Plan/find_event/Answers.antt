@@ -1,10 +1,5 @@
-use Rattle.std.proofs.Common.{rules, ◌≡◌, Some, None, sym, ap, subst, ◌∙◌}
-use Rattle.std.specs.Str.{bytes_eq}
-use Rattle.std.specs.List.{position}
-use Rattle.std.specs.Option.{option_map}
-use Rattle.plan_tables.specs.PlanView.{event_named}
-use Rattle.plan_tables.proofs.Places.{position-map}
-use Rattle.plan_tables.proofs.Named.{event_found, event_absent}
+use Rattle.std.proofs.Common.{rules, ◌≡◌, Some, None, sym, ◌∙◌}
+use Rattle.plan_tables.{specs.PlanView.event_named, proofs.{Places.position-map, Named.{event_found, event_absent}}}
 use Rattle.plan_tables.proofs.tables.Plan.find_event.Goals as goal
 
 -- the event of the name, by the place that the set gives

@@ -1,10 +1,6 @@
-use Rattle.std.proofs.Common.{rules, ◌≡◌, Some, None, sym, ap, subst, ◌∙◌}
-use Rattle.std.specs.Str.{bytes_eq}
-use Rattle.std.specs.List.{position}
-use Rattle.std.specs.Option.{option_map}
+use Rattle.std.proofs.Common.{rules, ◌≡◌, Some, None, sym, ◌∙◌}
 use Rattle.plan_tables.specs.PlanView.{variable_named}
-use Rattle.plan_tables.proofs.Places.{position-map}
-use Rattle.plan_tables.proofs.Named.{variable_found, variable_absent}
+use Rattle.plan_tables.proofs.{Places.position-map, Named.{variable_found, variable_absent}}
 use Rattle.plan_tables.proofs.tables.Plan.find_variable.Goals as goal
 
 -- the variable of the name, by the place that the set gives

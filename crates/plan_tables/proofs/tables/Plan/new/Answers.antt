@@ -1,16 +1,8 @@
 use Rattle.std.proofs.Common.{rules, ◌≡◌, ◌<◌, ◌+◌, ℕ, List, length, map, refl, ap, sym, subst, ◌∙◌}
-use Rattle.std.specs.Prelude.{IfSome}
-use Rattle.std.specs.Option.{option_map}
-use Rattle.std.specs.Vec.{vec_len}
-use Rattle.std.specs.List.{All}
-use Rattle.std.proofs.lemmas.List.{length-map}
-use Rattle.std.proofs.lemmas.List.Elements.{All-weaker}
-use Rattle.plan_tables.specs.Valid.{IsBindingWithin}
-use Rattle.plan_tables.specs.declared.devices.DeviceRow.{DeviceRow}
-use Rattle.plan_tables.specs.declared.tables.Tables.{Tables}
-use Rattle.plan_tables.specs.PlanView.{target_in}
+use Rattle.std.specs.{Prelude.IfSome, Option.option_map, Vec.vec_len, List.All}
+use Rattle.std.proofs.lemmas.List.{length-map, Elements.All-weaker}
+use Rattle.plan_tables.specs.{declared.{devices.DeviceRow.DeviceRow, tables.Tables.Tables}, PlanView.target_in}
 use Rattle.plan_tables.specs.Inside.{tables_view, mode_entry_view, mode_place, target_place}
-use Rattle.plan_tables.specs.declared.entries.Binding.{Binding}
 use Rattle.plan_tables.proofs.ListsBy.{bindings_placed, rows_placed, targets_placed}
 use Rattle.plan_tables.proofs.tables.Plan.new.Goals as goal
 

@@ -1,11 +1,6 @@
-use Rattle.std.proofs.Common.{rules, ◌<◌, List, length, sym, subst, ◌∙◌, arith}
-use Rattle.std.specs.List.{All}
-use Rattle.plan_tables.specs.declared.devices.RowId.{RowId}
-use Rattle.plan_tables.specs.declared.entries.Owner.TheVariants.{Mode}
-use Rattle.plan_tables.specs.PlanView.{PlanView, rows_of}
-use Rattle.plan_tables.specs.Inside.{plan_view}
-use Rattle.plan_tables.proofs.Owners.{rows_of-within}
-use Rattle.plan_tables.proofs.ListsBy.{lists_count, mode_rows_read}
+use Rattle.std.{proofs.Common.{rules, ◌<◌, List, length, sym, subst, ◌∙◌}, specs.List.All}
+use Rattle.plan_tables.specs.{declared.{devices.RowId.RowId, entries.Owner.TheVariants.Mode}, Inside.plan_view}
+use Rattle.plan_tables.proofs.{Owners.rows_of-within, ListsBy.{lists_count, mode_rows_read}}
 use Rattle.plan_tables.proofs.tables.Plan.rows_of_mode.Goals as goal
 
 pub index-requires : goal.index-requires

@@ -1,9 +1,7 @@
 use Rattle.std.proofs.Common.{rules, ◌≡◌, ◌<◌, ℕ, [], length, get_or, Vec, Global, refl, sym, ap, subst, ◌∙◌, arith}
 use Rattle.std.proofs.lemmas.List.{length-map, get_or-map}
-use Rattle.plan_tables.specs.declared.table.Table.TheVariants.{Switches}
-use Rattle.plan_tables.specs.PlanView.{PlanView, no_switch, switch_at}
-use Rattle.plan_tables.specs.Inside.{name_sets_view, switch_entry_view}
-use Rattle.plan_tables.proofs.Shown.{length-shown, name_shown}
+use Rattle.plan_tables.specs.{declared.table.Table.TheVariants.Switches, PlanView.{PlanView, no_switch, switch_at}}
+use Rattle.plan_tables.{specs.Inside.{name_sets_view, switch_entry_view}, proofs.Shown.{length-shown, name_shown}}
 use Rattle.plan_tables.proofs.tables.Plan.switch_name.Goals as goal
 
 pub bounds-names-switch : goal.bounds-names-switch

@@ -1,7 +1,5 @@
-use Rattle.std.proofs.Common.{rules, ◌≡◌, ◌<◌, length, sym, subst, arith}
-use Rattle.plan_tables.specs.PlanView.{PlanView, work_of}
-use Rattle.plan_tables.specs.Valid.{IsWorkAt}
-use Rattle.plan_tables.specs.Inside.{plan_view}
+use Rattle.std.proofs.Common.{rules, ◌≡◌, ◌<◌, length, sym, subst}
+use Rattle.plan_tables.specs.{PlanView.{PlanView, work_of}, Valid.IsWorkAt, Inside.plan_view}
 use Rattle.plan_tables.proofs.Worked.{works_count, works_at, work_found}
 use Rattle.plan_tables.proofs.tables.Plan.work.Goals as goal
 

@@ -1,7 +1,5 @@
 use Rattle.std.proofs.Common.{map, ap, sym, ◌∙◌, Some, List}
-use Rattle.yaml_subset.specs.declared.tree.Tree.{Tree}
-use Rattle.yaml_subset.specs.View.{node_view, items_in}
-use Rattle.yaml_subset.proofs.Views.{items_in-List}
+use Rattle.yaml_subset.{specs.{declared.tree.Tree.Tree, View.{node_view, items_in}}, proofs.Views.items_in-List}
 use Rattle.yaml_subset.proofs.tree.Tree.as_list.Goals as goal
 
 pub returns-in-List : goal.returns-in-List

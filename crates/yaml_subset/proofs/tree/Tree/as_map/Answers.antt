@@ -1,7 +1,5 @@
 use Rattle.std.proofs.Common.{map, ap, sym, ◌∙◌, Some, List}
-use Rattle.yaml_subset.specs.declared.tree.Key.{Key}
-use Rattle.yaml_subset.specs.declared.tree.Tree.{Tree}
-use Rattle.yaml_subset.specs.View.{node_view, pair_view, pairs_in}
+use Rattle.yaml_subset.specs.{declared.tree.{Key.Key, Tree.Tree}, View.{node_view, pair_view, pairs_in}}
 use Rattle.yaml_subset.proofs.Views.{pairs_in-Map}
 use Rattle.yaml_subset.proofs.tree.Tree.as_map.Goals as goal
 
