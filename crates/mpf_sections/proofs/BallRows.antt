@@ -1,20 +1,14 @@
 -- What holds of ball devices, by the names of their settings: their names are names, and their settings are in their ranges.
-use Rattle.std.proofs.Common.{rules, ◌≡◌, map, slice_get, refl}
-use Rattle.std.specs.List.{All}
-use Rattle.section_tables.specs.Rows.{Entry}
-use Rattle.section_tables.specs.Named.{IsNamedEntry, IsShortEntry}
-use Rattle.mpf_sections.specs.Rows.{SectionRows}
-use Rattle.mpf_sections.specs.Typed.{entries_of}
+use Rattle.std.{proofs.Common.{rules, ◌≡◌, map, slice_get, refl}, specs.List.All}
+use Rattle.section_tables.specs.{Rows.Entry, Named.{IsNamedEntry, IsShortEntry}}
+use Rattle.mpf_sections.specs.{Rows.SectionRows, Typed.entries_of, Named.{IsNamedBallDevice, IsNamed}}
 use Rattle.mpf_sections.specs.TypedBalls.{ball_devices_name, ball_device_of, ball_devices_in}
-use Rattle.mpf_sections.specs.Named.{IsNamedBallDevice, IsNamed}
 use Rattle.mpf_sections.specs.Short.{IsShortBallDevice, IsShortSection}
 use Rattle.mpf_tables.proofs.TableNames.{playfield_named}
-use Rattle.mpf_sections.proofs.Each.{made_each}
+use Rattle.mpf_sections.proofs.{Each.made_each, NumberRows.time_in_range, ShotRows.{few_all, few_short}}
 use Rattle.mpf_sections.proofs.RowNames.{is_name, value_at_named, names_named, entries_of_named}
 use Rattle.mpf_sections.proofs.ShortRows.{value_at_short, names_short, entries_of_short}
 use Rattle.mpf_sections.proofs.CoilRows.{written_named, some_named, either_named}
-use Rattle.mpf_sections.proofs.NumberRows.{time_in_range}
-use Rattle.mpf_sections.proofs.ShotRows.{few_all, few_short}
 
 -- ---- names
 

@@ -1,21 +1,17 @@
 -- What holds of coils, coil players, flippers and autofire coils, by the names of their settings: their names are names, and their settings are in their ranges.
 use Rattle.std.proofs.Common.{rules, ℕ, ◌≤◌, Bool, length, Option, Some, IfSome, unwrap_or, slice_get, arith}
-use Rattle.std.specs.List.{All}
-use Rattle.std.proofs.lemmas.List.{length-map}
+use Rattle.std.{specs.List.All, proofs.lemmas.List.length-map}
 use Rattle.mpf_values.specs.Names.{IsName}
 use Rattle.section_tables.specs.Rows.{Plain, Keyed, Value, Entry, Player}
 use Rattle.section_tables.specs.Named.{IsNamedEntry, IsNamedPlayer, IsShortPlayer}
-use Rattle.mpf_sections.specs.Rows.{Written, SectionRows}
+use Rattle.mpf_sections.specs.{Rows.{Written, SectionRows}, Inside.rule_at}
 use Rattle.mpf_sections.specs.Typed.{text_of, listed_keyed, name_in, pulse_in, power_in, entries_of, players_of}
 use Rattle.mpf_sections.specs.TypedCoils.{coils_name, coil_player_name, max_hold_power, coil_of, coil_item_of, coil_player_of, needed_at, flipper_of, autofire_of, coils_in, coil_players_in}
-use Rattle.mpf_sections.specs.Inside.{rule_at}
 use Rattle.mpf_sections.specs.Named.{IsNamedCoil, IsNamedCoilPlayer, IsNamedRule, IsNamedFlipper, IsNamedAutofire, IsNamed}
 use Rattle.mpf_sections.specs.Short.{IsPulseInRange, IsPowerInRange, IsCoilInRange, IsItemInRange, IsShortCoilPlayer, IsCoilPlayerInRange}
-use Rattle.mpf_sections.proofs.Each.{all_mapped, made_each}
+use Rattle.mpf_sections.proofs.{Each.{all_mapped, made_each}, ShortRows.IsShortOption, NumberRows.time_in_range}
 use Rattle.mpf_sections.proofs.RowNames.{IsNamedOption, value_at_named, events_named, event_named, keyed_named, entries_of_named}
-use Rattle.mpf_sections.proofs.ShortRows.{IsShortOption}
 use Rattle.mpf_sections.proofs.DeviceRows.{IsNamedText, IsNamedWritten, name_in_named}
-use Rattle.mpf_sections.proofs.NumberRows.{time_in_range}
 
 -- ---- names
 

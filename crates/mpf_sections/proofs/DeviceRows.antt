@@ -1,19 +1,16 @@
 -- What holds of logic blocks and timers, by the names of their settings: their names are names, and their settings are in their ranges.
 use Rattle.std.proofs.Common.{rules, ◌≡◌, ℕ, zero, suc, ◌≤◌, nat_le, Bool, true, ◌&&◌, List, [], ◌∷◌, length, Option, Some, None, slice_get}
-use Rattle.std.specs.List.{All, AllByRecursion}
-use Rattle.std.proofs.lemmas.List.Elements.{All-nil, All-weaker, All-from_recursion}
+use Rattle.std.{specs.List.{All, AllByRecursion}, proofs.lemmas.List.Elements.{All-nil, All-weaker, All-from_recursion}}
 use Rattle.mpf_values.specs.Names.{IsName}
 use Rattle.section_tables.specs.Rows.{Plain, name, event, Fields, Value, steps, maps, Entry}
 use Rattle.section_tables.specs.Named.{IsNamedHandled, IsNamedPlain, AreNamedEvents, AreNamedPlains, IsNamedValue, IsNamedEntry, IsShortValue, IsShortEntry}
-use Rattle.mpf_sections.specs.Rows.{Written, Handled, Control, SectionRows}
+use Rattle.mpf_sections.specs.{Rows.{Written, Handled, Control, SectionRows}, Inside.block_at}
 use Rattle.mpf_sections.specs.Typed.{counters_name, timers_name, limit_of, listed_steps, listed_maps, name_in, event_in, control_from, control_of, with_control, controls_of, counter_of, step_block_of, timer_of, counters_in, timers_in, entries_of}
-use Rattle.mpf_sections.specs.Inside.{block_at}
 use Rattle.machine_settings.specs.Limits.{IsEndWithin}
 use Rattle.mpf_sections.specs.Named.{AllNamedEvents, IsNamedBlock, IsNamedCounter, IsNamedStepBlock, IsNamedTimer, IsNamed}
 use Rattle.mpf_sections.specs.Short.{IsShortBlock, IsShortCounter, IsShortStepBlock, IsShortTimer, IsShortSection}
-use Rattle.mpf_sections.proofs.Each.{all_where, made_each}
+use Rattle.mpf_sections.proofs.{Each.{all_where, made_each}, ShortRows.{value_at_short, posts_short, entries_of_short}}
 use Rattle.mpf_sections.proofs.RowNames.{IsNamedOption, value_at_named, events_named, posts_named, entries_of_named}
-use Rattle.mpf_sections.proofs.ShortRows.{value_at_short, posts_short, entries_of_short}
 
 -- ---- names
 

@@ -1,7 +1,6 @@
 -- What holds of each element of a list.
 use Rattle.std.proofs.Common.{rules, ◌≡◌, Bool, if◌then◌else◌, ◌||◌, map, List, [], ◌∷◌, refl, ap}
-use Rattle.std.specs.List.{All, list_any}
-use Rattle.std.proofs.lemmas.List.Elements.{All-nil, All-cons, All-map, All-weaker}
+use Rattle.std.{specs.List.{All, list_any}, proofs.lemmas.List.Elements.{All-nil, All-cons, All-map, All-weaker}}
 
 -- it holds of all, or of none
 pub all_where : {A : Type 0} (P : A → Type 0) (b : Bool) (xs : List A) → All P xs → All P (if b then xs else [])

@@ -1,17 +1,12 @@
 -- What holds of ball saves and multiballs, by the names of their settings: their names are names, and their settings are in their ranges.
-use Rattle.std.proofs.Common.{rules, slice_get, refl}
-use Rattle.std.specs.List.{All}
-use Rattle.section_tables.specs.Rows.{Entry}
-use Rattle.section_tables.specs.Named.{IsNamedEntry}
+use Rattle.std.{proofs.Common.{rules, slice_get, refl}, specs.List.All}
+use Rattle.section_tables.specs.{Rows.Entry, Named.IsNamedEntry}
 use Rattle.mpf_tables.specs.SectionTables as tables
-use Rattle.mpf_sections.specs.Rows.{SectionRows}
-use Rattle.mpf_sections.specs.Typed.{entries_of}
+use Rattle.mpf_sections.specs.{Rows.SectionRows, Typed.entries_of, Short.{IsShortBallSave, IsShortMultiball}}
 use Rattle.mpf_sections.specs.TypedSaves.{ball_saves_name, multiballs_name, ball_save_of, multiball_of, ball_saves_in, multiballs_in}
 use Rattle.mpf_sections.specs.Named.{IsNamedBallSave, IsNamedMultiball, IsNamed}
-use Rattle.mpf_sections.specs.Short.{IsShortBallSave, IsShortMultiball}
-use Rattle.mpf_sections.proofs.Each.{all_mapped, made_each}
+use Rattle.mpf_sections.proofs.{Each.{all_mapped, made_each}, NumberRows.natural_in_range}
 use Rattle.mpf_sections.proofs.RowNames.{value_at_named, events_named, entries_of_named}
-use Rattle.mpf_sections.proofs.NumberRows.{natural_in_range}
 
 -- ---- names
 

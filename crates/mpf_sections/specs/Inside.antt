@@ -1,30 +1,20 @@
 -- What contracts of the functions inside this crate see.
 use Rattle.std.specs.Prelude.{◌≡◌, ℕ, ◌+◌, ◌==◌, Bool, List, length, map, Option, Some, option_map, slice_get, unwrap_or}
-use Rattle.std.specs.List.{list_all}
-use Rattle.std.specs.Str.{bytes_eq}
-use Rattle.std.specs.Borrow.{Bor}
-use Rattle.std.specs.Global.{Vec}
-use Rattle.section_tables.specs.declared.rows.Name.{Name}
-use Rattle.section_tables.specs.declared.rows.Handler.{Handler}
+use Rattle.std.specs.{List.list_all, Str.bytes_eq, Borrow.Bor, Global.Vec}
+use Rattle.section_tables.specs.{declared.rows.{Name.Name, Handler.Handler}, Rows.{Plain, Value, Entry, name as named}}
 use Rattle.section_tables.specs.declared.rows.Plain as plain_rows
 use Rattle.section_tables.specs.declared.rows.Value as value_rows
 use Rattle.section_tables.specs.declared.rows.Fields as field_rows
 use Rattle.section_tables.specs.declared.rows.Keyed as keyed_rows
 use Rattle.section_tables.specs.declared.rows.Entry as entry_rows
-use Rattle.section_tables.specs.Rows.{Plain, Value, Entry, name as named}
-use Rattle.section_tables.specs.Entries.{written_at}
-use Rattle.section_tables.specs.View.{value_view, plains_view}
+use Rattle.section_tables.specs.{Entries.written_at, View.{value_view, plains_view}}
 use Rattle.mpf_sections.specs.declared.section.Content as contents
-use Rattle.mpf_sections.specs.declared.section.Section.{Section}
-use Rattle.mpf_sections.specs.declared.typed.NameAt.{NameAt}
-use Rattle.mpf_sections.specs.declared.typed.HandledAt.{HandledAt}
+use Rattle.mpf_sections.specs.declared.{section.Section.Section, typed.{NameAt.NameAt, HandledAt.HandledAt}}
 use Rattle.mpf_sections.specs.declared.blocks.BlockEvents as typed_blocks
 use Rattle.mpf_sections.specs.declared.coil_rules.Rule as typed_rules
 use Rattle.machine_settings.specs.declared.settings.BlockSettings.{BlockSettings}
-use Rattle.mpf_sections.specs.Rows.{Rule, BlockEvents}
+use Rattle.mpf_sections.specs.{Rows.{Rule, BlockEvents}, TypedCoils.needed_at, TypedShots.few}
 use Rattle.mpf_sections.specs.Typed.{text_of, flag_of, listed_names, listed_events, listed_posts, listed_steps, listed_maps, listed_keyed, name_in, handled_in, event_in, pulse_in, power_in, ball_ending, content_named}
-use Rattle.mpf_sections.specs.TypedCoils.{needed_at}
-use Rattle.mpf_sections.specs.TypedShots.{few}
 use Rattle.mpf_sections.specs.View.{name_view, handler_view, handlers_view, plain_view, fields_view, keyed_view, entry_view, content_view, section_view, name_at_view, handled_at_view, plain_option_view, block_view, rule_view}
 
 -- the settings that all logic blocks have, from this place on in a row

@@ -1,16 +1,11 @@
 -- The rows of a section, apart from where they lie in memory. The `order` of an entry has the places in the section's
 -- table of the settings that are written, in the order in which they are written.
 use Rattle.std.specs.Prelude.{ℕ, ℤ, Bool, List, Option}
-use Rattle.machine_settings.specs.declared.words.Contact.{Contact}
-use Rattle.mpf_sections.specs.declared.words.Debounce.{Debounce}
-use Rattle.mpf_sections.specs.declared.words.ControlAction.{ControlAction}
-use Rattle.mpf_sections.specs.declared.words.CoilAction.{CoilAction}
-use Rattle.machine_settings.specs.declared.words.VariableAction.{VariableAction}
-use Rattle.machine_settings.specs.declared.settings.BlockSettings.{BlockSettings}
+use Rattle.machine_settings.specs.declared.words.{Contact.Contact, VariableAction.VariableAction}
+use Rattle.mpf_sections.specs.declared.words.{Debounce.Debounce, ControlAction.ControlAction, CoilAction.CoilAction}
+use Rattle.machine_settings.specs.declared.settings.{BlockSettings.BlockSettings, SaveSettings.SaveSettings}
 use Rattle.machine_settings.specs.declared.settings.CounterSettings.{CounterSettings}
-use Rattle.machine_settings.specs.declared.settings.TimerSettings.{TimerSettings}
-use Rattle.machine_settings.specs.declared.settings.EjectSettings.{EjectSettings}
-use Rattle.machine_settings.specs.declared.settings.SaveSettings.{SaveSettings}
+use Rattle.machine_settings.specs.declared.settings.{TimerSettings.TimerSettings, EjectSettings.EjectSettings}
 use Rattle.machine_settings.specs.declared.settings.MultiballSettings.{MultiballSettings}
 pub use Rattle.section_tables.specs.Rows.{Written, Handled, Entry, Player}
 

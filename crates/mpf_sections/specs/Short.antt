@@ -1,6 +1,5 @@
 -- What it means that no list in a section has more than 1,024 items, and that settings are in their ranges.
-use Rattle.std.specs.Prelude.{ℕ, ◌≤◌, IfSome, length}
-use Rattle.std.specs.List.{All}
+use Rattle.std.specs.{Prelude.{ℕ, ◌≤◌, IfSome, length}, List.All}
 pub use Rattle.section_tables.specs.Named.{IsShortEntry, IsShortPlayer}
 use Rattle.machine_settings.specs.Limits.{IsNumberWithin, IsCounterWithin, IsTimerWithin, IsEjectWithin, IsSaveWithin, IsMultiballWithin}
 use Rattle.mpf_sections.specs.Rows.{Switch, EventPlayer, Coil, CoilItem, CoilPlayer, VariableItem, VariablePlayer, GameSettings, Rule, Shot, ShotGroup, ShotProfile, BallDevice, BallSave, Multiball, BlockEvents, Counter, StepBlock, Timer, Content, SectionRows}

@@ -1,23 +1,17 @@
 -- The entries of sections, by the names of their settings.
 use Rattle.std.specs.Prelude.{ℕ, zero, suc, ℤ, pos, negsuc, ◌^◌, nat_lt, nat_le, ◌==◌, ◌&&◌, not, Bool, false, if◌then◌else◌, List, [], ◌∷◌, length, map, Option, Some, None, slice_get, codes}
-use Rattle.std.specs.List.{list_all}
-use Rattle.std.specs.Str.{bytes_eq}
-use Rattle.machine_settings.specs.declared.words.Contact.{Contact}
-use Rattle.machine_settings.specs.declared.words.Contact.TheVariants.{NormallyOpen, NormallyClosed}
-use Rattle.mpf_sections.specs.declared.words.Debounce.{Debounce}
-use Rattle.mpf_sections.specs.declared.words.Debounce.TheVariants.{Auto, Quick, Normal}
-use Rattle.machine_settings.specs.declared.words.Direction.{Direction}
-use Rattle.machine_settings.specs.declared.words.Direction.TheVariants.{Up, Down}
+use Rattle.std.specs.{List.list_all, Str.bytes_eq}
+use Rattle.machine_settings.specs.declared.words.Contact.{Contact, TheVariants.{NormallyOpen, NormallyClosed}}
+use Rattle.mpf_sections.specs.declared.words.Debounce.{Debounce, TheVariants.{Auto, Quick, Normal}}
+use Rattle.machine_settings.specs.declared.words.Direction.{Direction, TheVariants.{Up, Down}}
 use Rattle.machine_settings.specs.declared.settings.BlockSettings.{BlockSettings}
 use Rattle.mpf_sections.specs.declared.words.ControlAction.{ControlAction}
 use Rattle.mpf_sections.specs.declared.words.ControlAction.TheVariants.{Start, Stop, Pause, Reset, Restart, Add, Subtract, Jump}
 use Rattle.section_tables.specs.Rows.{Written, Handled, Plain, flag, number, time, power, word, name, event, Fields, Keyed, Value, one, names, posts, events, steps, maps, keyed, Entry, Player}
-use Rattle.section_tables.specs.Kinds.{Field, Setting}
+use Rattle.section_tables.specs.{Kinds.{Field, Setting}, Entries.handled_at, EntryOf.within}
 use Rattle.section_tables.specs.Tables.{found_in, field_key, setting_key, setting_default}
 use Rattle.mpf_tables.specs.SectionTables as tables
 pub use Rattle.mpf_tables.specs.SectionTables.{switches_name, event_player_name, counters_name, accruals_name, sequences_name, timers_name, modes_name, mode_name}
-use Rattle.section_tables.specs.Entries.{handled_at}
-use Rattle.section_tables.specs.EntryOf.{within}
 use Rattle.mpf_sections.specs.Rows.{Switch, EventPlayer, BlockEvents, Counter, StepBlock, Control, Timer, ModeSettings, Content, entries, players, entry, listed, SectionRows}
 
 -- ---- values

@@ -1,15 +1,12 @@
 -- The entries of `ball_devices`, by the names of their settings.
 use Rattle.std.specs.Prelude.{ℕ, zero, suc, Bool, ◌||◌, List, map, Option, Some, None, unwrap_or, codes}
-use Rattle.std.specs.List.{list_any}
-use Rattle.std.specs.Str.{bytes_eq}
-use Rattle.section_tables.specs.Rows.{Entry}
-use Rattle.section_tables.specs.Entries.{written_at}
+use Rattle.std.specs.{List.list_any, Str.bytes_eq}
+use Rattle.section_tables.specs.{Rows.Entry, Entries.written_at}
 use Rattle.mpf_tables.specs.SectionTables as tables
 pub use Rattle.mpf_tables.specs.SectionTables.{ball_devices_name, playfield}
 use Rattle.mpf_sections.specs.Typed.{setting_of, text_of, flag_of, listed_names, name_in, entries_of}
 use Rattle.mpf_sections.specs.TypedNumbers.{natural_setting, time_setting}
-use Rattle.mpf_sections.specs.TypedShots.{few}
-use Rattle.mpf_sections.specs.Rows.{BallDevice, SectionRows}
+use Rattle.mpf_sections.specs.{TypedShots.few, Rows.{BallDevice, SectionRows}}
 
 -- how many attempts there may be, by a number in which 0 stands for no limit
 abbrev pub attempts_of : ℕ → Option ℕ

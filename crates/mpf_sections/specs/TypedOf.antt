@@ -1,15 +1,12 @@
 -- What is read of entries and sections, as the program has them: each entry by the names of its settings.
 use Rattle.std.specs.Prelude.{◌≡◌, ℕ, List, map, Option, option_map}
-use Rattle.section_tables.specs.declared.rows.Name.{Name}
-use Rattle.section_tables.specs.declared.rows.Handler.{Handler}
+use Rattle.section_tables.specs.declared.rows.{Name.Name, Handler.Handler}
 use Rattle.section_tables.specs.declared.rows.Fields as field_rows
 use Rattle.section_tables.specs.declared.rows.Keyed as keyed_rows
 use Rattle.section_tables.specs.declared.rows.Entry as entry_rows
 use Rattle.section_tables.specs.declared.rows.Player as player_rows
 use Rattle.mpf_sections.specs.declared.section.Content as contents
-use Rattle.mpf_sections.specs.declared.section.Section.{Section}
-use Rattle.mpf_sections.specs.declared.typed.NameAt.{NameAt}
-use Rattle.mpf_sections.specs.declared.typed.HandledAt.{HandledAt}
+use Rattle.mpf_sections.specs.declared.{section.Section.Section, typed.{NameAt.NameAt, HandledAt.HandledAt}}
 use Rattle.mpf_sections.specs.declared.typed.Switch as typed_switches
 use Rattle.mpf_sections.specs.declared.typed.EventPlayer as typed_players
 use Rattle.mpf_sections.specs.declared.typed.ModeSettings as typed_settings
@@ -36,8 +33,7 @@ use Rattle.mpf_sections.specs.Typed.{switch_of, event_player_of, mode_settings_o
 use Rattle.mpf_sections.specs.TypedCoils.{coil_of, coil_item_of, coil_player_of, needed_at, flipper_of, autofire_of, coil_rule_of}
 use Rattle.mpf_sections.specs.TypedGame.{variable_item_of, variable_player_of, game_of, min_balls_of}
 use Rattle.mpf_sections.specs.TypedShots.{shot_of, shot_group_of, state_of, shot_profile_of}
-use Rattle.mpf_sections.specs.TypedBalls.{ball_device_of}
-use Rattle.mpf_sections.specs.TypedSaves.{ball_save_of, multiball_of}
+use Rattle.mpf_sections.specs.{TypedBalls.ball_device_of, TypedSaves.{ball_save_of, multiball_of}}
 use Rattle.mpf_sections.specs.View.{name_view, handler_view, fields_view, keyed_view, entry_view, player_view, content_view, section_view, name_at_view, handled_at_view, switch_view, event_player_view, mode_settings_view, counter_view, step_block_view, control_view, timer_view, coil_view, coil_item_view, coil_player_view, variable_item_view, variable_player_view, game_view, flipper_view, autofire_view, coil_rule_view, shot_view, shot_group_view, shot_profile_view, ball_device_view, ball_save_view, multiball_view}
 
 -- ---- switches, and what events do

@@ -4,8 +4,7 @@ use Rattle.section_tables.specs.Rows.{Entry}
 use Rattle.mpf_tables.specs.SectionTables as tables
 pub use Rattle.mpf_tables.specs.SectionTables.{ball_saves_name, multiballs_name}
 use Rattle.mpf_sections.specs.Typed.{setting_of, time_of, listed_events, entries_of}
-use Rattle.mpf_sections.specs.TypedNumbers.{natural_setting}
-use Rattle.mpf_sections.specs.Rows.{BallSave, Multiball, SectionRows}
+use Rattle.mpf_sections.specs.{TypedNumbers.natural_setting, Rows.{BallSave, Multiball, SectionRows}}
 
 unfoldable pub ball_save_of : Entry → BallSave
 ball_save_of e = record {

@@ -1,12 +1,8 @@
 -- What contracts see of entries by the names of their settings.
-use Rattle.std.specs.Prelude.{map, option_map, Option}
-use Rattle.std.specs.List.{filter_map}
-use Rattle.std.specs.Borrow.{Bor}
+use Rattle.std.specs.{Prelude.{map, option_map, Option}, List.filter_map, Borrow.Bor}
 use Rattle.section_tables.specs.declared.rows.Plain as plains
-use Rattle.section_tables.specs.Rows.{Plain}
-use Rattle.section_tables.specs.View.{guard_view}
-use Rattle.mpf_sections.specs.declared.typed.NameAt.{NameAt}
-use Rattle.mpf_sections.specs.declared.typed.HandledAt.{HandledAt}
+use Rattle.section_tables.specs.{Rows.Plain, View.guard_view}
+use Rattle.mpf_sections.specs.declared.typed.{NameAt.NameAt, HandledAt.HandledAt}
 use Rattle.mpf_sections.specs.declared.typed.Switch as typed_switches
 use Rattle.mpf_sections.specs.declared.typed.EventPlayer as typed_players
 use Rattle.mpf_sections.specs.declared.typed.ModeSettings as typed_settings
@@ -33,10 +29,8 @@ use Rattle.mpf_sections.specs.declared.balls.BallDevice as typed_balls
 use Rattle.mpf_sections.specs.declared.saves.BallSave as typed_saves
 use Rattle.mpf_sections.specs.declared.saves.Multiball as typed_multiballs
 use Rattle.mpf_sections.specs.Rows.{Written, Handled, Switch, EventPlayer, Coil, CoilItem, CoilPlayer, VariableItem, VariablePlayer, GameSettings, Rule, Flipper, Autofire, CoilRule, flipper, autofire, Shot, ShotGroup, ShotProfile, BallDevice, BallSave, Multiball, BlockEvents, Counter, StepBlock, Control, Timer, ModeSettings}
-use Rattle.mpf_sections.specs.Typed.{controls_of}
-use Rattle.mpf_sections.specs.TypedCoils.{coil_item_of}
-use Rattle.mpf_sections.specs.TypedGame.{variable_item_of}
-use Rattle.mpf_sections.specs.TypedShots.{state_of}
+use Rattle.mpf_sections.specs.{Typed.controls_of, TypedShots.state_of}
+use Rattle.mpf_sections.specs.{TypedCoils.coil_item_of, TypedGame.variable_item_of}
 pub use Rattle.mpf_sections.specs.SectionView.{content_view, section_view}
 pub use Rattle.section_tables.specs.View.{name_view, names_view, handler_view, handlers_view, plain_view, fields_view, keyed_view, entry_view, player_view}
 

@@ -1,27 +1,18 @@
 -- What holds of the shape of each section: a term for each, in the order of `machine_shapes` and `mode_shapes`.
-use Rattle.std.proofs.Common.{◌≡◌, ℕ, ◌≤◌, Bool, true, false, cond, List, [], ◌∷◌, Option, Some, None, refl, sym, subst, codes}
-use Rattle.std.specs.List.{AllByRecursion}
-use Rattle.std.specs.Str.{bytes_eq}
-use Rattle.std.proofs.lemmas.Option.{same_Some, none-some}
-use Rattle.mpf_tables.specs.declared.tables.TextKind.{TextKind}
-use Rattle.mpf_tables.specs.declared.tables.TextKind.TheVariants.{Machine, Mode}
-use Rattle.mpf_values.specs.Names.{IsName}
-use Rattle.mpf_values.proofs.NameTexts.{IsName-from_is_name}
-use Rattle.section_tables.specs.Rows.{Handled}
-use Rattle.section_tables.specs.Kinds.{Shape}
-use Rattle.section_tables.specs.Entries.{handled_at}
-use Rattle.section_tables.specs.Named.{IsNamedHandled, IsNamedKinds, IsNamedTable, IsNamedShape, IsShortTable, IsShortShape}
-use Rattle.mpf_tables.specs.SectionTables.{switches, coils, rule_events, flippers, autofire_coils, playfield, ball_devices, ball_saves, multiballs, save_shapes, block, counters, step_blocks, timers, default_profile, shots, shot_groups, shot_profiles, shot_shapes, mode, machine, game, event_player, coil_player, variable_player, shared_shapes, device_shapes, machine_shapes, mode_shapes, named_in, shape_of}
-use Rattle.mpf_tables.specs.TableRules.{IsRight}
-use Rattle.section_tables.proofs.RowNames.{no_items, few_items}
-use Rattle.section_tables.proofs.Steps.{word_is}
+use Rattle.std.proofs.Common.{rules, ◌≡◌, ℕ, ◌≤◌, Bool, cond, List, [], ◌∷◌, Option, Some, None, refl}
+use Rattle.std.{specs.{List.AllByRecursion, Str.bytes_eq}, proofs.lemmas.Option.{same_Some, none-some}}
+use Rattle.mpf_tables.specs.{declared.tables.TextKind.{TextKind, TheVariants.{Machine, Mode}}, TableRules.IsRight}
+use Rattle.mpf_values.{specs.Names.IsName, proofs.NameTexts.IsName-from_is_name}
+use Rattle.section_tables.specs.{Rows.Handled, Kinds.Shape, Entries.handled_at}
+use Rattle.section_tables.specs.Named.{IsNamedKinds, IsNamedTable, IsNamedShape, IsShortTable, IsShortShape}
+use Rattle.mpf_tables.specs.SectionTables.{switches, coils, rule_events, playfield, ball_devices, ball_saves, multiballs, save_shapes, block, counters, step_blocks, timers, default_profile, shots, shot_groups, shot_profiles, shot_shapes, mode, event_player, coil_player, variable_player, shared_shapes, mode_shapes, named_in, shape_of}
+use Rattle.section_tables.proofs.{RowNames.{no_items, few_items}, Steps.word_is}
 
 -- ---- what holds of all that have a name
 
 module _ {A : Type 0} (P : List ℕ → A → Type 0) (section : List ℕ) (x : A) where
   at_name : (name : List ℕ) (y : A) (rest : Option A) (b : Bool) → bytes_eq section name ≡ b → cond b (Some y) rest ≡ Some x → P name y → (rest ≡ Some x → P section x) → P section x
-  at_name name y rest true e is p so = subst (P section) (same_Some y x is) (subst (λ n. P n y) (sym (word_is section name e)) p)
-  at_name name y rest false e is p so = so is
+  at_name name y rest x4 e is p so = search (rules, same_Some, word_is)
 
   holds_at : (ts : List (List ℕ × A)) → named_in section ts ≡ Some x → AllByRecursion (λ t. P t.0 t.1) ts → P section x
   holds_at [] is all = absurd (none-some x is)
@@ -40,34 +31,16 @@ switches_short longest = let none = no_items longest in (none, (none, (none, (no
 coils_named : IsNamedTable coils
 coils_named = ((tt, tt), ((tt, tt), ((tt, tt), ((tt, tt), ((tt, tt), ((tt, tt), ((tt, tt), tt)))))))
 
-coils_short : (longest : ℕ) → IsShortTable longest coils
-coils_short longest = let none = no_items longest in (none, (none, (none, (none, (none, (none, (none, tt)))))))
-
 -- ---- `flippers` and `autofire_coils`
 
 abbrev default_event : List ℕ → Handled
 default_event name = handled_at 0 (record { name = name; condition = None })
 
 rule_events_named : IsNamedTable rule_events
-rule_events_named =
-    let starts : IsNamedHandled (default_event (codes "ball_started")) = record { name = IsName-from_is_name (codes "ball_started") refl; variable = tt } in
-    let ends : IsNamedHandled (default_event (codes "ball_will_end")) = record { name = IsName-from_is_name (codes "ball_will_end") refl; variable = tt } in
-    (((starts, tt), tt), (((ends, tt), tt), tt))
-
-flippers_named : IsNamedTable flippers
-flippers_named = ((tt, tt), ((tt, tt), ((tt, tt), rule_events_named)))
-
-autofire_coils_named : IsNamedTable autofire_coils
-autofire_coils_named = ((tt, tt), ((tt, tt), rule_events_named))
+rule_events_named = search (rules, IsName-from_is_name)
 
 rule_events_short : (longest : ℕ) → 1 ≤ longest → IsShortTable longest rule_events
 rule_events_short longest one = let first = few_items longest one in (first, (first, tt))
-
-flippers_short : (longest : ℕ) → 1 ≤ longest → IsShortTable longest flippers
-flippers_short longest one = let none = no_items longest in (none, (none, (none, rule_events_short longest one)))
-
-autofire_coils_short : (longest : ℕ) → 1 ≤ longest → IsShortTable longest autofire_coils
-autofire_coils_short longest one = let none = no_items longest in (none, (none, rule_events_short longest one))
 
 -- ---- `counters`, `accruals` and `sequences`
 
@@ -93,9 +66,6 @@ step_blocks_short longest = (no_items longest, block_short longest)
 
 timers_named : IsNamedTable timers
 timers_named = ((tt, tt), ((tt, tt), ((tt, tt), ((tt, tt), ((tt, tt), ((tt, tt), ((tt, (tt, (tt, (tt, tt)))), tt)))))))
-
-timers_short : (longest : ℕ) → IsShortTable longest timers
-timers_short longest = let none = no_items longest in (none, (none, (none, (none, (none, (none, (none, tt)))))))
 
 -- ---- `shots`, `shot_groups` and `shot_profiles`
 
@@ -155,18 +125,6 @@ mode_short longest = let none = no_items longest in (none, (none, (none, (none, 
 
 -- ---- `machine` and `game`
 
-machine_named : IsNamedTable machine
-machine_named = ((tt, tt), tt)
-
-machine_short : (longest : ℕ) → IsShortTable longest machine
-machine_short longest = (no_items longest, tt)
-
-game_named : IsNamedTable game
-game_named = ((tt, tt), ((tt, tt), tt))
-
-game_short : (longest : ℕ) → IsShortTable longest game
-game_short longest = let none = no_items longest in (none, (none, tt))
-
 -- ---- `event_player`
 
 player_named : IsNamedKinds event_player
@@ -205,37 +163,15 @@ shot_short longest = (shots_short longest, (shot_groups_short longest, (shot_pro
 shot_right : AllShapes IsRight shot_shapes
 shot_right = (refl, (refl, (refl, save_right)))
 
-shared_named : AllShapes IsNamedShape shared_shapes
-shared_named = (player_named, (variable_player_named, (coil_player_named, (counters_named, (step_blocks_named, (step_blocks_named, shot_named))))))
-
-shared_short : (longest : ℕ) → AllShapes (IsShortShape longest) shared_shapes
-shared_short longest = (tt, (tt, (tt, (counters_short longest, (step_blocks_short longest, (step_blocks_short longest, shot_short longest))))))
-
 shared_right : AllShapes IsRight shared_shapes
 shared_right = (refl, (refl, (refl, (refl, (refl, (refl, shot_right))))))
 
-device_named : AllShapes IsNamedShape device_shapes
-device_named = (flippers_named, (autofire_coils_named, (ball_devices_named, shared_named)))
-
-device_short : (longest : ℕ) → 1 ≤ longest → AllShapes (IsShortShape longest) device_shapes
-device_short longest one = (flippers_short longest one, (autofire_coils_short longest one, (ball_devices_short longest, shared_short longest)))
-
-device_right : AllShapes IsRight device_shapes
-device_right = (refl, (refl, (refl, shared_right)))
-
 pub shape_named : (text : TextKind) (section : List ℕ) (shape : Shape) → shape_of text section ≡ Some shape → IsNamedShape shape
-shape_named Machine section shape is = holds_at (λ name s. IsNamedShape s) section shape machine_shapes is
-    (tt, (machine_named, (game_named, (switches_named, (coils_named, device_named)))))
-shape_named Mode section shape is = holds_at (λ name s. IsNamedShape s) section shape mode_shapes is
-    (mode_named, (timers_named, shared_named))
+shape_named x1 section shape is = search (rules, holds_at, switches_named, coils_named, rule_events_named, ball_devices_named, player_named, variable_player_named, coil_player_named, counters_named, step_blocks_named, shot_named, mode_named, timers_named)
 
 pub shape_short : (longest : ℕ) → 1 ≤ longest → (text : TextKind) (section : List ℕ) (shape : Shape) → shape_of text section ≡ Some shape → IsShortShape longest shape
-shape_short longest one Machine section shape is = holds_at (λ name s. IsShortShape longest s) section shape machine_shapes is
-    (tt, (machine_short longest, (game_short longest, (switches_short longest, (coils_short longest, device_short longest one)))))
-shape_short longest one Mode section shape is = holds_at (λ name s. IsShortShape longest s) section shape mode_shapes is
-    (mode_short longest, (timers_short longest, shared_short longest))
+shape_short longest one x3 section shape is = search (rules, holds_at, no_items, switches_short, rule_events_short, ball_devices_short, counters_short, step_blocks_short, shot_short, mode_short)
 
 pub shape_right : (text : TextKind) (section : List ℕ) (shape : Shape) → shape_of text section ≡ Some shape → IsRight shape
-shape_right Machine section shape is = holds_at (λ name s. IsRight s) section shape machine_shapes is
-    (tt, (refl, (refl, (refl, (refl, device_right)))))
+shape_right Machine section shape is = search (rules, holds_at, shared_right)
 shape_right Mode section shape is = holds_at (λ name s. IsRight s) section shape mode_shapes is (refl, (refl, shared_right))

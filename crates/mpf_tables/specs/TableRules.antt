@@ -1,14 +1,10 @@
 -- What a table has to say so that it means what it says: no key twice, each default of the kind of its line, the place of a short form within its table, and the name of a map first in its table.
 use Rattle.std.specs.Prelude.{◌≡◌, nat_le, nat_lt, Bool, true, false, ◌&&◌, List, [], ◌∷◌, length, map, Option, Some, None}
-use Rattle.std.specs.List.{list_any, list_all}
-use Rattle.std.specs.Str.{bytes_eq}
-use Rattle.mpf_values.specs.Reading.{is_name}
-use Rattle.mpf_values.specs.Events.{Condition}
+use Rattle.std.specs.{List.{list_any, list_all}, Str.bytes_eq}
+use Rattle.mpf_values.specs.{Reading.is_name, Events.Condition}
 use Rattle.section_tables.specs.Rows.{Handled, Plain, nothing, flag, number, time, power, word, name, event, Value, one, names, posts, events, maps}
 use Rattle.section_tables.specs.Kinds.{Scalar, a_flag, number_within, time_within, a_power, one_of, a_name, an_event, Absent, required, default, fits, Field, Kind, single, name_list, post_list, event_list, map_list, named_maps, keyed_maps, Setting, PlayerKinds, Shape, by_entries, by_players, by_entry, by_names}
-use Rattle.section_tables.specs.Tables.{field_key, setting_key}
-use Rattle.section_tables.specs.EntryOf.{within}
-use Rattle.section_tables.specs.Reading.{are_apart}
+use Rattle.section_tables.specs.{Tables.{field_key, setting_key}, EntryOf.within, Reading.are_apart}
 
 -- ---- defaults
 

@@ -1,9 +1,8 @@
 -- What an answer means whose value is what is read.
 use Rattle.std.proofs.Common.{rules, ◌≡◌, ◌≢◌, Result, Ok, IfOk, IfErr}
 use Rattle.section_tables.specs.Reading.{IsReadOr}
-use Rattle.config_faults.specs.declared.fault.ConfigFault.{ConfigFault}
+use Rattle.config_faults.specs.{declared.fault.ConfigFault.ConfigFault, Faults.{RowsFault, GivesRows}}
 use Rattle.config_faults.specs.declared.fault.ConfigFault.TheVariants as faults
-use Rattle.config_faults.specs.Faults.{RowsFault, GivesRows}
 
 -- read gives what Is relates, within the limits
 module _ {S X Y : Type 0} (limits : S) (view : X → Y) (read : Result Y RowsFault) (Is Above : S → Y → Type 0) where

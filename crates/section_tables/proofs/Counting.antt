@@ -1,13 +1,10 @@
 -- The nodes of a YAML list that count as items, good or bad, are no more than the items that are read.
 use Rattle.std.proofs.Common.{rules, ◌≡◌, ℕ, ◌+◌, ◌<◌, ◌≤◌, ◌==◌, Bool, true, false, List, [], ◌∷◌, length, map, filter, drop, get_or, Some, refl, ap, ◌∙◌, arith}
 use Rattle.std.proofs.lemmas.Option.{same_Some, none-some}
-use Rattle.yaml_subset.specs.declared.tree.Tree.{Tree}
+use Rattle.yaml_subset.specs.{declared.tree.Tree.Tree, View.{items_in, node_view}}
 use Rattle.yaml_subset.specs.Node.{Node, scalar, sequence, mapping}
-use Rattle.yaml_subset.specs.View.{items_in, node_view}
-use Rattle.mpf_values.specs.Lists.{Item, item_at}
-use Rattle.mpf_values.specs.Reading.{◌>>=◌, scalar_at, onto_list, scalars_at, list_at}
-use Rattle.mpf_values.proofs.Steps.{bind_some}
-use Rattle.mpf_values.proofs.ListNodes.{nodes_at}
+use Rattle.mpf_values.specs.{Lists.{Item, item_at}, Reading.{◌>>=◌, scalar_at, onto_list, scalars_at, list_at}}
+use Rattle.mpf_values.proofs.{Steps.bind_some, ListNodes.nodes_at}
 use Rattle.section_tables.specs.Reading.{counts, count_of}
 
 -- of a list that is read, no more nodes count than there are items

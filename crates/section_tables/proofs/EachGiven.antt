@@ -1,16 +1,10 @@
 -- What a call for each element gave, and what reading each element gives.
 use Rattle.std.proofs.Common.{rules, ◌≡◌, ℕ, zero, suc, ◌+◌, ◌<◌, Bool, true, false, cond, List, [], ◌∷◌, ◌++◌, length, take, drop, get_or, map, filter, Result, Ok, Err, refl, sym, ap, subst, ◌∙◌, inl, inr, arith, append-nil}
-use Rattle.std.specs.List.{AllZip}
-use Rattle.std.specs.Borrow.{Bor}
-use Rattle.std.specs.Fn.{Shared, FnReturnsAt}
-use Rattle.std.specs.Global.{Vec}
-use Rattle.std.proofs.lemmas.List.{take_more}
-use Rattle.std.proofs.lemmas.List.Elements.{filter-append}
-use Rattle.config_faults.specs.declared.fault.ConfigFault.{ConfigFault}
+use Rattle.std.specs.{List.AllZip, Borrow.Bor, Fn.{Shared, FnReturnsAt}, Global.Vec}
+use Rattle.std.proofs.lemmas.List.{take_more, Elements.filter-append}
+use Rattle.config_faults.specs.{declared.fault.ConfigFault.ConfigFault, Faults.{RowsFault, FailsRows, GivesRows}}
 use Rattle.config_faults.specs.declared.fault.ConfigFault.TheVariants as faults
-use Rattle.config_faults.specs.Faults.{RowsFault, FailsRows, GivesRows}
-use Rattle.section_tables.specs.Reading.{each_read}
-use Rattle.section_tables.specs.GivenEach.{FailsFirst, GaveUpTo, GaveEach}
+use Rattle.section_tables.specs.{Reading.each_read, GivenEach.{FailsFirst, GaveUpTo, GaveEach}}
 
 pub zip_push : {A B : Type 0} (R : A → B → Type 0) (xs : List A) (ys : List B) (x : A) (y : B) → AllZip R xs ys → R x y → AllZip R (xs ++ x ∷ []) (ys ++ y ∷ [])
 zip_push R [] [] x y h r = (r, tt)

@@ -1,20 +1,16 @@
 -- The entries of a section are those that are read, and no others.
 use Rattle.std.proofs.Common.{rules, ◌≡◌, ◌<◌, ℕ, Bool, false, List, Ok, refl, sym, subst, ◌∙◌, inl, true≢false}
 use Rattle.yaml_subset.specs.Node.{Node, Pair}
-use Rattle.mpf_values.specs.Reading.{is_name}
-use Rattle.mpf_values.proofs.NameTexts.{IsName-from_is_name, is_name-from_IsName}
-use Rattle.config_faults.specs.declared.fault.FaultKind.TheVariants.{BadValue}
-use Rattle.section_tables.specs.Rows.{Written, Plain, Value, Entry, Player}
-use Rattle.section_tables.specs.Kinds.{at_least, Setting, PlayerKinds}
+use Rattle.mpf_values.{specs.Reading.is_name, proofs.NameTexts.{IsName-from_is_name, is_name-from_IsName}}
+use Rattle.config_faults.specs.{declared.fault.FaultKind.TheVariants.BadValue, Faults.{Spot, rows_fault_at}}
+use Rattle.section_tables.specs.{Rows.{Written, Plain, Value, Entry, Player}, Kinds.{at_least, Setting, PlayerKinds}}
 use Rattle.section_tables.specs.Entries.{pairs_below, is_ignored, written_at}
 use Rattle.section_tables.specs.Tables.{setting_key, setting_default, setting_lacks}
 use Rattle.section_tables.specs.EntryOf.{IsWritten, IsSetting, IsOneOf, places_written, IsEntry, IsOtherEntry, AreEntries, IsPlayer, ArePlayers, AreNamesListed}
 use Rattle.section_tables.specs.Reading.{most_items, IsReadOr, IsReadOrLong, ◌>>=◌, key_spot, expect, each_read, setting_at, values_at, is_one_of, entry_at, other_entry_at, entries_at, player_at, players_at, written_in, names_at}
-use Rattle.config_faults.specs.Faults.{Spot, rows_fault_at}
 use Rattle.section_tables.proofs.Steps.{bind_ok, guard_true, guard_false, ok_is, expected}
-use Rattle.section_tables.proofs.Outcomes.{then_or, each_sound, each_or}
+use Rattle.section_tables.proofs.{Outcomes.{then_or, each_sound, each_or}, RowsRead.{row_sound, row_complete}}
 use Rattle.section_tables.proofs.ScalarTexts.{among_sound, among_complete, scalar_sound, scalar_complete}
-use Rattle.section_tables.proofs.RowsRead.{row_sound, row_complete}
 use Rattle.section_tables.proofs.ListValues.{name_sound, name_complete, listed_sound, listed_complete}
 use Rattle.section_tables.proofs.ValuesRead.{value_sound, value_complete}
 

@@ -1,10 +1,7 @@
 -- Looking for a key in a table, and for what is lacking in a row, from a place on.
 use Rattle.std.proofs.Common.{rules, ◌≡◌, ℕ, zero, suc, ◌+◌, ◌<◌, Bool, true, false, if◌then◌else◌, slice_get, List, [], ◌∷◌, length, drop, get_or, map, Option, Some, None, refl, sym, ◌∙◌, arith, add-one}
-use Rattle.std.specs.List.{list_any}
-use Rattle.std.specs.Str.{bytes_eq}
-use Rattle.std.proofs.Math.Seq.{drop-cons}
-use Rattle.section_tables.specs.Tables.{behind_one, found_in, shifted}
-use Rattle.section_tables.specs.Reading.{lacking}
+use Rattle.std.{specs.{List.list_any, Str.bytes_eq}, proofs.Math.Seq.drop-cons}
+use Rattle.section_tables.specs.{Tables.{behind_one, found_in, shifted}, Reading.lacking}
 
 pub at_start : {T : Type 0} (o : Option (ℕ × T)) → shifted 0 o ≡ o
 at_start x1 = search rules

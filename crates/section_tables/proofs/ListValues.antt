@@ -1,25 +1,17 @@
 -- Values that are texts or lists are those that are read, and no others.
 use Rattle.std.proofs.Common.{rules, ◌≡◌, ℕ, ◌<◌, ◌≤◌, nat_lt, Bool, true, false, List, length, Option, Some, Result, Ok, refl, inl, inr, arith}
 use Rattle.std.proofs.lemmas.Bool.{ltb-true}
-use Rattle.yaml_subset.specs.Node.{Node}
-use Rattle.yaml_subset.specs.View.{line_of, items_in}
-use Rattle.mpf_values.specs.Lists.{Item}
-use Rattle.mpf_values.specs.Reading.{list_at, event_at}
+use Rattle.yaml_subset.specs.{Node.Node, View.{line_of, items_in}}
+use Rattle.mpf_values.specs.{Lists.Item, Reading.{list_at, event_at}}
 use Rattle.mpf_values.proofs.NameTexts.{IsName-from_is_name, is_name-from_IsName}
-use Rattle.mpf_values.proofs.EventTexts.{event_computes}
-use Rattle.mpf_values.proofs.ListNodes.{list_sound, list_complete}
-use Rattle.config_faults.specs.declared.fault.FaultKind.TheVariants.{Limit}
-use Rattle.section_tables.specs.Rows.{Written, Handled, Plain}
-use Rattle.config_faults.specs.Faults.{RowsFault, Spot, rows_fault_at}
-use Rattle.section_tables.specs.Kinds.{Scalar, Bounds, fits}
-use Rattle.section_tables.specs.Entries.{nodes_below, handled_at}
+use Rattle.mpf_values.proofs.{EventTexts.event_computes, ListNodes.{list_sound, list_complete}}
+use Rattle.config_faults.specs.{declared.fault.FaultKind.TheVariants.Limit, Faults.{RowsFault, Spot, rows_fault_at}}
+use Rattle.section_tables.specs.{Rows.{Written, Handled, Plain}, Kinds.{Scalar, Bounds, fits}}
+use Rattle.section_tables.{specs.Entries.{nodes_below, handled_at}, proofs.ScalarTexts.{scalar_sound, scalar_complete}}
 use Rattle.section_tables.specs.EntryOf.{IsPlain, AreListed, AreNodes, IsWritten, IsHandled}
 use Rattle.section_tables.specs.Reading.{most_items, IsReadOr, IsReadOrLong, ◌>>=◌, expect, give, each_read, plain_at, written_in, handled_in, count_at, count_of, list_items_at, listed_at, list_nodes_at, nodes_at}
 use Rattle.section_tables.proofs.Steps.{bind_ok, guard_true, guard_false, ok_is, expected}
-use Rattle.section_tables.proofs.Outcomes.{then_or, each_sound, each_or}
-use Rattle.section_tables.proofs.Counting.{count_few}
-use Rattle.section_tables.proofs.Options.{gave}
-use Rattle.section_tables.proofs.ScalarTexts.{scalar_sound, scalar_complete}
+use Rattle.section_tables.proofs.{Outcomes.{then_or, each_sound, each_or}, Counting.count_few, Options.gave}
 
 -- ---- texts
 

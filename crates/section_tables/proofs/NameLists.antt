@@ -1,20 +1,14 @@
 -- A name that is a list text is its only item.
 use Rattle.std.proofs.Common.{rules, ◌≡◌, ℕ, ◌<◌, nat_lt, cond, eqb, Bool, true, false, List, [], ◌∷◌, Some, None, Result, Ok, refl, sym, ap, subst, ◌∙◌, arith, append-nil}
 use Rattle.std.specs.List.{list_all}
-use Rattle.std.proofs.lemmas.Bool.{and_parts, or_from, eqb-true, ltb-true}
-use Rattle.std.proofs.lemmas.Option.{same_Some, none-some}
+use Rattle.std.proofs.lemmas.{Bool.{and_parts, or_from, eqb-true, ltb-true}, Option.{same_Some, none-some}}
 use Rattle.yaml_bytes.specs.Bytes.{is_blank}
-use Rattle.yaml_subset.specs.Node.{Node, scalar}
-use Rattle.yaml_subset.specs.View.{line_of, text_in}
-use Rattle.mpf_values.specs.Bytes.{is_name_byte, is_separator}
-use Rattle.mpf_values.specs.ListText.{open_after}
-use Rattle.mpf_values.specs.Lists.{Item, item_at}
+use Rattle.yaml_subset.specs.{Node.{Node, scalar}, View.{line_of, text_in}}
+use Rattle.mpf_values.specs.{Bytes.{is_name_byte, is_separator}, ListText.open_after, Lists.{Item, item_at}}
 use Rattle.mpf_values.specs.Reading.{is_name, items_from, items_of, list_at, event_at}
-use Rattle.mpf_values.proofs.EventTexts.{event_computes}
-use Rattle.mpf_values.proofs.NameTexts.{IsName-from_is_name}
-use Rattle.section_tables.specs.Kinds.{Bounds}
+use Rattle.mpf_values.proofs.{EventTexts.event_computes, NameTexts.IsName-from_is_name}
+use Rattle.section_tables.specs.{Kinds.Bounds, Entries.{written_at, handled_at}}
 use Rattle.config_faults.specs.Faults.{RowsFault, Spot}
-use Rattle.section_tables.specs.Entries.{written_at, handled_at}
 use Rattle.section_tables.specs.Reading.{◌>>=◌, each_read, count_at, written_in, handled_in, list_items_at, listed_at}
 
 -- ---- bytes of a name

@@ -1,15 +1,12 @@
 -- The nodes of a YAML list that count are read as its items are.
 use Rattle.std.proofs.Common.{rules, ◌≡◌, ℕ, ◌+◌, nat_lt, ◌==◌, Bool, true, false, List, [], ◌∷◌, length, map, filter, Option, Some, None, Result, Ok, Err, refl, sym, ap, arith}
 use Rattle.std.proofs.lemmas.Option.{same_Some, none-some}
-use Rattle.yaml_subset.specs.declared.tree.Tree.{Tree}
+use Rattle.yaml_subset.specs.{declared.tree.Tree.Tree, View.{items_in, node_view}}
 use Rattle.yaml_subset.specs.Node.{Node, scalar, sequence, mapping}
-use Rattle.yaml_subset.specs.View.{items_in, node_view}
-use Rattle.mpf_values.specs.Lists.{Item, item_at}
-use Rattle.mpf_values.specs.Reading.{is_name, onto_list, scalars_at, list_at, event_at}
+use Rattle.mpf_values.specs.{Lists.{Item, item_at}, Reading.{is_name, onto_list, scalars_at, list_at, event_at}}
 use Rattle.mpf_values.proofs.Steps.{bind_some}
 use Rattle.config_faults.specs.declared.fault.FaultKind.TheVariants.{BadValue, Limit}
-use Rattle.section_tables.specs.Entries.{handled_at}
-use Rattle.section_tables.specs.Kinds.{Bounds, fits}
+use Rattle.section_tables.specs.{Entries.handled_at, Kinds.{Bounds, fits}}
 use Rattle.config_faults.specs.Faults.{RowsFault, Spot, rows_fault_at, refused}
 use Rattle.section_tables.specs.Reading.{◌>>=◌, expect, give, each_read, counts, count_at, written_in, handled_in, list_items_at, listed_at}
 use Rattle.section_tables.specs.Inside.{is_counted, node_item_at, counted_at}

@@ -1,12 +1,9 @@
 -- What optional values went through.
-use Rattle.std.proofs.Common.{rules, ◌≡◌, Bool, true, cond, Option, Some, None, refl}
+use Rattle.std.proofs.Common.{rules, ◌≡◌, Bool, true, Option, Some, refl}
 use Rattle.section_tables.specs.Reading.{give, keep}
 
 pub gave : {A B : Type 0} (f : A → B) (o : Option A) (y : B) → give f o ≡ Some y → (x : A) × (o ≡ Some x) × (y ≡ f x)
 gave f x2 y e = search rules
-
-kept_by : {A : Type 0} (z x : A) (b : Bool) → cond b (Some z) None ≡ Some x → (b ≡ true) × (x ≡ z)
-kept_by z x x3 e = search rules
 
 pub kept : {A : Type 0} (p : A → Bool) (o : Option A) (x : A) → keep p o ≡ Some x → (o ≡ Some x) × (p x ≡ true)
 kept p x2 x e = search rules

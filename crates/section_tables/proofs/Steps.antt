@@ -1,7 +1,6 @@
 -- What a reading that did not fail went through.
 use Rattle.std.proofs.Common.{rules, ◌≡◌, ℕ, List, Bool, true, false, cond, Option, Some, Result, Ok, Err, ◌⊎◌}
-use Rattle.std.specs.Str.{bytes_eq}
-use Rattle.std.proofs.lemmas.Slice.Eq.{bytes_eq-Decides}
+use Rattle.std.{specs.Str.bytes_eq, proofs.lemmas.Slice.Eq.bytes_eq-Decides}
 use Rattle.config_faults.specs.Faults.{RowsFault, Spot}
 use Rattle.section_tables.specs.Reading.{◌>>=◌, expect}
 

@@ -1,17 +1,10 @@
 -- A row with what is written into it.
 use Rattle.std.proofs.Common.{rules, ◌≡◌, ℕ, zero, suc, ◌+◌, ◌<◌, ◌≤◌, true, false, List, [], ◌∷◌, ◌++◌, length, set, take, drop, map, get_or, slice_get, Option, Some, None, Result, option_map, refl, sym, ap, ◌∙◌, arith, add-one}
-use Rattle.std.specs.Borrow.{Bor}
-use Rattle.std.specs.Slice.{IsItemAt}
-use Rattle.std.proofs.lemmas.Option.{slice_get-map}
-use Rattle.section_tables.specs.declared.rows.Value.{Value}
-use Rattle.section_tables.specs.declared.table.Setting.{Setting}
-use Rattle.section_tables.specs.Rows.{Value as Seen}
-use Rattle.section_tables.specs.Tables.{setting_key, setting_lacks, lacks_if}
-use Rattle.section_tables.specs.TableView.{setting_view, without_view}
-use Rattle.config_faults.specs.declared.fault.ConfigFault.{ConfigFault}
-use Rattle.config_faults.specs.Faults.{RowsFault, FailsRows}
-use Rattle.section_tables.specs.Reading.{◌>>=◌, lacking}
-use Rattle.section_tables.proofs.Finding.{lacking_at}
+use Rattle.std.{specs.{Borrow.Bor, Slice.IsItemAt}, proofs.lemmas.Option.slice_get-map}
+use Rattle.section_tables.specs.declared.{rows.Value.Value, table.Setting.Setting}
+use Rattle.section_tables.specs.{Rows.Value as Seen, TableView.{setting_view, without_view}, Reading.{◌>>=◌, lacking}}
+use Rattle.section_tables.{specs.Tables.{setting_key, setting_lacks, lacks_if}, proofs.Finding.lacking_at}
+use Rattle.config_faults.specs.{declared.fault.ConfigFault.ConfigFault, Faults.{RowsFault, FailsRows}}
 use Rattle.section_tables.specs.View.{value_view, values_view, value_option_view, with_written}
 
 module _ {V : Type 0} where

@@ -1,9 +1,6 @@
 -- What stands below a key.
-use Rattle.std.specs.Prelude.{ℕ, Bool, List, [], ◌∷◌, Option, Some, None, codes}
-use Rattle.std.specs.List.{list_any}
-use Rattle.std.specs.Str.{bytes_eq}
-use Rattle.yaml_subset.specs.Node.{Node, Pair}
-use Rattle.yaml_subset.specs.View.{text_in, items_in, pairs_in}
+use Rattle.std.specs.{Prelude.{ℕ, Bool, List, [], ◌∷◌, Option, Some, None, codes}, List.list_any, Str.bytes_eq}
+use Rattle.yaml_subset.specs.{Node.{Node, Pair}, View.{text_in, items_in, pairs_in}}
 use Rattle.mpf_values.specs.Events.{Event}
 use Rattle.section_tables.specs.Rows.{Written, Handled}
 

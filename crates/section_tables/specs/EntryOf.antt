@@ -1,15 +1,9 @@
 -- What the row of an entry is, by the table of its section, however it is read.
 use Rattle.std.specs.Prelude.{◌≡◌, ◌≢◌, ℕ, ℤ, ◌≤◌, Bool, true, false, ◌&&◌, int_le, List, [], ◌∷◌, length, map, Option, Some, None, set, ◌⊎◌}
 use Rattle.std.specs.List.{AllZip, AllPairs, flat_map}
-use Rattle.yaml_subset.specs.Node.{Node, Pair}
-use Rattle.yaml_subset.specs.View.{line_of, text_in}
-use Rattle.mpf_values.specs.Booleans.{IsBoolean}
-use Rattle.mpf_values.specs.Integers.{IsInteger}
-use Rattle.mpf_values.specs.Times.{IsTime}
-use Rattle.mpf_values.specs.Powers.{IsPower}
-use Rattle.mpf_values.specs.Names.{IsName}
-use Rattle.mpf_values.specs.Events.{Event, IsEvent}
-use Rattle.mpf_values.specs.Lists.{Item, IsList}
+use Rattle.yaml_subset.specs.{Node.{Node, Pair}, View.{line_of, text_in}}
+use Rattle.mpf_values.specs.{Booleans.IsBoolean, Integers.IsInteger, Powers.IsPower, Lists.{Item, IsList}}
+use Rattle.mpf_values.specs.{Times.IsTime, Names.IsName, Events.{Event, IsEvent}}
 use Rattle.section_tables.specs.Rows.{Written, Handled, Plain, flag, number, time, power, word, name, event, Fields, Keyed, Value, one, names, posts, events, steps, maps, keyed, Entry, Player}
 use Rattle.section_tables.specs.Kinds.{Scalar, a_flag, number_within, time_within, a_power, one_of, a_name, an_event, Bounds, at_least, fits, Field, Kind, single, name_list, post_list, event_list, step_list, map_list, named_maps, keyed_maps, Setting, PlayerKinds}
 use Rattle.section_tables.specs.Entries.{pairs_below, nodes_below, is_ignored, written_at, handled_at}

@@ -1,9 +1,6 @@
 -- What a function gave for the items of a list, one call for each.
-use Rattle.std.specs.Prelude.{◌≡◌, List, [], ◌∷◌, Result, Ok, Err, ◌⊎◌}
-use Rattle.std.specs.List.{AllZip}
-use Rattle.std.specs.Global.{Vec}
-use Rattle.config_faults.specs.declared.fault.ConfigFault.{ConfigFault}
-use Rattle.config_faults.specs.declared.fault.ConfigFault.TheVariants.{NoMemory}
+use Rattle.std.specs.{Prelude.{◌≡◌, List, [], ◌∷◌, Result, Ok, Err, ◌⊎◌}, List.AllZip, Global.Vec}
+use Rattle.config_faults.specs.declared.fault.ConfigFault.{ConfigFault, TheVariants.NoMemory}
 
 -- calls gave something, up to the first that failed
 abbrev pub FailsFirst : {A B : Type 0} → (A → Result B ConfigFault → Type 0) → ConfigFault → List A → Type 0

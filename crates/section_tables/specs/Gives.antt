@@ -1,18 +1,11 @@
 -- What the readers of sections answer, by the tables of the program.
-use Rattle.std.specs.Prelude.{ℕ, List, Result}
-use Rattle.std.specs.Global.{Vec}
-use Rattle.yaml_subset.specs.declared.tree.Key.{Key}
-use Rattle.yaml_subset.specs.declared.tree.Tree.{Tree}
-use Rattle.yaml_subset.specs.View.{pair_view}
-use Rattle.section_tables.specs.declared.rows.Name.{Name}
+use Rattle.std.specs.{Prelude.{ℕ, List, Result}, Global.Vec}
+use Rattle.yaml_subset.specs.{declared.tree.{Key.Key, Tree.Tree}, View.pair_view}
+use Rattle.section_tables.specs.{declared.rows.Name.Name, Rows.{Written, Entry, Player}}
 use Rattle.section_tables.specs.declared.rows.Entry as entries
 use Rattle.section_tables.specs.declared.rows.Player as players
-use Rattle.section_tables.specs.declared.table.Barred.{Barred}
-use Rattle.section_tables.specs.declared.table.PlayerKinds.{PlayerKinds}
-use Rattle.section_tables.specs.declared.table.Setting.{Setting}
-use Rattle.config_faults.specs.declared.fault.ConfigFault.{ConfigFault}
-use Rattle.section_tables.specs.Rows.{Written, Entry, Player}
-use Rattle.config_faults.specs.Faults.{RowsFault, GivesRows}
+use Rattle.section_tables.specs.declared.table.{Barred.Barred, PlayerKinds.PlayerKinds, Setting.Setting}
+use Rattle.config_faults.specs.{declared.fault.ConfigFault.ConfigFault, Faults.{RowsFault, GivesRows}}
 use Rattle.section_tables.specs.EntryOf.{IsEntry, AreEntries, ArePlayers, AreNamesListed}
 use Rattle.section_tables.specs.Reading.{entry_at, entries_at, players_at, names_at}
 use Rattle.section_tables.specs.TableView.{barred_view, table_view, player_kinds_view}

@@ -1,41 +1,25 @@
 -- What contracts of the functions inside this crate see.
 use Rattle.std.specs.Prelude.{◌≡◌, ℕ, Bool, List, [], ◌∷◌, ◌++◌, length, map, filter, set, slice_get, Option, Some, None, Result, Ok, if◌then◌else◌}
-use Rattle.std.specs.Borrow.{Bor}
-use Rattle.std.specs.Global.{Vec}
-use Rattle.yaml_subset.specs.declared.tree.Key.{Key}
-use Rattle.yaml_subset.specs.declared.tree.Tree.{Tree}
-use Rattle.yaml_subset.specs.Node.{Node, Pair}
+use Rattle.std.specs.{Borrow.Bor, Global.Vec}
+use Rattle.yaml_subset.specs.{declared.tree.{Key.Key, Tree.Tree}, Node.{Node, Pair}}
 use Rattle.yaml_subset.specs.View.{node_view, pair_view, text_in, option_slice}
 use Rattle.mpf_values.specs.declared.items.Item as items
-use Rattle.mpf_values.specs.Lists.{Item}
-use Rattle.mpf_values.specs.Reading.{is_name, event_at, scalar_at}
-use Rattle.mpf_values.specs.View.{item_view, items_view}
-use Rattle.section_tables.specs.declared.nodes.MapPairs.{MapPairs}
-use Rattle.section_tables.specs.declared.nodes.ListNodes.{ListNodes}
-use Rattle.section_tables.specs.declared.rows.Name.{Name}
-use Rattle.section_tables.specs.declared.rows.Handler.{Handler}
+use Rattle.mpf_values.specs.{Lists.Item, Reading.{is_name, event_at, scalar_at}, View.{item_view, items_view}}
+use Rattle.section_tables.specs.declared.nodes.{MapPairs.MapPairs, ListNodes.ListNodes}
+use Rattle.section_tables.specs.declared.rows.{Name.Name, Handler.Handler, EntryRow.EntryRow}
 use Rattle.section_tables.specs.declared.rows.Plain as plains
 use Rattle.section_tables.specs.declared.rows.Fields as maps
 use Rattle.section_tables.specs.declared.rows.Keyed as keyed_rows
 use Rattle.section_tables.specs.declared.rows.Value as values
-use Rattle.section_tables.specs.declared.rows.EntryRow.{EntryRow}
 use Rattle.section_tables.specs.declared.rows.Player as players
-use Rattle.section_tables.specs.declared.table.Scalar.{Scalar}
-use Rattle.section_tables.specs.declared.table.Bounds.{Bounds}
-use Rattle.section_tables.specs.declared.table.Others.{Others}
-use Rattle.section_tables.specs.declared.table.Field.{Field}
-use Rattle.section_tables.specs.declared.table.Kind.{Kind}
-use Rattle.section_tables.specs.declared.table.Setting.{Setting}
-use Rattle.section_tables.specs.declared.table.PlayerKinds.{PlayerKinds}
-use Rattle.section_tables.specs.declared.table.Barred.{Barred}
-use Rattle.config_faults.specs.declared.spot.Spot.{Spot}
-use Rattle.config_faults.specs.declared.fault.ConfigFault.{ConfigFault}
+use Rattle.section_tables.specs.declared.table.{Scalar.Scalar, Others.Others, Field.Field, Kind.Kind, Setting.Setting}
+use Rattle.section_tables.specs.declared.table.{Bounds.Bounds, PlayerKinds.PlayerKinds, Barred.Barred}
+use Rattle.config_faults.specs.declared.{spot.Spot.Spot, fault.ConfigFault.ConfigFault}
 use Rattle.section_tables.specs.Rows.{Written, Handled, Plain, name, event, Fields, Keyed, Value, Entry, Player}
 use Rattle.config_faults.specs.Faults.{RowsFault, spot_view, GivesRows}
-use Rattle.section_tables.specs.Kinds.{at_least}
+use Rattle.section_tables.specs.{Kinds.at_least, EntryOf.{pass, own_name, place_found, places_written}}
 use Rattle.section_tables.specs.Kinds as kinds
 use Rattle.section_tables.specs.Entries.{pairs_below, is_ignored, written_at, handled_at}
-use Rattle.section_tables.specs.EntryOf.{pass, own_name, place_found, places_written}
 use Rattle.section_tables.specs.Tables.{found_in, field_key, field_default, field_lacks, setting_key, setting_default, setting_lacks}
 use Rattle.config_faults.specs.Faults as seen
 use Rattle.section_tables.specs.Reading.{◌>>=◌, expect, give, counts, each_read, scalar_of, plain_at, most_items, count_at, written_in, handled_in, list_items_at, listed_at, list_nodes_at, nodes_at, put_at, overwritten_at, lacking, field_at, fields_row_at, fields_at, named_maps_at, keyed_row_at, keyed_at, few_pairs_at, keyed_list_at, value_at, setting_at, values_at, other_entry_at, player_at}

@@ -1,6 +1,5 @@
 -- What it means that every name in a row is one, and that no list in it is longer than its limit.
-use Rattle.std.specs.Prelude.{ℕ, ◌≤◌, List, [], length, IfSome}
-use Rattle.std.specs.List.{All, AllByRecursion}
+use Rattle.std.specs.{Prelude.{ℕ, ◌≤◌, List, [], length, IfSome}, List.{All, AllByRecursion}}
 use Rattle.mpf_values.specs.Names.{IsName}
 use Rattle.section_tables.specs.Rows.{Written, Handled, Plain, name, event, Keyed, Value, one, names, posts, events, steps, maps, keyed, Entry, Player}
 use Rattle.section_tables.specs.Kinds.{Scalar, a_name, an_event, Field, Kind, map_list, named_maps, keyed_maps, Setting, PlayerKinds, Shape, by_entries, by_players, by_entry, by_names}

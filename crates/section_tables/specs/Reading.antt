@@ -1,11 +1,8 @@
 -- Reading an entry by a table, from its first setting to its last, with the first fault that is met.
 use Rattle.std.specs.Prelude.{◌≡◌, ℕ, ◌<◌, nat_lt, nat_le, ◌==◌, ◌&&◌, not, Bool, true, false, if◌then◌else◌, List, [], ◌∷◌, length, map, filter, Option, Some, None, Result, Ok, set, ◌⊎◌}
-use Rattle.std.specs.List.{list_any}
-use Rattle.std.specs.Result.{is_ok}
-use Rattle.std.specs.Str.{bytes_eq}
+use Rattle.std.specs.{List.list_any, Result.is_ok, Str.bytes_eq}
 pub use Rattle.yaml_bytes.specs.Results.{◌>>=◌}
-use Rattle.yaml_subset.specs.Node.{Node, Pair}
-use Rattle.yaml_subset.specs.View.{line_of, text_in, items_in}
+use Rattle.yaml_subset.specs.{Node.{Node, Pair}, View.{line_of, text_in, items_in}}
 use Rattle.mpf_values.specs.Lists.{Item}
 use Rattle.mpf_values.specs.Reading.{is_name, list_at, boolean_at, integer_at, time_at, power_at, event_at}
 use Rattle.config_faults.specs.declared.fault.FaultKind.TheVariants.{UnknownSetting, BadValue, Missing, Limit}

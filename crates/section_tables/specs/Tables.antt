@@ -1,8 +1,7 @@
 -- What a table says of its settings.
 use Rattle.std.specs.Prelude.{ℕ, suc, ◌+◌, Bool, true, false, if◌then◌else◌, List, [], ◌∷◌, Option, Some, None}
 use Rattle.std.specs.Str.{bytes_eq}
-use Rattle.section_tables.specs.Rows.{Plain, nothing, Value, one}
-use Rattle.section_tables.specs.Kinds.{Absent, required, default, Field, Setting}
+use Rattle.section_tables.specs.{Rows.{Plain, nothing, Value, one}, Kinds.{Absent, required, default, Field, Setting}}
 
 -- the place of the first row with this key, and the row
 abbrev pub behind_one : {T : Type 0} → Option (ℕ × T) → Option (ℕ × T)

@@ -1,17 +1,9 @@
 -- What contracts see of the rows, and of an answer.
-use Rattle.std.specs.Prelude.{ℕ, map, set, List, [], ◌∷◌, Option, Some, None}
-use Rattle.std.specs.Borrow.{Bor}
-use Rattle.std.specs.Global.{Box, Vec}
-use Rattle.yaml_subset.specs.declared.tree.Key.{Key}
-use Rattle.yaml_subset.specs.declared.tree.Tree.{Tree}
-use Rattle.section_tables.specs.declared.nodes.MapPairs.{MapPairs}
-use Rattle.section_tables.specs.declared.nodes.ListNodes.{ListNodes}
-use Rattle.yaml_subset.specs.Node.{Node, Pair}
-use Rattle.yaml_subset.specs.View.{node_view, pair_view}
+use Rattle.std.specs.{Prelude.{ℕ, map, set, List, [], ◌∷◌, Option, Some, None}, Borrow.Bor, Global.{Box, Vec}}
+use Rattle.yaml_subset.specs.{declared.tree.{Key.Key, Tree.Tree}, Node.{Node, Pair}, View.{node_view, pair_view}}
+use Rattle.section_tables.specs.{declared.nodes.{MapPairs.MapPairs, ListNodes.ListNodes}, Entries.written_at}
 use Rattle.mpf_values.specs.Events.{Condition}
-use Rattle.section_tables.specs.declared.rows.Name.{Name}
-use Rattle.section_tables.specs.declared.rows.Guard.{Guard}
-use Rattle.section_tables.specs.declared.rows.Handler.{Handler}
+use Rattle.section_tables.specs.declared.rows.{Name.Name, Guard.Guard, Handler.Handler, EntryRow.EntryRow}
 use Rattle.section_tables.specs.declared.rows.Plain as plains
 use Rattle.section_tables.specs.declared.rows.Plain.TheVariants as plain
 use Rattle.section_tables.specs.declared.rows.Fields as fields
@@ -20,9 +12,7 @@ use Rattle.section_tables.specs.declared.rows.Player as players
 use Rattle.section_tables.specs.declared.rows.Value as values
 use Rattle.section_tables.specs.declared.rows.Value.TheVariants as value
 use Rattle.section_tables.specs.declared.rows.Entry as entries
-use Rattle.section_tables.specs.declared.rows.EntryRow.{EntryRow}
 use Rattle.section_tables.specs.Rows.{Written, Handled, Plain, nothing, flag, number, time, power, word, name, event, Fields, Keyed, Value, one, names, posts, events, steps, maps, keyed, Entry, Player}
-use Rattle.section_tables.specs.Entries.{written_at}
 
 -- ---- values
 

@@ -1,6 +1,5 @@
 use Rattle.std.proofs.Common.{◌≡◌, map, drop}
-use Rattle.mpf_sections.specs.Typed.{content_named}
-use Rattle.mpf_sections.specs.View.{section_view}
+use Rattle.mpf_sections.specs.{Typed.content_named, View.section_view}
 use Rattle.mpf_sections.proofs.typed.section_named.Given as goal
 
 abbrev pub invariant-loop-section : goal.invariant-loop-section

@@ -1,5 +1,4 @@
-use Rattle.std.proofs.Common.{◌≡◌, Bool, true, false, if◌then◌else◌, Option, Some, refl, sym, ◌∙◌}
-use Rattle.std.specs.Str.{bytes_eq}
+use Rattle.std.{proofs.Common.{◌≡◌, Bool, true, false, if◌then◌else◌, Option, Some, refl, sym, ◌∙◌}, specs.Str.bytes_eq}
 use Rattle.mpf_tables.specs.SectionTables.{flippers_name, autofire_coils_name, ball_devices_name}
 use Rattle.mpf_tables.proofs.tables.device_shape.Goals as goal
 

@@ -1,3 +1,4 @@
+use Rattle.std.proofs.Common.{rules}
 use Rattle.section_tables.specs.View.{row_values}
 use Rattle.section_tables.proofs.bare.bare_of.Goals as goal
 
@@ -7,11 +8,4 @@ first_lacking-lacks-requires c = rw (c.new-3.ensures.items, c.in_ok-clone.ensure
 
 pub invariant_of-result : goal.invariant_of-result
 unfolding row_values
-invariant_of-result c = record {
-  defaults = rw c.in_ok-values.ensures.ok c.in_ok-bare_row.ensures.row;
-  is_bare = (
-    rw (c.in_ok-row.ensures.ok, c.new-3.ensures.items, c.in_ok-clone.ensures.cases, c.in_ok-values.ensures.ok) c.in_ok-bare_row.ensures.row,
-    rw c.in_ok-row.ensures.ok c.new-3.ensures.items,
-    rw c.in_ok-row.ensures.ok c.first_lacking-lacks.ensures,
-  );
-}
+invariant_of-result c = search rules

@@ -1,6 +1,4 @@
-use Rattle.std.proofs.Common.{refl, inr}
-use Rattle.std.specs.Fn.{FnReturnsAt}
-use Rattle.std.proofs.lemmas.Result.{err_from_is_err_and}
+use Rattle.std.{proofs.{Common.{refl, inr}, lemmas.Result.err_from_is_err_and}, specs.Fn.FnReturnsAt}
 use Rattle.section_tables.proofs.EachGiven.{fails_at, more}
 use Rattle.section_tables.proofs.each.each.Goals as goal
 

@@ -1,6 +1,4 @@
-use Rattle.std.proofs.Common.{take, Ok}
-use Rattle.std.specs.List.{AllZip}
-use Rattle.std.specs.Fn.{FnReturnsAt}
+use Rattle.std.{proofs.Common.{take, Ok}, specs.{List.AllZip, Fn.FnReturnsAt}}
 use Rattle.section_tables.proofs.each.each.Given as goal
 
 abbrev pub invariant-loop-item : goal.invariant-loop-item

@@ -1,8 +1,5 @@
-use Rattle.std.proofs.Common.{not, refl, sym, ap, ◌∙◌, inr}
-use Rattle.std.specs.Fn.{FnReturnsAt}
-use Rattle.std.proofs.lemmas.Result.{err_from_is_err_and}
-use Rattle.section_tables.specs.Inside.{is_counted}
-use Rattle.section_tables.proofs.EachGiven.{passing_fails, passing_more, passed_over}
+use Rattle.std.{proofs.{Common.{not, refl, sym, ap, ◌∙◌, inr}, lemmas.Result.err_from_is_err_and}, specs.Fn.FnReturnsAt}
+use Rattle.section_tables.{specs.Inside.is_counted, proofs.EachGiven.{passing_fails, passing_more, passed_over}}
 use Rattle.section_tables.proofs.each.each_counted.Goals.{then-not-is_empty+in_ok-one+in_ok-push, else-not-is_empty}
 use Rattle.section_tables.proofs.each.each_counted.Goals as goal
 

@@ -1,6 +1,4 @@
-use Rattle.std.proofs.Common.{take, filter, Ok}
-use Rattle.std.specs.List.{AllZip}
-use Rattle.std.specs.Fn.{FnReturnsAt}
+use Rattle.std.{proofs.Common.{take, filter, Ok}, specs.{List.AllZip, Fn.FnReturnsAt}}
 use Rattle.section_tables.specs.Inside.{is_counted}
 use Rattle.section_tables.proofs.each.each_counted.Given as goal
 

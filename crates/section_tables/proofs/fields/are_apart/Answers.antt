@@ -1,7 +1,5 @@
 use Rattle.std.proofs.Common.{true, false, sym, ◌∙◌}
-use Rattle.section_tables.specs.EntryOf.{own_name}
-use Rattle.section_tables.specs.View.{fields_view}
-use Rattle.section_tables.proofs.Apart.{apart_from}
+use Rattle.section_tables.{specs.{EntryOf.own_name, View.fields_view}, proofs.Apart.apart_from}
 use Rattle.section_tables.proofs.fields.are_apart.Goals as goal
 
 pub returns-then-has_namesake : goal.returns-then-has_namesake

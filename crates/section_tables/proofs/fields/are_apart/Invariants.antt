@@ -1,7 +1,5 @@
 use Rattle.std.proofs.Common.{◌≡◌, drop, map}
-use Rattle.section_tables.specs.EntryOf.{own_name}
-use Rattle.section_tables.specs.Reading.{are_apart}
-use Rattle.section_tables.specs.View.{fields_view}
+use Rattle.section_tables.specs.{EntryOf.own_name, Reading.are_apart, View.fields_view}
 use Rattle.section_tables.proofs.fields.are_apart.Given as goal
 
 abbrev pub invariant-loop-at : goal.invariant-loop-at

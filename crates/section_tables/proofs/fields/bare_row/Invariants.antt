@@ -1,7 +1,5 @@
 use Rattle.std.proofs.Common.{◌≡◌, take, map}
-use Rattle.section_tables.specs.Tables.{field_default}
-use Rattle.section_tables.specs.TableView.{field_view}
-use Rattle.section_tables.specs.View.{plains_view}
+use Rattle.section_tables.specs.{Tables.field_default, TableView.field_view, View.plains_view}
 use Rattle.section_tables.proofs.fields.bare_row.Given as goal
 
 abbrev pub invariant-loop-field : goal.invariant-loop-field

@@ -1,6 +1,5 @@
 use Rattle.std.proofs.Common.{◌≡◌, drop, map}
-use Rattle.section_tables.specs.Tables.{found_in, field_key, shifted}
-use Rattle.section_tables.specs.TableView.{field_view}
+use Rattle.section_tables.specs.{Tables.{found_in, field_key, shifted}, TableView.field_view}
 use Rattle.section_tables.proofs.fields.field_of.Given as goal
 
 abbrev pub invariant-loop-at : goal.invariant-loop-at

@@ -1,8 +1,6 @@
 use Rattle.std.proofs.Common.{◌≡◌, drop, map}
-use Rattle.section_tables.specs.Tables.{field_key, field_lacks}
-use Rattle.section_tables.specs.TableView.{field_view}
-use Rattle.section_tables.specs.Reading.{lacking}
-use Rattle.section_tables.specs.View.{plains_view}
+use Rattle.section_tables.specs.{Tables.{field_key, field_lacks}, TableView.field_view}
+use Rattle.section_tables.specs.{Reading.lacking, View.plains_view}
 use Rattle.section_tables.proofs.fields.first_lacking.Given as goal
 
 abbrev pub invariant-loop-at : goal.invariant-loop-at

@@ -1,9 +1,7 @@
 use Rattle.std.proofs.Common.{map}
 use Rattle.yaml_subset.specs.View.{pair_view}
-use Rattle.section_tables.specs.Reading.{keyed_at, keyed_list_at}
-use Rattle.section_tables.specs.TableView.{scalar_view, field_view}
-use Rattle.section_tables.specs.View.{keyed_view}
-use Rattle.section_tables.proofs.EachGiven.{gives_each}
+use Rattle.section_tables.specs.{Reading.{keyed_at, keyed_list_at}, View.keyed_view}
+use Rattle.section_tables.{specs.TableView.{scalar_view, field_view}, proofs.EachGiven.gives_each}
 use Rattle.section_tables.proofs.fields.keyed_list.Goals as goal
 
 pub returns : goal.returns

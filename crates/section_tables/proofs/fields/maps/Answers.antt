@@ -1,8 +1,6 @@
 use Rattle.std.proofs.Common.{map}
 use Rattle.yaml_subset.specs.View.{node_view}
-use Rattle.section_tables.specs.Reading.{fields_at}
-use Rattle.section_tables.specs.TableView.{others_view, field_view}
-use Rattle.section_tables.specs.View.{fields_view}
+use Rattle.section_tables.specs.{Reading.fields_at, TableView.{others_view, field_view}, View.fields_view}
 use Rattle.config_faults.specs.Faults.{spot_view}
 use Rattle.section_tables.proofs.EachGiven.{gives_each}
 use Rattle.section_tables.proofs.fields.maps.Goals as goal

@@ -1,9 +1,6 @@
 use Rattle.std.proofs.Common.{◌≡◌, drop, length, map}
-use Rattle.section_tables.specs.EntryOf.{pass}
-use Rattle.section_tables.specs.Tables.{field_key}
-use Rattle.section_tables.specs.Reading.{field_at, overwritten_at}
-use Rattle.section_tables.specs.TableView.{others_view, field_view}
-use Rattle.section_tables.specs.View.{pairs_view, plains_view}
+use Rattle.section_tables.specs.{EntryOf.pass, Tables.field_key, View.{pairs_view, plains_view}}
+use Rattle.section_tables.specs.{Reading.{field_at, overwritten_at}, TableView.{others_view, field_view}}
 use Rattle.section_tables.proofs.fields.overwrite.Given as goal
 
 abbrev pub invariant-loop-pair : goal.invariant-loop-pair

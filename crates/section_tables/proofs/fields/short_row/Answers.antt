@@ -1,7 +1,5 @@
-use Rattle.std.proofs.Common.{List, set, ap, ◌∙◌}
-use Rattle.std.proofs.lemmas.List.{map-set}
-use Rattle.section_tables.specs.Rows.{Plain}
-use Rattle.section_tables.specs.View.{plain_view}
+use Rattle.std.proofs.{Common.{List, set, ap, ◌∙◌}, lemmas.List.map-set}
+use Rattle.section_tables.specs.{Rows.Plain, View.plain_view}
 use Rattle.section_tables.proofs.fields.short_row.Goals as goal
 
 pub returns : goal.returns

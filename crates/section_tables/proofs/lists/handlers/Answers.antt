@@ -1,19 +1,12 @@
-use Rattle.std.proofs.Common.{map, sym, ap, subst, ◌∙◌}
+use Rattle.std.proofs.Common.{rules, sym, ap, subst, ◌∙◌}
 use Rattle.yaml_subset.specs.View.{node_view}
-use Rattle.section_tables.specs.Reading.{handled_in, most_items}
-use Rattle.section_tables.specs.TableView.{bounds_view}
+use Rattle.section_tables.specs.{Reading.most_items, TableView.bounds_view, Inside.{GivesHandlers, read_one_handler}}
 use Rattle.config_faults.specs.Faults.{spot_view}
-use Rattle.section_tables.specs.Inside.{GivesHandlers}
-use Rattle.section_tables.specs.Inside.{read_one_handler}
-use Rattle.section_tables.proofs.NameLists.{one_handled}
-use Rattle.section_tables.proofs.NodeLists.{only_handlers, counted_listed}
+use Rattle.section_tables.proofs.{NameLists.one_handled, NodeLists.{only_handlers, counted_listed}}
 use Rattle.section_tables.proofs.lists.handlers.Goals as goal
 
 pub returns-in-Some : goal.returns-in-Some
-returns-in-Some c =
-    let spot = spot_view c.args.spot in
-    let same = counted_listed handled_in spot most_items (bounds_view c.args.bounds) (node_view c.args.value.now) (map node_view c.in-Some.nodes.now) (only_handlers spot) (sym c.in-Some.ensures) in
-    subst (GivesHandlers c.node_handlers.result) same c.node_handlers.ensures
+returns-in-Some c = search (rules, counted_listed, only_handlers)
 
 pub returns : goal.returns
 returns c =

@@ -1,8 +1,7 @@
-use Rattle.std.proofs.Common.{not, length, map, filter, sym, ap, ◌∙◌, arith}
+use Rattle.std.proofs.Common.{rules, not, length, map, filter, sym, ap, ◌∙◌, arith}
 use Rattle.yaml_subset.specs.View.{node_view}
 use Rattle.mpf_values.proofs.ListNodes.{none_behind}
-use Rattle.section_tables.specs.Reading.{counts}
-use Rattle.section_tables.proofs.Counting.{counted, passed_over}
+use Rattle.section_tables.{specs.Reading.counts, proofs.Counting.{counted, passed_over}}
 use Rattle.section_tables.proofs.lists.item_count.Goals.{then-not-is_empty, else-not-is_empty}
 use Rattle.section_tables.proofs.lists.item_count.Goals as goal
 
@@ -18,7 +17,4 @@ loop-node-preserved c =
     ]
 
 pub returns : goal.returns
-returns c =
-    let none = none_behind c.args.nodes.now c.loop-node.node-index c.loop-node-test.false in
-    let left = ap (λ ns. length (filter counts ns)) none in
-    omega (arith, c.loop-node.invariant.1, left)
+returns c = search (rules, none_behind)

@@ -1,19 +1,12 @@
-use Rattle.std.proofs.Common.{map, sym, ap, subst, ◌∙◌}
+use Rattle.std.proofs.Common.{rules, sym, ap, subst, ◌∙◌}
 use Rattle.yaml_subset.specs.View.{node_view}
-use Rattle.section_tables.specs.Reading.{written_in}
-use Rattle.section_tables.specs.TableView.{bounds_view}
+use Rattle.section_tables.specs.{TableView.bounds_view, Gives.GivesNames, Inside.read_one_name}
 use Rattle.config_faults.specs.Faults.{spot_view}
-use Rattle.section_tables.specs.Gives.{GivesNames}
-use Rattle.section_tables.specs.Inside.{read_one_name}
-use Rattle.section_tables.proofs.NameLists.{one_written}
-use Rattle.section_tables.proofs.NodeLists.{only_names, counted_listed}
+use Rattle.section_tables.proofs.{NameLists.one_written, NodeLists.{only_names, counted_listed}}
 use Rattle.section_tables.proofs.lists.names.Goals as goal
 
 pub returns-in-Some : goal.returns-in-Some
-returns-in-Some c =
-    let spot = spot_view c.args.spot in
-    let same = counted_listed written_in spot c.args.most (bounds_view c.args.bounds) (node_view c.args.value.now) (map node_view c.in-Some.nodes.now) (only_names spot) (sym c.in-Some.ensures) in
-    subst (GivesNames c.node_names.result) same c.node_names.ensures
+returns-in-Some c = search (rules, counted_listed, only_names)
 
 pub returns : goal.returns
 returns c =

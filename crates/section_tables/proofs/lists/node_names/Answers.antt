@@ -1,11 +1,8 @@
 use Rattle.std.proofs.Common.{filter}
 use Rattle.yaml_subset.specs.View.{node_view}
-use Rattle.section_tables.specs.Reading.{written_in}
-use Rattle.section_tables.specs.View.{name_view}
+use Rattle.section_tables.specs.{Reading.written_in, View.name_view, Inside.{is_counted, node_item_at}}
 use Rattle.config_faults.specs.Faults.{spot_view}
-use Rattle.section_tables.specs.Inside.{is_counted, node_item_at}
-use Rattle.section_tables.proofs.EachGiven.{gives_each}
-use Rattle.section_tables.proofs.NodeLists.{seen_counted}
+use Rattle.section_tables.proofs.{EachGiven.gives_each, NodeLists.seen_counted}
 use Rattle.section_tables.proofs.lists.node_names.Goals as goal
 
 pub returns : goal.returns

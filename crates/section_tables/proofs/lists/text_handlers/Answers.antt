@@ -1,9 +1,7 @@
 use Rattle.std.proofs.Common.{sym}
 use Rattle.mpf_values.specs.View.{item_view}
-use Rattle.section_tables.specs.Reading.{handled_in}
-use Rattle.section_tables.specs.View.{handler_view}
+use Rattle.section_tables.{specs.{Reading.handled_in, View.handler_view}, proofs.EachGiven.gives_each}
 use Rattle.config_faults.specs.Faults.{spot_view}
-use Rattle.section_tables.proofs.EachGiven.{gives_each}
 use Rattle.section_tables.proofs.lists.text_handlers.Goals as goal
 
 pub returns : goal.returns

@@ -1,11 +1,7 @@
 use Rattle.std.proofs.Common.{◌≡◌, List, ◌++◌, drop, length, map}
-use Rattle.section_tables.specs.declared.rows.Value.{Value}
-use Rattle.section_tables.specs.Entries.{is_ignored}
-use Rattle.section_tables.specs.EntryOf.{places_written}
-use Rattle.section_tables.specs.Tables.{setting_key}
-use Rattle.section_tables.specs.Reading.{setting_at, overwritten_at}
-use Rattle.section_tables.specs.TableView.{setting_view}
-use Rattle.section_tables.specs.View.{pairs_view, values_view, with_written}
+use Rattle.section_tables.specs.{declared.rows.Value.Value, Reading.{setting_at, overwritten_at}}
+use Rattle.section_tables.specs.{Entries.is_ignored, Tables.setting_key, View.{pairs_view, values_view, with_written}}
+use Rattle.section_tables.specs.{EntryOf.places_written, TableView.setting_view}
 use Rattle.section_tables.proofs.settings.overwrite.Given as goal
 
 abbrev pub invariant-loop-pair : goal.invariant-loop-pair

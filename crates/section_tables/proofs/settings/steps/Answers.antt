@@ -1,7 +1,5 @@
 use Rattle.yaml_subset.specs.View.{node_view}
-use Rattle.section_tables.specs.Kinds.{at_least}
-use Rattle.section_tables.specs.Reading.{most_items, handled_in, listed_at}
-use Rattle.section_tables.specs.View.{handlers_view}
+use Rattle.section_tables.specs.{Kinds.at_least, Reading.{most_items, handled_in, listed_at}, View.handlers_view}
 use Rattle.config_faults.specs.Faults.{spot_view}
 use Rattle.section_tables.proofs.EachGiven.{gives_each}
 use Rattle.section_tables.proofs.settings.steps.Goals as goal

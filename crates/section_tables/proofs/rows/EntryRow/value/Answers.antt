@@ -1,14 +1,11 @@
-use Rattle.std.proofs.Common.{◌≡◌, suc, ◌-◌, ◌<◌, ◌≤◌, length, take, get_or, slice_get, sym, ◌∙◌, ap, subst, arith}
-use Rattle.section_tables.specs.View.{values_view, with_written, row_values}
+use Rattle.std.proofs.Common.{rules, ◌≡◌, suc, ◌-◌, take, get_or, slice_get, sym, ◌∙◌, subst, arith}
+use Rattle.section_tables.specs.View.{with_written, row_values}
 use Rattle.section_tables.proofs.WrittenRows.{found, passed, seen-at, seen-past, seen-same}
 use Rattle.section_tables.proofs.rows.EntryRow.value.Goals as goal
 
 pub returns-then-place-len : goal.returns-then-place-len
 unfolding row_values
-returns-then-place-len c =
-    let self = c.args.self.now in
-    let long = rw c.deref.ensures at c.len.ensures in
-    sym (seen-past self.bare.value.items self.order.items self.written.items c.args.place (omega (arith, c.if-place-len.true, long)))
+returns-then-place-len c = search (rules, seen-past)
 
 pub returns-then-index-place : goal.returns-then-index-place
 unfolding row_values

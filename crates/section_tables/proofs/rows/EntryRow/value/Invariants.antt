@@ -1,4 +1,4 @@
-use Rattle.std.proofs.Common.{◌≡◌, ℕ, ◌<◌, ◌≤◌, length, take, slice_get}
+use Rattle.std.proofs.Common.{◌≡◌, ◌<◌, ◌≤◌, length, take, slice_get}
 use Rattle.section_tables.specs.View.{with_written}
 use Rattle.section_tables.proofs.rows.EntryRow.value.Given as goal
 
