@@ -1,10 +1,7 @@
 -- What holds of each coil holds of one that is called by its name.
 use Rattle.std.proofs.Common.{◌≡◌, ℕ, Bool, true, false, if◌then◌else◌, List, [], ◌∷◌, fold, Option, Some, None, IfSome, subst}
-use Rattle.std.specs.List.{All, flat_map}
-use Rattle.std.specs.Str.{bytes_eq}
-use Rattle.std.proofs.lemmas.List.Elements.{All-head, All-tail}
-use Rattle.mpf_sections.specs.Rows.{Coil, SectionRows}
-use Rattle.mpf_sections.specs.TypedCoils.{coils_in}
+use Rattle.std.{specs.{List.{All, flat_map}, Str.bytes_eq}, proofs.lemmas.List.Elements.{All-head, All-tail}}
+use Rattle.mpf_sections.specs.{Rows.{Coil, SectionRows}, TypedCoils.coils_in}
 use Rattle.machine_definitions.specs.Definitions.{latest_coil, coil_called}
 
 module _ (P : Coil → Type 0) where

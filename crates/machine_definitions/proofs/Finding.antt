@@ -1,16 +1,9 @@
 -- What is found by a name, after a key was taken.
 use Rattle.std.proofs.Common.{◌≡◌, ℕ, if◌then◌else◌, ◌+◌, ◌<◌, length, drop, get_or, Bool, true, false, cond, ◌||◌, List, ◌∷◌, Option, Some, option_map, refl, sym, ap, ◌∙◌}
-use Rattle.std.specs.List.{list_any}
-use Rattle.std.specs.Str.{bytes_eq}
-use Rattle.std.specs.Borrow.{Bor}
-use Rattle.std.specs.HashMap.{HashMap}
+use Rattle.std.specs.{List.list_any, Str.bytes_eq, Borrow.Bor, HashMap.HashMap, HashSet.HashSet, Map.lookup}
 use Rattle.std.specs.HashMap as maps
-use Rattle.std.specs.HashSet.{HashSet}
 use Rattle.std.specs.HashSet as sets
-use Rattle.std.specs.Map.{lookup}
-use Rattle.std.proofs.lemmas.List.{at_drop_more}
-use Rattle.std.proofs.lemmas.Bool.Decides.{same_from_decides}
-use Rattle.std.proofs.lemmas.Slice.Eq.{bytes_eq-Decides}
+use Rattle.std.proofs.lemmas.{List.at_drop_more, Bool.Decides.same_from_decides, Slice.Eq.bytes_eq-Decides}
 use Rattle.machine_definitions.specs.Found.{has_bytes, is_found}
 
 -- ---- keys by their bytes

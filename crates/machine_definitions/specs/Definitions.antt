@@ -1,11 +1,8 @@
 -- What the entries of the machine text say of others, by name. Here `machine` is the sections of that text.
 use Rattle.std.specs.Prelude.{ℕ, Bool, false, if◌then◌else◌, List, [], Option, None, Some, fold, unwrap_or}
-use Rattle.std.specs.List.{flat_map, list_any}
-use Rattle.std.specs.Str.{bytes_eq}
-use Rattle.mpf_sections.specs.Rows.{Coil, BallDevice, SectionRows}
-use Rattle.mpf_sections.specs.Typed.{switches_in}
-use Rattle.mpf_sections.specs.TypedCoils.{coils_in, quick_switches}
-use Rattle.mpf_sections.specs.TypedBalls.{ball_devices_in}
+use Rattle.std.specs.{List.{flat_map, list_any}, Str.bytes_eq}
+use Rattle.mpf_sections.specs.{Rows.{Coil, BallDevice, SectionRows}, TypedCoils.{coils_in, quick_switches}}
+use Rattle.mpf_sections.specs.{Typed.switches_in, TypedBalls.ball_devices_in}
 
 -- the coil of this name, if there is one; of two the later
 abbrev pub latest_coil : List ℕ → Option Coil → Coil → Option Coil

@@ -1,21 +1,12 @@
 -- What the maps of `Definitions` hold and gain, and what entries are read as.
 use Rattle.std.specs.Prelude.{◌≡◌, ◌||◌, ℕ, Bool, List, fold, map, Option, Some, option_map}
-use Rattle.std.specs.List.{filter_map, flat_map, list_any}
-use Rattle.std.specs.Str.{bytes_eq}
-use Rattle.std.specs.Borrow.{Bor}
-use Rattle.std.specs.HashMap.{HashMap}
-use Rattle.std.specs.HashSet.{HashSet}
-use Rattle.std.specs.Map.{lookup}
-use Rattle.mpf_sections.specs.Rows.{Coil, SectionRows}
-use Rattle.mpf_sections.specs.Rows.{Shot}
-use Rattle.mpf_sections.specs.Rows.{BallDevice}
+use Rattle.std.specs.{List.{filter_map, flat_map, list_any}, Str.bytes_eq, HashMap.HashMap}
+use Rattle.std.specs.{Borrow.Bor, HashSet.HashSet, Map.lookup}
+use Rattle.mpf_sections.specs.{Rows.{Coil, SectionRows, Shot, BallDevice}, declared.section.Section.Section}
 use Rattle.section_tables.specs.declared.rows.Entry as entry_rows
 use Rattle.section_tables.specs.declared.rows.Fields as field_rows
-use Rattle.mpf_sections.specs.declared.section.Section.{Section}
-use Rattle.mpf_sections.specs.View.{entry_view, fields_view, section_view}
-use Rattle.mpf_sections.specs.Typed.{switch_of}
+use Rattle.mpf_sections.specs.{View.{entry_view, fields_view, section_view}, Typed.switch_of, TypedBalls.ball_device_of}
 use Rattle.mpf_sections.specs.TypedCoils.{coil_of, names_at, quick_switches}
-use Rattle.mpf_sections.specs.TypedBalls.{ball_device_of}
 use Rattle.mpf_sections.specs.TypedShots.{shot_of, state_of, shot_profile_of, shots_in, shot_profiles_in}
 use Rattle.mpf_config.specs.Rows.{Rows}
 use Rattle.machine_definitions.specs.declared.profile.Profile as profiles

@@ -1,6 +1,5 @@
 -- The variables of players, by name.
-use Rattle.std.specs.Prelude.{ℕ, Bool, ◌||◌, List, ◌++◌, codes}
-use Rattle.std.specs.Str.{bytes_eq}
+use Rattle.std.specs.{Prelude.{ℕ, Bool, ◌||◌, List, ◌++◌, codes}, Str.bytes_eq}
 
 -- the event that is posted when a variable changes
 abbrev pub player_event : List ℕ → List ℕ

@@ -1,7 +1,6 @@
 -- The shots of all texts, and their profiles, by name.
 use Rattle.std.specs.Prelude.{ℕ, Bool, true, false, ◌||◌, if◌then◌else◌, List, [], ◌∷◌, ◌++◌, map, fold, Option, None, Some, is_some, unwrap_or, codes}
-use Rattle.std.specs.List.{flat_map}
-use Rattle.std.specs.Str.{bytes_eq}
+use Rattle.std.specs.{List.flat_map, Str.bytes_eq}
 use Rattle.mpf_sections.specs.Rows.{Shot, ShotProfile, SectionRows}
 use Rattle.mpf_sections.specs.TypedShots.{default_profile, shots_in, shot_profiles_in}
 use Rattle.mpf_config.specs.Rows.{Rows}

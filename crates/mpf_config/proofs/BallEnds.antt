@@ -1,15 +1,10 @@
 -- A mode that holds the end of the ball starts at that alone: what the test of it means.
 use Rattle.std.proofs.Common.{rules, ◌≡◌, ◌≢◌, ℕ, Bool, true, false, not, ◌&&◌, ◌||◌, List, [], ◌∷◌, length, ◌==◌, refl, arith}
-use Rattle.std.specs.List.{All, list_all}
-use Rattle.std.specs.Str.{bytes_eq}
-use Rattle.std.proofs.lemmas.Bool.{ne_eqb}
-use Rattle.std.proofs.lemmas.List.Elements.{All-nil, All-cons, All-head, All-tail}
+use Rattle.std.specs.{List.{All, list_all}, Str.bytes_eq}
+use Rattle.std.proofs.lemmas.{Bool.ne_eqb, List.Elements.{All-nil, All-cons, All-head, All-tail}}
 use Rattle.section_tables.proofs.Steps.{word_is, is_word}
-use Rattle.mpf_tables.specs.SectionTables.{mode_name}
-use Rattle.mpf_sections.specs.Rows.{Handled, Content, entry, ModeSettings}
-use Rattle.mpf_sections.specs.Typed.{mode_settings_of, ball_ending, starts_at_ball_end}
-use Rattle.mpf_config.specs.RowsOf.{StartsAtBallEnd, KeepsToBallEnd}
-use Rattle.mpf_config.specs.Reading.{has_right_starts, keeps_to_ball_end}
+use Rattle.mpf_sections.specs.{Rows.{Handled, Content, ModeSettings}, Typed.{ball_ending, starts_at_ball_end}}
+use Rattle.mpf_config.specs.{RowsOf.{StartsAtBallEnd, KeepsToBallEnd}, Reading.keeps_to_ball_end}
 
 -- ---- tests
 
@@ -30,9 +25,6 @@ IsBallEnding h = h.event.name ≡ ball_ending
 abbrev is_ball_ending : Handled → Bool
 is_ball_ending h = bytes_eq h.event.name ball_ending
 
-some_sound : (hs : List Handled) → not (length hs == 0) ≡ true → hs ≢ []
-some_sound hs e = search rules
-
 some_complete : (hs : List Handled) → hs ≢ [] → length hs == 0 ≡ false
 some_complete [] some = absurd (some refl)
 some_complete (h ∷ hs) some = ne_eqb (length (h ∷ hs)) 0 (λ e. omega arith)
@@ -45,14 +37,11 @@ all_sound (h ∷ hs) e =
 
 all_complete : (hs : List Handled) → All IsBallEnding hs → list_all is_ball_ending hs ≡ true
 all_complete [] all = refl
-all_complete (h ∷ hs) all =
-    rw (is_word h.event.name ball_ending (All-head IsBallEnding h hs all), all_complete hs (All-tail IsBallEnding h hs all)) refl
+all_complete (h ∷ hs) all = search (rules, is_word, All-head, All-tail, all_complete hs (All-tail IsBallEnding h hs all))
 
 starts_sound : (s : ModeSettings) → starts_at_ball_end s ≡ true → StartsAtBallEnd s
 unfolding starts_at_ball_end
-starts_sound s e =
-    let a = both (not (length s.starts == 0)) (list_all is_ball_ending s.starts) e in
-    record { some = some_sound s.starts a.0; all = all_sound s.starts a.1 }
+starts_sound s e = search (rules, both, all_sound)
 
 starts_complete : (s : ModeSettings) → StartsAtBallEnd s → starts_at_ball_end s ≡ true
 unfolding starts_at_ball_end
@@ -62,16 +51,8 @@ starts_complete s h = rw (some_complete s.starts h.some, all_complete s.starts h
 
 pub keeps_sound : (section : List ℕ) (content : Content) → keeps_to_ball_end section content ≡ true → KeepsToBallEnd section content
 unfolding keeps_to_ball_end
-keeps_sound section (entry x) e = λ is holds.
-    let s = mode_settings_of x.values in
-    let well = implied (bytes_eq section mode_name) (has_right_starts s) e (is_word section mode_name is) in
-    starts_sound s (implied s.holds_ball_end (starts_at_ball_end s) well holds)
-keeps_sound section _ e = tt
+keeps_sound section x2 e = search (rules, implied, is_word, starts_sound)
 
 pub keeps_complete : (section : List ℕ) (content : Content) → KeepsToBallEnd section content → keeps_to_ball_end section content ≡ true
 unfolding keeps_to_ball_end
-keeps_complete section (entry x) h =
-    let s = mode_settings_of x.values in
-    implies (bytes_eq section mode_name) (has_right_starts s)
-    (λ is. implies s.holds_ball_end (starts_at_ball_end s) (λ holds. starts_complete s (h (word_is section mode_name is) holds)))
-keeps_complete section _ h = refl
+keeps_complete section x2 h = search (rules, implies, starts_complete, word_is)

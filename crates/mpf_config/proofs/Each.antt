@@ -1,7 +1,5 @@
 -- What holds of each element of a list.
-use Rattle.std.proofs.Common.{List, [], ◌∷◌}
-use Rattle.std.specs.List.{All, AllZip}
-use Rattle.std.proofs.lemmas.List.Elements.{All-nil, All-cons}
+use Rattle.std.{proofs.{Common.{List, [], ◌∷◌}, lemmas.List.Elements.{All-nil, All-cons}}, specs.List.{All, AllZip}}
 
 -- what holds of each row that an entry has holds of all rows
 pub All-from_zip : {A B : Type 0} (R : A → B → Type 0) (P : B → Type 0) → ((x : A) (y : B) → R x y → P y) → (xs : List A) (ys : List B) → AllZip R xs ys → All P ys

@@ -1,8 +1,7 @@
 -- Lists that are read element by element, up to the first fault.
-use Rattle.std.proofs.Common.{rules, ◌≡◌, List, [], ◌∷◌, ◌++◌, Result, Ok, Err, refl, sym, ap, ◌∙◌, append_assoc}
+use Rattle.std.proofs.Common.{rules, ◌≡◌, List, [], ◌∷◌, ◌++◌, Result, Ok, Err, refl, ap, append_assoc}
 use Rattle.config_faults.specs.declared.fault.ConfigFault.{ConfigFault}
-use Rattle.mpf_config.specs.Rows.{RowsFault}
-use Rattle.mpf_config.specs.View.{FailsRows}
+use Rattle.mpf_config.specs.{Rows.RowsFault, View.FailsRows}
 use Rattle.section_tables.specs.Reading.{◌>>=◌, each_read}
 
 -- what was read before, and what is still read
@@ -21,9 +20,7 @@ module _ {A B : Type 0} (f : A → Result B RowsFault) (front : List B) (x : A) 
   -- an element that is read
   pub goes_on : (y : B) → all ≡ x ∷ xs → f x ≡ Ok y → with_front front (each_read f all) ≡ total → with_front (front ++ y ∷ []) (each_read f xs) ≡ total
   unfolding each_read
-  goes_on y e h so_far =
-      let one : with_front front (each_read f all) ≡ with_front (front ++ y ∷ []) (each_read f xs) = rw (e, h) (regroup front y (each_read f xs)) in
-      sym one ∙ so_far
+  goes_on y e h so_far = search (rules, regroup)
 
   -- an element that is not
   pub fails : (e : ConfigFault) → all ≡ x ∷ xs → FailsRows e (f x) → with_front front (each_read f all) ≡ total → FailsRows e total

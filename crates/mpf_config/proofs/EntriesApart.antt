@@ -2,11 +2,8 @@
 use Rattle.std.proofs.Common.{rules, ◌≡◌, ◌≢◌, ℕ, List, [], map, sym, ap, subst, ◌∙◌, ◌⊎◌, inl, inr}
 use Rattle.std.specs.List.{Contains}
 use Rattle.mpf_sections.specs.Rows.{SectionRows}
-use Rattle.mpf_config.specs.Rows.{ModeRows}
+use Rattle.mpf_config.{specs.{Rows.ModeRows, ModeReads.ModeRead, Reading.taken_by}, proofs.NewNames.contains_map}
 use Rattle.mpf_config.specs.Apart.{EntryName, AreDistinct, AreApart, AreNamesApart, entry_key, entry_names, entry_keys}
-use Rattle.mpf_config.specs.ModeReads.{ModeRead}
-use Rattle.mpf_config.specs.Reading.{taken_by}
-use Rattle.mpf_config.proofs.NewNames.{contains_map}
 use Rattle.mpf_config.proofs.EntryKeys.{not_same, differ_by, in_mapped, taken_one, by_machine, by_mode, AreFresh}
 
 -- the entries of a mode

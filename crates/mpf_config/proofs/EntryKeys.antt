@@ -2,12 +2,10 @@
 use Rattle.std.proofs.Common.{◌≡◌, ◌≢◌, ℕ, suc, zero, List, [], ◌∷◌, ◌++◌, map, Ok, refl, sym, ap, subst, ◌⊎◌, inl, inr, arith}
 use Rattle.std.specs.List.{Contains, flat_map}
 use Rattle.yaml_subset.specs.Keys.{is_among}
-use Rattle.config_faults.specs.declared.fault.FaultKind.TheVariants.{Duplicate}
-use Rattle.config_faults.specs.Faults.{rows_fault_at}
+use Rattle.config_faults.specs.{declared.fault.FaultKind.TheVariants.Duplicate, Faults.rows_fault_at}
 use Rattle.section_tables.proofs.Steps.{guard_false}
 use Rattle.mpf_config.specs.Apart.{EntryName, Differ, AreDistinct, joined, entry_key, entry_keys}
-use Rattle.mpf_config.specs.ModeReads.{ModeRead}
-use Rattle.mpf_config.specs.Reading.{entries_new_at, taken_by}
+use Rattle.mpf_config.specs.{ModeReads.ModeRead, Reading.{entries_new_at, taken_by}}
 use Rattle.mpf_config.proofs.NewNames.{here, there, nothing_in, fresh_sound, fresh_complete}
 
 -- ---- keys

@@ -1,11 +1,8 @@
 -- The first line of a text, without the blanks at its end, and what stands behind it.
 use Rattle.std.proofs.Common.{rules, ◌≡◌, ℕ, ◌==◌, Bool, true, false, ◌&&◌, ◌||◌, List, [], ◌∷◌, ◌++◌, Option, unwrap_or, refl, sym, ap, subst, ◌∙◌, inl, inr}
-use Rattle.std.proofs.lemmas.Bool.{eqb-true}
-use Rattle.std.proofs.lemmas.Slice.Eq.{bytes_eq-Decides}
-use Rattle.yaml_bytes.specs.Lines.{begins_lf, ends_line}
-use Rattle.yaml_bytes.specs.Scanning.{trimmed}
-use Rattle.yaml_bytes.proofs.TextLines.{cut_other}
-use Rattle.yaml_bytes.proofs.PlainTexts.{trimmed_parts, trimmed-blanks}
+use Rattle.std.proofs.lemmas.{Bool.eqb-true, Slice.Eq.bytes_eq-Decides}
+use Rattle.yaml_bytes.specs.{Lines.{begins_lf, ends_line}, Scanning.trimmed}
+use Rattle.yaml_bytes.proofs.{TextLines.cut_other, PlainTexts.{trimmed_parts, trimmed-blanks}}
 use Rattle.mpf_config.specs.BundleText.{first_line, behind_first_line, version_line, has_version}
 use Rattle.mpf_config.specs.RowsOf.{IsLineEnd, IsFirstLine, BeginsWith}
 
@@ -32,22 +29,14 @@ abbrev Splits : List ℕ → Type 0
 Splits text = IsFirstLine (first_line text) text (behind_first_line text)
 
 split_cr : (bs : List ℕ) → begins_lf bs ≡ true → Splits (13 ∷ bs)
-split_cr [] e = absurd cc
-split_cr (c ∷ cs) e = subst (λ (x : ℕ). Splits (13 ∷ x ∷ cs)) (sym (eqb-true c 10 e)) (at_cr_lf cs)
+split_cr x1 e = search (rules, eqb-true, at_cr_lf)
 
 split_end : (b : ℕ) (bs : List ℕ) (lf cr : Bool) → b == 10 ≡ lf → b == 13 ≡ cr → (lf || (cr && begins_lf bs)) ≡ true → Splits (b ∷ bs)
-split_end b bs true cr l c e = subst (λ (x : ℕ). Splits (x ∷ bs)) (sym (eqb-true b 10 l)) (at_lf bs)
-split_end b bs false true l c e = subst (λ (x : ℕ). Splits (x ∷ bs)) (sym (eqb-true b 13 c)) (split_cr bs e)
-split_end b bs false false l c e = absurd cc
+split_end b bs x3 x4 l c e = search (rules, eqb-true, at_lf, split_cr)
 
 -- a byte in front of a line, where no line ends
 longer : (a : ℕ) (text line behind : List ℕ) → ends_line a text ≡ false → IsFirstLine line text behind → IsFirstLine (a ∷ line) (a ∷ text) behind
-longer a text line behind e h = record {
-  end = h.end;
-  is_end = h.is_end;
-  parts = ap (λ (xs : List ℕ). a ∷ xs) h.parts;
-  first = longer_first a line (h.end ++ behind) (subst (λ xs. ends_line a xs ≡ false) h.parts e) h.first;
-}
+longer a text line behind e h = search (rules, longer_first)
 
 -- the first line of a text and what comes after it, of the text that was cut
 abbrev SplitsAs : List ℕ → List ℕ × Option (List ℕ) → Type 0
@@ -80,9 +69,7 @@ line_at (b ∷ line) end behind is h =
 
 -- what a text begins with is read so
 pub begins_is : (line text behind : List ℕ) → (h : BeginsWith line text behind) → (first_line text ≡ line ++ h.blanks) × (behind_first_line text ≡ behind)
-begins_is line text behind h =
-    let r = line_at (line ++ h.blanks) h.whole.end behind h.whole.is_end h.whole.first in
-    (ap first_line h.whole.parts ∙ r.0, ap behind_first_line h.whole.parts ∙ r.1)
+begins_is line text behind h = search (rules, line_at)
 
 -- ---- the line of the version
 

@@ -1,12 +1,8 @@
 -- Elements of a list, from a place on, and how they are found by their names.
 use Rattle.std.proofs.Common.{rules, ◌≡◌, ℕ, ◌+◌, ◌<◌, Bool, if◌then◌else◌, not, ◌||◌, List, [], ◌∷◌, length, drop, get_or, map, Option, Some, refl, sym, ap, ◌∙◌}
-use Rattle.std.specs.Borrow.{Bor}
-use Rattle.std.specs.Option.{is_some}
-use Rattle.std.specs.Str.{bytes_eq}
+use Rattle.std.specs.{Borrow.Bor, Option.is_some}
 use Rattle.yaml_subset.specs.Keys.{is_among}
-use Rattle.section_tables.specs.Tables.{behind_one, found_in}
-use Rattle.section_tables.specs.View.{found_view}
-use Rattle.section_tables.proofs.Finding.{cut}
+use Rattle.section_tables.{specs.{Tables.{behind_one, found_in}, View.found_view}, proofs.Finding.cut}
 
 pub mapped_at : {A B : Type 0} (f : A → B) (xs : List A) (i : ℕ) (x : A) → i < length xs → x ≡ get_or xs i x → map f (drop i xs) ≡ f x ∷ map f (drop (i + 1) xs)
 mapped_at f xs i x lt is = ap (map f) (cut xs i x lt) ∙ ap (λ y. f y ∷ map f (drop (i + 1) xs)) (sym is)
@@ -17,18 +13,12 @@ found_or b x o = search rules
 -- a name is found where it is among the names
 found_among : {T : Type 0} (name_of : T → List ℕ) (name : List ℕ) (xs : List T) → is_some (found_in name_of name xs) ≡ is_among (map name_of xs) name
 found_among name_of name [] = refl
-found_among name_of name (x ∷ xs) =
-    found_or (bytes_eq (name_of x) name) x (found_in name_of name xs) ∙ ap (λ b. bytes_eq (name_of x) name || b) (found_among name_of name xs)
+found_among name_of name (x ∷ xs) = search (rules, found_or, found_among name_of name xs)
 
 seen : {R T : Type 0} (view : R → T) (o : Option (ℕ × Bor R)) → is_some (found_view view o) ≡ is_some o
 seen view o = search rules
 
-not_not : (b : Bool) → not (not b) ≡ b
-not_not b = search rules
-
 -- a name is not among the names where none was found
 pub not_among : {R T : Type 0} (view : R → T) (name_of : T → List ℕ) (name : List ℕ) (xs : List T) (o : Option (ℕ × Bor R)) (none answer : Bool)
     → found_view view o ≡ found_in name_of name xs → is_some o ≡ not none → none ≡ answer → not (is_among (map name_of xs) name) ≡ answer
-not_among view name_of name xs o none answer found is e =
-    let among : is_among (map name_of xs) name ≡ not none = sym (found_among name_of name xs) ∙ ap is_some (sym found) ∙ seen view o ∙ is in
-    ap not among ∙ not_not none ∙ e
+not_among view name_of name xs o none answer found is e = search (rules, found_among, seen)

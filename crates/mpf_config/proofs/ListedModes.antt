@@ -1,15 +1,12 @@
 -- The modes that the sections of a text list: each by a name, few of them, and no two by one name.
-use Rattle.std.proofs.Common.{◌≤◌, Bool, true, false, if◌then◌else◌, List, [], ◌∷◌, length, map, Some, arith}
-use Rattle.std.specs.List.{AllZip}
-use Rattle.std.specs.Str.{bytes_eq}
-use Rattle.std.proofs.lemmas.List.Elements.{All-nil, All-from_recursion}
+use Rattle.std.proofs.Common.{rules, ◌≤◌, List, [], ◌∷◌, length, map, arith}
+use Rattle.std.{specs.List.AllZip, proofs.lemmas.List.Elements.{All-nil, All-from_recursion}}
 use Rattle.yaml_subset.specs.Node.{Pair}
 use Rattle.mpf_values.specs.Names.{IsName}
 use Rattle.mpf_tables.specs.declared.tables.TextKind.{TextKind}
 use Rattle.section_tables.proofs.RowNames.{names_named, names_short}
 use Rattle.mpf_sections.specs.Rows.{Written, Content, listed, SectionRows}
-use Rattle.mpf_sections.specs.Named.{AllNames}
-use Rattle.mpf_sections.specs.Typed.{modes_name, names_in, content_named, names_of_content, listed_modes}
+use Rattle.mpf_sections.specs.{Named.AllNames, Typed.{names_in, listed_modes}}
 use Rattle.mpf_config.specs.RowsOf.{Sizes, AreNew, IsContent, IsSection}
 
 pub record AreListed (sizes : Sizes) (ws : List Written) : Type 0 where
@@ -34,8 +31,4 @@ module _ (sizes : Sizes) (kind : TextKind) where
   modes_listed [] [] each = none_listed
   modes_listed [] (s ∷ ss) each = absurd each
   modes_listed (p ∷ ps) [] each = absurd each
-  modes_listed (p ∷ ps) (s ∷ ss) each = by (bytes_eq s.name modes_name) (modes_listed ps ss each.1)
-    where
-      by : (b : Bool) → AreListed sizes (listed_modes ss) → AreListed sizes (names_of_content (if b then Some s.content else content_named modes_name ss))
-      by true rest = content_listed p s.content each.0.content
-      by false rest = rest
+  modes_listed (p ∷ ps) (s ∷ ss) each = search (rules, content_listed, modes_listed ps ss each.1)

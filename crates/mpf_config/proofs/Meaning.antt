@@ -1,29 +1,21 @@
 -- The rows of sections are those that are read, and no others.
-use Rattle.std.proofs.Common.{rules, ◌≡◌, ◌≢◌, ℕ, ◌<◌, if◌then◌else◌, false, map, List, [], ◌∷◌, Some, Option, None, Ok, refl, sym, subst, inl, inr}
-use Rattle.std.specs.List.{All, AllZip}
-use Rattle.std.specs.Str.{bytes_eq}
-use Rattle.std.proofs.lemmas.Bool.{both_ways}
+use Rattle.std.proofs.Common.{rules, ◌≡◌, ◌≢◌, ℕ, ◌<◌, if◌then◌else◌, false, map, List, [], ◌∷◌, Some, Option, Ok, refl, subst, inl, inr}
+use Rattle.std.{specs.{List.{All, AllZip}, Str.bytes_eq}, proofs.lemmas.{Bool.both_ways, Slice.Eq.bytes_eq-Decides}}
 use Rattle.std.proofs.lemmas.List.Elements.{All-nil, All-cons, All-head, All-tail}
-use Rattle.std.proofs.lemmas.Slice.Eq.{bytes_eq-Decides}
-use Rattle.yaml_subset.specs.Keys.{is_among}
-use Rattle.yaml_subset.specs.Node.{Node, Pair}
-use Rattle.yaml_subset.specs.View.{line_of, pairs_in}
+use Rattle.yaml_subset.specs.{Keys.is_among, Node.{Node, Pair}, View.{line_of, pairs_in}}
 use Rattle.config_faults.specs.declared.fault.FaultKind.TheVariants.{BadValue, Duplicate}
-use Rattle.mpf_tables.specs.declared.tables.TextKind.{TextKind}
+use Rattle.mpf_tables.specs.{declared.tables.TextKind.TextKind, SectionTables.shape_of}
 use Rattle.section_tables.specs.Kinds.{Shape, by_entries, by_players, by_entry, by_names}
-use Rattle.mpf_tables.specs.SectionTables.{shape_of}
 use Rattle.section_tables.specs.Reading.{IsReadOr, ◌>>=◌, key_spot, entry_at, entries_at, players_at, names_at}
 use Rattle.config_faults.specs.Faults.{Spot, refused, rows_fault_at}
 use Rattle.section_tables.proofs.Steps.{bind_ok, guard_true, guard_false, ok_is, expected}
 use Rattle.section_tables.proofs.Outcomes.{each_sound, weaker, then_or, each_or}
 use Rattle.section_tables.proofs.EntriesRead.{entry_sound, entry_complete, entries_sound, entries_complete, players_sound, players_complete, names_sound, names_complete}
 use Rattle.mpf_sections.specs.Rows.{Written, Content, entries, players, entry, listed, SectionRows}
-use Rattle.mpf_config.specs.BundleText.{machine_owner}
-use Rattle.mpf_config.specs.Unread.{read_of}
+use Rattle.mpf_config.specs.{BundleText.machine_owner, Unread.read_of}
 use Rattle.mpf_config.specs.RowsOf.{Sizes, within_limits, AreNew, AreModesListed, IsContent, KeepsToBallEnd, IsSection, AreManyItems}
-use Rattle.mpf_config.specs.Reading.{line_spot, modes_new_at, modes_at, content_at, keeps_to_ball_end, starts_spot, section_with, section_from, section_at, sections_in, sections_at}
-use Rattle.mpf_config.proofs.NewNames.{fresh_sound, fresh_complete}
-use Rattle.mpf_config.proofs.BallEnds.{keeps_sound, keeps_complete}
+use Rattle.mpf_config.specs.Reading.{line_spot, modes_new_at, modes_at, content_at, section_from, section_at, sections_in, sections_at}
+use Rattle.mpf_config.proofs.{NewNames.{fresh_sound, fresh_complete}, BallEnds.{keeps_sound, keeps_complete}}
 
 -- ---- lists of modes
 
@@ -48,22 +40,11 @@ new_modes_sound spot names (w ∷ ws) u e =
 
 new_modes_complete : (spot : Spot) (names : List (List ℕ)) (ws : List Written) → All is_no_machine ws → AreNew names (map (λ w. w.text) ws) → modes_new_at spot names ws ≡ Ok tt
 new_modes_complete spot names [] others apart = refl
-new_modes_complete spot names (w ∷ ws) others apart =
-    rw (
-      other_owner w (All-head is_no_machine w ws others),
-      fresh_complete names w.text apart.0,
-      new_modes_complete spot (w.text ∷ names) ws (All-tail is_no_machine w ws others) apart.1,
-    )
-    refl
+new_modes_complete spot names (w ∷ ws) others apart = search (rules, other_owner, All-head, fresh_complete, All-tail, new_modes_complete spot (w.text ∷ names) ws (All-tail is_no_machine w ws others) apart.1,)
 
 modes_sound : (text : List ℕ) (p : Pair) (ws : List Written) → modes_at text p ≡ Ok ws → AreModesListed within_limits p ws
 unfolding modes_at
-modes_sound text p ws e =
-    let spot = key_spot text p in
-    let a = bind_ok (names_at 64 text p) (λ xs. modes_new_at spot [] xs >>= λ all_new. Ok xs) ws e in
-    let b = bind_ok (modes_new_at spot [] a.0) (λ all_new. Ok a.0) ws a.2 in
-    let n = new_modes_sound spot [] a.0 b.0 b.1 in
-    subst (AreModesListed within_limits p) (ok_is a.0 ws b.2) (record { listed = names_sound 64 text p a.0 a.1; others = n.0; apart = n.1 })
+modes_sound text p ws e = search (rules, bind_ok, new_modes_sound, ok_is, names_sound)
 
 -- as many as there are may be above the limits
 modes_or : (sizes : Sizes) (text : List ℕ) (p : Pair) (ws : List Written) → AreModesListed sizes p ws → IsReadOr (AreManyItems sizes) (modes_at text p) ws
@@ -80,26 +61,17 @@ abbrev made : Pair → Content → SectionRows
 made p content = record { name = p.key; content = content }
 
 content_sound : (kind : TextKind) (text : List ℕ) (p : Pair) (shape : Shape) (content : Content) → shape_of kind p.key ≡ Some shape → content_at text p shape ≡ Ok content → IsContent within_limits kind p content
-content_sound kind text p (by_entries barred table) content is e =
-    let a = bind_ok (entries_at text barred table p) (λ es. Ok (entries es)) content e in
-    subst (IsContent within_limits kind p) (ok_is (entries a.0) content a.2) (barred, table, is, entries_sound text barred table p a.0 a.1)
+content_sound kind text p (by_entries barred table) content is e = search (rules, bind_ok, ok_is, entries_sound)
 content_sound kind text p (by_players kinds) content is e =
     let a = bind_ok (players_at text kinds p) (λ ps. Ok (players ps)) content e in
     subst (IsContent within_limits kind p) (ok_is (players a.0) content a.2) (kinds, is, players_sound text kinds p a.0 a.1)
 content_sound kind text p (by_entry table) content is e =
     let a = bind_ok (entry_at text table p) (λ x. Ok (entry x)) content e in
     subst (IsContent within_limits kind p) (ok_is (entry a.0) content a.2) (table, is, entry_sound text table p a.0 a.1)
-content_sound kind text p by_names content is e =
-    let a = bind_ok (modes_at text p) (λ ws. Ok (listed ws)) content e in
-    subst (IsContent within_limits kind p) (ok_is (listed a.0) content a.2) (is, modes_sound text p a.0 a.1)
+content_sound kind text p by_names content is e = search (rules, bind_ok, ok_is, modes_sound)
 
 section_by : (kind : TextKind) (text : List ℕ) (p : Pair) (s : SectionRows) (o : Option Shape) → shape_of kind p.key ≡ o → section_from text p o ≡ Ok s → IsSection within_limits kind p s
-section_by kind text p s (Some shape) is e =
-    let a = bind_ok (content_at text p shape) (section_with text p) s e in
-    let b = guard_true (keeps_to_ball_end p.key a.0) (Ok (made p a.0)) (rows_fault_at BadValue (starts_spot text p)) s a.2 in
-    subst (IsSection within_limits kind p) (ok_is (made p a.0) s b.1)
-    (record { name = refl; content = content_sound kind text p shape a.0 is a.1; keeps = keeps_sound p.key a.0 b.0 })
-section_by kind text p s None is e = absurd cc
+section_by kind text p s x5 is e = search (rules, bind_ok, guard_true, ok_is, content_sound, keeps_sound)
 
 section_sound : (kind : TextKind) (text : List ℕ) (p : Pair) (s : SectionRows) → section_at kind text p ≡ Ok s → IsSection within_limits kind p s
 unfolding section_at
@@ -115,8 +87,7 @@ module _ (sizes : Sizes) (kind : TextKind) (text : List ℕ) where
   section_of : (p : Pair) (shape : Shape) (content : Content) → shape_of kind p.key ≡ Some shape → KeepsToBallEnd p.key content → IsReadOr Many (content_at text p shape) content
       → IsReadOr Many (section_at kind text p) (made p content)
   unfolding section_at
-  section_of p shape content is keeps h =
-      rw is (then_or Many (content_at text p shape) (section_with text p) content (made p content) h (inl (rw (keeps_complete p.key content keeps) refl)))
+  section_of p shape content is keeps h = search (rules, then_or, keeps_complete)
 
   content_or : (p : Pair) (content : Content) → IsContent sizes kind p content → KeepsToBallEnd p.key content → IsReadOr Many (section_at kind text p) (made p content)
   content_or p (entries es) h keeps =
@@ -131,9 +102,7 @@ module _ (sizes : Sizes) (kind : TextKind) (text : List ℕ) where
   content_or p (listed ws) h keeps = section_of p by_names (listed ws) h.0 keeps (then_or Many (modes_at text p) (λ xs. Ok (listed xs)) ws (listed ws) (modes_or sizes text p ws h.1) (inl refl))
 
   section_or : (p : Pair) (s : SectionRows) → IsSection sizes kind p s → IsReadOr Many (section_at kind text p) s
-  section_or p s h =
-      let same : made p s.content ≡ s = λ i. record { name = sym h.name i; content = s.content } in
-      subst (IsReadOr Many (section_at kind text p)) same (content_or p s.content h.content h.keeps)
+  section_or p s h = search (rules, content_or)
 
   pub sections_or : (sections : List Pair) (rows : List SectionRows) → AllZip (IsSection sizes kind) (read_of sections) rows → IsReadOr Many (sections_at kind text sections) rows
   unfolding sections_at

@@ -1,21 +1,16 @@
 -- What the loops over the texts of modes did.
-use Rattle.std.proofs.Common.{◌≡◌, ℕ, suc, zero, ◌<◌, length, List, [], ◌∷◌, Option, Some, None, Ok, set, slice_get, sym, ap, refl, arith}
+use Rattle.std.proofs.Common.{rules, ◌≡◌, ℕ, suc, zero, ◌<◌, length, List, [], ◌∷◌, Option, Some, None, Ok, set, slice_get, refl, arith}
 use Rattle.std.proofs.lemmas.List.{map-set, length-map}
 use Rattle.mpf_config.specs.declared.modes.ModeRead as modes
-use Rattle.mpf_config.specs.Rows.{Written}
-use Rattle.mpf_config.specs.BundleText.{Text}
-use Rattle.mpf_config.specs.Apart.{entry_keys}
-use Rattle.mpf_config.specs.ModeReads.{ModeRead}
-use Rattle.mpf_config.specs.Reading.{new_mode_at, placed_at}
-use Rattle.mpf_config.specs.Inside.{mode_read_view, found_modes_view, mode_keys, placed_keys}
-use Rattle.std.specs.Option.{option_map}
+use Rattle.mpf_config.specs.{Rows.Written, BundleText.Text, Reading.{new_mode_at, placed_at}}
+use Rattle.mpf_config.specs.{Apart.entry_keys, ModeReads.ModeRead}
+use Rattle.mpf_config.specs.Inside.{mode_read_view, found_modes_view, placed_keys}
 
 -- a mode that was read is at its place
 pub put_in_place : (t : Text) (taken : List (List ℕ)) (w : Written) (found next : List (Option modes.ModeRead)) (place : ℕ) (read : modes.ModeRead) (hit : Option (ℕ × Written))
     → Some (place, w) ≡ hit → new_mode_at taken w t ≡ Ok (mode_read_view read) → next ≡ set found place (Some read)
     → placed_at t taken (found_modes_view found) hit ≡ Ok (found_modes_view next)
-put_in_place t taken w found next place read hit h r n =
-    rw (← h, r, n) (ap (λ (fs : List (Option ModeRead)). Ok fs) (sym (map-set (option_map mode_read_view) found place (Some read))))
+put_in_place t taken w found next place read hit h r n = search (rules, map-set)
 
 -- a text that is that of no mode leaves all as it is
 pub none_placed : (t : Text) (taken : List (List ℕ)) (found next : List (Option modes.ModeRead)) (hit : Option (ℕ × Written))
@@ -31,10 +26,7 @@ got (y ∷ xs) (suc i) x lt = got xs i x (omega (arith, lt))
 pub keys_placed : (w : Written) (found next : List (Option modes.ModeRead)) (place : ℕ) (read : modes.ModeRead) (hit : Option (ℕ × Written))
     → Some (place, w) ≡ hit → next ≡ set found place (Some read) → place < length found
     → entry_keys (mode_read_view read).mode.sections ≡ placed_keys (found_modes_view next) hit
-keys_placed w found next place read hit h n lt =
-    let long = length-map found (option_map mode_read_view) in
-    let at = got (found_modes_view found) place (Some (mode_read_view read)) (omega (arith, lt, long)) in
-    rw (← h, n, map-set (option_map mode_read_view) found place (Some read)) (ap mode_keys (sym at))
+keys_placed w found next place read hit h n lt = search (rules, length-map, got, map-set)
 
 pub no_keys_placed : (next : List (Option modes.ModeRead)) (hit : Option (ℕ × Written)) → None ≡ hit → [] ≡ placed_keys (found_modes_view next) hit
 no_keys_placed next hit h = rw (← h) refl

@@ -1,33 +1,22 @@
 -- The modes that are found in texts: each at its place, by its own text and no other.
-use Rattle.std.proofs.Common.{◌≡◌, ◌≢◌, ℕ, suc, zero, ◌+◌, Bool, true, false, cond, ◌||◌, Option, Some, None, Result, Ok, Err, ◌⊎◌, inl, inr}
-use Rattle.std.proofs.Common.{List, [], ◌∷◌, ◌++◌, length, map, set, take, slice_index_or, append_assoc, refl, sym, ap, subst, ◌∙◌, arith}
-use Rattle.std.specs.Prelude.{codes}
-use Rattle.std.specs.List.{Contains, All, AllZip}
-use Rattle.std.specs.Str.{bytes_eq}
-use Rattle.std.proofs.Math.Seq.{take-append_seam}
-use Rattle.std.proofs.lemmas.Bool.{cases_Bool, both_ways}
-use Rattle.std.proofs.lemmas.List.{append_cancel_left, length-append, length-map}
-use Rattle.std.proofs.lemmas.List.Elements.{All-head, All-tail}
-use Rattle.std.proofs.lemmas.Slice.Eq.{bytes_eq-Decides}
+use Rattle.std.proofs.Common.{rules, ◌≡◌, ◌≢◌, ℕ, suc, zero, ◌+◌, Bool, true, false, cond, Option, Some, None, Result, Ok, ◌⊎◌, inl, inr}
+use Rattle.std.proofs.Common.{List, [], ◌∷◌, ◌++◌, length, map, take, slice_index_or, append_assoc, refl, sym, ap, subst, ◌∙◌, arith}
+use Rattle.std.specs.{Prelude.codes, List.{Contains, All, AllZip}, Str.bytes_eq}
+use Rattle.std.proofs.{Math.Seq.take-append_seam, lemmas.{Bool.{cases_Bool, both_ways}, Slice.Eq.bytes_eq-Decides}}
+use Rattle.std.proofs.lemmas.List.{append_cancel_left, length-append, length-map, Elements.{All-head, All-tail}}
 use Rattle.yaml_subset.specs.Keys.{is_among}
-use Rattle.config_faults.specs.declared.fault.FaultKind.TheVariants.{Duplicate}
+use Rattle.config_faults.specs.{declared.fault.FaultKind.TheVariants.Duplicate, Faults.{RowsFault, rows_fault_at}}
 use Rattle.mpf_tables.specs.declared.tables.TextKind.TheVariants.{Mode}
-use Rattle.config_faults.specs.Faults.{RowsFault, rows_fault_at}
-use Rattle.section_tables.specs.Tables.{behind_one, found_in}
-use Rattle.section_tables.specs.Reading.{IsReadOr, ◌>>=◌}
-use Rattle.section_tables.proofs.Steps.{bind_ok, guard_false, ok_is}
-use Rattle.section_tables.proofs.Outcomes.{weaker, then_or}
+use Rattle.section_tables.specs.{Tables.{behind_one, found_in}, Reading.{IsReadOr, ◌>>=◌}}
+use Rattle.section_tables.proofs.{Steps.{bind_ok, guard_false, ok_is}, Outcomes.{weaker, then_or}}
 use Rattle.mpf_sections.specs.Rows.{Written, SectionRows}
-use Rattle.mpf_config.specs.BundleText.{Text, mode_text_name}
+use Rattle.mpf_config.specs.{BundleText.{Text, mode_text_name}, ModeReads.ModeRead, Apart.entry_keys}
 use Rattle.mpf_config.specs.Unread.{mode_text_of, has_text, present_of, mode_notes}
-use Rattle.mpf_config.specs.ModeReads.{ModeRead}
-use Rattle.mpf_config.specs.Apart.{entry_keys}
 use Rattle.mpf_config.specs.RowsOf.{Sizes, within_limits, AreNew, IsText, AreRowsOf, IsModeRead, IsTextOver}
 use Rattle.mpf_config.specs.Reading.{TextRows, line_spot, text_rows_at, mode_read_at, entries_new_at, new_mode_at, placed_at, modes_from, none_found, found_of, taken_by}
 use Rattle.mpf_config.proofs.NewNames.{here, there, nothing_in, not_again, all_other, fresh_sound, fresh_complete}
-use Rattle.mpf_config.proofs.TextNames.{named, names_in, text_name}
+use Rattle.mpf_config.proofs.{TextNames.{named, names_in, text_name}, EntryKeys.{new_sound, new_complete}}
 use Rattle.mpf_config.proofs.TextRows.{text_rows_sound, text_rows_or}
-use Rattle.mpf_config.proofs.EntryKeys.{new_sound, new_complete}
 use Rattle.mpf_config.proofs.EntriesApart.{AreModesApart, IsNewMode, mode_entries, none_apart, still_apart, is_fresh}
 
 -- ---- what is taken from texts
@@ -64,11 +53,7 @@ regrouped mode = append_assoc (mode ++ codes "/config/") mode (codes ".yaml") �
 
 length_behind : (mode : List ℕ)
     → length (mode ++ behind_mode mode) ≡ length mode + (length (codes "/config/") + (length mode + length (codes ".yaml")))
-length_behind mode =
-    let last = length-append mode (codes ".yaml") in
-    let middle = length-append (codes "/config/") (mode ++ codes ".yaml") in
-    let whole = length-append mode (behind_mode mode) in
-    whole ∙ ap (λ n. length mode + n) (middle ∙ ap (λ n. length (codes "/config/") + n) last)
+length_behind mode = search (rules, length-append)
 
 -- a text is that of one mode
 pub same_mode : (a b : List ℕ) → mode_text_name a ≡ mode_text_name b → a ≡ b
@@ -86,18 +71,12 @@ is_name : (t : Text) (name : List ℕ) → t.name ≡ name → bytes_eq t.name n
 is_name t name e = (bytes_eq-Decides t.name name).1 e
 
 no_name : (t : Text) (name : List ℕ) → t.name ≢ name → bytes_eq t.name name ≡ false
-no_name t name other =
-    elim (cases_Bool (bytes_eq t.name name)) [
-      | inl e ↦ absurd (other ((bytes_eq-Decides t.name name).0 e))
-      | inr e ↦ e
-    ]
+no_name t name other = search rules
 
 -- a text of one mode is none of the modes behind it
 others_behind : (names : List (List ℕ)) (t : Text) (w : Written) (ws : List Written) → AreNew names (names_of (w ∷ ws))
     → t.name ≡ mode_text_of w → All (IsOther t) (names_of ws)
-others_behind names t w ws apart same =
-    let differ = all_other (w.text ∷ names) (names_of ws) w.text (here w.text names) apart.1 in
-    λ k d lt equal. differ k d lt (same_mode w.text (slice_index_or (names_of ws) k d) (sym same ∙ equal))
+others_behind names t w ws apart same = search (rules, all_other, same_mode, slice_index_or)
 
 -- ---- whether there is a text
 
@@ -119,14 +98,7 @@ has_behind : (t : Text) (ts : List Text) (name : List ℕ) → t.name ≢ name �
 has_behind t ts name other = rw (no_name t name other) refl
 
 is_first : (t : Text) (ts : List Text) (name : List ℕ) → t.name ≡ name → IsText (t ∷ ts) name t.text
-is_first t ts name same =
-    let whole : t ≡ named name t.text = λ i. record { name = same i; text = t.text } in
-    subst (Contains (t ∷ ts)) whole (here t ts)
-
--- a text of another name is behind the first
-is_behind : (t : Text) (ts : List Text) (name text : List ℕ) → t.name ≢ name → IsText (t ∷ ts) name text → IsText ts name text
-is_behind t ts name text other (zero, lt, at) = absurd (other (ap (λ (u : Text). u.name) at))
-is_behind t ts name text other (suc k, lt, at) = (k, omega (arith, lt), at)
+is_first t ts name same = search rules
 
 module _ (names : List (List ℕ)) (t : Text) (ts : List Text) (new : AreNew names (names_in (t ∷ ts))) (name : List ℕ) (same : t.name ≡ name) where
   -- no text behind has the name of the first
@@ -189,20 +161,13 @@ new_sound_mode taken t w m e =
 new_mode_or : (Above : Type 0) (taken : List (List ℕ)) (t : Text) (w : Written) (m : ModeRead) → entries_new_at t.name taken (mode_entries m) ≡ Ok tt
     → IsReadOr Above (mode_read_at w t) m → IsReadOr Above (new_mode_at taken w t) m
 unfolding new_mode_at
-new_mode_or Above taken t w m new h =
-    then_or Above (mode_read_at w t) (λ x. entries_new_at t.name taken (mode_entries x) >>= λ all_new. Ok x) m m h (inl (rw new refl))
+new_mode_or Above taken t w m new h = search rules
 
 -- a mode with one more text in front, or one fewer
 read_still : (sizes : Sizes) (t : Text) (ts : List Text) (w : Written) (m : ModeRead) → IsModeRead sizes ts w m
     → IsModeRead sizes (t ∷ ts) w m
 read_still sizes t ts w m h =
     let is = there t (named (mode_text_of w) h.text) ts h.is_there in
-    record { name = h.name; text = h.text; is_there = is; sections = h.sections; rows = h.rows; notes = h.notes }
-
-read_behind : (sizes : Sizes) (t : Text) (ts : List Text) (w : Written) (m : ModeRead) → t.name ≢ mode_text_of w
-    → IsModeRead sizes (t ∷ ts) w m → IsModeRead sizes ts w m
-read_behind sizes t ts w m other h =
-    let is = is_behind t ts (mode_text_of w) h.text other h.is_there in
     record { name = h.name; text = h.text; is_there = is; sections = h.sections; rows = h.rows; notes = h.notes }
 
 -- ---- one text, taken to its place
@@ -233,16 +198,10 @@ untouched t taken (w ∷ ws) (before ∷ found) long other =
     let rest = All-tail (IsOther t) w.text (names_of ws) other in
     (inl (first, refl), untouched t taken ws found (omega (arith, long)) rest)
 
-set_behind : (before : Option ModeRead) (found : Found) (i : ℕ) (r : Result ModeRead RowsFault)
-    → (r >>= λ m. Ok (set (before ∷ found) (suc i) (Some m))) ≡ ((r >>= λ m. Ok (set found i (Some m))) >>= λ next. Ok (before ∷ next))
-set_behind before found i (Ok m) = refl
-set_behind before found i (Err f) = refl
-
 -- a place behind the first is one among those behind the first
 placed_behind : (t : Text) (taken : List (List ℕ)) (before : Option ModeRead) (found : Found) (o : Option (ℕ × Written))
     → placed_at t taken (before ∷ found) (behind_one o) ≡ (placed_at t taken found o >>= λ next. Ok (before ∷ next))
-placed_behind t taken before found None = refl
-placed_behind t taken before found (Some p) = set_behind before found p.0 (new_mode_at taken p.1 t)
+placed_behind t taken before found x5 = search rules
 
 -- the place of a text among the modes
 abbrev place_of : Text → List Written → Option (ℕ × Written)
@@ -265,24 +224,16 @@ other_mode t w e same = both_ways (bytes_eq (mode_text_of w) t.name) e ((bytes_e
 module _ (t : Text) (taken : List (List ℕ)) (w : Written) (ws : List Written) (before : Option ModeRead) (found next : Found) where
   placed_first : length found ≡ length ws → All (IsOther t) (names_of ws) → t.name ≡ mode_text_of w
       → placed_at t taken (before ∷ found) (Some (0, w)) ≡ Ok next → Placed t taken (w ∷ ws) (before ∷ found) next
-  placed_first long other same e =
-      let a = bind_ok (new_mode_at taken w t) (λ m. Ok (in_front (Some m) found)) next e in
-      let is = ok_is (in_front (Some a.0) found) next a.2 in
-      subst (Placed t taken (w ∷ ws) (before ∷ found)) is (inr (a.0, refl, same, a.1), untouched t taken ws found long other)
+  placed_first long other same e = search (rules, bind_ok, ok_is, untouched)
 
   placed_later : IsPlacedRightly t taken ws found → t.name ≢ mode_text_of w
       → placed_at t taken (before ∷ found) (behind_one (place_of t ws)) ≡ Ok next → Placed t taken (w ∷ ws) (before ∷ found) next
-  placed_later so other e =
-      let behind = sym (placed_behind t taken before found (place_of t ws)) ∙ e in
-      let a = bind_ok (placed_at t taken found (place_of t ws)) (λ rest. Ok (in_front before rest)) next behind in
-      subst (Placed t taken (w ∷ ws) (before ∷ found)) (ok_is (in_front before a.0) next a.2) (inl (other, refl), so a.0 a.1)
+  placed_later so other e = search rules
 
   placed_by : (names : List (List ℕ)) → length found ≡ length ws → AreNew names (names_of (w ∷ ws)) → IsPlacedRightly t taken ws found
       → (b : Bool) → bytes_eq (mode_text_of w) t.name ≡ b
       → placed_at t taken (before ∷ found) (first_or b t w ws) ≡ Ok next → Placed t taken (w ∷ ws) (before ∷ found) next
-  placed_by names long apart so true k e =
-      let same = same_name t w k in
-      placed_first long (others_behind names t w ws apart same) same e
+  placed_by names long apart so true k e = search (rules, same_name, placed_first, others_behind)
   placed_by names long apart so false k e = placed_later so (other_mode t w k) e
 
 placed_sound : (names : List (List ℕ)) (t : Text) (taken : List (List ℕ)) (ws : List Written) (found : Found) → length found ≡ length ws
@@ -302,9 +253,7 @@ still None os m c = c
 still (Some n) os m c = there n m (found_of os) c
 
 first_or_later : (o : Option ModeRead) (os : Found) (m : ModeRead) → Contains (found_of (o ∷ os)) m → (o ≡ Some m) ⊎ Contains (found_of os) m
-first_or_later None os m c = inr c
-first_or_later (Some n) os m (zero, lt, at) = inl (ap (λ (x : ModeRead). Some x) at)
-first_or_later (Some n) os m (suc k, lt, at) = inr (k, omega (arith, lt), at)
+first_or_later x1 os m x4 = search rules
 
 at_first : (o : Option ModeRead) (os : Found) (m : ModeRead) → o ≡ Some m → Contains (found_of (o ∷ os)) m
 at_first o os m is = subst (λ (x : Option ModeRead). Contains (found_of (x ∷ os)) m) (sym is) (here m (found_of os))
@@ -319,10 +268,7 @@ IsOfText t taken m = (w : Written) × (t.name ≡ mode_text_of w) × (new_mode_a
 module _ (t : Text) (taken : List (List ℕ)) where
   one_placed : (w : Written) (before after : Option ModeRead) (os : Found) (m : ModeRead) → IsPlaced t taken w before after → after ≡ Some m
       → Contains (found_of (before ∷ os)) m ⊎ IsOfText t taken m
-  one_placed w before after os m (inl p) is = inl (at_first before os m (sym p.1 ∙ is))
-  one_placed w before after os m (inr p) is =
-      let same : p.0 ≡ m = some_is p.0 m (sym p.1 ∙ is) in
-      inr (w, p.2, p.3 ∙ ap (λ (x : ModeRead). Ok x) same)
+  one_placed w before after os m x6 is = search rules
 
   placed_old_or_new : (ws : List Written) (found next : Found) → Placed t taken ws found next → (m : ModeRead) → Contains (found_of next) m
       → Contains (found_of found) m ⊎ IsOfText t taken m
@@ -359,8 +305,7 @@ taken_once names t ts keys w before middle after new (inl p) (inl q) = inl (has_
 taken_once names t ts keys w before middle after new (inl p) (inr q) = inr (q.0, q.1, read_still within_limits t ts w q.0 q.2)
 taken_once names t ts keys w before middle after new (inr p) (inl q) =
     inr (p.0, q.1 ∙ p.1, mode_sound t ts w p.0 p.2 (new_sound_mode keys t w p.0 p.3).0)
-taken_once names t ts keys w before middle after new (inr p) (inr q) =
-    absurd (not_behind names t ts new (mode_text_of w) p.2 q.2.text q.2.is_there)
+taken_once names t ts keys w before middle after new (inr p) (inr q) = search (rules, not_behind)
 
 taken_with : (names : List (List ℕ)) (t : Text) (ts : List Text) (keys : List (List ℕ)) (ws : List Written) (found next out : Found)
     → AreNew names (names_in (t ∷ ts))
@@ -368,8 +313,7 @@ taken_with : (names : List (List ℕ)) (t : Text) (ts : List Text) (keys : List 
 taken_with names t ts keys [] [] [] [] new p q = tt
 taken_with names t ts keys [] [] [] (after ∷ out) new p q = absurd q
 taken_with names t ts keys (w ∷ ws) (before ∷ found) (middle ∷ next) [] new p q = absurd q
-taken_with names t ts keys (w ∷ ws) (before ∷ found) (middle ∷ next) (after ∷ out) new p q =
-    (taken_once names t ts keys w before middle after new p.0 q.0, taken_with names t ts keys ws found next out new p.1 q.1)
+taken_with names t ts keys (w ∷ ws) (before ∷ found) (middle ∷ next) (after ∷ out) new p q = search (rules, taken_once, taken_with names t ts keys ws found next out new p.1 q.1)
 taken_with names t ts keys ws found next out new p q = absurd p
 
 nothing_taken : (ws : List Written) (found : Found) → length found ≡ length ws → Taken within_limits [] ws found found
@@ -395,9 +339,7 @@ module _ (machine : List SectionRows) where
   pub taken_sound : (ws : List Written) (ts : List Text) (names : List (List ℕ)) (found out : Found) → length found ≡ length ws
       → AreNew [] (names_of ws) → AreModesApart machine (found_of found) → modes_from (entry_keys machine) ws names found ts ≡ Ok out
       → AreNew names (names_in ts) × Taken within_limits ts ws found out × AreModesApart machine (found_of out)
-  taken_sound ws [] names found out long apart distinct e =
-      let same : found ≡ out = ok_is found out e in
-      (tt, subst (Taken within_limits [] ws found) same (nothing_taken ws found long), subst (λ (os : Found). AreModesApart machine (found_of os)) same distinct)
+  taken_sound ws [] names found out long apart distinct e = search (rules, ok_is, nothing_taken)
   taken_sound ws (t ∷ ts) names found out long apart distinct e =
       let placed = placed_at t (keys_at found) found (place_of t ws) in
       let from_next : Found → Result Found RowsFault = λ next. modes_from (entry_keys machine) ws (t.name ∷ names) next ts in
@@ -466,23 +408,18 @@ module _ (sizes : Sizes) (ts : List Text) where
   places_for (w ∷ ws) modes h = place_by w ws modes (places_for ws) (has_text ts (mode_text_of w)) refl h
 
 none_taken : (sizes : Sizes) (w : Written) (before after : Option ModeRead) → IsTaken sizes [] w before after → after ≡ before
-none_taken sizes w before after (inl h) = h.1
-none_taken sizes w before after (inr h) = absurd (nothing_in (named (mode_text_of w) h.2.text) h.2.is_there)
+none_taken sizes w before after x5 = search rules
 
 -- with no text all stay as they were
 as_before : (sizes : Sizes) (ws : List Written) (found out : Found) → Taken sizes [] ws found out → out ≡ found
 as_before sizes [] [] [] h = refl
-as_before sizes (w ∷ ws) (before ∷ found) (after ∷ out) h =
-    let first : after ≡ before = none_taken sizes w before after h.0 in
-    let rest : out ≡ found = as_before sizes ws found out h.1 in
-    λ i. first i ∷ rest i
+as_before sizes (w ∷ ws) (before ∷ found) (after ∷ out) h = search (rules, none_taken, as_before sizes ws found out h.1)
 as_before sizes ws found out h = absurd h
 
 module _ (sizes : Sizes) (t : Text) (ts : List Text) where
   taken_behind : (w : Written) (before after : Option ModeRead) → t.name ≢ mode_text_of w → IsTaken sizes (t ∷ ts) w before after
       → IsTaken sizes ts w before after
-  taken_behind w before after other (inl h) = inl (sym (has_behind t ts (mode_text_of w) other) ∙ h.0, h.1)
-  taken_behind w before after other (inr h) = inr (h.0, h.1, read_behind sizes t ts w h.0 other h.2)
+  taken_behind w before after other x5 = search rules
 
   all_behind : (ws : List Written) (found out : Found) → All (IsOther t) (names_of ws) → Taken sizes (t ∷ ts) ws found out
       → Taken sizes ts ws found out
@@ -504,10 +441,6 @@ IsAboveAt sizes Above t ws = (w : Written) → Contains ws w → t.name ≡ mode
 
 -- ---- what was found before a text
 
-none_with : (a b : Bool) → (a || b) ≡ false → b ≡ false
-none_with true b e = absurd cc
-none_with false b e = e
-
 -- a mode of these, whose text is not one of those to come
 abbrev IsOld : List ModeRead → List Text → Written → Option ModeRead → Type 0
 IsOld modes ts w None = Unit {0}
@@ -524,8 +457,7 @@ none_old modes ts (w ∷ ws) = (tt, none_old modes ts ws)
 
 -- the same where one text fewer is to come
 old_behind : (modes : List ModeRead) (t : Text) (ts : List Text) (w : Written) (o : Option ModeRead) → IsOld modes (t ∷ ts) w o → IsOld modes ts w o
-old_behind modes t ts w None h = tt
-old_behind modes t ts w (Some m) h = (h.0, none_with (bytes_eq t.name (mode_text_of w)) (has_text ts (mode_text_of w)) h.1, h.2)
+old_behind modes t ts w x5 h = search rules
 
 all_old : (modes : List ModeRead) (t : Text) (ts : List Text) (ws : List Written) (found : Found) → AreOld modes (t ∷ ts) ws found
     → AreOld modes ts ws found
@@ -561,8 +493,7 @@ module _ (sizes : Sizes) (Above : Type 0) (names : List (List ℕ)) (t : Text) (
       → ((m : ModeRead) → Contains (found_of (after ∷ out)) m → Contains modes m) → AreOld modes (t ∷ ts) ws found
       → IsTaken sizes (t ∷ ts) w before after → Taken sizes (t ∷ ts) ws found out
       → Next (Some (0, w)) (w ∷ ws) (before ∷ found) (after ∷ out)
-  next_first w ws before after found out new fine so other same among old (inl h) rest =
-      absurd (both_ways (has_text (t ∷ ts) (mode_text_of w)) h.0 (has_first t ts (mode_text_of w) same))
+  next_first w ws before after found out new fine so other same among old (inl h) rest = search rules
   next_first w ws before after found out new fine so other same among old (inr h) rest =
       let inside = among h.0 (at_first after out h.0 h.1) in
       let read = weaker (IsTextOver sizes t.text) Above so (mode_read_at w t) h.0 (mode_or sizes names t ts w h.0 new same h.2) in
@@ -588,8 +519,7 @@ module _ (sizes : Sizes) (Above : Type 0) (names : List (List ℕ)) (t : Text) (
   next_by ahead w ws before after found out new fine so apart among old h rest true e =
       let same = same_name t w e in
       next_first w ws before after found out new fine (so w (here w ws) same) (others_behind ahead t w ws apart same) same among old.1 h.0 h.1
-  next_by ahead w ws before after found out new fine so apart among old h rest false e =
-      next_later w ws before after found out (other_mode t w e) old.0 h.0 rest
+  next_by ahead w ws before after found out new fine so apart among old h rest false e = search (rules, next_later, other_mode)
 
   next_or : (ahead : List (List ℕ)) (ws : List Written) (found out : Found)
       → AreNew names (names_in (t ∷ ts)) → AreEntriesNew → IsAboveAt sizes Above t ws → AreNew ahead (names_of ws)
@@ -619,9 +549,7 @@ module _ (sizes : Sizes) (Above : Type 0) (machine : List SectionRows) (ws : Lis
   pub taken_or : (ts : List Text) (names : List (List ℕ)) (found out : Found) → AreNew names (names_in ts)
       → ((m : ModeRead) → Contains (found_of out) m → Contains modes m) → AreOld modes ts ws found
       → Taken sizes ts ws found out → IsAboveWhere sizes Above ts ws → IsReadOr Above (modes_from (entry_keys machine) ws names found ts) out
-  taken_or [] names found out new among old h so =
-      let same : found ≡ out = sym (as_before sizes ws found out h) in
-      inl (ap (λ (os : Found). Ok os) same)
+  taken_or [] names found out new among old h so = search (rules, as_before)
   taken_or (t ∷ ts) names found out new among old h so =
       let first : IsAboveAt sizes Above t ws = λ w c same. so w t.text c (is_first t ts (mode_text_of w) same) in
       let later : IsAboveWhere sizes Above ts ws = λ w text c is. so w text c (there t (named (mode_text_of w) text) ts is) in

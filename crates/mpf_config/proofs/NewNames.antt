@@ -1,13 +1,8 @@
 -- Names of which each is new.
-use Rattle.std.proofs.Common.{rules, ◌≡◌, ◌≢◌, ℕ, suc, zero, Bool, false, List, [], ◌∷◌, map, refl, sym, subst, inl, inr, arith}
-use Rattle.std.specs.Str.{bytes_eq}
-use Rattle.std.specs.List.{Contains, All, AllPairs, filter}
-use Rattle.std.specs.Bool.{Decides}
-use Rattle.std.proofs.lemmas.Bool.{cases_Bool, both_ways}
-use Rattle.std.proofs.lemmas.Bool.Decides.{Decides-by_or}
-use Rattle.std.proofs.lemmas.List.Elements.{All-nil, All-cons, Decides-contains}
-use Rattle.std.proofs.lemmas.List.Kept.{AllPairs-cons}
-use Rattle.std.proofs.lemmas.Slice.Eq.{bytes_eq-Decides}
+use Rattle.std.proofs.Common.{rules, ◌≡◌, ◌≢◌, ℕ, suc, zero, Bool, false, List, [], ◌∷◌, map, refl, sym, subst, arith}
+use Rattle.std.specs.{Str.bytes_eq, List.{Contains, All, AllPairs, filter}, Bool.Decides}
+use Rattle.std.proofs.lemmas.{Bool.{cases_Bool, both_ways, Decides.Decides-by_or}, Slice.Eq.bytes_eq-Decides}
+use Rattle.std.proofs.lemmas.List.{Elements.{All-nil, All-cons, Decides-contains}, Kept.AllPairs-cons}
 use Rattle.yaml_subset.specs.Keys.{is_among}
 use Rattle.mpf_config.specs.RowsOf.{AreNew}
 
@@ -38,11 +33,7 @@ pub fresh_sound : (names : List (List ℕ)) (name : List ℕ) → is_among names
 fresh_sound names name e h = both_ways (is_among names name) e ((among_decides names name).1 h)
 
 pub fresh_complete : (names : List (List ℕ)) (name : List ℕ) → (Contains names name → ⊥) → is_among names name ≡ false
-fresh_complete names name h =
-    elim (cases_Bool (is_among names name)) [
-      | inl e ↦ absurd (h ((among_decides names name).0 e))
-      | inr e ↦ e
-    ]
+fresh_complete names name h = search (rules, cases_Bool, among_decides)
 
 -- ---- all of them
 
@@ -54,8 +45,7 @@ not_again names (m ∷ ns) n new (suc k, lt, at) old = not_again (m ∷ names) n
 
 module _ (names others : List (List ℕ)) (so : (q : List ℕ) → Contains others q → Contains names q) (n : List ℕ) where
   still : (q : List ℕ) → Contains (n ∷ others) q → Contains (n ∷ names) q
-  still q (zero, lt, at) = subst (Contains (n ∷ names)) at (here n names)
-  still q (suc k, lt, at) = there n q names (so q (k, omega (arith, lt), at))
+  still q x2 = search (rules, here, there)
 
 -- what is new among more names is new among fewer
 pub new_among_fewer : (names others : List (List ℕ)) → ((q : List ℕ) → Contains others q → Contains names q) → (ns : List (List ℕ)) → AreNew names ns → AreNew others ns
@@ -70,14 +60,11 @@ module _ {A : Type 0} (keeps : A → Bool) (name_of : A → List ℕ) where
   -- those that are kept are new
   pub new_kept : (names : List (List ℕ)) (xs : List A) → AreNew names (map name_of xs) → AreNew names (map name_of (filter keeps xs))
   new_kept names [] new = tt
-  new_kept names (x ∷ xs) new =
-      let rest = new_kept (name_of x ∷ names) xs new.1 in
-      kept_or_not (keeps x) names x xs refl new.0 rest (new_among_fewer (name_of x ∷ names) names (λ q h. there (name_of x) q names h) (map name_of (filter keeps xs)) rest)
+  new_kept names (x ∷ xs) new = search (rules, kept_or_not, new_among_fewer, there, new_kept (name_of x ∷ names) xs new.1)
 
 pub all_other : (names ns : List (List ℕ)) (n : List ℕ) → Contains names n → AreNew names ns → All (λ m. n ≢ m) ns
 all_other names [] n old new = All-nil (λ m. n ≢ m)
-all_other names (m ∷ ns) n old new =
-    All-cons (λ k. n ≢ k) m ns (λ same. new.0 (subst (Contains names) same old)) (all_other (m ∷ names) ns n (there m n names old) new.1)
+all_other names (m ∷ ns) n old new = search (rules, All-cons, there, all_other (m ∷ names) ns n (there m n names old) new.1)
 
 -- no two are the same
 pub new_apart : (names ns : List (List ℕ)) → AreNew names ns → AllPairs (λ x y. x ≢ y) ns

@@ -1,21 +1,12 @@
 -- Which modes were not found yet, and which keys are taken once one more is found.
 use Rattle.std.proofs.Common.{rules, ◌≡◌, ℕ, suc, Bool, true, false, cond, ◌||◌, List, [], ◌∷◌, length, set, slice_get, Option, Some, None, Ok, refl, sym, ap, subst, ◌∙◌}
-use Rattle.std.specs.List.{flat_map}
-use Rattle.std.specs.Str.{bytes_eq}
-use Rattle.std.proofs.lemmas.Bool.{both_ways}
-use Rattle.std.proofs.lemmas.List.{append-nil, length-map}
-use Rattle.std.proofs.lemmas.Slice.Eq.{bytes_eq-Decides}
-use Rattle.std.specs.Option.{option_map}
+use Rattle.std.specs.{List.flat_map, Str.bytes_eq, Option.option_map}
+use Rattle.std.proofs.lemmas.{Bool.both_ways, List.{append-nil, length-map}, Slice.Eq.bytes_eq-Decides}
 use Rattle.yaml_subset.specs.Keys.{is_among}
-use Rattle.section_tables.specs.Tables.{behind_one, found_in}
-use Rattle.section_tables.proofs.Steps.{bind_ok, ok_is}
+use Rattle.section_tables.{specs.Tables.{behind_one, found_in}, proofs.Steps.{bind_ok, ok_is}}
 use Rattle.mpf_config.specs.declared.modes.ModeRead as modes
-use Rattle.mpf_config.specs.declared.listed_mode.ListedMode.{ListedMode}
-use Rattle.mpf_config.specs.Rows.{Written}
-use Rattle.mpf_config.specs.BundleText.{Text}
-use Rattle.mpf_config.specs.Unread.{mode_text_of}
-use Rattle.mpf_config.specs.Apart.{entry_keys}
-use Rattle.mpf_config.specs.ModeReads.{ModeRead}
+use Rattle.mpf_config.specs.{declared.listed_mode.ListedMode.ListedMode, Apart.entry_keys, ModeReads.ModeRead}
+use Rattle.mpf_config.specs.{Rows.Written, BundleText.Text, Unread.mode_text_of}
 use Rattle.mpf_config.specs.Reading.{new_mode_at, placed_at, none_found, found_of, taken_by}
 use Rattle.mpf_config.specs.Inside.{modes_view, listed_view, mode_read_view, found_modes_view, mode_keys, placed_keys}
 use Rattle.mpf_config.proofs.TakenEntries.{among_append, or_behind}
@@ -40,9 +31,7 @@ none_of [] = refl
 none_of (w ∷ ws) = none_of ws
 
 pub machine_only : (machine : List (List ℕ)) (ws : List Written) (os : List (Option ModeRead)) → os ≡ none_found ws → machine ≡ taken_by machine (found_of os)
-machine_only machine ws os e =
-    let none : found_of os ≡ [] = ap found_of e ∙ none_of ws in
-    subst (λ (ms : List ModeRead). machine ≡ taken_by machine ms) (sym none) (sym (append-nil machine))
+machine_only machine ws os e = search (rules, none_of, append-nil)
 
 pub none_long : (found : List (Option modes.ModeRead)) (ms : List ListedMode) → found_modes_view found ≡ none_found (modes_view ms) → length found ≡ length ms
 none_long found ms e = sym (length-map found (option_map mode_read_view)) ∙ ap length e ∙ length-map (modes_view ms) (λ w. None) ∙ length-map ms listed_view
@@ -58,29 +47,12 @@ all_keys os = flat_map (λ (m : ModeRead). entry_keys m.mode.sections) (found_of
 right_of : (a b : Bool) → (a || b) ≡ false → b ≡ false
 right_of a b e = search rules
 
-pair_is : (p r : ℕ × Written) → Some p ≡ Some r → p ≡ r
-pair_is p r e = cc
-
 behind_is : (o : Option (ℕ × Written)) (p : ℕ × Written) → behind_one o ≡ Some p → (r : ℕ × Written) × (o ≡ Some r) × ((suc r.0, r.1) ≡ p)
 behind_is o p e = search rules
 
 -- the keys that a place holds come to those that were there
 abbrev Grows : Found → Found → ℕ → Type 0
 Grows next found place = (q : List ℕ) → is_among (all_keys next) q ≡ (is_among (mode_keys (slice_get next place)) q || is_among (all_keys found) q)
-
-grows_behind : (o : Option ModeRead) (next found : Found) (place : ℕ) → Grows next found place → Grows (o ∷ next) (o ∷ found) (suc place)
-grows_behind None next found place h q = h q
-grows_behind (Some m) next found place h q =
-    let own = entry_keys m.mode.sections in
-    let here = is_among (mode_keys (slice_get next place)) q in
-    among_append own (all_keys next) q ∙ ap (λ (b : Bool). is_among own q || b) (h q)
-    ∙ or_behind (is_among own q) here (is_among (all_keys found) q)
-    ∙ ap (λ (b : Bool). here || b) (sym (among_append own (all_keys found) q))
-
-grows_here : (o : Option ModeRead) (m : ModeRead) (os : Found) → o ≡ None → Grows (Some m ∷ os) (o ∷ os) 0
-grows_here o m os none q =
-    let own = entry_keys m.mode.sections in
-    among_append own (all_keys os) q ∙ ap (λ (x : Option ModeRead). is_among own q || is_among (all_keys (x ∷ os)) q) (sym none)
 
 module _ (names known : List (List ℕ)) (name : List ℕ) (k : (q : List ℕ) → is_among known q ≡ (bytes_eq name q || is_among names q)) (fresh : is_among names name ≡ false) where
   still_none : (q : List ℕ) → is_among known q ≡ false → is_among names q ≡ false
@@ -102,17 +74,7 @@ module _ (names known : List (List ℕ)) (name : List ℕ) (k : (q : List ℕ) �
       → ((r : ℕ × Written) → found_in mode_text_of name ws ≡ Some r → IsAfter ws os m r)
       → NoneBefore names (w ∷ ws) (o ∷ os) → (b : Bool) → bytes_eq (mode_text_of w) name ≡ b
       → cond b (Some (0, w)) (behind_one (found_in mode_text_of name ws)) ≡ Some p → IsAfter (w ∷ ws) (o ∷ os) m p
-  after_by w ws o os m p so h true same e =
-      let text : mode_text_of w ≡ name = (bytes_eq-Decides (mode_text_of w) name).0 same in
-      let none : o ≡ None = h.0 (subst (λ (x : List ℕ). is_among names x ≡ false) (sym text) fresh) in
-      let not_so : is_among known (mode_text_of w) ≡ false → Some m ≡ None =
-      λ no. absurd (both_ways (is_among known name) (subst (λ (x : List ℕ). is_among known x ≡ false) text no) is_known) in
-      subst (IsAfter (w ∷ ws) (o ∷ os) m) (pair_is (0, w) p e) ((not_so, same_before ws os h.1), grows_here o m os none)
-  after_by w ws o os m p so h false same e =
-      let a = behind_is (found_in mode_text_of name ws) p e in
-      let rest = so a.0 a.1 in
-      let first : is_among known (mode_text_of w) ≡ false → o ≡ None = λ no. h.0 (still_none (mode_text_of w) no) in
-      subst (IsAfter (w ∷ ws) (o ∷ os) m) a.2 ((first, rest.0), grows_behind o (set os a.0.0 (Some m)) os a.0.0 rest.1)
+  after_by w ws o os m p so h x9 same e = search (rules, bytes_eq-Decides, both_ways, is_known, same_before, among_append, behind_is, still_none, or_behind)
 
   is_after : (ws : List Written) (found : Found) (m : ModeRead) → NoneBefore names ws found
       → (p : ℕ × Written) → found_in mode_text_of name ws ≡ Some p → IsAfter ws found m p

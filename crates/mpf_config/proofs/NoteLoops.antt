@@ -1,21 +1,15 @@
 -- Notes that are taken element by element.
-use Rattle.std.proofs.Common.{rules, ◌≡◌, Bool, true, false, not, List, ℕ, [], ◌∷◌, ◌++◌, map, refl, sym, ap, ◌∙◌, append_assoc}
-use Rattle.std.specs.List.{filter, flat_map}
-use Rattle.std.specs.Str.{bytes_eq}
-use Rattle.std.proofs.lemmas.List.{map_push}
-use Rattle.yaml_subset.specs.Node.{Pair}
-use Rattle.yaml_subset.specs.Keys.{is_among}
+use Rattle.std.proofs.Common.{rules, ◌≡◌, Bool, true, false, not, List, ℕ, [], ◌∷◌, ◌++◌, map, refl, append_assoc}
+use Rattle.std.{specs.{List.{filter, flat_map}, Str.bytes_eq}, proofs.lemmas.List.map_push}
+use Rattle.yaml_subset.specs.{Node.Pair, Keys.is_among}
 use Rattle.mpf_tables.specs.SectionTables.{modes_name}
 use Rattle.mpf_config.specs.declared.config.Note as notes
-use Rattle.mpf_config.specs.Rows.{Written, Note}
-use Rattle.mpf_config.specs.View.{note_view}
-use Rattle.mpf_config.specs.BundleText.{Text, machine_name}
+use Rattle.mpf_config.specs.{Rows.{Written, Note}, View.note_view, BundleText.{Text, machine_name}}
 use Rattle.mpf_config.specs.Unread.{is_skipped, text_names, is_unlisted, skipped_note, section_notes}
 
 -- a note that is pushed
 pub one_pushed : (before now : List notes.Note) (note : notes.Note) (seen : Note) → now ≡ before ++ note ∷ [] → note_view note ≡ seen → map note_view now ≡ map note_view before ++ seen ∷ []
-one_pushed before now note seen is e =
-    ap (map note_view) is ∙ map_push note_view before note ∙ ap (λ (n : Note). map note_view before ++ n ∷ []) e
+one_pushed before now note seen is e = search (rules, map_push)
 
 -- the notes on a section
 module _ (text : List ℕ) (absent : List Note) (p : Pair) where
@@ -32,9 +26,7 @@ module _ (text : List ℕ) (absent : List Note) (p : Pair) where
 module _ {A : Type 0} (notes_on : A → List Note) (notes : List Note) where
   pub more_notes : (now : List Note) (x : A) (xs all : List A) (total more : List Note) → now ≡ notes ++ more → all ≡ x ∷ xs → notes_on x ≡ more
       → notes ++ flat_map notes_on all ≡ total → now ++ flat_map notes_on xs ≡ total
-  more_notes now x xs all total more is e n so_far =
-      let one : notes ++ flat_map notes_on all ≡ notes ++ (more ++ flat_map notes_on xs) = rw (e, n) refl in
-      ap (λ (front : List Note). front ++ flat_map notes_on xs) is ∙ append_assoc notes more (flat_map notes_on xs) ∙ sym one ∙ so_far
+  more_notes now x xs all total more is e n so_far = search (rules, append_assoc)
 
   pub no_notes : (x : A) (xs all : List A) (total : List Note) → all ≡ x ∷ xs → notes_on x ≡ [] → notes ++ flat_map notes_on all ≡ total → notes ++ flat_map notes_on xs ≡ total
   no_notes x xs all total e n so_far = search rules
@@ -54,9 +46,7 @@ module _ (listed : List Written) (t : Text) where
 module _ {A : Type 0} (keeps : A → Bool) (note : A → Note) (notes : List Note) where
   pub one_more : (now : List Note) (x : A) (xs all : List A) (total : List Note) → now ≡ notes ++ note x ∷ [] → all ≡ x ∷ xs → keeps x ≡ true
       → notes ++ map note (filter keeps all) ≡ total → now ++ map note (filter keeps xs) ≡ total
-  one_more now x xs all total is e k so_far =
-      let one : notes ++ map note (filter keeps all) ≡ notes ++ (note x ∷ map note (filter keeps xs)) = rw (e, k) refl in
-      ap (λ (front : List Note). front ++ map note (filter keeps xs)) is ∙ append_assoc notes (note x ∷ []) (map note (filter keeps xs)) ∙ sym one ∙ so_far
+  one_more now x xs all total is e k so_far = search (rules, append_assoc)
 
   pub no_more : (x : A) (xs all : List A) (total : List Note) → all ≡ x ∷ xs → keeps x ≡ false → notes ++ map note (filter keeps all) ≡ total → notes ++ map note (filter keeps xs) ≡ total
   no_more x xs all total e k so_far = search rules

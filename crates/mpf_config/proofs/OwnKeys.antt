@@ -1,22 +1,15 @@
 -- No two entries of a text are of one section and name: no key of a mapping comes twice.
 use Rattle.std.proofs.Common.{rules, ◌≡◌, ℕ, suc, zero, Bool, cond, not, List, [], ◌∷◌, ◌++◌, map, Option, Some, None, refl, sym, ap, subst, ◌∙◌, inl, inr, arith}
-use Rattle.std.specs.List.{Contains, AllZip, filter}
-use Rattle.std.proofs.lemmas.List.{map-append}
-use Rattle.yaml_subset.specs.Node.{Node, scalar, sequence, nodes_of, mapping, Pair, pairs_of, list_pairs}
-use Rattle.yaml_subset.specs.View.{pairs_in, text_in}
-use Rattle.yaml_subset.specs.TextLines.{Line}
+use Rattle.std.{specs.List.{Contains, AllZip, filter}, proofs.lemmas.List.map-append}
+use Rattle.yaml_subset.specs.Node.{Node, scalar, sequence, nodes_of, mapping, Pair, pairs_of}
+use Rattle.yaml_subset.specs.{View.{pairs_in, text_in}, TextLines.Line, Values.{IsValueOf, IsInline, IsNode}}
 use Rattle.yaml_subset.specs.Flow.{keys_of, ArePartsTo, IsFlowPair, IsFlowValue, IsFlow}
-use Rattle.yaml_subset.specs.Values.{IsValueOf, IsInline, IsNode}
-use Rattle.yaml_subset.specs.TreeOf.{Group, IsEntryValue, ArePairs, IsTree}
-use Rattle.yaml_subset.proofs.Views.{list_pairs-pairs_of}
+use Rattle.yaml_subset.{specs.TreeOf.{Group, IsEntryValue, ArePairs, IsTree}, proofs.Views.list_pairs-pairs_of}
 use Rattle.mpf_tables.specs.declared.tables.TextKind.{TextKind}
-use Rattle.section_tables.specs.Kinds.{Setting}
-use Rattle.section_tables.specs.Entries.{or_none, pairs_below}
-use Rattle.section_tables.specs.EntryOf.{IsOtherEntry}
+use Rattle.section_tables.specs.{Kinds.Setting, Entries.{or_none, pairs_below}, EntryOf.IsOtherEntry}
 use Rattle.mpf_sections.specs.Rows.{Entry, Content, entries, entry, SectionRows}
-use Rattle.mpf_config.specs.Unread.{is_skipped, read_of}
+use Rattle.mpf_config.specs.{Unread.{is_skipped, read_of}, RowsOf.{Sizes, AreNew, IsContent, IsSection, AreRowsOf}}
 use Rattle.mpf_config.specs.Apart.{EntryName, Differ, AreDistinct, named_entry, entries_named, entry_names}
-use Rattle.mpf_config.specs.RowsOf.{Sizes, AreNew, IsContent, IsSection, AreRowsOf}
 use Rattle.mpf_config.proofs.NewNames.{here, there, nothing_in, not_again, new_kept}
 use Rattle.mpf_config.proofs.EntryKeys.{in_append, in_front, in_behind}
 
@@ -35,9 +28,7 @@ no_pairs_there ps e = absurd cc
 
 module _ (P : List Pair → Type 0) where
   of_pairs : (n : ℕ) (pairs : List Pair) (t : Node) → P pairs → t ≡ mapping n (pairs_of pairs) → Holds P t
-  of_pairs n pairs t h is ps e =
-      let same : Some (list_pairs (pairs_of pairs)) ≡ Some ps = ap pairs_in (sym is) ∙ e in
-      subst P (sym (list_pairs-pairs_of pairs) ∙ ap (or_first []) same) h
+  of_pairs n pairs t h is ps e = search (rules, list_pairs-pairs_of)
 
   of_none : (t u : Node) → t ≡ u → None ≡ pairs_in u → Holds P t
   of_none t u is none ps e = absurd (no_pairs_there ps (none ∙ ap pairs_in (sym is) ∙ e))
@@ -62,24 +53,20 @@ one_more : (names : List (List ℕ)) (before : List Pair) (p : Pair) → ((k : L
 one_more names before p so k c = subst (λ (ks : List (List ℕ)). Contains ks k) (sym (map-append (λ (q : Pair). q.key) before (p ∷ []))) (either c)
   where
     either : Contains (p.key ∷ names) k → Contains (keys_of before ++ p.key ∷ []) k
-    either (zero, lt, at) = in_behind (keys_of before) (p.key ∷ []) k (zero, omega arith, at)
-    either (suc j, lt, at) = in_front (keys_of before) (p.key ∷ []) k (so k (j, omega (arith, lt), at))
+    either x1 = search (rules, in_behind, in_front)
 
 flow_keys : (n : ℕ) (IsValue : List ℕ → Node → List ℕ → Type 0) (names : List (List ℕ)) (before ps : List Pair) (text rest : List ℕ)
     → ((k : List ℕ) → Contains names k → Contains (keys_of before) k) → ArePartsTo 125 (IsFlowPair n IsValue) before text ps rest → AreNew names (keys_of ps)
 flow_keys n IsValue names before [] text rest so h = tt
-flow_keys n IsValue names before (p ∷ ps) text rest so h =
-    (λ old. h.2.fresh (so p.key old), flow_keys n IsValue (p.key ∷ names) (before ++ p ∷ []) ps h.1 rest (one_more names before p so) h.4)
+flow_keys n IsValue names before (p ∷ ps) text rest so h = search (rules, one_more, flow_keys n IsValue (p.key ∷ names) (before ++ p ∷ []) ps h.1 rest (one_more names before p so) h.4)
 
 flow_has_keys : (levels n : ℕ) (text : List ℕ) (t : Node) (rest : List ℕ) → IsFlow levels n text t rest → HasKeys t
 flow_has_keys zero n text t rest h = absurd h
 flow_has_keys (suc levels) n text t rest (inl h) = of_none HaveKeys t (sequence n (nodes_of h.0)) h.2 refl
-flow_has_keys (suc levels) n text t rest (inr h) =
-    of_pairs HaveKeys n h.0 t (flow_keys n (IsFlowValue n (IsFlow levels n)) [] [] h.0 h.1.body rest (λ k c. c) h.1.each) h.2
+flow_has_keys (suc levels) n text t rest (inr h) = search (rules, of_pairs, flow_keys)
 
 value_has_keys : (levels n : ℕ) (text : List ℕ) (t : Node) (rest : List ℕ) → IsFlowValue n (IsFlow levels n) text t rest → HasKeys t
-value_has_keys levels n text t rest (inl h) = of_none HaveKeys t (scalar n h.0) h.2 refl
-value_has_keys levels n text t rest (inr h) = flow_has_keys levels n text t rest h
+value_has_keys levels n text t rest x6 = search (rules, of_none, flow_has_keys)
 
 flow_values : (levels n : ℕ) (before ps : List Pair) (text rest : List ℕ) → ArePartsTo 125 (IsFlowPair n (IsFlowValue n (IsFlow levels n))) before text ps rest → HaveKeysBelow ps
 flow_values levels n before [] text rest h = tt
@@ -125,8 +112,7 @@ block_values : (levels depth : ℕ) (before : List (List ℕ)) (gs : List Group)
 block_values levels depth before [] [] h = tt
 block_values levels depth before [] (p ∷ ps) h = absurd h
 block_values levels depth before (g ∷ gs) [] h = absurd h
-block_values levels depth before (g ∷ gs) (p ∷ ps) h =
-    (entry_has_keys levels depth g.head.number h.0.after h.0.inline g.below p.value h.0.is_inline h.0.value, block_values levels depth (p.key ∷ before) gs ps h.1)
+block_values levels depth before (g ∷ gs) (p ∷ ps) h = search (rules, entry_has_keys, block_values levels depth (p.key ∷ before) gs ps h.1)
 
 tree_has_below : (levels depth : ℕ) (lines : List Line) (t : Node) → IsTree levels depth lines t → Holds HaveKeysBelow t
 tree_has_below zero depth [] t h = of_pairs HaveKeysBelow 1 [] t tt h

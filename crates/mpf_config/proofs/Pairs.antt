@@ -1,10 +1,7 @@
 -- The pairs of a mapping, from a place on.
 use Rattle.std.proofs.Common.{◌≡◌, ℕ, ◌+◌, ◌≤◌, ◌<◌, List, [], ◌∷◌, length, drop, get_or, add-one, ap, sym, ◌∙◌}
-use Rattle.std.proofs.Math.Seq.{drop-cons}
-use Rattle.std.proofs.lemmas.List.{drop_all}
-use Rattle.yaml_subset.specs.declared.tree.Key.{Key}
-use Rattle.yaml_subset.specs.declared.tree.Tree.{Tree}
-use Rattle.yaml_subset.specs.View.{pair_view}
+use Rattle.std.proofs.{Math.Seq.drop-cons, lemmas.List.drop_all}
+use Rattle.yaml_subset.specs.{declared.tree.{Key.Key, Tree.Tree}, View.pair_view}
 use Rattle.section_tables.specs.View.{pairs_view}
 
 pub pairs_at : (entries : List (Key × Tree)) (i : ℕ) (entry : Key × Tree) → i < length entries → entry ≡ get_or entries i entry

@@ -1,11 +1,9 @@
 -- The pieces of a bundle, one after the other.
 use Rattle.std.proofs.Common.{rules, ◌≡◌, ◌≢◌, ℕ, zero, suc, ◌+◌, ◌-◌, ◌<◌, ◌≤◌, ◌==◌, Bool, true, false, cond, ◌&&◌, List, [], ◌∷◌, ◌++◌, length, take, drop, refl, sym, ap, ap₂, ◌∙◌, ◌⊎◌, inl, inr, arith}
-use Rattle.std.proofs.lemmas.List.{take-append-drop, length-drop, drop-drop, drop_all}
+use Rattle.std.proofs.lemmas.List.{take-append-drop, length-drop, drop-drop, drop_all, Sums.sum_by-cons}
 use lib.Seq.{take-nil}
-use Rattle.std.proofs.lemmas.List.Sums.{sum_by-cons}
 use Rattle.std.proofs.lemmas.Bool.{eqb-true, and_parts, false_from_ne_true}
-use Rattle.mpf_config.specs.RowsOf.{EndsLine}
-use Rattle.mpf_config.specs.BundleText.{pieces_from, pieces_of, piece_len, line_ends, numbered}
+use Rattle.mpf_config.specs.{RowsOf.EndsLine, BundleText.{pieces_from, pieces_of, piece_len, line_ends, numbered}}
 
 abbrev Cut : Bool → List ℕ → Type 0
 Cut begins text = pieces_from begins text ≡ (take (piece_len begins text) text, pieces_of (drop (piece_len begins text) text))
@@ -15,8 +13,7 @@ unfolding pieces_of
 cut_here begins b bs e = search rules
 
 cut_step : (begins : Bool) (b : ℕ) (bs : List ℕ) (here : Bool) → (begins && (b == 64)) ≡ here → Cut (b == 10) bs → Cut begins (b ∷ bs)
-cut_step begins b bs true e h = cut_here begins b bs e
-cut_step begins b bs false e h = rw (e, h) refl
+cut_step begins b bs x4 e h = search (rules, cut_here)
 
 -- the bytes before the next line that begins with `@`, and the pieces from there on
 pub cut : (begins : Bool) (text : List ℕ) → Cut begins text
@@ -132,16 +129,10 @@ begins_after_lf begins (b ∷ front) = begins_after_lf (b == 10) front
 
 ends_line : (piece behind : List ℕ) → GoesOn (begins_behind false piece) behind → EndsLine piece behind
 ends_line piece [] h = tt
-ends_line piece (b ∷ behind) h =
-    elim (ends_lf false piece (and_parts (begins_behind false piece) (b == 64) h).0) [
-      | inl k ↦ absurd (let no : false ≡ true = k.1 in cc)
-      | inr k ↦ k
-    ]
+ends_line piece (b ∷ behind) h = search (rules, behind, ends_lf, and_parts)
 
 goes_on : (piece : List ℕ) (b : ℕ) (behind : List ℕ) → b ≡ 64 → EndsLine piece (b ∷ behind) → GoesOn (begins_behind false piece) (b ∷ behind)
-goes_on piece b behind is h =
-    let begins : begins_behind false piece ≡ true = ap (begins_behind false) h.1 ∙ begins_after_lf false h.0 in
-    rw (begins, is) refl
+goes_on piece b behind is h = search (rules, behind, begins_after_lf)
 
 -- ---- one piece
 

@@ -1,29 +1,19 @@
 -- Every name in the rows of a bundle is one.
-use Rattle.std.proofs.Common.{◌≡◌, ℕ, map, List, [], ◌∷◌, Ok, sym, subst}
-use Rattle.std.specs.List.{All, AllZip}
+use Rattle.std.{proofs.Common.{rules, ◌≡◌, ℕ, map, List, [], ◌∷◌, Ok, sym, subst}, specs.List.{All, AllZip}}
 use Rattle.std.proofs.lemmas.List.Elements.{All-nil, All-cons, All-head, All-tail, All-filter, All-from_recursion}
 use Rattle.yaml_subset.specs.Node.{Pair}
 use Rattle.mpf_values.specs.Names.{IsName}
-use Rattle.section_tables.specs.Named.{IsNamedEntry, IsNamedPlayer}
-use Rattle.section_tables.specs.Kinds.{by_entries, by_players, by_entry}
+use Rattle.section_tables.specs.{Named.{IsNamedEntry, IsNamedPlayer}, Kinds.{by_entries, by_players, by_entry}}
 use Rattle.section_tables.proofs.RowNames.{entry_named, entries_named, players_named}
 use Rattle.section_tables.proofs.RowNames as lists
-use Rattle.mpf_tables.specs.declared.tables.TextKind.{TextKind}
-use Rattle.mpf_tables.specs.declared.tables.TextKind.TheVariants.{Machine, Mode}
+use Rattle.mpf_tables.specs.declared.tables.TextKind.{TextKind, TheVariants.{Machine, Mode}}
 use Rattle.mpf_sections.specs.Rows.{Content, entries, players, entry, listed, SectionRows}
-use Rattle.mpf_sections.specs.Typed.{listed_modes}
-use Rattle.mpf_sections.specs.Named.{AllNames, IsNamedContent, IsNamed}
+use Rattle.mpf_sections.specs.{Typed.listed_modes, Named.{AllNames, IsNamedContent, IsNamed}}
 use Rattle.mpf_tables.proofs.TableNames.{shape_named}
-use Rattle.mpf_config.specs.Rows.{Written, Rows}
-use Rattle.mpf_config.specs.BundleText.{Text}
-use Rattle.mpf_config.specs.Unread.{read_of, is_present, present_of}
-use Rattle.mpf_config.specs.ModeReads.{ModeRead}
+use Rattle.mpf_config.specs.{Rows.{Written, Rows}, BundleText.Text, Reading.rows_at}
+use Rattle.mpf_config.specs.{Unread.{read_of, is_present, present_of}, ModeReads.ModeRead, Named.IsNamedMode}
 use Rattle.mpf_config.specs.RowsOf.{Sizes, within_limits, IsContent, IsSection, IsModeRead}
-use Rattle.mpf_config.specs.Named.{IsNamedMode}
-use Rattle.mpf_config.specs.Reading.{rows_at}
-use Rattle.mpf_config.proofs.ListedModes.{modes_listed}
-use Rattle.mpf_config.proofs.Theorem.{rows_sound}
-use Rattle.mpf_config.proofs.Each.{All-from_zip}
+use Rattle.mpf_config.proofs.{ListedModes.modes_listed, Theorem.rows_sound, Each.All-from_zip}
 
 module _ (sizes : Sizes) (kind : TextKind) where
   content_is_named : (p : Pair) (content : Content) → IsContent sizes kind p content → IsNamedContent content
@@ -49,9 +39,7 @@ module _ (sizes : Sizes) (texts : List Text) where
   modes_named [] [] named each = All-nil IsNamedMode
   modes_named [] (m ∷ ms) named each = absurd each
   modes_named (w ∷ ws) [] named each = absurd each
-  modes_named (w ∷ ws) (m ∷ ms) named each =
-      let rest = modes_named ws ms (All-tail (λ (v : Written). IsName v.text) w ws named) each.1 in
-      All-cons IsNamedMode m.mode (map (λ k. k.mode) ms) (mode_named w m (All-head (λ (v : Written). IsName v.text) w ws named) each.0) rest
+  modes_named (w ∷ ws) (m ∷ ms) named each = search (rules, All-tail, All-cons, mode_named, All-head, modes_named ws ms (All-tail (λ (v : Written). IsName v.text) w ws named) each.1)
 
 -- Those in the modes are, too.
 pub modes_are_named : (bundle : List ℕ) (rows : Rows) → rows_at bundle ≡ Ok rows → All IsNamedMode rows.modes

@@ -1,11 +1,9 @@
 -- Names of modes, of which each is taken once.
-use Rattle.std.proofs.Common.{rules, ◌≡◌, ℕ, Bool, true, false, not, ◌||◌, List, [], ◌∷◌, refl, sym, ap, ◌∙◌}
+use Rattle.std.proofs.Common.{rules, ◌≡◌, ℕ, Bool, true, false, not, ◌||◌, List, [], ◌∷◌, refl, ap}
 use Rattle.std.specs.Str.{bytes_eq}
 use Rattle.yaml_subset.specs.Keys.{is_among}
 use Rattle.config_faults.specs.Faults.{Spot}
-use Rattle.mpf_config.specs.BundleText.{machine_owner}
-use Rattle.mpf_config.specs.Rows.{Written}
-use Rattle.mpf_config.specs.Reading.{modes_new_at}
+use Rattle.mpf_config.specs.{BundleText.machine_owner, Rows.Written, Reading.modes_new_at}
 
 -- which names were taken matters, and not in which order
 abbrev SameNames : List (List ℕ) → List (List ℕ) → Type 0
@@ -25,7 +23,4 @@ not_true b e = search rules
 pub takes_next : (spot : Spot) (names known : List (List ℕ)) (taken : Bool) (w : Written) (ws all : List Written) → all ≡ w ∷ ws → bytes_eq w.text machine_owner ≡ false
     → taken ≡ not (is_among names w.text) → taken ≡ true → ((q : List ℕ) → is_among known q ≡ (bytes_eq w.text q || is_among names q))
     → modes_new_at spot known ws ≡ modes_new_at spot names all
-takes_next spot names known taken w ws all e other fresh is k =
-    let none : is_among names w.text ≡ false = not_true (is_among names w.text) (sym fresh ∙ is) in
-    let whole : modes_new_at spot names all ≡ modes_new_at spot (w.text ∷ names) ws = rw (e, other, none) refl in
-    same_new spot known (w.text ∷ names) ws k ∙ sym whole
+takes_next spot names known taken w ws all e other fresh is k = search (rules, not_true, same_new)

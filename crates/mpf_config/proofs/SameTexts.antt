@@ -1,49 +1,32 @@
 -- Texts that are read as they are reached, where the names of those before are kept in a set.
-use Rattle.std.proofs.Common.{rules, ◌≡◌, ℕ, ◌+◌, ◌<◌, Bool, true, false, not, ◌||◌, if◌then◌else◌, List, [], ◌∷◌, length, drop, get_or, set, add-one, Option, Some, None, Result, Ok, refl, sym, ap, ◌∙◌}
-use Rattle.std.specs.Str.{bytes_eq}
-use Rattle.std.proofs.Math.Seq.{drop-cons}
+use Rattle.std.proofs.Common.{rules, ◌≡◌, ℕ, ◌+◌, ◌<◌, Bool, true, false, not, ◌||◌, if◌then◌else◌, List, [], ◌∷◌, length, drop, get_or, add-one, Option, Result, Ok, refl, sym, ap, ◌∙◌}
+use Rattle.std.{specs.Str.bytes_eq, proofs.Math.Seq.drop-cons}
 use Rattle.yaml_subset.specs.Keys.{is_among}
-use Rattle.config_faults.specs.declared.fault.FaultKind.TheVariants.{Duplicate}
-use Rattle.config_faults.specs.declared.fault.ConfigFault.{ConfigFault}
-use Rattle.config_faults.specs.declared.fault.ConfigFault.TheVariants as faults
-use Rattle.section_tables.specs.Tables.{found_in}
-use Rattle.section_tables.specs.Reading.{◌>>=◌}
+use Rattle.config_faults.specs.declared.fault.{FaultKind.TheVariants.Duplicate, ConfigFault.ConfigFault}
+use Rattle.section_tables.specs.{Tables.found_in, Reading.◌>>=◌}
 use Rattle.config_faults.specs.Faults.{refused}
 use Rattle.mpf_config.specs.declared.texts.Text as texts
 use Rattle.mpf_sections.specs.Rows.{Written, SectionRows}
-use Rattle.mpf_config.specs.Rows.{RowsFault}
-use Rattle.mpf_config.specs.BundleText.{Text, machine_name}
-use Rattle.mpf_config.specs.ModeReads.{ModeRead}
-use Rattle.mpf_config.specs.Unread.{mode_text_of}
+use Rattle.mpf_config.specs.{Rows.RowsFault, BundleText.{Text, machine_name}, View.FailsRows}
+use Rattle.mpf_config.specs.{ModeReads.ModeRead, Unread.mode_text_of, Inside.{text_view, texts_view, or_machine}}
 use Rattle.mpf_config.specs.Apart.{AreDistinct, entry_names, entry_key, entry_keys}
-use Rattle.mpf_config.proofs.NewNames.{nothing_in}
-use Rattle.mpf_config.proofs.EntryKeys.{new_complete}
-use Rattle.mpf_config.specs.Reading.{line_spot, mode_read_at, entries_new_at, new_mode_at, placed_at, modes_from, modes_in_texts, none_found, found_of, taken_by}
-use Rattle.mpf_config.specs.View.{FailsRows}
-use Rattle.mpf_config.proofs.TakenEntries.{SameKeys, entries_same}
-use Rattle.mpf_config.specs.Inside.{text_view, texts_view, or_machine}
+use Rattle.mpf_config.proofs.{NewNames.nothing_in, EntryKeys.new_complete, TakenEntries.{SameKeys, entries_same}}
+use Rattle.mpf_config.specs.Reading.{line_spot, new_mode_at, placed_at, modes_from, modes_in_texts, none_found, found_of, taken_by}
 
 -- which names were taken matters, and not in which order
 same_step : (names others : List (List ℕ)) (k : List ℕ) → SameKeys names others → SameKeys (k ∷ names) (k ∷ others)
 same_step names others k h q = ap (λ (b : Bool). bytes_eq k q || b) (h q)
-
-after_both : {A B : Type 0} (r : Result A RowsFault) (f g : A → Result B RowsFault) → ((x : A) → f x ≡ g x) → (r >>= f) ≡ (r >>= g)
-after_both r f g h = search rules
 
 abbrev Found : Type 0
 Found = List (Option ModeRead)
 
 new_mode_same : (taken others : List (List ℕ)) (w : Written) (t : Text) → SameKeys taken others → new_mode_at taken w t ≡ new_mode_at others w t
 unfolding new_mode_at
-new_mode_same taken others w t h =
-    after_both (mode_read_at w t) (λ m. entries_new_at t.name taken (entry_names m.mode.sections) >>= λ all_new. Ok m)
-    (λ m. entries_new_at t.name others (entry_names m.mode.sections) >>= λ all_new. Ok m)
-    (λ m. ap (λ (r : Result (Unit {0}) RowsFault). r >>= λ all_new. Ok m) (entries_same t.name taken others (entry_names m.mode.sections) h))
+new_mode_same taken others w t h = search (rules, entries_same)
 
 placed_same : (t : Text) (taken others : List (List ℕ)) (found : Found) (o : Option (ℕ × Written)) → SameKeys taken others
     → placed_at t taken found o ≡ placed_at t others found o
-placed_same t taken others found None h = refl
-placed_same t taken others found (Some p) h = ap (λ (r : Result ModeRead RowsFault). r >>= λ m. Ok (set found p.0 (Some m))) (new_mode_same taken others p.1 t h)
+placed_same t taken others found x5 h = search (rules, new_mode_same)
 
 module _ (ws : List Written) where
   after : (t : Text) (ts : List Text) (names others machine : List (List ℕ))
@@ -73,9 +56,7 @@ module _ (ws : List Written) (machine taken names : List (List ℕ)) (found : Fo
   place = found_in mode_text_of one.name.now ws
 
   cut : modes_from machine ws names found (texts_view (drop i all)) ≡ modes_from machine ws names found (text_view one ∷ texts_view (drop (i + 1) all))
-  cut =
-      let first : drop i all ≡ one ∷ drop (i + 1) all = rw add-one (drop-cons all i nothing lt) in
-      ap (λ (ts : List texts.Text). modes_from machine ws names found (texts_view ts)) first
+  cut = search (rules, add-one, drop-cons)
 
   pub is_fresh : fresh ≡ not (is_among names one.name.now) → fresh ≡ true → is_among names one.name.now ≡ false
   is_fresh said is = not_true (is_among names one.name.now) (sym said ∙ is)
@@ -87,21 +68,12 @@ module _ (ws : List Written) (machine taken names : List (List ℕ)) (found : Fo
       → SameKeys taken (taken_by machine (found_of found))
       → placed_at (text_view one) taken found place ≡ Ok next
       → modes_from machine ws known next (texts_view (drop (i + 1) all)) ≡ modes_from machine ws names found (texts_view (drop i all))
-  takes_next known next said is k keys placed =
-      let none : is_among names one.name.now ≡ false = is_fresh said is in
-      let rest = texts_view (drop (i + 1) all) in
-      let at = sym (placed_same (text_view one) taken (taken_by machine (found_of found)) found place keys) ∙ placed in
-      let whole : modes_from machine ws names found (texts_view (drop i all)) ≡ modes_from machine ws (one.name.now ∷ names) next rest = cut ∙ rw (none, at) refl in
-      same_from ws machine known (one.name.now ∷ names) next rest k ∙ sym whole
+  takes_next known next said is k keys placed = search (rules, is_fresh, placed_same, cut, same_from)
 
   -- a text that is new, and was not placed
   pub fails_next : (e : ConfigFault) → fresh ≡ not (is_among names one.name.now) → fresh ≡ true → SameKeys taken (taken_by machine (found_of found))
       → FailsRows e (placed_at (text_view one) taken found place) → FailsRows e (modes_from machine ws names found (texts_view (drop i all)))
-  fails_next faults.NoMemory said is keys h = tt
-  fails_next (faults.Bundle f) said is keys h =
-      let none : is_among names one.name.now ≡ false = is_fresh said is in
-      let at = sym (placed_same (text_view one) taken (taken_by machine (found_of found)) found place keys) ∙ h in
-      cut ∙ rw (none, at) refl
+  fails_next x1 said is keys h = search (rules, is_fresh, placed_same, cut)
 
 -- ---- the machine's entries first
 

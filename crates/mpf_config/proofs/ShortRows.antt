@@ -1,33 +1,21 @@
 -- No list in the rows of a bundle has more than 1,024 items, and there are few modes.
 use Rattle.std.proofs.Common.{◌≡◌, ◌≢◌, ℕ, ◌≤◌, not, List, [], ◌∷◌, length, map, Ok, refl, sym, ap, subst, ◌∙◌, arith}
 use Rattle.std.specs.List.{All, AllPairs, AllZip}
-use Rattle.std.proofs.lemmas.List.{length-map}
-use Rattle.std.proofs.lemmas.List.Elements.{All-nil, All-cons, All-map}
-use Rattle.std.proofs.lemmas.List.Filters.{length-filter_both}
+use Rattle.std.proofs.lemmas.List.{length-map, Elements.{All-nil, All-cons, All-map}, Filters.length-filter_both}
 use Rattle.yaml_subset.specs.Node.{Pair}
-use Rattle.section_tables.specs.Kinds.{by_entries, by_entry}
-use Rattle.section_tables.specs.Named.{IsShortEntry, IsShortPlayer}
+use Rattle.section_tables.specs.{Kinds.{by_entries, by_entry}, Named.{IsShortEntry, IsShortPlayer}}
 use Rattle.section_tables.proofs.RowNames.{entry_short, entries_short, players_short}
 use Rattle.section_tables.proofs.RowNames as lists
-use Rattle.mpf_tables.specs.declared.tables.TextKind.{TextKind}
-use Rattle.mpf_tables.specs.declared.tables.TextKind.TheVariants.{Machine, Mode}
+use Rattle.mpf_tables.specs.declared.tables.TextKind.{TextKind, TheVariants.{Machine, Mode}}
 use Rattle.mpf_sections.specs.Rows.{Content, entries, players, entry, listed, SectionRows}
-use Rattle.mpf_sections.specs.Typed.{listed_modes}
-use Rattle.mpf_sections.specs.Short.{IsShortContent, IsShortSection}
+use Rattle.mpf_sections.specs.{Typed.listed_modes, Short.{IsShortContent, IsShortSection}}
 use Rattle.mpf_tables.proofs.TableNames.{shape_short}
 use Rattle.mpf_sections.proofs.ShortRows.{none_short, one_short}
-use Rattle.mpf_config.specs.Rows.{Written, Rows}
-use Rattle.mpf_config.specs.BundleText.{Text}
-use Rattle.mpf_config.specs.Unread.{read_of, is_present, present_of}
-use Rattle.mpf_config.specs.ModeReads.{ModeRead}
+use Rattle.mpf_config.specs.{Rows.{Written, Rows}, BundleText.Text, Reading.rows_at}
+use Rattle.mpf_config.{specs.Unread.{read_of, is_present, present_of}, proofs.ListedModes.{AreListed, modes_listed}}
+use Rattle.mpf_config.specs.{ModeReads.ModeRead, Short.{IsShortMode, AreListsShort}, FewModes.AreFewModes}
 use Rattle.mpf_config.specs.RowsOf.{within_limits, IsContent, IsSection, IsModeRead}
-use Rattle.mpf_config.specs.Short.{IsShortMode, AreListsShort}
-use Rattle.mpf_config.specs.FewModes.{AreFewModes}
-use Rattle.mpf_config.specs.Reading.{rows_at}
-use Rattle.mpf_config.proofs.NewNames.{new_kept, new_apart}
-use Rattle.mpf_config.proofs.ListedModes.{AreListed, modes_listed}
-use Rattle.mpf_config.proofs.Theorem.{rows_sound}
-use Rattle.mpf_config.proofs.Each.{All-from_zip}
+use Rattle.mpf_config.proofs.{NewNames.{new_kept, new_apart}, Theorem.rows_sound, Each.All-from_zip}
 
 content_short : (kind : TextKind) (p : Pair) (content : Content) → IsContent within_limits kind p content → IsShortContent content
 content_short kind p (entries es) h =

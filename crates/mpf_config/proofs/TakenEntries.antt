@@ -1,18 +1,13 @@
 -- Entries that are taken one after the other, where the keys of those before are kept in a set.
 use Rattle.std.proofs.Common.{rules, ◌≡◌, ℕ, Bool, true, false, not, ◌||◌, if◌then◌else◌, List, [], ◌∷◌, ◌++◌, map, Result, Ok, Err, refl, sym, ap, ◌∙◌}
-use Rattle.std.specs.Str.{bytes_eq}
-use Rattle.std.proofs.lemmas.List.{map-append}
+use Rattle.std.{specs.Str.bytes_eq, proofs.lemmas.List.map-append}
 use Rattle.yaml_subset.specs.Keys.{is_among}
-use Rattle.config_faults.specs.declared.fault.FaultKind.TheVariants.{Duplicate}
-use Rattle.config_faults.specs.declared.fault.ConfigFault.{ConfigFault}
-use Rattle.config_faults.specs.declared.fault.ConfigFault.TheVariants as faults
+use Rattle.config_faults.specs.declared.fault.{FaultKind.TheVariants.Duplicate, ConfigFault.ConfigFault}
 use Rattle.config_faults.specs.Faults.{refused, rows_fault_at}
 use Rattle.section_tables.proofs.Steps.{guard_false}
 use Rattle.mpf_sections.specs.Rows.{SectionRows}
-use Rattle.mpf_config.specs.Rows.{RowsFault}
+use Rattle.mpf_config.specs.{Rows.RowsFault, Reading.entries_new_at, View.FailsRows}
 use Rattle.mpf_config.specs.Apart.{EntryName, joined, entries_named, entry_names, entry_key, entry_keys}
-use Rattle.mpf_config.specs.Reading.{entries_new_at}
-use Rattle.mpf_config.specs.View.{FailsRows}
 
 -- which keys were taken matters, and not in which order
 abbrev pub SameKeys : List (List ℕ) → List (List ℕ) → Type 0
@@ -33,13 +28,11 @@ or_behind a b c = search rules
 
 pub among_append : (keys others : List (List ℕ)) (q : List ℕ) → is_among (keys ++ others) q ≡ (is_among keys q || is_among others q)
 among_append [] others q = refl
-among_append (k ∷ keys) others q =
-    ap (λ (b : Bool). bytes_eq k q || b) (among_append keys others q) ∙ sym (or_assoc (bytes_eq k q) (is_among keys q) (is_among others q))
+among_append (k ∷ keys) others q = search (rules, or_assoc, among_append keys others q)
 
 pub entries_same : (text : List ℕ) (keys others : List (List ℕ)) (es : List EntryName) → SameKeys keys others → entries_new_at text keys es ≡ entries_new_at text others es
 entries_same text keys others [] h = refl
-entries_same text keys others (e ∷ es) h =
-    rw (h (entry_key e), entries_same text (entry_key e ∷ keys) (entry_key e ∷ others) es (λ q. ap (λ (b : Bool). bytes_eq (entry_key e) q || b) (h q))) refl
+entries_same text keys others (e ∷ es) h = search (rules, entries_same text (entry_key e ∷ keys) (entry_key e ∷ others) es (λ q. ap (λ (b : Bool). bytes_eq (entry_key e) q || b) (h q)))
 
 not_true : (b : Bool) → not b ≡ true → b ≡ false
 not_true b e = search rules
@@ -112,15 +105,7 @@ module _ (text : List ℕ) (keys : List (List ℕ)) (s : SectionRows) (ss all : 
 
   pub knows_section : (known : List (List ℕ)) → HasTaken known (entries_named s) keys
       → (q : List ℕ) → (is_among (entry_keys ss) q || is_among known q) ≡ (is_among (entry_keys all) q || is_among keys q)
-  knows_section known k q =
-      let first = map entry_key (entries_named s) in
-      let both : is_among (entry_keys (s ∷ ss)) q ≡ (is_among first q || is_among (entry_keys ss) q) =
-      ap (λ (xs : List (List ℕ)). is_among xs q) (map-append entry_key (entries_named s) (entry_names ss)) ∙ among_append first (entry_keys ss) q in
-      ap (λ (b : Bool). is_among (entry_keys ss) q || b) (k q)
-      ∙ sym (or_turned (is_among first q) (is_among (entry_keys ss) q) (is_among keys q))
-      ∙ ap (λ (b : Bool). b || is_among keys q) (sym both)
-      ∙ ap (λ (xs : List SectionRows). is_among (entry_keys xs) q || is_among keys q) (sym is)
+  knows_section known k q = search (rules, map-append, among_append, or_turned)
 
   pub fails_section : (e : ConfigFault) → FailsRows e (entries_new_at text keys (entries_named s)) → FailsRows e (entries_new_at text keys (entry_names all))
-  fails_section faults.NoMemory h = tt
-  fails_section (faults.Bundle f) h = whole ∙ fails_first text keys (entries_named s) (entry_names ss) _ h
+  fails_section x1 h = search (rules, whole, fails_first)

@@ -1,13 +1,8 @@
 -- The machine text is the one of its name.
 use Rattle.std.proofs.Common.{◌≡◌, ℕ, suc, zero, false, List, [], ◌∷◌, map, Ok, refl, subst, inl, inr, arith}
-use Rattle.std.specs.List.{Contains}
-use Rattle.std.specs.Str.{bytes_eq}
-use Rattle.std.proofs.lemmas.Bool.{cases_Bool}
-use Rattle.std.proofs.lemmas.Slice.Eq.{bytes_eq-Decides}
+use Rattle.std.{specs.{List.Contains, Str.bytes_eq}, proofs.lemmas.{Bool.cases_Bool, Slice.Eq.bytes_eq-Decides}}
 use Rattle.section_tables.proofs.Steps.{chosen, ok_is}
-use Rattle.mpf_config.specs.BundleText.{Text, machine_name}
-use Rattle.mpf_config.specs.RowsOf.{AreNew, IsText}
-use Rattle.mpf_config.specs.Reading.{machine_at}
+use Rattle.mpf_config.specs.{BundleText.{Text, machine_name}, RowsOf.{AreNew, IsText}, Reading.machine_at}
 use Rattle.mpf_config.proofs.NewNames.{here, there, nothing_in, contains_map, not_again}
 
 -- a text by its name

@@ -2,17 +2,11 @@
 use Rattle.std.proofs.Common.{rules, ◌≡◌, ℕ, true, List, Result, Ok, Err, refl, sym, ap, subst, inl, inr}
 use Rattle.yaml_subset.specs.declared.fault.Fault as yaml
 use Rattle.yaml_subset.specs.declared.fault.YamlFault.TheVariants as yaml_faults
-use Rattle.yaml_subset.specs.Node.{Node, Pair}
+use Rattle.yaml_subset.specs.{Node.{Node, Pair}, TreeOf.{IsTree, IsTreeOf}, Reading.read_at}
 use Rattle.yaml_bytes.specs.Lines.{lines_of}
-use Rattle.yaml_subset.specs.TreeOf.{IsTree, IsTreeOf}
-use Rattle.yaml_subset.specs.Reading.{read_at}
-use Rattle.yaml_subset.proofs.LineContents.{one_content}
-use Rattle.yaml_subset.proofs.Levels.{one_tree}
-use Rattle.yaml_subset.proofs.Theorem.{read_sound, is_refused as no_tree}
+use Rattle.yaml_subset.proofs.{LineContents.one_content, Levels.one_tree, Theorem.{read_sound, is_refused as no_tree}}
 use Rattle.mpf_tables.specs.declared.tables.TextKind.{TextKind}
-use Rattle.section_tables.specs.Reading.{IsReadOr, ◌>>=◌}
-use Rattle.section_tables.proofs.Steps.{bind_ok, ok_is}
-use Rattle.section_tables.proofs.Outcomes.{weaker, then_or}
+use Rattle.section_tables.{specs.Reading.{IsReadOr, ◌>>=◌}, proofs.{Steps.{bind_ok, ok_is}, Outcomes.{weaker, then_or}}}
 use Rattle.mpf_sections.specs.Rows.{SectionRows}
 use Rattle.mpf_config.specs.BundleText.{behind_first_line, has_version}
 use Rattle.mpf_config.specs.RowsOf.{Sizes, within_limits, AreRowsOf, AreManyItems, IsTextOver}

@@ -1,30 +1,19 @@
 -- The rows that are read are those of the bundle, and it has no others.
-use Rattle.std.proofs.Common.{◌≡◌, ℕ, ◌≤◌, ◌^◌, ltb, List, [], length, map, Option, Result, Ok, refl, sym, ap, subst, ◌∙◌, inl, inr, codes}
+use Rattle.std.proofs.Common.{rules, ◌≡◌, ℕ, ◌≤◌, ◌^◌, List, [], length, Option, Result, Ok, refl, sym, ap, subst, inl, inr}
 use Rattle.std.proofs.lemmas.Bool.{cases_lt, le-ltb, lt-ltb}
-use Rattle.config_faults.specs.declared.fault.FaultKind.TheVariants.{Limit}
 use Rattle.mpf_tables.specs.declared.tables.TextKind.TheVariants.{Machine}
 use Rattle.section_tables.specs.Reading.{IsReadOr, ◌>>=◌}
-use Rattle.config_faults.specs.Faults.{rows_fault_at}
-use Rattle.section_tables.proofs.Steps.{bind_ok, guard_false, ok_is}
-use Rattle.section_tables.proofs.Outcomes.{weaker, then_or}
-use Rattle.mpf_sections.specs.Rows.{Written, SectionRows}
-use Rattle.mpf_config.specs.Rows.{Rows, RowsFault}
-use Rattle.mpf_config.specs.BundleText.{Text, machine_name}
-use Rattle.mpf_sections.specs.Typed.{listed_modes}
-use Rattle.mpf_config.specs.Unread.{read_of, machine_notes}
-use Rattle.mpf_config.specs.ModeReads.{MachineRead, ModeRead, rows_notes}
+use Rattle.section_tables.proofs.{Steps.{bind_ok, guard_false, ok_is}, Outcomes.{weaker, then_or}}
+use Rattle.mpf_sections.specs.{Rows.{Written, SectionRows}, Typed.listed_modes}
+use Rattle.mpf_config.specs.{Rows.{Rows, RowsFault}, BundleText.{Text, machine_name}}
+use Rattle.mpf_config.specs.{Unread.{read_of, machine_notes}, ModeReads.{MachineRead, ModeRead}}
 use Rattle.mpf_config.specs.Apart.{AreDistinct, AreNamesApart, entry_names, entry_keys}
 use Rattle.mpf_config.specs.RowsOf.{Sizes, within_limits, AreRowsOf, IsRowsOf, IsTextOver, IsAbove}
-use Rattle.mpf_config.specs.Reading.{line_spot, TextRows, texts_at, machine_at, text_rows_at, machine_read_at, entries_new_at, modes_from, modes_in_texts, none_found, found_of, rows_from, rows_at}
-use Rattle.mpf_config.proofs.BundleTexts.{texts_sound, texts_complete}
-use Rattle.mpf_config.proofs.TextNames.{machine_sound, machine_complete}
-use Rattle.mpf_config.proofs.TextRows.{text_rows_sound, text_rows_or}
-use Rattle.mpf_config.proofs.ListedModes.{modes_listed}
-use Rattle.mpf_config.proofs.EntryKeys.{new_sound, new_complete}
-use Rattle.mpf_config.proofs.EntriesApart.{rows_apart, modes_apart}
-use Rattle.mpf_config.proofs.NewNames.{nothing_in}
-use Rattle.mpf_config.proofs.OwnKeys.{rows_distinct}
-use Rattle.mpf_config.proofs.ModesFound.{modes_found, modes_found_or}
+use Rattle.mpf_config.specs.Reading.{TextRows, texts_at, machine_at, text_rows_at, machine_read_at, modes_from, modes_in_texts, none_found, found_of, rows_from, rows_at}
+use Rattle.mpf_config.proofs.{BundleTexts.{texts_sound, texts_complete}, TextRows.{text_rows_sound, text_rows_or}}
+use Rattle.mpf_config.proofs.{TextNames.{machine_sound, machine_complete}, NewNames.nothing_in, OwnKeys.rows_distinct}
+use Rattle.mpf_config.proofs.{ListedModes.modes_listed, EntryKeys.{new_sound, new_complete}}
+use Rattle.mpf_config.proofs.{EntriesApart.{rows_apart, modes_apart}, ModesFound.{modes_found, modes_found_or}}
 
 -- ---- the machine text
 
@@ -69,9 +58,7 @@ modes_in texts m = modes_in_texts m.rows (listed_modes m.rows) texts
 modes_parts : (machine : List SectionRows) (ws : List Written) (texts : List Text) (found : List (Option ModeRead)) → modes_in_texts machine ws texts ≡ Ok found
     → AreDistinct (entry_names machine) × (modes_from (entry_keys machine) ws [] (none_found ws) texts ≡ Ok found)
 unfolding modes_in_texts
-modes_parts machine ws texts found e =
-    let a = bind_ok (entries_new_at machine_name [] (entry_names machine)) (λ all_new. modes_from (entry_keys machine) ws [] (none_found ws) texts) found e in
-    ((new_sound machine_name [] (entry_names machine) a.0 a.1).0, a.2)
+modes_parts machine ws texts found e = search (rules, bind_ok, new_sound)
 
 modes_or : (Above : Type 0) (machine : List SectionRows) (ws : List Written) (texts : List Text) (found : List (Option ModeRead)) → AreDistinct (entry_names machine)
     → IsReadOr Above (modes_from (entry_keys machine) ws [] (none_found ws) texts) found → IsReadOr Above (modes_in_texts machine ws texts) found
@@ -113,12 +100,7 @@ machine_first bundle texts m found are w e =
 
 pub rows_sound : (bundle : List ℕ) (rows : Rows) → rows_at bundle ≡ Ok rows → IsRowsOf within_limits bundle rows
 unfolding rows_at
-rows_sound bundle rows e =
-    let a = guard_false (ltb (2 ^ 23) (length bundle)) (texts_at bundle >>= from_texts) (rows_fault_at Limit (line_spot (codes "-") 1)) rows e in
-    let b = bind_ok (texts_at bundle) from_texts rows a.1 in
-    let c = bind_ok (machine_read_at b.0) (from_machine b.0) rows b.2 in
-    let d = bind_ok (modes_in b.0 c.0) (from_modes b.0 c.0) rows c.2 in
-    subst (IsRowsOf within_limits bundle) (ok_is (rows_from b.0 c.0 (found_of d.0)) rows d.2) (machine_first bundle b.0 c.0 d.0 b.1 (was_machine b.0 c.0 c.1) d.1)
+rows_sound bundle rows e = search (rules, guard_false, bind_ok, ok_is, machine_first, was_machine)
 
 -- where each step reads what is said, so are the rows
 pub rows_again : (bundle : List ℕ) (texts : List Text) (m : MachineRead) (found : List (Option ModeRead)) → length bundle ≤ 2 ^ 23 → texts_at bundle ≡ Ok texts
@@ -140,10 +122,7 @@ module _ (sizes : Sizes) (bundle : List ℕ) (rows : Rows) (h : IsRowsOf sizes b
 
   -- with the modes that it has
   whole : (modes : List ModeRead) → modes ≡ h.modes → rows_from h.texts its_machine modes ≡ rows
-  whole modes same =
-      let mode_rows = ap (λ (ms : List ModeRead). map (λ m. m.mode) ms) same ∙ sym h.mode_rows in
-      let notes = ap (rows_notes h.texts (listed_modes rows.machine) h.sections) same ∙ sym h.notes in
-      λ i. record { machine = rows.machine; modes = mode_rows i; notes = notes i }
+  whole modes same = search rules
 
   modes_read : IsReadOr Above (from_machine h.texts its_machine) rows
   modes_read =

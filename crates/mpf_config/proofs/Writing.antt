@@ -1,26 +1,18 @@
 -- The line of a fault, as it is written piece by piece.
-use Rattle.std.proofs.Common.{rules, ◌≡◌, ℕ, ◌+◌, ◌<◌, ◌≤◌, Bool, false, ◌||◌, List, [], ◌∷◌, ◌++◌, length, take, get_or, Option, Some, None, Result, Ok, Err, OnOk, refl, sym, ap, subst, ◌∙◌, append_assoc, append-nil, codes}
-use Rattle.std.specs.List.{flat_map, list_any}
-use Rattle.std.proofs.lemmas.List.{take_more, take_all}
-use Rattle.std.proofs.lemmas.Grind.{flat_map-append}
-use Rattle.std.specs.Fmt.{decimal}
-use Rattle.std.specs.Io.KnownBytes.{Appends}
-use Rattle.mpf_config.specs.Rows.{RowsFault}
+use Rattle.std.proofs.Common.{rules, ◌≡◌, ℕ, ◌+◌, ◌<◌, ◌≤◌, Bool, false, ◌||◌, List, [], ◌∷◌, ◌++◌, length, take, get_or, Option, Result, OnOk, refl, sym, ap, subst, ◌∙◌, append_assoc, append-nil, codes}
+use Rattle.std.specs.{List.{flat_map, list_any}, Fmt.decimal, Io.KnownBytes.Appends}
+use Rattle.std.proofs.lemmas.{List.{take_more, take_all}, Grind.flat_map-append}
+use Rattle.mpf_config.specs.{Rows.RowsFault, FaultLine.{spaced, fault_line}}
 use Rattle.config_faults.specs.FaultNames.{number_of, kind_name}
 use Rattle.mpf_config.specs.Escaped.{is_control, escaped_byte, escaped}
-use Rattle.mpf_config.specs.FaultLine.{spaced, fault_line}
 
 -- x and then y
 joins : (a b c : Option (List ℕ)) (x y : List ℕ) → Appends a b x → Appends b c y → Appends a c (x ++ y)
-joins None b c x y h k = tt
-joins (Some a) None c x y h k = absurd h
-joins (Some a) (Some b) None x y h k = absurd k
-joins (Some a) (Some b) (Some c) x y h k = k ∙ ap (λ (front : List ℕ). front ++ y) h ∙ append_assoc a x y
+joins x1 x2 x3 x y h k = search (rules, append_assoc)
 
 -- a last piece, which may fail
 ends : {T E : Type 0} (r : Result T E) (a b c : Option (List ℕ)) (x y z : List ℕ) → x ++ y ≡ z → Appends a b x → OnOk r (Appends b c y) → OnOk r (Appends a c z)
-ends (Ok u) a b c x y z e h k = rw (← e) (joins a b c x y h k)
-ends (Err f) a b c x y z e h k = tt
+ends x1 a b c x y z e h k = search (rules, joins)
 
 abbrev front : List ℕ → List ℕ → List ℕ
 front number name = codes "error " ++ (number ++ 32 ∷ (name ++ 32 ∷ []))

@@ -1,9 +1,7 @@
 -- The entries of a text by their sections and names, of which no two in a bundle are the same.
-use Rattle.std.specs.Prelude.{◌≡◌, ◌≢◌, ℕ, List, [], ◌∷◌, map}
-use Rattle.std.specs.List.{Contains, flat_map}
-use Rattle.mpf_sections.specs.Rows.{Written, Entry, SectionRows}
+use Rattle.std.specs.{Prelude.{◌≡◌, ◌≢◌, ℕ, List, [], ◌∷◌, map}, List.{Contains, flat_map}}
+use Rattle.mpf_sections.specs.{Rows.{Written, Entry, SectionRows}, Typed.entries_in}
 use Rattle.mpf_config.specs.Rows.{ModeRows}
-use Rattle.mpf_sections.specs.Typed.{entries_in}
 
 -- an entry by the name of its section, and by its own
 pub record EntryName : Type 0 where

@@ -1,10 +1,7 @@
 -- How a bundle holds texts, and how a text begins.
 use Rattle.std.specs.Prelude.{ℕ, suc, ◌+◌, Bool, true, false, ◌&&◌, ◌==◌, if◌then◌else◌, List, [], ◌∷◌, ◌++◌, Option, Some, None, unwrap_or, codes}
-use Rattle.std.specs.List.{count_by}
-use Rattle.std.specs.Str.{bytes_eq}
-use Rattle.yaml_bytes.specs.Bytes.{is_blank}
-use Rattle.yaml_bytes.specs.Lines.{cut_line}
-use Rattle.yaml_bytes.specs.Scanning.{behind_blanks, trimmed}
+use Rattle.std.specs.{List.count_by, Str.bytes_eq}
+use Rattle.yaml_bytes.specs.{Bytes.is_blank, Lines.cut_line, Scanning.{behind_blanks, trimmed}}
 
 -- a text, and the name in the line `@ NAME` in front of it
 pub record Text : Type 0 where

@@ -1,11 +1,9 @@
 -- The line that a fault is printed as.
-use Rattle.std.specs.Prelude.{ℕ, List, [], ◌∷◌, ◌++◌, codes}
-use Rattle.std.specs.Fmt.{decimal}
+use Rattle.std.specs.{Prelude.{ℕ, List, [], ◌∷◌, ◌++◌, codes}, Fmt.decimal}
 use Rattle.yaml_subset.specs.declared.fault.FaultKind as yaml
 use Rattle.yaml_subset.specs.declared.fault.FaultKind.TheVariants as yaml_kinds
 use Rattle.config_faults.specs.FaultNames.{number_of, kind_name}
-use Rattle.mpf_config.specs.Rows.{RowsFault}
-use Rattle.mpf_config.specs.Escaped.{escaped}
+use Rattle.mpf_config.specs.{Rows.RowsFault, Escaped.escaped}
 
 -- the name of a kind of the YAML reader, which is the key of such a fault
 abbrev pub yaml_kind_name : yaml.FaultKind → List ℕ

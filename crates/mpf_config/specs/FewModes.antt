@@ -1,6 +1,5 @@
 -- How many modes the rows of a bundle have, and by what names.
-use Rattle.std.specs.Prelude.{◌≤◌, ◌≢◌, List, length, map}
-use Rattle.std.specs.List.{AllPairs}
+use Rattle.std.specs.{Prelude.{◌≤◌, ◌≢◌, List, length, map}, List.AllPairs}
 use Rattle.mpf_config.specs.Rows.{ModeRows}
 
 -- there are at most 64 modes, and no two have one name

@@ -1,41 +1,26 @@
 -- What is read, as the program has it, and what its lists and sets gain. An answer gives what reading gives, unless memory
 -- ran out: this, or the first fault.
 use Rattle.std.specs.Prelude.{◌≡◌, ◌||◌, ℕ, Bool, not, List, [], ◌++◌, map, Option, Result}
-use Rattle.std.specs.List.{flat_map}
-use Rattle.std.specs.Str.{bytes_eq}
-use Rattle.std.specs.Borrow.{Bor}
-use Rattle.std.specs.Global.{Vec, Global}
-use Rattle.std.specs.HashSet.{HashSet}
-use Rattle.std.specs.declared.borrow.CowSlice.{CowSlice}
-use Rattle.yaml_subset.specs.declared.tree.Key.{Key}
-use Rattle.yaml_subset.specs.declared.tree.Tree.{Tree}
-use Rattle.yaml_subset.specs.Node.{Node, Pair}
-use Rattle.yaml_subset.specs.Keys.{is_among, copies_view}
-use Rattle.yaml_subset.specs.View.{node_view, pair_view}
+use Rattle.std.specs.{List.flat_map, HashSet.HashSet, declared.borrow.CowSlice.CowSlice}
+use Rattle.std.specs.{Str.bytes_eq, Borrow.Bor, Global.{Vec, Global}}
+use Rattle.yaml_subset.specs.{declared.tree.{Key.Key, Tree.Tree}, Keys.{is_among, copies_view}}
+use Rattle.yaml_subset.specs.{Node.{Node, Pair}, View.{node_view, pair_view}}
 use Rattle.mpf_tables.specs.declared.tables.TextKind.{TextKind}
-use Rattle.section_tables.specs.declared.rows.Name.{Name}
-use Rattle.config_faults.specs.declared.fault.ConfigFault.{ConfigFault}
-use Rattle.section_tables.specs.declared.nodes.MapPairs.{MapPairs}
+use Rattle.section_tables.specs.declared.{rows.Name.Name, nodes.MapPairs.MapPairs}
+use Rattle.config_faults.specs.{declared.fault.ConfigFault.ConfigFault, Faults.spot_view}
 use Rattle.config_faults.specs.declared.spot.Spot as spots
 use Rattle.section_tables.specs.declared.table.Shape as shapes
-use Rattle.section_tables.specs.Tables.{found_in}
-use Rattle.section_tables.specs.TableView.{shape_view}
+use Rattle.section_tables.specs.{Tables.found_in, TableView.shape_view}
 use Rattle.section_tables.specs.View.{names_view, pairs_view, pairs_in_view, found_view}
-use Rattle.config_faults.specs.Faults.{spot_view}
 use Rattle.mpf_sections.specs.declared.section.Content as contents
-use Rattle.mpf_sections.specs.declared.section.Section.{Section}
+use Rattle.mpf_sections.specs.{declared.section.Section.Section, View.{content_view, section_view}}
 use Rattle.mpf_sections.specs.Rows.{Written, Content, SectionRows}
-use Rattle.mpf_sections.specs.View.{content_view, section_view}
 use Rattle.mpf_config.specs.declared.config.Note as notes
-use Rattle.mpf_config.specs.declared.config.ModeText.{ModeText}
-use Rattle.mpf_config.specs.declared.config.Config.{Config}
+use Rattle.mpf_config.specs.declared.{config.{ModeText.ModeText, Config.Config}, listed_mode.ListedMode.ListedMode}
 use Rattle.mpf_config.specs.declared.texts.Text as texts
 use Rattle.mpf_config.specs.declared.bundle.MachineRead as machines
 use Rattle.mpf_config.specs.declared.modes.ModeRead as modes
-use Rattle.mpf_config.specs.declared.listed_mode.ListedMode.{ListedMode}
-use Rattle.mpf_config.specs.Rows.{Note, Rows, RowsFault}
-use Rattle.mpf_config.specs.BundleText.{Text}
-use Rattle.mpf_config.specs.ModeReads.{MachineRead, ModeRead}
+use Rattle.mpf_config.specs.{Rows.{Note, Rows, RowsFault}, BundleText.Text, ModeReads.{MachineRead, ModeRead}}
 use Rattle.mpf_config.specs.Unread.{absent_of, mode_text_of, skipped_note, absent_note, unlisted_note, machine_notes, mode_notes, unlisted_notes}
 use Rattle.mpf_config.specs.Apart.{EntryName, AreDistinct, entries_named, entry_names, entry_keys}
 use Rattle.mpf_config.specs.Reading.{modes_new_at, modes_at, content_at, section_at, sections_in, sections_at, machine_at, machine_read_at, mode_read_at, entries_new_at, new_mode_at, placed_at, found_of, modes_from, none_found, modes_in_texts}

@@ -1,22 +1,15 @@
 -- What contracts of the functions inside this crate see.
 use Rattle.std.specs.Prelude.{ℕ, List, [], ◌∷◌, Option, Some, None, option_map, map, slice_get}
-use Rattle.std.specs.Borrow.{Bor}
-use Rattle.std.specs.Global.{Vec}
+use Rattle.std.specs.{Borrow.Bor, Global.Vec}
 pub use Rattle.yaml_subset.specs.Keys.{copies_view}
-use Rattle.mpf_sections.specs.declared.section.Section.{Section}
-use Rattle.mpf_sections.specs.Rows.{SectionRows}
-use Rattle.mpf_sections.specs.SectionView.{section_view}
+use Rattle.mpf_sections.specs.{declared.section.Section.Section, Rows.SectionRows, SectionView.section_view}
 use Rattle.mpf_config.specs.declared.config.Note as notes
 use Rattle.mpf_config.specs.declared.texts.Text as texts
 use Rattle.mpf_config.specs.declared.bundle.MachineRead as bundles
 use Rattle.mpf_config.specs.declared.modes.ModeRead as modes
-use Rattle.mpf_config.specs.Rows.{Note}
-use Rattle.mpf_config.specs.BundleText.{Text}
-use Rattle.mpf_config.specs.ModeReads.{MachineRead, ModeRead}
-use Rattle.mpf_config.specs.Apart.{entry_keys}
+use Rattle.mpf_config.specs.{Rows.Note, BundleText.Text, Apart.entry_keys, declared.listed_mode.ListedMode.ListedMode}
+use Rattle.mpf_config.specs.{ModeReads.{MachineRead, ModeRead}, View.{name_view, mode_view, note_view}}
 use Rattle.section_tables.specs.Rows.{Written}
-use Rattle.mpf_config.specs.declared.listed_mode.ListedMode.{ListedMode}
-use Rattle.mpf_config.specs.View.{name_view, mode_view, note_view}
 
 abbrev pub bytes_view : Bor (List ℕ) → List ℕ
 bytes_view bytes = bytes.now

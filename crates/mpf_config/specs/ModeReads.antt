@@ -1,11 +1,8 @@
 -- What is read of the machine and of modes, each with the notes on its text.
-use Rattle.std.specs.Prelude.{List, ◌++◌}
-use Rattle.std.specs.List.{flat_map}
+use Rattle.std.specs.{Prelude.{List, ◌++◌}, List.flat_map}
 use Rattle.yaml_subset.specs.Node.{Pair}
 use Rattle.mpf_sections.specs.Rows.{Written, SectionRows}
-use Rattle.mpf_config.specs.Rows.{ModeRows, Note}
-use Rattle.mpf_config.specs.BundleText.{Text}
-use Rattle.mpf_config.specs.Unread.{machine_notes, unlisted_notes}
+use Rattle.mpf_config.specs.{Rows.{ModeRows, Note}, BundleText.Text, Unread.{machine_notes, unlisted_notes}}
 
 -- the sections of the machine text, with the notes on it
 pub record MachineRead : Type 0 where

@@ -1,11 +1,7 @@
 -- The line that a note is printed as.
-use Rattle.std.specs.Prelude.{ℕ, List, [], ◌∷◌, ◌++◌, codes}
-use Rattle.std.specs.Fmt.{decimal}
-use Rattle.mpf_config.specs.declared.config.NoteKind.{NoteKind}
-use Rattle.mpf_config.specs.declared.config.NoteKind.TheVariants.{Skipped, Absent, Unlisted}
-use Rattle.mpf_config.specs.Escaped.{escaped}
-use Rattle.mpf_config.specs.FaultLine.{spaced}
-use Rattle.mpf_config.specs.Rows.{Note}
+use Rattle.std.specs.{Prelude.{ℕ, List, [], ◌∷◌, ◌++◌, codes}, Fmt.decimal}
+use Rattle.mpf_config.specs.declared.config.NoteKind.{NoteKind, TheVariants.{Skipped, Absent, Unlisted}}
+use Rattle.mpf_config.specs.{Escaped.escaped, FaultLine.spaced, Rows.Note}
 
 -- the word of a kind
 abbrev pub note_word : NoteKind → List ℕ

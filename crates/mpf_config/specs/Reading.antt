@@ -1,28 +1,20 @@
 -- Reading a bundle: the machine text, and then the others in order, up to the first fault.
 use Rattle.std.specs.Prelude.{ℕ, ◌^◌, nat_lt, Bool, true, not, ◌||◌, if◌then◌else◌, List, [], ◌∷◌, ◌++◌, length, map, set, Option, Some, None, unwrap_or, Result, Ok, Err, codes}
-use Rattle.std.specs.List.{flat_map}
-use Rattle.std.specs.Str.{bytes_eq}
+use Rattle.std.specs.{List.flat_map, Str.bytes_eq}
 pub use Rattle.yaml_bytes.specs.Results.{◌>>=◌}
 use Rattle.yaml_subset.specs.declared.fault.Fault as yaml
-use Rattle.yaml_subset.specs.Node.{Node, Pair}
-use Rattle.yaml_subset.specs.Reading.{read_at}
-use Rattle.yaml_subset.specs.Keys.{is_among}
-use Rattle.yaml_subset.specs.View.{line_of, pairs_in}
+use Rattle.yaml_subset.specs.{Node.{Node, Pair}, Reading.read_at, Keys.is_among, View.{line_of, pairs_in}}
 use Rattle.config_faults.specs.declared.fault.FaultKind.TheVariants.{Bundle, Version, Yaml, UnknownSection, BadValue, Duplicate, Limit}
-use Rattle.mpf_tables.specs.declared.tables.TextKind.{TextKind}
-use Rattle.mpf_tables.specs.declared.tables.TextKind.TheVariants.{Machine, Mode}
-use Rattle.section_tables.specs.Kinds.{Shape, by_entries, by_players, by_entry, by_names}
+use Rattle.mpf_tables.specs.declared.tables.TextKind.{TextKind, TheVariants.{Machine, Mode}}
+use Rattle.section_tables.specs.{Kinds.{Shape, by_entries, by_players, by_entry, by_names}, Tables.found_in}
 use Rattle.mpf_tables.specs.SectionTables.{mode_name, shape_of}
-use Rattle.section_tables.specs.Tables.{found_in}
 use Rattle.section_tables.specs.Reading.{key_spot, expect, each_read, entry_at, entries_at, players_at, names_at}
 use Rattle.config_faults.specs.Faults.{Spot, refused}
 use Rattle.mpf_sections.specs.Rows.{Written, Content, entries, players, entry, listed, SectionRows, ModeSettings}
-use Rattle.mpf_config.specs.Rows.{Rows, RowsFault}
-use Rattle.mpf_config.specs.FaultLine.{yaml_kind_name}
+use Rattle.mpf_config.specs.{Rows.{Rows, RowsFault}, FaultLine.yaml_kind_name, ModeReads.{MachineRead, ModeRead}}
 use Rattle.mpf_config.specs.BundleText.{Text, machine_name, machine_owner, first_line, behind_first_line, name_in, pieces_of, numbered, has_version}
 use Rattle.mpf_sections.specs.Typed.{mode_settings_of, starts_at_ball_end, listed_modes}
 use Rattle.mpf_config.specs.Unread.{read_of, mode_text_of, machine_notes, mode_notes, unlisted_notes}
-use Rattle.mpf_config.specs.ModeReads.{MachineRead, ModeRead}
 use Rattle.mpf_config.specs.Apart.{EntryName, entry_names, entry_key, entry_keys}
 
 -- a line of a bundle, or of a text as a whole

@@ -1,24 +1,17 @@
 -- The rows of a bundle: what they are, however a bundle is read.
 use Rattle.std.specs.Prelude.{◌≡◌, ◌≢◌, ℕ, ◌<◌, ◌^◌, true, false, List, [], ◌∷◌, ◌++◌, length, map, Some, ◌⊎◌}
 use Rattle.std.specs.List.{Contains, All, AllZip}
-use Rattle.yaml_bytes.specs.Bytes.{begins_blank}
-use Rattle.yaml_bytes.specs.Plain.{AreBlank, EndsInNoBlank}
-use Rattle.yaml_bytes.specs.Lines.{ends_line}
-use Rattle.yaml_subset.specs.Node.{Node, Pair}
-use Rattle.yaml_subset.specs.View.{pairs_in}
-use Rattle.yaml_subset.specs.TreeOf.{IsTreeOf, IsTextAbove}
-use Rattle.mpf_tables.specs.declared.tables.TextKind.{TextKind}
-use Rattle.mpf_tables.specs.declared.tables.TextKind.TheVariants.{Machine, Mode}
+use Rattle.yaml_bytes.specs.{Bytes.begins_blank, Plain.{AreBlank, EndsInNoBlank}, Lines.ends_line}
+use Rattle.yaml_subset.specs.{Node.{Node, Pair}, View.pairs_in, TreeOf.{IsTreeOf, IsTextAbove}}
+use Rattle.mpf_tables.specs.declared.tables.TextKind.{TextKind, TheVariants.{Machine, Mode}}
 use Rattle.section_tables.specs.Kinds.{Setting, PlayerKinds, by_entries, by_players, by_entry, by_names}
 use Rattle.mpf_tables.specs.SectionTables.{mode_name, shape_of}
 use Rattle.section_tables.specs.EntryOf.{IsEntry, AreEntries, ArePlayers, AreNamesListed}
 use Rattle.mpf_sections.specs.Rows.{Written, Content, entries, players, entry, listed, SectionRows, ModeSettings}
-use Rattle.mpf_config.specs.Rows.{Rows}
+use Rattle.mpf_config.specs.{Rows.Rows, ModeReads.{ModeRead, rows_notes}, Apart.AreNamesApart}
 use Rattle.mpf_config.specs.BundleText.{Text, machine_name, machine_owner, version_line}
 use Rattle.mpf_sections.specs.Typed.{mode_settings_of, ball_ending, listed_modes}
 use Rattle.mpf_config.specs.Unread.{read_of, mode_text_of, present_of, mode_notes}
-use Rattle.mpf_config.specs.ModeReads.{ModeRead, rows_notes}
-use Rattle.mpf_config.specs.Apart.{AreNamesApart}
 
 -- ---- the bundle and its texts
 

@@ -1,13 +1,10 @@
 -- What is not read of a bundle, and the notes on it.
 use Rattle.std.specs.Prelude.{ℕ, Bool, not, ◌&&◌, if◌then◌else◌, List, [], ◌∷◌, map, filter, codes}
-use Rattle.std.specs.List.{list_any, flat_map}
-use Rattle.std.specs.Str.{bytes_eq}
-use Rattle.yaml_subset.specs.Node.{Pair}
-use Rattle.yaml_subset.specs.Keys.{is_among}
+use Rattle.std.specs.{List.{list_any, flat_map}, Str.bytes_eq}
+use Rattle.yaml_subset.specs.{Node.Pair, Keys.is_among}
 use Rattle.mpf_tables.specs.SectionTables.{modes_name}
 use Rattle.mpf_config.specs.declared.config.NoteKind.TheVariants.{Skipped, Absent, Unlisted}
-use Rattle.mpf_config.specs.Rows.{Written, Note}
-use Rattle.mpf_config.specs.BundleText.{Text, machine_name, mode_text_name}
+use Rattle.mpf_config.specs.{Rows.{Written, Note}, BundleText.{Text, machine_name, mode_text_name}}
 
 -- the sections that are carried out nowhere
 abbrev pub skipped_names : List (List ℕ)

@@ -1,9 +1,6 @@
 use Rattle.std.proofs.Common.{List, fold, map, drop, ◌+◌, Option, ap, ◌∙◌}
-use Rattle.mpf_sections.specs.Rows.{BallDevice}
-use Rattle.mpf_sections.specs.TypedBalls.{ball_device_of}
-use Rattle.mpf_sections.specs.View.{entry_view}
-use Rattle.machine_definitions.specs.Definitions.{latest_ball_device}
-use Rattle.machine_definitions.specs.Found.{as_ball_device, found_ball_device}
+use Rattle.mpf_sections.specs.{Rows.BallDevice, TypedBalls.ball_device_of, View.entry_view}
+use Rattle.machine_definitions.specs.{Definitions.latest_ball_device, Found.{as_ball_device, found_ball_device}}
 use Rattle.machine_definitions.proofs.Finding.{took-value, next-is}
 use Rattle.machine_definitions.proofs.definitions.add_ball_devices.Goals as goal
 

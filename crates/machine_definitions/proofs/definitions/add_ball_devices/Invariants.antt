@@ -1,8 +1,6 @@
 use Rattle.std.proofs.Common.{◌≡◌, ℕ, List, fold, map, drop}
-use Rattle.mpf_sections.specs.TypedBalls.{ball_device_of}
-use Rattle.mpf_sections.specs.View.{entry_view}
-use Rattle.machine_definitions.specs.Definitions.{latest_ball_device}
-use Rattle.machine_definitions.specs.Found.{found_ball_device}
+use Rattle.mpf_sections.specs.{TypedBalls.ball_device_of, View.entry_view}
+use Rattle.machine_definitions.specs.{Definitions.latest_ball_device, Found.found_ball_device}
 use Rattle.machine_definitions.proofs.definitions.add_ball_devices.Given as goal
 
 abbrev pub invariant-loop-entry : goal.invariant-loop-entry

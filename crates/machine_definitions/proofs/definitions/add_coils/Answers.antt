@@ -1,9 +1,6 @@
 use Rattle.std.proofs.Common.{List, fold, map, drop, ◌+◌, Option, ap, ◌∙◌}
-use Rattle.mpf_sections.specs.Rows.{Coil}
-use Rattle.mpf_sections.specs.TypedCoils.{coil_of}
-use Rattle.mpf_sections.specs.View.{entry_view}
-use Rattle.machine_definitions.specs.Definitions.{latest_coil}
-use Rattle.machine_definitions.specs.Found.{as_coil, found_coil}
+use Rattle.mpf_sections.specs.{Rows.Coil, TypedCoils.coil_of, View.entry_view}
+use Rattle.machine_definitions.specs.{Definitions.latest_coil, Found.{as_coil, found_coil}}
 use Rattle.machine_definitions.proofs.Finding.{took-value, next-is}
 use Rattle.machine_definitions.proofs.definitions.add_coils.Goals as goal
 

@@ -1,8 +1,6 @@
 use Rattle.std.proofs.Common.{◌≡◌, ℕ, List, fold, map, drop}
-use Rattle.mpf_sections.specs.TypedCoils.{coil_of}
-use Rattle.mpf_sections.specs.View.{entry_view}
-use Rattle.machine_definitions.specs.Definitions.{latest_coil}
-use Rattle.machine_definitions.specs.Found.{found_coil}
+use Rattle.mpf_sections.specs.{TypedCoils.coil_of, View.entry_view}
+use Rattle.machine_definitions.specs.{Definitions.latest_coil, Found.found_coil}
 use Rattle.machine_definitions.proofs.definitions.add_coils.Given as goal
 
 abbrev pub invariant-loop-entry : goal.invariant-loop-entry

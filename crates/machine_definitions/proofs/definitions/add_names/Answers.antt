@@ -1,8 +1,6 @@
-use Rattle.std.proofs.Common.{◌||◌, Bool, drop, ◌+◌, ap, ◌∙◌}
-use Rattle.std.specs.Str.{bytes_eq}
+use Rattle.std.{proofs.Common.{◌||◌, Bool, drop, ◌+◌, ap, ◌∙◌}, specs.Str.bytes_eq}
 use Rattle.mpf_sections.specs.Rows.{Written}
-use Rattle.machine_definitions.specs.Found.{is_found, is_named_at}
-use Rattle.machine_definitions.proofs.Finding.{took-name, or_more, next-is}
+use Rattle.machine_definitions.{specs.Found.{is_found, is_named_at}, proofs.Finding.{took-name, or_more, next-is}}
 use Rattle.machine_definitions.proofs.definitions.add_names.Goals as goal
 
 pub loop-entry-preserved : goal.loop-entry-preserved

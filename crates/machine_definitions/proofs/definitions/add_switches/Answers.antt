@@ -1,11 +1,7 @@
 use Rattle.std.proofs.Common.{◌≡◌, ◌||◌, Bool, List, map, drop, ◌+◌, refl, sym, ap, ◌∙◌}
-use Rattle.std.specs.List.{list_any}
-use Rattle.std.specs.Str.{bytes_eq}
-use Rattle.mpf_sections.specs.Rows.{Written, Entry}
-use Rattle.mpf_sections.specs.Typed.{switch_of}
-use Rattle.mpf_sections.specs.View.{entry_view}
-use Rattle.machine_definitions.specs.Found.{is_found}
-use Rattle.machine_definitions.proofs.Finding.{took-name, or_more, next-is}
+use Rattle.std.specs.{List.list_any, Str.bytes_eq}
+use Rattle.mpf_sections.specs.{Rows.{Written, Entry}, Typed.switch_of, View.entry_view}
+use Rattle.machine_definitions.{specs.Found.is_found, proofs.Finding.{took-name, or_more, next-is}}
 use Rattle.machine_definitions.proofs.definitions.add_switches.Goals as goal
 
 -- a switch has the name of its entry

@@ -1,8 +1,5 @@
-use Rattle.std.proofs.Common.{◌≡◌, ◌||◌, ℕ, List, map, drop}
-use Rattle.std.specs.List.{list_any}
-use Rattle.std.specs.Str.{bytes_eq}
-use Rattle.mpf_sections.specs.Typed.{switch_of}
-use Rattle.mpf_sections.specs.View.{entry_view}
+use Rattle.std.{proofs.Common.{◌≡◌, ◌||◌, ℕ, List, map, drop}, specs.{List.list_any, Str.bytes_eq}}
+use Rattle.mpf_sections.specs.{Typed.switch_of, View.entry_view}
 use Rattle.machine_definitions.specs.Found.{is_found}
 use Rattle.machine_definitions.proofs.definitions.add_switches.Given as goal
 

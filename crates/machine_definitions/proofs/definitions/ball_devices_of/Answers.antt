@@ -1,12 +1,7 @@
-use Rattle.std.proofs.Common.{◌+◌, List, Option, fold, map, drop, sym, ap, ◌∙◌}
+use Rattle.std.proofs.{Common.{◌+◌, List, Option, fold, map, drop, sym, ap, ◌∙◌}, lemmas.Grind.fold-append}
 use Rattle.std.specs.List.{flat_map}
-use Rattle.std.proofs.lemmas.Grind.{fold-append}
-use Rattle.mpf_sections.specs.Rows.{BallDevice}
-use Rattle.mpf_sections.specs.TypedBalls.{ball_device_of, ball_devices_in}
-use Rattle.mpf_sections.specs.View.{section_view}
-use Rattle.machine_definitions.specs.Definitions.{latest_ball_device}
-use Rattle.machine_definitions.specs.Found.{found_ball_device}
-use Rattle.machine_definitions.proofs.Finding.{next-is}
+use Rattle.mpf_sections.specs.{Rows.BallDevice, TypedBalls.{ball_device_of, ball_devices_in}, View.section_view}
+use Rattle.machine_definitions.{specs.{Definitions.latest_ball_device, Found.found_ball_device}, proofs.Finding.next-is}
 use Rattle.mpf_sections.proofs.BallRows.{ball_devices_are}
 use Rattle.machine_definitions.proofs.definitions.ball_devices_of.Goals as goal
 

@@ -1,9 +1,6 @@
-use Rattle.std.proofs.Common.{◌≡◌, ℕ, List, fold, map, drop}
-use Rattle.std.specs.List.{flat_map}
-use Rattle.mpf_sections.specs.TypedBalls.{ball_devices_in}
-use Rattle.mpf_sections.specs.View.{section_view}
-use Rattle.machine_definitions.specs.Definitions.{latest_ball_device, ball_device_called}
-use Rattle.machine_definitions.specs.Found.{found_ball_device}
+use Rattle.std.{proofs.Common.{◌≡◌, ℕ, List, fold, map, drop}, specs.List.flat_map}
+use Rattle.mpf_sections.specs.{TypedBalls.ball_devices_in, View.section_view}
+use Rattle.machine_definitions.specs.{Definitions.{latest_ball_device, ball_device_called}, Found.found_ball_device}
 use Rattle.machine_definitions.proofs.definitions.ball_devices_of.Given as goal
 
 abbrev pub invariant-loop-section : goal.invariant-loop-section

@@ -1,9 +1,6 @@
-use Rattle.std.proofs.Common.{◌≡◌, ℕ, List, fold, map, drop}
-use Rattle.std.specs.List.{flat_map}
-use Rattle.mpf_sections.specs.TypedCoils.{coils_in}
-use Rattle.mpf_sections.specs.View.{section_view}
-use Rattle.machine_definitions.specs.Definitions.{latest_coil, coil_called}
-use Rattle.machine_definitions.specs.Found.{found_coil}
+use Rattle.std.{proofs.Common.{◌≡◌, ℕ, List, fold, map, drop}, specs.List.flat_map}
+use Rattle.mpf_sections.specs.{TypedCoils.coils_in, View.section_view}
+use Rattle.machine_definitions.specs.{Definitions.{latest_coil, coil_called}, Found.found_coil}
 use Rattle.machine_definitions.proofs.definitions.coils_of.Given as goal
 
 abbrev pub invariant-loop-section : goal.invariant-loop-section

@@ -1,10 +1,6 @@
-use Rattle.std.proofs.Common.{◌≡◌, ◌||◌, ℕ, List, map, drop}
-use Rattle.std.specs.List.{list_any, flat_map}
-use Rattle.std.specs.Str.{bytes_eq}
-use Rattle.mpf_sections.specs.Typed.{switches_in}
-use Rattle.mpf_sections.specs.View.{section_view}
-use Rattle.machine_definitions.specs.Definitions.{has_switch}
-use Rattle.machine_definitions.specs.Found.{is_found}
+use Rattle.std.{proofs.Common.{◌≡◌, ◌||◌, ℕ, List, map, drop}, specs.{List.{list_any, flat_map}, Str.bytes_eq}}
+use Rattle.mpf_sections.specs.{Typed.switches_in, View.section_view}
+use Rattle.machine_definitions.specs.{Definitions.has_switch, Found.is_found}
 use Rattle.machine_definitions.proofs.definitions.switches_of.Given as goal
 
 abbrev pub invariant-loop-section : goal.invariant-loop-section

@@ -1,8 +1,6 @@
 use Rattle.std.proofs.Common.{List, fold, map, drop, ◌+◌, Option, refl, ap, ◌∙◌}
-use Rattle.mpf_sections.specs.TypedShots.{shot_profile_of}
-use Rattle.mpf_sections.specs.View.{entry_view}
-use Rattle.machine_definitions.specs.Shots.{Profile, profile_of, latest_profile}
-use Rattle.machine_definitions.specs.Found.{profile_view, found_profile}
+use Rattle.mpf_sections.specs.{TypedShots.shot_profile_of, View.entry_view}
+use Rattle.machine_definitions.specs.{Shots.{Profile, profile_of, latest_profile}, Found.{profile_view, found_profile}}
 use Rattle.machine_definitions.proofs.Finding.{took-value, next-is}
 use Rattle.machine_definitions.proofs.shots.add_profiles.Goals as goal
 

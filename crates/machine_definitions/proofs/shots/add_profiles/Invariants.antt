@@ -1,8 +1,6 @@
 use Rattle.std.proofs.Common.{◌≡◌, ℕ, List, fold, map, drop}
-use Rattle.mpf_sections.specs.TypedShots.{shot_profile_of}
-use Rattle.mpf_sections.specs.View.{entry_view}
-use Rattle.machine_definitions.specs.Shots.{latest_profile, profile_of}
-use Rattle.machine_definitions.specs.Found.{found_profile}
+use Rattle.mpf_sections.specs.{TypedShots.shot_profile_of, View.entry_view}
+use Rattle.machine_definitions.specs.{Shots.{latest_profile, profile_of}, Found.found_profile}
 use Rattle.machine_definitions.proofs.shots.add_profiles.Given as goal
 
 abbrev pub invariant-loop-entry : goal.invariant-loop-entry

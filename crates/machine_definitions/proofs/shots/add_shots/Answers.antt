@@ -1,9 +1,6 @@
 use Rattle.std.proofs.Common.{List, fold, map, drop, ◌+◌, Option, ap, ◌∙◌}
-use Rattle.mpf_sections.specs.Rows.{Shot}
-use Rattle.mpf_sections.specs.TypedShots.{shot_of}
-use Rattle.mpf_sections.specs.View.{entry_view}
-use Rattle.machine_definitions.specs.Shots.{latest_shot}
-use Rattle.machine_definitions.specs.Found.{as_shot, found_shot}
+use Rattle.mpf_sections.specs.{Rows.Shot, TypedShots.shot_of, View.entry_view}
+use Rattle.machine_definitions.specs.{Shots.latest_shot, Found.{as_shot, found_shot}}
 use Rattle.machine_definitions.proofs.Finding.{took-value, next-is}
 use Rattle.machine_definitions.proofs.shots.add_shots.Goals as goal
 

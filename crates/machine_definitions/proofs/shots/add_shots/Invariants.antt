@@ -1,8 +1,6 @@
 use Rattle.std.proofs.Common.{◌≡◌, ℕ, List, fold, map, drop}
-use Rattle.mpf_sections.specs.TypedShots.{shot_of}
-use Rattle.mpf_sections.specs.View.{entry_view}
-use Rattle.machine_definitions.specs.Shots.{latest_shot}
-use Rattle.machine_definitions.specs.Found.{found_shot}
+use Rattle.mpf_sections.specs.{TypedShots.shot_of, View.entry_view}
+use Rattle.machine_definitions.specs.{Shots.latest_shot, Found.found_shot}
 use Rattle.machine_definitions.proofs.shots.add_shots.Given as goal
 
 abbrev pub invariant-loop-entry : goal.invariant-loop-entry

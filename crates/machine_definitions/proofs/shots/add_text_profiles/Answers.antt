@@ -1,11 +1,7 @@
 use Rattle.std.proofs.Common.{◌+◌, List, Option, fold, map, drop, sym, ap, ◌∙◌}
-use Rattle.std.specs.List.{flat_map}
-use Rattle.std.proofs.lemmas.Grind.{fold-append}
-use Rattle.std.proofs.lemmas.List.{map-append}
-use Rattle.mpf_sections.specs.TypedShots.{shot_profile_of, shot_profiles_in}
-use Rattle.mpf_sections.specs.View.{section_view}
-use Rattle.machine_definitions.specs.Shots.{Profile, profile_of, latest_profile}
-use Rattle.machine_definitions.specs.Found.{found_profile}
+use Rattle.std.{specs.List.flat_map, proofs.lemmas.{Grind.fold-append, List.map-append}}
+use Rattle.mpf_sections.specs.{TypedShots.{shot_profile_of, shot_profiles_in}, View.section_view}
+use Rattle.machine_definitions.specs.{Shots.{Profile, profile_of, latest_profile}, Found.found_profile}
 use Rattle.machine_definitions.proofs.Finding.{next-is}
 use Rattle.mpf_sections.proofs.ShotRows.{shot_profiles_are}
 use Rattle.machine_definitions.proofs.shots.add_text_profiles.Goals as goal

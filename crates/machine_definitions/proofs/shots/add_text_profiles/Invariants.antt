@@ -1,9 +1,6 @@
-use Rattle.std.proofs.Common.{◌≡◌, ℕ, List, fold, map, drop}
-use Rattle.std.specs.List.{flat_map}
-use Rattle.mpf_sections.specs.TypedShots.{shot_profiles_in}
-use Rattle.mpf_sections.specs.View.{section_view}
-use Rattle.machine_definitions.specs.Shots.{latest_profile, profile_of}
-use Rattle.machine_definitions.specs.Found.{found_profile}
+use Rattle.std.{proofs.Common.{◌≡◌, ℕ, List, fold, map, drop}, specs.List.flat_map}
+use Rattle.mpf_sections.specs.{TypedShots.shot_profiles_in, View.section_view}
+use Rattle.machine_definitions.specs.{Shots.{latest_profile, profile_of}, Found.found_profile}
 use Rattle.machine_definitions.proofs.shots.add_text_profiles.Given as goal
 
 abbrev pub invariant-loop-section : goal.invariant-loop-section

@@ -1,9 +1,6 @@
-use Rattle.std.proofs.Common.{◌≡◌, ℕ, List, fold, map, drop}
-use Rattle.std.specs.List.{flat_map}
-use Rattle.mpf_sections.specs.TypedShots.{shots_in}
-use Rattle.mpf_sections.specs.View.{section_view}
-use Rattle.machine_definitions.specs.Shots.{latest_shot}
-use Rattle.machine_definitions.specs.Found.{found_shot}
+use Rattle.std.{proofs.Common.{◌≡◌, ℕ, List, fold, map, drop}, specs.List.flat_map}
+use Rattle.mpf_sections.specs.{TypedShots.shots_in, View.section_view}
+use Rattle.machine_definitions.specs.{Shots.latest_shot, Found.found_shot}
 use Rattle.machine_definitions.proofs.shots.add_text_shots.Given as goal
 
 abbrev pub invariant-loop-section : goal.invariant-loop-section

@@ -1,9 +1,5 @@
-use Rattle.std.proofs.Common.{map, length, ap, arith}
-use Rattle.std.specs.List.{filter_map}
-use Rattle.std.proofs.lemmas.List.{length-map}
-use Rattle.mpf_sections.specs.Rows.{Written, ShotProfile}
-use Rattle.mpf_sections.specs.TypedShots.{state_of}
-use Rattle.mpf_sections.specs.View.{entry_view, fields_view}
+use Rattle.std.{proofs.{Common.{map, length, ap, arith}, lemmas.List.length-map}, specs.List.filter_map}
+use Rattle.mpf_sections.specs.{Rows.{Written, ShotProfile}, TypedShots.state_of, View.{entry_view, fields_view}}
 use Rattle.mpf_sections.proofs.ShotRows.{shot_profile_short}
 use Rattle.machine_definitions.proofs.shots.profile_of.Goals as goal
 

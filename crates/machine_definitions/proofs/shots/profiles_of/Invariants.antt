@@ -1,9 +1,7 @@
-use Rattle.std.proofs.Common.{◌≡◌, ℕ, List, fold, map, drop}
-use Rattle.std.specs.List.{flat_map}
+use Rattle.std.{proofs.Common.{◌≡◌, ℕ, List, fold, map, drop}, specs.List.flat_map}
 use Rattle.mpf_sections.specs.TypedShots.{shot_profiles_in}
 use Rattle.mpf_config.specs.View.{mode_view, rows_view}
-use Rattle.machine_definitions.specs.Shots.{latest_profile, profile_of, profile_called}
-use Rattle.machine_definitions.specs.Found.{found_profile}
+use Rattle.machine_definitions.specs.{Shots.{latest_profile, profile_of, profile_called}, Found.found_profile}
 use Rattle.machine_definitions.proofs.shots.profiles_of.Given as goal
 
 abbrev pub invariant-loop-mode : goal.invariant-loop-mode

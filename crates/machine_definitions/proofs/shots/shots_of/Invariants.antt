@@ -1,9 +1,7 @@
-use Rattle.std.proofs.Common.{◌≡◌, ℕ, List, fold, map, drop}
-use Rattle.std.specs.List.{flat_map}
+use Rattle.std.{proofs.Common.{◌≡◌, ℕ, List, fold, map, drop}, specs.List.flat_map}
 use Rattle.mpf_sections.specs.TypedShots.{shots_in}
 use Rattle.mpf_config.specs.View.{mode_view, rows_view}
-use Rattle.machine_definitions.specs.Shots.{latest_shot, shot_called}
-use Rattle.machine_definitions.specs.Found.{found_shot}
+use Rattle.machine_definitions.specs.{Shots.{latest_shot, shot_called}, Found.found_shot}
 use Rattle.machine_definitions.proofs.shots.shots_of.Given as goal
 
 abbrev pub invariant-loop-mode : goal.invariant-loop-mode

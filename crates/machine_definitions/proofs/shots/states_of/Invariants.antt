@@ -1,7 +1,5 @@
-use Rattle.std.proofs.Common.{◌≡◌, ◌++◌, map, drop}
-use Rattle.std.specs.List.{filter_map}
-use Rattle.mpf_sections.specs.TypedShots.{state_of}
-use Rattle.mpf_sections.specs.View.{fields_view}
+use Rattle.std.{proofs.Common.{◌≡◌, ◌++◌, map, drop}, specs.List.filter_map}
+use Rattle.mpf_sections.specs.{TypedShots.state_of, View.fields_view}
 use Rattle.machine_definitions.specs.Found.{names_view}
 use Rattle.machine_definitions.proofs.shots.states_of.Given as goal
 

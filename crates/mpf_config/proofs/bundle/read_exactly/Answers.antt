@@ -1,18 +1,10 @@
-use Rattle.std.proofs.Common.{◌≡◌, List, map, Ok, ap, sym, subst, ◌∙◌}
-use Rattle.std.specs.List.{All}
-use Rattle.mpf_sections.specs.declared.section.Section.{Section}
-use Rattle.mpf_config.specs.Rows.{Written}
-use Rattle.mpf_sections.specs.View.{section_view}
-use Rattle.mpf_config.specs.Named.{IsNamedMode}
-use Rattle.mpf_config.specs.Short.{IsShortMode}
-use Rattle.mpf_config.specs.FewModes.{AreFewModes}
-use Rattle.mpf_config.specs.Reading.{modes_in_texts, found_of, rows_from}
-use Rattle.mpf_sections.specs.Typed.{listed_modes}
+use Rattle.std.{proofs.Common.{◌≡◌, List, map, Ok, ap, sym, subst, ◌∙◌}, specs.List.All}
+use Rattle.mpf_sections.specs.{declared.section.Section.Section, View.section_view, Typed.listed_modes}
+use Rattle.mpf_config.specs.{Rows.Written, Named.IsNamedMode, Apart.{AreDistinct, entry_names}}
+use Rattle.mpf_config.specs.{Short.IsShortMode, FewModes.AreFewModes, Reading.{modes_in_texts, found_of, rows_from}}
 use Rattle.mpf_config.specs.Inside.{texts_view, modes_view, machine_read_view, found_modes_view}
-use Rattle.mpf_config.specs.Apart.{AreDistinct, entry_names}
-use Rattle.mpf_config.proofs.Theorem.{machine_distinct, rows_again}
+use Rattle.mpf_config.proofs.{Theorem.{machine_distinct, rows_again}, ShortRows.{rows_are_short, rows_are_few}}
 use Rattle.mpf_config.proofs.RowNames.{rows_are_named, modes_are_named}
-use Rattle.mpf_config.proofs.ShortRows.{rows_are_short, rows_are_few}
 use Rattle.mpf_config.proofs.bundle.read_exactly.Goals as goal
 
 pub invariant_of-result : goal.invariant_of-result

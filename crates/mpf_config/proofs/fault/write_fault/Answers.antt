@@ -1,5 +1,4 @@
-use Rattle.mpf_config.specs.View.{rows_fault_view}
-use Rattle.mpf_config.proofs.Writing.{written}
+use Rattle.mpf_config.{specs.View.rows_fault_view, proofs.Writing.written}
 use Rattle.mpf_config.proofs.fault.write_fault.Goals as goal
 
 pub returns : goal.returns

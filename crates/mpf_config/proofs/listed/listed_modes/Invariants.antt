@@ -1,6 +1,5 @@
 use Rattle.std.proofs.Common.{◌≡◌, take, map}
-use Rattle.mpf_config.specs.View.{name_view}
-use Rattle.mpf_config.specs.Inside.{modes_view}
+use Rattle.mpf_config.specs.{View.name_view, Inside.modes_view}
 use Rattle.mpf_config.proofs.listed.listed_modes.Given as goal
 
 abbrev pub invariant-loop-name : goal.invariant-loop-name

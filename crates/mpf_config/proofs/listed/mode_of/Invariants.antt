@@ -1,7 +1,6 @@
 use Rattle.std.proofs.Common.{◌≡◌, drop}
 use Rattle.section_tables.specs.Tables.{found_in, shifted}
-use Rattle.mpf_config.specs.Unread.{mode_text_of}
-use Rattle.mpf_config.specs.Inside.{modes_view}
+use Rattle.mpf_config.specs.{Unread.mode_text_of, Inside.modes_view}
 use Rattle.mpf_config.proofs.listed.mode_of.Given as goal
 
 abbrev pub invariant-loop-place : goal.invariant-loop-place

@@ -1,6 +1,5 @@
 use Rattle.std.proofs.Common.{◌≡◌, take}
-use Rattle.mpf_config.specs.Reading.{none_found}
-use Rattle.mpf_config.specs.Inside.{modes_view, found_modes_view}
+use Rattle.mpf_config.specs.{Reading.none_found, Inside.{modes_view, found_modes_view}}
 use Rattle.mpf_config.proofs.modes.none_found.Given as goal
 
 abbrev pub invariant-loop : goal.invariant-loop

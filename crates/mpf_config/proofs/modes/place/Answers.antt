@@ -1,24 +1,12 @@
-use Rattle.std.proofs.Common.{◌||◌, ap, ◌∙◌, arith}
+use Rattle.std.proofs.Common.{rules, ◌||◌, ap, ◌∙◌, arith}
 use Rattle.yaml_subset.specs.Keys.{is_among}
-use Rattle.mpf_config.specs.View.{name_view}
-use Rattle.mpf_config.specs.Gives.{keys_taken}
-use Rattle.mpf_config.specs.Inside.{text_view}
+use Rattle.mpf_config.specs.{View.name_view, Gives.keys_taken}
 use Rattle.mpf_config.proofs.ModeLoops.{put_in_place, none_placed, keys_placed, no_keys_placed}
 use Rattle.mpf_config.proofs.modes.place.Goals as goal
 use Rattle.mpf_config.proofs.modes.place.Goals.{in-Some+in_ok-read_new_mode+in-Some-1, in-Some+in_ok-read_new_mode+in-None-1, in_default}
 
 pub returns-clause-value : goal.returns-clause-value
-returns-clause-value c =
-    let keys = keys_taken c.args.machine.now c.args.taken.now in
-    elim c.match-mode_of.branch [
-      | in-Some+in_ok-read_new_mode+in-Some-1 w ↦
-          put_in_place (text_view c.args.text) keys (name_view w.in-Some.name.now) c.args.found.now c.match-mode_of.found w.in-Some.place w.in_ok-read_new_mode.field-0 _
-          w.in-Some.ensures.found w.in_ok-read_new_mode.ensures.value w.found-is
-      | in-Some+in_ok-read_new_mode+in-None-1 w ↦
-          put_in_place (text_view c.args.text) keys (name_view w.in-Some.name.now) c.args.found.now c.match-mode_of.found w.in-Some.place w.in_ok-read_new_mode.field-0 _
-          w.in-Some.ensures.found w.in_ok-read_new_mode.ensures.value w.found-is
-      | in_default w ↦ none_placed (text_view c.args.text) keys c.args.found.now c.match-mode_of.found _ w.in_default.ensures.found w.found-is
-    ]
+returns-clause-value c = search (rules, in-Some+in_ok-read_new_mode+in-Some-1, put_in_place, in-Some+in_ok-read_new_mode+in-None-1, in_default, none_placed)
 
 pub returns-clause-known : goal.returns-clause-known
 returns-clause-known c =

@@ -1,11 +1,8 @@
-use Rattle.std.proofs.Common.{◌||◌, [], get_or, ap, subst, refl, ◌∙◌, arith}
-use Rattle.std.proofs.lemmas.Result.{err_from_is_err_and}
+use Rattle.std.proofs.{Common.{rules, ◌||◌, [], get_or, ap, ◌∙◌, arith}, lemmas.Result.err_from_is_err_and}
 use Rattle.yaml_subset.specs.Keys.{is_among}
 use Rattle.mpf_config.specs.declared.texts.Text as texts
 use Rattle.section_tables.specs.Tables.{found_in}
-use Rattle.mpf_config.specs.Unread.{mode_text_of}
-use Rattle.mpf_config.specs.View.{FailsRows}
-use Rattle.mpf_config.specs.Gives.{keys_taken}
+use Rattle.mpf_config.specs.{Unread.mode_text_of, Gives.keys_taken}
 use Rattle.mpf_config.specs.Inside.{copies_view, modes_view, found_modes_view, placed_keys}
 use Rattle.mpf_config.proofs.NoneBefore.{none_before, machine_only, none_long, next_before, next_taken}
 use Rattle.mpf_config.proofs.SameTexts.{takes_next, fails_next, is_fresh}
@@ -16,25 +13,10 @@ abbrev nothing : texts.Text
 nothing = record { name = record { ref_ptr = (0, 0); now = [] }; text = record { ref_ptr = (0, 0); now = [] } }
 
 pub loop-text-init : goal.loop-text-init
-loop-text-init c =
-    let ws = modes_view c.args.modes.now in
-    let found = found_modes_view c.args.found.now in
-    record {
-      as_long = none_long c.args.found.now c.args.modes.now c.requires.none;
-      none = none_before (copies_view c.no_keys-names.result) ws found c.requires.none;
-      known = λ q. ap (λ keys. is_among keys q) (machine_only (keys_taken c.args.machine.now c.args.taken.now) ws found c.requires.none);
-      so_far = rw c.no_keys-names.ensures refl;
-    }
+loop-text-init c = search (rules, none_long, none_before, machine_only)
 
 pub returns-in_err-place : goal.returns-in_err-place
-returns-in_err-place c =
-    let fault = c.in_err-place.field-0.0 in
-    let fails =
-    fails_next (modes_view c.args.modes.now) (keys_taken c.args.machine.now c.args.taken.now) (keys_taken c.args.machine.now c.loop-text.taken) (copies_view c.loop-text.names) (found_modes_view c.loop-text.found)
-    c.args.texts.now c.loop-text.text-index nothing c.loop-text-test.true c.in_ok-fresh.fresh fault
-    c.in_ok-fresh.ensures.fresh c.if-not-fresh.false c.loop-text.invariant.known c.in_err-place.ensures.value in
-    let p = err_from_is_err_and c.from_residual-in_err-place.result c.from_residual-in_err-place.ensures.1 in
-    rw (p.1, p.2) (subst (FailsRows fault) c.loop-text.invariant.so_far fails)
+returns-in_err-place c = search (rules, fails_next, err_from_is_err_and)
 
 pub loop-text-preserved : goal.loop-text-preserved
 loop-text-preserved c =

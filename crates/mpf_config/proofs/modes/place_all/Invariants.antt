@@ -1,9 +1,7 @@
 use Rattle.std.proofs.Common.{◌≡◌, ℕ, List, drop, length, []}
 use Rattle.yaml_subset.specs.Keys.{is_among}
-use Rattle.mpf_config.specs.Reading.{modes_from, taken_by, found_of}
-use Rattle.mpf_config.specs.Gives.{keys_taken}
+use Rattle.mpf_config.{specs.{Reading.{modes_from, taken_by, found_of}, Gives.keys_taken}, proofs.NoneBefore.NoneBefore}
 use Rattle.mpf_config.specs.Inside.{texts_view, copies_view, modes_view, found_modes_view}
-use Rattle.mpf_config.proofs.NoneBefore.{NoneBefore}
 use Rattle.mpf_config.proofs.modes.place_all.Given as goal
 
 abbrev pub invariant-loop-text : goal.invariant-loop-text

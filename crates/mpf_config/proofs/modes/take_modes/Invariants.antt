@@ -1,9 +1,6 @@
 use Rattle.std.proofs.Common.{◌≡◌, ◌++◌, length, map}
-use Rattle.std.specs.List.{flat_map}
-use Rattle.std.specs.Vec.Iter.{into_iter_items, into_iter_len}
-use Rattle.mpf_config.specs.Reading.{found_of}
-use Rattle.mpf_config.specs.View.{mode_view}
-use Rattle.mpf_config.specs.Inside.{notes_view, found_modes_view}
+use Rattle.std.specs.{List.flat_map, Vec.Iter.{into_iter_items, into_iter_len}}
+use Rattle.mpf_config.specs.{Reading.found_of, View.mode_view, Inside.{notes_view, found_modes_view}}
 use Rattle.mpf_config.proofs.modes.take_modes.Given as goal
 
 abbrev pub invariant-loop-one : goal.invariant-loop-one

@@ -1,11 +1,7 @@
-use Rattle.std.proofs.Common.{◌≡◌, ◌+◌, false, drop, map, sym, ◌∙◌}
-use Rattle.std.specs.Str.{bytes_eq}
+use Rattle.std.{proofs.Common.{◌≡◌, ◌+◌, false, drop, map, sym, ◌∙◌}, specs.Str.bytes_eq}
 use Rattle.config_faults.specs.Faults.{spot_view}
-use Rattle.mpf_config.specs.BundleText.{machine_owner}
-use Rattle.mpf_config.specs.View.{name_view}
-use Rattle.mpf_config.specs.Inside.{copies_view}
-use Rattle.mpf_config.proofs.ListLoops.{mapped_at}
-use Rattle.mpf_config.proofs.SameModes.{takes_next}
+use Rattle.mpf_config.specs.{BundleText.machine_owner, View.name_view, Inside.copies_view}
+use Rattle.mpf_config.proofs.{ListLoops.mapped_at, SameModes.takes_next}
 use Rattle.mpf_config.proofs.sections.compare_modes.Goals as goal
 
 pub loop-mode-preserved : goal.loop-mode-preserved

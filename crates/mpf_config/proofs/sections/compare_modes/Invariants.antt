@@ -1,8 +1,6 @@
 use Rattle.std.proofs.Common.{◌≡◌, [], drop, map}
 use Rattle.config_faults.specs.Faults.{spot_view}
-use Rattle.mpf_config.specs.Reading.{modes_new_at}
-use Rattle.mpf_config.specs.View.{name_view}
-use Rattle.mpf_config.specs.Inside.{copies_view}
+use Rattle.mpf_config.specs.{Reading.modes_new_at, View.name_view, Inside.copies_view}
 use Rattle.mpf_config.proofs.sections.compare_modes.Given as goal
 
 abbrev pub invariant-loop-mode : goal.invariant-loop-mode

@@ -1,16 +1,10 @@
-use Rattle.std.proofs.Common.{◌≡◌, ◌+◌, [], ◌∷◌, ◌++◌, drop, not, ap, sym, ◌∙◌}
-use Rattle.std.proofs.lemmas.List.{map_push}
-use Rattle.std.proofs.lemmas.Result.{err_from_is_err_and}
+use Rattle.std.proofs.Common.{rules, ◌≡◌, ◌+◌, [], ◌∷◌, ◌++◌, drop, not, ap, sym, ◌∙◌}
+use Rattle.std.proofs.lemmas.{List.map_push, Result.err_from_is_err_and}
 use Rattle.yaml_subset.specs.View.{pair_view}
-use Rattle.mpf_config.specs.Unread.{is_skipped, read_of}
-use Rattle.section_tables.specs.Reading.{each_read}
-use Rattle.mpf_config.specs.Reading.{section_at, sections_at}
+use Rattle.mpf_config.specs.{Unread.{is_skipped, read_of}, Reading.{section_at, sections_at}, Inside.sections_view}
+use Rattle.section_tables.specs.{Reading.each_read, View.pairs_view}
 use Rattle.mpf_sections.specs.View.{section_view}
-use Rattle.section_tables.specs.View.{pairs_view}
-use Rattle.mpf_config.specs.Inside.{sections_view}
-use Rattle.mpf_config.proofs.EachRead.{goes_on, fails, is_done}
-use Rattle.mpf_config.proofs.Pairs.{pairs_at, none_behind}
-use Rattle.mpf_config.proofs.Kept.{keeps_first}
+use Rattle.mpf_config.proofs.{EachRead.{goes_on, fails, is_done}, Pairs.{pairs_at, none_behind}, Kept.keeps_first}
 use Rattle.mpf_config.proofs.sections.sections.Goals as goal
 
 pub returns-in_err-section : goal.returns-in_err-section
@@ -43,8 +37,4 @@ loop-entry-preserved c =
 
 pub returns : goal.returns
 unfolding sections_at
-returns c =
-    let entries = c.args.entries.now in
-    let i = c.loop-entry.entry-index in
-    is_done (section_at c.args.kind c.args.text.now) (sections_view c.loop-entry.sections) (read_of (pairs_view (drop i entries))) (each_read (section_at c.args.kind c.args.text.now) (read_of (pairs_view entries)))
-    (ap read_of (none_behind entries i c.loop-entry-test.false)) c.loop-entry.invariant
+returns c = search (rules, is_done, none_behind)

@@ -1,7 +1,6 @@
 use Rattle.std.proofs.Common.{◌+◌, drop, map, sym, ◌∙◌}
 use Rattle.mpf_sections.specs.View.{section_view, entry_view}
-use Rattle.mpf_config.proofs.ListLoops.{mapped_at}
-use Rattle.mpf_config.proofs.BesideMachine.{none_here}
+use Rattle.mpf_config.proofs.{ListLoops.mapped_at, BesideMachine.none_here}
 use Rattle.mpf_config.proofs.taken.have_entries.Goals as goal
 
 pub loop-section-preserved : goal.loop-section-preserved

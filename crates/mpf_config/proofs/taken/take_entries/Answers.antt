@@ -1,10 +1,7 @@
-use Rattle.std.proofs.Common.{◌+◌, drop, map, subst, ◌∙◌}
-use Rattle.std.proofs.lemmas.Result.{err_from_is_err_and}
+use Rattle.std.proofs.{Common.{◌+◌, drop, map, subst, ◌∙◌}, lemmas.Result.err_from_is_err_and}
 use Rattle.mpf_sections.specs.View.{section_view}
-use Rattle.mpf_config.specs.View.{FailsRows}
-use Rattle.mpf_config.specs.Inside.{copies_view}
-use Rattle.mpf_config.proofs.ListLoops.{mapped_at}
-use Rattle.mpf_config.proofs.TakenEntries.{takes_section, knows_section, fails_section}
+use Rattle.mpf_config.specs.{View.FailsRows, Inside.copies_view}
+use Rattle.mpf_config.proofs.{ListLoops.mapped_at, TakenEntries.{takes_section, knows_section, fails_section}}
 use Rattle.mpf_config.proofs.taken.take_entries.Goals as goal
 
 pub returns-in_err-take_section-clause-value : goal.returns-in_err-take_section-clause-value

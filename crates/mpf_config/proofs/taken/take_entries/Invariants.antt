@@ -1,9 +1,7 @@
 use Rattle.std.proofs.Common.{◌≡◌, ◌||◌, ℕ, List, drop, map}
 use Rattle.yaml_subset.specs.Keys.{is_among}
-use Rattle.mpf_config.specs.Apart.{entry_names, entry_keys}
-use Rattle.mpf_config.specs.Reading.{entries_new_at}
+use Rattle.mpf_config.specs.{Apart.{entry_names, entry_keys}, Reading.entries_new_at, Inside.copies_view}
 use Rattle.mpf_sections.specs.View.{section_view}
-use Rattle.mpf_config.specs.Inside.{copies_view}
 use Rattle.mpf_config.proofs.taken.take_entries.Given as goal
 
 abbrev pub invariant-loop-section : goal.invariant-loop-section

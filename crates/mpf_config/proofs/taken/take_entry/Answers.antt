@@ -1,5 +1,4 @@
-use Rattle.std.proofs.Common.{◌||◌, not, ap, ◌∙◌}
-use Rattle.std.specs.Str.{bytes_eq}
+use Rattle.std.{proofs.Common.{◌||◌, not, ap, ◌∙◌}, specs.Str.bytes_eq}
 use Rattle.yaml_subset.specs.Keys.{is_among}
 use Rattle.mpf_config.specs.Inside.{copies_view}
 use Rattle.mpf_config.proofs.taken.take_entry.Goals as goal

@@ -1,12 +1,8 @@
-use Rattle.std.proofs.Common.{◌≡◌, ◌+◌, ◌||◌, ℕ, List, [], ◌∷◌, ◌++◌, Err, not, drop, map, sym, ap, ◌∙◌}
+use Rattle.std.proofs.Common.{rules, ◌≡◌, ◌+◌, ◌||◌, ℕ, List, [], ◌∷◌, ◌++◌, not, drop, map, ap, ◌∙◌}
 use Rattle.std.specs.Str.{bytes_eq}
 use Rattle.yaml_subset.specs.Keys.{is_among}
-use Rattle.config_faults.specs.declared.fault.FaultKind.TheVariants.{Duplicate}
-use Rattle.config_faults.specs.Faults.{rows_fault_at}
-use Rattle.mpf_config.specs.Apart.{joined, named_entry}
+use Rattle.mpf_config.{specs.{Apart.{joined, named_entry}, Inside.copies_view}, proofs.ListLoops.mapped_at}
 use Rattle.mpf_sections.specs.View.{entry_view}
-use Rattle.mpf_config.specs.Inside.{copies_view}
-use Rattle.mpf_config.proofs.ListLoops.{mapped_at}
 use Rattle.mpf_config.proofs.TakenEntries.{front_and_name, takes_entry, knows_entry, refuses_entry}
 use Rattle.mpf_config.proofs.taken.take_section.Goals as goal
 
@@ -33,21 +29,4 @@ loop-entry-preserved c =
     }
 
 pub returns-then-not-fresh-clause-value : goal.returns-then-not-fresh-clause-value
-returns-then-not-fresh-clause-value c =
-    let entries = c.entries-entries.result.now in
-    let i = c.loop-entry.entry-index in
-    let entry = c.entry-item.result in
-    let section = c.args.section.now.name.items in
-    let name = entry.name.text.items in
-    let named = named_entry section in
-    let behind = map named (map entry_view (drop (i + 1) entries)) in
-    let all = map named (map entry_view (drop i entries)) in
-    let first : all ≡ named (entry_view entry) ∷ behind = ap (map named) (mapped_at entry_view entries i entry c.loop-entry-test.true c.entry-item.is) in
-    let keys = copies_view c.loop-entry.taken in
-    let front : c.deref-in-loop-entry.result.now ≡ joined section [] = c.deref-in-loop-entry.ensures.value ∙ c.in_ok-front.ensures ∙ ap (λ s. joined s []) c.deref.ensures.value in
-    let key : c.deref-in-loop-entry.result.now ++ c.deref-in-loop-entry-2.result.now ≡ joined section name = (λ j. front j ++ c.deref-in-loop-entry-2.ensures j) ∙ front_and_name section name in
-    let fresh = c.in_ok-fresh.ensures.fresh ∙ ap (λ k. not (is_among keys k)) key in
-    let refused = refuses_entry c.args.text.now keys c.in_ok-fresh.fresh (named (entry_view entry)) behind all first fresh c.if-not-fresh.true in
-    sym c.loop-entry.invariant.so_far ∙ refused
-    ∙ ap (λ k. Err (rows_fault_at Duplicate (record { text = c.args.text.now; line = entry.name.line; key = k }))) (sym c.deref-then-not-fresh.ensures)
-    ∙ sym (ap Err c.in_ok-fault.ensures)
+returns-then-not-fresh-clause-value c = search (rules, mapped_at, front_and_name, refuses_entry)

@@ -1,9 +1,7 @@
 use Rattle.std.proofs.Common.{◌≡◌, ◌||◌, ℕ, List, drop, map}
 use Rattle.yaml_subset.specs.Keys.{is_among}
-use Rattle.mpf_config.specs.Apart.{named_entry, entry_key, entries_named}
-use Rattle.mpf_config.specs.Reading.{entries_new_at}
+use Rattle.mpf_config.specs.{Apart.{named_entry, entry_key, entries_named}, Reading.entries_new_at, Inside.copies_view}
 use Rattle.mpf_sections.specs.View.{section_view, entry_view}
-use Rattle.mpf_config.specs.Inside.{copies_view}
 use Rattle.mpf_config.proofs.taken.take_section.Given as goal
 
 abbrev pub invariant-loop-entry : goal.invariant-loop-entry

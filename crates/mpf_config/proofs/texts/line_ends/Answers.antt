@@ -1,6 +1,5 @@
 use Rattle.std.proofs.Common.{ap, ◌∙◌, length}
-use Rattle.memchr.specs.Find.{is_byte}
-use Rattle.memchr.proofs.lemmas.CallerLemmas.{length-places}
+use Rattle.memchr.{specs.Find.is_byte, proofs.lemmas.CallerLemmas.length-places}
 use Rattle.mpf_config.proofs.texts.line_ends.Goals as goal
 
 pub returns-clause-value : goal.returns-clause-value

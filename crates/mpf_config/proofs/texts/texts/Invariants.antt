@@ -1,10 +1,7 @@
 use Rattle.std.proofs.Common.{◌≡◌, ◌-◌, length}
 use Rattle.section_tables.specs.Reading.{each_read}
-use Rattle.mpf_config.specs.BundleText.{pieces_of, numbered}
-use Rattle.mpf_config.specs.Reading.{text_at}
-use Rattle.mpf_config.specs.Inside.{texts_view}
-use Rattle.mpf_config.proofs.EachRead.{with_front}
-use Rattle.mpf_config.proofs.Pieces.{numbered_from}
+use Rattle.mpf_config.specs.{BundleText.{pieces_of, numbered}, Reading.text_at, Inside.texts_view}
+use Rattle.mpf_config.proofs.{EachRead.with_front, Pieces.numbered_from}
 use Rattle.mpf_config.proofs.texts.texts.Given as goal
 
 -- the texts in front of a place, and those from there on, are those of the bundle

@@ -2,8 +2,7 @@ use Rattle.std.proofs.Common.{◌≡◌, ◌+◌, true, false, [], ◌∷◌, �
 use Rattle.section_tables.proofs.Finding.{cut}
 use Rattle.mpf_config.specs.declared.texts.Text as texts
 use Rattle.mpf_config.specs.Unread.{mode_text_of, is_unlisted, unlisted_note, unlisted_notes}
-use Rattle.mpf_config.specs.View.{name_view}
-use Rattle.mpf_config.specs.Inside.{text_view, texts_view, modes_view, notes_view}
+use Rattle.mpf_config.specs.{View.name_view, Inside.{text_view, texts_view, modes_view, notes_view}}
 use Rattle.mpf_config.proofs.ListLoops.{not_among}
 use Rattle.mpf_config.proofs.NoteLoops.{one_pushed, is_machine, is_listed, is_neither, one_more, no_more}
 use Rattle.mpf_config.proofs.unread.add_unlisted.Goals as goal

@@ -1,9 +1,8 @@
 use Rattle.std.proofs.Common.{◌+◌, [], ◌∷◌, drop, map, sym, ◌∙◌}
 use Rattle.yaml_subset.specs.View.{pair_view}
 use Rattle.section_tables.specs.View.{pairs_view}
-use Rattle.mpf_config.specs.BundleText.{machine_name}
+use Rattle.mpf_config.specs.{BundleText.machine_name, Inside.{texts_view, modes_view, notes_view}}
 use Rattle.mpf_config.specs.Unread.{absent_of, skipped_note, absent_note, section_notes, machine_notes}
-use Rattle.mpf_config.specs.Inside.{texts_view, modes_view, notes_view}
 use Rattle.mpf_config.proofs.Pairs.{pairs_at}
 use Rattle.mpf_config.proofs.NoteLoops.{one_pushed, on_skipped, on_modes, on_other, more_notes, no_notes}
 use Rattle.mpf_config.proofs.unread.machine_notes.Goals as goal

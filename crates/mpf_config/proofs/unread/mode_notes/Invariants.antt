@@ -1,7 +1,6 @@
 use Rattle.std.proofs.Common.{◌≡◌, ◌++◌, drop}
 use Rattle.section_tables.specs.View.{pairs_view}
-use Rattle.mpf_config.specs.Unread.{mode_notes}
-use Rattle.mpf_config.specs.Inside.{notes_view}
+use Rattle.mpf_config.specs.{Unread.mode_notes, Inside.notes_view}
 use Rattle.mpf_config.proofs.unread.mode_notes.Given as goal
 
 abbrev pub invariant-loop-section : goal.invariant-loop-section
