@@ -3,23 +3,16 @@
 use Rattle.std.proofs.Common.{rules, ◌≡◌, ℕ, zero, suc, ◌+◌, ◌-◌, ◌<◌, ◌≤◌, ◌⊎◌, Bool, true, false, not, ◌||◌, eqb, ◌==◌, List, [], ◌∷◌, length, map, take, All, refl, sym, ◌∙◌, ap, subst, inl, inr, arith, length-take}
 use Rattle.std.specs.List.{AllByRecursion, IsDistinct, list_any, position_or_len}
 use Rattle.std.proofs.lemmas.Bool.{cases_lt, eqb-true, false_from_ne_true, false≢true}
-use Rattle.std.proofs.lemmas.List.{get_or-take, length-map}
+use Rattle.std.proofs.lemmas.List.{get_or-take, length-map, Folds.Any-from_list_any}
 use Rattle.std.proofs.lemmas.List.Elements.{All-cons, All-take, All-get_or, All-from_get_or, recursion_from_All}
-use Rattle.std.proofs.lemmas.List.Folds.{Any-from_list_any}
 use Rattle.std.proofs.lemmas.List.Sums.{fails_before_first, passes_at_first}
-use Rattle.std.proofs.lemmas.Map.Keys.{IsDistinct-cons}
-use Rattle.std.proofs.lemmas.Map.Steps.{length-le_from_distinct_below}
-use Rattle.plan_tables.specs.PlanView.{PlanView, bound_to}
-use Rattle.plan_tables.specs.declared.entries.EventId.{EventId}
-use Rattle.plan_tables.specs.Valid.{HasEntries}
+use Rattle.std.proofs.lemmas.Map.{Keys.IsDistinct-cons, Steps.length-le_from_distinct_below}
+use Rattle.plan_tables.specs.{PlanView.{PlanView, bound_to}, declared.entries.EventId.EventId, Valid.HasEntries}
 use Rattle.cascade_rank.specs.Cost.{Both, each_of, cost_of_binding, cost_of_work, cost_of_event}
-use Rattle.cascade_rank.specs.Events.{no_event, nth_event}
-use Rattle.cascade_rank.specs.Weights.{IsFitting}
+use Rattle.cascade_rank.specs.{Events.{no_event, nth_event}, Weights.IsFitting}
 use Rattle.cascade_rank.specs.LeadsTo.{leads, grounded_in, grounded, is_open, IsCycle, HasNoFit}
-use Rattle.cascade_rank.proofs.Events.{tested_event}
-use Rattle.cascade_rank.proofs.Prices.{price-mentioned}
+use Rattle.cascade_rank.proofs.{Events.tested_event, Prices.price-mentioned, Ranking.mentioned_below}
 use Rattle.cascade_rank.proofs.Mentioned.{all_mentioned_at, all_mentioned-fails}
-use Rattle.cascade_rank.proofs.Ranking.{mentioned_below}
 
 -- ---- events that lead to each other
 

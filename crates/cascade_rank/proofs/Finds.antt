@@ -1,26 +1,16 @@
 -- What finding answers, case by case.
 use Rattle.std.proofs.Common.{rules, ◌≡◌, ℕ, ◌<◌, true, false, not, nat_lt, List, [], length, Option, Some, None, position, Ok, Err, sym, ◌∙◌, ap, subst, arith}
-use Rattle.std.specs.Option.{option_map}
-use Rattle.std.proofs.lemmas.Bool.{not-false, cond-true, cond-false, both_ways}
-use Rattle.plan_tables.specs.PlanView.{PlanView}
-use Rattle.plan_tables.specs.Valid.{HasEntries}
-use Rattle.plan_tables.specs.declared.entries.EventId.{EventId}
-use Rattle.cascade_rank.specs.Events.{weight_of}
-use Rattle.cascade_rank.specs.Weights.{IsLeastFitting, IsWithinLimit}
-use Rattle.cascade_rank.specs.LeadsTo.{grounded, is_open}
-use Rattle.cascade_rank.specs.Ranks.{rank, ranks}
-use Rattle.cascade_rank.specs.Cycle.{IsFirst, first_open}
+use Rattle.std.{specs.Option.option_map, proofs.lemmas.Bool.{not-false, cond-true, cond-false, both_ways}}
+use Rattle.plan_tables.specs.{PlanView.PlanView, Valid.HasEntries, declared.entries.EventId.EventId}
+use Rattle.cascade_rank.specs.{Events.weight_of, Ranks.{rank, ranks}, Found.IsTooDear, Lowest.IsLeft}
+use Rattle.cascade_rank.{specs.Weights.{IsLeastFitting, IsWithinLimit}, proofs.{Events.event, LeastFitting.need-agrees}}
+use Rattle.cascade_rank.specs.{LeadsTo.{grounded, is_open}, Cycle.{IsFirst, first_open}}
 use Rattle.cascade_rank.specs.Finding.{bound_too_large, is_within_limit, found_past, found_at}
-use Rattle.cascade_rank.specs.Found.{IsTooDear}
 use Rattle.cascade_rank.specs.Order.{left_of, IsOrdering, IsWholeOrder, AreRanks}
-use Rattle.cascade_rank.specs.Lowest.{IsLeft}
-use Rattle.cascade_rank.proofs.Events.{event}
-use Rattle.cascade_rank.proofs.LeastFitting.{need-agrees}
 use Rattle.cascade_rank.proofs.FirstEvent.{first_event-place, first_event-Some, first_event-None}
 use Rattle.cascade_rank.proofs.Verifying.{is_within_limit-true, is_within_limit-false}
-use Rattle.cascade_rank.proofs.Ranking.{rank-least, rank-fits}
+use Rattle.cascade_rank.proofs.{Ranking.{rank-least, rank-fits}, Firsts.{is_left, first_place}}
 use Rattle.cascade_rank.proofs.Grounding.{grounded_is, open-leads, length_ranks, rank_at, limit_same, limit_ranks}
-use Rattle.cascade_rank.proofs.Firsts.{is_left, first_place}
 
 module _ (plan : PlanView) (valid : HasEntries plan) (left : List ℕ) (order : List EventId) (o : IsOrdering plan (length order) [] left order) where
   pub left_is_open : IsLeft plan left

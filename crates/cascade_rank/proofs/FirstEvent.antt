@@ -1,15 +1,10 @@
 -- The first event that passes a test.
 use Rattle.std.proofs.Common.{◌≡◌, ℕ, suc, ◌+◌, ◌<◌, ◌≤◌, Bool, true, false, not, cond, List, [], ◌∷◌, length, get_or, Option, Some, None, find, position, refl, sym, ◌∙◌, ap, subst, inl, inr, arith}
-use Rattle.std.specs.List.{position_or_len}
-use Rattle.std.specs.Option.{option_map}
-use Rattle.std.proofs.lemmas.Bool.{cond-true, cond-false, cases_lt, lt-ltb, le-ltb}
-use Rattle.std.proofs.lemmas.Option.{none-some}
-use Rattle.std.proofs.lemmas.List.Quantifiers.{position-Some}
-use Rattle.std.proofs.lemmas.List.Sums.{fails_before_first, position_or_len_is}
-use Rattle.plan_tables.specs.PlanView.{PlanView}
-use Rattle.plan_tables.specs.declared.entries.EventId.{EventId}
-use Rattle.cascade_rank.specs.Events.{events_of, no_event}
-use Rattle.cascade_rank.specs.Cycle.{IsFirst, first_event}
+use Rattle.std.specs.{List.position_or_len, Option.option_map}
+use Rattle.std.proofs.lemmas.{Bool.{cond-true, cond-false, cases_lt, lt-ltb, le-ltb}, Option.none-some}
+use Rattle.std.proofs.lemmas.List.{Quantifiers.position-Some, Sums.{fails_before_first, position_or_len_is}}
+use Rattle.plan_tables.specs.{PlanView.PlanView, declared.entries.EventId.EventId}
+use Rattle.cascade_rank.specs.{Events.{events_of, no_event}, Cycle.{IsFirst, first_event}}
 use Rattle.cascade_rank.proofs.Events.{event, length-events, event_number}
 
 -- what is found is at the first place that passes

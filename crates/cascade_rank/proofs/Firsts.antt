@@ -1,22 +1,14 @@
 -- The first event that passes a test.
 use Rattle.std.proofs.Common.{rules, ◌≡◌, ℕ, zero, suc, ◌+◌, ◌<◌, ◌≤◌, min, Bool, true, false, not, cond, ◌&&◌, ◌||◌, ◌==◌, nat_lt, List, [], ◌∷◌, ◌++◌, length, take, get_or, Some, None, position, refl, sym, ◌∙◌, ap, inl, inr, arith}
-use Rattle.std.specs.List.{All, position_or_len}
+use Rattle.std.{specs.List.{All, position_or_len}, proofs.lemmas.List.Elements.All-take}
 use Rattle.std.proofs.lemmas.Bool.{cases_lt, cases_Bool, and_left, and_right, or_cases, false≢true}
-use Rattle.std.proofs.lemmas.List.Elements.{All-take}
 use Rattle.std.proofs.lemmas.List.Sums.{position_or_len_is, fails_before_first, passes_at_first, prefix_len-le-length}
-use Rattle.plan_tables.specs.PlanView.{PlanView}
-use Rattle.plan_tables.specs.Valid.{HasEntries, IsEventWithin}
-use Rattle.plan_tables.specs.declared.entries.EventId.{EventId}
+use Rattle.plan_tables.specs.{PlanView.PlanView, Valid.{HasEntries, IsEventWithin}, declared.entries.EventId.EventId}
 use Rattle.cascade_rank.specs.Cost.{Cost, Lines, Weight, Both, Greater, mentions, each_of, cost_of_post, cost_of_event}
-use Rattle.cascade_rank.specs.Mentions.{weights_in}
-use Rattle.cascade_rank.specs.Events.{events_of, no_event}
-use Rattle.cascade_rank.specs.LeadsTo.{is_open}
-use Rattle.cascade_rank.specs.Cycle.{IsFirst, next_open}
-use Rattle.cascade_rank.specs.Lowest.{lowest, IsLeft}
-use Rattle.cascade_rank.specs.Order.{left_of}
-use Rattle.cascade_rank.specs.Below.{IsBelow}
+use Rattle.cascade_rank.{specs.{Mentions.weights_in, LeadsTo.is_open}, proofs.Within.{IsBelow-event, each_below}}
+use Rattle.cascade_rank.specs.{Events.{events_of, no_event}, Order.left_of, Below.IsBelow}
+use Rattle.cascade_rank.specs.{Cycle.{IsFirst, next_open}, Lowest.{lowest, IsLeft}}
 use Rattle.cascade_rank.proofs.Events.{event, same_event, length-events, event_number}
-use Rattle.cascade_rank.proofs.Within.{IsBelow-event, each_below}
 
 -- ---- the lowest event of a cost
 

@@ -1,18 +1,11 @@
 -- The events of a plan's game, and what they can post.
 use Rattle.std.proofs.Common.{◌≡◌, ◌∙◌, ap, ℕ, suc, ◌<◌, ◌≤◌, nat_le, Bool, true, List, [], ◌∷◌, length, map, get_or, Option, arith, rules}
-use Rattle.std.specs.Prelude.{IfSome}
-use Rattle.std.specs.List.{list_all}
-use Rattle.std.proofs.lemmas.Bool.{cases_lt, leb-true}
-use Rattle.std.proofs.lemmas.List.Sums.{AllPass-from_list_all}
-use Rattle.std.proofs.lemmas.List.{get_or_past, get_or-map, length-map}
-use Rattle.std.proofs.lemmas.List.Elements.{All-get_or}
+use Rattle.std.{specs.{Prelude.IfSome, List.list_all}, proofs.lemmas.Bool.{cases_lt, leb-true}}
+use Rattle.std.proofs.lemmas.List.{get_or_past, get_or-map, length-map, Sums.AllPass-from_list_all, Elements.All-get_or}
 use Rattle.plan_tables.specs.PlanView.{PlanMode, PlanView, event_of_game, game_event, which_event, work_from, work_of, work_or}
 use Rattle.plan_tables.specs.Valid.{HasEntries, IsGameWithin}
-use Rattle.plan_tables.specs.declared.entries.EventId.{EventId}
-use Rattle.plan_tables.specs.declared.entries.GameEvent.{GameEvent}
-use Rattle.plan_tables.specs.declared.entries.GameRules.{GameRules}
-use Rattle.plan_tables.specs.declared.entries.ModeEvent.{ModeEvent}
-use Rattle.plan_tables.specs.declared.entries.Work.{Work}
+use Rattle.plan_tables.specs.declared.entries.{EventId.EventId, ModeEvent.ModeEvent, Work.Work}
+use Rattle.plan_tables.specs.declared.entries.{GameEvent.GameEvent, GameRules.GameRules}
 use Rattle.plan_tables.specs.declared.entries.Work.TheVariants as works
 use Rattle.player_game.specs.Choices.{choices}
 

@@ -1,25 +1,17 @@
 -- The whole order has exactly the grounded events, and each can be weighed after those before it.
 use Rattle.std.proofs.Common.{rules, ◌≡◌, ℕ, zero, suc, ◌+◌, ◌-◌, ◌<◌, ◌≤◌, min, Bool, true, false, not, ◌||◌, ◌==◌, nat_le, List, [], length, take, set, refl, sym, ◌∙◌, ap, subst, inl, inr, arith, take_all, get_or-set_same, get_or-set_other}
-use Rattle.std.specs.List.{list_all}
+use Rattle.std.{specs.List.list_all, proofs.lemmas.List.Sums.{AllPass-from_list_all, list_all-from_AllPass}}
 use Rattle.std.proofs.lemmas.Bool.{cases_eq, cases_Bool, or_cases, eqb-true, eq-eqb, leb-true, le-leb, and_left, and_parts, false≢true}
-use Rattle.std.proofs.lemmas.List.{ext_get_or, length-map, get_or-map}
-use Rattle.std.proofs.lemmas.List.Sums.{AllPass-from_list_all, list_all-from_AllPass}
-use Rattle.std.proofs.lemmas.List.Elements.{All-from_get_or}
-use Rattle.plan_tables.specs.PlanView.{PlanView}
-use Rattle.plan_tables.specs.declared.entries.EventId.{EventId}
-use Rattle.plan_tables.specs.Valid.{HasEntries}
-use Rattle.cascade_rank.specs.Cost.{price, all_mentioned, cost_of_event}
+use Rattle.std.proofs.lemmas.List.{ext_get_or, length-map, get_or-map, Elements.All-from_get_or}
+use Rattle.plan_tables.specs.{PlanView.PlanView, declared.entries.EventId.EventId, Valid.HasEntries}
+use Rattle.cascade_rank.specs.{Cost.{price, all_mentioned, cost_of_event}, Ranks.{rank, ranks}, Finding.is_within_limit}
 use Rattle.cascade_rank.specs.Events.{events_of, no_event, nth_event, weight_of}
-use Rattle.cascade_rank.specs.Weights.{need, greatest, bound_of}
-use Rattle.cascade_rank.specs.LeadsTo.{grounded_in, grounded, is_open}
-use Rattle.cascade_rank.specs.Ranks.{rank, ranks}
-use Rattle.cascade_rank.specs.Finding.{is_within_limit}
+use Rattle.cascade_rank.specs.{Weights.{need, greatest, bound_of}, LeadsTo.{grounded_in, grounded, is_open}}
 use Rattle.cascade_rank.specs.Order.{is_in, left_of, EachAfter, IsOrdering, AreRanks}
 use Rattle.cascade_rank.proofs.Events.{event, same_event, tested_event, length-events, event_number}
-use Rattle.cascade_rank.proofs.Prices.{price_agrees}
+use Rattle.cascade_rank.proofs.{Prices.price_agrees, Ordering.is_in-more}
 use Rattle.cascade_rank.proofs.Mentioned.{all_mentioned_at, all_mentioned-weaker, unmet-none, price-capped}
 use Rattle.cascade_rank.proofs.Ranking.{grounded-more, grounded-later, rank-stable, mentioned_below}
-use Rattle.cascade_rank.proofs.Ordering.{is_in-more}
 
 same_bool : (a b : Bool) → (a ≡ true → b ≡ true) → (b ≡ true → a ≡ true) → a ≡ b
 same_bool a b h k = search rules

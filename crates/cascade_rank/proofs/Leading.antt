@@ -1,16 +1,12 @@
 -- Events are noted as leading to what they post: one post, all posts of an event, all events.
 use Rattle.std.proofs.Common.{rules, ◌≡◌, ◌≢◌, ℕ, zero, suc, ◌+◌, ◌<◌, Bool, false, cond, ◌==◌, nat_lt, List, [], ◌∷◌, ◌++◌, length, take, drop, take_at, set, get_or, sym, ◌∙◌, ap, inl, inr, arith, length-set, get_or-set_same, get_or-set_other}
 use Rattle.std.proofs.lemmas.Bool.{cases_lt, cases_eq, eq-eqb, ne_eqb, lt-ltb, le-ltb}
-use Rattle.std.proofs.lemmas.List.{get_or_append_left, get_or_push, length_push, get_or_read}
-use Rattle.std.proofs.lemmas.List.Sums.{sum_by_push}
-use Rattle.plan_tables.specs.PlanView.{PlanView}
-use Rattle.plan_tables.specs.declared.entries.EventId.{EventId}
+use Rattle.std.proofs.lemmas.List.{get_or_append_left, get_or_push, length_push, get_or_read, Sums.sum_by_push}
+use Rattle.plan_tables.specs.{PlanView.PlanView, declared.entries.EventId.EventId}
 use Rattle.cascade_rank.specs.Cost.{Cost, Weight, each_of, cost_of_post, cost_of_event}
-use Rattle.cascade_rank.specs.Mentions.{weights_in}
+use Rattle.cascade_rank.specs.{Mentions.weights_in, Leaders.{leaders_to, AddsLeader, HasLeaders}}
 use Rattle.cascade_rank.specs.Order.{unmet, occurrences, IsOrdering, IsMeeting}
-use Rattle.cascade_rank.specs.Leaders.{leaders_to, AddsLeader, HasLeaders}
-use Rattle.cascade_rank.proofs.Events.{event, same_event}
-use Rattle.cascade_rank.proofs.Posted.{occurrences-posts, unmet-length}
+use Rattle.cascade_rank.proofs.{Events.{event, same_event}, Posted.{occurrences-posts, unmet-length}}
 
 -- ---- one more of a list
 

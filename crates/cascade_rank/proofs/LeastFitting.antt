@@ -1,12 +1,8 @@
 -- Weights that agree on the events of a plan, and that there is one list of least fitting weights at most.
 use Rattle.std.proofs.Common.{◌≡◌, ℕ, ◌<◌, length}
-use Rattle.plan_tables.specs.PlanView.{PlanView}
-use Rattle.plan_tables.specs.Valid.{HasEntries}
-use Rattle.plan_tables.specs.declared.entries.EventId.{EventId}
-use Rattle.cascade_rank.specs.Cost.{cost_of_event}
-use Rattle.cascade_rank.specs.Weights.{need}
-use Rattle.cascade_rank.proofs.Prices.{price_agrees}
-use Rattle.cascade_rank.proofs.Within.{IsBelow-mentioned, IsBelow-event}
+use Rattle.plan_tables.specs.{PlanView.PlanView, Valid.HasEntries, declared.entries.EventId.EventId}
+use Rattle.cascade_rank.specs.{Cost.cost_of_event, Weights.need}
+use Rattle.cascade_rank.proofs.{Prices.price_agrees, Within.{IsBelow-mentioned, IsBelow-event}}
 
 module _ (plan : PlanView) (valid : HasEntries plan) (w v : EventId → ℕ) (same : (e : EventId) → e.0 < length plan.events → w e ≡ v e) where
   -- weights that agree on the events of a valid plan give each event the same need, and the same bound

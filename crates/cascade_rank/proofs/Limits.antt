@@ -1,10 +1,8 @@
 -- How many events, bindings, rows and actions of a list a valid plan has at most, and sums of so many prices.
 use Rattle.std.proofs.Common.{rules, ◌≡◌, ℕ, ◌+◌, ◌*◌, ◌<◌, ◌≤◌, List, length, arith}
 use Rattle.std.proofs.Math.Nat.{add-mul, mul-le-mul_right, one-mul}
-use Rattle.plan_tables.specs.PlanView.{PlanView, actions_at}
-use Rattle.plan_tables.specs.declared.entries.ListId.{ListId}
-use Rattle.plan_tables.specs.declared.entries.Action.{Action}
-use Rattle.plan_tables.specs.Valid.{IsValid}
+use Rattle.plan_tables.specs.{PlanView.{PlanView, actions_at}, Valid.IsValid}
+use Rattle.plan_tables.specs.declared.entries.{ListId.ListId, Action.Action}
 
 pub events-few : (plan : PlanView) → IsValid plan → length plan.events ≤ 4096
 events-few plan valid = valid.event_limit

@@ -4,8 +4,7 @@ use Rattle.std.proofs.lemmas.Bool.{and_parts, and_cases, or_left, or_right, or_c
 use Rattle.std.proofs.lemmas.Bool.Decides.{nat_tests}
 use Rattle.plan_tables.specs.declared.entries.EventId.{EventId}
 use Rattle.cascade_rank.specs.Cost.{Cost, Lines, Weight, Both, Greater, price, mentions, all_mentioned}
-use Rattle.cascade_rank.specs.Order.{unmet, occurrences}
-use Rattle.cascade_rank.proofs.Events.{tested_event}
+use Rattle.cascade_rank.{specs.Order.{unmet, occurrences}, proofs.Events.tested_event}
 
 -- what holds of each mentioned event, at one
 pub all_mentioned_at : (p : EventId → Bool) (c : Cost) (e : EventId) → all_mentioned p c ≡ true → mentions e c ≡ true → p e ≡ true

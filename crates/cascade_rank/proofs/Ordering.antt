@@ -4,10 +4,8 @@ use Rattle.std.proofs.lemmas.Bool.{cases_lt, cases_eq, eq-eqb, ne_eqb, lt-ltb, l
 use Rattle.std.proofs.lemmas.List.{take-append-le, get_or_append_left, get_or_push, length_push}
 use Rattle.std.proofs.lemmas.List.Sums.{count_by_more_yes, count_by_more_no, sum_by-take-le, sum_by-set}
 use Rattle.std.proofs.lemmas.List.Folds.{list_any-append, list_any_more}
-use Rattle.plan_tables.specs.PlanView.{PlanView}
-use Rattle.plan_tables.specs.declared.entries.EventId.{EventId}
-use Rattle.cascade_rank.specs.Cost.{Cost, all_mentioned, cost_of_event}
-use Rattle.cascade_rank.specs.Events.{no_event, nth_event}
+use Rattle.plan_tables.specs.{PlanView.PlanView, declared.entries.EventId.EventId}
+use Rattle.cascade_rank.specs.{Cost.{Cost, all_mentioned, cost_of_event}, Events.{no_event, nth_event}}
 use Rattle.cascade_rank.specs.Order.{unmet, occurrences, is_in, times, left_of, CountsPosts, EachAfter, IsOrdering, IsMeeting}
 use Rattle.cascade_rank.proofs.Events.{same_event}
 use Rattle.cascade_rank.proofs.Mentioned.{unmet-none, unmet_met, occurrences-unmet, all_mentioned-weaker}

@@ -1,21 +1,11 @@
 -- What a call of a device can answer, answer by answer.
 use Rattle.std.proofs.Common.{rules, ◌≡◌, ℕ, ◌<◌, ◌≤◌, List, [], ◌∷◌, length, map, take, get_or, refl, sym, ap, ◌∙◌, subst, arith, take_all}
-use Rattle.std.specs.List.{All}
-use Rattle.std.proofs.lemmas.List.{length-map, get_or-map}
-use Rattle.std.proofs.lemmas.List.Elements.{All-get_or}
-use Rattle.plan_tables.specs.PlanView.{PlanView, row_at}
-use Rattle.plan_tables.specs.Devices.{list_count}
-use Rattle.plan_tables.specs.declared.entries.EventId.{EventId}
-use Rattle.plan_tables.specs.declared.devices.RowId.{RowId}
-use Rattle.plan_tables.specs.declared.devices.Telling.{Telling}
-use Rattle.plan_tables.specs.declared.devices.DeviceRow.{DeviceRow}
-use Rattle.device_objects.specs.declared.device.Call.{Call}
-use Rattle.device_objects.proofs.Lists.{outcomes_of_row}
-use Rattle.device_objects.specs.Outcomes.{outcomes}
+use Rattle.std.{specs.List.All, proofs.lemmas.List.{length-map, get_or-map, Elements.All-get_or}}
+use Rattle.plan_tables.specs.{PlanView.{PlanView, row_at}, Devices.list_count, declared.entries.EventId.EventId}
+use Rattle.plan_tables.specs.declared.devices.{RowId.RowId, Telling.Telling, DeviceRow.DeviceRow}
+use Rattle.device_objects.{specs.{declared.device.Call.Call, Outcomes.outcomes}, proofs.Lists.outcomes_of_row}
 use Rattle.cascade_rank.specs.Cost.{Cost, Greater, price, each_of, dearest_of, cost_of_answer_by, cost_of_call_by}
-use Rattle.cascade_rank.specs.Mentions.{weights_in}
-use Rattle.cascade_rank.proofs.Places.{each_of-map}
-use Rattle.cascade_rank.proofs.Posted.{weights-dearest}
+use Rattle.cascade_rank.{specs.Mentions.weights_in, proofs.{Places.each_of-map, Posted.weights-dearest}}
 
 dearest_of-map : {X Y : Type 0} (f : Y → Cost) (g : X → Y) (xs : List X) → dearest_of (λ x. f (g x)) xs ≡ dearest_of f (map g xs)
 dearest_of-map f g [] = refl

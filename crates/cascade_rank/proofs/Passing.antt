@@ -1,13 +1,8 @@
 -- Walks over the rows of a plan that pass a test.
 use Rattle.std.proofs.Common.{rules, ◌≡◌, ℕ, ◌+◌, ◌<◌, ◌≤◌, max, Bool, true, false, cond, List, [], ◌∷◌, ◌++◌, length, take, sym, ap, ◌∙◌, arith, take_all}
-use Rattle.std.specs.List.{filter}
-use Rattle.std.proofs.lemmas.List.{append_assoc, append-nil}
-use Rattle.std.proofs.lemmas.List.Elements.{filter_more}
-use Rattle.plan_tables.specs.PlanView.{PlanView, row_numbers}
-use Rattle.plan_tables.specs.declared.entries.EventId.{EventId}
-use Rattle.plan_tables.specs.declared.devices.RowId.{RowId}
-use Rattle.cascade_rank.specs.Cost.{Cost, price, each_of, dearest_of}
-use Rattle.cascade_rank.specs.Mentions.{weights_in}
+use Rattle.std.{specs.List.filter, proofs.lemmas.List.{append_assoc, append-nil, Elements.filter_more}}
+use Rattle.plan_tables.specs.{PlanView.{PlanView, row_numbers}, declared.{entries.EventId.EventId, devices.RowId.RowId}}
+use Rattle.cascade_rank.specs.{Cost.{Cost, price, each_of, dearest_of}, Mentions.weights_in}
 use Rattle.cascade_rank.proofs.Rows.{length-rows, row_of}
 
 -- ---- one more at the end of a list

@@ -1,18 +1,11 @@
 -- What is bound to an event costs as much as what is at its places.
 use Rattle.std.proofs.Common.{rules, ◌≡◌, ℕ, ◌+◌, ◌<◌, ◌≤◌, ◌==◌, List, [], ◌∷◌, length, map, take, get_or, Some, refl, ap, ◌∙◌, arith}
-use Rattle.std.specs.List.{slice_get}
-use Rattle.std.proofs.lemmas.Option.{get_or_from_slice_get, slice_get_within}
-use Rattle.std.proofs.lemmas.List.{length-map, take_all}
-use Rattle.std.proofs.lemmas.List.Elements.{All-get_or}
-use Rattle.std.proofs.lemmas.List.Sums.{length-filter, count_by-le-length}
+use Rattle.std.{specs.List.slice_get, proofs.lemmas.Option.{get_or_from_slice_get, slice_get_within}}
+use Rattle.std.proofs.lemmas.List.{length-map, take_all, Elements.All-get_or, Sums.{length-filter, count_by-le-length}}
 use Rattle.plan_tables.specs.PlanView.{PlanView, no_binding, binding_at, places_of, bound_to}
-use Rattle.plan_tables.specs.Valid.{IsBindingWithin, HasEntries}
-use Rattle.plan_tables.specs.declared.entries.EventId.{EventId}
-use Rattle.plan_tables.specs.declared.entries.BindingId.{BindingId}
-use Rattle.plan_tables.specs.declared.entries.Binding.{Binding}
-use Rattle.plan_tables.proofs.BoundTo.{places_of-bound, places_of-within}
-use Rattle.cascade_rank.specs.Cost.{Cost, Both, price, each_of, cost_of_binding}
-use Rattle.cascade_rank.proofs.Prices.{price-each_more}
+use Rattle.plan_tables.{specs.Valid.{IsBindingWithin, HasEntries}, proofs.BoundTo.{places_of-bound, places_of-within}}
+use Rattle.plan_tables.specs.declared.entries.{EventId.EventId, BindingId.BindingId, Binding.Binding}
+use Rattle.cascade_rank.{specs.Cost.{Cost, Both, price, each_of, cost_of_binding}, proofs.Prices.price-each_more}
 
 pub each_of-map : {X Y : Type 0} (f : Y → Cost) (g : X → Y) (xs : List X) → each_of (λ x. f (g x)) xs ≡ each_of f (map g xs)
 each_of-map f g [] = refl

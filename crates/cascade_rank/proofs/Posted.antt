@@ -1,11 +1,9 @@
 -- The events whose weights are in a cost, listed part by part.
 use Rattle.std.proofs.Common.{rules, ◌≡◌, ℕ, zero, suc, ◌+◌, ◌<◌, ◌≤◌, false, List, [], ◌∷◌, ◌++◌, length, take, get_or, refl, ap, ◌∙◌, arith, length-append, take_all}
 use Rattle.std.proofs.lemmas.List.{append_assoc, append-nil}
-use Rattle.plan_tables.specs.declared.entries.EventId.{EventId}
-use Rattle.plan_tables.specs.PlanView.{PlanView, work_of}
+use Rattle.plan_tables.specs.{declared.entries.EventId.EventId, PlanView.{PlanView, work_of}}
 use Rattle.cascade_rank.specs.Cost.{Cost, Lines, Weight, Both, Greater, each_of, dearest_of, cost_of_post, cost_of_starts, cost_if_led, led_by, cost_of_game, cost_of_work}
-use Rattle.cascade_rank.specs.Mentions.{weights_in}
-use Rattle.cascade_rank.specs.Order.{unmet, occurrences}
+use Rattle.cascade_rank.specs.{Mentions.weights_in, Order.{unmet, occurrences}}
 
 -- ---- one more of a list
 

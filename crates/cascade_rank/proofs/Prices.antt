@@ -1,7 +1,6 @@
 -- Laws of prices, by cases on the cost.
 use Rattle.std.proofs.Common.{◌≡◌, ℕ, zero, suc, ◌+◌, ◌≤◌, ◌<◌, max, true, List, [], ◌∷◌, length, take, get_or, sum_by, refl, subst, inl, inr, arith, rules}
-use Rattle.std.proofs.lemmas.Bool.{or_left, or_right, or_cases, eq-eqb, false≢true}
-use Rattle.std.proofs.lemmas.List.Sums.{sum_by-cons}
+use Rattle.std.proofs.lemmas.{Bool.{or_left, or_right, or_cases, eq-eqb, false≢true}, List.Sums.sum_by-cons}
 use Rattle.plan_tables.specs.declared.entries.EventId.{EventId}
 use Rattle.cascade_rank.specs.Cost.{Cost, Lines, Weight, Both, Greater, price, mentions, each_of, dearest_of}
 use Rattle.cascade_rank.proofs.Events.{tested_event}

@@ -1,15 +1,9 @@
 -- Ranks and groundedness, round by round.
-use Rattle.std.proofs.Common.{◌≡◌, ℕ, zero, suc, ◌+◌, ◌≤◌, ◌<◌, true, length, arith}
-use Rattle.std.proofs.lemmas.Bool.{false≢true}
-use Rattle.plan_tables.specs.PlanView.{PlanView}
-use Rattle.plan_tables.specs.Valid.{HasEntries}
-use Rattle.plan_tables.specs.declared.entries.EventId.{EventId}
-use Rattle.cascade_rank.specs.Cost.{mentions, cost_of_event}
-use Rattle.cascade_rank.specs.Weights.{IsFitting}
-use Rattle.cascade_rank.specs.LeadsTo.{grounded_in, grounded}
-use Rattle.cascade_rank.specs.Ranks.{rank_in, rank}
-use Rattle.cascade_rank.proofs.Prices.{price_at_most, price_agrees}
-use Rattle.cascade_rank.proofs.Within.{IsBelow-mentioned, IsBelow-event}
+use Rattle.std.proofs.{Common.{◌≡◌, ℕ, zero, suc, ◌+◌, ◌≤◌, ◌<◌, true, length, arith}, lemmas.Bool.false≢true}
+use Rattle.plan_tables.specs.{PlanView.PlanView, Valid.HasEntries, declared.entries.EventId.EventId}
+use Rattle.cascade_rank.specs.{Cost.{mentions, cost_of_event}, LeadsTo.{grounded_in, grounded}}
+use Rattle.cascade_rank.specs.{Weights.IsFitting, Ranks.{rank_in, rank}}
+use Rattle.cascade_rank.proofs.{Prices.{price_at_most, price_agrees}, Within.{IsBelow-mentioned, IsBelow-event}}
 use Rattle.cascade_rank.proofs.Mentioned.{all_mentioned_at, all_mentioned-weaker}
 
 module _ (plan : PlanView) where

@@ -1,12 +1,9 @@
 -- The rows of a plan's devices, by number.
-use Rattle.std.proofs.Common.{rules, ◌≡◌, ℕ, ◌<◌, ◌≤◌, length, get_or, arith}
-use Rattle.std.specs.List.{All}
-use Rattle.std.proofs.lemmas.List.Elements.{All-from_get_or}
+use Rattle.std.{proofs.Common.{rules, ◌≡◌, ℕ, ◌<◌, ◌≤◌, length, get_or, arith}, specs.List.All}
+use Rattle.std.proofs.lemmas.List.{Elements.All-from_get_or, Sums.{length-filter, count_by-le-length}}
 use Rattle.std.proofs.lemmas.List.FromFn.{length-map-range_with_len, get_or-map-range_with_len}
-use Rattle.std.proofs.lemmas.List.Sums.{length-filter, count_by-le-length}
 use Rattle.plan_tables.specs.PlanView.{PlanView, row_numbers, rows_of}
-use Rattle.plan_tables.specs.declared.entries.Owner.{Owner}
-use Rattle.plan_tables.specs.declared.devices.RowId.{RowId}
+use Rattle.plan_tables.specs.declared.{entries.Owner.Owner, devices.RowId.RowId}
 
 module _ (plan : PlanView) where
   pub length-rows : length (row_numbers plan) ≡ length plan.rows

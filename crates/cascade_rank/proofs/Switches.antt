@@ -1,12 +1,9 @@
 -- The switches of a plan, and that the bound is no less than what one of them costs.
 use Rattle.std.proofs.Common.{◌≡◌, ℕ, ◌<◌, ◌≤◌, Bool, true, false, length, get_or, ap, arith}
 use Rattle.std.proofs.lemmas.List.FromFn.{length-map-range_with_len, get_or-map-range_with_len}
-use Rattle.plan_tables.specs.PlanView.{PlanView}
-use Rattle.plan_tables.specs.declared.entries.EventId.{EventId}
-use Rattle.plan_tables.specs.declared.entries.SwitchId.{SwitchId}
+use Rattle.plan_tables.specs.{PlanView.PlanView, declared.entries.{EventId.EventId, SwitchId.SwitchId}}
 use Rattle.cascade_rank.specs.Cost.{price, cost_of_acceptance, cost_of_switch, switches_of}
-use Rattle.cascade_rank.specs.Weights.{bound_of, switch_cost}
-use Rattle.cascade_rank.proofs.Prices.{price-dearest}
+use Rattle.cascade_rank.{specs.Weights.{bound_of, switch_cost}, proofs.Prices.price-dearest}
 
 module _ (plan : PlanView) where
   pub length-switches : length (switches_of plan) ≡ length plan.switches

@@ -2,17 +2,12 @@
 use Rattle.std.proofs.Common.{rules, ◌≡◌, ◌≢◌, ℕ, ◌<◌, ◌≤◌, true, false, nat_le, List, length, Option, Some, None, IfSome, IfNone, ok_or, Result, Ok, Err, ap, ◌∙◌, subst}
 use Rattle.std.specs.List.{All, list_all}
 use Rattle.std.proofs.lemmas.Bool.{cond-true, cond-false, cond_both, eq-eqb, ne_eqb, eqb-true, eqb-false, lt-ltb, le-ltb, ltb-true, ltb-false, le-leb, leb-true, and_from, and_parts, both_ways, false_from_ne_true}
-use Rattle.std.proofs.lemmas.List.Elements.{All-weaker}
-use Rattle.std.proofs.lemmas.List.Sums.{AllPass-from_list_all, list_all-from_AllPass}
-use Rattle.plan_tables.specs.PlanView.{PlanView}
-use Rattle.plan_tables.specs.declared.entries.EventId.{EventId}
-use Rattle.cascade_rank.specs.declared.fault.RankFault.TheVariants.{BoundTooLarge}
-use Rattle.cascade_rank.specs.declared.verdict.Bound.{Bound}
-use Rattle.cascade_rank.specs.Events.{weight_of}
+use Rattle.std.proofs.lemmas.List.{Elements.All-weaker, Sums.{AllPass-from_list_all, list_all-from_AllPass}}
+use Rattle.plan_tables.specs.{PlanView.PlanView, declared.entries.EventId.EventId}
+use Rattle.cascade_rank.specs.declared.{fault.RankFault.TheVariants.BoundTooLarge, verdict.Bound.Bound}
+use Rattle.cascade_rank.specs.{Events.weight_of, Cycle.first_event, View.GivesBound}
 use Rattle.cascade_rank.specs.Weights.{greatest, need, IsFitting, bound_of, IsWithinLimit}
-use Rattle.cascade_rank.specs.Cycle.{first_event}
 use Rattle.cascade_rank.specs.Finding.{RankView, bound_too_large, short, wrong_events, is_within_limit, is_short, verified_past, verified_at}
-use Rattle.cascade_rank.specs.View.{GivesBound}
 use Rattle.cascade_rank.specs.Verified.{IsVerified, IsFirstShort, IsUnverified}
 use Rattle.cascade_rank.proofs.FirstEvent.{first_event-Some, first_event-None, first_event-first, first_event-nothing}
 

@@ -1,46 +1,26 @@
 -- The costs of a valid plan mention only events of the plan.
 use Rattle.std.proofs.Common.{rules, ◌≡◌, ℕ, ◌<◌, Bool, true, false, ◌==◌, if◌then◌else◌, List, [], ◌∷◌, length, Option, Some, None, sym, subst, inl, inr, arith}
-use Rattle.std.specs.Prelude.{IfSome}
-use Rattle.std.specs.List.{All, AllByRecursion, find}
-use Rattle.std.proofs.lemmas.Bool.{cases_lt, or_cases, eqb-true, false≢true}
+use Rattle.std.specs.{Prelude.IfSome, List.{All, AllByRecursion, find}}
+use Rattle.std.proofs.lemmas.{Bool.{cases_lt, or_cases, eqb-true, false≢true}, List.get_or_past}
 use Rattle.std.proofs.lemmas.List.Elements.{recursion_from_All, All-get_or, All-weaker, All-nil, All-cons, All-append, All-filter}
-use Rattle.std.proofs.lemmas.List.{get_or_past}
 use Rattle.plan_tables.specs.PlanView.{PlanView, act_told, feeders_of, feeds, may_hold_ball_end, is_multiball, is_save, multiball_rows, save_rows, game_event, mode_event, work_of, no_switch, switch_at, listeners_of, actions_at, posts_of, bound_to, is_owner, list_of_row, row_at, row_numbers, rows_of}
-use Rattle.plan_tables.specs.Devices.{list_count}
-use Rattle.plan_tables.specs.declared.entries.ModeId.{ModeId}
-use Rattle.plan_tables.specs.declared.entries.ModeEvent.{ModeEvent}
+use Rattle.plan_tables.specs.{Devices.list_count, declared.entries.{SwitchId.SwitchId, Listener.Listener}}
+use Rattle.plan_tables.specs.declared.entries.{ModeId.ModeId, EventId.EventId, ListId.ListId, Binding.Binding}
+use Rattle.plan_tables.specs.declared.entries.{ModeEvent.ModeEvent, Work.Work, Action.Action}
 use Rattle.plan_tables.specs.declared.entries.ModeEvent.TheVariants.{WillStart, Starting, Started, Stopping, Stopped}
-use Rattle.plan_tables.specs.declared.entries.GameEvent.{GameEvent}
-use Rattle.plan_tables.specs.declared.entries.GameEvent.TheVariants.{BallEnded}
+use Rattle.plan_tables.{specs.declared.entries.GameEvent.{GameEvent, TheVariants.BallEnded}, proofs.Worked.work_found}
 use Rattle.player_game.specs.Choices.{asks_for_ball, choices}
-use Rattle.plan_tables.specs.declared.entries.Work.{Work}
 use Rattle.plan_tables.specs.declared.entries.Work.TheVariants as works
-use Rattle.plan_tables.proofs.Worked.{work_found}
 use Rattle.plan_tables.specs.Valid.{IsEventWithin, IsWorkAt, IsActionWithin, IsTargetWithin, IsBindingWithin, IsSwitchWithin, IsListenerWithin, HasEntries}
-use Rattle.plan_tables.specs.declared.entries.EventId.{EventId}
-use Rattle.plan_tables.specs.declared.entries.SwitchId.{SwitchId}
-use Rattle.plan_tables.specs.declared.entries.Listener.{Listener}
-use Rattle.plan_tables.specs.declared.entries.ListId.{ListId}
-use Rattle.plan_tables.specs.declared.entries.Action.{Action}
-use Rattle.plan_tables.specs.declared.entries.Target.{Target}
-use Rattle.plan_tables.specs.declared.entries.Target.TheVariants.{Run, Start, Stop, Act}
+use Rattle.plan_tables.specs.declared.entries.Target.{Target, TheVariants.{Run, Start, Stop, Act}}
 use Rattle.plan_tables.specs.declared.entries.Owner.TheVariants as owners
-use Rattle.plan_tables.specs.declared.devices.Act.TheVariants.{Save, End}
-use Rattle.plan_tables.specs.declared.devices.Telling.{Telling}
-use Rattle.plan_tables.specs.declared.devices.Telling.TheVariants.{Arrived, Wanted}
-use Rattle.plan_tables.specs.declared.devices.BallTarget.{BallTarget}
-use Rattle.plan_tables.specs.declared.devices.RowId.{RowId}
-use Rattle.device_objects.specs.declared.device.Call.{Call}
+use Rattle.plan_tables.specs.declared.devices.{Act.TheVariants.{Save, End}, BallTarget.BallTarget, RowId.RowId}
+use Rattle.plan_tables.specs.declared.devices.Telling.{Telling, TheVariants.{Arrived, Wanted}}
+use Rattle.device_objects.{specs.{declared.device.Call.Call, Outcomes.outcomes}, proofs.Lists.outcomes_of_row}
 use Rattle.device_objects.specs.declared.device.Call.TheVariants as calls
-use Rattle.device_objects.specs.Outcomes.{outcomes}
-use Rattle.plan_tables.specs.declared.entries.Binding.{Binding}
 use Rattle.cascade_rank.specs.Cost.{Cost, Lines, Weight, Both, Greater, mentions, each_of, dearest_of, cost_of_post, cost_of_action_by, cost_of_list_by, cost_of_answer_by, cost_of_call_by, cost_of_nobody, cost_of_told, cost_of_arrival, cost_of_trough, cost_of_telling, cost_of_call, cost_of_target, cost_of_binding, led_by, cost_if_led, cost_of_starts, cost_of_releases, cost_of_choice, cost_of_request, cost_of_drained_ball, cost_of_game, cost_of_work, cost_of_event}
-use Rattle.cascade_rank.specs.Below.{IsBelow}
-use Rattle.cascade_rank.specs.Mentions.{weights_in}
-use Rattle.cascade_rank.specs.Tellings.{IsTellingWithin}
-use Rattle.device_objects.proofs.Lists.{outcomes_of_row}
-use Rattle.cascade_rank.proofs.Games.{game_event-below, game_has-event}
-use Rattle.cascade_rank.proofs.Rows.{rows-within}
+use Rattle.cascade_rank.specs.{Below.IsBelow, Mentions.weights_in, Tellings.IsTellingWithin}
+use Rattle.cascade_rank.proofs.{Games.{game_event-below, game_has-event}, Rows.rows-within}
 
 pub IsBelow-mentioned : (n : ℕ) (c : Cost) (e : EventId) → IsBelow n c → mentions e c ≡ true → e.0 < n
 IsBelow-mentioned n (Lines k) e h m = absurd (false≢true m)

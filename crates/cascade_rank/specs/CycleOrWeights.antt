@@ -1,12 +1,7 @@
 -- Which plans have weights at all: those in which no events lead to each other.
-use Rattle.std.specs.Prelude.{◌≡◌, ◌<◌, true, false, List, length}
-use Rattle.std.specs.List.{All}
-use Rattle.plan_tables.specs.PlanView.{PlanView}
-use Rattle.plan_tables.specs.Valid.{HasEntries}
-use Rattle.plan_tables.specs.declared.entries.EventId.{EventId}
-use Rattle.cascade_rank.specs.Weights.{IsLeastFitting}
-use Rattle.cascade_rank.specs.LeadsTo.{is_open, IsCycle, HasNoFit}
-use Rattle.cascade_rank.specs.Ranks.{ranks}
+use Rattle.std.specs.{Prelude.{◌≡◌, ◌<◌, true, false, List, length}, List.All}
+use Rattle.plan_tables.specs.{PlanView.PlanView, Valid.HasEntries, declared.entries.EventId.EventId}
+use Rattle.cascade_rank.specs.{Weights.IsLeastFitting, LeadsTo.{is_open, IsCycle, HasNoFit}, Ranks.ranks}
 
 -- where events lead to each other, no weights fit
 abbrev pub CycleHasNoFit : Type 0

@@ -1,8 +1,6 @@
 -- The events of a plan, and what a list says of them.
-use Rattle.std.specs.Prelude.{ℕ, List, length, map, slice_index, slice_index_or}
-use Rattle.std.specs.List.{range_with_len}
-use Rattle.plan_tables.specs.PlanView.{PlanView}
-use Rattle.plan_tables.specs.declared.entries.EventId.{EventId}
+use Rattle.std.specs.{Prelude.{ℕ, List, length, map, slice_index, slice_index_or}, List.range_with_len}
+use Rattle.plan_tables.specs.{PlanView.PlanView, declared.entries.EventId.EventId}
 
 -- the events of a plan, by number
 abbrev pub events_of : PlanView → List EventId

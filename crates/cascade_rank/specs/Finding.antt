@@ -1,11 +1,8 @@
 -- What is found of a plan, and of weights.
 use Rattle.std.specs.Prelude.{ℕ, ◌==◌, nat_lt, nat_le, Bool, ◌&&◌, if◌then◌else◌, Option, Some, None, List, length, Result, Ok, Err}
 use Rattle.std.specs.List.{list_all}
-use Rattle.plan_tables.specs.PlanView.{PlanView}
-use Rattle.plan_tables.specs.declared.entries.EventId.{EventId}
-use Rattle.cascade_rank.specs.Events.{weight_of}
-use Rattle.cascade_rank.specs.Weights.{need, bound_of, greatest}
-use Rattle.cascade_rank.specs.Ranks.{ranks}
+use Rattle.plan_tables.specs.{PlanView.PlanView, declared.entries.EventId.EventId}
+use Rattle.cascade_rank.specs.{Events.weight_of, Weights.{need, bound_of, greatest}, Ranks.ranks}
 use Rattle.cascade_rank.specs.Cycle.{first_event, first_open, cycle_of}
 
 -- why there are no weights, or why these do not serve

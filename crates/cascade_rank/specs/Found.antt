@@ -2,8 +2,7 @@
 use Rattle.std.specs.Prelude.{ℕ, List}
 use Rattle.plan_tables.specs.PlanView.{PlanView}
 use Rattle.cascade_rank.specs.Weights.{IsLeastFitting, IsWithinLimit}
-use Rattle.cascade_rank.specs.LeadsTo.{IsCycle, HasNoFit}
-use Rattle.cascade_rank.specs.Cycle.{IsReportedCycle}
+use Rattle.cascade_rank.specs.{LeadsTo.{IsCycle, HasNoFit}, Cycle.IsReportedCycle}
 use Rattle.cascade_rank.specs.Finding.{RankView, cycle, bound_too_large, short, wrong_events}
 
 -- there are least fitting weights, and they or their bound are above the limit

@@ -1,9 +1,7 @@
 -- Which events lead to each event.
 use Rattle.std.specs.Prelude.{◌≡◌, ℕ, ◌+◌, ◌<◌, false, ◌==◌, nat_lt, if◌then◌else◌, List, [], length, slice_index_or}
-use Rattle.plan_tables.specs.PlanView.{PlanView}
-use Rattle.plan_tables.specs.declared.entries.EventId.{EventId}
-use Rattle.cascade_rank.specs.Cost.{Cost, cost_of_event}
-use Rattle.cascade_rank.specs.Order.{unmet, occurrences, times, left_of}
+use Rattle.plan_tables.specs.{PlanView.PlanView, declared.entries.EventId.EventId}
+use Rattle.cascade_rank.specs.{Cost.{Cost, cost_of_event}, Order.{unmet, occurrences, times, left_of}}
 
 -- the events that lead to f
 abbrev pub leaders_to : List (List EventId) → EventId → List EventId

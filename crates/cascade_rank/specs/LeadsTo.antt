@@ -1,11 +1,7 @@
 -- Which events an event leads to, and events that lead to each other without end.
-use Rattle.std.specs.Prelude.{◌≡◌, ℕ, zero, suc, ◌+◌, ◌-◌, ◌<◌, Bool, true, false, not, List, length}
-use Rattle.std.specs.List.{All}
-use Rattle.plan_tables.specs.PlanView.{PlanView}
-use Rattle.plan_tables.specs.declared.entries.EventId.{EventId}
-use Rattle.cascade_rank.specs.Events.{nth_event}
-use Rattle.cascade_rank.specs.Cost.{mentions, all_mentioned, cost_of_event}
-use Rattle.cascade_rank.specs.Weights.{IsFitting}
+use Rattle.std.specs.{Prelude.{◌≡◌, ℕ, zero, suc, ◌+◌, ◌-◌, ◌<◌, Bool, true, false, not, List, length}, List.All}
+use Rattle.plan_tables.specs.{PlanView.PlanView, declared.entries.EventId.EventId}
+use Rattle.cascade_rank.specs.{Events.nth_event, Cost.{mentions, all_mentioned, cost_of_event}, Weights.IsFitting}
 
 -- e leads to f where the weight of f is in what e costs
 abbrev pub leads : PlanView → EventId → EventId → Bool

@@ -1,10 +1,8 @@
 -- The lowest-numbered event of those whose weight is in a cost.
 use Rattle.std.specs.Prelude.{◌≡◌, ℕ, ◌<◌, ◌==◌, true, false, min, Bool, if◌then◌else◌, List, length}
-use Rattle.plan_tables.specs.PlanView.{PlanView}
-use Rattle.plan_tables.specs.declared.entries.EventId.{EventId}
+use Rattle.plan_tables.specs.{PlanView.PlanView, declared.entries.EventId.EventId}
 use Rattle.cascade_rank.specs.Cost.{Cost, Lines, Weight, Both, Greater, all_mentioned, cost_of_event}
-use Rattle.cascade_rank.specs.LeadsTo.{grounded, is_open}
-use Rattle.cascade_rank.specs.Order.{left_of}
+use Rattle.cascade_rank.specs.{LeadsTo.{grounded, is_open}, Order.left_of}
 
 -- the least number of those of which p holds, or n where there is none
 abbrev pub lowest : ℕ → (EventId → Bool) → Cost → ℕ

@@ -2,9 +2,7 @@
 use Rattle.std.specs.Prelude.{◌≡◌, ◌<◌, ◌||◌, ℕ, Bool, false, List, length, map, slice_index_or}
 use Rattle.std.specs.List.{list_any, range_with_len}
 use Rattle.plan_tables.specs.PlanView.{is_enable_of}
-use Rattle.plan_tables.specs.declared.entries.CoilId.{CoilId}
-use Rattle.plan_tables.specs.declared.entries.Action.{Action}
-use Rattle.plan_tables.specs.declared.entries.Action.TheVariants.{Enable}
+use Rattle.plan_tables.specs.declared.entries.{CoilId.CoilId, Action.{Action, TheVariants.Enable}}
 
 -- whether a coil is marked
 abbrev pub mark_of : List Bool → CoilId → Bool

@@ -1,11 +1,8 @@
 -- An order in which each event leads only to events before it.
 use Rattle.std.specs.Prelude.{◌≡◌, ℕ, ◌+◌, ◌<◌, ◌≤◌, Bool, true, false, ◌==◌, nat_lt, if◌then◌else◌, min, List, [], length, take, slice_index, count_by}
 use Rattle.std.specs.List.{list_any}
-use Rattle.plan_tables.specs.PlanView.{PlanView}
-use Rattle.plan_tables.specs.declared.entries.EventId.{EventId}
-use Rattle.cascade_rank.specs.Events.{nth_event, weight_of}
-use Rattle.cascade_rank.specs.Ranks.{rank}
-use Rattle.cascade_rank.specs.Weights.{greatest}
+use Rattle.plan_tables.specs.{PlanView.PlanView, declared.entries.EventId.EventId}
+use Rattle.cascade_rank.specs.{Events.{nth_event, weight_of}, Ranks.rank, Weights.greatest}
 use Rattle.cascade_rank.specs.Cost.{Cost, Lines, Weight, Both, Greater, all_mentioned, cost_of_event}
 
 -- how often a weight of which p does not hold is in the cost

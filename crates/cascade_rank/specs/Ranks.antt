@@ -1,9 +1,7 @@
 -- The least weights, where every event is grounded.
 use Rattle.std.specs.Prelude.{ℕ, zero, suc, List, length, map}
-use Rattle.plan_tables.specs.PlanView.{PlanView}
-use Rattle.plan_tables.specs.declared.entries.EventId.{EventId}
-use Rattle.cascade_rank.specs.Events.{events_of}
-use Rattle.cascade_rank.specs.Weights.{need}
+use Rattle.plan_tables.specs.{PlanView.PlanView, declared.entries.EventId.EventId}
+use Rattle.cascade_rank.specs.{Events.events_of, Weights.need}
 
 -- nothing at first, and in each later round what the event costs at the weights of the round before
 abbrev pub rank_in : PlanView → ℕ → EventId → ℕ

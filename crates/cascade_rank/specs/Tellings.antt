@@ -1,8 +1,6 @@
 -- What ball devices are told.
 use Rattle.std.specs.Prelude.{ℕ}
-use Rattle.plan_tables.specs.Valid.{IsTargetThere}
-use Rattle.plan_tables.specs.declared.devices.Telling.{Telling}
-use Rattle.plan_tables.specs.declared.devices.Telling.TheVariants.{Arrived, Wanted}
+use Rattle.plan_tables.specs.{Valid.IsTargetThere, declared.devices.Telling.{Telling, TheVariants.{Arrived, Wanted}}}
 
 -- where a ball has arrived, its target is the playfield, or one of so many rows
 abbrev pub IsTellingWithin : ℕ → Telling → Type 0

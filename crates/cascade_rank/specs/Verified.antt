@@ -1,9 +1,7 @@
 -- What it means that weights serve, or do not.
 use Rattle.std.specs.Prelude.{◌≡◌, ◌≢◌, ℕ, ◌<◌, ◌≤◌, List, length}
-use Rattle.plan_tables.specs.PlanView.{PlanView}
-use Rattle.plan_tables.specs.declared.entries.EventId.{EventId}
-use Rattle.cascade_rank.specs.Events.{weight_of}
-use Rattle.cascade_rank.specs.Weights.{need, IsFitting, bound_of, IsWithinLimit}
+use Rattle.plan_tables.specs.{PlanView.PlanView, declared.entries.EventId.EventId}
+use Rattle.cascade_rank.specs.{Events.weight_of, Weights.{need, IsFitting, bound_of, IsWithinLimit}}
 use Rattle.cascade_rank.specs.Finding.{RankView, cycle, bound_too_large, short, wrong_events}
 
 -- there is a weight for each event, they fit, they are within the limit, and the bound is theirs

@@ -1,8 +1,7 @@
 -- What contracts see of an answer.
 use Rattle.std.specs.Prelude.{◌≡◌, ℕ, List, Option, Some, None, Result, Ok, Err}
-use Rattle.cascade_rank.specs.declared.fault.RankFault.{RankFault}
+use Rattle.cascade_rank.specs.declared.{fault.RankFault.RankFault, verdict.Bound.Bound}
 use Rattle.cascade_rank.specs.declared.fault.RankFault.TheVariants as faults
-use Rattle.cascade_rank.specs.declared.verdict.Bound.{Bound}
 use Rattle.cascade_rank.specs.Finding.{RankView, cycle, bound_too_large, short, wrong_events}
 
 -- what a fault reports of the plan or the weights: a fault of memory reports nothing

@@ -1,9 +1,6 @@
 -- Weights that bound what each event leads to.
-use Rattle.std.specs.Prelude.{◌≡◌, ℕ, ◌<◌, ◌≤◌, List, length, map}
-use Rattle.std.specs.List.{All}
-use Rattle.plan_tables.specs.PlanView.{PlanView}
-use Rattle.plan_tables.specs.declared.entries.EventId.{EventId}
-use Rattle.plan_tables.specs.declared.entries.SwitchId.{SwitchId}
+use Rattle.std.specs.{Prelude.{◌≡◌, ℕ, ◌<◌, ◌≤◌, List, length, map}, List.All}
+use Rattle.plan_tables.specs.{PlanView.PlanView, declared.entries.{EventId.EventId, SwitchId.SwitchId}}
 use Rattle.cascade_rank.specs.Events.{weight_of}
 use Rattle.cascade_rank.specs.Cost.{price, cost_of_event, cost_of_stimuli, cost_of_switch, switches_of}
 

@@ -1,15 +1,11 @@
 -- Each call keeps what a guard's state and the sent commands have to do with each other.
 use Rattle.std.proofs.Common.{rules, ◌≡◌, ℕ, ◌<◌, ◌≤◌, ◌==◌, Bool, true, false, if◌then◌else◌, Option, Some, None, List, [], ◌∷◌, ◌++◌, length, map, refl, ap, sym, subst, ◌∙◌, inl, inr, append-nil, arith}
-use Rattle.std.proofs.lemmas.Bool.{false≢true, cases_lt, cases_eq, ne_eqb}
+use Rattle.std.proofs.lemmas.{Bool.{false≢true, cases_lt, cases_eq, ne_eqb}, List.Elements.{All-nil, All-push}}
 use Rattle.std.proofs.lemmas.List.{length-set, length-map, get_or_past, get_or-map, get_or-set_same, get_or-set_other}
-use Rattle.std.proofs.lemmas.List.Elements.{All-nil, All-push}
-use Rattle.plan_tables.specs.declared.entries.Owner.{Owner}
-use Rattle.plan_tables.specs.declared.entries.CoilId.{CoilId}
-use Rattle.plan_tables.specs.declared.entries.CoilLimits.{CoilLimits}
-use Rattle.coil_guard.specs.declared.state.CoilState.{CoilState}
+use Rattle.plan_tables.specs.declared.entries.{Owner.Owner, CoilId.CoilId, CoilLimits.CoilLimits}
+use Rattle.coil_guard.specs.{declared.state.CoilState.CoilState, Lowest.IsLowest}
 use Rattle.coil_guard.specs.Limits.{no_limits, limits_at, IsWithin}
 use Rattle.coil_guard.specs.CoilStep.{off, is_on_at, is_held_by, takes_pulse, pulsed, takes_enable, enabled, disabled}
-use Rattle.coil_guard.specs.Lowest.{IsLowest}
 use Rattle.coil_guard.specs.Coils.{coil_at, set_coil, all_off, next_held, put_off, next_on}
 use Rattle.coil_guard.specs.SentCommands.{Sending, coil_of, is_to, is_on, is_held_for}
 use Rattle.coil_guard.specs.Calls.{CoilCall, Pulse, Enable, Disable, Release, moment_of, after_call, sent_by, pulse_sent, enable_sent, disable_sent, sent_if, disables_sent, due_by}

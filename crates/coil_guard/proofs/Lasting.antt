@@ -1,7 +1,6 @@
 -- One more sending: what lasts after it, and what rests after it.
 use Rattle.std.proofs.Common.{rules, ◌≡◌, ℕ, ◌≤◌, Bool, true, false, not, ◌&&◌, ◌||◌, List, [], ◌∷◌, ◌++◌, nat_lt, ap, ap₂, ◌∙◌}
-use Rattle.std.specs.List.{list_all, list_any}
-use Rattle.std.proofs.lemmas.List.Folds.{list_all-append, list_any-append}
+use Rattle.std.{specs.List.{list_all, list_any}, proofs.lemmas.List.Folds.{list_all-append, list_any-append}}
 use Rattle.coil_guard.specs.SentCommands.{Sending, lasts}
 
 pub or-false : (b : Bool) → (b || false) ≡ b

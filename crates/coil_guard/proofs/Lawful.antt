@@ -1,12 +1,9 @@
 -- The laws over lists of calls, by what each call keeps.
 use Rattle.std.proofs.Common.{rules, ℕ, List, [], ◌∷◌, ◌++◌, sym, subst, append-nil, append_assoc}
 use Rattle.plan_tables.specs.declared.entries.CoilLimits.{CoilLimits}
-use Rattle.coil_guard.specs.declared.state.CoilState.{CoilState}
-use Rattle.coil_guard.specs.Coils.{all_off}
-use Rattle.coil_guard.specs.SentCommands.{Sending}
+use Rattle.coil_guard.specs.{declared.state.CoilState.CoilState, Coils.all_off, SentCommands.Sending, Follows.Follows}
 use Rattle.coil_guard.specs.Calls.{CoilCall, moment_of, after_call, sent_by, after_calls, sent_by_calls, last_moment, AreInOrder}
 use Rattle.coil_guard.specs.Laws.{sent_from_new, state_from_new, CommandsAreWithinLimits, StretchesAreWithinLimits, AnswersAreByCommands, StatesSayWhatIsOn, StatesSayWhoHolds, LowestIsOn, LowestIsReleased}
-use Rattle.coil_guard.specs.Follows.{Follows}
 use Rattle.coil_guard.proofs.Following.{new_follows, calls_follow, followers_send_what_is_due, next_on-lowest, next_held-lowest}
 
 follows-calls : (limits : List CoilLimits) (calls : List CoilCall) (sent : List Sending) (s : List CoilState) (moment : ℕ) → AreInOrder moment calls → Follows limits sent s moment

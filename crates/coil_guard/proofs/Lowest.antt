@@ -1,11 +1,8 @@
 -- The lowest coil of which something is true.
 use Rattle.std.proofs.Common.{rules, ◌≡◌, ℕ, ◌<◌, zero, suc, Bool, true, if◌then◌else◌, Option, Some, None, IfSome, List, [], ◌∷◌, length, slice_index_or, refl, ap, ap₂, sym, subst, inl, inr, arith}
-use Rattle.std.proofs.lemmas.Bool.{cases_eq}
-use Rattle.std.proofs.lemmas.Option.{none-some}
+use Rattle.std.proofs.lemmas.{Bool.cases_eq, Option.none-some}
 use Rattle.plan_tables.specs.declared.entries.CoilId.{CoilId}
-use Rattle.coil_guard.specs.declared.state.CoilState.{CoilState}
-use Rattle.coil_guard.specs.Lowest.{first_of_two, lowest, IsLowest}
-use Rattle.coil_guard.specs.Coils.{coil_at}
+use Rattle.coil_guard.specs.{declared.state.CoilState.CoilState, Lowest.{first_of_two, lowest, IsLowest}, Coils.coil_at}
 
 pub lowest-same : (p q : CoilId → Bool) (n : ℕ) → ((coil : CoilId) → p coil ≡ q coil) → lowest p n ≡ lowest q n
 lowest-same p q n same = search rules

@@ -1,16 +1,12 @@
 -- One coil: after each command its state says what the sent commands say of it.
 use Rattle.std.proofs.Common.{rules, ◌≡◌, ◌⊎◌, ℕ, ◌+◌, ◌*◌, ◌<◌, ◌≤◌, ◌==◌, zero, suc, true, false, not, ◌&&◌, ◌||◌, Option, Some, None, is_some, List, [], ◌∷◌, ◌++◌, nat_le, nat_lt, refl, ap, ap₂, sym, ◌∙◌, inl, inr, arith}
 use Rattle.std.proofs.lemmas.Bool.{false≢true, not-true, ltb-true, leb-true, le-ltb, le-leb, eq-eqb, cases_lt, and_parts, and_from, and_left, and_right, or_cases, or_from, or_right}
-use Rattle.plan_tables.specs.declared.entries.Owner.{Owner}
-use Rattle.plan_tables.specs.declared.entries.CoilId.{CoilId}
-use Rattle.plan_tables.specs.declared.entries.CoilLimits.{CoilLimits}
-use Rattle.coil_guard.specs.declared.state.CoilState.{CoilState}
-use Rattle.coil_guard.specs.Owners.{is_holder}
-use Rattle.coil_guard.specs.Limits.{is_pulse_within, is_hold_within}
+use Rattle.plan_tables.specs.declared.entries.{Owner.Owner, CoilId.CoilId, CoilLimits.CoilLimits}
+use Rattle.coil_guard.specs.{declared.state.CoilState.CoilState, Limits.{is_pulse_within, is_hold_within}}
+use Rattle.coil_guard.specs.{Owners.is_holder, Follows.{IsApart, IsFollowed}}
 use Rattle.coil_guard.specs.CoilStep.{off, is_on_at, takes_pulse, pulsed, takes_enable, enabled, disabled}
 use Rattle.coil_guard.specs.SentCommands.{Sending, is_to, makes_rest, begins_on, ends_on, begins_hold, begins_hold_for, ends_hold, is_on, is_held, is_resting, IsOnThroughout}
 use Rattle.coil_guard.specs.Calls.{pulse_sent, enable_sent, disable_sent}
-use Rattle.coil_guard.specs.Follows.{IsApart, IsFollowed}
 use Rattle.coil_guard.proofs.Lasting.{or-false, lasts-push, lasts-begun, lasts-kept, lasts-ended, any-push, lt-either}
 
 not-owner : (owner : Owner) (o : Option Owner) → is_some o ≡ false → is_holder owner o ≡ false

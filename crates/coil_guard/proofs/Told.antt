@@ -1,12 +1,9 @@
 -- A board in memory tells a list that has grown by the command, or tells none any more.
-use Rattle.std.proofs.Common.{rules, ◌≡◌, ℕ, ◌+◌, ◌-◌, Bool, true, false, if◌then◌else◌, Some, None, Ok, List, [], ◌∷◌, ◌++◌, length, min, nat_le}
-use Rattle.std.proofs.lemmas.Bool.{le-leb, cases_lt}
-use Rattle.std.proofs.Math.Nat.{min-eq_left, min-eq_right}
-use Rattle.std.proofs.lemmas.List.{length-append}
+use Rattle.std.proofs.Common.{rules, ◌≡◌, ℕ, ◌+◌, ◌-◌, Ok, List, [], ◌∷◌, ◌++◌, min}
+use Rattle.std.proofs.{lemmas.{Bool.{le-leb, cases_lt}, List.length-append}, Math.Nat.{min-eq_left, min-eq_right}}
 use Rattle.circular_buffer.specs.Buffer.{keep_last}
-use Rattle.coil_guard.specs.declared.command.Command.{Command}
-use Rattle.coil_guard.specs.Boards.{IsToldAfter, MemoryView, told_by_memory, after_taking}
-use Rattle.coil_guard.specs.Inside.{IsMemory}
+use Rattle.coil_guard.specs.{declared.command.Command.Command, Inside.IsMemory}
+use Rattle.coil_guard.specs.Boards.{IsToldAfter, MemoryView, told_by_memory}
 
 -- the same by the facts of the call
 pub told-after : (command : Command) (kept : List Command) (room count : ℕ) (old : MemoryView) (items : List Command) (counted : ℕ) → record { kept = kept; count = count } ≡ old → IsMemory kept room count

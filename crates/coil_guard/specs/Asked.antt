@@ -1,12 +1,8 @@
 -- Commands that are asked for: each is sent, or skipped.
 use Rattle.std.specs.Prelude.{ℕ, List, map}
-use Rattle.plan_tables.specs.PlanView.{PlanView}
-use Rattle.plan_tables.specs.declared.entries.Owner.{Owner}
-use Rattle.plan_tables.specs.declared.entries.CoilLimits.{CoilLimits}
-use Rattle.coil_guard.specs.declared.command.Command.{Command}
+use Rattle.plan_tables.specs.{PlanView.PlanView, declared.entries.{Owner.Owner, CoilLimits.CoilLimits}}
+use Rattle.coil_guard.specs.declared.{command.{Command.Command, Answer.Answer}, state.CoilState.CoilState}
 use Rattle.coil_guard.specs.declared.command.Command.TheVariants as commands
-use Rattle.coil_guard.specs.declared.command.Answer.{Answer}
-use Rattle.coil_guard.specs.declared.state.CoilState.{CoilState}
 use Rattle.coil_guard.specs.Coils.{after_pulse, answer_pulse, after_enable, answer_enable, after_disable, answer_disable}
 
 -- the limits of a plan's coils, by number

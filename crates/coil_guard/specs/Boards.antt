@@ -1,8 +1,7 @@
 -- What a board says of itself, and what the boards of this crate do.
 use Rattle.std.specs.Prelude.{◌≡◌, ◌⊎◌, ◌<◌, ℕ, zero, suc, ◌+◌, ◌-◌, ◌^◌, ◌==◌, Bool, true, false, not, ◌&&◌, ◌||◌, if◌then◌else◌, Option, None, Some, IfSome, Result, Ok, Err, List, [], ◌∷◌, ◌++◌, length, drop, nat_le, min}
 use Rattle.circular_buffer.specs.Buffer.{keep_last}
-use Rattle.coil_guard.specs.declared.command.Command.{Command}
-use Rattle.coil_guard.specs.declared.board.BoardFault.{BoardFault}
+use Rattle.coil_guard.specs.declared.{command.Command.Command, board.BoardFault.BoardFault}
 
 -- ---- any board
 

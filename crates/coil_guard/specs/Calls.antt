@@ -1,15 +1,10 @@
 -- Lists of calls, and what they send.
 use Rattle.std.specs.Prelude.{ℕ, ◌≤◌, Bool, not, ◌&&◌, if◌then◌else◌, Option, None, Some, List, [], ◌∷◌, ◌++◌, length}
-use Rattle.plan_tables.specs.declared.entries.Owner.{Owner}
-use Rattle.plan_tables.specs.declared.entries.CoilId.{CoilId}
-use Rattle.plan_tables.specs.declared.entries.CoilLimits.{CoilLimits}
-use Rattle.coil_guard.specs.declared.command.Command.{Command}
+use Rattle.plan_tables.specs.declared.entries.{Owner.Owner, CoilId.CoilId, CoilLimits.CoilLimits}
+use Rattle.coil_guard.specs.declared.command.{Command.Command, Answer.{Answer, TheVariants.{Sent, Skipped}}}
 use Rattle.coil_guard.specs.declared.command.Command.TheVariants as commands
-use Rattle.coil_guard.specs.declared.command.Answer.{Answer}
-use Rattle.coil_guard.specs.declared.command.Answer.TheVariants.{Sent, Skipped}
-use Rattle.coil_guard.specs.declared.state.CoilState.{CoilState}
+use Rattle.coil_guard.specs.{declared.state.CoilState.CoilState, Lowest.lowest}
 use Rattle.coil_guard.specs.Limits.{limits_at, is_pulse_within, is_hold_within}
-use Rattle.coil_guard.specs.Lowest.{lowest}
 use Rattle.coil_guard.specs.Coils.{after_pulse, answer_pulse, after_enable, answer_enable, after_disable, answer_disable, after_release, answer_release}
 use Rattle.coil_guard.specs.SentCommands.{Sending, is_on, is_held, is_held_for, is_resting}
 

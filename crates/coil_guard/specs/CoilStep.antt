@@ -1,9 +1,7 @@
 -- A coil, and what is done with it.
 use Rattle.std.specs.Prelude.{ℕ, ◌+◌, ◌*◌, Bool, not, ◌&&◌, ◌||◌, None, Some, is_some, nat_le, nat_lt}
-use Rattle.plan_tables.specs.declared.entries.Owner.{Owner}
-use Rattle.plan_tables.specs.declared.entries.CoilLimits.{CoilLimits}
-use Rattle.coil_guard.specs.declared.state.CoilState.{CoilState}
-use Rattle.coil_guard.specs.Owners.{is_holder}
+use Rattle.plan_tables.specs.declared.entries.{Owner.Owner, CoilLimits.CoilLimits}
+use Rattle.coil_guard.specs.{declared.state.CoilState.CoilState, Owners.is_holder}
 use Rattle.coil_guard.specs.Limits.{is_pulse_within, is_hold_within}
 
 -- a coil to which nothing has been sent

@@ -1,16 +1,10 @@
 -- All coils, by number, and what each call does with them.
 use Rattle.std.specs.Prelude.{ℕ, if◌then◌else◌, Option, None, Some, option_map, List, length, map, slice_index_or, slice_set}
-use Rattle.plan_tables.specs.declared.entries.Owner.{Owner}
-use Rattle.plan_tables.specs.declared.entries.CoilId.{CoilId}
-use Rattle.plan_tables.specs.declared.entries.CoilLimits.{CoilLimits}
-use Rattle.coil_guard.specs.declared.command.Command.{Command}
+use Rattle.plan_tables.specs.declared.entries.{Owner.Owner, CoilId.CoilId, CoilLimits.CoilLimits}
+use Rattle.coil_guard.specs.declared.command.{Command.Command, Answer.{Answer, TheVariants.{Sent, Skipped}}}
 use Rattle.coil_guard.specs.declared.command.Command.TheVariants as commands
-use Rattle.coil_guard.specs.declared.command.Answer.{Answer}
-use Rattle.coil_guard.specs.declared.command.Answer.TheVariants.{Sent, Skipped}
-use Rattle.coil_guard.specs.declared.state.CoilState.{CoilState}
-use Rattle.coil_guard.specs.Limits.{no_limits}
+use Rattle.coil_guard.specs.{declared.state.CoilState.CoilState, Limits.no_limits, Lowest.lowest}
 use Rattle.coil_guard.specs.CoilStep.{off, is_on_at, is_held_by, takes_pulse, pulsed, takes_enable, enabled, disabled}
-use Rattle.coil_guard.specs.Lowest.{lowest}
 
 -- the coil of this number; where there is none, one to which nothing is ever sent
 abbrev pub coil_at : List CoilState → CoilId → CoilState

@@ -1,14 +1,9 @@
 -- The state of a guard and the commands that it has sent. What drives a guard keeps this from call to call, and then
 -- has the laws without a list of calls.
 use Rattle.std.specs.Prelude.{◌≡◌, ℕ, ◌+◌, ◌<◌, ◌≤◌, true, false, is_some, List, [], ◌++◌, length, nat_lt, All}
-use Rattle.plan_tables.specs.declared.entries.Owner.{Owner}
-use Rattle.plan_tables.specs.declared.entries.CoilId.{CoilId}
-use Rattle.plan_tables.specs.declared.entries.CoilLimits.{CoilLimits}
-use Rattle.coil_guard.specs.declared.state.CoilState.{CoilState}
-use Rattle.coil_guard.specs.Owners.{is_holder}
-use Rattle.coil_guard.specs.Limits.{limits_at, IsWithin}
-use Rattle.coil_guard.specs.CoilStep.{is_on_at}
-use Rattle.coil_guard.specs.Coils.{coil_at, all_off}
+use Rattle.plan_tables.specs.declared.entries.{Owner.Owner, CoilId.CoilId, CoilLimits.CoilLimits}
+use Rattle.coil_guard.specs.{declared.state.CoilState.CoilState, Owners.is_holder, CoilStep.is_on_at}
+use Rattle.coil_guard.specs.{Limits.{limits_at, IsWithin}, Coils.{coil_at, all_off}}
 use Rattle.coil_guard.specs.SentCommands.{Sending, is_on, is_held, is_held_for, is_resting, IsOnThroughout}
 use Rattle.coil_guard.specs.Calls.{CoilCall, moment_of, after_call, sent_by, due_by}
 

@@ -1,12 +1,8 @@
 -- What holds after every list of calls from `new` on whose moments do not go back.
 use Rattle.std.specs.Prelude.{◌≡◌, ℕ, ◌≤◌, false, List, length, All}
-use Rattle.plan_tables.specs.declared.entries.Owner.{Owner}
-use Rattle.plan_tables.specs.declared.entries.CoilId.{CoilId}
-use Rattle.plan_tables.specs.declared.entries.CoilLimits.{CoilLimits}
-use Rattle.coil_guard.specs.declared.state.CoilState.{CoilState}
-use Rattle.coil_guard.specs.Limits.{limits_at, IsWithin}
-use Rattle.coil_guard.specs.CoilStep.{is_on_at, is_held_by}
-use Rattle.coil_guard.specs.Lowest.{IsLowest}
+use Rattle.plan_tables.specs.declared.entries.{Owner.Owner, CoilId.CoilId, CoilLimits.CoilLimits}
+use Rattle.coil_guard.specs.{declared.state.CoilState.CoilState, CoilStep.{is_on_at, is_held_by}}
+use Rattle.coil_guard.specs.{Limits.{limits_at, IsWithin}, Lowest.IsLowest}
 use Rattle.coil_guard.specs.Coils.{coil_at, all_off, next_held, next_on}
 use Rattle.coil_guard.specs.SentCommands.{Sending, is_on, is_held_for, IsOnThroughout}
 use Rattle.coil_guard.specs.Calls.{CoilCall, moment_of, sent_by, after_calls, sent_by_calls, last_moment, AreInOrder, due_by}

@@ -1,9 +1,7 @@
 -- What a coil may be sent.
 use Rattle.std.specs.Prelude.{◌≡◌, ◌≤◌, ℕ, Bool, true, false, ◌&&◌, List, nat_le, slice_index_or}
-use Rattle.plan_tables.specs.declared.entries.CoilId.{CoilId}
-use Rattle.plan_tables.specs.declared.entries.CoilLimits.{CoilLimits}
-use Rattle.coil_guard.specs.declared.command.Command.{Command}
-use Rattle.coil_guard.specs.declared.command.Command.TheVariants.{Pulse, Enable, Disable}
+use Rattle.plan_tables.specs.declared.entries.{CoilId.CoilId, CoilLimits.CoilLimits}
+use Rattle.coil_guard.specs.declared.command.Command.{Command, TheVariants.{Pulse, Enable, Disable}}
 
 -- in place of the limits where there is no coil: no pulse and no hold is within them
 abbrev pub no_limits : CoilLimits

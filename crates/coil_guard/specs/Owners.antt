@@ -1,7 +1,6 @@
 -- For whom a coil is held.
 use Rattle.std.specs.Prelude.{Bool, false, Option, None, Some}
-use Rattle.plan_tables.specs.PlanView.{is_owner}
-use Rattle.plan_tables.specs.declared.entries.Owner.{Owner}
+use Rattle.plan_tables.specs.{PlanView.is_owner, declared.entries.Owner.Owner}
 
 -- whether it is this owner, if there is one
 abbrev pub is_holder : Owner → Option Owner → Bool

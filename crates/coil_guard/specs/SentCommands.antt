@@ -1,11 +1,8 @@
 -- What sent commands say of a coil: whether it is on, held, or resting. No state of the guard is looked at.
 use Rattle.std.specs.Prelude.{◌≡◌, ℕ, ◌+◌, ◌*◌, ◌<◌, ◌≤◌, ◌==◌, Bool, true, false, not, ◌&&◌, ◌||◌, Option, List, [], ◌∷◌, nat_le, nat_lt}
 use Rattle.std.specs.List.{list_all, list_any}
-use Rattle.plan_tables.specs.declared.entries.Owner.{Owner}
-use Rattle.plan_tables.specs.declared.entries.CoilId.{CoilId}
-use Rattle.coil_guard.specs.declared.command.Command.{Command}
-use Rattle.coil_guard.specs.declared.command.Command.TheVariants.{Pulse, Enable, Disable}
-use Rattle.coil_guard.specs.Owners.{is_holder}
+use Rattle.plan_tables.specs.declared.entries.{Owner.Owner, CoilId.CoilId}
+use Rattle.coil_guard.specs.{declared.command.Command.{Command, TheVariants.{Pulse, Enable, Disable}}, Owners.is_holder}
 
 -- a sent command, the moment at which it was sent, and for whom, if it is an enable
 pub record Sending : Type 0 where

@@ -1,33 +1,20 @@
 -- What devices answer is among their outcomes.
 use Rattle.std.proofs.Common.{rules, ◌≡◌, ℕ, zero, ◌==◌, suc, nat_lt, nat_le, ◌<◌, Bool, true, false, Option, Some, List, [], ◌∷◌, ◌++◌, length, take, slice_get, slice_set, if◌then◌else◌, is_some, refl, sym, ◌∙◌, ◌&&◌, not, ℤ, ◌+ℤ◌, ◌-ℤ◌, arith}
-use Rattle.std.specs.List.{list_all, range_with_len}
-use Rattle.std.proofs.lemmas.List.{append-nil}
-use Rattle.std.proofs.lemmas.Option.{none-some}
+use Rattle.std.{specs.List.{list_all, range_with_len}, proofs.lemmas.{List.append-nil, Option.none-some}}
 use Rattle.std.proofs.lemmas.Bool.{and_from, and_parts, eq-eqb, leb-true, ltb-true, lt-ltb, false≢true, true≢false}
-use Rattle.plan_tables.specs.declared.devices.BankSettings.{BankSettings}
-use Rattle.machine_settings.specs.declared.settings.BlockSettings.{BlockSettings}
-use Rattle.machine_settings.specs.declared.settings.CounterSettings.{CounterSettings}
-use Rattle.machine_settings.specs.declared.settings.StepSettings.{StepSettings}
-use Rattle.machine_settings.specs.declared.settings.TimerSettings.{TimerSettings}
+use Rattle.plan_tables.specs.{declared.devices.{BankSettings.BankSettings, Act.Act}, Devices.state_count}
+use Rattle.machine_settings.specs.declared.settings.{BlockSettings.BlockSettings, StepSettings.StepSettings}
+use Rattle.machine_settings.specs.declared.settings.{CounterSettings.CounterSettings, TimerSettings.TimerSettings}
 use Rattle.plan_tables.specs.declared.devices.Settings.TheVariants as kinds
-use Rattle.machine_settings.specs.declared.words.Direction.{Direction}
-use Rattle.plan_tables.specs.declared.devices.Act.{Act}
+use Rattle.machine_settings.specs.{declared.words.Direction.Direction, Ends.is_at_end}
 use Rattle.plan_tables.specs.declared.devices.Act.TheVariants as acts
-use Rattle.plan_tables.specs.Devices.{state_count}
-use Rattle.device_objects.specs.declared.device.Call.{Call}
+use Rattle.device_objects.specs.declared.{device.Call.Call, state.{BankSlot.BankSlot, World.World}}
 use Rattle.device_objects.specs.declared.device.Call.TheVariants as calls
-use Rattle.device_objects.specs.declared.state.CounterSlot.{CounterSlot}
-use Rattle.device_objects.specs.declared.state.AccrualSlot.{AccrualSlot}
-use Rattle.device_objects.specs.declared.state.SequenceSlot.{SequenceSlot}
-use Rattle.device_objects.specs.declared.state.TimerState.{TimerState}
-use Rattle.device_objects.specs.declared.state.BankSlot.{BankSlot}
-use Rattle.device_objects.specs.declared.state.FlipperState.{FlipperState}
-use Rattle.device_objects.specs.declared.state.AutofireState.{AutofireState}
+use Rattle.device_objects.specs.declared.state.{CounterSlot.CounterSlot, FlipperState.FlipperState}
+use Rattle.device_objects.specs.declared.state.{AccrualSlot.AccrualSlot, TimerState.TimerState}
+use Rattle.device_objects.specs.declared.state.{SequenceSlot.SequenceSlot, AutofireState.AutofireState}
 use Rattle.device_objects.specs.declared.state.DeviceState.TheVariants as states
-use Rattle.device_objects.specs.declared.state.World.{World}
-use Rattle.machine_settings.specs.Ends.{is_at_end}
-use Rattle.device_objects.specs.Values.{clamped, moved}
-use Rattle.device_objects.specs.Slots.{updated}
+use Rattle.device_objects.specs.{Values.{clamped, moved}, Slots.updated, Laws.{MayCome, AnswersAreOutcomes}}
 use Rattle.device_objects.specs.Counter as counter
 use Rattle.device_objects.specs.Accrual as accrual
 use Rattle.device_objects.specs.Sequence as sequence
@@ -35,13 +22,9 @@ use Rattle.device_objects.specs.Timer as timer
 use Rattle.device_objects.specs.Bank as bank
 use Rattle.device_objects.specs.Flipper as flipper
 use Rattle.device_objects.specs.Autofire as autofire
-use Rattle.device_objects.specs.Laws.{MayCome, AnswersAreOutcomes}
 use Rattle.device_objects.specs.Outcomes.{silent, only_if, completing, going_on, resetting, of_counter, of_accrual, of_sequence, of_timer, of_timer_act, of_hit_in, of_hit, of_bank, of_switch, of_flipper, of_autofire, timer_completing, outcomes}
-use Rattle.device_objects.proofs.Slots.{in_use-answers}
+use Rattle.device_objects.proofs.{Slots.in_use-answers, BallAnswers.ball-in, Saves.save-in, Multiballs.multiball-in}
 use Rattle.device_objects.proofs.Among.{In, here, there, contains, at_last, in_range, in_flat_map, if_holds, by, either}
-use Rattle.device_objects.proofs.BallAnswers.{ball-in}
-use Rattle.device_objects.proofs.Saves.{save-in}
-use Rattle.device_objects.proofs.Multiballs.{multiball-in}
 
 -- ---- values
 

@@ -1,38 +1,23 @@
 -- Each outcome is the answer of some state.
 use Rattle.std.proofs.Common.{rules, ◌≡◌, ◌≢◌, ◌⊎◌, inl, inr, ℕ, zero, ◌==◌, suc, nat_lt, ◌<◌, ◌≤◌, Bool, true, false, Option, None, Some, List, [], ◌∷◌, ◌++◌, length, replicate, take, get_or, slice_get, slice_set, if◌then◌else◌, is_some, refl, sym, ap, not, ◌∙◌, ◌&&◌, ℤ, pos, neg_ℤ, ◌+ℤ◌, ◌-ℤ◌, arith}
-use Rattle.std.specs.List.{All, list_all}
-use Rattle.std.specs.Prelude.{int_le}
-use Rattle.std.specs.Prelude.{◌≤ℤ◌}
-use Rattle.std.proofs.lemmas.Int.{ints}
-use Rattle.std.proofs.lemmas.List.Elements.{All-cons, All-append, All-replicate, All-set}
-use Rattle.std.proofs.lemmas.List.Folds.{list_all_at}
+use Rattle.std.{specs.{List.{All, list_all}, Prelude.{int_le, ◌≤ℤ◌}}, proofs.lemmas.{Int.ints, Option.slice_get-get_or}}
+use Rattle.std.proofs.lemmas.List.{Elements.{All-cons, All-append, All-replicate, All-set}, Folds.list_all_at}
 use Rattle.std.proofs.lemmas.List.{get_or-replicate, get_or-set_other, get_or-set_same, get_or-take, length-replicate, length-set, length-take, set-set, take-replicate}
-use Rattle.std.proofs.lemmas.Option.{slice_get-get_or}
 use Rattle.std.proofs.lemmas.Bool.{and_from, and_parts, cases_Bool, eq-eqb, eqb-false, ltb-true, ne_eqb, false≢true}
-use Rattle.plan_tables.specs.declared.devices.BankSettings.{BankSettings}
+use Rattle.plan_tables.specs.declared.devices.{BankSettings.BankSettings, Settings.Settings, Act.Act}
 use Rattle.machine_settings.specs.declared.settings.CounterSettings.{CounterSettings}
-use Rattle.machine_settings.specs.declared.settings.StepSettings.{StepSettings}
-use Rattle.machine_settings.specs.declared.settings.TimerSettings.{TimerSettings}
-use Rattle.plan_tables.specs.declared.devices.Settings.{Settings}
+use Rattle.machine_settings.specs.declared.settings.{StepSettings.StepSettings, TimerSettings.TimerSettings}
 use Rattle.plan_tables.specs.declared.devices.Settings.TheVariants as kinds
-use Rattle.machine_settings.specs.declared.words.Direction.{Direction}
-use Rattle.machine_settings.specs.declared.words.Direction.TheVariants.{Up, Down}
-use Rattle.plan_tables.specs.declared.devices.Act.{Act}
+use Rattle.machine_settings.specs.declared.words.Direction.{Direction, TheVariants.{Up, Down}}
 use Rattle.plan_tables.specs.declared.devices.Act.TheVariants as acts
-use Rattle.machine_settings.specs.Limits.{IsEndWithin}
+use Rattle.machine_settings.specs.{Limits.IsEndWithin, Ends.is_at_end}
 use Rattle.plan_tables.specs.Devices.{IsWithinLimits, state_count}
-use Rattle.device_objects.specs.declared.device.Call.{Call}
+use Rattle.device_objects.specs.declared.{device.Call.Call, state.{AccrualSlot.AccrualSlot, TimerState.TimerState}}
 use Rattle.device_objects.specs.declared.device.Call.TheVariants as calls
-use Rattle.device_objects.specs.declared.state.CounterSlot.{CounterSlot}
-use Rattle.device_objects.specs.declared.state.AccrualSlot.{AccrualSlot}
-use Rattle.device_objects.specs.declared.state.SequenceSlot.{SequenceSlot}
-use Rattle.device_objects.specs.declared.state.TimerState.{TimerState}
-use Rattle.device_objects.specs.declared.state.BankSlot.{BankSlot}
-use Rattle.device_objects.specs.declared.state.FlipperState.{FlipperState}
+use Rattle.device_objects.specs.declared.state.{CounterSlot.CounterSlot, FlipperState.FlipperState}
+use Rattle.device_objects.specs.declared.state.{SequenceSlot.SequenceSlot, BankSlot.BankSlot, World.World}
 use Rattle.device_objects.specs.declared.state.DeviceState.TheVariants as states
-use Rattle.device_objects.specs.declared.state.World.{World}
-use Rattle.machine_settings.specs.Ends.{is_at_end}
-use Rattle.device_objects.specs.Values.{clamped, moved}
+use Rattle.device_objects.specs.{Values.{clamped, moved}, DeviceStep.{first_state, device_step}}
 use Rattle.device_objects.specs.Slots.{updated, slot_in_use, is_of_other_game, step_in_use}
 use Rattle.device_objects.specs.Counter as counter
 use Rattle.device_objects.specs.Accrual as accrual
@@ -41,14 +26,10 @@ use Rattle.device_objects.specs.Timer as timer
 use Rattle.device_objects.specs.Bank as bank
 use Rattle.device_objects.specs.Flipper as flipper
 use Rattle.device_objects.specs.Autofire as autofire
-use Rattle.device_objects.specs.DeviceStep.{first_state, device_step}
-use Rattle.device_objects.proofs.Flat.{All-flat_map_range}
+use Rattle.device_objects.proofs.{Flat.All-flat_map_range, BallAttained.ball-comes}
 use Rattle.device_objects.proofs.Among.{none, one, all_if, by_test, if_true, if_false}
-use Rattle.device_objects.proofs.BallAttained.{ball-comes}
-use Rattle.device_objects.proofs.Saves.{save-comes}
-use Rattle.device_objects.proofs.Multiballs.{multiball_acts}
-use Rattle.device_objects.proofs.Shapes.{first-shape, next-within}
-use Rattle.device_objects.proofs.Answered.{completed-is}
+use Rattle.device_objects.proofs.{Saves.save-comes, Answered.completed-is}
+use Rattle.device_objects.proofs.{Multiballs.multiball_acts, Shapes.{first-shape, next-within}}
 use Rattle.device_objects.specs.Laws.{HasBankShape, IsAnswer, MayCome, OutcomesComeAbout}
 use Rattle.device_objects.specs.Outcomes.{only_if, completing, going_on, resetting, of_counter, of_accrual, of_sequence, of_timer, of_timer_act, of_change, can_complete, hit_completing, of_hit_in, of_hit, of_bank, of_switch, of_flipper, of_autofire, timer_completing}
 

@@ -2,26 +2,18 @@
 use Rattle.std.proofs.Common.{rules, ◌≡◌, ℕ, zero, suc, ◌+◌, ◌<◌, ◌≤◌, min, max, inl, inr, Bool, true, false, Option, None, Some, unwrap_or, is_some, List, [], ◌∷◌, ◌++◌, ◌&&◌, ◌||◌, not, drop, replicate, nat_lt, refl, ap, ◌∙◌, arith}
 use Rattle.std.specs.List.{All}
 use Rattle.std.proofs.lemmas.Bool.{and_from, and_left, and_parts, cases_Bool, lt-ltb, ltb-true, or_cases, or_right}
-use Rattle.std.proofs.lemmas.List.{append-nil}
-use Rattle.std.proofs.lemmas.List.Elements.{All-append, All-cons, All-drop, All-replicate}
-use Rattle.plan_tables.specs.declared.devices.Act.{Act}
+use Rattle.std.proofs.lemmas.List.{append-nil, Elements.{All-append, All-cons, All-drop, All-replicate}}
+use Rattle.plan_tables.specs.{declared.devices.{Act.Act, BallSettings.BallSettings}, Devices.IsWithinLimits}
 use Rattle.plan_tables.specs.declared.devices.Act.TheVariants as acts
-use Rattle.plan_tables.specs.declared.devices.BallSettings.{BallSettings}
 use Rattle.plan_tables.specs.declared.devices.Settings.TheVariants as kinds
-use Rattle.plan_tables.specs.Devices.{IsWithinLimits}
-use Rattle.device_objects.specs.declared.device.Call.{Call}
+use Rattle.device_objects.specs.declared.{device.Call.Call, state.Eject.{Eject, TheVariants.{Idle, Pulsing, Away}}}
 use Rattle.device_objects.specs.declared.device.Call.TheVariants as calls
-use Rattle.device_objects.specs.declared.state.Attempt.{Attempt}
-use Rattle.device_objects.specs.declared.state.BallSwitch.{BallSwitch}
-use Rattle.device_objects.specs.declared.state.BallState.{BallState}
-use Rattle.device_objects.specs.declared.state.Eject.{Eject}
-use Rattle.device_objects.specs.declared.state.Eject.TheVariants.{Idle, Pulsing, Away}
+use Rattle.device_objects.specs.declared.state.{Attempt.Attempt, BallSwitch.BallSwitch, BallState.BallState}
 use Rattle.device_objects.specs.declared.state.DeviceState.TheVariants as states
 use Rattle.device_objects.specs.BallDevice.{empty, first_state, set_switch, turned, entered, attempted, left, lost, failed, attempt, can_begin, begin, after, ended, may_try_again, next_number, ball_step}
 use Rattle.device_objects.specs.Laws.{IsEjectOf, HasBallShape, IsAnswer, MayCome}
 use Rattle.device_objects.specs.Outcomes.{only_if, may_begin, may_eject, ending, of_count, of_attempt, of_ball_fire, of_ball_act, of_ball_device}
-use Rattle.device_objects.proofs.Among.{one, all_if, if_true, if_false}
-use Rattle.device_objects.proofs.BallShapes.{first_attempt, first_ball-shape}
+use Rattle.device_objects.proofs.{Among.{one, all_if, if_true, if_false}, BallShapes.{first_attempt, first_ball-shape}}
 
 -- ---- states
 

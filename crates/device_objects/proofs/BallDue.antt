@@ -1,8 +1,6 @@
 -- Which part of a ball device is due first.
 use Rattle.std.proofs.Common.{rules, ◌≡◌, ℕ, zero, suc, ◌+◌, ◌<◌, ◌≤◌, ◌⊎◌, inl, inr, Bool, true, false, Option, None, Some, List, [], ◌∷◌, length, map, option_map, get_or, nat_le, if◌then◌else◌, refl, ap, ◌∙◌, arith}
-use Rattle.std.proofs.lemmas.Bool.{cases_lt, leb-true, leb-false}
-use Rattle.std.proofs.lemmas.List.{get_or_past}
-use Rattle.std.proofs.lemmas.Option.{none-some, same_Some}
+use Rattle.std.proofs.lemmas.{Bool.{cases_lt, leb-true, leb-false}, List.get_or_past, Option.{none-some, same_Some}}
 use Rattle.plan_tables.specs.Due.{sooner}
 use Rattle.device_objects.specs.declared.state.BallSwitch.{BallSwitch}
 use Rattle.device_objects.specs.BallDevice.{empty, first_due_from, parts, not_due}

@@ -1,14 +1,9 @@
 -- Each effect list that a ball device answers is one of its seven.
 use Rattle.std.proofs.Common.{rules, ℕ, ◌<◌, Bool, Option, List, [], ◌∷◌, if◌then◌else◌}
-use Rattle.std.specs.List.{All}
-use Rattle.std.proofs.lemmas.List.Elements.{All-cons}
-use Rattle.plan_tables.specs.declared.devices.Act.{Act}
-use Rattle.plan_tables.specs.declared.devices.BallSettings.{BallSettings}
-use Rattle.device_objects.specs.declared.device.Call.{Call}
-use Rattle.device_objects.specs.declared.state.BallState.{BallState}
-use Rattle.device_objects.specs.declared.state.Eject.{Eject}
-use Rattle.device_objects.specs.BallDevice.{time_out, count_due, fire, act_step, ball_step}
-use Rattle.device_objects.proofs.Among.{none, one}
+use Rattle.std.{specs.List.All, proofs.lemmas.List.Elements.All-cons}
+use Rattle.plan_tables.specs.declared.devices.{Act.Act, BallSettings.BallSettings}
+use Rattle.device_objects.specs.declared.{device.Call.Call, state.{BallState.BallState, Eject.Eject}}
+use Rattle.device_objects.{specs.BallDevice.{time_out, count_due, fire, act_step, ball_step}, proofs.Among.{none, one}}
 
 -- each is one of the seven
 abbrev AreLists : List ℕ → Type 0

@@ -1,24 +1,16 @@
 -- When ball devices are due.
 use Rattle.std.proofs.Common.{rules, ◌≡◌, ℕ, zero, suc, ◌+◌, ◌<◌, ◌≤◌, min, ◌⊎◌, inl, inr, Bool, true, false, Option, None, Some, IfSome, is_some, List, [], ◌∷◌, length, get_or, set, option_map, nat_lt, if◌then◌else◌, refl, sym, ap, ◌∙◌, subst, arith}
-use Rattle.std.proofs.lemmas.Bool.{cases_lt, le-ltb, lt-ltb, ltb-true, ltb-false}
-use Rattle.std.proofs.lemmas.List.{length-map, length-set}
+use Rattle.std.proofs.lemmas.{Bool.{cases_lt, le-ltb, lt-ltb, ltb-true, ltb-false}, List.{length-map, length-set}}
 use Rattle.std.proofs.lemmas.Option.{IfSome_then, MatchOption-from_none, none-some, same_Some}
-use Rattle.plan_tables.specs.declared.devices.Act.{Act}
+use Rattle.plan_tables.specs.{declared.devices.{Act.Act, BallSettings.BallSettings}, Devices.IsBallDeviceWithin}
 use Rattle.plan_tables.specs.declared.devices.Act.TheVariants as acts
-use Rattle.plan_tables.specs.declared.devices.BallSettings.{BallSettings}
 use Rattle.plan_tables.specs.declared.devices.Settings.TheVariants as kinds
-use Rattle.plan_tables.specs.Devices.{IsBallDeviceWithin}
-use Rattle.device_objects.specs.declared.device.Call.{Call}
+use Rattle.device_objects.specs.declared.{device.Call.Call, state.{BallState.BallState, World.World}}
 use Rattle.device_objects.specs.declared.device.Call.TheVariants as calls
-use Rattle.device_objects.specs.declared.state.BallSwitch.{BallSwitch}
-use Rattle.device_objects.specs.declared.state.BallState.{BallState}
-use Rattle.device_objects.specs.declared.state.Eject.{Eject}
-use Rattle.device_objects.specs.declared.state.Eject.TheVariants.{Idle}
+use Rattle.device_objects.specs.declared.state.{BallSwitch.BallSwitch, Eject.{Eject, TheVariants.Idle}}
 use Rattle.device_objects.specs.declared.state.DeviceState.TheVariants as states
-use Rattle.device_objects.specs.declared.state.World.{World}
 use Rattle.device_objects.specs.BallDevice.{empty, switch_at, set_switch, first_due, first_due_from, timeout_of, earlier, due_of, part_due, is_timeout_first, entered, attempt, can_begin, begin, after, time_out, confirm, delay, switched, turned, gone, count, count_due, fire, fire_part, requested, act_step, halted, ball_step}
-use Rattle.device_objects.specs.DeviceStep.{ball_answer}
-use Rattle.device_objects.specs.Laws.{IsDone, IsFirstPart, FiresFirstPart}
+use Rattle.device_objects.specs.{DeviceStep.ball_answer, Laws.{IsDone, IsFirstPart, FiresFirstPart}}
 use Rattle.device_objects.proofs.BallDue.{not_due-none, first_due-none, first_due-is_due, first_due-is_first, first_due-is_lowest, due-inside, part-of_switch, part-of_attempt, part-past, switch-is_part, which_part}
 
 -- ---- what a step arms

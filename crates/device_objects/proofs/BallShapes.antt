@@ -1,22 +1,15 @@
 -- Ball devices keep their shape.
 use Rattle.std.proofs.Common.{rules, ◌≡◌, ℕ, ◌+◌, ◌-◌, ◌<◌, ◌≤◌, inl, inr, Bool, true, false, Option, Some, List, length, get_or, drop, map, nat_lt, if◌then◌else◌, sym, ap, ◌∙◌, arith}
-use Rattle.std.specs.List.{All}
-use Rattle.std.proofs.lemmas.Bool.{cases_lt, ltb-true}
+use Rattle.std.{specs.List.All, proofs.lemmas.{Bool.{cases_lt, ltb-true}, Option.none-some}}
 use Rattle.std.proofs.lemmas.List.{drop-map, get_or-drop, get_or_past, length-drop, length-map, length-set, drop-set-lt}
 use Rattle.std.proofs.lemmas.List.Elements.{All-drop, All-map, All-replicate, All-same, All-weaker}
-use Rattle.std.proofs.lemmas.Option.{none-some}
-use Rattle.plan_tables.specs.declared.devices.Act.{Act}
+use Rattle.plan_tables.specs.declared.devices.{Act.Act, BallSettings.BallSettings}
 use Rattle.plan_tables.specs.declared.devices.Act.TheVariants as acts
-use Rattle.plan_tables.specs.declared.devices.BallSettings.{BallSettings}
-use Rattle.device_objects.specs.declared.device.Call.{Call}
+use Rattle.device_objects.specs.declared.{device.Call.Call, state.Eject.{Eject, TheVariants.Idle}}
 use Rattle.device_objects.specs.declared.device.Call.TheVariants as calls
-use Rattle.device_objects.specs.declared.state.BallSwitch.{BallSwitch}
-use Rattle.device_objects.specs.declared.state.BallState.{BallState}
-use Rattle.device_objects.specs.declared.state.Eject.{Eject}
-use Rattle.device_objects.specs.declared.state.Eject.TheVariants.{Idle}
+use Rattle.device_objects.specs.declared.state.{BallSwitch.BallSwitch, BallState.BallState}
 use Rattle.device_objects.specs.BallDevice.{empty, first_state, set_switch, has_ball, first_due, can_begin, begin, ended, may_try_again, next_number, time_out, confirm, switched, gone, count, count_due, fire, requested, act_step, halted, not_due, ball_step}
-use Rattle.device_objects.specs.Laws.{IsAttempt, IsEjectOf, HasBallShape}
-use Rattle.device_objects.proofs.BallDue.{first_due-is_due}
+use Rattle.device_objects.{specs.Laws.{IsAttempt, IsEjectOf, HasBallShape}, proofs.BallDue.first_due-is_due}
 
 -- ---- ball switches that a device does not have
 

@@ -1,14 +1,11 @@
 -- Sixteen flags, and the bits of the number that keeps them.
 use Rattle.std.proofs.Common.{rules, ◌≡◌, ◌≢◌, ℕ, zero, suc, ◌+◌, ◌^◌, ◌<◌, ◌≤◌, ◌==◌, nat_le, min, inl, inr, Bool, true, false, None, Some, List, [], ◌∷◌, length, take, replicate, set, get_or, slice_get, refl, sym, ap, ◌∙◌, subst, arith}
-use Rattle.std.specs.Int.{bit_at, trailing_ones, w16}
+use Rattle.std.specs.{Int.{bit_at, trailing_ones, w16}, List.list_all}
 use lib.Count.{count_trailing_zeros}
-use Rattle.std.specs.List.{list_all}
 use Rattle.std.proofs.lemmas.Bool.{and_from, cases_eq, cases_lt, eq-eqb, le-leb, leb-true, leb-false}
 use Rattle.std.proofs.lemmas.List.{ext_get_or, get_or-set_same, get_or-set_other, get_or-take, length-set, length-take}
-use Rattle.std.proofs.lemmas.List.Folds.{list_all_at}
-use Rattle.std.proofs.lemmas.Nat.Bits.{bit_at_ones, bit_at-trailing_ones}
-use Rattle.std.proofs.lemmas.List.FromFn.{get_or-map-range_with_len}
-use Rattle.std.proofs.lemmas.Option.{slice_get-get_or, slice_get_past}
+use Rattle.std.proofs.lemmas.List.{Folds.list_all_at, FromFn.get_or-map-range_with_len}
+use Rattle.std.proofs.lemmas.{Nat.Bits.{bit_at_ones, bit_at-trailing_ones}, Option.{slice_get-get_or, slice_get_past}}
 use Rattle.device_objects.specs.Flags.{is_set, flags}
 
 pub flags-length : (mask : ℕ) → length (flags mask) ≡ 16

@@ -1,11 +1,9 @@
 -- A ball save is not active, and a multiball is not running, at first and when its mode has stopped.
-use Rattle.std.proofs.Common.{rules, ◌≡◌, ℕ, false, IfSome}
+use Rattle.std.proofs.Common.{rules, ℕ}
 use Rattle.plan_tables.specs.declared.devices.Settings.{Settings}
 use Rattle.device_objects.specs.declared.device.Call.TheVariants as calls
-use Rattle.device_objects.specs.declared.state.DeviceState.{DeviceState}
-use Rattle.device_objects.specs.declared.state.World.{World}
-use Rattle.device_objects.specs.DeviceStep.{first_state, device_step, save_state, multiball_state, IsInactive}
-use Rattle.device_objects.specs.Laws.{HasShape}
+use Rattle.device_objects.specs.declared.state.{DeviceState.DeviceState, World.World}
+use Rattle.device_objects.specs.{DeviceStep.{first_state, device_step, IsInactive}, Laws.HasShape}
 
 pub first-inactive : (settings : Settings) → IsInactive (first_state settings)
 first-inactive settings = search rules

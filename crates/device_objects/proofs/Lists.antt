@@ -1,30 +1,19 @@
 -- Each effect list that a device answers is one of its row.
 use Rattle.std.proofs.Common.{rules, ◌≡◌, ℕ, suc, ◌+◌, ◌*◌, nat_lt, ◌<◌, ◌≤◌, Bool, true, Option, List, [], ◌∷◌, if◌then◌else◌, arith}
-use Rattle.std.specs.List.{All}
-use Rattle.std.proofs.Math.Nat.{mul-le-mul_left}
-use Rattle.std.proofs.lemmas.Bool.{and_parts, ltb-true}
-use Rattle.std.proofs.lemmas.List.Elements.{All-nil, All-cons, All-append, All-contains}
+use Rattle.std.{specs.List.All, proofs.Math.Nat.mul-le-mul_left}
+use Rattle.std.proofs.lemmas.{Bool.{and_parts, ltb-true}, List.Elements.{All-nil, All-cons, All-append, All-contains}}
 use Rattle.plan_tables.specs.Devices.{state_count, list_count}
-use Rattle.plan_tables.specs.declared.devices.Act.{Act}
+use Rattle.plan_tables.specs.declared.devices.{Act.Act, BankSettings.BankSettings, Settings.Settings}
 use Rattle.plan_tables.specs.declared.devices.Act.TheVariants as acts
-use Rattle.plan_tables.specs.declared.devices.BankSettings.{BankSettings}
-use Rattle.machine_settings.specs.declared.settings.CounterSettings.{CounterSettings}
-use Rattle.machine_settings.specs.declared.settings.StepSettings.{StepSettings}
+use Rattle.machine_settings.specs.declared.settings.{CounterSettings.CounterSettings, StepSettings.StepSettings}
 use Rattle.machine_settings.specs.declared.settings.MultiballSettings.{MultiballSettings}
-use Rattle.plan_tables.specs.declared.devices.Settings.{Settings}
 use Rattle.plan_tables.specs.declared.devices.Settings.TheVariants as kinds
-use Rattle.device_objects.specs.declared.device.Call.{Call}
+use Rattle.device_objects.specs.declared.{device.Call.Call, state.{CounterSlot.CounterSlot, AccrualSlot.AccrualSlot}}
 use Rattle.device_objects.specs.declared.device.Call.TheVariants as calls
-use Rattle.device_objects.specs.declared.state.CounterSlot.{CounterSlot}
-use Rattle.device_objects.specs.declared.state.AccrualSlot.{AccrualSlot}
-use Rattle.device_objects.specs.declared.state.SequenceSlot.{SequenceSlot}
-use Rattle.device_objects.specs.declared.state.BankSlot.{BankSlot}
-use Rattle.device_objects.specs.declared.state.FlipperState.{FlipperState}
-use Rattle.device_objects.specs.declared.state.AutofireState.{AutofireState}
-use Rattle.device_objects.specs.declared.state.MultiballState.{MultiballState}
-use Rattle.device_objects.specs.declared.state.DeviceState.{DeviceState}
+use Rattle.device_objects.specs.declared.state.{SequenceSlot.SequenceSlot, AutofireState.AutofireState}
+use Rattle.device_objects.specs.declared.state.{BankSlot.BankSlot, MultiballState.MultiballState, World.World}
+use Rattle.device_objects.specs.declared.state.{FlipperState.FlipperState, DeviceState.DeviceState}
 use Rattle.device_objects.specs.declared.state.DeviceState.TheVariants as states
-use Rattle.device_objects.specs.declared.state.World.{World}
 use Rattle.device_objects.specs.Slots.{slot_in_use, step_at, step_in_use}
 use Rattle.device_objects.specs.Counter as counter
 use Rattle.device_objects.specs.Accrual as accrual
@@ -34,15 +23,11 @@ use Rattle.device_objects.specs.Autofire as autofire
 use Rattle.device_objects.specs.Bank as bank
 use Rattle.device_objects.specs.Multiball as multiball
 use Rattle.device_objects.specs.Bank.{next_state, group_complete, hit_lists}
-use Rattle.device_objects.specs.DeviceStep.{device_step}
-use Rattle.device_objects.specs.Laws.{OutcomesAreOfTheRow}
+use Rattle.device_objects.specs.{DeviceStep.device_step, Laws.OutcomesAreOfTheRow}
 use Rattle.device_objects.specs.Outcomes.{only_if, hit_completing, of_hit_in, of_hit, of_bank, outcomes}
-use Rattle.device_objects.proofs.Among.{In, contains}
+use Rattle.device_objects.proofs.{Among.{In, contains}, BallLists.ball_step-lists, Shapes.next-within}
 use Rattle.device_objects.proofs.Answered.{counter_slot-in, accrual_slot-in, timer-in, bank_slot-in}
-use Rattle.device_objects.proofs.BallLists.{ball_step-lists}
-use Rattle.device_objects.proofs.Saves.{save_step-lists}
-use Rattle.device_objects.proofs.Flat.{All-flat_map_range}
-use Rattle.device_objects.proofs.Shapes.{next-within}
+use Rattle.device_objects.proofs.{Saves.save_step-lists, Flat.All-flat_map_range}
 
 -- ---- lists
 

@@ -1,8 +1,7 @@
 -- Marks are equal where the test says so.
-use Rattle.std.proofs.Common.{◌≡◌, Bool, true, false, [], refl}
+use Rattle.std.proofs.{Common.{◌≡◌, Bool, true, false, [], refl}, lemmas.Bool.{false≢true, true≢false}}
 use mathlib.Core.Bool.{beq}
 use Rattle.std.specs.Bool.{Decides}
-use Rattle.std.proofs.lemmas.Bool.{false≢true, true≢false}
 use Rattle.device_objects.specs.declared.state.AccrualSlot.{AccrualSlot}
 
 pub mark_decides : (a b : Bool) → Decides (beq a b) (a ≡ b)

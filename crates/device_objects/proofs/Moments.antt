@@ -1,19 +1,14 @@
 -- When devices are due.
-use Rattle.std.proofs.Common.{rules, ◌≡◌, ℕ, ◌+◌, ◌<◌, ◌≤◌, ◌⊎◌, inr, Bool, true, false, if◌then◌else◌, Option, None, Some, IfSome, List, [], arith}
+use Rattle.std.proofs.Common.{rules, ◌≡◌, ℕ, ◌+◌, ◌<◌, ◌≤◌, ◌⊎◌, inr, Bool, true, false, if◌then◌else◌, Option, None, Some, IfSome, List, arith}
 use Rattle.std.proofs.lemmas.Option.{none-some, same_Some}
-use Rattle.plan_tables.specs.declared.devices.Act.{Act}
+use Rattle.plan_tables.specs.{declared.devices.{Act.Act, Settings.Settings}, Devices.IsWithinLimits}
 use Rattle.machine_settings.specs.declared.settings.TimerSettings.{TimerSettings}
-use Rattle.plan_tables.specs.declared.devices.Settings.{Settings}
 use Rattle.plan_tables.specs.declared.devices.Settings.TheVariants as kinds
-use Rattle.plan_tables.specs.Devices.{IsWithinLimits}
-use Rattle.device_objects.specs.declared.device.Call.{Call}
+use Rattle.device_objects.specs.{declared.device.Call.Call, DeviceStep.{due_of, part_due, first_state, device_step}}
 use Rattle.device_objects.specs.declared.device.Call.TheVariants as calls
-use Rattle.device_objects.specs.declared.state.TimerState.{TimerState}
-use Rattle.device_objects.specs.declared.state.DeviceState.{DeviceState}
+use Rattle.device_objects.specs.declared.state.{TimerState.TimerState, DeviceState.DeviceState, World.World}
 use Rattle.device_objects.specs.declared.state.DeviceState.TheVariants as states
-use Rattle.device_objects.specs.declared.state.World.{World}
 use Rattle.device_objects.specs.Timer as timer
-use Rattle.device_objects.specs.DeviceStep.{due_of, part_due, first_state, device_step}
 use Rattle.device_objects.specs.Laws.{ArmsLaterMoments, DevicesAreDueWithTheirParts, FirstPartsFire, HasShape, IsDone, NothingIsDue}
 use Rattle.device_objects.proofs.BallMoments.{ball-arms_later, ball-fired, ball-fires_first, ball-parts_none, ball-parts_one, ball-parts_first, ball-parts_few, ball-stopped_quiet}
 use Rattle.device_objects.proofs.Saves.{save-fired}
@@ -116,9 +111,6 @@ first-quiet settings = search rules
 -- nor when the device's mode has stopped; and to that it answers nothing
 pub stopped-quiet : (settings : Settings) (now : ℕ) (world : World) (state : DeviceState) → HasShape settings state → due_of (device_step settings calls.ModeStop now world state).0 ≡ None
 stopped-quiet settings now world state shape = search (rules, ball-stopped_quiet)
-
-pub stopped-silent : (settings : Settings) (now : ℕ) (world : World) (state : DeviceState) → (device_step settings calls.ModeStop now world state).1 ≡ []
-stopped-silent settings now world state = search rules
 
 pub nothing_is_due : NothingIsDue
 nothing_is_due = record { first = first-quiet; stopped = stopped-quiet }

@@ -1,19 +1,15 @@
 -- Multiballs: what they answer.
 use Rattle.std.proofs.Common.{rules, ◌≡◌, ℕ, nat_lt, Bool, true, false, not, ◌&&◌, List, [], ◌∷◌, refl}
-use Rattle.std.specs.List.{All}
-use Rattle.std.proofs.lemmas.Bool.{false≢true}
+use Rattle.std.{specs.List.All, proofs.lemmas.Bool.false≢true}
 use Rattle.plan_tables.specs.declared.devices.Act.{Act}
 use Rattle.plan_tables.specs.declared.devices.Act.TheVariants as acts
 use Rattle.machine_settings.specs.declared.settings.MultiballSettings.{MultiballSettings}
 use Rattle.plan_tables.specs.declared.devices.Settings.TheVariants as kinds
-use Rattle.device_objects.specs.declared.device.Call.{Call}
+use Rattle.device_objects.specs.declared.{device.Call.Call, state.{MultiballState.MultiballState, World.World}}
 use Rattle.device_objects.specs.declared.device.Call.TheVariants as calls
-use Rattle.device_objects.specs.declared.state.MultiballState.{MultiballState}
 use Rattle.device_objects.specs.declared.state.DeviceState.TheVariants as states
-use Rattle.device_objects.specs.declared.state.World.{World}
 use Rattle.device_objects.specs.Multiball.{started, ended, act_step, multiball_step}
-use Rattle.device_objects.specs.Laws.{IsAnswer, MayCome}
-use Rattle.device_objects.specs.Outcomes.{of_multiball, outcomes}
+use Rattle.device_objects.specs.{Laws.{IsAnswer, MayCome}, Outcomes.{of_multiball, outcomes}}
 use Rattle.device_objects.proofs.Among.{In, here, there, either, one, two}
 
 -- ---- answers are outcomes

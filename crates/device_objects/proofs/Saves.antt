@@ -1,16 +1,13 @@
 -- Ball saves: their states, what they answer, and when they are due.
 use Rattle.std.proofs.Common.{rules, ◌≡◌, ℕ, ◌-◌, ◌==◌, ◌<◌, ◌≤◌, ◌⊎◌, nat_lt, Bool, true, false, if◌then◌else◌, Option, None, Some, is_some, IfSome, List, [], ◌∷◌, ◌++◌, refl, sym, ◌∙◌, arith}
-use Rattle.std.specs.List.{All}
-use Rattle.std.proofs.lemmas.Bool.{eqb-false, lt-ltb, ltb-true, false≢true}
-use Rattle.std.proofs.lemmas.List.Elements.{All-append, All-cons}
-use Rattle.std.proofs.lemmas.Option.{none-some}
+use Rattle.std.{specs.List.All, proofs.lemmas.Bool.{eqb-false, lt-ltb, ltb-true, false≢true}}
+use Rattle.std.proofs.lemmas.{List.Elements.{All-append, All-cons}, Option.none-some}
 use Rattle.plan_tables.specs.declared.devices.Act.{Act}
 use Rattle.plan_tables.specs.declared.devices.Act.TheVariants as acts
 use Rattle.machine_settings.specs.declared.settings.SaveSettings.{SaveSettings}
 use Rattle.plan_tables.specs.declared.devices.Settings.TheVariants as kinds
-use Rattle.device_objects.specs.declared.device.Call.{Call}
+use Rattle.device_objects.specs.declared.{device.Call.Call, state.SaveState.SaveState}
 use Rattle.device_objects.specs.declared.device.Call.TheVariants as calls
-use Rattle.device_objects.specs.declared.state.SaveState.{SaveState}
 use Rattle.device_objects.specs.declared.state.DeviceState.TheVariants as states
 use Rattle.device_objects.specs.BallSave.{enabled, disabled, saving, first_state, end_of, saved, act_step, save_step}
 use Rattle.device_objects.specs.Laws.{HasSaveShape, IsAnswer, IsDone, MayCome}

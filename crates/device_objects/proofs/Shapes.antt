@@ -1,23 +1,15 @@
 -- States keep their kind.
 use Rattle.std.proofs.Common.{rules, ◌≡◌, ℕ, ◌-◌, ◌≤◌, Bool, Option, Some, List, [], length, slice_get, slice_set, nat_lt, if◌then◌else◌, refl, ◌∙◌, arith}
-use Rattle.std.specs.List.{All}
-use Rattle.std.proofs.lemmas.List.{length-set, length-take, length-drop, length-append}
+use Rattle.std.{specs.List.All, proofs.lemmas.List.{length-set, length-take, length-drop, length-append}}
 use Rattle.std.proofs.lemmas.List.Elements.{All-replicate, All-append, All-take, All-drop}
-use Rattle.plan_tables.specs.declared.devices.BankSettings.{BankSettings}
-use Rattle.machine_settings.specs.declared.settings.CounterSettings.{CounterSettings}
-use Rattle.machine_settings.specs.declared.settings.StepSettings.{StepSettings}
-use Rattle.plan_tables.specs.declared.devices.Settings.{Settings}
+use Rattle.plan_tables.specs.declared.devices.{BankSettings.BankSettings, Settings.Settings, Act.Act}
+use Rattle.machine_settings.specs.declared.settings.{CounterSettings.CounterSettings, StepSettings.StepSettings}
 use Rattle.plan_tables.specs.declared.devices.Settings.TheVariants as kinds
-use Rattle.plan_tables.specs.declared.devices.Act.{Act}
 use Rattle.plan_tables.specs.declared.devices.Act.TheVariants as acts
-use Rattle.device_objects.specs.declared.device.Call.{Call}
+use Rattle.device_objects.specs.declared.{device.Call.Call, state.{World.World, BankSlot.BankSlot}}
 use Rattle.device_objects.specs.declared.device.Call.TheVariants as calls
-use Rattle.device_objects.specs.declared.state.CounterSlot.{CounterSlot}
-use Rattle.device_objects.specs.declared.state.World.{World}
-use Rattle.device_objects.specs.declared.state.AccrualSlot.{AccrualSlot}
-use Rattle.device_objects.specs.declared.state.BankSlot.{BankSlot}
-use Rattle.device_objects.specs.declared.state.SequenceSlot.{SequenceSlot}
-use Rattle.device_objects.specs.declared.state.DeviceState.{DeviceState}
+use Rattle.device_objects.specs.declared.state.{CounterSlot.CounterSlot, AccrualSlot.AccrualSlot}
+use Rattle.device_objects.specs.declared.state.{SequenceSlot.SequenceSlot, DeviceState.DeviceState}
 use Rattle.device_objects.specs.declared.state.DeviceState.TheVariants as states
 use Rattle.device_objects.specs.Counter as counter
 use Rattle.device_objects.specs.Accrual as accrual
@@ -25,9 +17,8 @@ use Rattle.device_objects.specs.Sequence as sequence
 use Rattle.device_objects.specs.Bank as bank
 use Rattle.device_objects.specs.DeviceStep.{first_state, device_step}
 use Rattle.device_objects.specs.Laws.{HasBankShape, HasMarks, HasShape, StatesKeepTheirShape}
-use Rattle.device_objects.proofs.Slots.{step_in_use-all, All-at}
+use Rattle.device_objects.proofs.{Slots.{step_in_use-all, All-at}, Saves.{first_save-shape, save_step-shape}}
 use Rattle.device_objects.proofs.BallShapes.{first_ball-shape, ball_step-shape}
-use Rattle.device_objects.proofs.Saves.{first_save-shape, save_step-shape}
 
 counter_step-length : (c : CounterSettings) (call : Call) (now : ℕ) (world : World) (slots : List CounterSlot) → length (counter.counter_step c call now world slots).0 ≡ length slots
 counter_step-length c call now world slots = search rules

@@ -2,19 +2,12 @@
 -- ball at a time.
 use Rattle.std.specs.Prelude.{ℕ, suc, ◌+◌, ◌-◌, nat_lt, min, Bool, true, false, not, ◌&&◌, ◌||◌, if◌then◌else◌, Option, None, Some, List, [], ◌∷◌, ◌++◌, length, map, option_map, replicate, slice_index_or, slice_set}
 use Rattle.std.specs.List.{list_any}
-use Rattle.plan_tables.specs.Due.{sooner}
-use Rattle.plan_tables.specs.declared.devices.Act.{Act}
+use Rattle.plan_tables.specs.{Due.sooner, declared.devices.{Act.Act, BallTarget.BallTarget, BallSettings.BallSettings}}
 use Rattle.plan_tables.specs.declared.devices.Act.TheVariants as acts
-use Rattle.plan_tables.specs.declared.devices.BallTarget.{BallTarget}
 use Rattle.plan_tables.specs.declared.devices.BallTarget.TheVariants as targets
-use Rattle.plan_tables.specs.declared.devices.BallSettings.{BallSettings}
-use Rattle.device_objects.specs.declared.device.Call.{Call}
+use Rattle.device_objects.specs.declared.{device.Call.Call, state.Eject.{Eject, TheVariants.{Idle, Pulsing, Away}}}
 use Rattle.device_objects.specs.declared.device.Call.TheVariants as calls
-use Rattle.device_objects.specs.declared.state.Attempt.{Attempt}
-use Rattle.device_objects.specs.declared.state.BallSwitch.{BallSwitch}
-use Rattle.device_objects.specs.declared.state.BallState.{BallState}
-use Rattle.device_objects.specs.declared.state.Eject.{Eject}
-use Rattle.device_objects.specs.declared.state.Eject.TheVariants.{Idle, Pulsing, Away}
+use Rattle.device_objects.specs.declared.state.{Attempt.Attempt, BallSwitch.BallSwitch, BallState.BallState}
 
 -- ---- the lists of a ball device
 

@@ -2,12 +2,9 @@
 use Rattle.std.specs.Prelude.{ℕ, ◌+◌, nat_lt, Bool, true, false, not, ◌&&◌, if◌then◌else◌, Option, None, Some, List, [], ◌∷◌, replicate, slice_set}
 use Rattle.plan_tables.specs.declared.devices.Act.{Act}
 use Rattle.plan_tables.specs.declared.devices.Act.TheVariants as acts
-use Rattle.machine_settings.specs.declared.settings.CounterSettings.{CounterSettings}
-use Rattle.device_objects.specs.declared.device.Call.{Call}
+use Rattle.machine_settings.specs.{declared.settings.CounterSettings.CounterSettings, Ends.is_at_end}
+use Rattle.device_objects.specs.declared.{device.Call.Call, state.{CounterSlot.CounterSlot, World.World}}
 use Rattle.device_objects.specs.declared.device.Call.TheVariants as calls
-use Rattle.device_objects.specs.declared.state.CounterSlot.{CounterSlot}
-use Rattle.device_objects.specs.declared.state.World.{World}
-use Rattle.machine_settings.specs.Ends.{is_at_end}
 use Rattle.device_objects.specs.Values.{moved}
 use Rattle.device_objects.specs.Slots.{slot_in_use, is_of_other_game, step_in_use, updated, hit, complete}
 

@@ -2,20 +2,13 @@
 use Rattle.std.specs.Prelude.{◌≡◌, ℕ, zero, suc, false, IfSome, Option, None, Some, List, []}
 use Rattle.plan_tables.specs.declared.devices.Settings.{Settings}
 use Rattle.plan_tables.specs.declared.devices.Settings.TheVariants as kinds
-use Rattle.device_objects.specs.declared.device.Call.{Call}
+use Rattle.device_objects.specs.declared.{device.Call.Call, state.{World.World, BankSlot.BankSlot}}
 use Rattle.device_objects.specs.declared.device.Call.TheVariants as calls
-use Rattle.device_objects.specs.declared.state.World.{World}
-use Rattle.device_objects.specs.declared.state.TimerState.{TimerState}
-use Rattle.device_objects.specs.declared.state.CounterSlot.{CounterSlot}
-use Rattle.device_objects.specs.declared.state.AccrualSlot.{AccrualSlot}
-use Rattle.device_objects.specs.declared.state.SequenceSlot.{SequenceSlot}
-use Rattle.device_objects.specs.declared.state.BankSlot.{BankSlot}
-use Rattle.device_objects.specs.declared.state.FlipperState.{FlipperState}
-use Rattle.device_objects.specs.declared.state.AutofireState.{AutofireState}
-use Rattle.device_objects.specs.declared.state.BallState.{BallState}
-use Rattle.device_objects.specs.declared.state.SaveState.{SaveState}
-use Rattle.device_objects.specs.declared.state.MultiballState.{MultiballState}
-use Rattle.device_objects.specs.declared.state.DeviceState.{DeviceState}
+use Rattle.device_objects.specs.declared.state.{TimerState.TimerState, AccrualSlot.AccrualSlot}
+use Rattle.device_objects.specs.declared.state.{CounterSlot.CounterSlot, DeviceState.DeviceState}
+use Rattle.device_objects.specs.declared.state.{SequenceSlot.SequenceSlot, FlipperState.FlipperState}
+use Rattle.device_objects.specs.declared.state.{AutofireState.AutofireState, MultiballState.MultiballState}
+use Rattle.device_objects.specs.declared.state.{BallState.BallState, SaveState.SaveState}
 use Rattle.device_objects.specs.declared.state.DeviceState.TheVariants as states
 use Rattle.device_objects.specs.Counter as counter
 use Rattle.device_objects.specs.Accrual as accrual

@@ -1,7 +1,5 @@
 -- Sixteen flags as the bits of a number: bit i is flag i.
-use Rattle.std.specs.Prelude.{ℕ, ◌==◌, Bool, List, map}
-use Rattle.std.specs.Int.{bit_at}
-use Rattle.std.specs.List.{range_with_len}
+use Rattle.std.specs.{Prelude.{ℕ, ◌==◌, Bool, List, map}, Int.bit_at, List.range_with_len}
 
 abbrev pub is_set : ℕ → ℕ → Bool
 is_set mask i = bit_at mask i == 1

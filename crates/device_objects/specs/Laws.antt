@@ -1,25 +1,17 @@
 -- What holds of every step of a device.
 use Rattle.std.specs.Prelude.{◌≡◌, ℕ, ◌<◌, ◌≤◌, max, ◌⊎◌, true, None, Some, unwrap_or, IsSome, IsSomeAnd, IfSome, List, length, Contains, drop}
 use Rattle.std.specs.List.{All}
-use Rattle.plan_tables.specs.declared.devices.BallSettings.{BallSettings}
-use Rattle.plan_tables.specs.declared.devices.BankSettings.{BankSettings}
+use Rattle.plan_tables.specs.declared.devices.{BallSettings.BallSettings, BankSettings.BankSettings, Settings.Settings}
 use Rattle.machine_settings.specs.declared.settings.SaveSettings.{SaveSettings}
-use Rattle.plan_tables.specs.declared.devices.Settings.{Settings}
 use Rattle.plan_tables.specs.declared.devices.Settings.TheVariants as kinds
 use Rattle.plan_tables.specs.Devices.{IsWithinLimits, list_count}
-use Rattle.device_objects.specs.declared.device.Call.{Call}
+use Rattle.device_objects.specs.declared.{device.Call.Call, state.{World.World, BankSlot.BankSlot}}
 use Rattle.device_objects.specs.declared.device.Call.TheVariants as calls
-use Rattle.device_objects.specs.declared.state.World.{World}
-use Rattle.device_objects.specs.declared.state.AccrualSlot.{AccrualSlot}
-use Rattle.device_objects.specs.declared.state.BankSlot.{BankSlot}
-use Rattle.device_objects.specs.declared.state.BallState.{BallState}
-use Rattle.device_objects.specs.declared.state.SaveState.{SaveState}
-use Rattle.device_objects.specs.declared.state.Eject.{Eject}
-use Rattle.device_objects.specs.declared.state.Eject.TheVariants.{Idle, Pulsing, Away}
-use Rattle.device_objects.specs.declared.state.DeviceState.{DeviceState}
-use Rattle.device_objects.specs.BallDevice.{empty}
+use Rattle.device_objects.specs.declared.state.{AccrualSlot.AccrualSlot, DeviceState.DeviceState}
+use Rattle.device_objects.specs.declared.state.{BallState.BallState, SaveState.SaveState}
+use Rattle.device_objects.specs.declared.state.Eject.{Eject, TheVariants.{Idle, Pulsing, Away}}
+use Rattle.device_objects.specs.{BallDevice.empty, Outcomes.{may_eject, outcomes, silent}}
 use Rattle.device_objects.specs.DeviceStep.{first_state, due_of, part_due, counter_slots, accrual_slots, sequence_slots, timer_state, bank_slots, flipper_state, autofire_state, ball_state, save_state, multiball_state, device_step, fire_part}
-use Rattle.device_objects.specs.Outcomes.{may_eject, outcomes, silent}
 
 -- a slot of an accrual: with 16 marks
 abbrev pub HasMarks : AccrualSlot → Type 0

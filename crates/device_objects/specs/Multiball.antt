@@ -2,10 +2,8 @@
 use Rattle.std.specs.Prelude.{ℕ, nat_lt, true, false, not, ◌&&◌, if◌then◌else◌, List, [], ◌∷◌}
 use Rattle.plan_tables.specs.declared.devices.Act.{Act}
 use Rattle.plan_tables.specs.declared.devices.Act.TheVariants as acts
-use Rattle.device_objects.specs.declared.device.Call.{Call}
+use Rattle.device_objects.specs.declared.{device.Call.Call, state.{World.World, MultiballState.MultiballState}}
 use Rattle.device_objects.specs.declared.device.Call.TheVariants as calls
-use Rattle.device_objects.specs.declared.state.World.{World}
-use Rattle.device_objects.specs.declared.state.MultiballState.{MultiballState}
 
 -- the lists of a multiball
 abbrev pub started : ℕ

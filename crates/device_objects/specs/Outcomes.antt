@@ -1,29 +1,19 @@
 -- The lists that a call of a device can answer, whatever its state.
 use Rattle.std.specs.Prelude.{ℕ, suc, ◌==◌, nat_lt, Bool, not, ◌&&◌, ◌||◌, is_some, if◌then◌else◌, List, [], ◌∷◌, ◌++◌}
 use Rattle.std.specs.List.{flat_map, range_with_len}
-use Rattle.plan_tables.specs.declared.devices.Act.{Act}
+use Rattle.plan_tables.specs.{declared.devices.{Act.Act, Settings.Settings}, Devices.state_count}
 use Rattle.plan_tables.specs.declared.devices.Act.TheVariants as acts
-use Rattle.machine_settings.specs.declared.settings.BlockSettings.{BlockSettings}
-use Rattle.machine_settings.specs.declared.settings.CounterSettings.{CounterSettings}
-use Rattle.machine_settings.specs.declared.settings.StepSettings.{StepSettings}
-use Rattle.machine_settings.specs.declared.settings.TimerSettings.{TimerSettings}
-use Rattle.plan_tables.specs.declared.devices.BankSettings.{BankSettings}
-use Rattle.plan_tables.specs.declared.devices.BallSettings.{BallSettings}
-use Rattle.machine_settings.specs.declared.settings.SaveSettings.{SaveSettings}
-use Rattle.plan_tables.specs.declared.devices.Settings.{Settings}
+use Rattle.machine_settings.specs.declared.settings.{BlockSettings.BlockSettings, TimerSettings.TimerSettings}
+use Rattle.machine_settings.specs.{declared.settings.CounterSettings.CounterSettings, Ends.is_at_end}
+use Rattle.machine_settings.specs.declared.settings.{StepSettings.StepSettings, SaveSettings.SaveSettings}
+use Rattle.plan_tables.specs.declared.devices.{BankSettings.BankSettings, BallSettings.BallSettings}
 use Rattle.plan_tables.specs.declared.devices.Settings.TheVariants as kinds
-use Rattle.plan_tables.specs.Devices.{state_count}
-use Rattle.device_objects.specs.declared.device.Call.{Call}
+use Rattle.device_objects.specs.{declared.device.Call.Call, Values.clamped, Autofire.fires}
 use Rattle.device_objects.specs.declared.device.Call.TheVariants as calls
-use Rattle.machine_settings.specs.Ends.{is_at_end}
-use Rattle.device_objects.specs.Values.{clamped}
-use Rattle.device_objects.specs.Slots.{updated, hit}
+use Rattle.device_objects.specs.{Slots.{updated, hit}, Timer.{started, stopped, paused, tick}, Flipper.{on, off}}
 use Rattle.device_objects.specs.Slots as block
-use Rattle.device_objects.specs.Timer.{started, stopped, paused, tick}
 use Rattle.device_objects.specs.Timer as timer
 use Rattle.device_objects.specs.Bank.{next_state, hit_lists, group_complete}
-use Rattle.device_objects.specs.Flipper.{on, off}
-use Rattle.device_objects.specs.Autofire.{fires}
 use Rattle.device_objects.specs.BallDevice.{entered, attempted, left, lost, failed, overdue, confirmed, may_try_again}
 use Rattle.device_objects.specs.BallSave as save
 use Rattle.device_objects.specs.Multiball as multiball

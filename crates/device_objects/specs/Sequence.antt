@@ -3,10 +3,8 @@ use Rattle.std.specs.Prelude.{ℕ, suc, ◌==◌, nat_lt, true, false, not, ◌&
 use Rattle.plan_tables.specs.declared.devices.Act.{Act}
 use Rattle.plan_tables.specs.declared.devices.Act.TheVariants as acts
 use Rattle.machine_settings.specs.declared.settings.StepSettings.{StepSettings}
-use Rattle.device_objects.specs.declared.device.Call.{Call}
+use Rattle.device_objects.specs.declared.{device.Call.Call, state.{SequenceSlot.SequenceSlot, World.World}}
 use Rattle.device_objects.specs.declared.device.Call.TheVariants as calls
-use Rattle.device_objects.specs.declared.state.SequenceSlot.{SequenceSlot}
-use Rattle.device_objects.specs.declared.state.World.{World}
 use Rattle.device_objects.specs.Slots.{slot_in_use, is_of_other_game, step_in_use, updated, hit, complete}
 
 -- a slot at first, for this game

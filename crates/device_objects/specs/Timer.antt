@@ -2,12 +2,9 @@
 use Rattle.std.specs.Prelude.{ℕ, ◌+◌, pos, ◌+ℤ◌, ◌-ℤ◌, Bool, ◌&&◌, is_some, if◌then◌else◌, None, Some, List, [], ◌∷◌}
 use Rattle.plan_tables.specs.declared.devices.Act.{Act}
 use Rattle.plan_tables.specs.declared.devices.Act.TheVariants as acts
-use Rattle.machine_settings.specs.declared.settings.TimerSettings.{TimerSettings}
-use Rattle.device_objects.specs.declared.device.Call.{Call}
+use Rattle.machine_settings.specs.{declared.settings.TimerSettings.TimerSettings, Ends.is_at_end}
+use Rattle.device_objects.specs.{declared.{device.Call.Call, state.TimerState.TimerState}, Values.{clamped, moved}}
 use Rattle.device_objects.specs.declared.device.Call.TheVariants as calls
-use Rattle.device_objects.specs.declared.state.TimerState.{TimerState}
-use Rattle.machine_settings.specs.Ends.{is_at_end}
-use Rattle.device_objects.specs.Values.{clamped, moved}
 
 -- the lists of a timer
 abbrev pub started : ℕ

@@ -1,7 +1,6 @@
 -- Values that move.
 use Rattle.std.specs.Prelude.{ℕ, ℤ, pos, neg_ℤ, ◌+ℤ◌, ◌-ℤ◌, int_le, if◌then◌else◌}
-use Rattle.machine_settings.specs.declared.words.Direction.{Direction}
-use Rattle.machine_settings.specs.declared.words.Direction.TheVariants.{Up, Down}
+use Rattle.machine_settings.specs.declared.words.Direction.{Direction, TheVariants.{Up, Down}}
 
 -- no value is further from 0
 abbrev pub greatest : ℕ

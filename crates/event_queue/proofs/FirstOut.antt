@@ -1,7 +1,6 @@
 -- What waited, and after it what is pushed, is what is given, and after it what waits.
 use Rattle.std.proofs.Common.{◌≡◌, ◌≤◌, List, [], ◌∷◌, ◌++◌, length, Some, None, Ok, Err, ap, sym, ◌∙◌, append-nil, append_assoc, length-append, arith}
-use Rattle.event_queue.specs.declared.queue.Posted.{Posted}
-use Rattle.event_queue.specs.Queue.{QueueView, empty}
+use Rattle.event_queue.specs.{declared.queue.Posted.Posted, Queue.{QueueView, empty}}
 use Rattle.event_queue.specs.Calls.{QueueCall, Push, Take, AreCalls, pushed, taken_out, IsFirstInFirstOut, IsWithinSize}
 
 first_out : (calls : List QueueCall) (old new : QueueView) → AreCalls calls old new → taken_out calls ++ new.waiting ≡ old.waiting ++ pushed calls

@@ -1,24 +1,15 @@
 -- For each event the order of what takes part: as it is made, and where one more takes part, or one less.
 use Rattle.std.proofs.Common.{rules, ◌≡◌, ◌≢◌, ℕ, ◌+◌, ◌<◌, ◌≤◌, nat_lt, ◌&&◌, Bool, true, false, List, [], ◌∷◌, ◌++◌, Some, length, filter, get_or, slice_get, slice_set, Vec, Global, vec_capacity, refl, ap, sym, subst, ◌∙◌, inl, inr, arith}
-use Rattle.std.specs.List.{All}
-use Rattle.std.proofs.lemmas.Bool.{cases_eq, cases_lt, le-ltb, and_right}
-use Rattle.std.proofs.lemmas.Bool.Decides.{nat_tests}
+use Rattle.std.{specs.List.All, proofs.lemmas.{Option.get_or_from_slice_get, List.Kept.AllPairs-filter}}
+use Rattle.std.proofs.lemmas.Bool.{cases_eq, cases_lt, le-ltb, and_right, Decides.nat_tests}
 use Rattle.std.proofs.lemmas.List.{length-set, get_or-set_same, get_or-set_other, get_or_append_left, get_or_push, length_push}
-use Rattle.std.proofs.lemmas.Option.{get_or_from_slice_get}
-use Rattle.std.proofs.lemmas.List.Kept.{AllPairs-filter}
-use Rattle.plan_tables.specs.declared.entries.BindingId.{BindingId}
-use Rattle.plan_tables.specs.declared.entries.EventId.{EventId}
-use Rattle.plan_tables.specs.declared.entries.Binding.{Binding}
-use Rattle.plan_tables.specs.PlanView.{PlanView, no_binding, binding_at, places_of}
-use Rattle.plan_tables.specs.Valid.{IsValid}
+use Rattle.plan_tables.specs.declared.entries.{BindingId.BindingId, EventId.EventId, Binding.Binding}
+use Rattle.plan_tables.specs.{PlanView.{PlanView, no_binding, binding_at, places_of}, Valid.IsValid}
 use Rattle.plan_tables.proofs.BoundTo.{places_of-within, places_of-on}
-use Rattle.event_queue.specs.Handlers.{runs_at}
-use Rattle.event_queue.specs.PlanOrder.{by_priority}
+use Rattle.event_queue.{specs.{Handlers.runs_at, PlanOrder.by_priority}, proofs.{Put.length-put, Owned.has-event}}
 use Rattle.event_queue.specs.Inside.{put, IsOrdered, runs_before, IsOrderOf, HasOrders, also, without}
-use Rattle.event_queue.proofs.Put.{length-put}
 use Rattle.event_queue.proofs.PlanOrder.{IsBelow, places_of-increase, filter-shorter, priority-length}
 use Rattle.event_queue.proofs.Joined.{filter-agree, also-other, without-other, without-itself, without-also, place-same, by_priority-in_order, joined}
-use Rattle.event_queue.proofs.Owned.{has-event}
 
 abbrev event : ℕ → EventId
 event n = record { 0 = n }

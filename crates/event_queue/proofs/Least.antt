@@ -1,8 +1,6 @@
 -- The least alarm is the one that the definition computes.
 use Rattle.std.proofs.Common.{rules, ◌≡◌, ℕ, suc, ◌+◌, ◌<◌, ◌≤◌, ◌⊎◌, Option, Some, None, MatchOption, IfSome, List, [], ◌∷◌, length, slice_index_or, refl, ap, sym, subst, ◌∙◌, arith}
-use Rattle.std.proofs.lemmas.Bool.{cases_lt}
-use Rattle.std.proofs.lemmas.Option.{none-some}
-use Rattle.std.proofs.lemmas.List.{get_or_past}
+use Rattle.std.proofs.lemmas.{Bool.cases_lt, Option.none-some, List.get_or_past}
 use Rattle.plan_tables.specs.declared.devices.RowId.{RowId}
 use Rattle.event_queue.specs.Alarms.{due_of, first_of, alarm_of, least_from, least_of, IsLeast, AlarmsGiveTheLeast}
 

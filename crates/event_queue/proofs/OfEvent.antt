@@ -1,15 +1,10 @@
 -- The places of an event's handlers, in plan order.
 use Rattle.std.proofs.Common.{◌≡◌, ◌<◌, ◌≤◌, Bool, List, [], ◌∷◌, length, filter, refl, ap, arith}
-use Rattle.std.specs.List.{All}
-use Rattle.std.proofs.lemmas.List.Elements.{All-filter}
-use Rattle.std.proofs.lemmas.List.Sorted.{All-permutation}
-use Rattle.plan_tables.specs.declared.entries.EventId.{EventId}
-use Rattle.plan_tables.specs.declared.entries.BindingId.{BindingId}
-use Rattle.plan_tables.specs.PlanView.{PlanView, no_binding, binding_at, places_of}
-use Rattle.plan_tables.specs.Valid.{IsValid}
+use Rattle.std.{specs.List.All, proofs.lemmas.List.{Elements.All-filter, Sorted.All-permutation}}
+use Rattle.plan_tables.specs.declared.entries.{EventId.EventId, BindingId.BindingId}
+use Rattle.plan_tables.specs.{PlanView.{PlanView, no_binding, binding_at, places_of}, Valid.IsValid}
 use Rattle.plan_tables.proofs.BoundTo.{places_of-within, places_of-on}
-use Rattle.event_queue.specs.Handlers.{runs_at, handlers}
-use Rattle.event_queue.specs.PlanOrder.{by_priority, in_order}
+use Rattle.event_queue.specs.{Handlers.{runs_at, handlers}, PlanOrder.{by_priority, in_order}}
 use Rattle.event_queue.proofs.Sort.{by_priority-permutes}
 
 module _ (plan : PlanView) (e : EventId) where

@@ -3,20 +3,14 @@ use Rattle.std.proofs.Common.{rules, ◌≡◌, ℕ, ◌+◌, ◌<◌, ◌≤◌
 use Rattle.std.specs.List.{All, AllPairs, range_with_len}
 use Rattle.std.proofs.lemmas.Bool.{cases_eq, eqb-true, eq-eqb, ne_eqb, and_from, or_from, not_from_false}
 use Rattle.std.proofs.lemmas.List.{length-set, get_or-set_same, get_or-set_other, get_or-take, get_or_default, length-take-le, take_all}
-use Rattle.std.proofs.lemmas.List.Elements.{All-filter, filter_passes}
+use Rattle.std.proofs.lemmas.List.{Elements.{All-filter, filter_passes}, Kept.AllPairs-filter}
 use Rattle.std.proofs.lemmas.List.Folds.{list_any_at, list_any_more, list_any_none}
 use Rattle.std.proofs.lemmas.List.FromFn.{length-map-range_with_len, get_or-map-range_with_len, filter_of_map_range_with_len_more}
-use Rattle.std.proofs.lemmas.List.Kept.{AllPairs-filter}
-use Rattle.plan_tables.specs.declared.entries.BindingId.{BindingId}
-use Rattle.plan_tables.specs.declared.entries.EventId.{EventId}
-use Rattle.plan_tables.specs.declared.entries.ModeId.{ModeId}
-use Rattle.plan_tables.specs.declared.entries.Owner.{Owner}
-use Rattle.plan_tables.specs.declared.entries.Owner.TheVariants.{Machine, Mode}
+use Rattle.plan_tables.specs.declared.entries.{BindingId.BindingId, EventId.EventId, ModeId.ModeId}
+use Rattle.plan_tables.specs.declared.entries.Owner.{Owner, TheVariants.{Machine, Mode}}
 use Rattle.plan_tables.specs.PlanView.{PlanView, binding_at, is_owner, places_of}
-use Rattle.event_queue.specs.Handlers.{takes_part, runs_at}
-use Rattle.event_queue.specs.Inside.{all_places, places_in, also, without}
-use Rattle.event_queue.proofs.Joined.{has, place-same}
-use Rattle.event_queue.proofs.PlanOrder.{IsBelow, all_places-increase}
+use Rattle.event_queue.specs.{Handlers.{takes_part, runs_at}, Inside.{all_places, places_in, also, without}}
+use Rattle.event_queue.proofs.{Joined.{has, place-same}, PlanOrder.{IsBelow, all_places-increase}}
 
 abbrev place : ℕ → BindingId
 place n = record { 0 = n }

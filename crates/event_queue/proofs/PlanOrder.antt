@@ -1,18 +1,12 @@
 -- Handlers by priority are in plan order, and no other order of them is.
 use Rattle.std.proofs.Common.{rules, ◌≡◌, ℕ, zero, suc, ◌+◌, ◌<◌, ◌≤◌, ◌⊎◌, nat_lt, Bool, List, [], ◌∷◌, length, map, filter, get_or, refl, ap₂, sym, subst, ◌∙◌, inl, inr, arith}
 use Rattle.std.specs.List.{All, AllPairs, range_with_len}
-use Rattle.std.proofs.lemmas.Bool.{cond_both, ltb-true, ltb-false}
-use Rattle.std.proofs.lemmas.List.Elements.{All-cons, All-map}
-use Rattle.std.proofs.lemmas.List.Kept.{AllPairs-cons, AllPairs-filter}
-use Rattle.std.proofs.lemmas.List.{length-map}
-use Rattle.std.proofs.lemmas.List.FromFn.{length-range_with_len}
+use Rattle.std.proofs.lemmas.{Bool.{cond_both, ltb-true, ltb-false}, List.{length-map, Elements.{All-cons, All-map}}}
+use Rattle.std.proofs.lemmas.List.{Kept.{AllPairs-cons, AllPairs-filter}, FromFn.length-range_with_len}
 use Rattle.std.proofs.lemmas.List.Sorted.{IsPermutation-sym, All-permutation, length_permutation}
-use Rattle.plan_tables.specs.declared.entries.EventId.{EventId}
-use Rattle.plan_tables.specs.declared.entries.BindingId.{BindingId}
-use Rattle.plan_tables.specs.PlanView.{PlanView, places_of}
-use Rattle.event_queue.specs.Handlers.{runs_at, handlers, priority_at}
+use Rattle.plan_tables.specs.{declared.entries.{EventId.EventId, BindingId.BindingId}, PlanView.{PlanView, places_of}}
+use Rattle.event_queue.specs.{Handlers.{runs_at, handlers, priority_at}, Inside.all_places}
 use Rattle.event_queue.specs.PlanOrder.{RunsBefore, IsPlanOrder, insert_place, by_priority, in_order, HandlersAreInPlanOrder}
-use Rattle.event_queue.specs.Inside.{all_places}
 use Rattle.event_queue.proofs.Sort.{insert_place-permutes, by_priority-permutes, by_priority-is_order}
 
 -- ---- places in their own order

@@ -1,12 +1,8 @@
 -- An item put into a list in order, and taken out of it.
 use Rattle.std.proofs.Common.{rules, ◌≡◌, ℕ, zero, suc, ◌-◌, ◌<◌, ◌≤◌, Bool, true, false, true≢false, Option, is_some, OnSome, List, [], ◌∷◌, length, get_or, refl, ap, sym, ◌∙◌, inl, inr, arith}
-use Rattle.std.specs.List.{All, AllPairs, AllWithin, insert, remove}
-use Rattle.std.specs.List.Sorted.{IsPartitionedBy}
-use Rattle.std.specs.Cmp.{IsStrictWeakOrder}
+use Rattle.std.specs.{List.{All, AllPairs, AllWithin, insert, remove, Sorted.IsPartitionedBy}, Cmp.IsStrictWeakOrder}
 use Rattle.std.proofs.lemmas.Bool.{cases_Bool, cond_both, cond-true, cond-false, true_from_ne_false, false_from_ne_true}
-use Rattle.std.proofs.lemmas.List.{get_or_default}
-use Rattle.std.proofs.lemmas.List.Elements.{All-cons}
-use Rattle.std.proofs.lemmas.List.Kept.{AllPairs-cons}
+use Rattle.std.proofs.lemmas.List.{get_or_default, Elements.All-cons, Kept.AllPairs-cons}
 use Rattle.event_queue.specs.Inside.{put, IsOrdered, IsPlaceOf}
 
 module _ {X : Type 0} (before : X → X → Bool) where

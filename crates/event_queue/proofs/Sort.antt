@@ -1,11 +1,8 @@
 -- Places by priority: the same places, none after one of lower priority.
 use Rattle.std.proofs.Common.{ℕ, ◌≤◌, nat_lt, List, [], ◌∷◌, refl, arith}
-use Rattle.std.specs.List.{AllByRecursion}
-use Rattle.std.specs.List.Sorted.{IsPermutation}
-use Rattle.std.proofs.lemmas.Bool.{cond_both, ltb-true, ltb-false}
+use Rattle.std.{specs.List.{AllByRecursion, Sorted.IsPermutation}, proofs.lemmas.Bool.{cond_both, ltb-true, ltb-false}}
 use Rattle.std.proofs.lemmas.List.Sorted.{IsPermutation-refl, IsPermutation-cons, IsPermutation-trans, IsPermutation-swap}
-use Rattle.plan_tables.specs.declared.entries.BindingId.{BindingId}
-use Rattle.plan_tables.specs.PlanView.{PlanView}
+use Rattle.plan_tables.specs.{declared.entries.BindingId.BindingId, PlanView.PlanView}
 use Rattle.event_queue.specs.Handlers.{priority_at, IsDescending, IsHandlerOrder}
 use Rattle.event_queue.specs.PlanOrder.{insert_place, by_priority}
 

@@ -1,8 +1,6 @@
 -- Lists of calls, and the law that they keep.
 use Rattle.std.specs.Prelude.{◌≡◌, ℕ, ◌≤◌, List, [], ◌∷◌, ◌++◌, length, Option, Some, None, Result, Ok, Err}
-use Rattle.event_queue.specs.declared.queue.Posted.{Posted}
-use Rattle.event_queue.specs.declared.queue.Full.{Full}
-use Rattle.event_queue.specs.Queue.{QueueView, empty, IsPushed, IsTaken}
+use Rattle.event_queue.specs.{declared.queue.{Posted.Posted, Full.Full}, Queue.{QueueView, empty, IsPushed, IsTaken}}
 
 -- a call of `push` or of `take`, with what it answered
 pub data QueueCall : Type 0 where

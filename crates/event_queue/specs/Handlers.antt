@@ -1,11 +1,7 @@
 -- What handles an event: bindings, by their places in the plan.
 use Rattle.std.specs.Prelude.{ℕ, ◌≤◌, Bool, true, false, List, [], ◌∷◌, length, filter, replicate, slice_index_or, slice_set}
-use Rattle.std.specs.List.{AllByRecursion}
-use Rattle.std.specs.List.Sorted.{IsPermutation}
-use Rattle.plan_tables.specs.declared.entries.EventId.{EventId}
-use Rattle.plan_tables.specs.declared.entries.BindingId.{BindingId}
-use Rattle.plan_tables.specs.declared.entries.ModeId.{ModeId}
-use Rattle.plan_tables.specs.declared.entries.Owner.{Owner}
+use Rattle.std.specs.List.{AllByRecursion, Sorted.IsPermutation}
+use Rattle.plan_tables.specs.declared.entries.{EventId.EventId, BindingId.BindingId, ModeId.ModeId, Owner.Owner}
 use Rattle.plan_tables.specs.declared.entries.Owner.TheVariants as owners
 use Rattle.plan_tables.specs.PlanView.{PlanView, binding_at, places_of}
 

@@ -1,17 +1,10 @@
 -- What the functions inside this crate see: items in order, and what alarms and handlers hold.
 use Rattle.std.specs.Prelude.{◌≡◌, ℕ, ◌+◌, ◌<◌, ◌≤◌, nat_lt, ◌==◌, ◌&&◌, ◌||◌, if◌then◌else◌, not, Bool, true, false, Option, None, Some, List, [], ◌∷◌, length, map, filter, slice_index_or, Vec, vec_capacity}
-use Rattle.std.specs.List.{AllPairs, range_with_len}
-use Rattle.std.specs.List.Sorted.{IsPartitionPoint}
-use Rattle.std.specs.Global.{Global}
-use Rattle.plan_tables.specs.declared.entries.BindingId.{BindingId}
-use Rattle.plan_tables.specs.declared.entries.EventId.{EventId}
-use Rattle.plan_tables.specs.declared.entries.ModeId.{ModeId}
-use Rattle.plan_tables.specs.declared.entries.Owner.TheVariants.{Mode}
-use Rattle.plan_tables.specs.declared.devices.RowId.{RowId}
+use Rattle.std.specs.{List.{AllPairs, range_with_len, Sorted.IsPartitionPoint}, Global.Global}
+use Rattle.plan_tables.specs.declared.entries.{BindingId.BindingId, Owner.TheVariants.Mode}
+use Rattle.plan_tables.specs.declared.{entries.{EventId.EventId, ModeId.ModeId}, devices.RowId.RowId}
 use Rattle.plan_tables.specs.PlanView.{PlanView, binding_at, is_owner, places_of}
-use Rattle.event_queue.specs.Alarms.{comes_before, alarm_of}
-use Rattle.event_queue.specs.Handlers.{priority_at}
-use Rattle.event_queue.specs.PlanOrder.{by_priority}
+use Rattle.event_queue.specs.{Alarms.{comes_before, alarm_of}, Handlers.priority_at, PlanOrder.by_priority}
 
 -- ---- items in order
 

@@ -1,10 +1,7 @@
 -- Plan order: higher priorities first, and of equal priorities the lower place.
 use Rattle.std.specs.Prelude.{◌≡◌, ◌<◌, nat_lt, if◌then◌else◌, ◌⊎◌, Bool, List, [], ◌∷◌}
-use Rattle.std.specs.List.{AllPairs}
-use Rattle.std.specs.List.Sorted.{IsPermutation}
-use Rattle.plan_tables.specs.declared.entries.EventId.{EventId}
-use Rattle.plan_tables.specs.declared.entries.BindingId.{BindingId}
-use Rattle.plan_tables.specs.PlanView.{PlanView}
+use Rattle.std.specs.List.{AllPairs, Sorted.IsPermutation}
+use Rattle.plan_tables.specs.{declared.entries.{EventId.EventId, BindingId.BindingId}, PlanView.PlanView}
 use Rattle.event_queue.specs.Handlers.{handlers, priority_at, IsHandlerOrder}
 
 -- ---- what it is

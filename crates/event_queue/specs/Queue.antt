@@ -1,7 +1,6 @@
 -- The events that wait.
 use Rattle.std.specs.Prelude.{ℕ, ◌≡◌, ◌<◌, List, [], ◌∷◌, ◌++◌, length, Option, Some, None, Result, Ok, Err}
-use Rattle.event_queue.specs.declared.queue.Posted.{Posted}
-use Rattle.event_queue.specs.declared.queue.Full.{Full}
+use Rattle.event_queue.specs.declared.queue.{Posted.Posted, Full.Full}
 
 -- how many events may wait, and those that do, first posted first
 pub record QueueView : Type 0 where

@@ -1,15 +1,10 @@
 -- A table of first names, one name more.
 use Rattle.std.proofs.Common.{◌≡◌, ℕ, ◌+◌, ◌<◌, ◌≤◌, Bool, true, false, cond, ◌||◌, inl, inr, List, [], ◌∷◌, ◌++◌, length, map, Vec, Global, refl, sym, ◌∙◌, ap, subst, true≢false, arith}
-use Rattle.std.specs.Str.{bytes_eq}
-use Rattle.std.specs.List.{list_any, position, position_or_len}
-use Rattle.std.specs.Prelude.{Option, None, Some, unwrap_or}
-use Rattle.std.proofs.lemmas.Bool.{eq-eqb}
-use Rattle.std.proofs.lemmas.List.{map-append, length_push, length-map}
-use Rattle.std.proofs.lemmas.List.Folds.{position_or_len_push}
-use Rattle.std.proofs.lemmas.Slice.Eq.{bytes_eq-Decides}
+use Rattle.std.specs.{Str.bytes_eq, List.{list_any, position, position_or_len}, Prelude.{Option, None, Some, unwrap_or}}
+use Rattle.std.proofs.lemmas.{Bool.eq-eqb, Slice.Eq.bytes_eq-Decides}
+use Rattle.std.proofs.lemmas.List.{map-append, length_push, length-map, Folds.position_or_len_push}
 use Rattle.plan_tables.proofs.Places.{position_or_len-map, position-or_len}
-use Rattle.plan_tables.specs.declared.names.NameTable.{NameTable}
-use Rattle.plan_tables.specs.NamesKept.{names_of}
+use Rattle.plan_tables.specs.{declared.names.NameTable.NameTable, NamesKept.names_of}
 use Rattle.first_names.specs.FirstNames.{with_name, IsNameTableOf}
 
 list_any-map : {X Y : Type 0} (p : Y → Bool) (f : X → Y) (xs : List X) → list_any p (map f xs) ≡ list_any (λ x. p (f x)) xs

@@ -1,9 +1,7 @@
 -- The names of a table in the order of their first uses.
 use Rattle.std.specs.Prelude.{◌≡◌, ℕ, ◌<◌, ◌≤◌, ◌⊎◌, true, false, List, [], ◌∷◌, ◌++◌, if◌then◌else◌, length}
-use Rattle.std.specs.List.{list_any, position_or_len}
-use Rattle.std.specs.Str.{bytes_eq}
-use Rattle.plan_tables.specs.declared.names.NameTable.{NameTable}
-use Rattle.plan_tables.specs.NamesKept.{names_of}
+use Rattle.std.specs.{List.{list_any, position_or_len}, Str.bytes_eq}
+use Rattle.plan_tables.specs.{declared.names.NameTable.NameTable, NamesKept.names_of}
 
 -- the names after one more use: a new name goes last
 abbrev pub with_name : List (List ℕ) → List ℕ → List (List ℕ)

@@ -1,7 +1,6 @@
 -- What is seen of an accrual that keeps its steps as bits.
 use Rattle.std.specs.Prelude.{List, map}
-use Rattle.device_objects.specs.declared.state.AccrualSlot.{AccrualSlot}
-use Rattle.device_objects.specs.Flags.{flags}
+use Rattle.device_objects.specs.{declared.state.AccrualSlot.AccrualSlot, Flags.flags}
 use Rattle.logic_blocks.specs.declared.mask_accrual.MaskSlot.{MaskSlot}
 
 abbrev pub slot_of : MaskSlot → AccrualSlot

@@ -1,9 +1,6 @@
 -- Being told to start or to stop changes no mode from one that runs to one that does not, or back.
-use Rattle.std.proofs.Common.{◌≡◌, Bool, true, false, if◌then◌else◌, refl, sym}
-use Rattle.std.proofs.Math.Seq.{map-set_same}
-use Rattle.mode_stack.specs.declared.phase.Phase.{Phase}
-use Rattle.mode_stack.specs.declared.phase.Phase.TheVariants.{Idle, Starting}
-use Rattle.mode_stack.specs.declared.phase.ModeState.{ModeState}
+use Rattle.std.proofs.{Common.{◌≡◌, Bool, true, false, if◌then◌else◌, refl, sym}, Math.Seq.map-set_same}
+use Rattle.mode_stack.specs.declared.phase.{Phase.{Phase, TheVariants.{Idle, Starting}}, ModeState.ModeState}
 use Rattle.mode_stack.specs.ModeStep.{in_phase, is_running, starts, started, stopped}
 use Rattle.mode_stack.specs.Modes.{mode_state, StartingKeepsWhoRuns}
 

@@ -1,10 +1,8 @@
 -- A mode, and what is done with it.
 use Rattle.std.specs.Prelude.{Bool, true, false, not, ◌||◌, if◌then◌else◌}
-use Rattle.mode_stack.specs.declared.phase.Phase.{Phase}
-use Rattle.mode_stack.specs.declared.phase.Phase.TheVariants.{Idle, Starting, Active, Stopping}
+use Rattle.mode_stack.specs.declared.phase.Phase.{Phase, TheVariants.{Idle, Starting, Active, Stopping}}
 use Rattle.mode_stack.specs.declared.phase.ModeState.{ModeState}
-use Rattle.mode_stack.specs.declared.phase.StopAnswer.{StopAnswer}
-use Rattle.mode_stack.specs.declared.phase.StopAnswer.TheVariants.{Post, Kept, Ignored}
+use Rattle.mode_stack.specs.declared.phase.StopAnswer.{StopAnswer, TheVariants.{Post, Kept, Ignored}}
 
 -- a mode in a phase, with no stop kept
 abbrev pub in_phase : Phase → ModeState

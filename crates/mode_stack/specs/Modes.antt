@@ -1,9 +1,7 @@
 -- All modes of a plan.
 use Rattle.std.specs.Prelude.{◌≡◌, ℕ, Bool, List, length, map, replicate, slice_index_or, slice_set}
-use Rattle.plan_tables.specs.declared.entries.ModeId.{ModeId}
-use Rattle.plan_tables.specs.PlanView.{PlanView, mode_at}
-use Rattle.mode_stack.specs.declared.phase.Phase.TheVariants.{Idle}
-use Rattle.mode_stack.specs.declared.phase.ModeState.{ModeState}
+use Rattle.plan_tables.specs.{declared.entries.ModeId.ModeId, PlanView.{PlanView, mode_at}}
+use Rattle.mode_stack.specs.declared.phase.{Phase.TheVariants.Idle, ModeState.ModeState}
 use Rattle.mode_stack.specs.ModeStep.{in_phase, is_running, started, stopped}
 
 -- a plan, and the state of each of its modes, by number

@@ -1,12 +1,9 @@
 -- What the events of the game post is among their choices.
 use Rattle.std.proofs.Common.{◌≡◌, ℕ, Bool, true, false, if◌then◌else◌, List, [], ◌∷◌, ◌==◌, ◌-◌, Contains, Some, refl, zero-le, suc-le-suc}
-use Rattle.plan_tables.specs.PlanView.{PlanView}
-use Rattle.plan_tables.specs.declared.entries.GameEvent.{GameEvent}
+use Rattle.plan_tables.specs.{PlanView.PlanView, declared.entries.{GameEvent.GameEvent, GameRules.GameRules}}
 use Rattle.plan_tables.specs.declared.entries.GameEvent.TheVariants.{SwStart, GameWillStart, PlayerAdded, PlayerTurnWillStart, BallDrain, BallWillEnd, BallEnding, BallEnded, PlayerTurnEnded, GameWillEnd}
-use Rattle.plan_tables.specs.declared.entries.GameRules.{GameRules}
-use Rattle.player_game.specs.Players.{PlayersState}
+use Rattle.player_game.specs.{Players.PlayersState, Choices.{StepsAreChoices, choices, tells_scores, asks_for_ball}}
 use Rattle.player_game.specs.GameStep.{GameState, GameStep, can_begin, can_join, game_step, is_ball_on, is_held, is_over, leads_to}
-use Rattle.player_game.specs.Choices.{StepsAreChoices, choices, tells_scores, asks_for_ball}
 
 -- ---- places in a list
 

@@ -1,8 +1,6 @@
 -- The event of the game that says that a ball has drained.
-use Rattle.std.proofs.Common.{◌≡◌, true, refl}
-use Rattle.std.proofs.lemmas.Bool.{false≢true}
-use Rattle.plan_tables.specs.declared.entries.GameEvent.{GameEvent}
-use Rattle.plan_tables.specs.declared.entries.GameEvent.TheVariants.{BallDrain}
+use Rattle.std.proofs.{Common.{◌≡◌, true, refl}, lemmas.Bool.false≢true}
+use Rattle.plan_tables.specs.declared.entries.GameEvent.{GameEvent, TheVariants.BallDrain}
 use Rattle.player_game.specs.Choices.{is_drain}
 
 -- it is the only one

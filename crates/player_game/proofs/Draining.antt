@@ -1,12 +1,10 @@
 -- What follows where a ball drains, and where balls are added.
-use Rattle.std.proofs.Common.{◌≡◌, ℕ, ◌+◌, ◌-◌, ◌==◌, Bool, true, false, if◌then◌else◌, Option, None, Some, [], ◌∷◌, refl, ap, arith}
+use Rattle.std.proofs.Common.{◌≡◌, ℕ, ◌-◌, ◌==◌, Bool, true, false, if◌then◌else◌, Option, None, Some, [], ◌∷◌, refl, arith}
 use Rattle.std.proofs.lemmas.Bool.{eqb-true}
 use Rattle.plan_tables.specs.PlanView.{PlanView}
-use Rattle.plan_tables.specs.declared.entries.GameEvent.TheVariants.{BallDrain, BallWillEnd}
-use Rattle.plan_tables.specs.declared.entries.GameRules.{GameRules}
+use Rattle.plan_tables.specs.declared.entries.{GameEvent.TheVariants.{BallDrain, BallWillEnd}, GameRules.GameRules}
 use Rattle.player_game.specs.declared.game.GamePhase.TheVariants as phases
-use Rattle.player_game.specs.Players.{PlayersState}
-use Rattle.player_game.specs.GameStep.{GameState, game_step, in_play, is_ball_on, leads_to, missing, more_balls}
+use Rattle.player_game.specs.{Players.PlayersState, GameStep.{GameState, game_step, in_play, is_ball_on, leads_to}}
 use Rattle.player_game.proofs.Chosen.{steps_are_choices}
 
 -- ---- a ball drains

@@ -1,10 +1,8 @@
 -- What a change of a slot is for the players.
 use Rattle.std.proofs.Common.{◌≡◌, ℕ, ◌-◌, ◌<◌, ◌≤◌, List, length, take, get_or, slice_set, sym, ap, ◌∙◌, arith}
-use Rattle.std.proofs.Math.Seq.{take-set-lt}
-use Rattle.std.proofs.lemmas.List.{get_or-take}
+use Rattle.std.proofs.{Math.Seq.take-set-lt, lemmas.List.get_or-take}
 use Rattle.plan_tables.specs.PlanView.{PlanView}
-use Rattle.player_game.specs.Players.{PlayerState, new_player, with_current}
-use Rattle.player_game.specs.Kept.{players_view}
+use Rattle.player_game.specs.{Players.{PlayerState, new_player, with_current}, Kept.players_view}
 
 -- the slot of the current player changes, and so does the player
 pub slot_changed : (plan : PlanView) (change : PlayerState → PlayerState) (slots : List PlayerState) (count current : ℕ) (old : PlayerState)

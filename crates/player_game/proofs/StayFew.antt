@@ -1,11 +1,8 @@
 -- The players stay as few as there can be at each event of the game.
 use Rattle.std.proofs.Common.{◌≡◌, ℕ, ◌≤◌, ◌-◌, ◌==◌, nat_le, nat_lt, Bool, true, false, if◌then◌else◌, Option, None, Some, [], ◌∷◌, ◌++◌, length, refl, arith, zero-le}
-use Rattle.std.proofs.lemmas.Bool.{leb-true, ltb-true}
-use Rattle.std.proofs.lemmas.List.{length-append, length-set}
-use Rattle.plan_tables.specs.PlanView.{PlanView}
-use Rattle.plan_tables.specs.declared.entries.GameEvent.{GameEvent}
+use Rattle.std.proofs.lemmas.{Bool.{leb-true, ltb-true}, List.{length-append, length-set}}
+use Rattle.plan_tables.specs.{PlanView.PlanView, declared.entries.{GameEvent.GameEvent, GameRules.GameRules}}
 use Rattle.plan_tables.specs.declared.entries.GameEvent.TheVariants.{SwStart, PlayerAdded, GameStarted, PlayerTurnStarted, BallDrain, PlayerTurnEnded, GameEnded}
-use Rattle.plan_tables.specs.declared.entries.GameRules.{GameRules}
 use Rattle.player_game.specs.Players.{PlayerState, PlayersState, added, most_players, new_player, next_ball, no_players, player_at, turned, with_current, with_next_ball}
 use Rattle.player_game.specs.GameStep.{GameState, GameStep, can_begin, game_step, is_ball_on, is_over}
 use Rattle.player_game.specs.Choices.{AreFew, PlayersStayFew}

@@ -1,11 +1,8 @@
 -- What the events of the game can post, whatever the state of the game.
 use Rattle.std.specs.Prelude.{◌≡◌, ℕ, ◌≤◌, Bool, true, false, Some, List, [], ◌∷◌, length, Contains}
-use Rattle.plan_tables.specs.PlanView.{PlanView}
-use Rattle.plan_tables.specs.declared.entries.GameEvent.{GameEvent}
+use Rattle.plan_tables.specs.{PlanView.PlanView, declared.entries.{GameEvent.GameEvent, GameRules.GameRules}}
 use Rattle.plan_tables.specs.declared.entries.GameEvent.TheVariants.{SwStart, GameWillStart, GameStarting, PlayerAdded, GameStarted, PlayerTurnWillStart, PlayerTurnStarting, PlayerTurnStarted, BallWillStart, BallStarting, BallStarted, BallDrain, BallWillEnd, BallEnding, BallEnded, PlayerTurnWillEnd, PlayerTurnEnding, PlayerTurnEnded, GameWillEnd, GameEnding, GameEnded}
-use Rattle.plan_tables.specs.declared.entries.GameRules.{GameRules}
-use Rattle.player_game.specs.Players.{PlayersState, most_players}
-use Rattle.player_game.specs.GameStep.{GameState, game_step}
+use Rattle.player_game.specs.{Players.{PlayersState, most_players}, GameStep.{GameState, game_step}}
 
 -- the events that it posts, by each way that it can go
 abbrev pub choices : GameEvent → List (List GameEvent)

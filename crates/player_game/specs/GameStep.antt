@@ -1,12 +1,9 @@
 -- What the game itself does at its events. When a ball drains, ball saves are asked before it (`written_machine`).
 use Rattle.std.specs.Prelude.{ℕ, ◌+◌, ◌-◌, ◌^◌, ◌==◌, nat_lt, nat_le, Bool, true, false, not, ◌&&◌, if◌then◌else◌, pos, Option, None, Some, List, [], ◌∷◌, length, replicate, slice_index_or, slice_set}
-use Rattle.std.specs.List.{list_any}
-use Rattle.std.specs.Ordering.{int_eq}
+use Rattle.std.specs.{List.list_any, Ordering.int_eq}
 use Rattle.plan_tables.specs.PlanView.{PlanView}
-use Rattle.plan_tables.specs.declared.entries.ModeId.{ModeId}
-use Rattle.plan_tables.specs.declared.entries.GameEvent.{GameEvent}
+use Rattle.plan_tables.specs.declared.entries.{ModeId.ModeId, GameEvent.GameEvent, GameRules.GameRules}
 use Rattle.plan_tables.specs.declared.entries.GameEvent.TheVariants.{SwStart, GameWillStart, GameStarting, PlayerAdded, GameStarted, PlayerTurnWillStart, PlayerTurnStarting, PlayerTurnStarted, BallWillStart, BallStarting, BallStarted, BallDrain, BallWillEnd, BallEnding, BallEnded, PlayerTurnWillEnd, PlayerTurnEnding, PlayerTurnEnded, GameWillEnd, GameEnding, GameEnded}
-use Rattle.plan_tables.specs.declared.entries.GameRules.{GameRules}
 use Rattle.player_game.specs.declared.game.GamePhase.{GamePhase}
 use Rattle.player_game.specs.declared.game.GamePhase.TheVariants as phases
 use Rattle.player_game.specs.Players.{PlayersState, no_players, ball_now, turned, added, next_turn, next_ball}

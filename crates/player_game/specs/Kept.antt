@@ -1,10 +1,8 @@
 -- What the fields of `Players` hold.
-use Rattle.std.specs.Prelude.{◌≡◌, ℕ, ◌<◌, ◌≤◌, List, length, take, IfSome}
-use Rattle.std.specs.List.{All}
+use Rattle.std.specs.{Prelude.{◌≡◌, ℕ, ◌<◌, ◌≤◌, List, length, take, IfSome}, List.All}
 use Rattle.plan_tables.specs.PlanView.{PlanView}
-use Rattle.player_game.specs.declared.special.Special.{Special}
+use Rattle.player_game.specs.{declared.special.Special.Special, Special.special_of}
 use Rattle.player_game.specs.Players.{PlayerState, PlayersView, most_players}
-use Rattle.player_game.specs.Special.{special_of}
 
 -- the first slots are those of the players
 abbrev pub players_view : PlanView → List PlayerState → ℕ → ℕ → PlayersView

@@ -1,14 +1,10 @@
 -- The players of a game: their variables, and whose turn it is.
 use Rattle.std.specs.Prelude.{ℕ, ◌+◌, ◌-◌, ◌==◌, nat_lt, nat_le, Bool, true, false, not, ◌&&◌, ◌||◌, if◌then◌else◌, ℤ, pos, ◌+ℤ◌, Option, None, Some, List, [], ◌∷◌, ◌++◌, length, replicate, slice_index_or, slice_set, codes}
-use Rattle.std.specs.Ordering.{int_eq}
-use Rattle.std.specs.Option.{option_map_or}
+use Rattle.std.specs.{Ordering.int_eq, Option.option_map_or}
 use Rattle.mpf_values.specs.Comparing.{compares}
 use Rattle.plan_tables.specs.PlanView.{PlanView, variable_named}
-use Rattle.plan_tables.specs.declared.entries.VariableId.{VariableId}
-use Rattle.machine_settings.specs.declared.words.VariableAction.{VariableAction}
-use Rattle.machine_settings.specs.declared.words.VariableAction.TheVariants.{Add, Set}
-use Rattle.plan_tables.specs.declared.entries.Condition.{Condition}
-use Rattle.plan_tables.specs.declared.entries.GameRules.{GameRules}
+use Rattle.plan_tables.specs.declared.entries.{VariableId.VariableId, Condition.Condition, GameRules.GameRules}
+use Rattle.machine_settings.specs.declared.words.VariableAction.{VariableAction, TheVariants.{Add, Set}}
 use Rattle.device_objects.specs.Values.{clamped}
 
 -- which ball a player is at, from 1 on and 0 before the first; and the value of each variable, by number

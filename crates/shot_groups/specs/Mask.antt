@@ -1,7 +1,6 @@
 -- What is seen of a bank of shots that keeps as bits which shots are enabled.
 use Rattle.std.specs.Prelude.{List, map}
-use Rattle.device_objects.specs.declared.state.BankSlot.{BankSlot}
-use Rattle.device_objects.specs.Flags.{flags}
+use Rattle.device_objects.specs.{declared.state.BankSlot.BankSlot, Flags.flags}
 use Rattle.shot_groups.specs.declared.mask_bank.MaskSlot.{MaskSlot}
 
 abbrev pub slot_of : MaskSlot → BankSlot

@@ -1,15 +1,11 @@
 -- What each call does with the due moments: a change arms its own switch alone, and later than its moment; what is accepted is not due any more.
 use Rattle.std.proofs.Common.{rules, ◌≡◌, ◌≢◌, ℕ, ◌<◌, ◌≤◌, ◌⊎◌, Bool, Some, None, List, length, map, slice_set, slice_index_or, refl, ap, sym, subst, inl, inr}
-use Rattle.std.proofs.lemmas.Bool.{cases_lt, cases_eq}
-use Rattle.std.proofs.Math.ListN.{get_or-map}
-use Rattle.std.proofs.lemmas.Option.{none-some}
+use Rattle.std.proofs.{lemmas.{Bool.{cases_lt, cases_eq}, Option.none-some}, Math.ListN.get_or-map}
 use Rattle.std.proofs.lemmas.List.{get_or-set_same, get_or-set_other, get_or_past, set_past}
-use Rattle.plan_tables.specs.declared.entries.SwitchId.{SwitchId}
-use Rattle.plan_tables.specs.declared.entries.SwitchKind.{SwitchKind}
+use Rattle.plan_tables.specs.declared.entries.{SwitchId.SwitchId, SwitchKind.SwitchKind}
 use Rattle.plan_tables.specs.PlanView.{PlanView, PlanSwitch, no_switch, switch_at}
-use Rattle.switch_core.specs.SwitchStep.{SwitchState, idle, changed, fired}
+use Rattle.switch_core.specs.{SwitchStep.{SwitchState, idle, changed, fired}, Calls.ChangesArmLater}
 use Rattle.switch_core.specs.Switches.{SwitchesView, no_kind, kind_at, state_at, set_state, due_of, all_idle, after_change, IsNextDue, IsNothingDue, accept, accept_due, after_fire}
-use Rattle.switch_core.specs.Calls.{ChangesArmLater}
 use Rattle.switch_core.proofs.NextDue.{next_due-is}
 
 -- ---- the state of a switch is set

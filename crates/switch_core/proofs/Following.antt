@@ -2,15 +2,13 @@
 use Rattle.std.proofs.Common.{rules, ◌≡◌, ◌≢◌, ℕ, ◌+◌, ◌<◌, ◌≤◌, ◌==◌, Bool, true, false, not, cond, ◌&&◌, Option, Some, None, List, [], ◌∷◌, ◌++◌, length, nat_le, slice_index_or, refl, ap, sym, subst, ◌∙◌, inl, inr, append-nil, append_assoc, arith}
 use Rattle.std.proofs.lemmas.Bool.{cases_Bool, cases_eq, cond-false, and_left, ne_eqb, eq-eqb}
 use Rattle.std.proofs.lemmas.List.{length-map, get_or-map}
-use Rattle.plan_tables.specs.declared.entries.SwitchId.{SwitchId}
-use Rattle.plan_tables.specs.declared.entries.SwitchKind.{SwitchKind}
+use Rattle.plan_tables.specs.declared.entries.{SwitchId.SwitchId, SwitchKind.SwitchKind}
 use Rattle.plan_tables.specs.PlanView.{PlanView, switch_at}
 use Rattle.switch_core.specs.SwitchStep.{SwitchState, same_level, is_active, raw_at_rest, idle, accepted, awaited, changed, fired}
 use Rattle.switch_core.specs.Switches.{SwitchesView, no_kind, kind_at, state_at, set_state, due_of, all_idle, after_change, IsNextDue, IsNothingDueBy, accept, accept_due, after_fire}
 use Rattle.switch_core.specs.AcceptedLevel.{RawChange, accepted_level}
 use Rattle.switch_core.specs.Calls.{SwitchCall, Change, Fire, after_calls, last_moment, AreInTime, raw_changes, LevelsAreAccepted, NothingIsLate}
-use Rattle.switch_core.proofs.Levels.{accepted-push}
-use Rattle.switch_core.proofs.NextDue.{next_due-is}
+use Rattle.switch_core.proofs.{Levels.accepted-push, NextDue.next_due-is}
 
 -- ---- one switch
 

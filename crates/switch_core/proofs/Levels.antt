@@ -1,12 +1,10 @@
 -- The accepted level after one more raw change.
-use Rattle.std.proofs.Common.{rules, ◌≡◌, ℕ, ◌+◌, ◌≤◌, Bool, true, cond, ◌&&◌, Option, Some, None, List, [], ◌∷◌, ◌++◌, nat_le, refl, ap, sym, ◌∙◌, append-nil, arith}
+use Rattle.std.proofs.Common.{rules, ◌≡◌, ℕ, ◌+◌, ◌≤◌, Bool, true, cond, ◌&&◌, Option, Some, List, [], ◌∷◌, ◌++◌, nat_le, refl, ap, sym, ◌∙◌, arith}
 use Rattle.std.specs.List.{filter, list_all, last_or}
-use Rattle.std.proofs.lemmas.Bool.{le-leb, leb-true}
-use Rattle.std.proofs.lemmas.List.Folds.{list_all-append}
-use Rattle.machine_settings.specs.declared.words.Contact.{Contact}
+use Rattle.std.proofs.lemmas.{Bool.{le-leb, leb-true}, List.Folds.list_all-append}
 use Rattle.plan_tables.specs.declared.entries.SwitchKind.{SwitchKind}
 use Rattle.switch_core.specs.SwitchStep.{is_active}
-use Rattle.switch_core.specs.AcceptedLevel.{RawChange, delay_of, standing, is_delay_over, active_after, accepted_level}
+use Rattle.switch_core.specs.AcceptedLevel.{RawChange, delay_of, standing, is_delay_over, accepted_level}
 
 and-true : (b : Bool) → (b && true) ≡ b
 and-true b = search rules

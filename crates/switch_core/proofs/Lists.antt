@@ -1,19 +1,12 @@
 -- The fields of `Switches`, and the switches that they are.
 use Rattle.std.proofs.Common.{rules, ◌≡◌, ℕ, ◌<◌, ◌≤◌, Bool, false, not, if◌then◌else◌, Option, Some, None, option_map, IfSome, List, [], length, map, nat_eq, slice_index_or, slice_set, Vec, Global, vec_capacity, refl, ap, ap₂, sym, ◌∙◌, arith}
-use Rattle.std.specs.Bool.{then_some}
-use Rattle.std.specs.Option.{option_eq}
-use Rattle.std.proofs.lemmas.Bool.{cases_lt}
-use Rattle.std.proofs.lemmas.Option.{none-some}
+use Rattle.std.{specs.{Bool.then_some, Option.option_eq}, proofs.lemmas.{Bool.cases_lt, Option.none-some}}
 use Rattle.std.proofs.lemmas.List.{length-map, length-set, get_or_past, get_or_read, get_or-map, get_or-set_same, map-set}
-use Rattle.plan_tables.specs.declared.entries.SwitchId.{SwitchId}
-use Rattle.plan_tables.specs.declared.entries.SwitchKind.{SwitchKind}
-use Rattle.plan_tables.specs.PlanView.{PlanSwitch}
-use Rattle.switch_core.specs.declared.change.Change.{Change}
-use Rattle.switch_core.specs.declared.state.State.{State}
+use Rattle.plan_tables.specs.{declared.entries.{SwitchId.SwitchId, SwitchKind.SwitchKind}, PlanView.PlanSwitch}
+use Rattle.switch_core.specs.declared.{change.Change.Change, state.State.State}
 use Rattle.switch_core.specs.SwitchStep.{SwitchState, idle, changed, is_taken, fired}
-use Rattle.switch_core.specs.StateView.{state_view}
+use Rattle.switch_core.specs.{StateView.state_view, Inside.{waiting_from, soonest, IsWaiting, IsKept}}
 use Rattle.switch_core.specs.Switches.{SwitchesView, IsComplete, no_kind, kind_at, state_at, set_state, due_of, reported, after_change, reported_by_change, IsNextDue, next_due_from, next_due, accept, accept_due, after_fire, reported_by_fire}
-use Rattle.switch_core.specs.Inside.{waiting_from, soonest, IsWaiting, IsKept}
 use Rattle.switch_core.proofs.NextDue.{next_due-least, nothing_due-is, next_due-same}
 use Rattle.switch_core.proofs.DueMoments.{idle_list-nothing_due, due-kept}
 use Rattle.switch_core.proofs.Waiting.{idle-waiting, soonest-is, waiting-set, waiting-was}

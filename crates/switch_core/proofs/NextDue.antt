@@ -1,10 +1,8 @@
 -- What is due next is what has the least moment, and of equal moments the least number.
 use Rattle.std.proofs.Common.{rules, ◌≡◌, ℕ, suc, ◌+◌, ◌<◌, ◌≤◌, ◌⊎◌, false, Option, Some, None, option_map, MatchOption, IfSome, IfNone, List, [], ◌∷◌, nat_le, slice_index_or, refl, sym, subst, ◌∙◌, inl, inr, arith}
 use Rattle.std.specs.Option.{option_map_or}
-use Rattle.std.proofs.lemmas.Bool.{cond_both, leb-true, leb-false}
-use Rattle.std.proofs.lemmas.Option.{none-some, same_Some}
-use Rattle.plan_tables.specs.declared.entries.SwitchId.{SwitchId}
-use Rattle.plan_tables.specs.Due.{sooner}
+use Rattle.std.proofs.lemmas.{Bool.{cond_both, leb-true, leb-false}, Option.{none-some, same_Some}}
+use Rattle.plan_tables.specs.{declared.entries.SwitchId.SwitchId, Due.sooner}
 use Rattle.switch_core.specs.SwitchStep.{SwitchState, idle}
 use Rattle.switch_core.specs.Switches.{SwitchesView, no_kind, due_of, IsNextDue, IsNothingDue, IsNothingDueBy, next_due_from, next_due}
 

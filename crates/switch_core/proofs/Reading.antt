@@ -1,13 +1,10 @@
 -- What the state of a switch says of its raw level: it was accepted, or is due and says the other level than that which
 -- was accepted last. So each level that is accepted is another one than before.
-use Rattle.std.proofs.Common.{rules, ◌≡◌, ◌≢◌, ℕ, ◌<◌, Bool, true, false, not, Option, Some, None, length, refl, sym, ap, subst, ◌∙◌, inl, inr}
+use Rattle.std.proofs.Common.{rules, ◌≡◌, ◌≢◌, ℕ, ◌<◌, Bool, true, false, not, Some, length, refl, sym, ap, subst, ◌∙◌, inl, inr}
 use Rattle.std.proofs.lemmas.Bool.{cases_lt, cases_eq}
-use Rattle.machine_settings.specs.declared.words.Contact.{Contact}
-use Rattle.plan_tables.specs.declared.entries.SwitchId.{SwitchId}
-use Rattle.plan_tables.specs.declared.entries.SwitchKind.{SwitchKind}
-use Rattle.plan_tables.specs.PlanView.{PlanView}
-use Rattle.switch_core.specs.SwitchStep.{SwitchState, is_active, raw_at_rest, idle, changed, is_taken, fired}
-use Rattle.switch_core.specs.Switches.{SwitchesView, kind_at, state_at, active_at, set_state, due_of, all_idle, after_change, accept, IsReadBy, IsRead, AreRead}
+use Rattle.plan_tables.specs.{declared.entries.{SwitchId.SwitchId, SwitchKind.SwitchKind}, PlanView.PlanView}
+use Rattle.switch_core.specs.SwitchStep.{SwitchState, changed, is_taken, fired}
+use Rattle.switch_core.specs.Switches.{SwitchesView, kind_at, state_at, active_at, set_state, due_of, all_idle, after_change, accept, IsRead, AreRead}
 use Rattle.switch_core.proofs.DueMoments.{state-other, state-same, set-past, idle-kind, idle-state}
 
 -- ---- one switch

@@ -1,10 +1,8 @@
 -- Lists of calls, and the law that they keep.
 use Rattle.std.specs.Prelude.{◌≡◌, ℕ, ◌<◌, ◌≤◌, ◌==◌, ◌⊎◌, Bool, not, ◌&&◌, if◌then◌else◌, Some, List, [], ◌∷◌, length}
-use Rattle.plan_tables.specs.declared.entries.SwitchId.{SwitchId}
-use Rattle.plan_tables.specs.PlanView.{PlanView, switch_at}
-use Rattle.switch_core.specs.SwitchStep.{same_level, raw_at_rest}
+use Rattle.plan_tables.specs.{declared.entries.SwitchId.SwitchId, PlanView.{PlanView, switch_at}}
+use Rattle.switch_core.specs.{SwitchStep.{same_level, raw_at_rest}, AcceptedLevel.{RawChange, accepted_level}}
 use Rattle.switch_core.specs.Switches.{SwitchesView, all_idle, after_change, after_fire, active_at, due_of, IsNextDue, IsNothingDueBy}
-use Rattle.switch_core.specs.AcceptedLevel.{RawChange, accepted_level}
 
 -- a call of `change` or of `fire`, with its moment
 pub data SwitchCall : Type 0 where

@@ -1,8 +1,7 @@
 -- What `Switches` keeps of its switches.
 use Rattle.std.specs.Prelude.{◌≡◌, ℕ, ◌+◌, ◌<◌, ◌≤◌, Option, None, Some, List, [], ◌∷◌, length, slice_index_or, Vec, vec_capacity}
 use Rattle.std.specs.Global.{Global}
-use Rattle.plan_tables.specs.declared.entries.SwitchId.{SwitchId}
-use Rattle.plan_tables.specs.Due.{sooner}
+use Rattle.plan_tables.specs.{declared.entries.SwitchId.SwitchId, Due.sooner}
 use Rattle.switch_core.specs.SwitchStep.{SwitchState, idle}
 use Rattle.switch_core.specs.Switches.{SwitchesView, IsComplete, no_kind, due_as, next_due}
 

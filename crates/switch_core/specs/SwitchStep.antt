@@ -1,7 +1,6 @@
 -- A switch, and what is done with it.
 use Rattle.std.specs.Prelude.{ℕ, ◌+◌, Bool, true, false, not, ◌&&◌, if◌then◌else◌, Option, None, Some}
-use Rattle.machine_settings.specs.declared.words.Contact.{Contact}
-use Rattle.machine_settings.specs.declared.words.Contact.TheVariants.{NormallyOpen, NormallyClosed}
+use Rattle.machine_settings.specs.declared.words.Contact.{Contact, TheVariants.{NormallyOpen, NormallyClosed}}
 use Rattle.plan_tables.specs.declared.entries.SwitchKind.{SwitchKind}
 
 -- a switch: its raw level, whether it is active by the level that was accepted last, and the moment at which the raw

@@ -1,9 +1,7 @@
 -- All switches of a plan, and what each call does with them.
 use Rattle.std.specs.Prelude.{◌≡◌, ℕ, ◌+◌, ◌<◌, ◌≤◌, ◌⊎◌, Bool, false, not, if◌then◌else◌, Option, None, Some, option_map, List, [], ◌∷◌, length, map, slice_index_or, slice_set}
-use Rattle.plan_tables.specs.declared.entries.SwitchId.{SwitchId}
-use Rattle.plan_tables.specs.declared.entries.SwitchKind.{SwitchKind}
-use Rattle.plan_tables.specs.PlanView.{PlanView, no_switch}
-use Rattle.plan_tables.specs.Due.{sooner}
+use Rattle.plan_tables.specs.declared.entries.{SwitchId.SwitchId, SwitchKind.SwitchKind}
+use Rattle.plan_tables.specs.{PlanView.{PlanView, no_switch}, Due.sooner}
 use Rattle.switch_core.specs.declared.change.Change.{Change}
 use Rattle.switch_core.specs.SwitchStep.{SwitchState, is_active, idle, changed, is_taken, fired}
 

@@ -1,5 +1,4 @@
-use Rattle.std.proofs.Common.{true, refl, sym, ◌∙◌, ap, arith}
-use Rattle.std.specs.Option.{is_some}
+use Rattle.std.{proofs.Common.{true, refl, sym, ◌∙◌, ap, arith}, specs.Option.is_some}
 use Rattle.first_names.proofs.FirstNames.{table_there, table_full, table_more, number_there, number_full, number_new}
 use Rattle.first_names.proofs.note_name.Goals as goal
 

@@ -1,7 +1,5 @@
 use Rattle.std.proofs.Common.{◌+◌, ◌<◌, [], List, ℕ, length, ap, ◌∙◌, sym, subst, arith}
-use Rattle.cascade_rank.specs.Order.{IsOrdering}
-use Rattle.cascade_rank.proofs.Ordering.{meets_all}
-use Rattle.cascade_rank.proofs.Leading.{meeting_starts, written_back}
+use Rattle.cascade_rank.{specs.Order.IsOrdering, proofs.{Ordering.meets_all, Leading.{meeting_starts, written_back}}}
 use Rattle.cascade_rank.proofs.ground.ground.Goals as goal
 
 pub meet-requires : goal.meet-requires

@@ -1,7 +1,6 @@
 use Rattle.std.proofs.Common.{◌-◌, ◌∙◌, List, get_or, slice_index, refl, sym, subst, arith, length-set, take_all, get_or-set_same}
 use Rattle.plan_tables.specs.declared.entries.EventId.{EventId}
-use Rattle.cascade_rank.specs.Events.{no_event}
-use Rattle.cascade_rank.specs.Order.{IsMeeting}
+use Rattle.cascade_rank.specs.{Events.no_event, Order.IsMeeting}
 use Rattle.cascade_rank.proofs.Ordering.{meets_inside, meets_some, meets_keeps, meets_lists}
 use Rattle.cascade_rank.proofs.ground.meet.Goals as goal
 use Rattle.cascade_rank.proofs.ground.meet.Goals.{then-left-place-eq0+in_ok-push, else-left-place-eq0}

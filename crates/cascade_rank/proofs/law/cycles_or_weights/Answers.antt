@@ -1,5 +1,4 @@
-use Rattle.cascade_rank.proofs.Cycles.{cycle-no_fit, cycle-open, open-cycle}
-use Rattle.cascade_rank.proofs.Finds.{not_open-least}
+use Rattle.cascade_rank.proofs.{Cycles.{cycle-no_fit, cycle-open, open-cycle}, Finds.not_open-least}
 use Rattle.cascade_rank.proofs.law.cycles_or_weights.Goals as goal
 
 pub returns-clause-cycle : goal.returns-clause-cycle

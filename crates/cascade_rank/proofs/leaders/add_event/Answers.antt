@@ -1,10 +1,6 @@
-use Rattle.std.proofs.Common.{rules, ◌<◌, List, length, get_or, refl, subst, arith, take_all}
-use Rattle.std.proofs.lemmas.List.Elements.{All-get_or}
+use Rattle.std.proofs.{Common.{rules, ◌<◌, length, get_or, refl, arith, take_all}, lemmas.List.Elements.All-get_or}
 use Rattle.plan_tables.specs.Valid.{IsEventWithin}
-use Rattle.plan_tables.specs.declared.entries.EventId.{EventId}
-use Rattle.cascade_rank.specs.Cost.{Lines, each_of, cost_of_post}
-use Rattle.cascade_rank.specs.Events.{no_event}
-use Rattle.cascade_rank.specs.Leaders.{AddsLeader}
+use Rattle.cascade_rank.specs.{Cost.{Lines, cost_of_post}, Events.no_event}
 use Rattle.cascade_rank.proofs.Leading.{adds-none, adds-more, adds-one}
 use Rattle.cascade_rank.proofs.leaders.add_event.Goals as goal
 

@@ -1,6 +1,5 @@
 use Rattle.std.proofs.Common.{take}
-use Rattle.cascade_rank.specs.Cost.{each_of, cost_of_post}
-use Rattle.cascade_rank.specs.Leaders.{AddsLeader}
+use Rattle.cascade_rank.specs.{Cost.{each_of, cost_of_post}, Leaders.AddsLeader}
 use Rattle.cascade_rank.proofs.leaders.add_event.Given as goal
 
 -- the event leads to each of those so far

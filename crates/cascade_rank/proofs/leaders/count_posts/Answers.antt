@@ -1,10 +1,5 @@
-use Rattle.std.proofs.Common.{rules, List, length, sym, subst, ap, ◌∙◌}
-use Rattle.plan_tables.specs.declared.entries.EventId.{EventId}
-use Rattle.cascade_rank.specs.Cost.{each_of, cost_of_post}
-use Rattle.cascade_rank.specs.Leaders.{AddsLeader}
-use Rattle.cascade_rank.proofs.Events.{event}
-use Rattle.cascade_rank.proofs.Leading.{leaders_more}
-use Rattle.cascade_rank.proofs.Within.{posts_of_event-within}
+use Rattle.std.proofs.Common.{rules, length, ◌∙◌}
+use Rattle.cascade_rank.proofs.{Events.event, Leading.leaders_more, Within.posts_of_event-within}
 use Rattle.cascade_rank.proofs.leaders.count_posts.Goals as goal
 
 pub add_event-requires : goal.add_event-requires

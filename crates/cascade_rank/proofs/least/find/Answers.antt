@@ -1,13 +1,8 @@
-use Rattle.std.proofs.Common.{rules, List, ℕ, nat_lt, Option, position, Err, Ok, ap, ◌∙◌, sym, subst, arith}
+use Rattle.std.proofs.Common.{rules, List, ℕ, nat_lt, Option, position, Err, Ok, ap, ◌∙◌, sym, subst}
 use Rattle.std.specs.Option.{option_map}
 use Rattle.plan_tables.specs.declared.entries.EventId.{EventId}
-use Rattle.cascade_rank.specs.Weights.{IsLeastFitting, IsWithinLimit}
-use Rattle.cascade_rank.specs.Finding.{cycle, found_past}
-use Rattle.cascade_rank.specs.Lowest.{IsLeft}
-use Rattle.cascade_rank.specs.Order.{IsWholeOrder}
-use Rattle.cascade_rank.proofs.Events.{event}
-use Rattle.cascade_rank.proofs.Limits.{events-few}
-use Rattle.cascade_rank.proofs.Cycles.{cycle-no_fit}
+use Rattle.cascade_rank.specs.{Weights.IsWithinLimit, Finding.{cycle, found_past}}
+use Rattle.cascade_rank.proofs.{Events.event, Limits.events-few, Cycles.cycle-no_fit}
 use Rattle.cascade_rank.proofs.Finds.{left_is_open, found_past_is, first_is_open, all_grounded, whole_order, found_within, least_within, found_above, too_dear}
 use Rattle.cascade_rank.proofs.least.find.Goals as goal
 

@@ -1,7 +1,5 @@
 use Rattle.std.proofs.Common.{◌≡◌, ◌+◌, List, ℕ, min, take, set, ap, ◌∙◌, sym, subst, arith, length-set}
-use Rattle.cascade_rank.specs.Cost.{price, cost_of_event}
-use Rattle.cascade_rank.specs.Events.{nth_event, weight_of}
-use Rattle.cascade_rank.specs.Weights.{greatest}
+use Rattle.cascade_rank.specs.{Cost.{price, cost_of_event}, Events.{nth_event, weight_of}, Weights.greatest}
 use Rattle.cascade_rank.proofs.Grounding.{AreWeighed, weighs_more}
 use Rattle.cascade_rank.proofs.least.weigh.Goals as goal
 

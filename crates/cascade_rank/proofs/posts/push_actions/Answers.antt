@@ -1,6 +1,5 @@
 use Rattle.plan_tables.specs.declared.entries.Action.TheVariants.{Post}
-use Rattle.cascade_rank.specs.Cost.{cost_of_action_by}
-use Rattle.cascade_rank.proofs.Posted.{pushes-more, pushes-all}
+use Rattle.cascade_rank.{specs.Cost.cost_of_action_by, proofs.Posted.{pushes-more, pushes-all}}
 use Rattle.cascade_rank.proofs.posts.push_actions.Goals as goal
 
 pub loop-action-preserved : goal.loop-action-preserved

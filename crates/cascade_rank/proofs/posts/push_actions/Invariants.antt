@@ -1,6 +1,5 @@
 use Rattle.std.proofs.Common.{◌≡◌, ◌++◌, take}
-use Rattle.cascade_rank.specs.Cost.{each_of, cost_of_action_by}
-use Rattle.cascade_rank.specs.Mentions.{weights_in}
+use Rattle.cascade_rank.specs.{Cost.{each_of, cost_of_action_by}, Mentions.weights_in}
 use Rattle.cascade_rank.proofs.posts.push_actions.Given as goal
 
 -- the weights of the actions so far are added

@@ -1,9 +1,6 @@
 use Rattle.std.proofs.Common.{rules, ◌++◌, List, ap, ◌∙◌}
-use Rattle.plan_tables.specs.PlanView.{list_of_row}
-use Rattle.plan_tables.specs.declared.entries.Action.{Action}
-use Rattle.plan_tables.specs.declared.entries.ListId.{ListId}
-use Rattle.cascade_rank.specs.Cost.{each_of, cost_of_action_by, cost_of_list_by}
-use Rattle.cascade_rank.specs.Mentions.{weights_in}
+use Rattle.plan_tables.specs.{PlanView.list_of_row, declared.entries.{Action.Action, ListId.ListId}}
+use Rattle.cascade_rank.specs.{Cost.{each_of, cost_of_action_by, cost_of_list_by}, Mentions.weights_in}
 use Rattle.cascade_rank.proofs.Posted.{pushes-more, pushes-all}
 use Rattle.cascade_rank.proofs.posts.push_answer.Goals as goal
 

@@ -1,7 +1,6 @@
 use Rattle.std.proofs.Common.{◌≡◌, ◌++◌, take}
 use Rattle.plan_tables.specs.PlanView.{list_of_row}
-use Rattle.cascade_rank.specs.Cost.{each_of, cost_of_list_by}
-use Rattle.cascade_rank.specs.Mentions.{weights_in}
+use Rattle.cascade_rank.specs.{Cost.{each_of, cost_of_list_by}, Mentions.weights_in}
 use Rattle.cascade_rank.proofs.posts.push_answer.Given as goal
 
 -- the weights of the lists so far are added

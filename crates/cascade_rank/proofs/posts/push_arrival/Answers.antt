@@ -1,10 +1,7 @@
 use Rattle.std.proofs.Common.{◌++◌, List, ap, ◌∙◌}
-use Rattle.plan_tables.specs.declared.entries.EventId.{EventId}
-use Rattle.plan_tables.specs.declared.devices.RowId.{RowId}
-use Rattle.plan_tables.specs.declared.devices.Telling.TheVariants.{Arrived}
+use Rattle.plan_tables.specs.declared.{entries.EventId.EventId, devices.{RowId.RowId, Telling.TheVariants.Arrived}}
 use Rattle.plan_tables.specs.PlanView.{feeders_of}
-use Rattle.cascade_rank.specs.Cost.{cost_of_told, each_of}
-use Rattle.cascade_rank.specs.Mentions.{weights_in}
+use Rattle.cascade_rank.specs.{Cost.{cost_of_told, each_of}, Mentions.weights_in}
 use Rattle.cascade_rank.proofs.Posted.{pushes-more, pushes-all, weights-dearest}
 use Rattle.cascade_rank.proofs.posts.push_arrival.Goals as goal
 

@@ -1,7 +1,6 @@
 use Rattle.std.proofs.Common.{◌≡◌, ◌++◌, take}
 use Rattle.plan_tables.specs.declared.devices.Telling.TheVariants.{Arrived}
-use Rattle.cascade_rank.specs.Cost.{each_of, cost_of_told}
-use Rattle.cascade_rank.specs.Mentions.{weights_in}
+use Rattle.cascade_rank.specs.{Cost.{each_of, cost_of_told}, Mentions.weights_in}
 use Rattle.cascade_rank.proofs.posts.push_arrival.Given as goal
 
 -- the weights of what the devices so far answer are added

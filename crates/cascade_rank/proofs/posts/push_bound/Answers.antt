@@ -1,8 +1,6 @@
 use Rattle.std.proofs.Common.{rules, ◌++◌, sym, ap, ◌∙◌}
-use Rattle.cascade_rank.specs.Cost.{Cost}
-use Rattle.cascade_rank.specs.Mentions.{weights_in}
+use Rattle.cascade_rank.{specs.{Cost.Cost, Mentions.weights_in}, proofs.Posted.{pushes-more, pushes-all}}
 use Rattle.cascade_rank.proofs.Places.{cost_at_place, binding-within, place-within, place-cost, bound-places}
-use Rattle.cascade_rank.proofs.Posted.{pushes-more, pushes-all}
 use Rattle.cascade_rank.proofs.posts.push_bound.Goals as goal
 
 pub binding-requires : goal.binding-requires

@@ -1,7 +1,5 @@
 use Rattle.std.proofs.Common.{◌≡◌, ◌++◌, take}
-use Rattle.cascade_rank.specs.Cost.{each_of}
-use Rattle.cascade_rank.proofs.Places.{cost_at_place}
-use Rattle.cascade_rank.specs.Mentions.{weights_in}
+use Rattle.cascade_rank.{specs.{Cost.each_of, Mentions.weights_in}, proofs.Places.cost_at_place}
 use Rattle.cascade_rank.proofs.posts.push_bound.Given as goal
 
 -- the weights of what is at the places so far are added

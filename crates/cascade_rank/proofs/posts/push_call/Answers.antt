@@ -1,12 +1,9 @@
-use Rattle.std.proofs.Common.{◌≡◌, ℕ, ◌<◌, ◌++◌, map, sym, ap, ◌∙◌, subst}
-use Rattle.std.specs.List.{All}
+use Rattle.std.{proofs.Common.{◌≡◌, ℕ, ◌<◌, ◌++◌, map, sym, ap, ◌∙◌, subst}, specs.List.All}
 use Rattle.arrayvec.specs.ArrayVec.{ArrayVec}
-use Rattle.plan_tables.specs.PlanView.{row_at}
-use Rattle.plan_tables.specs.Devices.{list_count}
+use Rattle.plan_tables.specs.{PlanView.row_at, Devices.list_count}
 use Rattle.device_objects.specs.Outcomes.{outcomes}
-use Rattle.cascade_rank.specs.Cost.{cost_of_answer_by}
+use Rattle.cascade_rank.{specs.Cost.cost_of_answer_by, proofs.Posted.{pushes-more, pushes-same, pushes-all}}
 use Rattle.cascade_rank.proofs.Outcomes.{outcomes-read, answer-within, answers-weights}
-use Rattle.cascade_rank.proofs.Posted.{pushes-more, pushes-same, pushes-all}
 use Rattle.cascade_rank.proofs.posts.push_call.Goals as goal
 
 pub push_answer-requires-clause-lists : goal.push_answer-requires-clause-lists

@@ -1,7 +1,6 @@
 use Rattle.std.proofs.Common.{◌≡◌, ℕ, ◌++◌, take}
 use Rattle.arrayvec.specs.ArrayVec.{ArrayVec}
-use Rattle.cascade_rank.specs.Cost.{each_of, cost_of_answer_by}
-use Rattle.cascade_rank.specs.Mentions.{weights_in}
+use Rattle.cascade_rank.specs.{Cost.{each_of, cost_of_answer_by}, Mentions.weights_in}
 use Rattle.cascade_rank.proofs.posts.push_call.Given as goal
 
 -- the weights of the answers so far are added

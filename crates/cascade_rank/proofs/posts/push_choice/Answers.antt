@@ -1,9 +1,6 @@
 use Rattle.std.proofs.Common.{rules, [], ◌∷◌, ◌++◌, ap, ◌∙◌}
-use Rattle.plan_tables.specs.PlanView.{game_event}
-use Rattle.plan_tables.specs.declared.entries.EventId.{EventId}
-use Rattle.plan_tables.specs.declared.entries.GameEvent.TheVariants.{SwStart}
-use Rattle.cascade_rank.specs.Cost.{cost_of_post}
-use Rattle.cascade_rank.proofs.Posted.{pushes-more, pushes-all}
+use Rattle.plan_tables.specs.{PlanView.game_event, declared.entries.{EventId.EventId, GameEvent.TheVariants.SwStart}}
+use Rattle.cascade_rank.{specs.Cost.cost_of_post, proofs.Posted.{pushes-more, pushes-all}}
 use Rattle.cascade_rank.proofs.posts.push_choice.Goals as goal
 
 pub loop-which-preserved : goal.loop-which-preserved

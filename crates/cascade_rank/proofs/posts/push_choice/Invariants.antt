@@ -1,6 +1,5 @@
 use Rattle.std.proofs.Common.{◌≡◌, ◌++◌, take}
-use Rattle.cascade_rank.specs.Cost.{cost_of_choice}
-use Rattle.cascade_rank.specs.Mentions.{weights_in}
+use Rattle.cascade_rank.specs.{Cost.cost_of_choice, Mentions.weights_in}
 use Rattle.cascade_rank.proofs.posts.push_choice.Given as goal
 
 -- the weights of the posts so far are added

@@ -1,9 +1,7 @@
-use Rattle.std.proofs.Common.{rules, ◌<◌, ◌≤◌, ◌++◌, List, [], length, map, ap, sym, ◌∙◌, arith, Bor}
+use Rattle.std.proofs.Common.{rules, ◌<◌, ◌++◌, List, [], length, map, ap, sym, ◌∙◌, arith, Bor}
 use Rattle.std.proofs.lemmas.List.{get_or-map, length-map}
-use Rattle.plan_tables.specs.declared.entries.EventId.{EventId}
 use Rattle.plan_tables.specs.declared.entries.GameEvent.{GameEvent}
-use Rattle.cascade_rank.specs.Cost.{dearest_of, cost_of_choice}
-use Rattle.cascade_rank.specs.Mentions.{weights_in}
+use Rattle.cascade_rank.specs.{Cost.cost_of_choice, Mentions.weights_in}
 use Rattle.cascade_rank.proofs.Posted.{pushes-more, pushes-all, weights-dearest}
 use Rattle.cascade_rank.proofs.posts.push_choices.Goals as goal
 

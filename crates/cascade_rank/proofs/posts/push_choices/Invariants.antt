@@ -1,6 +1,5 @@
 use Rattle.std.proofs.Common.{◌≡◌, ◌++◌, take, map}
-use Rattle.cascade_rank.specs.Cost.{each_of, cost_of_choice}
-use Rattle.cascade_rank.specs.Mentions.{weights_in}
+use Rattle.cascade_rank.specs.{Cost.{each_of, cost_of_choice}, Mentions.weights_in}
 use Rattle.cascade_rank.proofs.posts.push_choices.Given as goal
 
 -- the weights of the ways so far are added

@@ -1,8 +1,7 @@
 use Rattle.std.proofs.Common.{◌++◌, List, ap, ◌∙◌}
 use Rattle.plan_tables.specs.declared.devices.RowId.{RowId}
 use Rattle.device_objects.specs.declared.device.Call.TheVariants as calls
-use Rattle.cascade_rank.specs.Cost.{cost_of_call, each_of}
-use Rattle.cascade_rank.specs.Mentions.{weights_in}
+use Rattle.cascade_rank.specs.{Cost.{cost_of_call, each_of}, Mentions.weights_in}
 use Rattle.cascade_rank.proofs.Posted.{pushes-more, pushes-all}
 use Rattle.cascade_rank.proofs.posts.push_devices.Goals as goal
 

@@ -1,7 +1,6 @@
 use Rattle.std.proofs.Common.{◌≡◌, ◌++◌, take}
 use Rattle.device_objects.specs.declared.device.Call.TheVariants as calls
-use Rattle.cascade_rank.specs.Cost.{each_of, cost_of_call}
-use Rattle.cascade_rank.specs.Mentions.{weights_in}
+use Rattle.cascade_rank.specs.{Cost.{each_of, cost_of_call}, Mentions.weights_in}
 use Rattle.cascade_rank.proofs.posts.push_devices.Given as goal
 
 -- the weights of the starts of the devices so far are added

@@ -1,11 +1,7 @@
-use Rattle.std.proofs.Common.{rules, ◌<◌, ◌≤◌, length, sym, ap, ◌∙◌, arith}
-use Rattle.plan_tables.specs.PlanView.{is_multiball, row_at}
-use Rattle.plan_tables.specs.declared.devices.Act.TheVariants.{End}
-use Rattle.plan_tables.specs.declared.devices.DeviceRow.{DeviceRow}
-use Rattle.plan_tables.specs.declared.devices.RowId.{RowId}
+use Rattle.std.proofs.Common.{rules, ◌≤◌, length, ap, arith}
+use Rattle.plan_tables.specs.{PlanView.{is_multiball, row_at}, declared.devices.{Act.TheVariants.End, RowId.RowId}}
 use Rattle.device_objects.specs.declared.device.Call.TheVariants as calls
-use Rattle.cascade_rank.specs.Cost.{cost_of_call}
-use Rattle.cascade_rank.proofs.Passing.{pushes-passed, pushes-over, pushes-passed_all}
+use Rattle.cascade_rank.{specs.Cost.cost_of_call, proofs.Passing.{pushes-passed, pushes-over, pushes-passed_all}}
 use Rattle.cascade_rank.proofs.posts.push_ends.Goals as goal
 use Rattle.cascade_rank.proofs.posts.push_ends.Goals.{then-is_multiball+in_ok-push_call, else-is_multiball}
 

@@ -1,10 +1,7 @@
 use Rattle.std.proofs.Common.{◌≡◌, ◌++◌}
-use Rattle.plan_tables.specs.PlanView.{is_multiball, row_at}
-use Rattle.plan_tables.specs.declared.devices.Act.TheVariants.{End}
+use Rattle.plan_tables.specs.{PlanView.{is_multiball, row_at}, declared.devices.Act.TheVariants.End}
 use Rattle.device_objects.specs.declared.device.Call.TheVariants as calls
-use Rattle.cascade_rank.specs.Cost.{each_of, cost_of_call}
-use Rattle.cascade_rank.specs.Mentions.{weights_in}
-use Rattle.cascade_rank.proofs.Passing.{passed}
+use Rattle.cascade_rank.{specs.{Cost.{each_of, cost_of_call}, Mentions.weights_in}, proofs.Passing.passed}
 use Rattle.cascade_rank.proofs.posts.push_ends.Given as goal
 
 -- the weights of what the multiballs so far answer are added

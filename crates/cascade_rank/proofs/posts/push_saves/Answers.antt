@@ -1,13 +1,9 @@
-use Rattle.std.proofs.Common.{rules, ◌<◌, ◌≤◌, ◌++◌, List, length, sym, ap, ◌∙◌, arith}
+use Rattle.std.proofs.Common.{rules, ◌≤◌, ◌++◌, List, length, ap, ◌∙◌, arith}
 use Rattle.plan_tables.specs.PlanView.{is_save, row_at, save_rows}
-use Rattle.plan_tables.specs.declared.devices.Act.TheVariants.{Save}
-use Rattle.plan_tables.specs.declared.devices.DeviceRow.{DeviceRow}
-use Rattle.plan_tables.specs.declared.devices.RowId.{RowId}
-use Rattle.plan_tables.specs.declared.entries.EventId.{EventId}
+use Rattle.plan_tables.specs.declared.{devices.{Act.TheVariants.Save, RowId.RowId}, entries.EventId.EventId}
 use Rattle.device_objects.specs.declared.device.Call.TheVariants as calls
 use Rattle.cascade_rank.specs.Cost.{cost_of_call}
-use Rattle.cascade_rank.proofs.Passing.{pushes-passed, pushes-over, pushes-passed_all}
-use Rattle.cascade_rank.proofs.Posted.{weights-dearest}
+use Rattle.cascade_rank.proofs.{Passing.{pushes-passed, pushes-over, pushes-passed_all}, Posted.weights-dearest}
 use Rattle.cascade_rank.proofs.posts.push_saves.Goals as goal
 use Rattle.cascade_rank.proofs.posts.push_saves.Goals.{then-is_save+in_ok-push_call, else-is_save}
 

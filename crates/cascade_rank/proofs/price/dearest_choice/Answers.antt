@@ -1,10 +1,8 @@
 use Rattle.std.proofs.Common.{◌≡◌, ◌<◌, List, [], length, map, max, ap, arith, Bor}
 use Rattle.std.proofs.lemmas.List.{get_or-map, length-map}
 use Rattle.plan_tables.specs.declared.entries.GameEvent.{GameEvent}
-use Rattle.cascade_rank.specs.Events.{weight_of}
-use Rattle.cascade_rank.specs.Cost.{price, cost_of_choice}
-use Rattle.cascade_rank.proofs.Games.{choice-few}
-use Rattle.cascade_rank.proofs.Prices.{price-dearest_more}
+use Rattle.cascade_rank.specs.{Events.weight_of, Cost.{price, cost_of_choice}}
+use Rattle.cascade_rank.proofs.{Games.choice-few, Prices.price-dearest_more}
 use Rattle.cascade_rank.proofs.price.dearest_choice.Goals as goal
 
 pub price_of_choice-requires-clause-few : goal.price_of_choice-requires-clause-few

@@ -1,6 +1,5 @@
 use Rattle.std.proofs.Common.{◌≡◌, ◌^◌, ◌≤◌, take, map}
-use Rattle.cascade_rank.specs.Events.{weight_of}
-use Rattle.cascade_rank.specs.Cost.{price, dearest_of, cost_of_choice}
+use Rattle.cascade_rank.specs.{Events.weight_of, Cost.{price, dearest_of, cost_of_choice}}
 use Rattle.cascade_rank.proofs.price.dearest_choice.Given as goal
 
 -- the price of the dearest way so far

@@ -1,11 +1,4 @@
-use Rattle.std.proofs.Common.{rules, ◌≡◌, ◌<◌, ◌≤◌, List, max, length, sym, ap, ◌∙◌, arith}
-use Rattle.plan_tables.specs.PlanView.{is_save, row_at}
-use Rattle.plan_tables.specs.declared.devices.Act.TheVariants.{Save}
-use Rattle.plan_tables.specs.declared.devices.DeviceRow.{DeviceRow}
-use Rattle.plan_tables.specs.declared.devices.RowId.{RowId}
-use Rattle.device_objects.specs.declared.device.Call.TheVariants as calls
-use Rattle.cascade_rank.specs.Events.{weight_of}
-use Rattle.cascade_rank.specs.Cost.{price, dearest_of, cost_of_call}
+use Rattle.std.proofs.Common.{rules}
 use Rattle.cascade_rank.proofs.Passing.{passed_over, passed_all, price-dearest_passed}
 use Rattle.cascade_rank.proofs.price.dearest_save.Goals as goal
 use Rattle.cascade_rank.proofs.price.dearest_save.Goals.{then-is_save, else-is_save}

@@ -1,10 +1,7 @@
 use Rattle.std.proofs.Common.{◌≡◌, ◌^◌, ◌≤◌}
-use Rattle.plan_tables.specs.PlanView.{is_save, row_at}
-use Rattle.plan_tables.specs.declared.devices.Act.TheVariants.{Save}
+use Rattle.plan_tables.specs.{PlanView.{is_save, row_at}, declared.devices.Act.TheVariants.Save}
 use Rattle.device_objects.specs.declared.device.Call.TheVariants as calls
-use Rattle.cascade_rank.specs.Events.{weight_of}
-use Rattle.cascade_rank.specs.Cost.{price, dearest_of, cost_of_call}
-use Rattle.cascade_rank.proofs.Passing.{passed}
+use Rattle.cascade_rank.{specs.{Events.weight_of, Cost.{price, dearest_of, cost_of_call}}, proofs.Passing.passed}
 use Rattle.cascade_rank.proofs.price.dearest_save.Given as goal
 
 -- the price of the dearest ball save so far

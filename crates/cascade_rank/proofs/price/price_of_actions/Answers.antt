@@ -1,9 +1,7 @@
-use Rattle.std.proofs.Common.{rules, ◌+◌, ◌^◌, take_all, ap, ◌∙◌, arith}
+use Rattle.std.proofs.Common.{rules, ◌+◌, ◌^◌, take_all, arith}
 use Rattle.plan_tables.specs.declared.entries.Action.TheVariants.{Post}
-use Rattle.cascade_rank.specs.Events.{weight_of}
-use Rattle.cascade_rank.specs.Cost.{price, each_of, cost_of_action_by}
-use Rattle.cascade_rank.proofs.Limits.{sum-none, sum-more, sum-few}
-use Rattle.cascade_rank.proofs.Prices.{price-each_more}
+use Rattle.cascade_rank.specs.{Events.weight_of, Cost.{price, cost_of_action_by}}
+use Rattle.cascade_rank.proofs.{Limits.{sum-none, sum-more, sum-few}, Prices.price-each_more}
 use Rattle.cascade_rank.proofs.price.price_of_actions.Goals as goal
 
 pub loop-action-init : goal.loop-action-init

@@ -1,6 +1,5 @@
 use Rattle.std.proofs.Common.{◌≡◌, ◌+◌, ◌*◌, ◌^◌, ◌≤◌, take}
-use Rattle.cascade_rank.specs.Events.{weight_of}
-use Rattle.cascade_rank.specs.Cost.{price, each_of, cost_of_action_by}
+use Rattle.cascade_rank.specs.{Events.weight_of, Cost.{price, each_of, cost_of_action_by}}
 use Rattle.cascade_rank.proofs.price.price_of_actions.Given as goal
 
 -- the price of the actions so far

@@ -1,10 +1,5 @@
-use Rattle.std.proofs.Common.{rules, ℕ, List, ◌+◌, ◌*◌, ◌^◌, take_all, ap, ◌∙◌, arith}
-use Rattle.plan_tables.specs.PlanView.{list_of_row}
-use Rattle.plan_tables.specs.declared.entries.ListId.{ListId}
-use Rattle.cascade_rank.specs.Events.{weight_of}
-use Rattle.cascade_rank.specs.Cost.{price, each_of, cost_of_list_by}
-use Rattle.cascade_rank.proofs.Limits.{sum-none, sum-more, sum-few}
-use Rattle.cascade_rank.proofs.Prices.{price-each_more}
+use Rattle.std.proofs.Common.{rules, ◌+◌, ◌*◌, ◌^◌, take_all, arith}
+use Rattle.cascade_rank.proofs.{Limits.{sum-none, sum-more, sum-few}, Prices.price-each_more}
 use Rattle.cascade_rank.proofs.price.price_of_answer.Goals as goal
 
 pub loop-list-init : goal.loop-list-init

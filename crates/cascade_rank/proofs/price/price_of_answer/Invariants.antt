@@ -1,7 +1,6 @@
 use Rattle.std.proofs.Common.{◌≡◌, ◌+◌, ◌*◌, ◌^◌, ◌≤◌, take}
 use Rattle.plan_tables.specs.PlanView.{list_of_row}
-use Rattle.cascade_rank.specs.Events.{weight_of}
-use Rattle.cascade_rank.specs.Cost.{price, each_of, cost_of_list_by}
+use Rattle.cascade_rank.specs.{Events.weight_of, Cost.{price, each_of, cost_of_list_by}}
 use Rattle.cascade_rank.proofs.price.price_of_answer.Given as goal
 
 -- the price of the lists so far

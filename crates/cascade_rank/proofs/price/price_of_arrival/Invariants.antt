@@ -1,7 +1,6 @@
 use Rattle.std.proofs.Common.{◌≡◌, ◌^◌, ◌≤◌, take}
 use Rattle.plan_tables.specs.declared.devices.Telling.TheVariants.{Arrived}
-use Rattle.cascade_rank.specs.Events.{weight_of}
-use Rattle.cascade_rank.specs.Cost.{price, dearest_of, cost_of_told}
+use Rattle.cascade_rank.specs.{Events.weight_of, Cost.{price, dearest_of, cost_of_told}}
 use Rattle.cascade_rank.proofs.price.price_of_arrival.Given as goal
 
 -- the price of the dearest device so far

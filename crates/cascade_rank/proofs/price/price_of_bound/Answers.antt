@@ -1,5 +1,4 @@
-use Rattle.std.proofs.Common.{rules, arith}
-use Rattle.cascade_rank.specs.Events.{weight_of}
+use Rattle.std.proofs.Common.{rules}
 use Rattle.cascade_rank.proofs.Limits.{bindings-few}
 use Rattle.cascade_rank.proofs.Places.{binding-within, place-within, places-few, price-places_more, price-places_all}
 use Rattle.cascade_rank.proofs.price.price_of_bound.Goals as goal

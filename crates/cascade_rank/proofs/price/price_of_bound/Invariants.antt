@@ -1,7 +1,5 @@
 use Rattle.std.proofs.Common.{◌≡◌, ◌+◌, ◌*◌, ◌^◌, ◌≤◌, take}
-use Rattle.cascade_rank.specs.Events.{weight_of}
-use Rattle.cascade_rank.specs.Cost.{price, each_of}
-use Rattle.cascade_rank.proofs.Places.{cost_at_place}
+use Rattle.cascade_rank.{specs.{Events.weight_of, Cost.{price, each_of}}, proofs.Places.cost_at_place}
 use Rattle.cascade_rank.proofs.price.price_of_bound.Given as goal
 
 -- a line, and the price of what is at the places so far, at each of which it is at most 2^58

@@ -1,13 +1,9 @@
-use Rattle.std.proofs.Common.{◌≡◌, ℕ, ◌<◌, List, map, max, sym, ap, ◌∙◌, subst, arith}
-use Rattle.std.specs.List.{All}
+use Rattle.std.{proofs.Common.{◌≡◌, ℕ, ◌<◌, List, map, max, sym, ap, ◌∙◌, subst, arith}, specs.List.All}
 use Rattle.arrayvec.specs.ArrayVec.{ArrayVec}
-use Rattle.plan_tables.specs.PlanView.{row_at}
-use Rattle.plan_tables.specs.Devices.{list_count}
+use Rattle.plan_tables.specs.{PlanView.row_at, Devices.list_count}
 use Rattle.device_objects.specs.Outcomes.{outcomes}
-use Rattle.cascade_rank.specs.Events.{weight_of}
-use Rattle.cascade_rank.specs.Cost.{price, cost_of_answer_by}
-use Rattle.cascade_rank.proofs.Outcomes.{outcomes-read, answer-within, price-answers_all}
-use Rattle.cascade_rank.proofs.Prices.{price-dearest_more}
+use Rattle.cascade_rank.specs.{Events.weight_of, Cost.{price, cost_of_answer_by}}
+use Rattle.cascade_rank.proofs.{Outcomes.{outcomes-read, answer-within, price-answers_all}, Prices.price-dearest_more}
 use Rattle.cascade_rank.proofs.price.price_of_call.Goals as goal
 
 pub price_of_answer-requires-clause-lists : goal.price_of_answer-requires-clause-lists

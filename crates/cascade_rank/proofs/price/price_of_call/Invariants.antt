@@ -1,7 +1,6 @@
 use Rattle.std.proofs.Common.{◌≡◌, ℕ, ◌+◌, ◌*◌, ◌^◌, ◌≤◌, take}
 use Rattle.arrayvec.specs.ArrayVec.{ArrayVec}
-use Rattle.cascade_rank.specs.Events.{weight_of}
-use Rattle.cascade_rank.specs.Cost.{price, dearest_of, cost_of_answer_by}
+use Rattle.cascade_rank.specs.{Events.weight_of, Cost.{price, dearest_of, cost_of_answer_by}}
 use Rattle.cascade_rank.proofs.price.price_of_call.Given as goal
 
 -- the price of the dearest answer so far

@@ -1,10 +1,6 @@
 use Rattle.std.proofs.Common.{ap, arith}
-use Rattle.plan_tables.specs.PlanView.{game_event}
-use Rattle.plan_tables.specs.declared.entries.EventId.{EventId}
-use Rattle.plan_tables.specs.declared.entries.GameEvent.TheVariants.{SwStart}
-use Rattle.cascade_rank.specs.Events.{weight_of}
-use Rattle.cascade_rank.specs.Cost.{cost_of_post}
-use Rattle.cascade_rank.proofs.Prices.{price-each_more}
+use Rattle.plan_tables.specs.{PlanView.game_event, declared.entries.{EventId.EventId, GameEvent.TheVariants.SwStart}}
+use Rattle.cascade_rank.{specs.{Events.weight_of, Cost.cost_of_post}, proofs.Prices.price-each_more}
 use Rattle.cascade_rank.proofs.price.price_of_choice.Goals as goal
 
 pub loop-which-preserved : goal.loop-which-preserved

@@ -1,6 +1,5 @@
 use Rattle.std.proofs.Common.{◌≡◌, ◌*◌, ◌^◌, ◌≤◌, take}
-use Rattle.cascade_rank.specs.Events.{weight_of}
-use Rattle.cascade_rank.specs.Cost.{price, cost_of_choice}
+use Rattle.cascade_rank.specs.{Events.weight_of, Cost.{price, cost_of_choice}}
 use Rattle.cascade_rank.proofs.price.price_of_choice.Given as goal
 
 -- the price of the posts so far, each of which is below 2^32

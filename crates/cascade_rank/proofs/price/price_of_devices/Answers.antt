@@ -1,12 +1,8 @@
-use Rattle.std.proofs.Common.{rules, List, length, ap, ◌∙◌, arith, take_all}
-use Rattle.plan_tables.specs.declared.entries.Owner.TheVariants as owners
+use Rattle.std.proofs.Common.{rules, arith, take_all}
 use Rattle.plan_tables.specs.declared.devices.RowId.{RowId}
 use Rattle.device_objects.specs.declared.device.Call.TheVariants as calls
-use Rattle.cascade_rank.specs.Events.{weight_of}
-use Rattle.cascade_rank.specs.Cost.{price, each_of, cost_of_call}
-use Rattle.cascade_rank.proofs.Limits.{rows-few}
-use Rattle.cascade_rank.proofs.Prices.{price-each_more}
-use Rattle.cascade_rank.proofs.Rows.{rows_of-few}
+use Rattle.cascade_rank.specs.{Events.weight_of, Cost.{price, cost_of_call}}
+use Rattle.cascade_rank.proofs.{Limits.rows-few, Prices.price-each_more, Rows.rows_of-few}
 use Rattle.cascade_rank.proofs.price.price_of_devices.Goals as goal
 
 pub price_of_call-total-requires-clause-row : goal.price_of_call-total-requires-clause-row

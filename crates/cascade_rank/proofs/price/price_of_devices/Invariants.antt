@@ -1,7 +1,6 @@
 use Rattle.std.proofs.Common.{◌≡◌, ◌*◌, ◌^◌, ◌≤◌, take}
 use Rattle.device_objects.specs.declared.device.Call.TheVariants as calls
-use Rattle.cascade_rank.specs.Events.{weight_of}
-use Rattle.cascade_rank.specs.Cost.{price, each_of, cost_of_call}
+use Rattle.cascade_rank.specs.{Events.weight_of, Cost.{price, each_of, cost_of_call}}
 use Rattle.cascade_rank.proofs.price.price_of_devices.Given as goal
 
 -- the price of the starts so far, each of which is at most 2^58

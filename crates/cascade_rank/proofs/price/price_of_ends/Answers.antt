@@ -1,13 +1,5 @@
-use Rattle.std.proofs.Common.{rules, ◌<◌, ◌≤◌, List, length, sym, ap, ◌∙◌, arith}
-use Rattle.plan_tables.specs.PlanView.{is_multiball, row_at}
-use Rattle.plan_tables.specs.declared.devices.Act.TheVariants.{End}
-use Rattle.plan_tables.specs.declared.devices.DeviceRow.{DeviceRow}
-use Rattle.plan_tables.specs.declared.devices.RowId.{RowId}
-use Rattle.device_objects.specs.declared.device.Call.TheVariants as calls
-use Rattle.cascade_rank.specs.Events.{weight_of}
-use Rattle.cascade_rank.specs.Cost.{price, each_of, cost_of_call}
-use Rattle.cascade_rank.proofs.Limits.{rows-few}
-use Rattle.cascade_rank.proofs.Passing.{passed_over, passed_all, price-each_passed}
+use Rattle.std.proofs.Common.{rules}
+use Rattle.cascade_rank.proofs.{Limits.rows-few, Passing.{passed_over, passed_all, price-each_passed}}
 use Rattle.cascade_rank.proofs.price.price_of_ends.Goals as goal
 use Rattle.cascade_rank.proofs.price.price_of_ends.Goals.{then-is_multiball, else-is_multiball}
 

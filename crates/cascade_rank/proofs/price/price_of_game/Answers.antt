@@ -1,7 +1,6 @@
 use Rattle.std.proofs.Common.{◌≡◌, max, ap, arith}
 use Rattle.plan_tables.specs.declared.entries.Work.{Work}
-use Rattle.cascade_rank.specs.Events.{weight_of}
-use Rattle.cascade_rank.specs.Cost.{price, cost_of_game}
+use Rattle.cascade_rank.specs.{Events.weight_of, Cost.{price, cost_of_game}}
 use Rattle.cascade_rank.proofs.price.price_of_game.Goals as goal
 
 pub returns-in-Game-clause-price : goal.returns-in-Game-clause-price

@@ -1,9 +1,7 @@
-use Rattle.std.proofs.Common.{length, ap, ◌∙◌, replicate, false}
-use Rattle.std.specs.List.{filter, flat_map}
+use Rattle.std.{proofs.Common.{length, ap, ◌∙◌, replicate, false}, specs.List.{filter, flat_map}}
 use Rattle.plan_tables.specs.declared.entries.Owner.TheVariants as owners
 use Rattle.plan_tables.specs.PlanView.{actions_of_binding, actions_of_row, row_numbers}
-use Rattle.cascade_rank.specs.Marks.{mark_of, numbered}
-use Rattle.cascade_rank.proofs.Marked.{marked-then, marked-enabled}
+use Rattle.cascade_rank.{specs.Marks.{mark_of, numbered}, proofs.Marked.{marked-then, marked-enabled}}
 use Rattle.cascade_rank.proofs.releases.count_enabled.Goals as goal
 
 pub returns-clause-count : goal.returns-clause-count

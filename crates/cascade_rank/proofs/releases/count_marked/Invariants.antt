@@ -1,5 +1,4 @@
-use Rattle.std.proofs.Common.{◌≡◌, ◌≤◌, length}
-use Rattle.std.specs.List.{filter}
+use Rattle.std.{proofs.Common.{◌≡◌, ◌≤◌, length}, specs.List.filter}
 use Rattle.cascade_rank.specs.Marks.{mark_of, numbered}
 use Rattle.cascade_rank.proofs.releases.count_marked.Given as goal
 

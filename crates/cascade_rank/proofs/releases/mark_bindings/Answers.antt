@@ -1,12 +1,7 @@
-use Rattle.std.proofs.Common.{rules, get_or, sym, ap, ◌∙◌, subst, take_all}
-use Rattle.std.specs.List.{flat_map}
-use Rattle.std.proofs.lemmas.Option.{get_or_from_slice_get}
-use Rattle.plan_tables.specs.declared.entries.Binding.{Binding}
-use Rattle.plan_tables.specs.declared.entries.Owner.TheVariants as owners
-use Rattle.plan_tables.specs.PlanView.{actions_of_target, no_binding}
+use Rattle.std.proofs.{Common.{rules, get_or, sym, subst, take_all}, lemmas.Option.get_or_from_slice_get}
+use Rattle.plan_tables.specs.{declared.entries.Binding.Binding, PlanView.{actions_of_target, no_binding}}
 use Rattle.cascade_rank.specs.Marks.{AreMarked}
-use Rattle.cascade_rank.proofs.Marked.{actions_at_place, marked-more, actions_of_bindings}
-use Rattle.cascade_rank.proofs.Places.{binding-within}
+use Rattle.cascade_rank.proofs.{Marked.{actions_at_place, marked-more, actions_of_bindings}, Places.binding-within}
 use Rattle.cascade_rank.proofs.releases.mark_bindings.Goals as goal
 
 pub binding-requires : goal.binding-requires

@@ -1,7 +1,5 @@
-use Rattle.std.proofs.Common.{take}
-use Rattle.std.specs.List.{flat_map}
-use Rattle.cascade_rank.specs.Marks.{AreMarked}
-use Rattle.cascade_rank.proofs.Marked.{actions_at_place}
+use Rattle.std.{proofs.Common.take, specs.List.flat_map}
+use Rattle.cascade_rank.{specs.Marks.AreMarked, proofs.Marked.actions_at_place}
 use Rattle.cascade_rank.proofs.releases.mark_bindings.Given as goal
 
 abbrev pub invariant-loop-place : goal.invariant-loop-place

@@ -1,11 +1,8 @@
 use Rattle.std.proofs.Common.{rules, ◌≡◌, ◌<◌, get_or, sym, ap, ◌∙◌, subst, arith, take_all}
-use Rattle.std.specs.List.{flat_map, range_with_len}
-use Rattle.std.proofs.lemmas.List.FromFn.{length-range_with_len, get_or-range_with_len}
-use Rattle.plan_tables.specs.Devices.{list_count}
-use Rattle.plan_tables.specs.PlanView.{actions_at, list_of_row, row_at}
+use Rattle.std.{specs.List.range_with_len, proofs.lemmas.List.FromFn.{length-range_with_len, get_or-range_with_len}}
+use Rattle.plan_tables.specs.{Devices.list_count, PlanView.{actions_at, list_of_row, row_at}}
 use Rattle.plan_tables.proofs.RowLists.{few_lists}
-use Rattle.cascade_rank.specs.Marks.{AreMarked}
-use Rattle.cascade_rank.proofs.Marked.{marked-more}
+use Rattle.cascade_rank.{specs.Marks.AreMarked, proofs.Marked.marked-more}
 use Rattle.cascade_rank.proofs.releases.mark_lists.Goals as goal
 
 pub loop-list-preserved : goal.loop-list-preserved

@@ -1,7 +1,5 @@
-use Rattle.std.proofs.Common.{take}
-use Rattle.std.specs.List.{flat_map, range_with_len}
-use Rattle.plan_tables.specs.Devices.{list_count}
-use Rattle.plan_tables.specs.PlanView.{actions_at, list_of_row, row_at}
+use Rattle.std.{proofs.Common.take, specs.List.{flat_map, range_with_len}}
+use Rattle.plan_tables.specs.{Devices.list_count, PlanView.{actions_at, list_of_row, row_at}}
 use Rattle.cascade_rank.specs.Marks.{AreMarked}
 use Rattle.cascade_rank.proofs.releases.mark_lists.Given as goal
 

@@ -1,7 +1,4 @@
-use Rattle.std.proofs.Common.{rules, ap, ◌∙◌, subst, take_all}
-use Rattle.std.specs.List.{flat_map}
-use Rattle.plan_tables.specs.declared.entries.Owner.TheVariants as owners
-use Rattle.cascade_rank.specs.Marks.{AreMarked}
+use Rattle.std.proofs.Common.{rules, take_all}
 use Rattle.cascade_rank.proofs.Marked.{actions_of_lists, marked-more, actions_of_rows}
 use Rattle.cascade_rank.proofs.releases.mark_rows.Goals as goal
 

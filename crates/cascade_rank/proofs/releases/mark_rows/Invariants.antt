@@ -1,7 +1,5 @@
-use Rattle.std.proofs.Common.{take}
-use Rattle.std.specs.List.{flat_map}
-use Rattle.cascade_rank.specs.Marks.{AreMarked}
-use Rattle.cascade_rank.proofs.Marked.{actions_of_lists}
+use Rattle.std.{proofs.Common.take, specs.List.flat_map}
+use Rattle.cascade_rank.{specs.Marks.AreMarked, proofs.Marked.actions_of_lists}
 use Rattle.cascade_rank.proofs.releases.mark_rows.Given as goal
 
 abbrev pub invariant-loop-row : goal.invariant-loop-row

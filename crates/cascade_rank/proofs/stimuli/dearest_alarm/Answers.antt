@@ -1,11 +1,8 @@
-use Rattle.std.proofs.Common.{rules, ◌≡◌, ◌<◌, ◌≤◌, List, max, length, ap, ◌∙◌, arith, take_all}
-use Rattle.plan_tables.specs.PlanView.{row_numbers}
-use Rattle.plan_tables.specs.declared.devices.RowId.{RowId}
+use Rattle.std.proofs.Common.{rules, ◌≡◌, ◌<◌, max, length, ap, arith, take_all}
+use Rattle.plan_tables.specs.{PlanView.row_numbers, declared.devices.RowId.RowId}
 use Rattle.device_objects.specs.declared.device.Call.TheVariants as calls
-use Rattle.cascade_rank.specs.Events.{weight_of}
-use Rattle.cascade_rank.specs.Cost.{price, dearest_of, cost_of_call}
-use Rattle.cascade_rank.proofs.Prices.{price-dearest_more}
-use Rattle.cascade_rank.proofs.Rows.{length-rows, row_of}
+use Rattle.cascade_rank.specs.{Events.weight_of, Cost.{price, cost_of_call}}
+use Rattle.cascade_rank.proofs.{Prices.price-dearest_more, Rows.{length-rows, row_of}}
 use Rattle.cascade_rank.proofs.stimuli.dearest_alarm.Goals as goal
 
 pub loop-number-preserved : goal.loop-number-preserved

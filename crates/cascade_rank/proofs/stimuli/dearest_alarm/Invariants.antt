@@ -1,8 +1,7 @@
 use Rattle.std.proofs.Common.{◌≡◌, take}
 use Rattle.plan_tables.specs.PlanView.{row_numbers}
 use Rattle.device_objects.specs.declared.device.Call.TheVariants as calls
-use Rattle.cascade_rank.specs.Events.{weight_of}
-use Rattle.cascade_rank.specs.Cost.{price, dearest_of, cost_of_call}
+use Rattle.cascade_rank.specs.{Events.weight_of, Cost.{price, dearest_of, cost_of_call}}
 use Rattle.cascade_rank.proofs.stimuli.dearest_alarm.Given as goal
 
 -- the price of the dearest alarm so far

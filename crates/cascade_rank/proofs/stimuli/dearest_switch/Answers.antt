@@ -1,9 +1,7 @@
-use Rattle.std.proofs.Common.{rules, ◌≡◌, ◌<◌, ◌≤◌, List, max, length, ap, ◌∙◌, arith, take_all}
+use Rattle.std.proofs.Common.{rules, ◌≡◌, ◌<◌, max, length, ap, arith, take_all}
 use Rattle.plan_tables.specs.declared.entries.SwitchId.{SwitchId}
-use Rattle.cascade_rank.specs.Events.{weight_of}
-use Rattle.cascade_rank.specs.Cost.{price, dearest_of, cost_of_switch, switches_of}
-use Rattle.cascade_rank.proofs.Prices.{price-dearest_more}
-use Rattle.cascade_rank.proofs.Switches.{length-switches, switch_of}
+use Rattle.cascade_rank.specs.{Events.weight_of, Cost.{price, cost_of_switch, switches_of}}
+use Rattle.cascade_rank.proofs.{Prices.price-dearest_more, Switches.{length-switches, switch_of}}
 use Rattle.cascade_rank.proofs.stimuli.dearest_switch.Goals as goal
 
 pub loop-number-preserved : goal.loop-number-preserved

@@ -1,6 +1,5 @@
 use Rattle.std.proofs.Common.{◌≡◌, take}
-use Rattle.cascade_rank.specs.Events.{weight_of}
-use Rattle.cascade_rank.specs.Cost.{price, dearest_of, cost_of_switch, switches_of}
+use Rattle.cascade_rank.specs.{Events.weight_of, Cost.{price, dearest_of, cost_of_switch, switches_of}}
 use Rattle.cascade_rank.proofs.stimuli.dearest_switch.Given as goal
 
 -- the price of the dearest switch so far

@@ -1,9 +1,7 @@
 use Rattle.std.proofs.Common.{get_or, ap, arith}
-use Rattle.plan_tables.specs.declared.entries.Listener.{Listener}
-use Rattle.plan_tables.specs.declared.devices.Act.{Act}
+use Rattle.plan_tables.specs.declared.{entries.Listener.Listener, devices.Act.Act}
 use Rattle.device_objects.specs.declared.device.Call.TheVariants as calls
-use Rattle.cascade_rank.specs.Events.{weight_of}
-use Rattle.cascade_rank.specs.Cost.{price, cost_of_call, cost_of_listener}
+use Rattle.cascade_rank.specs.{Events.weight_of, Cost.{price, cost_of_call, cost_of_listener}}
 use Rattle.cascade_rank.proofs.Prices.{price-each_more}
 use Rattle.cascade_rank.proofs.stimuli.price_of_listeners.Goals as goal
 

@@ -1,6 +1,5 @@
 use Rattle.std.proofs.Common.{◌≡◌, ◌*◌, ◌^◌, ◌≤◌, take}
-use Rattle.cascade_rank.specs.Events.{weight_of}
-use Rattle.cascade_rank.specs.Cost.{price, each_of, cost_of_listener}
+use Rattle.cascade_rank.specs.{Events.weight_of, Cost.{price, each_of, cost_of_listener}}
 use Rattle.cascade_rank.proofs.stimuli.price_of_listeners.Given as goal
 
 -- the price of the acts so far, each of which is at most 2^58

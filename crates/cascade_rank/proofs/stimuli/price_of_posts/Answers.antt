@@ -1,7 +1,5 @@
 use Rattle.std.proofs.Common.{arith}
-use Rattle.cascade_rank.specs.Events.{weight_of}
-use Rattle.cascade_rank.specs.Cost.{cost_of_post}
-use Rattle.cascade_rank.proofs.Prices.{price-each_more}
+use Rattle.cascade_rank.{specs.{Events.weight_of, Cost.cost_of_post}, proofs.Prices.price-each_more}
 use Rattle.cascade_rank.proofs.stimuli.price_of_posts.Goals as goal
 
 pub loop-event-preserved : goal.loop-event-preserved

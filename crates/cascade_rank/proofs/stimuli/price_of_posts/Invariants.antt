@@ -1,6 +1,5 @@
 use Rattle.std.proofs.Common.{◌≡◌, ◌*◌, ◌^◌, ◌≤◌, take}
-use Rattle.cascade_rank.specs.Events.{weight_of}
-use Rattle.cascade_rank.specs.Cost.{price, each_of, cost_of_post}
+use Rattle.cascade_rank.specs.{Events.weight_of, Cost.{price, each_of, cost_of_post}}
 use Rattle.cascade_rank.proofs.stimuli.price_of_posts.Given as goal
 
 -- the price of the posts so far, each of which is below 2^32

@@ -1,6 +1,4 @@
-use Rattle.std.proofs.Common.{rules, List, ℕ, ap, ◌∙◌, arith}
-use Rattle.cascade_rank.specs.Events.{weight_of}
-use Rattle.cascade_rank.specs.Weights.{switch_cost}
+use Rattle.std.proofs.Common.{rules}
 use Rattle.cascade_rank.proofs.Switches.{switch-within_bound}
 use Rattle.cascade_rank.proofs.stimuli.switch_cost.Goals as goal
 

@@ -1,7 +1,5 @@
 use Rattle.std.proofs.Common.{rules, ◌≤◌, ℕ, below_more, arith}
-use Rattle.cascade_rank.specs.Events.{weight_of}
-use Rattle.cascade_rank.specs.Weights.{need}
-use Rattle.cascade_rank.proofs.Events.{event}
+use Rattle.cascade_rank.{specs.{Events.weight_of, Weights.need}, proofs.Events.event}
 use Rattle.cascade_rank.proofs.verdict.first_short.Goals as goal
 
 pub returns-then-from-needed-clause-short : goal.returns-then-from-needed-clause-short

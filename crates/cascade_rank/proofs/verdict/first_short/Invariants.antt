@@ -1,7 +1,6 @@
 use Rattle.std.proofs.Common.{◌<◌, ◌≤◌}
 use Rattle.plan_tables.specs.declared.entries.EventId.{EventId}
-use Rattle.cascade_rank.specs.Events.{weight_of}
-use Rattle.cascade_rank.specs.Weights.{need}
+use Rattle.cascade_rank.specs.{Events.weight_of, Weights.need}
 use Rattle.cascade_rank.proofs.verdict.first_short.Given as goal
 
 -- no event of a lower number weighs too little

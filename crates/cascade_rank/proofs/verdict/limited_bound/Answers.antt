@@ -1,5 +1,4 @@
-use Rattle.std.proofs.Common.{rules, sym, ◌∙◌, arith}
-use Rattle.std.proofs.lemmas.Bool.{both_ways}
+use Rattle.std.proofs.{Common.rules, lemmas.Bool.both_ways}
 use Rattle.cascade_rank.proofs.Verifying.{All-are_limited}
 use Rattle.cascade_rank.proofs.verdict.limited_bound.Goals as goal
 use Rattle.cascade_rank.proofs.verdict.limited_bound.Goals.{then-bound-from-via-then-bound-from, then-bound-from-via-else-bound-from+then-not-are_limited}

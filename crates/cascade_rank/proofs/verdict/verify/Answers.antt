@@ -1,9 +1,5 @@
-use Rattle.std.proofs.Common.{rules, ◌≡◌, ◌≢◌, List, ℕ, length, Result, refl, sym, ap, subst, arith}
-use Rattle.cascade_rank.specs.declared.fault.RankFault.{RankFault}
-use Rattle.cascade_rank.specs.declared.verdict.Bound.{Bound}
-use Rattle.cascade_rank.specs.Finding.{short, wrong_events, verified_at}
-use Rattle.cascade_rank.specs.View.{GivesBound}
-use Rattle.cascade_rank.specs.Verified.{IsFirstShort}
+use Rattle.std.proofs.Common.{rules, ◌≡◌, List, ℕ, length, refl, ap, subst, arith}
+use Rattle.cascade_rank.specs.{Finding.short, Verified.IsFirstShort}
 use Rattle.cascade_rank.proofs.Verifying.{verified_at-wrong, verified_at-short, GivesBound-limited}
 use Rattle.cascade_rank.proofs.verdict.verify.Goals as goal
 

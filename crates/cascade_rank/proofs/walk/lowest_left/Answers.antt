@@ -1,8 +1,5 @@
-use Rattle.std.proofs.Common.{nat_lt, Bool, cond, length, get_or, ap, arith}
-use Rattle.std.proofs.lemmas.Bool.{lt-ltb, le-ltb}
-use Rattle.cascade_rank.specs.Cost.{cost_of_post}
-use Rattle.cascade_rank.specs.Events.{no_event}
-use Rattle.cascade_rank.specs.Order.{left_of}
+use Rattle.std.proofs.{Common.{nat_lt, Bool, cond, length, get_or, ap, arith}, lemmas.Bool.{lt-ltb, le-ltb}}
+use Rattle.cascade_rank.specs.{Cost.cost_of_post, Events.no_event, Order.left_of}
 use Rattle.cascade_rank.proofs.Firsts.{lowest-each_more, lowest_all}
 use Rattle.cascade_rank.proofs.walk.lowest_left.Goals as goal
 use Rattle.cascade_rank.proofs.walk.lowest_left.Goals.{then-left-event-gt0, else-left-event-gt0}

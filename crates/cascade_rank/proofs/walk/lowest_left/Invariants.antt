@@ -1,7 +1,5 @@
 use Rattle.std.proofs.Common.{◌≡◌, nat_lt, length, take}
-use Rattle.cascade_rank.specs.Cost.{each_of, cost_of_post}
-use Rattle.cascade_rank.specs.Lowest.{lowest}
-use Rattle.cascade_rank.specs.Order.{left_of}
+use Rattle.cascade_rank.specs.{Cost.{each_of, cost_of_post}, Lowest.lowest, Order.left_of}
 use Rattle.cascade_rank.proofs.walk.lowest_left.Given as goal
 
 abbrev pub invariant-loop-event : goal.invariant-loop-event

@@ -1,11 +1,5 @@
-use Rattle.std.proofs.Common.{rules, nat_lt, List, length, ap, ◌∙◌, arith}
-use Rattle.plan_tables.specs.declared.entries.EventId.{EventId}
-use Rattle.cascade_rank.specs.Cost.{each_of, cost_of_post}
-use Rattle.cascade_rank.specs.Lowest.{lowest}
-use Rattle.cascade_rank.specs.Order.{left_of}
-use Rattle.cascade_rank.proofs.Firsts.{next_is}
-use Rattle.cascade_rank.proofs.Limits.{events-few}
-use Rattle.cascade_rank.proofs.Within.{posts_of_event-within}
+use Rattle.std.proofs.Common.{rules, nat_lt, arith}
+use Rattle.cascade_rank.proofs.{Firsts.next_is, Limits.events-few, Within.posts_of_event-within}
 use Rattle.cascade_rank.proofs.walk.next.Goals as goal
 
 pub lowest_left-requires-clause-within : goal.lowest_left-requires-clause-within

@@ -1,9 +1,7 @@
 use Rattle.std.proofs.Common.{rules, ◌≡◌, ◌<◌, true, false, List, [], ◌∷◌, ◌++◌, length, set, slice_index_or, ap, ◌∙◌, sym, subst, arith}
-use Rattle.std.proofs.lemmas.Result.{IfOk-weaker}
-use Rattle.std.proofs.lemmas.List.{get_or_read}
+use Rattle.std.proofs.lemmas.{Result.IfOk-weaker, List.get_or_read}
 use Rattle.plan_tables.specs.declared.entries.EventId.{EventId}
-use Rattle.cascade_rank.specs.LeadsTo.{IsCycle}
-use Rattle.cascade_rank.specs.Cycle.{IsReportedCycle, from_first}
+use Rattle.cascade_rank.specs.{LeadsTo.IsCycle, Cycle.{IsReportedCycle, from_first}}
 use Rattle.cascade_rank.proofs.Walking.{WalkAt, walk_goes, comes_again, cycle_is, reported, cycle}
 use Rattle.cascade_rank.proofs.walk.walk.Goals as goal
 

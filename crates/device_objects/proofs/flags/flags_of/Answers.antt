@@ -1,8 +1,6 @@
 use Rattle.std.proofs.Common.{◌≡◌, false, sym, ap, ◌∙◌, inl, inr, get_or, set, length, arith}
-use Rattle.std.proofs.lemmas.Bool.{cases_eq}
-use Rattle.std.proofs.lemmas.List.{length-set, get_or-set_same, get_or-set_other}
-use Rattle.device_objects.specs.Flags.{is_set}
-use Rattle.device_objects.proofs.FlagLemmas.{flags-are}
+use Rattle.std.proofs.lemmas.{Bool.cases_eq, List.{length-set, get_or-set_same, get_or-set_other}}
+use Rattle.device_objects.{specs.Flags.is_set, proofs.FlagLemmas.flags-are}
 use Rattle.device_objects.proofs.flags.flags_of.Goals as goal
 
 pub loop-i-preserved : goal.loop-i-preserved

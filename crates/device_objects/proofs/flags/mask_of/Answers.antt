@@ -1,8 +1,6 @@
 use Rattle.std.proofs.Common.{false, sym, ap, ◌∙◌, inl, inr, get_or, set, arith}
-use Rattle.std.proofs.lemmas.Bool.{cases_eq}
-use Rattle.std.proofs.lemmas.List.{ext_get_or, get_or-set_same, get_or-set_other}
-use Rattle.device_objects.specs.Flags.{flags}
-use Rattle.device_objects.proofs.FlagLemmas.{flags-length}
+use Rattle.std.proofs.lemmas.{Bool.cases_eq, List.{ext_get_or, get_or-set_same, get_or-set_other}}
+use Rattle.device_objects.{specs.Flags.flags, proofs.FlagLemmas.flags-length}
 use Rattle.device_objects.proofs.flags.mask_of.Goals as goal
 
 pub loop-i-preserved : goal.loop-i-preserved

@@ -1,6 +1,4 @@
-use Rattle.std.proofs.Common.{sym, ap, ◌∙◌, ◌==◌}
-use Rattle.std.specs.Int.{w16}
-use Rattle.std.proofs.lemmas.Bool.{eq-eqb}
+use Rattle.std.{proofs.{Common.{sym, ap, ◌∙◌, ◌==◌}, lemmas.Bool.eq-eqb}, specs.Int.w16}
 use Rattle.std.proofs.lemmas.Nat.Bits.{bit_at_set_same, bit_at_set_other, bit_at_clear_same, bit_at_clear_other}
 use Rattle.device_objects.proofs.FlagLemmas.{flags-set}
 use Rattle.device_objects.proofs.flags.with_flag.Goals as goal

@@ -1,5 +1,4 @@
-use Rattle.std.proofs.Common.{◌∙◌, sym, refl, arith}
-use Rattle.std.proofs.lemmas.List.{ext_get_or}
+use Rattle.std.proofs.{Common.{◌∙◌, sym, refl, arith}, lemmas.List.ext_get_or}
 use Rattle.device_objects.specs.BallDevice.{empty}
 use Rattle.device_objects.proofs.same.are_same_ball_switches.Goals as goal
 

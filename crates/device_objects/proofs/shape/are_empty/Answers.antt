@@ -1,5 +1,4 @@
-use Rattle.std.proofs.Common.{◌≡◌, refl, arith}
-use Rattle.std.proofs.lemmas.List.Elements.{All-from_get_or}
+use Rattle.std.proofs.{Common.{◌≡◌, refl, arith}, lemmas.List.Elements.All-from_get_or}
 use Rattle.device_objects.specs.BallDevice.{empty}
 use Rattle.device_objects.proofs.shape.are_empty.Goals as goal
 

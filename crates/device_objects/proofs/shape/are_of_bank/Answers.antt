@@ -1,7 +1,5 @@
-use Rattle.std.proofs.Common.{refl, arith}
-use Rattle.std.proofs.lemmas.List.Elements.{All-from_get_or}
-use Rattle.device_objects.specs.Bank.{first_slot}
-use Rattle.device_objects.specs.Laws.{HasBankShape}
+use Rattle.std.proofs.{Common.{refl, arith}, lemmas.List.Elements.All-from_get_or}
+use Rattle.device_objects.specs.{Bank.first_slot, Laws.HasBankShape}
 use Rattle.device_objects.proofs.shape.are_of_bank.Goals as goal
 
 pub returns : goal.returns

@@ -1,6 +1,5 @@
 use Rattle.std.proofs.Common.{ℕ, ◌<◌, get_or}
-use Rattle.device_objects.specs.Bank.{first_slot}
-use Rattle.device_objects.specs.Laws.{HasBankShape}
+use Rattle.device_objects.specs.{Bank.first_slot, Laws.HasBankShape}
 use Rattle.device_objects.proofs.shape.are_of_bank.Given as goal
 
 abbrev pub invariant-loop-slot : goal.invariant-loop-slot

@@ -1,5 +1,4 @@
-use Rattle.std.proofs.Common.{◌≤◌, refl, arith}
-use Rattle.std.proofs.lemmas.List.Elements.{All-from_get_or}
+use Rattle.std.proofs.{Common.{◌≤◌, refl, arith}, lemmas.List.Elements.All-from_get_or}
 use Rattle.device_objects.proofs.shape.are_up_to.Goals as goal
 
 pub returns : goal.returns

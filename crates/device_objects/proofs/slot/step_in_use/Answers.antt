@@ -1,7 +1,5 @@
-use Rattle.std.proofs.Common.{◌≡◌, Some, map, slice_get, sym, ap, ◌∙◌}
-use Rattle.std.proofs.lemmas.Option.{slice_get-get_or}
-use Rattle.device_objects.specs.Slots.{step_in_use}
-use Rattle.device_objects.proofs.Slots.{seen-past, seen-step}
+use Rattle.std.proofs.{Common.{◌≡◌, Some, map, slice_get, sym, ap, ◌∙◌}, lemmas.Option.slice_get-get_or}
+use Rattle.device_objects.{specs.Slots.step_in_use, proofs.Slots.{seen-past, seen-step}}
 use Rattle.device_objects.proofs.slot.step_in_use.Goals as goal
 use Rattle.device_objects.proofs.slot.step_in_use.Goals.{in_default-via-in-Some+else-i-slots, in_default-via-in_default}
 

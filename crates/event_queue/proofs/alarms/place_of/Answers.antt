@@ -1,9 +1,7 @@
 use Rattle.std.proofs.Common.{◌-◌, ◌≡◌, length, get_or, sym, subst, ap, ◌∙◌, refl, rules, arith}
 use Rattle.std.proofs.lemmas.List.Sorted.{IsPartitionPoint-from_clause}
-use Rattle.event_queue.specs.Alarms.{comes_before}
-use Rattle.event_queue.specs.Inside.{IsPlaceOf}
-use Rattle.event_queue.proofs.Put.{ordered-parted, place-front, place-back}
-use Rattle.event_queue.proofs.InOrder.{before-order}
+use Rattle.event_queue.specs.{Alarms.comes_before, Inside.IsPlaceOf}
+use Rattle.event_queue.proofs.{Put.{ordered-parted, place-front, place-back}, InOrder.before-order}
 use Rattle.event_queue.proofs.alarms.place_of.Goals as goal
 
 pub returns-then-not-comes_before : goal.returns-then-not-comes_before

@@ -1,10 +1,5 @@
-use Rattle.std.proofs.Common.{rules, ◌≡◌, ℕ, List, length, is_some, true, sym, subst, ap, ◌∙◌, arith}
-use Rattle.std.specs.List.{remove}
-use Rattle.plan_tables.specs.declared.devices.RowId.{RowId}
-use Rattle.event_queue.specs.Alarms.{comes_before}
-use Rattle.event_queue.specs.Inside.{IsOrdered, IsPlaceOf, put_alarm}
-use Rattle.event_queue.proofs.Put.{ordered-put, taken-at, on_some}
-use Rattle.event_queue.proofs.InOrder.{before-order}
+use Rattle.std.proofs.Common.{rules, is_some}
+use Rattle.event_queue.proofs.{Put.{ordered-put, taken-at, on_some}, InOrder.before-order}
 use Rattle.event_queue.proofs.alarms.take_out.Goals as goal
 
 pub place_of-place-requires : goal.place_of-place-requires

@@ -1,8 +1,6 @@
 use Rattle.std.proofs.Common.{Vec, Global, filter, vec_capacity, ap, ◌∙◌, arith}
-use Rattle.plan_tables.specs.declared.entries.BindingId.{BindingId}
-use Rattle.plan_tables.specs.PlanView.{places_of}
-use Rattle.event_queue.specs.PlanOrder.{by_priority}
-use Rattle.event_queue.specs.Inside.{without}
+use Rattle.plan_tables.specs.{declared.entries.BindingId.BindingId, PlanView.places_of}
+use Rattle.event_queue.specs.{PlanOrder.by_priority, Inside.without}
 use Rattle.event_queue.proofs.Handling.{binding-event, event-known, others-in_order, order-with, order-dropped}
 use Rattle.event_queue.proofs.orders.drop_place.Goals as goal
 

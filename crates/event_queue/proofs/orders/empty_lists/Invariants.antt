@@ -1,5 +1,4 @@
-use Rattle.std.proofs.Common.{◌≡◌, [], length}
-use Rattle.std.specs.List.{All}
+use Rattle.std.{proofs.Common.{◌≡◌, [], length}, specs.List.All}
 use Rattle.event_queue.proofs.orders.empty_lists.Given as goal
 
 abbrev pub invariant-loop : goal.invariant-loop

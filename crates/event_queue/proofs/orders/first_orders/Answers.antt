@@ -1,10 +1,7 @@
 use Rattle.std.proofs.Common.{◌+◌, ◌≤◌, length, Vec, Global, List, sym, subst, ap, ◌∙◌, arith}
 use Rattle.std.proofs.lemmas.Option.{get_or_from_slice_get}
-use Rattle.plan_tables.specs.declared.entries.BindingId.{BindingId}
-use Rattle.plan_tables.specs.declared.entries.Binding.{Binding}
-use Rattle.plan_tables.specs.PlanView.{no_binding}
-use Rattle.event_queue.specs.Handlers.{takes_part, runs_at}
-use Rattle.event_queue.specs.Inside.{HasOrders, also}
+use Rattle.plan_tables.specs.{declared.entries.{BindingId.BindingId, Binding.Binding}, PlanView.no_binding}
+use Rattle.event_queue.specs.{Handlers.{takes_part, runs_at}, Inside.{HasOrders, also}}
 use Rattle.event_queue.proofs.Handling.{orders-agree, first_of, first-fresh, first-more, first-same, first-all}
 use Rattle.event_queue.proofs.orders.first_orders.Goals as goal
 use Rattle.event_queue.proofs.orders.first_orders.Goals.{then-takes_part, else-takes_part}

@@ -1,8 +1,5 @@
-use Rattle.std.proofs.Common.{rules}
-use Rattle.std.proofs.lemmas.List.Sorted.{IsPartitionPoint-from_clause}
-use Rattle.event_queue.specs.Inside.{runs_before}
-use Rattle.event_queue.proofs.Put.{ordered-parted}
-use Rattle.event_queue.proofs.Joined.{runs-order}
+use Rattle.std.proofs.{Common.rules, lemmas.List.Sorted.IsPartitionPoint-from_clause}
+use Rattle.event_queue.{specs.Inside.runs_before, proofs.{Put.ordered-parted, Joined.runs-order}}
 use Rattle.event_queue.proofs.orders.index_of.Goals as goal
 
 pub returns : goal.returns

@@ -1,6 +1,4 @@
-use Rattle.std.proofs.Common.{rules, List, subst, ◌∙◌}
-use Rattle.plan_tables.specs.declared.entries.BindingId.{BindingId}
-use Rattle.event_queue.specs.Inside.{IsPlaceOf, runs_before}
+use Rattle.std.proofs.Common.{rules}
 use Rattle.event_queue.proofs.Put.{put-at}
 use Rattle.event_queue.proofs.orders.put_in.Goals as goal
 

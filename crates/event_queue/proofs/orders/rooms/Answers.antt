@@ -1,5 +1,5 @@
-use Rattle.std.proofs.Common.{rules, ◌+◌, length, sym, subst, ap, arith}
-use Rattle.event_queue.proofs.Handling.{HasFirstRooms, rooms-more}
+use Rattle.std.proofs.Common.{rules}
+use Rattle.event_queue.proofs.Handling.{rooms-more}
 use Rattle.event_queue.proofs.orders.rooms.Goals as goal
 
 pub loop-number-preserved : goal.loop-number-preserved

@@ -1,9 +1,6 @@
-use Rattle.std.proofs.Common.{rules, List, length, sym, subst, ap, ◌∙◌, arith}
-use Rattle.std.specs.List.{remove}
+use Rattle.std.proofs.Common.{rules, List, length, subst, ap, ◌∙◌, arith}
 use Rattle.plan_tables.specs.declared.entries.BindingId.{BindingId}
-use Rattle.event_queue.specs.Inside.{IsOrdered, IsPlaceOf, runs_before}
-use Rattle.event_queue.proofs.Put.{ordered-put, taken-at}
-use Rattle.event_queue.proofs.Joined.{runs-order}
+use Rattle.event_queue.{specs.Inside.{IsPlaceOf, runs_before}, proofs.{Put.{ordered-put, taken-at}, Joined.runs-order}}
 use Rattle.event_queue.proofs.orders.take_out.Goals as goal
 
 pub index_of-at-requires : goal.index_of-at-requires

@@ -1,5 +1,4 @@
-use Rattle.std.proofs.Common.{Bool, map, set, if◌then◌else◌, sym, ap, ◌∙◌}
-use Rattle.std.proofs.lemmas.List.{map-set}
+use Rattle.std.proofs.{Common.{Bool, map, set, if◌then◌else◌, sym, ap, ◌∙◌}, lemmas.List.map-set}
 use Rattle.device_objects.specs.Accrual.{first_slot}
 use Rattle.logic_blocks.specs.Mask.{slot_of}
 use Rattle.logic_blocks.proofs.mask_accrual.begin.Goals as goal

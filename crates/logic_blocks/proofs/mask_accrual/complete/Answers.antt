@@ -1,5 +1,4 @@
-use Rattle.std.proofs.Common.{arith}
-use Rattle.std.proofs.lemmas.Grind.{common_steps}
+use Rattle.std.proofs.{Common.arith, lemmas.Grind.common_steps}
 use Rattle.device_objects.proofs.FlagLemmas.{flags-none}
 use Rattle.logic_blocks.proofs.mask_accrual.complete.Goals as goal
 

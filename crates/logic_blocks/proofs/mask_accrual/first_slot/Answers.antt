@@ -1,6 +1,5 @@
 use Rattle.std.proofs.Common.{Bool, List, ap}
-use Rattle.device_objects.specs.declared.state.AccrualSlot.{AccrualSlot}
-use Rattle.device_objects.proofs.FlagLemmas.{flags-none}
+use Rattle.device_objects.{specs.declared.state.AccrualSlot.AccrualSlot, proofs.FlagLemmas.flags-none}
 use Rattle.logic_blocks.proofs.mask_accrual.first_slot.Goals as goal
 
 pub returns : goal.returns

@@ -1,9 +1,6 @@
 use Rattle.std.proofs.Common.{◌≡◌, Bool, true, false, nat_lt, ◌&&◌, slice_get, inl, inr, refl, sym, ap, ◌∙◌, arith}
-use Rattle.std.proofs.lemmas.Bool.{le-ltb}
-use Rattle.std.proofs.lemmas.Grind.{common_steps}
-use Rattle.device_objects.specs.Accrual.{is_open}
-use Rattle.device_objects.specs.Flags.{flags}
-use Rattle.device_objects.proofs.FlagLemmas.{flags-get, flags-past}
+use Rattle.std.proofs.lemmas.{Bool.le-ltb, Grind.common_steps}
+use Rattle.device_objects.{specs.{Accrual.is_open, Flags.flags}, proofs.FlagLemmas.{flags-get, flags-past}}
 use Rattle.logic_blocks.proofs.mask_accrual.is_step_open.Goals as goal
 
 never : (b : Bool) → false ≡ (b && false)

@@ -1,6 +1,5 @@
 use Rattle.std.proofs.Common.{Bool, true, List, sym, ap, ◌∙◌}
-use Rattle.device_objects.specs.declared.state.AccrualSlot.{AccrualSlot}
-use Rattle.device_objects.specs.Accrual.{slot_step}
+use Rattle.device_objects.specs.{declared.state.AccrualSlot.AccrualSlot, Accrual.slot_step}
 use Rattle.device_objects.proofs.FlagLemmas.{flags-none}
 use Rattle.logic_blocks.specs.Mask.{slot_of}
 use Rattle.logic_blocks.proofs.mask_accrual.step.Goals as goal

@@ -1,4 +1,4 @@
-use Rattle.std.proofs.Common.{◌≡◌, ◌||◌, ◌+◌, Bool, true, false, not, List, map, drop, refl, sym, ap, ◌∙◌}
+use Rattle.std.proofs.Common.{rules, ◌≡◌, ◌||◌, ◌+◌, Bool, true, false, not, List, map, drop, refl, sym, ap, ◌∙◌}
 use Rattle.std.specs.Str.{bytes_eq}
 use Rattle.machine_definitions.specs.Found.{is_found}
 use Rattle.mpf_sections.specs.View.{name_view}
@@ -8,8 +8,7 @@ use Rattle.row_faults.proofs.routes.take_switches.Goals as goal
 use Rattle.row_faults.proofs.routes.take_switches.Goals.{then-again, else-again}
 
 not-not : (b : Bool) → not (not b) ≡ b
-not-not true = refl
-not-not false = refl
+not-not x1 = search rules
 
 joined : (a b again : Bool) → a ≡ true → again ≡ true → again ≡ (a || b)
 joined a b again e is = is ∙ ap (λ (x : Bool). x || b) (sym e)

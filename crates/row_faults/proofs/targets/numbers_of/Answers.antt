@@ -1,4 +1,4 @@
-use Rattle.std.proofs.Common.{◌≡◌, ℕ, ◌+◌, ◌<◌, Bool, true, false, if◌then◌else◌, List, [], ◌∷◌, ◌++◌, length, take, Option, Some, None, IfSome, option_map, sym, ap, subst, ◌∙◌, arith}
+use Rattle.std.proofs.Common.{rules, ◌≡◌, ℕ, ◌+◌, ◌<◌, Bool, true, false, if◌then◌else◌, List, [], ◌∷◌, ◌++◌, length, take, Option, Some, None, IfSome, option_map, sym, ap, subst, ◌∙◌, arith}
 use Rattle.std.specs.List.{slice_get}
 use Rattle.std.specs.Str.{bytes_eq}
 use Rattle.std.proofs.lemmas.List.{take_more, length-map, get_or-map}
@@ -15,13 +15,11 @@ use Rattle.row_faults.proofs.targets.numbers_of.Goals as goal
 
 -- a number is found, or what was found before
 within-more : (count n : ℕ) (b : Bool) (found : Option ℕ) → n < count → IfSome found (λ m. m < count) → IfSome (if b then Some n else found) (λ m. m < count)
-within-more count n true found less h = less
-within-more count n false found less h = h
+within-more count n x3 found less h = search rules
 
 called-more : (devices : List BallDevice) (name : List ℕ) (n : ℕ) (d : BallDevice) (b : Bool) (found : Option ℕ) (e : Option BallDevice) → slice_get devices n ≡ Some d → device_at devices found ≡ e
     → device_at devices (if b then Some n else found) ≡ (if b then Some d else e)
-called-more devices name n d true found e is h = is
-called-more devices name n d false found e is h = h
+called-more devices name n d x5 found e is h = search rules
 
 pub loop-number-preserved : goal.loop-number-preserved
 loop-number-preserved c =
@@ -38,9 +36,5 @@ loop-number-preserved c =
     let more : take (n + 1) devices ≡ take n devices ++ d ∷ [] = take_more devices n d (omega (arith, less, length-map given ball_device_view)) ∙ ap (λ (x : BallDevice). take n devices ++ x ∷ []) (get_or-map ball_device_view given n item d less ∙ ap ball_device_view (sym c.index-devices-number.is)) in
     record {
       within = λ name. subst (λ (o : Option ℕ). IfSome o (λ m. m < length given)) (sym (took name)) (within-more (length given) n (bytes_eq name d.name.text) (number_found l.numbers name) less (l.invariant.within name));
-      called = λ name.
-          ap (device_at devices) (took name)
-          ∙ called-more devices name n d (bytes_eq name d.name.text) (number_found l.numbers name) (ball_device_among (take n devices) name) here (l.invariant.called name)
-          ∙ sym (fold_push (latest_ball_device name) None (take n devices) d)
-          ∙ ap (λ (ds : List BallDevice). ball_device_among ds name) (sym more);
+      called = search (rules, called-more, fold_push);
     }

@@ -1,5 +1,4 @@
-use Rattle.switch_core.proofs.Following.{levels_are_accepted, nothing_is_late}
-use Rattle.switch_core.proofs.DueMoments.{changes_arm_later}
+use Rattle.switch_core.proofs.{Following.{levels_are_accepted, nothing_is_late}, DueMoments.changes_arm_later}
 use Rattle.switch_core.proofs.law.levels_are_accepted.Goals as goal
 
 pub returns-clause-levels : goal.returns-clause-levels

@@ -1,5 +1,4 @@
-use Rattle.std.proofs.Common.{length, ap, ◌∙◌, arith}
-use Rattle.std.proofs.lemmas.List.{length-append}
+use Rattle.std.proofs.{Common.{length, ap, ◌∙◌, arith}, lemmas.List.length-append}
 use Rattle.switch_core.proofs.Waiting.{lower, higher, others-room, place-within, others-left, put-again}
 use Rattle.switch_core.proofs.switches.set_due.Goals as goal
 

@@ -1,5 +1,4 @@
-use Rattle.std.proofs.Common.{rules, arith}
-use Rattle.std.proofs.lemmas.Grind.{common_steps}
+use Rattle.std.proofs.{Common.{rules, arith}, lemmas.Grind.common_steps}
 use Rattle.coil_guard.proofs.coils.Coils.disable.Goals as goal
 
 pub returns-then-not-is_on_at-clause-state : goal.returns-then-not-is_on_at-clause-state

@@ -1,8 +1,7 @@
 use Rattle.std.proofs.Common.{◌<◌, ◌++◌, [], ◌∷◌, length, map, take, get_or, sym, ap, ◌∙◌, arith}
 use Rattle.std.proofs.lemmas.List.{take_more, length-map, get_or-map, map-append}
 use Rattle.plan_tables.specs.PlanView.{no_coil}
-use Rattle.coil_guard.specs.CoilStep.{off}
-use Rattle.coil_guard.specs.Asked.{limits_of}
+use Rattle.coil_guard.specs.{CoilStep.off, Asked.limits_of}
 use Rattle.coil_guard.proofs.coils.Coils.new.Goals as goal
 
 pub loop-number-preserved : goal.loop-number-preserved

@@ -1,6 +1,5 @@
 use Rattle.std.proofs.Common.{◌≡◌, map, take, vec_len, vec_capacity, length}
-use Rattle.coil_guard.specs.CoilStep.{off}
-use Rattle.coil_guard.specs.Asked.{limits_of}
+use Rattle.coil_guard.specs.{CoilStep.off, Asked.limits_of}
 use Rattle.coil_guard.proofs.coils.Coils.new.Given as goal
 
 -- the coils so far, with room for all

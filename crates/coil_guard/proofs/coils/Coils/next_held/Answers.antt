@@ -1,7 +1,5 @@
 use Rattle.std.proofs.Common.{length}
-use Rattle.coil_guard.specs.CoilStep.{is_held_by}
-use Rattle.coil_guard.specs.Coils.{coil_at}
-use Rattle.coil_guard.proofs.Lowest.{found-at, answer-within}
+use Rattle.coil_guard.{specs.{CoilStep.is_held_by, Coils.coil_at}, proofs.Lowest.{found-at, answer-within}}
 use Rattle.coil_guard.proofs.coils.Coils.next_held.Goals as goal
 
 pub returns-then-is_held_by-clause-next : goal.returns-then-is_held_by-clause-next

@@ -1,7 +1,5 @@
 use Rattle.std.proofs.Common.{◌≡◌, None}
-use Rattle.coil_guard.specs.CoilStep.{is_held_by}
-use Rattle.coil_guard.specs.Lowest.{lowest}
-use Rattle.coil_guard.specs.Coils.{coil_at}
+use Rattle.coil_guard.specs.{CoilStep.is_held_by, Lowest.lowest, Coils.coil_at}
 use Rattle.coil_guard.proofs.coils.Coils.next_held.Given as goal
 
 -- the owner holds none of the coils so far

@@ -1,7 +1,5 @@
 use Rattle.std.proofs.Common.{length}
-use Rattle.coil_guard.specs.CoilStep.{is_on_at}
-use Rattle.coil_guard.specs.Coils.{coil_at}
-use Rattle.coil_guard.proofs.Lowest.{found-at, answer-within}
+use Rattle.coil_guard.{specs.{CoilStep.is_on_at, Coils.coil_at}, proofs.Lowest.{found-at, answer-within}}
 use Rattle.coil_guard.proofs.coils.Coils.next_on.Goals as goal
 
 pub returns-then-is_on_at-clause-next : goal.returns-then-is_on_at-clause-next

@@ -1,7 +1,5 @@
 use Rattle.std.proofs.Common.{◌≡◌, None}
-use Rattle.coil_guard.specs.CoilStep.{is_on_at}
-use Rattle.coil_guard.specs.Lowest.{lowest}
-use Rattle.coil_guard.specs.Coils.{coil_at}
+use Rattle.coil_guard.specs.{CoilStep.is_on_at, Lowest.lowest, Coils.coil_at}
 use Rattle.coil_guard.proofs.coils.Coils.next_on.Given as goal
 
 -- none of the coils so far is on

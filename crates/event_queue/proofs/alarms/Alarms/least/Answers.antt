@@ -1,7 +1,5 @@
 use Rattle.std.proofs.Common.{◌<◌, List, Option, ℕ, length, slice_get, IfSome, subst, ap, ◌∙◌}
-use Rattle.event_queue.specs.Alarms.{least_of}
-use Rattle.event_queue.proofs.Least.{least-within}
-use Rattle.event_queue.proofs.InOrder.{front-is, first-least}
+use Rattle.event_queue.{specs.Alarms.least_of, proofs.{Least.least-within, InOrder.{front-is, first-least}}}
 use Rattle.event_queue.proofs.alarms.Alarms.least.Goals as goal
 
 pub returns-clause-least : goal.returns-clause-least

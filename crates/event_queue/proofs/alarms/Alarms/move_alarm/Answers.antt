@@ -1,7 +1,5 @@
-use Rattle.std.proofs.Common.{◌<◌, length, sym, subst, ap, ◌∙◌, arith}
-use Rattle.std.proofs.lemmas.List.{length-set}
-use Rattle.event_queue.specs.Alarms.{comes_before}
-use Rattle.event_queue.specs.Inside.{IsOrdered, put_alarm}
+use Rattle.std.proofs.{Common.{◌<◌, length, sym, subst, ap, ◌∙◌, arith}, lemmas.List.length-set}
+use Rattle.event_queue.specs.{Alarms.comes_before, Inside.{IsOrdered, put_alarm}}
 use Rattle.event_queue.proofs.InOrder.{others, others-ordered, others-put, others-was, others-room}
 use Rattle.event_queue.proofs.alarms.Alarms.move_alarm.Goals as goal
 

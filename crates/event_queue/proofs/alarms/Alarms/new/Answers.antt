@@ -1,5 +1,4 @@
-use Rattle.std.proofs.Common.{sym, ap, ◌∙◌, rules, arith}
-use Rattle.event_queue.specs.Inside.{ordered_alarms}
+use Rattle.std.proofs.Common.{rules}
 use Rattle.event_queue.proofs.InOrder.{none-ordered}
 use Rattle.event_queue.proofs.alarms.Alarms.new.Goals as goal
 

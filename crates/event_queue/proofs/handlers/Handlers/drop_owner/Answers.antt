@@ -1,8 +1,7 @@
-use Rattle.std.proofs.Common.{rules, ◌≡◌, ◌+◌, ◌<◌, ◌≤◌, List, Vec, Global, true, false, length, get_or, slice_set, sym, subst, ap, ◌∙◌, arith}
+use Rattle.std.proofs.Common.{rules, ◌≡◌, ◌+◌, ◌<◌, ◌≤◌, List, Vec, Global, true, false, length, get_or, slice_set, sym, ap, ◌∙◌, arith}
 use Rattle.std.proofs.lemmas.List.{length-set, get_or_default}
 use Rattle.plan_tables.specs.declared.entries.BindingId.{BindingId}
-use Rattle.event_queue.specs.Handlers.{HandlersView, runs_at}
-use Rattle.event_queue.specs.Inside.{places_in, without}
+use Rattle.event_queue.specs.{Handlers.{HandlersView, runs_at}, Inside.{places_in, without}}
 use Rattle.event_queue.proofs.Owned.{places_in-within, leaving, leaving-next, leaving-more, leaving-all}
 use Rattle.event_queue.proofs.Handling.{orders-agree}
 use Rattle.event_queue.proofs.handlers.Handlers.drop_owner.Goals as goal

@@ -1,5 +1,4 @@
-use Rattle.event_queue.specs.Inside.{HasOrders}
-use Rattle.event_queue.proofs.Owned.{leaving}
+use Rattle.event_queue.{specs.Inside.HasOrders, proofs.Owned.leaving}
 use Rattle.event_queue.proofs.handlers.Handlers.drop_owner.Given as goal
 
 abbrev pub invariant-loop-place : goal.invariant-loop-place

@@ -1,8 +1,4 @@
-use Rattle.std.proofs.Common.{rules, ◌≡◌, ◌<◌, ◌≤◌, List, Vec, Global, [], length, get_or, ltb-true, ltb-false, sym, subst, ap, ◌∙◌, arith}
-use Rattle.std.specs.List.{All}
-use Rattle.plan_tables.specs.declared.entries.BindingId.{BindingId}
-use Rattle.event_queue.specs.Handlers.{HandlersView}
-use Rattle.event_queue.specs.PlanOrder.{in_order}
+use Rattle.std.proofs.Common.{rules, get_or, ltb-true, ltb-false}
 use Rattle.event_queue.proofs.OfEvent.{no-handlers, in_order-within}
 use Rattle.event_queue.proofs.handlers.Handlers.handlers.Goals as goal
 

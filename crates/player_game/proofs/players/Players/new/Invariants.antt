@@ -1,5 +1,4 @@
-use Rattle.std.proofs.Common.{◌≡◌, vec_len}
-use Rattle.std.specs.List.{All}
+use Rattle.std.{proofs.Common.{◌≡◌, vec_len}, specs.List.All}
 use Rattle.player_game.specs.Kept.{IsSlotOf}
 use Rattle.player_game.proofs.players.Players.new.Given as goal
 

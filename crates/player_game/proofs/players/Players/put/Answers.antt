@@ -1,8 +1,6 @@
 use Rattle.std.proofs.Common.{◌≡◌, ◌-◌, ◌<◌, ℤ, length, get_or, sym, ap, ◌∙◌, arith, w64}
-use Rattle.std.proofs.lemmas.Int.{to_z-of_z}
-use Rattle.std.proofs.lemmas.List.{get_or_default}
-use Rattle.player_game.specs.Players.{PlayersView, new_player, with_value}
-use Rattle.player_game.proofs.Slots.{slot_changed}
+use Rattle.std.proofs.lemmas.{Int.to_z-of_z, List.get_or_default}
+use Rattle.player_game.{specs.Players.{PlayersView, new_player, with_value}, proofs.Slots.slot_changed}
 use Rattle.player_game.proofs.players.Players.put.Goals as goal
 
 pub returns-clause-state : goal.returns-clause-state

@@ -1,6 +1,5 @@
 use Rattle.std.proofs.Common.{◌≡◌, map, slice_set, ap, subst, ◌∙◌}
-use Rattle.switch_core.specs.StateView.{state_view}
-use Rattle.switch_core.specs.Inside.{soonest}
+use Rattle.switch_core.specs.{StateView.state_view, Inside.soonest}
 use Rattle.switch_core.specs.Switches.{SwitchesView, after_change, reported_by_change}
 use Rattle.switch_core.proofs.Lists.{lists_view, view-in_kinds, view-in_states, same-moment, kept-waits, kept-set, kept-same, change-set, change-answer}
 use Rattle.switch_core.proofs.switches.Switches.change.Goals as goal

@@ -1,7 +1,6 @@
 use Rattle.std.proofs.Common.{ap, ◌∙◌, subst}
 use Rattle.switch_core.specs.Switches.{IsComplete, next_due}
-use Rattle.switch_core.proofs.NextDue.{answer-least, answer-none}
-use Rattle.switch_core.proofs.Lists.{answer-within}
+use Rattle.switch_core.proofs.{NextDue.{answer-least, answer-none}, Lists.answer-within}
 use Rattle.switch_core.proofs.switches.Switches.due.Goals as goal
 
 pub returns-clause-next : goal.returns-clause-next

@@ -1,6 +1,5 @@
 use Rattle.std.proofs.Common.{◌≡◌, Some, map, slice_set, ap, subst, ◌∙◌, arith}
-use Rattle.switch_core.specs.StateView.{state_view}
-use Rattle.switch_core.specs.Inside.{soonest}
+use Rattle.switch_core.specs.{StateView.state_view, Inside.soonest}
 use Rattle.switch_core.specs.Switches.{SwitchesView, after_fire, reported_by_fire}
 use Rattle.switch_core.proofs.Lists.{lists_view, kept-next, kept-in_states, kept-in_kinds, kept-waits, kept-set, fire-set, fire-answer}
 use Rattle.switch_core.proofs.switches.Switches.fire.Goals as goal

@@ -1,7 +1,5 @@
-use Rattle.std.proofs.Common.{take, sym, ◌∙◌, arith}
-use Rattle.std.proofs.lemmas.List.{length-map}
-use Rattle.switch_core.specs.StateView.{state_view}
-use Rattle.switch_core.proofs.Lists.{idle-next, idle-none_wait}
+use Rattle.std.proofs.{Common.{take, sym, ◌∙◌, arith}, lemmas.List.length-map}
+use Rattle.switch_core.{specs.StateView.state_view, proofs.Lists.{idle-next, idle-none_wait}}
 use Rattle.switch_core.proofs.switches.Switches.new.Goals as goal
 
 pub invariant_of-result : goal.invariant_of-result

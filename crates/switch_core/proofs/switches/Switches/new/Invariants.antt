@@ -1,6 +1,5 @@
 use Rattle.std.proofs.Common.{◌≡◌, map, take, vec_len, vec_capacity}
-use Rattle.switch_core.specs.SwitchStep.{idle}
-use Rattle.switch_core.specs.StateView.{state_view}
+use Rattle.switch_core.specs.{SwitchStep.idle, StateView.state_view}
 use Rattle.switch_core.proofs.switches.Switches.new.Given as goal
 
 -- the kinds and the states of the switches so far, with room for all
