@@ -1,25 +1,16 @@
 -- What happens with balls is of a row that is there, and a ball may have drained only where there is a game.
-use Rattle.std.proofs.Common.{◌≡◌, ℕ, ◌+◌, ◌-◌, ◌<◌, ◌≤◌, Bool, true, false, ◌||◌, List, [], ◌∷◌, ◌++◌, length, fold, replicate, refl, sym, ◌∙◌, ap, subst, arith}
-use Rattle.std.specs.Prelude.{Option, None, Some, option_map, IfSome, is_some}
-use Rattle.std.specs.List.{All, list_any}
+use Rattle.std.proofs.Common.{rules, ◌≡◌, ℕ, ◌+◌, ◌-◌, ◌<◌, ◌≤◌, Bool, true, false, ◌||◌, List, [], ◌∷◌, ◌++◌, length, fold, replicate, refl, sym, ◌∙◌, ap, subst, arith}
+use Rattle.std.specs.{Prelude.{Option, None, option_map, IfSome, is_some}, List.{All, list_any}}
 use Rattle.std.proofs.lemmas.List.{length_push}
 use Rattle.std.proofs.lemmas.List.Elements.{All-nil, All-cons, All-push, All-append, All-replicate, All-head, All-tail, All-weaker}
-use Rattle.plan_tables.specs.declared.entries.Action.{Action}
-use Rattle.plan_tables.specs.declared.entries.Action.TheVariants.{Enter, Leave, Lose, Arrive}
-use Rattle.plan_tables.specs.declared.devices.RowId.{RowId}
-use Rattle.plan_tables.specs.Devices.{list_count}
-use Rattle.plan_tables.specs.PlanView.{PlanView}
-use Rattle.plan_tables.specs.Valid.{HasGame}
-use Rattle.plan_contributions.specs.declared.contribution.Aim.{Aim}
-use Rattle.plan_contributions.specs.declared.contribution.Aim.TheVariants.{Run}
-use Rattle.plan_contributions.specs.Effects.{pulse, enable, disable, Effect, posts, works, changes, enters, requests, adds_balls}
+use Rattle.plan_tables.specs.declared.entries.Action.{Action, TheVariants.{Enter, Leave, Lose, Arrive}}
+use Rattle.plan_tables.specs.{declared.devices.RowId.RowId, Devices.list_count, PlanView.PlanView, Valid.HasGame}
+use Rattle.plan_contributions.specs.{declared.contribution.Aim.{Aim, TheVariants.Run}, Effects.Effect}
 use Rattle.plan_contributions.specs.Contributions.{Contribution, gives, binds, does, device, does_in, listens}
 use Rattle.row_contributions.specs.BallFacts.{IsOfNoBall, LastRow, last_after, IsFitting, AreFitting, is_plays, DrainsIn, DrainsInGame, AllDrainInGame}
-use Rattle.mpf_plan.specs.Uses.{Names, number_among}
+use Rattle.mpf_plan.specs.{Uses.{Names, number_among}, ByNumber.{action_of, first_of_last}}
 use Rattle.mpf_plan.specs.Filling.{DraftView, last_row, lists_for, with_one_more, next_row, with_contribution, blank, drafted}
-use Rattle.mpf_plan.specs.ByNumber.{action_of, first_of_last}
-use Rattle.mpf_plan.proofs.Drafted.{given_plan}
-use Rattle.mpf_plan.proofs.Steps.{All-changed}
+use Rattle.mpf_plan.proofs.{Drafted.given_plan, Steps.All-changed}
 
 -- ---- drains
 
@@ -29,20 +20,12 @@ DrainsWell game (does e) = DrainsIn game e
 DrainsWell game (does_in k e) = DrainsIn game e
 DrainsWell game _ = Unit {0}
 
-nothing_drains : (game : Bool) (e : Effect) → IsOfNoBall e → DrainsIn game e
-nothing_drains game (enters e drain) is = absurd is
-nothing_drains game _ is = tt
-
 drains_one : (game : Bool) (o : Option LastRow) (c : Contribution) → IsFitting o c → DrainsInGame game c → DrainsWell game c
-drains_one game o (does e) fits is = nothing_drains game e fits
-drains_one game o (does_in k e) fits is = is
-drains_one game o _ fits is = tt
+drains_one game o x3 fits is = search rules
 
 drains_all : (game : Bool) (o : Option LastRow) (cs : List Contribution) → AreFitting o cs → All (DrainsInGame game) cs → All (DrainsWell game) cs
 drains_all game o [] fits each = All-nil (DrainsWell game)
-drains_all game o (c ∷ cs) fits each =
-    All-cons (DrainsWell game) c cs (drains_one game o c fits.0 (All-head (DrainsInGame game) c cs each))
-    (drains_all game (last_after o c) cs fits.1 (All-tail (DrainsInGame game) c cs each))
+drains_all game o (c ∷ cs) fits each = search (rules, All-cons, drains_one, All-head, All-tail, drains_all game (last_after o c) cs fits.1 (All-tail (DrainsInGame game) c cs each))
 
 pub drains_well : (cs : List Contribution) → AreFitting None cs → AllDrainInGame cs → All (DrainsWell (list_any is_plays cs)) cs
 drains_well cs fits each = drains_all (list_any is_plays cs) None cs fits each
@@ -58,32 +41,14 @@ IsOfRows n (Arrive r) = r.0 < n
 IsOfRows n _ = Unit {0}
 
 more_rows : (n m : ℕ) → n ≤ m → (a : Action) → IsOfRows n a → IsOfRows m a
-more_rows n m few (Enter r e drain) is = omega (arith, few, is)
-more_rows n m few (Leave r) is = omega (arith, few, is)
-more_rows n m few (Lose r) is = omega (arith, few, is)
-more_rows n m few (Arrive r) is = omega (arith, few, is)
-more_rows n m few _ is = tt
+more_rows n m few x4 is = search rules
 
 module _ (names : Names) where
   there : (n : ℕ) (r : RowId) → r.0 < n → (e : Effect) → IsOfRows n (action_of names r e)
-  there n r within (works x (pulse ms power)) = tt
-  there n r within (works x (enable power)) = tt
-  there n r within (works x disable) = tt
-  there n r within (posts x) = tt
-  there n r within (changes v action m) = tt
-  there n r within (requests m) = tt
-  there n r within (adds_balls m) = tt
-  there n r within _ = within
+  there n r within x4 = search rules
 
   of_none : (n : ℕ) (r : RowId) (e : Effect) → IsOfNoBall e → IsOfRows n (action_of names r e)
-  of_none n r (works x (pulse ms power)) is = tt
-  of_none n r (works x (enable power)) is = tt
-  of_none n r (works x disable) is = tt
-  of_none n r (posts x) is = tt
-  of_none n r (changes v action m) is = tt
-  of_none n r (requests m) is = tt
-  of_none n r (adds_balls m) is = tt
-  of_none n r _ is = absurd is
+  of_none n r x3 is = search rules
 
   -- so it is with all actions, and where a row came last there is one
   record AreOfRows (o : Option LastRow) (plan : PlanView) : Type 0 where
@@ -92,8 +57,7 @@ module _ (names : Names) where
 
   module _ (o : Option LastRow) (d : DraftView) (own : AreOfRows o d.plan) where
     some_mapped : (n : ℕ) (f : LastRow → LastRow) (o : Option LastRow) → IfSome o (λ r. 0 < n) → IfSome (option_map f o) (λ r. 0 < n)
-    some_mapped n f None is = tt
-    some_mapped n f (Some r) is = is
+    some_mapped n f x3 is = search rules
 
     one_more : (at : ℕ) (a : Action) → IsOfRows (length d.plan.rows) a → All (All (IsOfRows (length d.plan.rows))) (with_one_more at a d.plan.lists)
     one_more at a is =
@@ -125,8 +89,7 @@ module _ (names : Names) where
     }
       where
         by : (o : Option LastRow) → IsFitting o (does_in k e) → IfSome o (λ r. 0 < length d.plan.rows) → (last_row d.plan).0 < length d.plan.rows
-        by None fits some = absurd fits
-        by (Some r) fits some = omega (arith, some)
+        by x1 fits some = search rules
     of_rows_one (listens k n) fits = record { some = some_mapped (length d.plan.rows) _ o own.some; lists = own.lists }
     of_rows_one _ fits = record { some = own.some; lists = own.lists }
 
@@ -140,19 +103,14 @@ module _ (names : Names) where
   -- ---- the game
 
   played_one : (d : DraftView) (c : Contribution) → is_some (with_contribution names d c).plan.game ≡ (is_plays c || is_some d.plan.game)
-  played_one d (gives t n) = ap (λ p. is_some p.game) (given_plan t (number_among (names t) n) d)
-  played_one d _ = refl
+  played_one d x2 = search rules
 
   either : (a b c : Bool) → (a || (b || c)) ≡ ((b || a) || c)
-  either true true c = refl
-  either true false c = refl
-  either false true c = refl
-  either false false c = refl
+  either x1 x2 c = search rules
 
   played_fold : (cs : List Contribution) (d : DraftView) → is_some (fold (with_contribution names) d cs).plan.game ≡ (list_any is_plays cs || is_some d.plan.game)
   played_fold [] d = refl
-  played_fold (c ∷ cs) d =
-      played_fold cs (with_contribution names d c) ∙ ap (λ b. list_any is_plays cs || b) (played_one d c) ∙ either (list_any is_plays cs) (is_plays c) (is_some d.plan.game)
+  played_fold (c ∷ cs) d = search (rules, played_one, either, played_fold cs (with_contribution names d c))
 
   -- where rules of a game are given, the plan has a game
   pub game_played : (cs : List Contribution) → list_any is_plays cs ≡ true → HasGame (drafted names cs).plan

@@ -1,24 +1,15 @@
 -- Tables by their places: what lies at the place of a table, and one of them changed.
-use Rattle.std.proofs.Common.{◌≡◌, ℕ, zero, suc, ◌+◌, ◌<◌, ◌==◌, ◌⊎◌, inl, inr, Bool, true, ◌&&◌, List, [], ◌∷◌, ◌++◌, length, get_or, set, Some, refl, sym, ◌∙◌, ap, subst, arith}
-use Rattle.std.specs.Prelude.{slice_get}
-use Rattle.std.proofs.lemmas.Bool.{cases_eq}
-use Rattle.std.proofs.lemmas.List.{length-set, get_or-set_same, get_or-set_other}
-use Rattle.std.proofs.lemmas.Option.{none-some, same_Some, slice_get-get_or}
-use Rattle.plan_tables.specs.declared.table.Table.{Table}
-use Rattle.plan_tables.specs.declared.table.Table.TheVariants.{Events}
-use Rattle.plan_tables.specs.Limits.{order_of, tables_in_order}
+use Rattle.std.proofs.Common.{rules, ◌≡◌, ℕ, zero, suc, ◌+◌, ◌<◌, ◌==◌, ◌⊎◌, Bool, true, ◌&&◌, List, [], ◌∷◌, ◌++◌, length, get_or, set, Some, sym, ◌∙◌, ap, subst, arith}
+use Rattle.std.{specs.Prelude.slice_get, proofs.lemmas.List.{length-set, get_or-set_same, get_or-set_other}}
+use Rattle.std.proofs.lemmas.{Bool.cases_eq, Option.{none-some, same_Some, slice_get-get_or}}
+use Rattle.plan_tables.specs.{declared.table.Table.{Table, TheVariants.Events}, Limits.{order_of, tables_in_order}}
 
 -- a table stands at its place
 pub table_at : (t : Table) → get_or tables_in_order (order_of t) Events ≡ t
-table_at Events = refl
-table_at _ = refl
+table_at x1 = search rules
 
 pub place_within : (t : Table) → order_of t < length tables_in_order
-place_within Events = omega arith
-place_within _ = omega arith
-
-pub same_place : (t u : Table) → order_of t ≡ order_of u → t ≡ u
-same_place t u e = sym (table_at t) ∙ ap (λ n. get_or tables_in_order n Events) e ∙ table_at u
+place_within x1 = search rules
 
 -- whether tables stand at their places, from one on
 abbrev pub in_place : ℕ → List Table → Bool
@@ -58,5 +49,4 @@ module _ {X : Type 0} (P Q : Table → X → Type 0) (u : Table) (xs : List X) (
   each_changed here there all t x got = by (cases_eq (order_of t) (order_of u))
     where
       by : (order_of t ≡ order_of u) ⊎ (order_of t ≡ order_of u → ⊥) → Q t x
-      by (inl e) = subst (Q t) (same_Some new x (sym (is t e) ∙ got)) (here t e (all t old (was t e)))
-      by (inr other) = there t other x (all t x (sym (stays t other) ∙ got))
+      by x1 = search (rules, same_Some, is, was, stays)

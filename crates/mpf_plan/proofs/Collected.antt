@@ -1,31 +1,25 @@
 -- What a pass has seen: one contribution more, and what is collected of one row more.
-use Rattle.std.proofs.Common.{◌≡◌, ℕ, ◌+◌, ◌<◌, Bool, true, false, cond, ◌||◌, List, [], ◌∷◌, ◌++◌, length, take, drop, get_or, Some, refl, sym, ◌∙◌, ap}
-use Rattle.std.specs.Prelude.{Result, Ok, Err, OnOk, find}
-use Rattle.std.specs.List.{list_any}
-use Rattle.std.proofs.lemmas.Bool.{or_from}
-use Rattle.std.proofs.lemmas.List.{append_assoc, drop_more}
-use Rattle.std.proofs.lemmas.List.Folds.{list_any-append, list_any_at}
+use Rattle.std.proofs.Common.{rules, ◌≡◌, ℕ, ◌+◌, ◌<◌, Bool, true, false, cond, ◌||◌, List, [], ◌∷◌, ◌++◌, length, take, drop, get_or, Some, refl, sym, ◌∙◌, ap}
+use Rattle.std.specs.{Prelude.{Result, OnOk, find}, List.list_any}
+use Rattle.std.proofs.lemmas.{Bool.or_from, List.{append_assoc, drop_more, Folds.{list_any-append, list_any_at}}}
 use Rattle.mpf_sections.specs.Rows.{SectionRows}
 use Rattle.plan_rows.specs.declared.rows.Row as rows
 use Rattle.plan_contributions.specs.declared.contribution.Contribution as contributions
-use Rattle.plan_contributions.specs.Contributions.{Contribution}
+use Rattle.plan_contributions.specs.{Contributions.Contribution, View.{contribution_view, contributions_view}}
 use Rattle.row_contributions.specs.Contributions.{row_contributions, given_by}
-use Rattle.plan_contributions.specs.View.{contribution_view, contributions_view}
 use Rattle.plan_rows.specs.View.{row_view, row_list_view}
 use Rattle.mpf_plan.proofs.Taken.{contributions_more, rows_more}
 
 -- what a call's clause says, said otherwise
 pub on_ok : {T E P Q : Type 0} (r : Result T E) → (P → Q) → OnOk r P → OnOk r Q
-on_ok (Ok x) f p = f p
-on_ok (Err e) f p = p
+on_ok x1 f p = search rules
 
 -- ---- contributions
 
 -- one more, after others
 pub one_more : (before : List Contribution) (cs : List contributions.Contribution) (i : ℕ) (d : contributions.Contribution) → i < length cs
     → (before ++ contributions_view (take i cs)) ++ contribution_view (get_or cs i d) ∷ [] ≡ before ++ contributions_view (take (i + 1) cs)
-one_more before cs i d within =
-    append_assoc before (contributions_view (take i cs)) (contribution_view (get_or cs i d) ∷ []) ∙ ap (λ l. before ++ l) (sym (contributions_more cs i d within))
+one_more before cs i d within = search (rules, append_assoc, get_or, contributions_more)
 
 module _ (p : Contribution → Bool) where
   -- none of them passes, nor does one more

@@ -1,11 +1,8 @@
 -- The names of a table and the number of its entries, by contributions.
 use Rattle.std.proofs.Common.{ℕ, List, [], length}
-use Rattle.plan_tables.specs.declared.table.Table.{Table}
-use Rattle.plan_tables.specs.declared.table.Table.TheVariants.{Bindings, Rows}
+use Rattle.plan_tables.specs.declared.table.Table.{Table, TheVariants.{Bindings, Rows}}
 use Rattle.plan_contributions.specs.Contributions.{Contribution}
-use Rattle.mpf_plan.specs.Uses.{names_from}
-use Rattle.mpf_plan.specs.PlanOf.{row_count}
-use Rattle.mpf_plan.specs.Numbering.{binding_count}
+use Rattle.mpf_plan.specs.{Uses.names_from, PlanOf.row_count, Numbering.binding_count}
 
 -- the names of a table's entries, where they have names
 abbrev pub named_of : List Contribution → Table → List (List ℕ)

@@ -1,22 +1,15 @@
 -- What holds of each event that a switch posts and of each action: where it holds of those of contributions, it holds in
 -- their plan.
-use Rattle.std.proofs.Common.{ℕ, ◌+◌, ◌-◌, List, [], ◌∷◌, ◌++◌, length, fold, replicate, sym, subst}
-use Rattle.std.specs.List.{All}
+use Rattle.std.{proofs.Common.{ℕ, ◌+◌, ◌-◌, List, [], ◌∷◌, ◌++◌, length, fold, replicate, sym, subst}, specs.List.All}
 use Rattle.std.proofs.lemmas.List.Elements.{All-nil, All-push, All-append, All-replicate, All-map, All-head, All-tail, All-from_get_or}
-use Rattle.plan_contributions.specs.declared.contribution.Aim.{Aim}
-use Rattle.plan_contributions.specs.declared.contribution.Aim.TheVariants.{Run}
-use Rattle.plan_tables.specs.declared.entries.Action.{Action}
-use Rattle.plan_tables.specs.declared.entries.EventId.{EventId}
+use Rattle.plan_contributions.specs.declared.contribution.Aim.{Aim, TheVariants.Run}
+use Rattle.plan_tables.specs.declared.{entries.{Action.Action, EventId.EventId}, devices.RowId.RowId}
 use Rattle.plan_tables.specs.declared.table.Table.TheVariants.{Events, Switches}
-use Rattle.plan_tables.specs.declared.devices.RowId.{RowId}
-use Rattle.plan_tables.specs.Devices.{list_count}
-use Rattle.plan_tables.specs.PlanView.{PlanSwitch, no_switch, PlanView}
+use Rattle.plan_tables.specs.{Devices.list_count, PlanView.{PlanSwitch, no_switch, PlanView}}
 use Rattle.plan_contributions.specs.Contributions.{Contribution, gives, reads, active, inactive, mode, mode_event, binds, does, device, does_in, listens, mentions, unknown, coil, under, plays}
-use Rattle.mpf_plan.specs.Uses.{Names, number_among}
+use Rattle.mpf_plan.specs.{Uses.{Names, number_among}, ByNumber.{event_of, action_of, first_of_last}}
 use Rattle.mpf_plan.specs.Filling.{DraftView, last_row, last_switch, lists_for, with_one_more, next_listener, heard_by, with_contribution, named_switch, blank, drafted}
-use Rattle.mpf_plan.specs.ByNumber.{event_of, action_of, first_of_last}
-use Rattle.mpf_plan.proofs.Drafted.{given_plan}
-use Rattle.mpf_plan.proofs.Steps.{All-changed}
+use Rattle.mpf_plan.proofs.{Drafted.given_plan, Steps.All-changed}
 
 module _ (Q : EventId → Type 0) (A : Action → Type 0) where
   abbrev pub IsPosting : PlanSwitch → Type 0

@@ -1,35 +1,21 @@
 -- What holds of all that rows do holds of all that their plan does, by names.
-use Rattle.std.proofs.Common.{◌≡◌, ◌<◌, ◌⊎◌, inl, inr, ℕ, ◌≤◌, List, [], length, map, get_or, slice_index_or, Ok, refl, sym, ◌∙◌, ap, subst, arith}
+use Rattle.std.proofs.Common.{rules, ◌≡◌, ◌<◌, ◌⊎◌, ℕ, ◌≤◌, List, [], length, map, get_or, slice_index_or, Ok, sym, ◌∙◌, ap, subst}
 use Rattle.std.specs.List.{All}
-use Rattle.std.proofs.lemmas.Bool.{cases_lt}
-use Rattle.std.proofs.lemmas.List.{get_or-map, get_or_past, length-map}
-use Rattle.std.proofs.lemmas.List.Elements.{All-weaker}
+use Rattle.std.proofs.lemmas.{Bool.cases_lt, List.{get_or-map, get_or_past, length-map, Elements.All-weaker}}
 use Rattle.mpf_config.specs.Rows.{Rows}
-use Rattle.plan_tables.specs.declared.devices.RowId.{RowId}
-use Rattle.plan_tables.specs.declared.entries.EventId.{EventId}
-use Rattle.plan_tables.specs.declared.entries.CoilId.{CoilId}
-use Rattle.plan_tables.specs.declared.entries.VariableId.{VariableId}
-use Rattle.plan_tables.specs.declared.entries.Action.{Action}
-use Rattle.plan_tables.specs.declared.entries.Action.TheVariants.{Post, Pulse, Enable, Disable, Change, Enter}
+use Rattle.plan_tables.specs.declared.{devices.RowId.RowId, entries.Action.{Action, TheVariants.Change}}
+use Rattle.plan_tables.specs.declared.entries.{EventId.EventId, CoilId.CoilId, VariableId.VariableId}
 use Rattle.plan_tables.specs.declared.table.Table.TheVariants.{Events, Coils, Variables}
 use Rattle.plan_tables.specs.PlanView.{PlanCoil, no_coil, PlanView, coil_at, name_of_event, name_of_variable}
 use Rattle.plan_contributions.specs.Effects.{pulse, enable, disable, Effect, works, posts, changes, enters, leaves, loses, arrives, requests, adds_balls}
-use Rattle.plan_contributions.specs.Contributions.{Contribution, active, inactive, does, does_in}
-use Rattle.row_contributions.specs.Contributions.{contributions_of}
-use Rattle.row_contributions.specs.Doing.{Does}
-use Rattle.plan_contributions.specs.UsedNames.{used_by}
+use Rattle.plan_contributions.specs.{Contributions.{Contribution, active, inactive, does, does_in}, UsedNames.used_by}
+use Rattle.row_contributions.specs.{Contributions.contributions_of, Doing.Does}
 use Rattle.machine_definitions.specs.Players.{player_event}
-use Rattle.mpf_plan.specs.Uses.{names_from}
-use Rattle.mpf_plan.specs.Filling.{plan_from}
-use Rattle.mpf_plan.specs.ByNumber.{action_of}
-use Rattle.mpf_plan.specs.PlanOf.{plan_of, plan_at}
+use Rattle.mpf_plan.specs.{Uses.names_from, Filling.plan_from, ByNumber.action_of, PlanOf.{plan_of, plan_at}}
 use Rattle.mpf_plan.specs.ByName.{effect_of, IsDone, IsByVariable, AreByVariable}
-use Rattle.mpf_plan.proofs.Tables.{computed-plan}
-use Rattle.mpf_plan.proofs.Among.{IsAmong, IsKnown, all_known}
-use Rattle.mpf_plan.proofs.Drafted.{names-from}
-use Rattle.mpf_plan.proofs.Judged.{plan_at-Ok}
+use Rattle.mpf_plan.proofs.{Tables.computed-plan, Among.{IsAmong, IsKnown, all_known}}
+use Rattle.mpf_plan.proofs.{Drafted.names-from, Judged.plan_at-Ok, Done.{IsPosting, IsMet, meet_drafted}}
 use Rattle.mpf_plan.proofs.Numbers.{at_number, named_effect, effect_named}
-use Rattle.mpf_plan.proofs.Done.{IsPosting, IsMet, meet_drafted}
 use Rattle.mpf_plan.proofs.Ready.{IsReadyEffect, IsReady, IsNumberedIn, AreNumbered, rows_are_ready}
 
 -- ---- names in the plan of contributions
@@ -48,19 +34,10 @@ module _ (cs : List Contribution) where
       coils = (plan_from cs).coils
 
       by : (c.0 < length coils) ⊎ (length coils ≤ c.0) → get_or (map (λ (x : PlanCoil). x.name) coils) c.0 [] ≡ (get_or coils c.0 no_coil).name
-      by (inl inside) = get_or-map (λ (x : PlanCoil). x.name) coils c.0 no_coil [] inside
-      by (inr past) =
-          get_or_past (map (λ (x : PlanCoil). x.name) coils) c.0 [] (omega (arith, past, length-map coils (λ (x : PlanCoil). x.name)))
-          ∙ ap (λ (x : PlanCoil). x.name) (sym (get_or_past coils c.0 no_coil past))
+      by x1 = search (rules, get_or-map, coils, get_or_past, length-map)
 
   named_is : (a : Action) → named_effect (names_from cs) a ≡ effect_of (plan_from cs) a
-  named_is (Post e) = ap posts (event_name e)
-  named_is (Pulse c ms power) = ap (λ n. works n (pulse ms power)) (coil_name c)
-  named_is (Enable c power) = ap (λ n. works n (enable power)) (coil_name c)
-  named_is (Disable c) = ap (λ n. works n disable) (coil_name c)
-  named_is (Change v action n e) = ap (λ m. changes m action n) (variable_name v)
-  named_is (Enter r e drain) = ap (λ n. enters n drain) (event_name e)
-  named_is _ = refl
+  named_is x1 = search (rules, event_name, coil_name, variable_name)
 
 -- ---- what is done
 
@@ -119,15 +96,10 @@ module _ (cs : List Contribution) where
   effect_by_variable (changes v action n) known ready r = at_number (names_from cs Events) (player_event v) ready ∙ ap player_event (sym (at_number (names_from cs Variables) v known))
 
   change_is_met : (c : Contribution) → IsKnown (names_from cs) c → IsReady (IsNumberedIn (names_from cs Events)) c → IsMet (λ e. Unit {0}) AtVariable (names_from cs) c
-  change_is_met (does e) known ready = effect_by_variable e known ready
-  change_is_met (does_in k e) known ready = effect_by_variable e known ready.0
-  change_is_met (active n) known ready = tt
-  change_is_met (inactive n) known ready = tt
-  change_is_met _ known ready = tt
+  change_is_met x1 known ready = search (rules, effect_by_variable)
 
   action_by_variable : (a : Action) → AtVariable a → IsByVariable (plan_from cs) a
-  action_by_variable (Change v action n e) is = sym (event_name cs e) ∙ is ∙ ap player_event (variable_name cs v)
-  action_by_variable _ is = tt
+  action_by_variable x1 is = search (rules, event_name, variable_name)
 
   by_variable_from : AreNumbered cs → AreByVariable (plan_from cs)
   by_variable_from ready =

@@ -1,48 +1,31 @@
 -- What contributions make: as many bindings and effect lists as they give, and the names that were there.
-use Rattle.std.proofs.Common.{◌≡◌, ℕ, ◌+◌, ◌-◌, ◌*◌, ◌<◌, ◌≤◌, zero, suc, take, Bool, true, false, cond, List, [], ◌∷◌, ◌++◌, length, map, fold, get_or, replicate, slice_index_or, slice_set, Option, Some, refl, sym, ◌∙◌, ap, subst, arith}
+use Rattle.std.proofs.Common.{rules, ◌≡◌, ℕ, ◌+◌, ◌-◌, ◌*◌, ◌<◌, ◌≤◌, zero, suc, take, Bool, true, false, cond, List, [], ◌∷◌, ◌++◌, length, map, fold, get_or, replicate, slice_index_or, slice_set, Option, Some, refl, sym, ◌∙◌, ap, subst, arith}
 use Rattle.std.specs.List.{All, sum_by}
-use Rattle.std.proofs.Math.Seq.{map-set_same}
+use Rattle.std.proofs.{Math.Seq.map-set_same, lemmas.List.{Elements.{All-head, All-tail}, Sums.sum_by-cons}}
 use Rattle.std.proofs.lemmas.List.{length_push, length-set, length-map, length-append, length-replicate}
-use Rattle.std.proofs.lemmas.List.Elements.{All-head, All-tail}
-use Rattle.std.proofs.lemmas.List.Sums.{sum_by-cons}
 use Rattle.mpf_sections.specs.Rows.{SectionRows}
 use Rattle.plan_rows.specs.declared.rows.Row as rows
-use Rattle.plan_contributions.specs.declared.contribution.Aim.{Aim}
-use Rattle.plan_contributions.specs.declared.contribution.Aim.TheVariants.{Run}
+use Rattle.plan_contributions.specs.{declared.contribution.Aim.Aim, View.contributions_view}
 use Rattle.plan_contributions.specs.declared.contribution.Contribution as contributions
-use Rattle.plan_tables.specs.declared.names.NameSets.{NameSets}
-use Rattle.mpf_plan.specs.declared.draft.Draft.{Draft}
-use Rattle.plan_tables.specs.declared.entries.Action.{Action}
-use Rattle.plan_tables.specs.declared.entries.Binding.{Binding}
-use Rattle.plan_tables.specs.declared.entries.Condition.{Condition}
-use Rattle.plan_tables.specs.declared.entries.GameRules.{GameRules}
-use Rattle.plan_tables.specs.declared.entries.ListId.{ListId}
-use Rattle.plan_tables.specs.declared.entries.Listener.{Listener}
-use Rattle.plan_tables.specs.declared.entries.CoilLimits.{CoilLimits}
-use Rattle.plan_tables.specs.declared.devices.DeviceRow.{DeviceRow}
-use Rattle.plan_tables.specs.declared.devices.Settings.{Settings}
-use Rattle.plan_rows.specs.declared.place.Place.{Place}
-use Rattle.plan_tables.specs.Devices.{list_count}
-use Rattle.plan_tables.specs.declared.table.Table.{Table}
+use Rattle.plan_tables.specs.declared.{names.NameSets.NameSets, table.Table.Table}
+use Rattle.mpf_plan.specs.{declared.draft.Draft.Draft, Inside.{limited_coils, draft_view}}
+use Rattle.plan_tables.specs.declared.entries.{Action.Action, ListId.ListId, CoilLimits.CoilLimits}
+use Rattle.plan_tables.specs.declared.entries.{Binding.Binding, Listener.Listener, ModeEvent.TheVariants.WillStart}
+use Rattle.plan_tables.specs.declared.entries.{Condition.Condition, GameRules.GameRules}
+use Rattle.plan_tables.specs.declared.devices.{DeviceRow.DeviceRow, Settings.Settings}
+use Rattle.plan_rows.specs.{declared.place.Place.Place, View.{row_view, row_list_view}}
+use Rattle.plan_tables.specs.{Devices.list_count, Limits.{entry_count, entry_names}}
 use Rattle.plan_tables.specs.declared.table.Table.TheVariants.{Events, Bindings, Switches, Coils, Variables, Rows}
-use Rattle.plan_tables.specs.declared.entries.ModeEvent.TheVariants.{WillStart}
-use Rattle.plan_tables.specs.PlanView.{PlanSwitch, no_switch, PlanCoil, no_coil, PlanMode, no_mode, no_binding, PlanView}
-use Rattle.plan_tables.specs.Limits.{entry_count, entry_names}
+use Rattle.plan_tables.specs.PlanView.{PlanSwitch, PlanCoil, PlanMode, no_binding, PlanView}
 use Rattle.plan_contributions.specs.Contributions.{Contribution, gives, reads, active, inactive, mode, mode_event, mode_event_name, binds, does, device, does_in, listens, coil, under, plays}
-use Rattle.row_contributions.specs.Contributions.{row_contributions, given_by}
+use Rattle.row_contributions.specs.{Contributions.{row_contributions, given_by}, Facts.IsLimited}
 use Rattle.mpf_plan.specs.Uses.{Names, names_from, number_among}
-use Rattle.mpf_plan.specs.Filling.{DraftView, last_row, last_switch, with_given, new_mode, with_event_in, next_binding, lists_for, with_binding, with_list_for, with_one_more, next_row, next_list, with_device, next_listener, heard_by, with_listener, limited_to, with_coil, conditioned, last_conditioned, with_condition, with_game, with_contribution, named_switch, named_coil, blank, drafted, plan_from}
+use Rattle.mpf_plan.specs.Filling.{DraftView, last_row, last_switch, with_given, new_mode, next_binding, lists_for, with_binding, with_list_for, with_one_more, next_row, next_list, with_device, next_listener, with_listener, with_coil, conditioned, last_conditioned, with_condition, with_game, with_contribution, named_switch, named_coil, blank, drafted, plan_from}
 use Rattle.mpf_plan.specs.ByNumber.{event_of, action_of, first_of_last, condition_of, rules_of}
 use Rattle.plan_tables.specs.Inside.{name_sets_view, mode_entry_view}
-use Rattle.mpf_plan.specs.Inside.{limited_coils, draft_view}
-use Rattle.plan_contributions.specs.View.{contribution_view, contributions_view}
-use Rattle.plan_rows.specs.View.{row_view, row_list_view}
 use Rattle.mpf_plan.specs.PlanOf.{rows_given, row_count, modes_given, mode_count}
 use Rattle.mpf_plan.specs.Numbering.{bindings_given, binding_count, lists_given, lists_count}
-use Rattle.plan_tables.proofs.RowLists.{few_lists}
-use Rattle.row_contributions.specs.Facts.{IsLimited}
-use Rattle.mpf_plan.proofs.Counts.{named_of, count_of}
-use Rattle.mpf_plan.proofs.Steps.{length-limited}
+use Rattle.mpf_plan.proofs.{Counts.{named_of, count_of}, Steps.length-limited}
 use Rattle.mpf_plan.proofs.Taken.{part_count, part_rows, part_lists, part_modes}
 
 -- ---- what one contribution changes
@@ -62,8 +45,7 @@ pub given_plan : (t : Table) (n : ℕ) (d : DraftView) → (with_given t n d).pl
 given_plan Switches n d = by (slice_index_or d.defined n true)
   where
     by : (b : Bool) → (cond b (record d { last = length d.defined }) (record d { defined = slice_set d.defined n true; last = n })).plan ≡ d.plan
-    by true = refl
-    by false = refl
+    by x1 = search rules
 given_plan _ n d = refl
 
 pub given_defined : (t : Table) (n : ℕ) (d : DraftView) → length (with_given t n d).defined ≡ length d.defined
@@ -86,19 +68,13 @@ given_counts t n d =
       defined = given_defined t n d;
     }
 
-switches_names : (plan : PlanView) (switches : List PlanSwitch) → map (λ (s : PlanSwitch). s.name) switches ≡ map (λ (s : PlanSwitch). s.name) plan.switches
-    → (t : Table) → entry_names (record plan { switches = switches }) t ≡ entry_names plan t
-switches_names plan switches same Switches = same
-switches_names plan switches same _ = refl
-
 switch_counts : (change : PlanSwitch → PlanSwitch) → ((s : PlanSwitch) → (change s).name ≡ s.name) → (d : DraftView) → Counts 0 0 0 d (last_switch change d)
 switch_counts change same d = record {
   bindings = omega arith;
   rows = omega arith;
   row_lists = omega arith;
   lists = omega arith;
-  names = switches_names d.plan (slice_set d.plan.switches d.last (change (slice_index_or d.plan.switches d.last no_switch)))
-      (map-set_same (λ (s : PlanSwitch). s.name) d.plan.switches d.last (change (get_or d.plan.switches d.last no_switch)) no_switch (same (get_or d.plan.switches d.last no_switch)));
+  names = search (rules, slice_set, slice_index_or, map-set_same, get_or);
   defined = refl;
 }
 
@@ -108,15 +84,9 @@ listener_counts n l d = record {
   rows = omega arith;
   row_lists = omega arith;
   lists = omega arith;
-  names = switches_names d.plan (slice_set d.plan.switches n (heard_by l (slice_index_or d.plan.switches n no_switch)))
-      (map-set_same (λ (s : PlanSwitch). s.name) d.plan.switches n (heard_by l (get_or d.plan.switches n no_switch)) no_switch refl);
+  names = search (rules, slice_set, slice_index_or, map-set_same, get_or);
   defined = refl;
 }
-
-coils_names : (plan : PlanView) (coils : List PlanCoil) → map (λ (c : PlanCoil). c.name) coils ≡ map (λ (c : PlanCoil). c.name) plan.coils
-    → (t : Table) → entry_names (record plan { coils = coils }) t ≡ entry_names plan t
-coils_names plan coils same Coils = same
-coils_names plan coils same _ = refl
 
 coil_counts : (n : ℕ) (limits : CoilLimits) (d : DraftView) → Counts 0 0 0 d (with_coil n limits d)
 coil_counts n limits d = record {
@@ -124,17 +94,14 @@ coil_counts n limits d = record {
   rows = omega arith;
   row_lists = omega arith;
   lists = omega arith;
-  names = coils_names d.plan (slice_set d.plan.coils n (limited_to limits (slice_index_or d.plan.coils n no_coil)))
-      (map-set_same (λ (c : PlanCoil). c.name) d.plan.coils n (limited_to limits (get_or d.plan.coils n no_coil)) no_coil refl);
+  names = search (rules, slice_set, slice_index_or, map-set_same, get_or);
   defined = refl;
 }
 
 -- modes, lists, bindings and rows have no names
 unnamed : (plan : PlanView) (modes : List PlanMode) (lists : List (List Action)) (bindings : List Binding) (rows : List DeviceRow) (firsts : List ListId) (t : Table)
     → entry_names (record plan { modes = modes; lists = lists; bindings = bindings; rows = rows; row_lists = firsts }) t ≡ entry_names plan t
-unnamed plan modes lists bindings rows firsts Bindings = refl
-unnamed plan modes lists bindings rows firsts Rows = refl
-unnamed plan modes lists bindings rows firsts _ = refl
+unnamed plan modes lists bindings rows firsts x7 = search rules
 
 modes_counts : (modes : List PlanMode) (d : DraftView) → Counts 0 0 0 d (record d { plan = record d.plan { modes = modes } })
 modes_counts modes d = record {
@@ -147,8 +114,7 @@ modes_counts modes d = record {
 }
 
 list_begun : (aim : Aim) (lists : List (List Action)) → length (lists_for aim lists) ≤ length lists + 1
-list_begun Run lists = omega (arith, length_push lists [])
-list_begun _ lists = omega arith
+list_begun x1 lists = search (rules, lists, length_push)
 
 binding_counts : (aim : Aim) (b : Binding) (d : DraftView) → Counts 1 0 0 d (with_list_for aim (with_binding b d))
 binding_counts aim b d = record {
@@ -183,9 +149,7 @@ game_counts rules d = record {
 }
   where
     same : (plan : PlanView) (game : Option GameRules) (t : Table) → entry_names (record plan { game = game }) t ≡ entry_names plan t
-    same plan game Bindings = refl
-    same plan game Rows = refl
-    same plan game _ = refl
+    same plan game x3 = search rules
 
 -- an action more in a list
 action_counts : (n : ℕ) (a : Action) (d : DraftView) → Counts 0 0 0 d (record d { plan = record d.plan { lists = with_one_more n a d.plan.lists } })
@@ -200,9 +164,7 @@ action_counts n a d = record {
 
 -- the effect lists of a row begin
 pub lists_begun : (lists : List (List Action)) (n : ℕ) → length (lists ++ replicate n []) ≡ length lists + n
-lists_begun lists n =
-    let none : List Action = [] in
-    omega (arith, length-append lists (replicate n none), length-replicate n none)
+lists_begun lists n = search (rules, lists, length-append, length-replicate)
 
 device_counts : (place : Place) (settings : Settings) (d : DraftView) → Counts 0 1 (list_count settings) d (with_device place settings d)
 device_counts place settings d = record {
@@ -224,9 +186,7 @@ module _ (names : Names) where
   counts_one d (active n) = switch_counts (λ s. record s { active = s.active ++ event_of (names Events) n ∷ [] }) (λ s. refl) d
   counts_one d (inactive n) = switch_counts (λ s. record s { inactive = s.inactive ++ event_of (names Events) n ∷ [] }) (λ s. refl) d
   counts_one d (mode n priority game holds) = modes_counts (d.plan.modes ++ new_mode n priority game holds (event_of (names Events) (mode_event_name WillStart n)) ∷ []) d
-  counts_one d (mode_event which n) =
-      let last = length d.plan.modes - 1 in
-      modes_counts (slice_set d.plan.modes last (with_event_in which (event_of (names Events) (mode_event_name which n)) (get_or d.plan.modes last no_mode))) d
+  counts_one d (mode_event which n) = search rules
   counts_one d (binds n place aim) = binding_counts aim (next_binding d.plan (event_of (names Events) n) place aim) d
   counts_one d (does e) = action_counts (length d.plan.lists - 1) (action_of names (last_row d.plan) e) d
   counts_one d (device place settings) = device_counts place settings d
@@ -263,12 +223,7 @@ module _ (names : Names) where
   -- ---- modes
 
   pub modes_one : (d : DraftView) (c : Contribution) → length (with_contribution names d c).plan.modes ≡ length d.plan.modes + modes_given c
-  modes_one d (gives t n) = omega (arith, ap (λ p. length p.modes) (given_plan t (number_among (names t) n) d))
-  modes_one d (mode n priority game holds) = length_push d.plan.modes (new_mode n priority game holds (event_of (names Events) (mode_event_name WillStart n)))
-  modes_one d (mode_event which n) =
-      let last = length d.plan.modes - 1 in
-      omega (arith, length-set d.plan.modes last (with_event_in which (event_of (names Events) (mode_event_name which n)) (get_or d.plan.modes last no_mode)))
-  modes_one d _ = omega arith
+  modes_one d x2 = search (rules, given_plan, names, length_push, length-set, get_or)
 
   -- there are as many more as contributions give
   pub modes_fold : (d : DraftView) (cs : List Contribution) → length (fold (with_contribution names) d cs).plan.modes ≡ length d.plan.modes + mode_count cs
@@ -290,9 +245,7 @@ module _ (cs : List Contribution) where
   counts = counts_drafted (names_from cs) cs
 
   blank_names : (t : Table) → entry_names (blank (names_from cs)).plan t ≡ named_of cs t
-  blank_names Switches = blank_switches (names_from cs Switches)
-  blank_names Coils = blank_coils (names_from cs Coils)
-  blank_names _ = refl
+  blank_names x1 = search (rules, blank_switches, blank_coils)
 
   -- it has the modes that are given
   pub modes-from : length (plan_from cs).modes ≡ mode_count cs
@@ -327,8 +280,7 @@ module _ (cs : List Contribution) where
 
 -- a row whose settings are within their limits has at most 288 effect lists
 lists_few_one : (c : Contribution) → IsLimited c → lists_given c ≤ 288 * rows_given c
-lists_few_one (device place settings) limits = omega (arith, few_lists settings limits)
-lists_few_one _ limits = omega arith
+lists_few_one x1 limits = search rules
 
 pub lists_few : (cs : List Contribution) → All IsLimited cs → lists_count cs ≤ 288 * row_count cs
 lists_few [] all = omega arith
@@ -340,9 +292,7 @@ module _ (f : Contribution → ℕ) where
   taken_few : (cs : List contributions.Contribution) (i : ℕ) → sum_by f (contributions_view (take i cs)) ≤ sum_by f (contributions_view cs)
   taken_few cs zero = omega arith
   taken_few [] (suc i) = omega arith
-  taken_few (c ∷ cs) (suc i) =
-      let x = contribution_view c in
-      omega (arith, taken_few cs i, sum_by-cons f x (contributions_view cs), sum_by-cons f x (contributions_view (take i cs)))
+  taken_few (c ∷ cs) (suc i) = search (rules, sum_by-cons, taken_few cs i,)
 
 module _ (names : NameSets) (old new : Draft) (cs : List contributions.Contribution) (i : ℕ) where
   -- there are no more lists than the contributions give

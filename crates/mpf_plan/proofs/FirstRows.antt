@@ -1,20 +1,13 @@
 -- Where the first rows use too many events, all rows do.
-use Rattle.std.proofs.Common.{◌≡◌, ℕ, true, cond, List, [], ◌∷◌, ◌++◌, length, take, drop, nat_lt, Some, sym, ◌∙◌, ap, arith}
-use Rattle.std.specs.Prelude.{find}
-use Rattle.std.proofs.lemmas.Bool.{lt-ltb, ltb-true}
-use Rattle.std.proofs.lemmas.Grind.{flat_map-append}
-use Rattle.std.proofs.lemmas.List.{map-append, take-append-drop}
+use Rattle.std.proofs.Common.{rules, ◌≡◌, ℕ, true, List, ◌++◌, length, take, drop, nat_lt, Some, sym, ◌∙◌, ap, arith}
+use Rattle.std.proofs.lemmas.{Bool.{lt-ltb, ltb-true}, Grind.flat_map-append, List.{map-append, take-append-drop}}
 use Rattle.mpf_sections.specs.Rows.{SectionRows}
 use Rattle.plan_rows.specs.declared.rows.Row as rows
-use Rattle.plan_tables.specs.declared.table.Table.TheVariants.{Events, Bindings, Switches, Coils, Variables, Rows}
+use Rattle.plan_tables.specs.{declared.table.Table.TheVariants.Events, Limits.{entry_count, limit_of, first_above}}
 use Rattle.plan_contributions.specs.Contributions.{Contribution}
 use Rattle.row_contributions.specs.Contributions.{row_contributions, given_by}
 use Rattle.plan_rows.specs.View.{row_view, row_list_view}
-use Rattle.plan_tables.specs.Limits.{entry_count, limit_of, first_above}
-use Rattle.mpf_plan.specs.Uses.{names_from}
-use Rattle.mpf_plan.specs.Filling.{plan_from}
-use Rattle.mpf_plan.proofs.Drafted.{count-from}
-use Rattle.mpf_plan.proofs.UseNumbers.{count-more}
+use Rattle.mpf_plan.{specs.{Uses.names_from, Filling.plan_from}, proofs.{Drafted.count-from, UseNumbers.count-more}}
 
 module _ (machine : List SectionRows) (rs : List rows.Row) (i : ℕ) where
   abbrev all : List Contribution
@@ -36,5 +29,4 @@ module _ (machine : List SectionRows) (rs : List rows.Row) (i : ℕ) where
 
   -- so the first table is above its limit
   pub events_exceed : nat_lt (limit_of Events) (entry_count (plan_from first) Events) ≡ true → first_above (plan_from all) ≡ Some Events
-  events_exceed above =
-      ap (λ b. cond b (Some Events) (find (λ t. nat_lt (limit_of t) (entry_count (plan_from all) t)) (Bindings ∷ Switches ∷ Coils ∷ Variables ∷ Rows ∷ []))) (exceeds above)
+  events_exceed above = search (rules, nat_lt, exceeds)

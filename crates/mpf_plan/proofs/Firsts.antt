@@ -1,12 +1,7 @@
 -- Names noted in turn, each where it comes first.
-use Rattle.std.proofs.Common.{◌≡◌, ℕ, Bool, true, false, cond, not, ◌&&◌, ◌||◌, List, [], ◌∷◌, ◌++◌, filter, fold, refl, sym, ◌∙◌, ap}
-use Rattle.std.specs.Str.{bytes_eq}
-use Rattle.std.specs.List.{list_any}
-use Rattle.std.proofs.lemmas.List.{append_assoc, append-nil}
-use Rattle.std.proofs.lemmas.List.Folds.{list_any-append}
-use Rattle.std.proofs.lemmas.List.Sums.{fold-append}
-use Rattle.std.proofs.lemmas.Cmp.{nat_list_eq_equiv}
-use Rattle.std.proofs.lemmas.Slice.Eq.{bytes_eq-Decides}
+use Rattle.std.proofs.Common.{rules, ◌≡◌, ℕ, Bool, true, false, cond, not, ◌&&◌, ◌||◌, List, [], ◌∷◌, ◌++◌, filter, fold, refl, sym, ◌∙◌, ap}
+use Rattle.std.{specs.{Str.bytes_eq, List.list_any}, proofs.lemmas.{Cmp.nat_list_eq_equiv, Slice.Eq.bytes_eq-Decides}}
+use Rattle.std.proofs.lemmas.List.{append_assoc, append-nil, Folds.list_any-append, Sums.fold-append}
 use Rattle.mpf_plan.specs.Uses.{first_uses}
 use Rattle.first_names.specs.FirstNames.{with_name}
 
@@ -16,20 +11,13 @@ filter_filter p q r same [] = refl
 filter_filter {X} p q r same (x ∷ xs) = by (p x) (same x) (filter_filter p q r same xs)
   where
     by : (a : Bool) → r x ≡ (a && q x) → filter q (filter p xs) ≡ filter r xs → filter q (cond a (x ∷ filter p xs) (filter p xs)) ≡ cond (r x) (x ∷ filter r xs) (filter r xs)
-    by true e rest = λ i. cond (sym e i) (x ∷ rest i) (rest i)
-    by false e rest = rest ∙ (λ i. cond (sym e i) (x ∷ filter r xs) (filter r xs))
+    by x1 e rest = search rules
 
 same_bytes : (xs ys : List ℕ) → bytes_eq xs ys ≡ true → xs ≡ ys
 same_bytes xs ys e = (bytes_eq-Decides xs ys).0 e
 
-bytes_eq_symm : (xs ys : List ℕ) → bytes_eq xs ys ≡ bytes_eq ys xs
-bytes_eq_symm xs ys = nat_list_eq_equiv.symm xs ys
-
 neither : (a b : Bool) → not (a || (b || false)) ≡ (not b && not a)
-neither true true = refl
-neither true false = refl
-neither false true = refl
-neither false false = refl
+neither x1 x2 = search rules
 
 all_of : {X : Type 0} (xs : List X) → filter (λ x. true) xs ≡ xs
 all_of [] = refl
@@ -48,22 +36,14 @@ known : (done : List (List ℕ)) (n : List ℕ) → has done n ≡ true → (m :
 known done n there m = by (bytes_eq n m) refl
   where
     by : (b : Bool) → bytes_eq n m ≡ b → is_new done m ≡ (not b && is_new done m)
-    by true same = ap not (ap (has done) (sym (same_bytes n m same)) ∙ there)
-    by false same = refl
+    by x1 same = search rules
 
 added : (done : List (List ℕ)) (n m : List ℕ) → is_new (done ++ n ∷ []) m ≡ (is_other n m && is_new done m)
-added done n m =
-    ap not (list_any-append (λ k. bytes_eq m k) done (n ∷ []))
-    ∙ neither (has done m) (bytes_eq m n)
-    ∙ ap (λ b. not b && is_new done m) (bytes_eq_symm m n)
+added done n m = search (rules, list_any-append, neither, nat_list_eq_equiv)
 
 one_more : (n : List ℕ) (ns done : List (List ℕ)) → ((d : List (List ℕ)) → fold with_name d ns ≡ d ++ filter (is_new d) (first_uses ns)) → (b : Bool) → has done n ≡ b
     → fold with_name (cond b done (done ++ n ∷ [])) ns ≡ done ++ cond (not b) (n ∷ filter (is_new done) (filter (is_other n) (first_uses ns))) (filter (is_new done) (filter (is_other n) (first_uses ns)))
-one_more n ns done rest true there = rest done ∙ ap (λ l. done ++ l) (sym (filter_filter (is_other n) (is_new done) (is_new done) (known done n there) (first_uses ns)))
-one_more n ns done rest false there =
-    rest (done ++ n ∷ [])
-    ∙ append_assoc done (n ∷ []) (filter (is_new (done ++ n ∷ [])) (first_uses ns))
-    ∙ ap (λ l. done ++ n ∷ l) (sym (filter_filter (is_other n) (is_new done) (is_new (done ++ n ∷ [])) (added done n) (first_uses ns)))
+one_more n ns done rest x5 there = search (rules, filter_filter, known, append_assoc, added)
 
 -- names noted in turn are those that were there, and then the first uses of the others
 with_names : (ns done : List (List ℕ)) → fold with_name done ns ≡ done ++ filter (is_new done) (first_uses ns)

@@ -1,42 +1,27 @@
 -- What is found in contributions: their names and bindings, one contribution after the other.
-use Rattle.std.proofs.Common.{◌≡◌, ℕ, ◌+◌, ◌<◌, ◌≤◌, ◌==◌, ◌⊎◌, inl, inr, Bool, true, false, cond, List, [], ◌∷◌, ◌++◌, length, fold, set, get_or, nat_lt, Some, None, refl, sym, ◌∙◌, ap, subst, arith}
-use Rattle.std.specs.Prelude.{not, slice_get}
-use Rattle.std.specs.List.{position_or_len}
-use Rattle.std.specs.Str.{bytes_eq}
-use Rattle.std.proofs.lemmas.Bool.{eq-eqb, ne_eqb, lt-ltb, le-ltb}
-use Rattle.std.proofs.lemmas.Grind.{flat_map-append}
-use Rattle.std.proofs.lemmas.List.{append-nil, length-set}
-use Rattle.std.proofs.lemmas.List.Sums.{fold-append, sum_by-append, prefix_len-le-length}
+use Rattle.std.proofs.Common.{rules, ◌≡◌, ℕ, ◌+◌, ◌<◌, ◌≤◌, ◌==◌, ◌⊎◌, inl, inr, Bool, true, false, cond, List, [], ◌∷◌, ◌++◌, length, fold, set, get_or, nat_lt, Some, None, refl, sym, ◌∙◌, ap, subst, arith}
+use Rattle.std.specs.{Prelude.{not, slice_get}, List.position_or_len, Str.bytes_eq}
+use Rattle.std.proofs.lemmas.{Bool.{eq-eqb, ne_eqb, lt-ltb, le-ltb}, Grind.flat_map-append}
+use Rattle.std.proofs.lemmas.List.{append-nil, length-set, Sums.{fold-append, sum_by-append, prefix_len-le-length}}
 use Rattle.std.proofs.lemmas.Option.{slice_get_cases, slice_get-get_or}
 use Rattle.mpf_sections.specs.Rows.{SectionRows}
-use Rattle.plan_tables.specs.declared.table.Table.{Table}
-use Rattle.plan_tables.specs.declared.table.Table.TheVariants.{Events, Bindings, Rows}
-use Rattle.plan_tables.specs.declared.names.NameTable.{NameTable}
-use Rattle.mpf_plan.specs.declared.first_uses.Found.{Found}
-use Rattle.plan_contributions.specs.Contributions.{Contribution}
-use Rattle.row_contributions.specs.Contributions.{given_by}
+use Rattle.plan_tables.specs.declared.{table.Table.{Table, TheVariants.{Bindings, Rows}}, names.NameTable.NameTable}
+use Rattle.mpf_plan.specs.{declared.first_uses.Found.Found, Uses.{first_uses, names_from, number_among}}
+use Rattle.plan_contributions.specs.{Contributions.Contribution, UsedNames.{used, name_in_table, uses}}
+use Rattle.row_contributions.{specs.Contributions.given_by, proofs.Unnamed.{bindings_unnamed, rows_unnamed}}
 use Rattle.plan_rows.specs.Rows.{Row}
-use Rattle.plan_contributions.specs.UsedNames.{used, name_in_table, uses}
-use Rattle.mpf_plan.specs.Uses.{first_uses, names_from, number_among}
 use Rattle.plan_tables.specs.Limits.{entry_count, limit_of, order_of, tables_in_order, first_above}
-use Rattle.mpf_plan.specs.Filling.{plan_from}
+use Rattle.mpf_plan.specs.{Filling.plan_from, PlanOf.{rows_given, row_count}}
 use Rattle.plan_tables.specs.NamesKept.{names_of, names_kept}
 use Rattle.first_names.specs.FirstNames.{with_name, IsNameTableOf}
-use Rattle.mpf_plan.specs.PlanOf.{rows_given, row_count}
 use Rattle.mpf_plan.specs.Numbering.{AreNameTablesOf, bindings_given, binding_count, number_in, IsCount, HasFound}
-use Rattle.mpf_plan.proofs.Firsts.{with_names-all}
-use Rattle.mpf_plan.proofs.Counts.{count_of}
-use Rattle.mpf_plan.proofs.Drafted.{count-from}
-use Rattle.mpf_plan.proofs.UseNumbers.{AllFit, numbers_more}
-use Rattle.mpf_plan.proofs.ByTable.{place_within, each_changed}
-use Rattle.mpf_plan.proofs.Judged.{all_within}
-use Rattle.row_contributions.proofs.Unnamed.{bindings_unnamed, rows_unnamed}
+use Rattle.mpf_plan.proofs.{Firsts.with_names-all, Drafted.count-from, ByTable.{place_within, each_changed}}
+use Rattle.mpf_plan.proofs.{Counts.count_of, UseNumbers.{AllFit, numbers_more}, Judged.all_within}
 
 -- ---- one contribution more
 
 limits_few : (t : Table) → limit_of t ≤ 65535
-limits_few Events = omega arith
-limits_few _ = omega arith
+limits_few x1 = search rules
 
 module _ (cs : List Contribution) (d : Contribution) where
   abbrev more : List Contribution
@@ -114,9 +99,7 @@ module _ (cs : List Contribution) (d : Contribution) where
         then = names_here u n uses_it u refl
 
         here : AllFit more → number ≡ number_among (names_from more u) n
-        here fit =
-            numbered (names_from cs u) (has.tables.names u was there) (omega (arith, fit u, ap length then, has.tables.limits u was there))
-            ∙ ap (λ ns. number_among ns n) then
+        here fit = search (rules, there, then)
 
         few : AllFit more → number ≤ 65535
         few fit = omega (arith, here fit, prefix_len-le-length (λ m. not (bytes_eq n m)) (names_from more u), fit u, limits_few u)
@@ -135,9 +118,7 @@ found_none tables count empty = record {
 -- ---- limits
 
 named_count : (cs : List Contribution) (t : Table) → (t ≡ Bindings → ⊥) → (t ≡ Rows → ⊥) → count_of cs t ≡ length (names_from cs t)
-named_count cs Bindings other another = absurd (other refl)
-named_count cs Rows other another = absurd (another refl)
-named_count cs _ other another = refl
+named_count cs x2 other another = search rules
 
 module _ (cs : List Contribution) (found : Found) (has : HasFound cs found) where
   -- whether there are too many bindings
@@ -164,8 +145,7 @@ module _ (cs : List Contribution) (found : Found) (has : HasFound cs found) wher
       count = count-from cs t ∙ named_count cs t other another
 
       by : IsNameTableOf (names_from cs t) k → k.above ≡ nat_lt (limit_of t) (entry_count (plan_from cs) t)
-      by (inl (above, more)) = above ∙ sym (lt-ltb (limit_of t) (entry_count (plan_from cs) t) (omega (arith, more, count, has.tables.limits t k at)))
-      by (inr (below, names, within)) = below ∙ sym (le-ltb (limit_of t) (entry_count (plan_from cs) t) (omega (arith, within, count, has.tables.limits t k at)))
+      by x1 = search (rules, lt-ltb, count, at, le-ltb)
 
   -- where the plan is within its limits, and neither bindings nor rows have names, all names are kept
   module _ (none : first_above (plan_from cs) ≡ None) (unnamed : (names_from cs Bindings ≡ []) × (names_from cs Rows ≡ [])) where
@@ -184,8 +164,7 @@ module _ (cs : List Contribution) (found : Found) (has : HasFound cs found) wher
     names_are_kept t = at (slice_get_cases found.tables.items (order_of t)).1
       where
         by : (k : NameTable) → k.limit ≡ limit_of t → IsNameTableOf (names_from cs t) k → names_of k.set.keys ≡ names_from cs t
-        by k limit (inl (above, more)) = absurd (omega (arith, more, limit, names_fit t))
-        by k limit (inr (below, names, within)) = names
+        by k limit x3 = search (rules, names_fit)
 
         at : ((k : NameTable) × (order_of t < length found.tables.items) × (slice_get found.tables.items (order_of t) ≡ Some k) × (get_or found.tables.items (order_of t) k ≡ k))
             ⊎ ((length found.tables.items ≤ order_of t) × (slice_get found.tables.items (order_of t) ≡ None)) → names_kept (slice_get found.tables.items (order_of t)) ≡ names_from cs t

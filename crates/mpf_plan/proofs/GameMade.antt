@@ -1,26 +1,18 @@
 -- The game of a plan: its events by the names of the game's, and its rules within their limits.
 use Rattle.std.proofs.Common.{◌≡◌, List, [], ◌∷◌, map, fold, length, slice_index_or, refl, sym, ◌∙◌, ap, subst, true≢false}
-use Rattle.std.specs.Prelude.{Option, None, Some, IfSome, IsSome}
-use Rattle.std.specs.List.{All}
-use Rattle.std.proofs.lemmas.List.{get_or-map}
-use Rattle.std.proofs.lemmas.List.Elements.{All-head, All-tail, All-map}
+use Rattle.std.specs.{Prelude.{Option, None, Some, IfSome, IsSome}, List.All}
+use Rattle.std.proofs.lemmas.List.{get_or-map, Elements.{All-head, All-tail, All-map}}
 use Rattle.machine_definitions.specs.GameEvents.{game_event_names}
-use Rattle.plan_tables.specs.declared.entries.EventId.{EventId}
-use Rattle.plan_tables.specs.declared.entries.GameEvent.{GameEvent}
-use Rattle.plan_tables.specs.declared.entries.GameRules.{GameRules}
-use Rattle.plan_tables.specs.declared.table.Table.TheVariants.{Events}
-use Rattle.plan_tables.specs.GameEvents.{order_of}
+use Rattle.plan_tables.specs.declared.entries.{EventId.EventId, GameEvent.GameEvent, GameRules.GameRules}
+use Rattle.plan_tables.specs.{declared.table.Table.TheVariants.Events, GameEvents.order_of}
 use Rattle.plan_tables.specs.PlanView.{PlanView, no_event, name_of_event, event_of_game, game_event}
 use Rattle.plan_tables.specs.Valid.{HasGame, IsEventWithin, IsGameWithin}
 use Rattle.plan_contributions.specs.Contributions.{Contribution, gives, plays}
 use Rattle.row_contributions.specs.Facts.{AreRules}
-use Rattle.mpf_plan.specs.Uses.{Names, names_from, number_among}
+use Rattle.mpf_plan.specs.{Uses.{Names, names_from, number_among}, ByNumber.event_of}
 use Rattle.mpf_plan.specs.Filling.{DraftView, with_contribution, blank, drafted, plan_from}
-use Rattle.mpf_plan.specs.ByNumber.{event_of}
-use Rattle.mpf_plan.proofs.Drafted.{given_plan, names-from}
-use Rattle.mpf_plan.proofs.GameNames.{game_name, order_within}
-use Rattle.mpf_plan.proofs.Numbers.{at_number}
-use Rattle.mpf_plan.proofs.Ready.{IsReady, IsNumberedIn, AreNumbered}
+use Rattle.mpf_plan.proofs.{Drafted.{given_plan, names-from}, Numbers.at_number}
+use Rattle.mpf_plan.proofs.{GameNames.{game_name, order_within}, Ready.{IsReady, IsNumberedIn, AreNumbered}}
 
 module _ (names : Names) where
   -- rules that a contribution gives, where all names of the game's events have numbers

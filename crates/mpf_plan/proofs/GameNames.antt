@@ -1,12 +1,8 @@
 -- The names of the game's events: no two of them are the same, and none is that of an event of a mode.
-use Rattle.std.proofs.Common.{◌≡◌, ◌≢◌, ℕ, ◌<◌, ◌==◌, List, [], length, get_or, Some, slice_get, refl, sym, ◌∙◌, ap, false, true≢false, arith}
-use Rattle.std.specs.Str.{bytes_eq}
-use Rattle.std.specs.List.{position}
-use Rattle.std.proofs.lemmas.Option.{same_Some}
+use Rattle.std.proofs.Common.{rules, ◌≡◌, ◌≢◌, ℕ, ◌<◌, ◌==◌, List, [], length, get_or, Some, slice_get, refl, ◌∙◌, ap, false, true≢false}
+use Rattle.std.specs.{Str.bytes_eq, List.position}
 use Rattle.machine_definitions.specs.GameEvents.{game_event_names}
-use Rattle.plan_tables.specs.declared.entries.GameEvent.{GameEvent}
-use Rattle.plan_tables.specs.declared.entries.GameEvent.TheVariants.{SwStart}
-use Rattle.plan_tables.specs.declared.entries.ModeEvent.{ModeEvent}
+use Rattle.plan_tables.specs.declared.entries.{GameEvent.{GameEvent, TheVariants.SwStart}, ModeEvent.ModeEvent}
 use Rattle.plan_tables.specs.GameEvents.{game_events, order_of}
 use Rattle.plan_contributions.specs.Contributions.{mode_event_name}
 
@@ -16,8 +12,7 @@ game_name which = get_or game_event_names (order_of which) []
 
 -- it stands among the names
 pub order_within : (which : GameEvent) → order_of which < length game_event_names
-order_within SwStart = omega arith
-order_within _ = omega arith
+order_within x1 = search rules
 
 event_at : (which : GameEvent) → slice_get game_events (order_of which) ≡ Some which
 event_at SwStart = refl
@@ -28,15 +23,11 @@ name_at SwStart = refl
 name_at _ = refl
 
 pub same_game : (which other : GameEvent) → game_name which ≡ game_name other → which ≡ other
-same_game which other same =
-    let place : order_of which ≡ order_of other =
-    same_Some (order_of which) (order_of other) (sym (name_at which) ∙ ap (λ n. position (bytes_eq n) game_event_names) same ∙ name_at other) in
-    same_Some which other (sym (event_at which) ∙ ap (slice_get game_events) place ∙ event_at other)
+same_game which other same = search rules
 
 -- the name of an event of a mode begins with an m
 starts_otherwise : (which : GameEvent) → (get_or (game_name which) 0 0 == 109) ≡ false
-starts_otherwise SwStart = refl
-starts_otherwise _ = refl
+starts_otherwise x1 = search rules
 
 pub not_of_mode : (which : GameEvent) (event : ModeEvent) (name : List ℕ) → mode_event_name event name ≢ game_name which
 not_of_mode which event name same = true≢false (ap (λ n. get_or n 0 0 == 109) same ∙ starts_otherwise which)

@@ -1,40 +1,25 @@
 -- The work of the game's events: each has that of its own.
-use Rattle.std.proofs.Common.{◌≡◌, ◌<◌, ◌==◌, Bool, cond, length, get_or, true, Option, Some, None, refl, sym, ◌∙◌, ap, subst, true≢false, arith}
-use Rattle.std.specs.Prelude.{IfSome, IsSome}
-use Rattle.std.specs.List.{list_any, position, position_or_len}
-use Rattle.std.proofs.lemmas.Bool.{lt-ltb, eq-eqb}
-use Rattle.std.proofs.lemmas.List.{length-map}
-use Rattle.std.proofs.lemmas.List.Folds.{list_any_at}
-use Rattle.std.proofs.lemmas.Option.{slice_get-get_or}
+use Rattle.std.proofs.Common.{rules, ◌≡◌, ◌<◌, ◌==◌, Bool, cond, length, get_or, true, Option, Some, None, refl, sym, ◌∙◌, ap, subst, true≢false, arith}
+use Rattle.std.specs.{Prelude.{IfSome, IsSome}, List.{list_any, position, position_or_len}}
+use Rattle.std.proofs.lemmas.{Bool.{lt-ltb, eq-eqb}, List.{length-map, Folds.list_any_at}, Option.slice_get-get_or}
 use Rattle.mpf_config.specs.Rows.{Rows}
 use Rattle.machine_definitions.specs.GameEvents.{game_event_names}
-use Rattle.plan_tables.specs.declared.entries.EventId.{EventId}
-use Rattle.plan_tables.specs.declared.entries.GameEvent.{GameEvent}
-use Rattle.plan_tables.specs.declared.entries.GameEvent.TheVariants.{SwStart}
-use Rattle.plan_tables.specs.declared.entries.GameRules.{GameRules}
-use Rattle.plan_tables.specs.declared.entries.Work.{Work}
+use Rattle.plan_tables.specs.declared.entries.{EventId.EventId, GameRules.GameRules, Work.Work}
+use Rattle.plan_tables.specs.declared.entries.GameEvent.{GameEvent, TheVariants.SwStart}
 use Rattle.plan_tables.specs.declared.entries.Work.TheVariants as works
-use Rattle.plan_tables.specs.declared.table.Table.TheVariants.{Events}
-use Rattle.plan_tables.specs.GameEvents.{game_events, order_of}
+use Rattle.plan_tables.{specs.declared.table.Table.TheVariants.Events, proofs.Worked.work_found}
+use Rattle.plan_tables.specs.{GameEvents.{game_events, order_of}, Valid.{HasGame, IsWorkAt}}
 use Rattle.plan_tables.specs.PlanView.{PlanView, no_event, name_of_event, mode_at, work_from, work_in_game, placed_in_game, game_work, or_work, work_of, event_of_game, game_event}
-use Rattle.plan_tables.specs.Valid.{HasGame, IsWorkAt}
 use Rattle.row_contributions.specs.Contributions.{contributions_of}
-use Rattle.mpf_plan.specs.Uses.{Names, names_from}
-use Rattle.mpf_plan.specs.Filling.{plan_from}
-use Rattle.mpf_plan.specs.ByNumber.{event_of}
-use Rattle.mpf_plan.proofs.Among.{place_within}
+use Rattle.mpf_plan.specs.{Uses.{Names, names_from}, Filling.plan_from, ByNumber.event_of}
+use Rattle.mpf_plan.proofs.{Among.place_within, ModeWorks.{IsWork, event_name_is}, Ready.rows_are_ready}
 use Rattle.mpf_plan.proofs.GameMade.{IsGameOf, game_made, game_event_is}
 use Rattle.mpf_plan.proofs.GameNames.{game_name, order_within, same_game, not_of_mode}
-use Rattle.mpf_plan.proofs.ModeWorks.{IsWork, event_name_is}
-use Rattle.mpf_plan.proofs.Ready.{rows_are_ready}
-use Rattle.plan_tables.proofs.Worked.{work_found}
 
 -- ---- an event of the game has work
 
 later_work : (w rest : Work) → IsWork rest → IsWork (or_work w rest)
-later_work works.Nothing rest is = is
-later_work (works.Mode m which) rest is = tt
-later_work (works.Game which) rest is = tt
+later_work x1 rest is = search rules
 
 found_work : (rules : GameRules) (e : EventId) → length rules.events ≡ length game_events → list_any (λ f. f.0 == e.0) rules.events ≡ true → IsWork (game_work (Some rules) e)
 found_work rules e count there =

@@ -1,22 +1,15 @@
 -- The first table that is above its limit, and the plan where there is none.
-use Rattle.std.proofs.Common.{◌≡◌, ◌<◌, ◌≤◌, ◌⊎◌, inl, inr, ℕ, ◌+◌, ◌==◌, Bool, true, false, cond, not, List, [], ◌∷◌, ◌&&◌, ◌||◌, length, nat_lt, Option, Some, None, refl, sym, ◌∙◌, ap, subst, arith}
-use Rattle.std.specs.Prelude.{Result, Ok, Err, find}
-use Rattle.std.specs.List.{list_any}
-use Rattle.std.specs.Str.{bytes_eq}
-use Rattle.std.proofs.lemmas.Bool.{le-ltb, lt-ltb, cases_lt, eqb-true, and_parts}
-use Rattle.std.proofs.lemmas.List.Elements.{All-weaker}
-use Rattle.std.proofs.lemmas.List.Folds.{list_any_none}
+use Rattle.std.proofs.Common.{rules, ◌≡◌, ◌<◌, ◌≤◌, ◌⊎◌, inl, ℕ, ◌+◌, ◌==◌, Bool, true, false, cond, not, List, [], ◌∷◌, ◌&&◌, ◌||◌, length, nat_lt, Option, Some, None, refl, sym, ◌∙◌, ap, arith}
+use Rattle.std.{specs.Prelude.{Result, Ok, Err, find}, proofs.lemmas.Bool.{le-ltb, cases_lt, eqb-true, and_parts}}
+use Rattle.std.proofs.lemmas.List.{Elements.All-weaker, Folds.list_any_none}
 use Rattle.mpf_config.specs.Rows.{Rows}
-use Rattle.plan_tables.specs.declared.table.Table.{Table}
-use Rattle.plan_tables.specs.PlanView.{PlanView}
-use Rattle.plan_contributions.specs.Contributions.{Contribution}
+use Rattle.plan_tables.specs.{declared.table.Table.Table, PlanView.PlanView}
+use Rattle.plan_contributions.specs.{Contributions.Contribution, UsedNames.{used, given_names}}
 use Rattle.row_contributions.specs.Contributions.{contributions_of}
-use Rattle.plan_contributions.specs.UsedNames.{used, given_names}
-use Rattle.mpf_plan.specs.Uses.{Names, is_to_be_given, is_lacking, is_unknown, lacks, lacks_name}
+use Rattle.mpf_plan.specs.{Uses.{Names, is_lacking, is_unknown, lacks, lacks_name}, ByName.{IsGiven, AreGiven}}
 use Rattle.plan_tables.specs.Limits.{entry_count, limit_of, order_of, tables_in_order, first_above, IsFirstAbove}
 use Rattle.mpf_plan.specs.PlanOf.{plan_of, plan_at, PlanRefusal, no_such_name, above_limit, fitting, IsExceeded}
-use Rattle.mpf_plan.specs.ByName.{IsGiven, AreGiven}
-use Rattle.mpf_plan.proofs.ByTable.{place_within, same_place, in_place}
+use Rattle.mpf_plan.proofs.ByTable.{place_within, in_place}
 
 -- ---- names
 
@@ -29,12 +22,10 @@ nothing_lacks cs each =
     there = λ t. given_names t cs
 
     by : (b there : Bool) → (b ≡ true → there ≡ true) → (b && not there) ≡ false
-    by true there is = ap not (is refl)
-    by false there is = refl
+    by x1 there is = search rules
 
     here : (o : Option (Table × List ℕ)) → IsGiven cs o → is_lacking (λ t. given_names t cs) o ≡ false
-    here None is = refl
-    here (Some (t, n)) is = by (is_to_be_given t) (list_any (bytes_eq n) (given_names t cs)) is
+    here x1 is = search rules
 
 -- ---- tables
 
@@ -54,10 +45,7 @@ module _ (plan : PlanView) where
 
   first_step : (n : ℕ) (x : Table) (xs : List Table) (t : Table) → order_of x ≡ n → n ≤ order_of t → IsFirstAbove plan t → (n < order_of t → find is_above xs ≡ Some t) → (n < order_of t) ⊎ (order_of t ≤ n)
       → find is_above (x ∷ xs) ≡ Some t
-  first_step n x xs t here from first rest (inl later) = ap (λ b. cond b (Some x) (find is_above xs)) (le-ltb (limit_of x) (entry_count plan x) (first.before x (omega (arith, here)))) ∙ rest later
-  first_step n x xs t here from first rest (inr now) =
-      let same : x ≡ t = same_place x t (omega (arith, here)) in
-      ap (λ b. cond b (Some x) (find is_above xs)) (ap is_above same ∙ lt-ltb (limit_of t) (entry_count plan t) first.above) ∙ ap Some same
+  first_step n x xs t here from first rest x9 = search rules
 
   first_among : (n : ℕ) (ts : List Table) (t : Table) → in_place n ts ≡ true → n ≤ order_of t → order_of t < n + length ts → IsFirstAbove plan t → find is_above ts ≡ Some t
   first_among n [] t placed from to first = absurd (omega arith)
@@ -72,16 +60,14 @@ module _ (plan : PlanView) where
   upto n x here before within t to = by (cases_lt (order_of t) n)
     where
       by : (order_of t < n) ⊎ (n ≤ order_of t) → Within t
-      by (inl earlier) = before t earlier
-      by (inr now) = subst Within (same_place x t (omega (arith, here))) within
+      by x1 = search rules
 
   -- each table of these is within its limit, or one is the first that is not
   abbrev SomeOrNone : ℕ → Type 0
   SomeOrNone n = ((t : Table) → order_of t < n → Within t) ⊎ ((t : Table) × IsFirstAbove plan t)
 
   some_or_none_step : (n m : ℕ) (x : Table) → order_of x ≡ n → ((t : Table) → order_of t < n → Within t) → (Within x → SomeOrNone m) → (limit_of x < entry_count plan x) ⊎ (entry_count plan x ≤ limit_of x) → SomeOrNone m
-  some_or_none_step n m x here before rest (inl above) = inr (x, record { above = above; before = λ t earlier. before t (omega (arith, here)) })
-  some_or_none_step n m x here before rest (inr within) = rest within
+  some_or_none_step n m x here before rest x7 = search rules
 
   some_or_none_among : (n m : ℕ) (ts : List Table) → m ≡ n + length ts → in_place n ts ≡ true → ((t : Table) → order_of t < n → Within t) → SomeOrNone m
   some_or_none_among n m [] end placed before = inl (λ t to. before t (omega arith))
@@ -94,30 +80,24 @@ module _ (plan : PlanView) where
   some_or_none = by (some_or_none_among 0 (length tables_in_order) tables_in_order refl refl (λ t none. absurd (omega arith)))
     where
       by : SomeOrNone (length tables_in_order) → ((t : Table) → entry_count plan t ≤ limit_of t) ⊎ ((t : Table) × IsFirstAbove plan t)
-      by (inl all) = inl (λ t. all t (place_within t))
-      by (inr first) = inr first
+      by x1 = search rules
 
 same_Some : (t u : Table) → Some t ≡ Some u → t ≡ u
 same_Some t u e = cc
-
-None-Some : (t : Table) → None ≡ Some t → ⊥
-None-Some t e = cc
 
 -- where no table is the first above its limit, each is within it
 pub all_within : (plan : PlanView) → first_above plan ≡ None → (t : Table) → entry_count plan t ≤ limit_of t
 all_within plan none = by (some_or_none plan)
   where
     by : ((t : Table) → entry_count plan t ≤ limit_of t) ⊎ ((t : Table) × IsFirstAbove plan t) → (t : Table) → entry_count plan t ≤ limit_of t
-    by (inl within) = within
-    by (inr first) = absurd (None-Some first.0 (sym none ∙ first_is plan first.0 first.1))
+    by x1 = search (rules, first_is)
 
 -- the table that is found is the first above its limit
 pub is_first : (plan : PlanView) (t : Table) → first_above plan ≡ Some t → IsFirstAbove plan t
 is_first plan t found = by (some_or_none plan)
   where
     by : ((t : Table) → entry_count plan t ≤ limit_of t) ⊎ ((t : Table) × IsFirstAbove plan t) → IsFirstAbove plan t
-    by (inl within) = absurd (None-Some t (sym (none_above plan within) ∙ found))
-    by (inr first) = subst (IsFirstAbove plan) (same_Some first.0 t (sym (first_is plan first.0 first.1) ∙ found)) first.1
+    by x1 = search (rules, none_above, same_Some, first_is)
 
 -- ---- the plan of rows
 
@@ -175,10 +155,7 @@ module _ (rows : Rows) where
       none = plan_at-complete plan is
 
       by : ((t : Table) → entry_count (plan_of rows) t ≤ limit_of t) ⊎ ((t : Table) × IsFirstAbove (plan_of rows) t) → (plan ≡ plan_of rows) × ((t : Table) → entry_count plan t ≤ limit_of t)
-      by (inl within) =
-          let same : plan ≡ plan_of rows = same_Ok plan (plan_of rows) (sym is ∙ plan_at-within none within) in
-          (same, subst (λ p. (t : Table) → entry_count p t ≤ limit_of t) (sym same) within)
-      by (inr first) = absurd (Ok-Err plan (above_limit first.0) (sym is ∙ plan_at-exceeded none first.0 first.1))
+      by x1 = search (rules, same_Ok, plan_at-within, none, Ok-Err, plan_at-exceeded)
 
   -- An answer without one names the first table that is above its limit.
   pub plan_at-Err : (t : Table) → plan_at rows ≡ Err (above_limit t) → IsExceeded rows t
@@ -188,16 +165,14 @@ module _ (rows : Rows) where
       none = plan_at-above t is
 
       by : ((t : Table) → entry_count (plan_of rows) t ≤ limit_of t) ⊎ ((t : Table) × IsFirstAbove (plan_of rows) t) → IsFirstAbove (plan_of rows) t
-      by (inl within) = absurd (Ok-Err (plan_of rows) (above_limit t) (sym (plan_at-within none within) ∙ is))
-      by (inr first) = subst (IsFirstAbove (plan_of rows)) (same_limit first.0 t (sym (plan_at-exceeded none first.0 first.1) ∙ is)) first.1
+      by x1 = search (rules, Ok-Err, plan_at-within, none, same_limit, plan_at-exceeded)
 
   -- An answer that a name is lacking tells of one.
   pub plan_at-named : plan_at rows ≡ Err no_such_name → lacks_name (contributions_of rows) ≡ true
   plan_at-named is = by lacks_any refl
     where
       fitted : (o : Option Table) → ◌≡◌ {A = Result PlanView PlanRefusal} (fitting (plan_of rows) o) (Err no_such_name) → ⊥
-      fitted None e = Ok-Err (plan_of rows) no_such_name e
-      fitted (Some t) e = limit-name t e
+      fitted x1 e = search rules
 
       by : (b : Bool) → lacks_any ≡ b → lacks_any ≡ true
       by true lacking = lacking

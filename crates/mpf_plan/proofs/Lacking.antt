@@ -1,51 +1,33 @@
 -- Names that are used, and names that are given.
-use Rattle.std.proofs.Common.{◌≡◌, ℕ, zero, suc, ◌<◌, ◌==◌, Bool, true, false, cond, not, ◌||◌, ◌&&◌, List, [], ◌∷◌, ◌++◌, length, filter, fold, set, get_or, Option, Some, None, Vec, Global, refl, sym, ◌∙◌, ap, subst, arith}
-use Rattle.std.specs.Prelude.{slice_get}
-use Rattle.std.specs.Str.{bytes_eq}
-use Rattle.std.specs.List.{All, list_any}
+use Rattle.std.proofs.Common.{rules, ◌≡◌, ℕ, zero, suc, ◌<◌, ◌==◌, Bool, true, false, cond, not, ◌||◌, List, [], ◌∷◌, ◌++◌, length, filter, fold, set, get_or, Option, Some, None, Vec, Global, refl, sym, ◌∙◌, ap, subst, arith}
+use Rattle.std.specs.{Prelude.slice_get, Str.bytes_eq, List.{All, list_any}}
 use Rattle.std.proofs.lemmas.Bool.{eq-eqb, ne_eqb, or_left, or_right}
-use Rattle.std.proofs.lemmas.Grind.{flat_map-append}
-use Rattle.std.proofs.lemmas.List.{append-nil, length-set}
-use Rattle.std.proofs.lemmas.List.Folds.{list_any-append}
+use Rattle.std.proofs.lemmas.{Grind.flat_map-append, Slice.Eq.bytes_eq-Decides}
+use Rattle.std.proofs.lemmas.List.{append-nil, length-set, Folds.list_any-append, Sums.fold-append}
 use Rattle.std.proofs.lemmas.Option.{get_or_from_slice_get, slice_get_read, slice_get_within}
-use Rattle.std.proofs.lemmas.List.Sums.{fold-append}
-use Rattle.std.proofs.lemmas.Slice.Eq.{bytes_eq-Decides}
 use Rattle.indexmap.specs.IndexSet.{IndexSet}
 use Rattle.mpf_sections.specs.Rows.{SectionRows}
 use Rattle.plan_rows.specs.declared.rows.Row as rows
-use Rattle.plan_tables.specs.declared.table.Table.{Table}
-use Rattle.plan_contributions.specs.Contributions.{Contribution}
+use Rattle.plan_tables.specs.{declared.table.Table.Table, Limits.{order_of, tables_in_order}, NamesKept.names_of}
+use Rattle.plan_contributions.specs.{Contributions.Contribution, UsedNames.{given, name_in_table, given_names}}
 use Rattle.row_contributions.specs.Contributions.{row_contributions, given_by}
-use Rattle.mpf_plan.specs.Uses.{first_uses, is_to_be_given, is_lacking}
-use Rattle.plan_contributions.specs.UsedNames.{given, name_in_table, given_names}
-use Rattle.plan_tables.specs.Limits.{order_of, tables_in_order}
+use Rattle.mpf_plan.specs.{Uses.{first_uses, is_to_be_given, is_lacking}, Numbering.HoldGivenNames}
 use Rattle.plan_rows.specs.View.{row_view, row_list_view}
-use Rattle.plan_tables.specs.NamesKept.{names_of}
 use Rattle.first_names.specs.FirstNames.{with_name}
-use Rattle.mpf_plan.specs.Numbering.{HoldGivenNames}
-use Rattle.mpf_plan.proofs.Firsts.{with_names-all}
-use Rattle.mpf_plan.proofs.ByTable.{place_within, each_changed}
+use Rattle.mpf_plan.proofs.{Firsts.with_names-all, ByTable.{place_within, each_changed}}
 
 -- ---- a name is among the first names where it is among all
 
 any_filter : (name x : List ℕ) → bytes_eq name x ≡ false → (ys : List (List ℕ)) → list_any (bytes_eq name) (filter (λ y. not (bytes_eq x y)) ys) ≡ list_any (bytes_eq name) ys
 any_filter name x other [] = refl
-any_filter name x other (y ∷ ys) = by (bytes_eq x y) refl (any_filter name x other ys)
-  where
-    by : (b : Bool) → bytes_eq x y ≡ b → list_any (bytes_eq name) (filter (λ z. not (bytes_eq x z)) ys) ≡ list_any (bytes_eq name) ys
-        → list_any (bytes_eq name) (cond (not b) (y ∷ filter (λ z. not (bytes_eq x z)) ys) (filter (λ z. not (bytes_eq x z)) ys)) ≡ (bytes_eq name y || list_any (bytes_eq name) ys)
-    by true same rest =
-        let absent = ap (bytes_eq name) (sym ((bytes_eq-Decides x y).0 same)) ∙ other in
-        rest ∙ sym (ap (λ b. b || list_any (bytes_eq name) ys) absent)
-    by false same rest = ap (λ b. bytes_eq name y || b) rest
+any_filter name x other (y ∷ ys) = search (rules, bytes_eq-Decides, any_filter name x other ys)
 
 pub any_first : (name : List ℕ) (us : List (List ℕ)) → list_any (bytes_eq name) (first_uses us) ≡ list_any (bytes_eq name) us
 any_first name [] = refl
 any_first name (x ∷ xs) = by (any_first name xs) (bytes_eq name x) refl
   where
     by : list_any (bytes_eq name) (first_uses xs) ≡ list_any (bytes_eq name) xs → (b : Bool) → bytes_eq name x ≡ b → (b || list_any (bytes_eq name) (filter (λ y. not (bytes_eq x y)) (first_uses xs))) ≡ (b || list_any (bytes_eq name) xs)
-    by rest true is = refl
-    by rest false is = any_filter name x is (first_uses xs) ∙ rest
+    by rest x2 is = search (rules, any_filter)
 
 -- a name among keys
 any_keys : (name : List ℕ) (keys : List (Vec ℕ Global)) → list_any (bytes_eq name) (names_of keys) ≡ list_any (λ k. bytes_eq name k.items) keys
@@ -57,16 +39,11 @@ any_keys name (k ∷ ks) = ap (λ b. bytes_eq name k.items || b) (any_keys name 
 module _ {S : Type 0} where
   -- none
   pub given_none : (sets : List (IndexSet (Vec ℕ Global) S)) → length sets ≡ length tables_in_order → All (λ s. s.keys ≡ []) sets → HoldGivenNames [] sets
-  given_none sets count empty = record {
-    count = count;
-    names = λ t s at. ap names_of (subst (λ (x : IndexSet (Vec ℕ Global) S). x.keys ≡ []) (get_or_from_slice_get sets (order_of t) s s at) (empty (order_of t) s (slice_get_within sets (order_of t) s at)));
-  }
+  given_none sets count empty = search (rules, get_or_from_slice_get, slice_get_within)
 
   module _ (cs : List Contribution) (d : Contribution) (sets : List (IndexSet (Vec ℕ Global) S)) (has : HoldGivenNames cs sets) where
     names_then : (t : Table) → fold with_name (fold with_name [] (given_names t cs)) (name_in_table t (given d)) ≡ fold with_name [] (given_names t (cs ++ d ∷ []))
-    names_then t =
-        sym (fold-append with_name [] (given_names t cs) (name_in_table t (given d)))
-        ∙ ap (fold with_name []) (sym (flat_map-append (λ c. name_in_table t (given c)) cs (d ∷ []) ∙ ap (λ l. given_names t cs ++ l) (append-nil (name_in_table t (given d)))))
+    names_then t = search (rules, fold-append, flat_map-append, append-nil)
 
     -- one contribution more, which gives nothing under a name
     pub given_nameless : (now : List (IndexSet (Vec ℕ Global) S)) → given d ≡ None → now ≡ sets → HoldGivenNames (cs ++ d ∷ []) now
@@ -106,19 +83,11 @@ module _ {S : Type 0} where
   -- whether a contribution that uses this name lacks it
   pub lacking_named : (cs : List Contribution) (sets : List (IndexSet (Vec ℕ Global) S)) (o : Option (Table × List ℕ)) (t : Table) (n : List ℕ) (p : ℕ) (s : IndexSet (Vec ℕ Global) S) (text : List ℕ) (there : Bool) → HoldGivenNames cs sets
       → o ≡ Some (t, n) → is_to_be_given t ≡ true → p ≡ order_of t → s ≡ get_or sets p s → text ≡ n → there ≡ list_any (λ k. bytes_eq text k.items) s.keys → not there ≡ is_lacking (λ t. given_names t cs) o
-  lacking_named cs sets o t n p s text there has uses_it needed place got same found =
-      let at : slice_get sets (order_of t) ≡ Some s = slice_get_read sets (length tables_in_order) (order_of t) s (sym has.count) (place_within t) (got ∙ ap (λ k. get_or sets k s) place) in
-      ap not (found ∙ ap (λ m. list_any (λ (k : Vec ℕ Global). bytes_eq m k.items) s.keys) same ∙ any_given cs sets t s n has at)
-      ∙ ap (λ b. b && not (list_any (bytes_eq n) (given_names t cs))) (sym needed)
-      ∙ ap (is_lacking (λ t. given_names t cs)) (sym uses_it)
+  lacking_named cs sets o t n p s text there has uses_it needed place got same found = search (rules, slice_get_read, place_within, get_or, any_given)
 
 -- ---- a contribution of one row is one of all
 
 pub any_row : (machine : List SectionRows) (p : Contribution → Bool) (rs : List rows.Row) (i : ℕ) (r : rows.Row) → i < length rs → list_any p (row_contributions machine (row_view (get_or rs i r))) ≡ true → list_any p (given_by machine (row_list_view rs)) ≡ true
 any_row machine p [] i r within is = absurd (omega arith)
-any_row machine p (x ∷ rs) zero r within is =
-    let here = row_contributions machine (row_view x) in
-    list_any-append p here (given_by machine (row_list_view rs)) ∙ or_left (list_any p here) (list_any p (given_by machine (row_list_view rs))) is
-any_row machine p (x ∷ rs) (suc i) r within is =
-    let here = row_contributions machine (row_view x) in
-    list_any-append p here (given_by machine (row_list_view rs)) ∙ or_right (list_any p here) (list_any p (given_by machine (row_list_view rs))) (any_row machine p rs i r (omega arith) is)
+any_row machine p (x ∷ rs) zero r within is = search (rules, list_any-append, or_left)
+any_row machine p (x ∷ rs) (suc i) r within is = search (rules, list_any-append, or_right, any_row machine p rs i r (omega arith) is)

@@ -1,20 +1,14 @@
 -- Each device listens to switches by numbers of its own, and none listens twice to one switch. Here switches are lists of
 -- those that listen to them.
-use Rattle.std.proofs.Common.{◌≡◌, ◌≢◌, ℕ, zero, suc, ◌-◌, ◌<◌, ◌≤◌, ◌==◌, ◌⊎◌, inl, inr, Bool, true, false, List, [], ◌∷◌, ◌++◌, length, set, get_or, Contains, refl, sym, ◌∙◌, ap, subst, arith, length-append}
+use Rattle.std.proofs.Common.{rules, ◌≡◌, ◌≢◌, ℕ, zero, suc, ◌-◌, ◌<◌, ◌≤◌, ◌==◌, ◌⊎◌, Bool, true, false, List, [], ◌∷◌, ◌++◌, length, set, get_or, Contains, refl, sym, ◌∙◌, ap, subst, arith, length-append}
 use Rattle.std.specs.List.{All, AllPairs, flat_map}
-use Rattle.std.proofs.lemmas.Bool.{cases_lt, eqb-true, eqb-false}
+use Rattle.std.proofs.lemmas.{Bool.{cases_lt, eqb-true, eqb-false}, List.Quantifiers.all_pairs_push}
 use Rattle.std.proofs.lemmas.List.{append_assoc, get_or_append_left, get_or-set_same, get_or-set_other, length_push, length-set, set_past}
 use Rattle.std.proofs.lemmas.List.Elements.{All-nil, All-cons, All-head, All-tail, All-append, All-push, All-set, All-get_or}
-use Rattle.std.proofs.lemmas.List.Quantifiers.{all_pairs_push}
-use Rattle.plan_tables.specs.declared.devices.DeviceRow.{DeviceRow}
-use Rattle.plan_tables.specs.declared.devices.RowId.{RowId}
-use Rattle.plan_tables.specs.declared.devices.Settings.{Settings}
-use Rattle.plan_tables.specs.declared.entries.Listener.{Listener}
-use Rattle.plan_tables.specs.PlanView.{no_row}
+use Rattle.plan_tables.specs.declared.devices.{DeviceRow.DeviceRow, RowId.RowId, Settings.Settings}
+use Rattle.plan_tables.specs.{declared.entries.Listener.Listener, PlanView.no_row}
 use Rattle.plan_tables.specs.BallRows.{IsSwitchOf, AreApart, AreOfTwoRows}
-use Rattle.mpf_plan.specs.Uses.{number_among}
-use Rattle.mpf_plan.proofs.Numbers.{at_number}
-use Rattle.mpf_plan.proofs.Steps.{All-changed}
+use Rattle.mpf_plan.{specs.Uses.number_among, proofs.{Numbers.at_number, Steps.All-changed}}
 
 -- ---- pairs of a list, where one more is put anywhere into it
 
@@ -149,10 +143,7 @@ module _ (names : List (List ℕ)) where
               subst (λ y. n ≢ y) is (new k m within) (sym (at_number names n known) ∙ its)
 
       numbers_apart : (x : Listener) → (suc x.row.0 ≡ length rows → x.switch < h) → AreApart x last × AreApart last x
-      numbers_apart x less = (
-        λ row switch. let number = ap (λ (r : RowId). r.0) row in let below = less (omega (arith, number, some)) in omega (arith, below, switch),
-        λ row switch. let number = ap (λ (r : RowId). r.0) row in let below = less (omega (arith, number, some)) in omega (arith, below, switch),
-      )
+      numbers_apart x less = search rules
 
       past : length lls ≤ at → AreListening (suc h) (n ∷ ns) rows lls
       past beyond = record {
@@ -189,15 +180,13 @@ module _ (names : List (List ℕ)) where
               subst (All (λ l. suc l.row.0 ≡ length rows → IsNamed (n ∷ ns) i)) (sym (ap (λ j. get_or (with_one at last lls) j []) e ∙ get_or-set_same lls at (get_or lls at [] ++ last ∷ []) [] inside))
               (All-push (λ l. suc l.row.0 ≡ length rows → IsNamed (n ∷ ns) i) (get_or lls at []) last (subst (λ j. All (λ l. suc l.row.0 ≡ length rows → IsNamed (n ∷ ns) i) (get_or lls j [])) e (more i within))
               (λ same. (n, (0, omega arith, refl), sym e)))
-          by i within false is =
-              subst (All (λ l. suc l.row.0 ≡ length rows → IsNamed (n ∷ ns) i)) (sym (get_or-set_other lls at i (get_or lls at [] ++ last ∷ []) [] (eqb-false i at is))) (more i within)
+          by i within false is = search (rules, within, get_or-set_other, get_or, eqb-false, more)
 
       pub listening_more : AreListening (suc h) (n ∷ ns) rows (with_one at last lls)
       listening_more = by (cases_lt at (length lls))
         where
           by : (at < length lls) ⊎ (length lls ≤ at) → AreListening (suc h) (n ∷ ns) rows (with_one at last lls)
-          by (inl inside) = inside_it inside
-          by (inr beyond) = subst (AreListening (suc h) (n ∷ ns) rows) (sym (set_past lls at (get_or lls at [] ++ last ∷ []) beyond)) (past beyond)
+          by x1 = search (rules, inside_it, set_past, get_or, past)
 
   -- before anything listens
   pub listening_none : (lls : List (List Listener)) → All (λ ls. ls ≡ []) lls → AreListening 0 [] [] lls

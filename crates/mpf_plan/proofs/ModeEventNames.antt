@@ -1,28 +1,18 @@
 -- The names of the modes of a plan that planning gives, and of their events.
-use Rattle.std.proofs.Common.{List, [], ℕ, ◌-◌, ◌≢◌, refl, ap, ◌∙◌, ◌≡◌, ◌<◌, length, map, get_or, Ok, Contains, sym, subst, arith}
+use Rattle.std.proofs.Common.{rules, List, [], ℕ, ◌-◌, ◌≢◌, refl, ap, ◌∙◌, ◌≡◌, ◌<◌, length, map, get_or, Ok, Contains, sym, subst, arith}
 use Rattle.std.specs.List.{All}
 use Rattle.mpf_config.specs.Rows.{ModeRows, Rows}
-use Rattle.plan_tables.specs.declared.entries.EventId.{EventId}
-use Rattle.plan_tables.specs.declared.entries.ModeId.{ModeId}
-use Rattle.plan_tables.specs.declared.entries.ModeEvent.{ModeEvent}
-use Rattle.plan_tables.specs.declared.entries.GameEvent.{GameEvent}
-use Rattle.plan_tables.specs.declared.entries.GameEvent.TheVariants.{SwStart}
-use Rattle.plan_tables.specs.declared.entries.Work.{Work}
+use Rattle.plan_tables.specs.declared.entries.{EventId.EventId, ModeId.ModeId, ModeEvent.ModeEvent, Work.Work}
+use Rattle.plan_tables.specs.declared.entries.GameEvent.{GameEvent, TheVariants.SwStart}
 use Rattle.plan_tables.specs.declared.entries.Work.TheVariants as works
 use Rattle.plan_tables.specs.PlanView.{PlanView, name_of_event, mode_at, mode_event, game_event, work_of}
-use Rattle.plan_tables.specs.GameEvents.{order_of}
-use Rattle.plan_tables.specs.Valid.{HasGame, IsWorkAt}
+use Rattle.plan_tables.{specs.{GameEvents.order_of, Valid.{HasGame, IsWorkAt}}, proofs.Worked.work_found}
 use Rattle.machine_definitions.specs.GameEvents.{reserved_game_events}
 use Rattle.plan_contributions.specs.Contributions.{mode_event_name}
 use Rattle.row_contributions.specs.Contributions.{contributions_of}
 use Rattle.mpf_plan.specs.PlanOf.{plan_of, plan_at}
-use Rattle.mpf_plan.proofs.Tables.{computed-plan}
-use Rattle.mpf_plan.proofs.GameMade.{game_event_is}
-use Rattle.mpf_plan.proofs.GameNames.{game_name}
-use Rattle.mpf_plan.proofs.Judged.{plan_at-Ok}
-use Rattle.mpf_plan.proofs.ModeWorks.{event_name_is, name_there}
-use Rattle.mpf_plan.proofs.Ready.{rows_are_ready}
-use Rattle.plan_tables.proofs.Worked.{work_found}
+use Rattle.mpf_plan.proofs.{Tables.computed-plan, GameNames.game_name, Judged.plan_at-Ok, Ready.rows_are_ready}
+use Rattle.mpf_plan.proofs.{GameMade.game_event_is, ModeWorks.{event_name_is, name_there}}
 
 abbrev HasEventNames : PlanView → Type 0
 HasEventNames plan = (m : ModeId) → m.0 < length plan.modes → (which : ModeEvent) → name_of_event plan (mode_event plan m which) ≡ mode_event_name which (mode_at plan m).name
@@ -72,7 +62,4 @@ free-by_name rows plan is e other unreserved P nothing start = by (work_of plan 
     by_event which at = reserved which (order_of which - 1) (omega arith) refl at
 
     by : (w : Work) → IsWorkAt plan e w → P w
-    by works.Nothing at = nothing
-    by (works.Game which) at = by_event which at
-    by (works.Mode m which) at =
-        absurd (other (mode_at plan m).name (mode-named rows plan is m at.0) which (ap (name_of_event plan) at.1 ∙ mode_event-named rows plan is m at.0 which))
+    by x1 at = search (rules, by_event, mode-named, mode_event-named)

@@ -1,39 +1,22 @@
 -- The events of the modes of a plan: each has the name that its mode gives it, and no two modes share one.
-use Rattle.std.proofs.Common.{◌≡◌, ◌≢◌, ℕ, zero, suc, ◌<◌, ◌≤◌, ◌==◌, ◌⊎◌, inl, inr, Bool, true, false, cond, List, [], ◌∷◌, length, map, get_or, slice_index_or, Option, Some, None, Contains, refl, sym, ◌∙◌, ap, subst, arith}
-use Rattle.std.specs.List.{AllPairs}
-use Rattle.std.proofs.lemmas.Bool.{cases_lt, eq-eqb}
-use Rattle.std.proofs.lemmas.List.{length-map, get_or-map}
-use Rattle.std.proofs.lemmas.List.Elements.{All-get_or}
-use Rattle.std.proofs.lemmas.Option.{none-some}
+use Rattle.std.proofs.Common.{rules, ◌≡◌, ◌≢◌, ℕ, zero, suc, ◌<◌, ◌≤◌, ◌==◌, ◌⊎◌, Bool, cond, List, [], ◌∷◌, length, map, get_or, slice_index_or, Option, Some, None, Contains, refl, sym, ◌∙◌, ap, subst, arith}
+use Rattle.std.{specs.List.AllPairs, proofs.lemmas.{Bool.{cases_lt, eq-eqb}, Option.none-some}}
+use Rattle.std.proofs.lemmas.List.{length-map, get_or-map, Elements.All-get_or}
 use Rattle.mpf_config.specs.Rows.{ModeRows, Rows}
-use Rattle.plan_tables.specs.declared.entries.EventId.{EventId}
-use Rattle.plan_tables.specs.declared.entries.ModeId.{ModeId}
-use Rattle.plan_tables.specs.declared.entries.ModeEvent.{ModeEvent}
+use Rattle.plan_tables.specs.declared.{entries.{EventId.EventId, ModeEvent.ModeEvent}, table.Table.TheVariants.Events}
+use Rattle.plan_tables.specs.declared.entries.{ModeId.ModeId, ModeEvents.ModeEvents, Work.Work}
 use Rattle.plan_tables.specs.declared.entries.ModeEvent.TheVariants.{WillStart, Starting, Started, Stopping, Stopped}
-use Rattle.plan_tables.specs.declared.entries.ModeEvents.{ModeEvents}
-use Rattle.plan_tables.specs.declared.entries.Work.{Work}
 use Rattle.plan_tables.specs.declared.entries.Work.TheVariants as works
-use Rattle.plan_tables.specs.declared.table.Table.TheVariants.{Events}
 use Rattle.plan_tables.specs.PlanView.{PlanMode, PlanView, no_mode, name_of_event, event_among, mode_at, mode_event, which_event, work_or, work_from, game_work, or_work, work_of}
-use Rattle.plan_tables.specs.Valid.{IsModeWithin, IsWorkAt}
+use Rattle.plan_tables.{specs.Valid.{IsModeWithin, IsWorkAt}, proofs.Worked.work_found}
 use Rattle.plan_contributions.specs.Contributions.{mode_event_name}
-use Rattle.row_contributions.specs.Contributions.{contributions_of}
-use Rattle.mpf_plan.specs.Uses.{Names, names_from, number_among}
-use Rattle.mpf_plan.specs.Filling.{plan_from}
-use Rattle.mpf_plan.proofs.Drafted.{names-from}
-use Rattle.mpf_plan.proofs.GameMade.{game_event_is}
-use Rattle.mpf_plan.proofs.GameNames.{not_of_mode}
-use Rattle.mpf_plan.proofs.Heard.{rows_are_heard}
-use Rattle.mpf_plan.proofs.Numbers.{at_number}
-use Rattle.row_contributions.proofs.Aimed.{rows_are_aimed}
+use Rattle.row_contributions.{specs.Contributions.contributions_of, proofs.RowFacts.{rows_are_open, rows_are_placed}}
+use Rattle.mpf_plan.specs.{Uses.{Names, names_from, number_among}, Filling.plan_from, PlanOf.mode_of}
+use Rattle.mpf_plan.proofs.{Drafted.names-from, Heard.rows_are_heard, Numbers.at_number, Ready.rows_are_ready}
+use Rattle.mpf_plan.proofs.{GameMade.game_event_is, GameNames.not_of_mode}
+use Rattle.row_contributions.proofs.{Aimed.rows_are_aimed, ModeNames.{same_which, same_mode}}
 use Rattle.row_contributions.proofs.BallRows.{rows_are_fitting, targets_are_rows, drains_are_in_games}
-use Rattle.row_contributions.proofs.RowFacts.{rows_are_open, rows_are_placed}
-use Rattle.mpf_plan.proofs.Ready.{rows_are_ready}
-use Rattle.mpf_plan.proofs.SoundDraft.{has_entries}
-use Rattle.row_contributions.proofs.ModeNames.{same_which, same_mode}
-use Rattle.mpf_plan.specs.PlanOf.{mode_of}
-use Rattle.mpf_plan.proofs.ModesMade.{made-event, modes-made}
-use Rattle.plan_tables.proofs.Worked.{work_found}
+use Rattle.mpf_plan.proofs.{SoundDraft.has_entries, ModesMade.{made-event, modes-made}}
 
 -- ---- an event of a mode has work
 
@@ -43,13 +26,10 @@ IsWork (works.Mode m which) = Unit {0}
 IsWork (works.Game which) = Unit {0}
 
 first_work : (w rest : Work) → IsWork w → IsWork (or_work w rest)
-first_work works.Nothing rest is = absurd is
-first_work (works.Mode m which) rest is = tt
-first_work (works.Game which) rest is = tt
+first_work x1 rest is = search rules
 
 later : (b : Bool) (w : ModeEvent) (o : Option ModeEvent) → (o ≡ None → ⊥) → cond b (Some w) o ≡ None → ⊥
-later true w o some is = none-some w (sym is)
-later false w o some is = some is
+later x1 w o some is = search rules
 
 here : (n : ℕ) (w : ModeEvent) (o : Option ModeEvent) → cond (n == n) (Some w) o ≡ None → ⊥
 here n w o is = none-some w (sym is ∙ ap (λ b. cond b (Some w) o) (eq-eqb n n refl))
@@ -68,8 +48,7 @@ is_among events Stopped =
     later (e == events.will_start.0) WillStart _ (later (e == events.starting.0) Starting _ (later (e == events.started.0) Started _ (later (e == events.stopping.0) Stopping _ (here e Stopped None))))
 
 or_rest : (n : ℕ) (o : Option ModeEvent) (rest : Work) → (o ≡ None → IsWork rest) → IsWork (work_or n o rest)
-or_rest n None rest h = h refl
-or_rest n (Some which) rest h = tt
+or_rest n x2 rest h = search rules
 
 some_work : (n : ℕ) (modes : List PlanMode) (i : ℕ) (which : ModeEvent) → i < length modes → IsWork (work_from n modes (event_among (get_or modes i no_mode).mode.events which))
 some_work n [] i which within = absurd (omega arith)
@@ -124,11 +103,7 @@ module _ (rows : Rows) where
         subst (λ es. number_among (names Events) (mode_event_name which row.name) < length es) (names-from (contributions_of rows) Events) (by which at)
       where
         by : (which : ModeEvent) → IsModeWithin (length plan.events) (mode_of names row) → number_among (names Events) (mode_event_name which row.name) < length plan.events
-        by WillStart at = at.will_start
-        by Starting at = at.starting
-        by Started at = at.started
-        by Stopping at = at.stopping
-        by Stopped at = at.stopped
+        by x1 at = search rules
 
     -- its events have the names that it gives them
     pub event_name_is : (which : ModeEvent) → name_of_event plan (mode_event plan m which) ≡ mode_event_name which (mode_at plan m).name
@@ -160,9 +135,7 @@ module _ (rows : Rows) where
           name = same_mode which other (mode_at plan m).name (mode_at plan n).name one_name
 
           by : (m.0 < n.0) ⊎ (n.0 ≤ m.0) → (n.0 < m.0) ⊎ (m.0 ≤ n.0) → m.0 ≡ n.0
-          by (inl before) _ = absurd (differ m n before in_m in_n name)
-          by (inr from) (inl after) = absurd (differ n m after in_n in_m (sym name))
-          by (inr from) (inr to) = omega (arith, from, to)
+          by x1 x2 = search (rules, differ, name)
 
     -- each event of a mode has the work of this event of this mode
     pub works_are : (m : ModeId) (which : ModeEvent) → m.0 < length plan.modes → work_of plan (mode_event plan m which) ≡ works.Mode m which
@@ -176,7 +149,4 @@ module _ (rows : Rows) where
         by (works.Game other) some at =
             absurd (not_of_mode other which (mode_at plan m).name
             (sym (event_name_is m within which) ∙ ap (name_of_event plan) at.1 ∙ game_event_is (contributions_of rows) (rows_are_ready rows) at.0 other))
-        by (works.Mode n other) some at =
-            let number : n.0 ≡ m.0 = sym (one_number m n which other within at.0 at.1) in
-            let event : other ≡ which = sym (one_event m n which other within at.0 at.1) in
-            λ i. works.Mode (record { 0 = number i }) (event i)
+        by (works.Mode n other) some at = search (rules, one_number, one_event)

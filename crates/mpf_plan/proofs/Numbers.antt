@@ -1,20 +1,14 @@
 -- Names stand at their numbers.
-use Rattle.std.proofs.Common.{◌≡◌, ℕ, suc, ◌+◌, ◌<◌, ◌≤◌, ◌⊎◌, inl, inr, Bool, true, false, cond, not, List, [], ◌∷◌, length, get_or, slice_index_or, refl, sym, ◌∙◌, ap, arith}
-use Rattle.std.specs.Str.{bytes_eq}
-use Rattle.std.specs.List.{list_any, position_or_len}
-use Rattle.std.proofs.lemmas.Bool.{cases_lt}
-use Rattle.std.proofs.lemmas.List.Folds.{list_any_at}
-use Rattle.std.proofs.lemmas.Slice.Eq.{bytes_eq-Decides}
-use Rattle.plan_tables.specs.declared.entries.Action.{Action}
+use Rattle.std.proofs.Common.{rules, ◌≡◌, ℕ, suc, ◌+◌, ◌<◌, ◌≤◌, ◌⊎◌, inl, inr, Bool, true, false, cond, not, List, [], ◌∷◌, length, get_or, slice_index_or, refl, sym, ap, arith}
+use Rattle.std.specs.{Str.bytes_eq, List.{list_any, position_or_len}}
+use Rattle.std.proofs.lemmas.{Bool.cases_lt, List.Folds.list_any_at, Slice.Eq.bytes_eq-Decides}
+use Rattle.plan_tables.specs.declared.{entries.Action.Action, devices.RowId.RowId}
 use Rattle.plan_tables.specs.declared.entries.Action.TheVariants.{Post, Pulse, Enable, Disable, Change, Enter, Leave, Lose, Arrive, Request, AddBalls}
-use Rattle.plan_tables.specs.declared.devices.RowId.{RowId}
 use Rattle.plan_tables.specs.declared.table.Table.TheVariants.{Events, Coils, Variables}
 use Rattle.plan_contributions.specs.Effects.{pulse, enable, disable, Effect, posts, works, changes, enters, leaves, loses, arrives, requests, adds_balls}
 use Rattle.plan_contributions.specs.UsedNames.{used_by}
-use Rattle.mpf_plan.specs.Uses.{Names, number_among}
-use Rattle.mpf_plan.specs.ByNumber.{action_of}
-use Rattle.mpf_plan.proofs.Among.{IsAmong, place_within}
-use Rattle.mpf_plan.proofs.Apart.{AreApart, all_apart}
+use Rattle.mpf_plan.specs.{Uses.{Names, number_among}, ByNumber.action_of}
+use Rattle.mpf_plan.proofs.{Among.{IsAmong, place_within}, Apart.{AreApart, all_apart}}
 
 -- a name stands at its number
 pub at_number : (names : List (List ℕ)) (n : List ℕ) → number_among names n < length names → get_or names (number_among names n) [] ≡ n
@@ -23,9 +17,7 @@ at_number (x ∷ xs) n within = by (at_number xs n) (bytes_eq n x) refl within
   where
     by : (position_or_len (bytes_eq n) xs < length xs → get_or xs (position_or_len (bytes_eq n) xs) [] ≡ n) → (b : Bool) → bytes_eq n x ≡ b → cond (not b) (1 + position_or_len (bytes_eq n) xs) 0 < suc (length xs) → get_or (x ∷ xs) (cond (not b) (1 + position_or_len (bytes_eq n) xs) 0) [] ≡ n
     by rest true same inside = sym ((bytes_eq-Decides n x).0 same)
-    by rest false other inside =
-        let next : 1 + position_or_len (bytes_eq n) xs ≡ suc (position_or_len (bytes_eq n) xs) = omega arith in
-        ap (λ k. get_or (x ∷ xs) k []) next ∙ rest (omega (arith, inside))
+    by rest false other inside = search rules
 
 -- the name at a number is among the names
 pub name_at : (names : List (List ℕ)) (k : ℕ) → k < length names → list_any (bytes_eq (get_or names k [])) names ≡ true

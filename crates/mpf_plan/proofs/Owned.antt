@@ -1,31 +1,22 @@
 -- Bindings act on rows of devices of their own owner alone, and only rows of the machine listen to switches. A row on which
 -- something acts may come later than its binding, so it is one of those that all contributions make.
-use Rattle.std.proofs.Common.{◌≡◌, ℕ, ◌-◌, ◌<◌, List, [], ◌∷◌, ◌++◌, length, map, fold, set, get_or, slice_index_or, refl, sym, ◌∙◌, ap, subst, arith}
-use Rattle.std.specs.Prelude.{Option, None, Some}
-use Rattle.std.specs.List.{All}
+use Rattle.std.proofs.Common.{rules, ◌≡◌, ℕ, ◌-◌, ◌<◌, List, [], ◌∷◌, ◌++◌, length, map, fold, set, get_or, slice_index_or, refl, sym, ◌∙◌, ap, subst, arith}
+use Rattle.std.{specs.{Prelude.{Option, None, Some}, List.All}, proofs.lemmas.Option.{none-some, same_Some}}
 use Rattle.std.proofs.lemmas.List.{length_push, length-append, length-set, get_or_push, get_or_append_left}
 use Rattle.std.proofs.lemmas.List.Elements.{All-nil, All-push, All-weaker, All-map, All-from_get_or}
-use Rattle.std.proofs.lemmas.Option.{none-some, same_Some}
 use Rattle.plan_contributions.specs.declared.contribution.Aim.{Aim}
 use Rattle.plan_contributions.specs.declared.contribution.Aim.TheVariants as aims
 use Rattle.plan_rows.specs.declared.place.Place.{Place}
 use Rattle.plan_rows.specs.declared.place.Place.TheVariants as places
-use Rattle.plan_tables.specs.declared.devices.DeviceRow.{DeviceRow}
-use Rattle.plan_tables.specs.declared.entries.Binding.{Binding}
-use Rattle.plan_tables.specs.declared.entries.Listener.{Listener}
-use Rattle.plan_tables.specs.declared.entries.Owner.{Owner}
+use Rattle.plan_tables.specs.declared.{devices.DeviceRow.DeviceRow, entries.Target.{Target, TheVariants.Act}}
+use Rattle.plan_tables.specs.declared.entries.{Binding.Binding, Listener.Listener, Owner.Owner}
 use Rattle.plan_tables.specs.declared.entries.Owner.TheVariants as owners
-use Rattle.plan_tables.specs.declared.entries.Target.{Target}
-use Rattle.plan_tables.specs.declared.entries.Target.TheVariants.{Act}
 use Rattle.plan_tables.specs.declared.table.Table.TheVariants.{Events, Switches}
 use Rattle.plan_tables.specs.PlanView.{PlanSwitch, no_switch, PlanView, no_binding, no_mode, no_row}
 use Rattle.plan_contributions.specs.Contributions.{Contribution, gives, reads, active, inactive, mode, mode_event, mode_event_name, binds, does, device, does_in, listens, mentions, unknown, coil, under, plays}
-use Rattle.mpf_plan.specs.Uses.{Names, number_among}
+use Rattle.mpf_plan.specs.{Uses.{Names, number_among}, ByNumber.{event_of, owner_at, condition_of}}
 use Rattle.mpf_plan.specs.Filling.{DraftView, with_event_in, last_mode, last_row, target_at, next_binding, next_row, next_listener, heard_by, conditioned, with_contribution, named_switch, blank, drafted}
-use Rattle.mpf_plan.specs.ByNumber.{event_of, owner_at, condition_of}
-use Rattle.mpf_plan.proofs.Drafted.{given_plan}
-use Rattle.mpf_plan.proofs.Steps.{All-changed}
-use Rattle.mpf_plan.proofs.Heard.{IsHeard, AreHeard}
+use Rattle.mpf_plan.proofs.{Drafted.given_plan, Steps.All-changed, Heard.{IsHeard, AreHeard}}
 use Rattle.mpf_plan.proofs.RowOwners.{owner_by, owners_of, modes_come, owners_fold, rows_kept, IsOnRow, IsBoundOn, bound_on}
 use Rattle.row_contributions.specs.Facts.{modes_after, row_after, IsPlacedAim, IsPlaced, ArePlaced, row_places, IsAimed, AreAimed}
 
@@ -56,9 +47,7 @@ own_switch : (rows : List DeviceRow) (row : DeviceRow) (s : PlanSwitch) → IsOw
 own_switch rows row s own = All-weaker (IsOwnListener rows) (IsOwnListener (rows ++ row ∷ [])) one s.listeners own
   where
     one : (l : Listener) → IsOwnListener rows l → IsOwnListener (rows ++ row ∷ []) l
-    one l is =
-        let there = is.0 in
-        (omega (arith, there, length_push rows row), ap (λ (x : DeviceRow). x.owner) (get_or_append_left rows (row ∷ []) no_row l.row.0 there) ∙ is.1)
+    one l is = search (rules, length_push, get_or_append_left)
 
 module _ (names : Names) (final : List DeviceRow) (d : DraftView) (o : Option Place) (own : IsOwn final o d.plan) where
   changed_switch : (change : PlanSwitch → PlanSwitch) → ((s : PlanSwitch) → IsOwnSwitch d.plan.rows s → IsOwnSwitch d.plan.rows (change s)) → (i : ℕ)
@@ -73,12 +62,7 @@ module _ (names : Names) (final : List DeviceRow) (d : DraftView) (o : Option Pl
 
   own_device : (place : Place) (row : DeviceRow) → row.owner ≡ owner_at (last_mode d.plan) place → (p : Place) → Some place ≡ Some p
       → (0 < length (d.plan.rows ++ row ∷ [])) × ((slice_index_or (d.plan.rows ++ row ∷ []) (length (d.plan.rows ++ row ∷ []) - 1) no_row).owner ≡ owner_at (last_mode d.plan) p)
-  own_device place row owner p is =
-      let longer = length_push d.plan.rows row in (
-        omega (arith, longer),
-        ap (λ (x : DeviceRow). x.owner) (get_or_push d.plan.rows row no_row (length (d.plan.rows ++ row ∷ []) - 1) (omega (arith, longer)))
-            ∙ owner ∙ ap (owner_at (last_mode d.plan)) (same_Some place p is),
-      )
+  own_device place row owner p is = search (rules, length_push, get_or_push, same_Some)
 
   own_mode_event : (modes : ℕ) → modes ≡ length d.plan.modes → (place : Place) → o ≡ Some place
       → (0 < length d.plan.rows) × ((slice_index_or d.plan.rows (last_row d.plan).0 no_row).owner ≡ owner_at (record { 0 = modes - 1 }) place)
@@ -166,8 +150,7 @@ module _ (names : Names) where
     own_fold : (cs : List Contribution) (n : ℕ) (o : Option Place) (d : DraftView) → n ≡ length d.plan.modes → (fold (with_contribution names) d cs).plan.rows ≡ final → ArePlaced o cs → AreAimed places n cs → AreHeard o cs → IsOwn final o d.plan
         → All (IsOwnBinding final) (fold (with_contribution names) d cs).plan.bindings × All (IsOwnSwitch final) (fold (with_contribution names) d cs).plan.switches
     own_fold [] n o d same made placed aimed heard own = (own.bindings, subst (λ rows. All (IsOwnSwitch rows) d.plan.switches) made own.listeners)
-    own_fold (c ∷ cs) n o d same made placed aimed heard own =
-        own_fold cs (modes_after n c) (row_after o c) (with_contribution names d c) (modes_come names n d c same) made placed.1 aimed.1 heard.1 (own_then c cs n o d same made placed.0 aimed.0 heard.0 own)
+    own_fold (c ∷ cs) n o d same made placed aimed heard own = search (rules, modes_come, own_then, own_fold cs (modes_after n c) (row_after o c) (with_contribution names d c) (modes_come names n d c same) made placed.1 aimed.1 heard.1 (own_then c cs n o d same made placed.0 aimed.0 heard.0 own))
 
   pub own_drafted : (cs : List Contribution) → ArePlaced None cs → AreAimed (row_places 0 cs) 0 cs → AreHeard None cs → All (IsOwnBinding (drafted names cs).plan.rows) (drafted names cs).plan.bindings × All (IsOwnSwitch (drafted names cs).plan.rows) (drafted names cs).plan.switches
   own_drafted cs placed aimed heard =

@@ -1,43 +1,26 @@
 -- What was numbered and made of rows is their plan, or why there is none.
-use Rattle.std.proofs.Common.{◌≡◌, ◌<◌, ◌≤◌, false, List, length, sym, ◌∙◌, ap, subst, arith}
-use Rattle.std.specs.Prelude.{Result, Ok, Err}
-use Rattle.std.specs.List.{All}
+use Rattle.std.proofs.Common.{rules, ◌≡◌, ◌≤◌, false, List, length, sym, ◌∙◌, ap, subst, arith}
+use Rattle.std.specs.{Prelude.{Result, Ok, Err}, List.All}
 use Rattle.mpf_sections.specs.Rows.{SectionRows}
-use Rattle.mpf_config.specs.Rows.{Rows}
-use Rattle.mpf_config.specs.Short.{AreListsShort}
-use Rattle.mpf_config.specs.FewModes.{AreFewModes}
+use Rattle.mpf_config.specs.{Rows.Rows, Short.AreListsShort, FewModes.AreFewModes}
 use Rattle.plan_rows.specs.declared.rows.Row as found
-use Rattle.plan_tables.specs.declared.names.NameSets.{NameSets}
-use Rattle.mpf_plan.specs.declared.draft.Draft.{Draft}
+use Rattle.plan_tables.specs.declared.{names.NameSets.NameSets, table.Table.{Table, TheVariants.Coils}}
+use Rattle.mpf_plan.specs.declared.{draft.Draft.Draft, fault.PlanFault.PlanFault}
 use Rattle.mpf_plan.specs.declared.first_uses.NumberedNames.{NumberedNames}
-use Rattle.plan_tables.specs.declared.table.Table.{Table}
-use Rattle.plan_tables.specs.declared.table.Table.TheVariants.{Coils}
-use Rattle.mpf_plan.specs.declared.fault.PlanFault.{PlanFault}
 use Rattle.mpf_plan.specs.declared.fault.PlanFault.TheVariants as faults
-use Rattle.plan_tables.specs.PlanView.{PlanView}
-use Rattle.plan_tables.specs.Valid.{IsValid}
+use Rattle.plan_tables.specs.{PlanView.PlanView, Valid.IsValid, Inside.{name_sets_view, tables_view}}
 use Rattle.plan_contributions.specs.Contributions.{Contribution}
 use Rattle.row_contributions.specs.Contributions.{given_by, contributions_of}
-use Rattle.plan_rows.specs.Rows.{rows_of}
-use Rattle.mpf_plan.specs.Uses.{lacks_name}
+use Rattle.plan_rows.specs.{Rows.rows_of, View.row_list_view}
+use Rattle.mpf_plan.specs.{Uses.lacks_name, Filling.{drafted, plan_from}}
 use Rattle.plan_tables.specs.Limits.{entry_count, limit_of, first_above}
-use Rattle.mpf_plan.specs.Filling.{drafted, plan_from}
-use Rattle.mpf_plan.specs.PlanOf.{plan_of, plan_at, GivesPlan, IsExceeded}
-use Rattle.plan_tables.specs.Inside.{name_sets_view, tables_view}
-use Rattle.plan_rows.specs.View.{row_list_view}
-use Rattle.row_contributions.specs.Facts.{row_places, AreAimed}
-use Rattle.row_contributions.proofs.Aimed.{rows_are_aimed}
-use Rattle.mpf_plan.specs.Inside.{IsActNumbered, draft_view}
-use Rattle.mpf_plan.specs.PlanOf.{mode_count, row_count}
-use Rattle.mpf_plan.specs.Numbering.{lists_count, Numbered}
-use Rattle.mpf_plan.proofs.Tables.{computed-plan}
+use Rattle.mpf_plan.specs.PlanOf.{plan_of, plan_at, GivesPlan, IsExceeded, mode_count, row_count}
+use Rattle.row_contributions.proofs.{Aimed.rows_are_aimed, RowFacts.rows_are_limited}
+use Rattle.mpf_plan.specs.{Inside.{IsActNumbered, draft_view}, Numbering.{lists_count, Numbered}}
+use Rattle.mpf_plan.proofs.{Tables.computed-plan, ValidPlan.IsValid-plan_of, Steps.coils_seen}
 use Rattle.mpf_plan.proofs.Judged.{all_within, is_first, plan_at-lacking, plan_at-within, plan_at-exceeded, plan_at-Err}
-use Rattle.mpf_plan.proofs.ValidPlan.{IsValid-plan_of}
 use Rattle.mpf_plan.proofs.Drafted.{modes-from, coils_count, lists_few}
-use Rattle.row_contributions.proofs.RowFacts.{rows_are_limited}
-use Rattle.mpf_plan.proofs.Steps.{coils_seen}
-use Rattle.mpf_plan.proofs.ModeWorks.{modes-count}
-use Rattle.mpf_plan.proofs.RowOwners.{acts_numbered}
+use Rattle.mpf_plan.proofs.{ModeWorks.modes-count, RowOwners.acts_numbered}
 
 module _ (rows : Rows) (machine : List SectionRows) (text : machine ≡ rows.machine) (rs numbered_of : List found.Row) (are : row_list_view rs ≡ rows_of rows) (first : numbered_of ≡ rs) where
   abbrev cs : List Contribution
@@ -98,16 +81,12 @@ module _ (rows : Rows) (machine : List SectionRows) (text : machine ≡ rows.mac
 
 -- rows give as many modes as there are in the texts
 pub modes_few : (rows : Rows) (machine : List SectionRows) (rs made_of : List found.Row) → machine ≡ rows.machine → row_list_view rs ≡ rows_of rows → made_of ≡ rs → AreFewModes rows.modes → mode_count (given_by machine (row_list_view made_of)) ≤ 64
-modes_few rows machine rs made_of text are again few =
-    let same : given_by machine (row_list_view made_of) ≡ contributions_of rows = λ i. given_by (text i) ((ap row_list_view again ∙ are) i) in
-    omega (arith, few.few, modes-count rows, modes-from (contributions_of rows), ap mode_count same)
+modes_few rows machine rs made_of text are again few = search (rules, same, modes-count, modes-from)
 
 -- the numbers of rows on which something acts are those of rows
 pub acts_few : (rows : Rows) (machine : List SectionRows) (rs made_of : List found.Row) → machine ≡ rows.machine → row_list_view rs ≡ rows_of rows → made_of ≡ rs
     → row_count (given_by machine (row_list_view made_of)) ≤ 1024 → All IsActNumbered (given_by machine (row_list_view made_of))
-acts_few rows machine rs made_of text are again few =
-    let same : given_by machine (row_list_view made_of) ≡ contributions_of rows = λ i. given_by (text i) ((ap row_list_view again ∙ are) i) in
-    acts_numbered (given_by machine (row_list_view made_of)) (subst (λ cs. AreAimed (row_places 0 cs) 0 cs) (sym same) (rows_are_aimed rows)) few
+acts_few rows machine rs made_of text are again few = search (rules, same, acts_numbered, rows_are_aimed)
 
 -- nor more effect lists of rows than 288 each
 pub lists_within : (rows : Rows) (machine : List SectionRows) (rs made_of : List found.Row) → machine ≡ rows.machine → row_list_view rs ≡ rows_of rows → made_of ≡ rs → AreListsShort rows

@@ -1,49 +1,33 @@
 -- Where a contribution speaks of an event whose name it does not use, another contribution uses that name; and what is said
 -- of the game is within its limits.
-use Rattle.std.proofs.Common.{◌≡◌, ℕ, suc, ◌+◌, ◌<◌, ◌≤◌, Bool, true, false, if◌then◌else◌, ◌||◌, ◌&&◌, List, [], ◌∷◌, ◌++◌, length, map, get_or, codes, refl, ◌∙◌, ap, arith}
-use Rattle.std.specs.Prelude.{Option, None, Some}
-use Rattle.std.specs.Str.{bytes_eq}
-use Rattle.std.specs.List.{All, flat_map, list_any}
-use Rattle.std.proofs.lemmas.Bool.{or_left, or_right}
-use Rattle.std.proofs.lemmas.Grind.{flat_map-append}
-use Rattle.std.proofs.lemmas.List.Elements.{All-nil, All-cons, All-append, All-map, All-weaker, All-head, All-tail, All-from_get_or, All-from_recursion}
-use Rattle.std.proofs.lemmas.List.Folds.{list_any-append, list_any_at}
-use Rattle.std.proofs.lemmas.Slice.Eq.{bytes_eq-Decides}
+use Rattle.std.proofs.Common.{rules, ◌≡◌, ℕ, suc, ◌+◌, ◌<◌, ◌≤◌, Bool, true, false, if◌then◌else◌, List, [], ◌∷◌, ◌++◌, length, map, get_or, codes, refl, ◌∙◌, ap, arith}
+use Rattle.std.specs.{Prelude.{Option, None, Some}, Str.bytes_eq, List.{All, flat_map, list_any}}
+use Rattle.std.proofs.lemmas.{Bool.{or_left, or_right}, Grind.flat_map-append}
+use Rattle.std.proofs.lemmas.List.Elements.{All-nil, All-cons, All-append, All-map, All-weaker, All-head, All-tail, All-from_get_or}
+use Rattle.std.proofs.lemmas.{List.Folds.{list_any-append, list_any_at}, Slice.Eq.bytes_eq-Decides}
 use Rattle.mpf_sections.specs.Rows.{Entry, Player, BlockEvents, Flipper, VariableItem, VariablePlayer, Shot, ShotGroup, BallDevice, ModeSettings, SectionRows, Written}
 use Rattle.mpf_config.specs.Rows.{Rows}
-use Rattle.mpf_sections.specs.Typed.{switches_name, event_player_name, counters_name, accruals_name, sequences_name, timers_name, switch_of, event_player_of, counter_of, step_block_of, timer_of}
-use Rattle.mpf_sections.specs.TypedSaves.{ball_saves_name, multiballs_name, ball_save_of, multiball_of}
+use Rattle.mpf_sections.specs.Typed.{switches_name, event_player_name, switch_of, event_player_of}
 use Rattle.mpf_sections.specs.TypedCoils.{coils_name, coil_player_name, flippers_name, autofire_coils_name, coil_of, coil_player_of, flipper_of}
 use Rattle.mpf_sections.specs.TypedGame.{variable_player_name, game_name, variable_player_of, game_of, min_balls_of}
 use Rattle.mpf_sections.proofs.GameRows.{game_in_range, min_balls_few}
-use Rattle.machine_definitions.specs.GameEvents.{game_event_names}
-use Rattle.machine_definitions.specs.Players.{player_event}
-use Rattle.plan_rows.specs.declared.place.Place.{Place}
-use Rattle.plan_rows.specs.declared.place.Place.TheVariants.{Machine, Control, Mode}
-use Rattle.plan_contributions.specs.declared.contribution.Aim.TheVariants.{Run}
+use Rattle.machine_definitions.specs.{GameEvents.game_event_names, Players.player_event, Shots.Profile}
+use Rattle.plan_rows.specs.declared.{place.Place.{Place, TheVariants.Machine}, destination.Destination.Destination}
 use Rattle.plan_tables.specs.declared.table.Table.TheVariants.{Events}
-use Rattle.row_contributions.specs.VariableEntries.{item_change}
-use Rattle.row_contributions.specs.DeviceEntries.{texts, Device, device_of, block_event, block_lists, or_own, timer_event, timer_endings}
+use Rattle.row_contributions.specs.DeviceEntries.{Device, device_of, block_lists, timer_event}
 use Rattle.plan_contributions.specs.Effects.{disable, Effect, posts, works, changes, enters, leaves, loses, arrives, requests, adds_balls}
-use Rattle.machine_definitions.specs.Shots.{Profile}
-use Rattle.row_contributions.specs.ShotEntries.{shot_events, shot_lists, group_events, state_lists, group_lists, shot_acts, lone_device, group_device}
-use Rattle.row_contributions.specs.BallEntries.{eject_pulse, ball_lists, is_known, ball_device_from}
-use Rattle.plan_rows.specs.declared.destination.Destination.{Destination}
-use Rattle.plan_rows.specs.Seats.{Seat}
-use Rattle.plan_rows.specs.Members.{Members}
-use Rattle.row_contributions.specs.CoilEntries.{flipper_on, flipper_off, flipper_device}
-use Rattle.row_contributions.specs.SaveEntries.{save_event, save_lists, multiball_event, multiball_lists, save_device_of}
+use Rattle.row_contributions.specs.ShotEntries.{shot_events, shot_lists, group_events, state_lists, group_lists, shot_acts, lone_device}
+use Rattle.row_contributions.specs.BallEntries.{ball_lists, is_known, ball_device_from}
+use Rattle.plan_rows.specs.{Seats.Seat, Members.Members}
+use Rattle.row_contributions.specs.{CoilEntries.{flipper_off, flipper_device}, Facts.AreRules}
+use Rattle.row_contributions.specs.SaveEntries.{save_lists, multiball_lists, save_device_of}
 use Rattle.plan_contributions.specs.Contributions.{Contribution, device, does, does_in, mentions, coil, plays, mode}
-use Rattle.row_contributions.specs.Contributions.{bound, switch_contributions, player_contributions, coil_contributions, coil_player_contributions, item_contributions, variable_player_contributions, game_contributions, later_events, controls, mode_contributions, act_binding, effects_from, listens_from, device_contributions, where_device, unknown_unless, shot_switch, act_at, seated, shot_contributions, group_contributions, ball_device_contributions, machine_device, machine_entry_contributions, entry_contributions, alone_contributions, player_entry_contributions, row_contributions, given_by, contributions_of}
+use Rattle.row_contributions.specs.Contributions.{switch_contributions, player_contributions, coil_contributions, coil_player_contributions, item_contributions, variable_player_contributions, game_contributions, later_events, mode_contributions, act_binding, effects_from, listens_from, device_contributions, where_device, unknown_unless, shot_switch, act_at, seated, shot_contributions, group_contributions, ball_device_contributions, machine_device, machine_entry_contributions, entry_contributions, alone_contributions, player_entry_contributions, row_contributions, given_by, contributions_of}
 use Rattle.plan_rows.specs.Rows.{Row, entry, alone, shot, group, ball_device, player, of_mode, rows_of}
-use Rattle.plan_contributions.specs.UsedNames.{used, name_in_table, uses}
-use Rattle.row_contributions.specs.Facts.{AreRules}
+use Rattle.plan_contributions.specs.UsedNames.{uses}
 use Rattle.row_contributions.proofs.RowFacts.{All-listens, All-made}
-use Rattle.mpf_plan.specs.Uses.{names_from, number_among}
-use Rattle.mpf_plan.proofs.Among.{place_within}
-use Rattle.mpf_plan.proofs.Lacking.{any_first}
+use Rattle.mpf_plan.{specs.Uses.{names_from, number_among}, proofs.{Among.place_within, Lacking.any_first}}
 use Rattle.mpf_plan.proofs.Usual.{IsUsual, of_switch, of_bound, of_player, of_coil_player, of_device, of_unknown, of_shot_switch, of_acts_at, of_controls}
-use Rattle.section_tables.specs.Rows.{number, one}
 
 -- what happens with balls is in one of seven lists
 abbrev pub IsLow : ℕ → Effect → Type 0
@@ -67,8 +51,7 @@ module _ (Q : List ℕ → Type 0) where
 
 module _ (Q R : List ℕ → Type 0) (weaker : (n : List ℕ) → Q n → R n) where
   effect_weaker : (e : Effect) → IsReadyEffect Q e → IsReadyEffect R e
-  effect_weaker (changes v action n) is = weaker (player_event v) is
-  effect_weaker _ is = tt
+  effect_weaker x1 is = search rules
 
   pub ready_weaker : (c : Contribution) → IsReady Q c → IsReady R c
   ready_weaker (does e) is = effect_weaker e is
@@ -87,27 +70,11 @@ IsUsed cs n = IsAmong (uses Events cs) n
 abbrev AreReady : List Contribution → Type 0
 AreReady cs = All (IsReady (IsUsed cs)) cs
 
-uses_append : (cs ds : List Contribution) → uses Events (cs ++ ds) ≡ uses Events cs ++ uses Events ds
-uses_append cs ds = flat_map-append (λ c. name_in_table Events (used c)) cs ds
-
 used_left : (cs ds : List Contribution) (n : List ℕ) → IsUsed cs n → IsUsed (cs ++ ds) n
-used_left cs ds n is =
-    ap (list_any (bytes_eq n)) (uses_append cs ds)
-    ∙ list_any-append (bytes_eq n) (uses Events cs) (uses Events ds)
-    ∙ or_left (list_any (bytes_eq n) (uses Events cs)) (list_any (bytes_eq n) (uses Events ds)) is
-
-used_right : (cs ds : List Contribution) (n : List ℕ) → IsUsed ds n → IsUsed (cs ++ ds) n
-used_right cs ds n is =
-    ap (list_any (bytes_eq n)) (uses_append cs ds)
-    ∙ list_any-append (bytes_eq n) (uses Events cs) (uses Events ds)
-    ∙ or_right (list_any (bytes_eq n) (uses Events cs)) (list_any (bytes_eq n) (uses Events ds)) is
+used_left cs ds n is = search (rules, flat_map-append, list_any-append, or_left)
 
 both : (cs ds : List Contribution) → AreReady cs → AreReady ds → AreReady (cs ++ ds)
-both cs ds a b =
-    let all = IsUsed (cs ++ ds) in
-    All-append (IsReady all) cs ds
-    (All-weaker (IsReady (IsUsed cs)) (IsReady all) (ready_weaker (IsUsed cs) all (used_left cs ds)) cs a)
-    (All-weaker (IsReady (IsUsed ds)) (IsReady all) (ready_weaker (IsUsed ds) all (used_right cs ds)) ds b)
+both cs ds a b = search (rules, All-append, All-weaker, ready_weaker, used_left, flat_map-append, list_any-append, or_right)
 
 -- ---- contributions that speak of no such event, nor of balls
 
@@ -128,40 +95,16 @@ plain_ready : (cs : List Contribution) → All IsPlain cs → AreReady cs
 plain_ready cs plain = All-weaker IsPlain (IsReady (IsUsed cs)) by cs plain
   where
     effect : (e : Effect) → IsPlainEffect e → IsReadyEffect (IsUsed cs) e
-    effect (posts n) is = tt
-    effect (works n deed) is = tt
-    effect (requests n) is = tt
-    effect (adds_balls n) is = tt
-    effect _ is = absurd is
+    effect x1 is = search rules
 
     low : (k : ℕ) (e : Effect) → IsPlainEffect e → IsLow k e
-    low k (posts n) is = tt
-    low k (works n deed) is = tt
-    low k (requests n) is = tt
-    low k (adds_balls n) is = tt
-    low k _ is = absurd is
+    low k x2 is = search rules
 
     by : (c : Contribution) → IsPlain c → IsReady (IsUsed cs) c
-    by (does e) is = effect e is
-    by (does_in k e) is = (effect e is, low k e is)
-    by (plays min_balls balls_per_game max_players) is = absurd is
-    by _ is = tt
+    by x1 is = search rules
 
 usual_plain : IsUsual IsPlain IsPlainEffect
-usual_plain = record {
-  given = λ n. tt;
-  read = λ kind confirms. tt;
-  on = λ n. tt;
-  off = λ n. tt;
-  bindings = λ n place aim. tt;
-  conditions = λ c. tt;
-  mentioned = λ t n. tt;
-  lacking = tt;
-  done = λ e h. h;
-  done_in = λ k e h. h;
-  posted = λ n. tt;
-  worked = λ n deed. tt;
-}
+usual_plain = search rules
 
 -- ---- devices change no variables, and but for ball devices nothing happens with balls by them
 
@@ -185,12 +128,7 @@ all_posts [] = no_effects
 all_posts (n ∷ ns) = All-cons IsPlainEffect (posts n) (map posts ns) tt (all_posts ns)
 
 of_block : (name : List ℕ) (b : BlockEvents) → ArePlain (block_lists name b)
-of_block name b =
-    let own = posts (block_event name (codes "_updated")) in
-    let hit = or_own b.hit (block_event name (codes "_hit")) in
-    let complete = or_own b.complete (block_event name (codes "_complete")) in
-    list_then (own ∷ []) (map posts hit ∷ map posts complete ∷ []) (one_effect own tt)
-    (list_then (map posts hit) (map posts complete ∷ []) (all_posts hit) (one_list (map posts complete) (all_posts complete)))
+of_block name b = search (rules, list_then, one_effect, all_posts, one_list)
 
 of_timer : (name : List ℕ) (endings : List (List ℕ)) → ArePlain (map (λ ending. posts (timer_event name ending) ∷ []) endings)
 of_timer name [] = All-nil (All IsPlainEffect)
@@ -201,48 +139,27 @@ IsPlainDevice None = Unit {0}
 IsPlainDevice (Some d) = ArePlain d.lists
 
 when : (b : Bool) (o p : Option Device) → IsPlainDevice o → IsPlainDevice p → IsPlainDevice (if b then o else p)
-when true o p h k = h
-when false o p h k = k
+when x1 o p h k = search rules
 
 of_save : (name : List ℕ) → ArePlain (save_lists name)
-of_save name =
-    let asking = posts (save_event name (codes "_saving_ball")) ∷ requests 1 ∷ [] in
-    let disabled = posts (save_event name (codes "_disabled")) in
-    list_then (posts (save_event name (codes "_enabled")) ∷ []) ((disabled ∷ []) ∷ asking ∷ []) (one_effect (posts (save_event name (codes "_enabled"))) tt)
-    (list_then (disabled ∷ []) (asking ∷ []) (one_effect disabled tt)
-    (one_list asking (All-cons IsPlainEffect (posts (save_event name (codes "_saving_ball"))) (requests 1 ∷ []) tt (one_effect (requests 1) tt))))
+of_save name = search rules
 
 of_multiball : (name : List ℕ) (balls : ℕ) → ArePlain (multiball_lists name balls)
-of_multiball name balls =
-    let started = posts (multiball_event name (codes "_started")) in
-    let ended = posts (multiball_event name (codes "_ended")) in
-    list_then (started ∷ adds_balls balls ∷ []) ((ended ∷ []) ∷ []) (All-cons IsPlainEffect started (adds_balls balls ∷ []) tt (one_effect (adds_balls balls) tt))
-    (one_list (ended ∷ []) (one_effect ended tt))
+of_multiball name balls = search rules
 
 plain_save : (section : List ℕ) (e : Entry) → IsPlainDevice (save_device_of section e)
 unfolding save_device_of
-plain_save section e =
-    when (bytes_eq section ball_saves_name) _ _ (of_save (ball_save_of e).name.text)
-    (when (bytes_eq section multiballs_name) _ None (of_multiball (multiball_of e).name.text (multiball_of e).settings.balls) tt)
+plain_save section e = search rules
 
 plain_device : (section : List ℕ) (e : Entry) → IsPlainDevice (device_of section e)
 unfolding device_of
-plain_device section e =
-    let steps = of_block (step_block_of e).name.text (step_block_of e).block in
-    when (bytes_eq section counters_name) _ _ (of_block (counter_of e).name.text (counter_of e).block)
-    (when (bytes_eq section accruals_name) _ _ steps
-    (when (bytes_eq section sequences_name) _ _ steps (when (bytes_eq section timers_name) _ _ (of_timer (timer_of e).name.text timer_endings) (plain_save section e))))
-
-plain_on : (machine : List SectionRows) (main : Written) (hold : Option Written) → All IsPlainEffect (flipper_on machine main hold)
-plain_on machine main None = one_effect (works _ _) tt
-plain_on machine main (Some hold) = All-cons IsPlainEffect (works _ _) (works _ _ ∷ []) tt (one_effect (works _ _) tt)
+plain_device section e = search (rules, of_block, when, of_timer, plain_save)
 
 plain_off : (machine : List SectionRows) (main : Written) (hold : Option Written) → All IsPlainEffect (flipper_off machine main hold)
 plain_off machine main None = by _
   where
     by : (b : Bool) → All IsPlainEffect (if b then works main.text disable ∷ [] else [])
-    by true = one_effect (works main.text disable) tt
-    by false = no_effects
+    by x1 = search rules
 plain_off machine main (Some hold) = one_effect (works _ _) tt
 
 plain_machine_device : (machine : List SectionRows) (section : List ℕ) (e : Entry) → IsPlainDevice (machine_device machine section e)
@@ -250,9 +167,7 @@ plain_machine_device machine section e =
     when (bytes_eq section flippers_name) _ _ (flipper (flipper_of e)) (when (bytes_eq section autofire_coils_name) _ _ (one_list _ (one_effect (works _ _) tt)) (plain_device section e))
   where
     flipper : (f : Flipper) → ArePlain (flipper_device machine f).lists
-    flipper f =
-        list_then (flipper_on machine f.main_coil f.hold_coil) (flipper_off machine f.main_coil f.hold_coil ∷ []) (plain_on machine f.main_coil f.hold_coil)
-        (one_list (flipper_off machine f.main_coil f.hold_coil) (plain_off machine f.main_coil f.hold_coil))
+    flipper f = search rules
 
 ready_device : (place : Place) (d : Device) → ArePlain d.lists → AreReady (device_contributions place d)
 unfolding device_contributions
@@ -263,8 +178,7 @@ ready_device place d each =
     (All-append IsPlain (listens_from 0 d.listens) rest (All-listens IsPlain (λ n. Unit {0}) (λ k n h. tt) 0 d.listens (λ i n within. tt)) (of_device IsPlain IsPlainEffect usual_plain place d each)))
 
 ready_where : (place : Place) (o : Option Device) → IsPlainDevice o → AreReady (where_device place o)
-ready_where place None plain = All-nil (IsReady (IsUsed []))
-ready_where place (Some d) plain = ready_device place d plain
+ready_where place x2 plain = search (rules, All-nil, ready_device)
 
 -- ---- shots and groups
 
@@ -300,9 +214,7 @@ ready_shot place s seat known p =
 
 ready_group : (place : Place) (g : ShotGroup) (m : Members) → AreReady (group_contributions place g m)
 unfolding group_contributions
-ready_group place g m =
-    both (unknown_unless m.all_known) (device_contributions place (group_device g m)) (ready_unknown m.all_known)
-    (ready_device place (group_device g m) (plain_group m.profile g.name.text (texts g.shots)))
+ready_group place g m = search (rules, both, ready_unknown, ready_device, plain_group)
 
 -- ---- ball devices
 
@@ -312,16 +224,10 @@ IsSteady (changes v action n) = ⊥
 IsSteady _ = Unit {0}
 
 steady_ready : (Q : List ℕ → Type 0) (e : Effect) → IsSteady e → IsReadyEffect Q e
-steady_ready Q (changes v action n) is = absurd is
-steady_ready Q _ is = tt
+steady_ready Q x2 is = search rules
 
 low_list : (k : ℕ) (e : Effect) → k < 7 → IsLow k e
-low_list k (posts n) low = tt
-low_list k (works n deed) low = tt
-low_list k (changes v action n) low = tt
-low_list k (requests n) low = tt
-low_list k (adds_balls n) low = tt
-low_list k _ low = low
+low_list k x2 low = search rules
 
 -- seven lists at most
 ready_lists : (Q : List ℕ → Type 0) (k : ℕ) (ls : List (List Effect)) → k + length ls ≤ 7 → All (All IsSteady) ls → All (IsReady Q) (effects_from k ls)
@@ -332,22 +238,8 @@ ready_lists Q k (es ∷ rest) few each =
     (All-map (IsReady Q) (does_in k) es (λ i d within. (steady_ready Q (get_or es i d) (here i d within), low_list k (get_or es i d) (omega (arith, few)))))
     (ready_lists Q (suc k) rest (omega (arith, few)) (All-tail (All IsSteady) es rest each))
 
-steady_list : (e : Effect) → IsSteady e → All IsSteady (e ∷ [])
-steady_list e is = All-cons IsSteady e [] is (All-nil IsSteady)
-
-steady_pulse : (machine : List SectionRows) (o : Option Written) → All IsSteady (eject_pulse machine o)
-steady_pulse machine None = All-nil IsSteady
-steady_pulse machine (Some w) = steady_list (works _ _) tt
-
 steady_ball : (machine : List SectionRows) (d : BallDevice) → All (All IsSteady) (ball_lists machine d)
-steady_ball machine d =
-    All-from_recursion (All IsSteady) (ball_lists machine d) (
-      steady_list (enters _ _) tt,
-      (
-        All-cons IsSteady (posts _) (posts _ ∷ eject_pulse machine d.eject_coil) tt (All-cons IsSteady (posts _) (eject_pulse machine d.eject_coil) tt (steady_pulse machine d.eject_coil)),
-        (steady_list leaves tt, (steady_list loses tt, (steady_list (posts _) tt, (steady_list arrives tt, (steady_list (posts _) tt, tt))))),
-      ),
-    )
+steady_ball machine d = search rules
 
 ready_ball_device : (machine : List SectionRows) (d : BallDevice) (to : Destination) → AreReady (ball_device_contributions machine d to)
 unfolding ball_device_contributions device_contributions
@@ -366,15 +258,7 @@ ready_ball_device machine d to =
 -- ---- the game
 
 rules_within : (machine : List SectionRows) (e : Entry) → AreRules (min_balls_of machine) (game_of e).balls_per_game (game_of e).max_players
-rules_within machine e =
-    let game = game_in_range e in
-    record {
-      min_balls_within = min_balls_few machine;
-      some_ball = game.some_balls;
-      balls = game.few_balls;
-      some_player = game.some_players;
-      players = game.few_players;
-    }
+rules_within machine e = search (rules, game_in_range, min_balls_few)
 
 mentioned_uses : (ns : List (List ℕ)) → uses Events (map (mentions Events) ns) ≡ ns
 mentioned_uses [] = refl
@@ -392,20 +276,12 @@ all_used ns rest =
 
 ready_game : (machine : List SectionRows) (e : Entry) → AreReady (game_contributions machine (game_of e))
 unfolding game_contributions
-ready_game machine e =
-    let rules = plays (min_balls_of machine) (game_of e).balls_per_game (game_of e).max_players in
-    let named = map (mentions Events) game_event_names in
-    let all = IsReady (IsUsed (named ++ rules ∷ [])) in
-    All-append all named (rules ∷ []) (All-made all (mentions Events) (λ n. tt) game_event_names) (All-cons all rules [] (all_used game_event_names (rules ∷ []), rules_within machine e) (All-nil all))
+ready_game machine e = search (rules, All-append, All-made, All-cons, all_used, rules_within, All-nil)
 
 -- ---- variables
 
 ready_item : (item : VariableItem) → AreReady (item_contributions item)
-ready_item item =
-    let name = player_event item.variable.text in
-    let change = does (item_change item) in
-    let all = IsReady (IsUsed (mentions Events name ∷ change ∷ [])) in
-    All-cons all (mentions Events name) (change ∷ []) tt (All-cons all change [] (used_left (mentions Events name ∷ []) (change ∷ []) name (ap (λ b. b || false) (same_bytes name))) (All-nil all))
+ready_item item = search rules
 
 ready_items : (items : List VariableItem) → AreReady (flat_map item_contributions items)
 ready_items [] = All-nil (IsReady (IsUsed []))
@@ -413,9 +289,7 @@ ready_items (i ∷ is) = both (item_contributions i) (flat_map item_contribution
 
 ready_variable_player : (place : Place) (p : VariablePlayer) → AreReady (variable_player_contributions place p)
 unfolding variable_player_contributions
-ready_variable_player place p =
-    let binding = bound p.event.event place Run in
-    both binding (flat_map item_contributions p.items) (plain_ready binding (of_bound IsPlain IsPlainEffect usual_plain p.event.event place Run)) (ready_items p.items)
+ready_variable_player place p = search (rules, both, plain_ready, of_bound, usual_plain, ready_items)
 
 -- ---- rows
 
@@ -430,17 +304,14 @@ ready_machine_entry machine section e = by (bytes_eq section coils_name) (bytes_
 
 ready_entry : (machine : List SectionRows) (place : Place) (section : List ℕ) (e : Entry) → AreReady (entry_contributions machine place section e)
 unfolding entry_contributions
-ready_entry machine Machine section e = ready_machine_entry machine section e
-ready_entry machine Control section e = ready_where Control (device_of section e) (plain_device section e)
-ready_entry machine Mode section e = ready_where Mode (device_of section e) (plain_device section e)
+ready_entry machine x2 section e = search (rules, ready_machine_entry, ready_where, plain_device)
 
 ready_alone : (machine : List SectionRows) (place : Place) (section : List ℕ) (e : Entry) → AreReady (alone_contributions machine place section e)
 unfolding alone_contributions
 ready_alone machine Machine section e = by (bytes_eq section game_name)
   where
     by : (b : Bool) → AreReady (if b then game_contributions machine (game_of e) else [])
-    by true = ready_game machine e
-    by false = All-nil (IsReady (IsUsed []))
+    by x1 = search (rules, ready_game, All-nil)
 ready_alone machine _ section e = All-nil (IsReady (IsUsed []))
 
 ready_player_entry : (machine : List SectionRows) (place : Place) (section : List ℕ) (p : Player) → AreReady (player_entry_contributions machine place section p)
@@ -454,8 +325,7 @@ ready_player_entry machine place section p = by (bytes_eq section event_player_n
     by false false false = All-nil (IsReady (IsUsed []))
 
 events_plain : (name : List ℕ) (s : ModeSettings) → All IsPlain (mode name s.priority s.game s.holds_ball_end ∷ later_events name)
-events_plain name s (suc (suc (suc (suc (suc i))))) d within = absurd (omega (arith, within))
-events_plain name s _ d within = tt
+events_plain name s x3 d within = search rules
 
 ready_row : (machine : List SectionRows) (r : Row) → AreReady (row_contributions machine r)
 unfolding mode_contributions
@@ -465,9 +335,7 @@ ready_row machine (shot place s seat known p) = ready_shot place s seat known p
 ready_row machine (group place g m) = ready_group place g m
 ready_row machine (ball_device d to) = ready_ball_device machine d to
 ready_row machine (player place section p) = ready_player_entry machine place section p
-ready_row machine (of_mode name s) =
-    let first = mode name s.priority s.game s.holds_ball_end ∷ later_events name in
-    both first (controls s) (plain_ready first (events_plain name s)) (plain_ready (controls s) (of_controls IsPlain IsPlainEffect usual_plain s))
+ready_row machine (of_mode name s) = search (rules, both, plain_ready, events_plain, of_controls, usual_plain)
 
 rows_ready : (machine : List SectionRows) (rs : List Row) → AreReady (given_by machine rs)
 rows_ready machine [] = All-nil (IsReady (IsUsed []))

@@ -1,32 +1,19 @@
 -- The effect lists of ball devices alone have to do with balls, each as it has to. Here `lists` are those of a plan that is
 -- being made, and `firsts` are the first lists of its rows.
-use Rattle.std.proofs.Common.{◌≡◌, ℕ, suc, ◌+◌, ◌-◌, ◌<◌, ◌≤◌, ◌==◌, ◌⊎◌, inl, inr, if◌then◌else◌, Bool, true, false, List, [], ◌∷◌, ◌++◌, length, map, set, get_or, replicate, refl, sym, ◌∙◌, ap, subst, arith, length-append}
-use Rattle.std.specs.Prelude.{Option, None, Some}
-use Rattle.std.specs.List.{All}
-use Rattle.std.proofs.lemmas.Bool.{cases_lt, eqb-true, eqb-false}
+use Rattle.std.proofs.Common.{rules, ◌≡◌, ℕ, suc, ◌+◌, ◌-◌, ◌<◌, ◌≤◌, ◌==◌, ◌⊎◌, inl, inr, if◌then◌else◌, Bool, true, false, List, [], ◌∷◌, ◌++◌, length, map, set, get_or, replicate, refl, sym, ◌∙◌, ap, subst, arith, length-append}
+use Rattle.std.{specs.{Prelude.{Option, None, Some}, List.All}, proofs.lemmas.Bool.{cases_lt, eqb-true, eqb-false}}
 use Rattle.std.proofs.lemmas.List.{get_or_append_left, get_or_push, get_or-set_same, get_or-set_other, length_push, length-set, map-append, get_or_past}
 use Rattle.std.proofs.lemmas.List.Elements.{All-nil, All-push, All-map, All-weaker, All-replicate}
-use Rattle.plan_tables.specs.Devices.{list_count}
-use Rattle.plan_tables.specs.declared.devices.DeviceRow.{DeviceRow}
-use Rattle.plan_tables.specs.declared.devices.RowId.{RowId}
-use Rattle.plan_tables.specs.declared.devices.Settings.{Settings}
+use Rattle.plan_tables.specs.{Devices.list_count, PlanView.no_row, BallRows.{BooksNothing, IsPlain, BooksRightly}}
+use Rattle.plan_tables.specs.declared.devices.{DeviceRow.DeviceRow, RowId.RowId, Settings.Settings}
 use Rattle.plan_tables.specs.declared.devices.Settings.TheVariants as kinds
-use Rattle.plan_tables.specs.declared.entries.Action.{Action}
-use Rattle.plan_tables.specs.declared.entries.Binding.{Binding}
-use Rattle.plan_tables.specs.declared.entries.ListId.{ListId}
-use Rattle.plan_tables.specs.declared.entries.Target.{Target}
-use Rattle.plan_tables.specs.declared.entries.Target.TheVariants.{Run}
-use Rattle.plan_tables.specs.declared.table.Table.TheVariants.{Events}
-use Rattle.plan_tables.specs.PlanView.{no_row}
+use Rattle.plan_tables.specs.declared.entries.{Action.Action, Binding.Binding, ListId.ListId}
+use Rattle.plan_tables.specs.declared.{entries.Target.{Target, TheVariants.Run}, table.Table.TheVariants.Events}
 use Rattle.plan_contributions.specs.Effects.{pulse, enable, disable, Effect, posts, works, changes, requests, adds_balls}
 use Rattle.row_contributions.specs.BallFacts.{IsOfNoBall, IsBallFree, IsRightRow, LastRow, first_row, with_switch, with_effect, IsRight}
 use Rattle.plan_rows.specs.declared.place.Place.{Place}
-use Rattle.plan_tables.specs.BallRows.{BooksNothing, IsPlain, BooksRightly}
-use Rattle.mpf_plan.specs.Uses.{Names}
-use Rattle.mpf_plan.specs.Filling.{with_one_more}
-use Rattle.mpf_plan.specs.ByNumber.{event_of, action_of, first_of_last}
-use Rattle.mpf_plan.proofs.Steps.{All-changed, blank_end}
-use Rattle.mpf_plan.proofs.Drafted.{lists_begun}
+use Rattle.mpf_plan.specs.{Uses.Names, Filling.with_one_more, ByNumber.{event_of, action_of, first_of_last}}
+use Rattle.mpf_plan.proofs.{Steps.{All-changed, blank_end}, Drafted.lists_begun}
 
 -- ---- actions
 
@@ -74,18 +61,7 @@ right_made names r place _ done is = λ k within. no_balls names r (done k) (is 
 
 -- the same lists are right
 same_right : (r : RowId) (settings : Settings) (old new : ℕ → List Action) → ((k : ℕ) → k < list_count settings → new k ≡ old k) → BooksRightly r settings old → BooksRightly r settings new
-same_right r (kinds.BallDevice d) old new same h = record {
-  event = h.event;
-  drain = h.drain;
-  entered = same 0 (omega arith) ∙ h.entered;
-  attempted = subst (All IsPlain) (sym (same 1 (omega arith))) h.attempted;
-  left = same 2 (omega arith) ∙ h.left;
-  lost = same 3 (omega arith) ∙ h.lost;
-  succeeded = subst (All IsPlain) (sym (same 4 (omega arith))) h.succeeded;
-  arrived = same 5 (omega arith) ∙ h.arrived;
-  failed = subst (All IsPlain) (sym (same 6 (omega arith))) h.failed;
-}
-same_right r _ old new same h = λ k within. subst (All BooksNothing) (sym (same k within)) (h k within)
+same_right r x2 old new same h = search rules
 
 -- ---- the lists of a plan that is being made
 
@@ -149,24 +125,17 @@ module _ (names : Names) where
 
     -- ---- lists that change, but for those of rows
 
-    run_kept : (new : List (List Action)) → length lists ≤ length new → ((i : ℕ) → i < length lists → (i < first) ⊎ (end ≤ i) → All BooksNothing (get_or lists i []) → All BooksNothing (get_or new i []))
-        → (t : Target) → IsRunOfNone first end lists t → IsRunOfNone first end new t
-    run_kept new more keeps (Run l) h = let within = h.0 in (omega (arith, within, more), h.1, keeps l.0 within h.1 h.2)
-    run_kept new more keeps _ h = tt
-
     earlier_kept : (new : List (List Action)) → ((i : ℕ) → i < first → get_or new i [] ≡ get_or lists i []) → (r : ℕ) → suc r < length rows → IsMadeRow rows firsts new first r
     earlier_kept new same r within =
         let h = made.earlier r within in
         let before = h.before in
         record {
           before = before;
-          right = same_right (record { 0 = r }) (settings_at rows r) (λ k. get_or lists (first_at firsts r + k) []) (λ k. get_or new (first_at firsts r + k) [])
-              (λ k below. same (first_at firsts r + k) (omega (arith, before, below))) h.right;
+          right = search rules;
         }
 
     done_kept : (r : RowId) (new : List (List Action)) (o : Option LastRow) → ((i : ℕ) → i < first + count_of o → get_or new i [] ≡ get_or lists i []) → IsDoneBy r first lists o → IsDoneBy r first new o
-    done_kept r new None same h = tt
-    done_kept r new (Some x) same h = λ k below. same (first + k) (omega (arith, below)) ∙ h k below
+    done_kept r new x3 same h = search rules
 
     kept : (m : ℕ) (new : List (List Action)) → length lists ≤ length new → ((i : ℕ) → i < end → get_or new i [] ≡ get_or lists i []) → (m < 1024 → end < length new)
         → ((i : ℕ) → i < length lists → All BooksNothing (get_or lists i []) → All BooksNothing (get_or new i [])) → AreMade m o rows firsts new bindings
@@ -175,8 +144,7 @@ module _ (names : Names) where
       last = made.last;
       ends = omega (arith, made.ends, more);
       opened = opened;
-      runs = All-weaker (λ b. IsRunOfNone first end lists b.target) (λ b. IsRunOfNone first end new b.target)
-          (λ b. run_kept new more (λ i within out. keeps i within) b.target) bindings made.runs;
+      runs = search rules;
       earlier = earlier_kept new (λ i below. same i (omega (arith, below)));
       done = done_kept (last_of rows) new o same made.done;
     }
@@ -265,17 +233,11 @@ module _ (names : Names) where
           let its : settings_at rows_then r ≡ settings_at rows r = ap (λ (x : DeviceRow). x.settings) (get_or_append_left rows (row ∷ []) no_row r within) in
           record {
             before = omega (arith, own, few, begin, ap list_count its);
-            right = subst (λ s. BooksRightly (record { 0 = r }) s (λ k. get_or lists_then (first_at firsts_then r + k) [])) (sym its)
-                (same_right (record { 0 = r }) (settings_at rows r) (λ k. get_or lists (first_at firsts r + k) []) (λ k. get_or lists_then (first_at firsts_then r + k) [])
-                (λ k below. ap (λ i. get_or lists_then (i + k) []) begin ∙ get_or_append_left lists (replicate (list_count settings) []) [] (first_at firsts r + k) (omega (arith, own, below, few)))
-                h.right);
+            right = search (rules, get_or, same_right, begin, get_or_append_left);
           }
 
       run_then : (t : Target) → IsRunOfNone first end lists t → IsRunOfNone (length lists) (length lists + list_count settings) lists_then t
-      run_then (Run l) h =
-          let within = h.0 in
-          (omega (arith, within, length-append lists (replicate (list_count settings) [])), inl within, subst (All BooksNothing) (sym (get_or_append_left lists (replicate (list_count settings) []) [] l.0 within)) h.2)
-      run_then _ h = tt
+      run_then x1 h = search (rules, length-append, get_or_append_left)
 
       pub made_device : IsRight o → AreMade 1024 (Some (first_row place settings)) rows_then firsts_then lists_then bindings
       made_device right = record {
@@ -283,8 +245,7 @@ module _ (names : Names) where
         last = (omega (arith, longer), ap (λ (x : DeviceRow). x.settings) (get_or_push rows row no_row (length rows_then - 1) (omega (arith, longer))) ∙ row_is);
         ends = omega (arith, begin, begun);
         opened = λ few. absurd (omega (arith, few));
-        runs = subst (λ f. All (λ b. IsRunOfNone f (f + list_count settings) lists_then b.target) bindings) (sym begin)
-            (All-weaker (λ b. IsRunOfNone first end lists b.target) (λ b. IsRunOfNone (length lists) (length lists + list_count settings) lists_then b.target) (λ b. run_then b.target) bindings made.runs);
+        runs = search (rules, begin, All-weaker, run_then);
         earlier = λ r within. subst (λ f. IsMadeRow rows_then firsts_then lists_then f r) (sym begin) (by r (omega (arith, within, longer)) (cases_lt (suc r) (length rows)));
         done = λ k below. ap (λ f. get_or lists_then (f + k) []) begin ∙ nothing k;
       }
@@ -335,8 +296,7 @@ module _ (names : Names) where
       last = made.last;
       ends = omega (arith, made.ends, count);
       opened = λ few. absurd (omega (arith, few));
-      runs = All-weaker (λ b. IsRunOfNone begin (begin + list_count x.settings) lists b.target) (λ b. IsRunOfNone begin (begin + list_count x.settings) new b.target)
-          (λ b. run_kept n (Some x) rows firsts lists bindings made new (omega (arith, count)) (λ i within out all. subst (All BooksNothing) (sym (get_or-set_other lists at i more [] (apart i out))) all) b.target) bindings made.runs;
+      runs = search rules;
       earlier = earlier_kept n (Some x) rows firsts lists bindings made new (λ i before. get_or-set_other lists at i more [] (λ same. omega (arith, same, before)));
       done = λ j within. by j within (j == k) refl;
     }
@@ -372,19 +332,7 @@ module _ (names : Names) where
 
     -- one that comes into none of its lists
     pub made_besides : (k : ℕ) (e : Effect) → list_count x.settings ≤ k → AreMade n (Some (with_effect k e x)) rows firsts lists bindings
-    made_besides k e from = record {
-      count = made.count;
-      last = made.last;
-      ends = made.ends;
-      opened = made.opened;
-      runs = made.runs;
-      earlier = made.earlier;
-      done = λ j within. by j within (j == k) refl;
-    }
-      where
-        by : (j : ℕ) → j < list_count x.settings → (b : Bool) → (j == k) ≡ b → get_or lists (begin + j) [] ≡ map (action_of names (last_of rows)) (if b then x.done j ++ e ∷ [] else x.done j)
-        by j within true same = absurd (omega (arith, within, from, eqb-true j k same))
-        by j within false other = made.done j within
+    made_besides k e from = search rules
 
     -- it listens to a switch more
     pub made_heard : AreMade n (Some (with_switch x)) rows firsts lists bindings

@@ -1,28 +1,19 @@
 -- The owners of the rows of a plan, by contributions; and the rows on which something acts by their numbers.
-use Rattle.std.proofs.Common.{◌≡◌, ℕ, ◌-◌, ◌<◌, ◌≤◌, List, [], ◌∷◌, ◌++◌, length, map, fold, slice_index_or, refl, sym, ◌∙◌, ap, arith}
-use Rattle.std.specs.Prelude.{Some, slice_get}
-use Rattle.std.specs.Option.{option_map}
-use Rattle.std.specs.List.{All}
+use Rattle.std.proofs.Common.{rules, ◌≡◌, ℕ, ◌-◌, ◌<◌, ◌≤◌, List, [], ◌∷◌, ◌++◌, length, map, fold, slice_index_or, refl, sym, ◌∙◌, ap, arith}
+use Rattle.std.specs.{Prelude.{Some, slice_get}, Option.option_map, List.All}
 use Rattle.std.proofs.lemmas.List.{append-nil, append_assoc, map-append, length-map}
-use Rattle.std.proofs.lemmas.List.Elements.{All-nil, All-cons}
-use Rattle.std.proofs.lemmas.List.Sums.{sum_by-cons}
+use Rattle.std.proofs.lemmas.List.{Elements.{All-nil, All-cons}, Sums.sum_by-cons}
 use Rattle.std.proofs.lemmas.Option.{slice_get-map, slice_get_within, slice_get-get_or, same_Some}
-use Rattle.plan_tables.specs.declared.devices.DeviceRow.{DeviceRow}
-use Rattle.plan_tables.specs.declared.devices.Settings.{Settings}
-use Rattle.plan_tables.specs.declared.entries.Owner.{Owner}
+use Rattle.plan_tables.specs.declared.{devices.{DeviceRow.DeviceRow, Settings.Settings}, entries.Owner.Owner}
 use Rattle.plan_tables.specs.PlanView.{PlanView, no_row}
-use Rattle.plan_contributions.specs.declared.contribution.Aim.{Aim}
-use Rattle.plan_contributions.specs.declared.contribution.Aim.TheVariants.{On}
+use Rattle.plan_contributions.specs.declared.contribution.Aim.{Aim, TheVariants.On}
 use Rattle.plan_rows.specs.declared.place.Place.{Place}
-use Rattle.plan_contributions.specs.Contributions.{Contribution, gives, mode, mode_event, binds, device}
+use Rattle.plan_contributions.specs.Contributions.{Contribution, gives, binds, device}
 use Rattle.row_contributions.specs.BallFacts.{settings_given, row_settings}
 use Rattle.row_contributions.specs.Facts.{modes_after, row_place, row_places, IsAimed, AreAimed}
-use Rattle.mpf_plan.specs.Uses.{Names, number_among}
-use Rattle.mpf_plan.specs.PlanOf.{rows_given, row_count}
+use Rattle.mpf_plan.specs.{Uses.{Names, number_among}, PlanOf.{rows_given, row_count}}
 use Rattle.mpf_plan.specs.Filling.{DraftView, last_mode, next_row, with_contribution}
-use Rattle.mpf_plan.specs.ByNumber.{owner_at}
-use Rattle.mpf_plan.specs.Inside.{IsActNumbered}
-use Rattle.mpf_plan.proofs.Drafted.{given_plan, modes_one}
+use Rattle.mpf_plan.{specs.{ByNumber.owner_at, Inside.IsActNumbered}, proofs.Drafted.{given_plan, modes_one}}
 
 -- the owner of a row of this place, where so many modes have come
 abbrev pub owner_by : Place × ℕ → Owner
@@ -39,40 +30,22 @@ settings_of rows = map (λ (r : DeviceRow). r.settings) rows
 module _ (names : Names) where
   -- as many modes are there as have come
   pub modes_come : (n : ℕ) (d : DraftView) (c : Contribution) → n ≡ length d.plan.modes → modes_after n c ≡ length (with_contribution names d c).plan.modes
-  modes_come n d (mode x priority game holds) same = omega (arith, same, modes_one names d (mode x priority game holds))
-  modes_come n d (gives t x) same = omega (arith, same, modes_one names d (gives t x))
-  modes_come n d (mode_event which x) same = omega (arith, same, modes_one names d (mode_event which x))
-  modes_come n d _ same = same
+  modes_come n d x3 same = search (rules, modes_one)
 
   owners_one : (n : ℕ) (d : DraftView) (c : Contribution) → n ≡ length d.plan.modes → owners_of (with_contribution names d c).plan.rows ≡ owners_of d.plan.rows ++ map owner_by (row_place n c)
-  owners_one n d (gives t x) same = ap (λ p. owners_of p.rows) (given_plan t (number_among (names t) x) d) ∙ sym (append-nil (owners_of d.plan.rows))
-  owners_one n d (device place settings) same =
-      map-append (λ (r : DeviceRow). r.owner) d.plan.rows (next_row d.plan place settings ∷ [])
-      ∙ ap (λ m. owners_of d.plan.rows ++ owner_by (place, m) ∷ []) (sym same)
-  owners_one n d _ same = sym (append-nil (owners_of d.plan.rows))
+  owners_one n d x3 same = search (rules, given_plan, append-nil, map-append)
 
   pub owners_fold : (cs : List Contribution) (n : ℕ) (d : DraftView) → n ≡ length d.plan.modes → owners_of (fold (with_contribution names) d cs).plan.rows ≡ owners_of d.plan.rows ++ map owner_by (row_places n cs)
   owners_fold [] n d same = sym (append-nil (owners_of d.plan.rows))
-  owners_fold (c ∷ cs) n d same =
-      let here = map owner_by (row_place n c) in
-      let later = map owner_by (row_places (modes_after n c) cs) in
-      owners_fold cs (modes_after n c) (with_contribution names d c) (modes_come n d c same)
-      ∙ ap (λ l. l ++ later) (owners_one n d c same)
-      ∙ append_assoc (owners_of d.plan.rows) here later
-      ∙ ap (λ l. owners_of d.plan.rows ++ l) (sym (map-append owner_by (row_place n c) (row_places (modes_after n c) cs)))
+  owners_fold (c ∷ cs) n d same = search (rules, modes_come, owners_one, append_assoc, map-append, owners_fold cs (modes_after n c) (with_contribution names d c) (modes_come n d c same))
 
   -- the rows have the settings that contributions give
   settings_one : (d : DraftView) (c : Contribution) → settings_of (with_contribution names d c).plan.rows ≡ settings_of d.plan.rows ++ settings_given c
-  settings_one d (gives t n) = ap (λ p. settings_of p.rows) (given_plan t (number_among (names t) n) d) ∙ sym (append-nil (settings_of d.plan.rows))
-  settings_one d (device place settings) = map-append (λ (r : DeviceRow). r.settings) d.plan.rows (next_row d.plan place settings ∷ [])
-  settings_one d _ = sym (append-nil (settings_of d.plan.rows))
+  settings_one d x2 = search (rules, given_plan, append-nil, map-append)
 
   pub settings_fold : (cs : List Contribution) (d : DraftView) → settings_of (fold (with_contribution names) d cs).plan.rows ≡ settings_of d.plan.rows ++ row_settings cs
   settings_fold [] d = sym (append-nil (settings_of d.plan.rows))
-  settings_fold (c ∷ cs) d =
-      settings_fold cs (with_contribution names d c)
-      ∙ ap (λ l. l ++ row_settings cs) (settings_one d c)
-      ∙ append_assoc (settings_of d.plan.rows) (settings_given c) (row_settings cs)
+  settings_fold (c ∷ cs) d = search (rules, settings_one, append_assoc, settings_fold cs (with_contribution names d c))
 
   -- rows stay, and others come after them
   abbrev Kept : List DeviceRow → List DeviceRow → Type 0
@@ -85,10 +58,7 @@ module _ (names : Names) where
 
   pub rows_kept : (cs : List Contribution) (d : DraftView) → Kept d.plan.rows (fold (with_contribution names) d cs).plan.rows
   rows_kept [] d = ([], sym (append-nil d.plan.rows))
-  rows_kept (c ∷ cs) d =
-      let one = kept_one d c in
-      let more = rows_kept cs (with_contribution names d c) in
-      (one.0 ++ more.0, more.1 ∙ ap (λ l. l ++ more.0) one.1 ∙ append_assoc d.plan.rows one.0 more.0)
+  rows_kept (c ∷ cs) d = search (rules, kept_one, append_assoc, rows_kept cs (with_contribution names d c))
 
 -- ---- rows by their numbers
 
@@ -110,10 +80,7 @@ module _ (rows : List DeviceRow) (places : List (Place × ℕ)) (owned : owners_
       (within, same_Some (slice_index_or rows r no_row).owner (owner_by (place, n)) (sym (slice_get-map owner rows r ∙ ap (option_map owner) (slice_get-get_or rows r no_row within)) ∙ there))
 
   pub bound_on : (n : ℕ) (plan : PlanView) (c : Contribution) → n ≡ length plan.modes → IsAimed places n c → IsBoundOn rows plan c
-  bound_on n plan (binds e place (On r act)) same is =
-      let on = on_row place n r is in
-      (on.0, on.1 ∙ ap (λ m. owner_by (place, m)) same)
-  bound_on n plan _ same is = tt
+  bound_on n plan x3 same is = search (rules, on_row)
 
 -- ---- the numbers of rows are small
 
@@ -127,11 +94,7 @@ counted n (c ∷ cs) = by c (counted (modes_after n c) cs)
 
 numbered : (rows : List (Place × ℕ)) → length rows ≤ 1024 → (n : ℕ) (cs : List Contribution) → AreAimed rows n cs → All IsActNumbered cs
 numbered rows few n [] aimed = All-nil IsActNumbered
-numbered rows few n (c ∷ cs) aimed = All-cons IsActNumbered c cs (by c aimed.0) (numbered rows few (modes_after n c) cs aimed.1)
-  where
-    by : (c : Contribution) → IsAimed rows n c → IsActNumbered c
-    by (binds e place (On r act)) is = omega (arith, few, slice_get_within rows r (place, n) is)
-    by _ is = tt
+numbered rows few n (c ∷ cs) aimed = search (rules, All-cons, slice_get_within, numbered rows few (modes_after n c) cs aimed.1)
 
 pub acts_numbered : (cs : List Contribution) → AreAimed (row_places 0 cs) 0 cs → row_count cs ≤ 1024 → All IsActNumbered cs
 acts_numbered cs aimed few = numbered (row_places 0 cs) (omega (arith, few, counted 0 cs)) 0 cs aimed

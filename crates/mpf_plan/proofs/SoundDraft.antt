@@ -1,55 +1,35 @@
 -- What contributions make has entries for all its numbers, where a mode came before what is of one.
-use Rattle.std.proofs.Common.{◌≡◌, ℕ, ◌+◌, ◌-◌, ◌<◌, ◌≤◌, ◌⊎◌, inl, inr, Bool, true, false, nat_lt, List, [], ◌∷◌, ◌++◌, length, map, fold, set, get_or, slice_index_or, refl, sym, ◌∙◌, ap, subst, arith}
-use Rattle.std.specs.Prelude.{Option, None, Some, IfSome, unwrap_or}
-use Rattle.std.specs.List.{All, list_any}
-use Rattle.std.proofs.lemmas.Bool.{cases_lt, ltb-true, ltb-false}
-use Rattle.std.proofs.lemmas.List.{length_push, length-map, length-set, set_past, get_or_push, get_or_append_left}
-use Rattle.std.proofs.lemmas.List.Elements.{All-nil, All-push, All-set, All-weaker, All-get_or, All-head, All-tail}
+use Rattle.std.proofs.Common.{rules, ◌≡◌, ℕ, ◌+◌, ◌-◌, ◌<◌, ◌≤◌, ◌⊎◌, inl, inr, Bool, true, List, [], ◌∷◌, ◌++◌, length, map, fold, get_or, slice_index_or, refl, sym, ◌∙◌, ap, subst, arith}
+use Rattle.std.specs.{Prelude.{Option, None, Some, IfSome, unwrap_or}, List.{All, list_any}}
+use Rattle.std.proofs.lemmas.{Bool.cases_lt, List.Elements.{All-nil, All-push, All-weaker, All-head, All-tail}}
+use Rattle.std.proofs.lemmas.List.{length_push, length-map, length-set, get_or_push, get_or_append_left}
 use Rattle.plan_contributions.specs.declared.contribution.Aim.{Aim}
 use Rattle.plan_contributions.specs.declared.contribution.Aim.TheVariants as aims
 use Rattle.plan_rows.specs.declared.place.Place.{Place}
-use Rattle.plan_rows.specs.declared.place.Place.TheVariants as places
-use Rattle.plan_tables.specs.declared.entries.Action.{Action}
-use Rattle.plan_tables.specs.declared.entries.Action.TheVariants.{Post, Pulse, Enable, Disable, Change, Enter, Leave, Lose, Arrive, Request, AddBalls}
-use Rattle.plan_tables.specs.declared.entries.EventId.{EventId}
-use Rattle.plan_tables.specs.declared.entries.ModeEvent.{ModeEvent}
-use Rattle.plan_tables.specs.declared.entries.ModeEvent.TheVariants.{WillStart, Starting, Started, Stopping, Stopped}
-use Rattle.plan_tables.specs.declared.entries.Owner.{Owner}
-use Rattle.plan_tables.specs.declared.entries.Owner.TheVariants.{Machine, Mode}
-use Rattle.plan_tables.specs.declared.entries.Target.{Target}
+use Rattle.plan_tables.specs.declared.entries.Action.{Action, TheVariants.{Post, Pulse, Enable, Disable, Change, Enter}}
+use Rattle.plan_tables.specs.declared.entries.{EventId.EventId, Target.Target, Binding.Binding, ListId.ListId}
+use Rattle.plan_tables.specs.declared.entries.ModeEvent.{ModeEvent, TheVariants.WillStart}
+use Rattle.plan_tables.specs.declared.entries.Owner.{Owner, TheVariants.{Machine, Mode}}
 use Rattle.plan_tables.specs.declared.entries.Target.TheVariants as targets
-use Rattle.plan_tables.specs.declared.entries.Binding.{Binding}
-use Rattle.plan_tables.specs.declared.entries.Condition.{Condition}
-use Rattle.plan_tables.specs.declared.entries.GameRules.{GameRules}
+use Rattle.plan_tables.specs.declared.entries.{Condition.Condition, GameRules.GameRules}
 use Rattle.plan_tables.specs.declared.table.Table.TheVariants.{Events, Coils, Variables}
-use Rattle.plan_tables.specs.declared.entries.ListId.{ListId}
-use Rattle.plan_tables.specs.declared.devices.BallTarget.{BallTarget}
+use Rattle.plan_tables.specs.declared.devices.{BallTarget.BallTarget, DeviceRow.DeviceRow}
 use Rattle.plan_tables.specs.declared.devices.BallTarget.TheVariants as ball_targets
-use Rattle.plan_tables.specs.declared.devices.DeviceRow.{DeviceRow}
-use Rattle.plan_tables.specs.declared.devices.RowId.{RowId}
-use Rattle.plan_tables.specs.declared.devices.Settings.{Settings}
+use Rattle.plan_tables.specs.{declared.devices.{RowId.RowId, Settings.Settings}, Devices.list_count}
 use Rattle.plan_tables.specs.declared.devices.Settings.TheVariants as kinds
-use Rattle.plan_tables.specs.Devices.{list_count}
-use Rattle.plan_tables.specs.PlanView.{PlanSwitch, PlanCoil, PlanMode, no_binding, no_mode, no_row, row_at, list_of_row, target_in, target_of, PlanView}
+use Rattle.plan_tables.specs.PlanView.{PlanSwitch, PlanCoil, PlanMode, no_row, row_at, list_of_row, target_in, target_of, PlanView}
 use Rattle.plan_tables.specs.Valid.{IsEventWithin, IsSwitchWithin, IsListenerWithin, IsModeWithin, IsActionWithin, IsOwnerWithin, IsTargetWithin, IsConditionWithin, IsBindingWithin, IsGameWithin, IsTargetThere, IsRowWithin, HasGame, HasEntries}
-use Rattle.plan_contributions.specs.Effects.{pulse, enable, disable, Effect, posts, works, changes, enters}
-use Rattle.plan_contributions.specs.UsedNames.{used_by}
 use Rattle.plan_contributions.specs.Contributions.{Contribution, gives, reads, active, inactive, mode, mode_event, mode_event_name, binds, does, device, does_in, listens, coil, under, plays}
-use Rattle.mpf_plan.specs.Uses.{Names, names_from, number_among}
-use Rattle.mpf_plan.specs.Filling.{DraftView, last_row, new_mode, with_event_in, with_mode, with_mode_event, last_mode, target_at, next_binding, lists_for, with_list_for, with_binding, next_row, next_list, with_device, with_one_more, conditioned, last_conditioned, with_condition, with_game, with_contribution, blank, drafted}
+use Rattle.mpf_plan.{specs.Uses.{Names, names_from, number_among}, proofs.Drafted.{given_plan, names-from, lists_begun}}
+use Rattle.mpf_plan.specs.Filling.{DraftView, last_row, new_mode, with_event_in, with_mode, with_mode_event, last_mode, target_at, next_binding, lists_for, with_list_for, with_binding, next_row, next_list, with_device, with_one_more, with_condition, with_game, with_contribution, blank, drafted}
 use Rattle.mpf_plan.specs.ByNumber.{event_of, action_of, owner_at, first_of_last, condition_of, rules_of}
-use Rattle.mpf_plan.proofs.Among.{IsAmong, IsKnown, all_known}
-use Rattle.mpf_plan.proofs.Drafted.{given_plan, names-from, lists_begun}
-use Rattle.mpf_plan.proofs.Heard.{AreHeard}
+use Rattle.mpf_plan.proofs.{Among.{IsKnown, all_known}, Heard.AreHeard, Ready.{IsReady, IsNumberedIn, AreNumbered}}
 use Rattle.row_contributions.specs.Facts.{row_after, IsPlaced, ArePlaced, IsOpenPlace, IsOpenAim, IsOpen, modes_after, AreOpened, row_places, IsAimed, AreAimed}
 use Rattle.mpf_plan.proofs.RowOwners.{owner_by, owners_of, settings_of, settings_fold, modes_come, owners_fold, rows_kept, bound_on}
 use Rattle.mpf_plan.proofs.Owned.{IsOwnTarget, IsOwn, IsOwnListener, IsOwnSwitch, own_aim, own_then, own_blank, own_drafted}
-use Rattle.row_contributions.specs.BallFacts.{AreFitting, row_settings, IsTargetAmong, HasTarget, is_plays, DrainsIn, AllDrainInGame}
+use Rattle.row_contributions.specs.BallFacts.{AreFitting, row_settings, IsTargetAmong, HasTarget, is_plays, AllDrainInGame}
 use Rattle.mpf_plan.proofs.BallActions.{IsOfRows, DrainsWell, drains_well, of_rows_drafted, game_played}
-use Rattle.mpf_plan.proofs.Done.{IsMet, meet_drafted}
-use Rattle.mpf_plan.proofs.GameMade.{game_made, game_within}
-use Rattle.mpf_plan.proofs.Ready.{IsReadyEffect, IsReady, IsNumberedIn, AreNumbered}
-use Rattle.mpf_plan.proofs.Steps.{All-changed}
+use Rattle.mpf_plan.proofs.{Done.{IsMet, meet_drafted}, GameMade.{game_made, game_within}}
 
 -- ---- rows that eject balls to rows that may come later
 
@@ -165,17 +145,11 @@ IsOwnNext final plan _ = Unit {0}
 
 -- a mode came before
 owner_within : (plan : PlanView) (n : ℕ) (place : Place) → n ≤ length plan.modes → IsOpenPlace n place → IsOwnerWithin plan (owner_at (last_mode plan) place)
-owner_within plan n places.Machine few opened = tt
-owner_within plan n places.Control few opened = tt
-owner_within plan n places.Mode few opened = omega (arith, few, opened)
+owner_within plan n x3 few opened = search rules
 
 module _ (count : ℕ) (m : PlanMode) (e : EventId) (known : e.0 < count) (within : IsModeWithin count m) where
   event_set : (which : ModeEvent) → IsModeWithin count (with_event_in which e m)
-  event_set WillStart = record { will_start = known; starting = within.starting; started = within.started; stopping = within.stopping; stopped = within.stopped }
-  event_set Starting = record { will_start = within.will_start; starting = known; started = within.started; stopping = within.stopping; stopped = within.stopped }
-  event_set Started = record { will_start = within.will_start; starting = within.starting; started = known; stopping = within.stopping; stopped = within.stopped }
-  event_set Stopping = record { will_start = within.will_start; starting = within.starting; started = within.started; stopping = known; stopped = within.stopped }
-  event_set Stopped = record { will_start = within.will_start; starting = within.starting; started = within.started; stopping = within.stopping; stopped = known }
+  event_set x1 = search rules
 
 module _ (names : Names) (final : List DeviceRow) (d : DraftView) (sound : IsSound names final d.plan) where
   event_within : (n : List ℕ) → number_among (names Events) n < length (names Events) → number_among (names Events) n < length d.plan.events
@@ -197,19 +171,7 @@ module _ (names : Names) (final : List DeviceRow) (d : DraftView) (sound : IsSou
 
   -- the binding that came last has a condition
   condition_sound : (c : Condition) → c.variable.0 < length d.plan.variables → IsSound names final (with_condition c d).plan
-  condition_sound c known =
-      let changed = last_conditioned c d.plan.bindings in
-      let new : PlanView = record d.plan { bindings = changed } in
-      let grows : Grows d.plan new = record { events = refl; variables = refl; modes = omega arith; lists = omega arith; rows = omega arith } in
-      record {
-        events = sound.events;
-        variables = sound.variables;
-        modes = sound.modes;
-        bindings = bindings_grow final d.plan new grows changed
-            (All-changed (IsBindingWithin (with_rows final d.plan)) (conditioned c) d.plan.bindings (length d.plan.bindings - 1) no_binding (λ b h. (h.0, h.1, h.2, known)) sound.bindings);
-        rows = rows_stay (length final) d.plan new grows refl refl sound.rows;
-        row_lists = sound.row_lists;
-      }
+  condition_sound c known = search rules
 
   game_sound : (rules : GameRules) → IsSound names final (with_game rules d).plan
   game_sound rules =
@@ -242,27 +204,12 @@ module _ (names : Names) (final : List DeviceRow) (d : DraftView) (sound : IsSou
       mode_sound (d.plan.modes ++ m ∷ []) (omega (arith, length_push d.plan.modes m)) (All-push (IsModeWithin (length d.plan.events)) d.plan.modes m sound.modes within)
 
   mode_changed : (which : ModeEvent) (e : EventId) → e.0 < length d.plan.events → IsSound names final (with_mode_event which e d).plan
-  mode_changed which e known = mode_sound (set d.plan.modes last changed) (omega (arith, length-set d.plan.modes last changed)) (by (nat_lt last (length d.plan.modes)) refl)
-    where
-      last : ℕ
-      last = length d.plan.modes - 1
-
-      changed : PlanMode
-      changed = with_event_in which e (get_or d.plan.modes last no_mode)
-
-      by : (b : Bool) → nat_lt last (length d.plan.modes) ≡ b → All (IsModeWithin (length d.plan.events)) (set d.plan.modes last changed)
-      by true is =
-          All-set (IsModeWithin (length d.plan.events)) d.plan.modes last changed
-          (event_set (length d.plan.events) (get_or d.plan.modes last no_mode) e known (All-get_or (IsModeWithin (length d.plan.events)) d.plan.modes last no_mode (ltb-true last (length d.plan.modes) is) sound.modes) which) sound.modes
-      by false is = subst (All (IsModeWithin (length d.plan.events))) (sym (set_past d.plan.modes last changed (ltb-false last (length d.plan.modes) is))) sound.modes
+  mode_changed which e known = search rules
 
   module _ (n : ℕ) (few : n ≤ length d.plan.modes) where
     target_within : (aim : Aim) (owner : Owner) (plan : PlanView) → IsOpenAim n aim → IsOwnTarget plan.rows owner (target_at d.plan aim) → length plan.modes ≡ length d.plan.modes → plan.lists ≡ lists_for aim d.plan.lists
         → IsTargetWithin plan (target_at d.plan aim)
-    target_within aims.Run owner plan opened own same lists = omega (arith, ap length lists, length_push d.plan.lists [])
-    target_within (aims.Do act) owner plan opened own same lists = own.0
-    target_within (aims.On r act) owner plan opened own same lists = own.0
-    target_within _ owner plan opened own same lists = omega (arith, few, opened, same)
+    target_within x1 owner plan opened own same lists = search (rules, owner, lists, length_push)
 
     longer : (aim : Aim) → length d.plan.lists ≤ length (lists_for aim d.plan.lists)
     longer aims.Run = omega (arith, length_push d.plan.lists [])
@@ -369,38 +316,12 @@ module _ (names : Names) where
     IsNumbered (Enter r e drain) = (e.0 < length (names Events)) × (drain ≡ true → game ≡ true)
     IsNumbered _ = Unit {0}
 
-    effect_known : (e : Effect) → IsAmong names (used_by e) → IsReadyEffect (IsNumberedIn (names Events)) e → DrainsIn game e → (r : RowId) → IsNumbered (action_of names r e)
-    effect_known (posts x) known ready drains r = known
-    effect_known (works x (pulse ms power)) known ready drains r = known
-    effect_known (works x (enable power)) known ready drains r = known
-    effect_known (works x disable) known ready drains r = known
-    effect_known (changes v action n) known ready drains r = (known, ready)
-    effect_known (enters x drain) known ready drains r = (known, drains)
-    effect_known _ known ready drains r = tt
-
     done_known : (c : Contribution) → IsKnown names c → IsReady (IsNumberedIn (names Events)) c → DrainsWell game c → IsMet (IsEventWithin (length (names Events))) IsNumbered names c
-    done_known (active x) known ready drains = known
-    done_known (inactive x) known ready drains = known
-    done_known (does e) known ready drains = effect_known e known ready drains
-    done_known (does_in k e) known ready drains = effect_known e known ready.0 drains
-    done_known _ known ready drains = tt
+    done_known x1 known ready drains = search rules
 
     action_within : (plan : PlanView) → length plan.events ≡ length (names Events) → length plan.coils ≡ length (names Coils) → length plan.variables ≡ length (names Variables) → (game ≡ true → HasGame plan)
         → (a : Action) → IsNumbered a → IsOfRows (length plan.rows) a → IsActionWithin plan a
-    action_within plan events coils variables has (Post e) within there = omega (arith, within, events)
-    action_within plan events coils variables has (Change v action n e) within there =
-        let variable = within.0 in
-        let event = within.1 in
-        (omega (arith, variable, variables), omega (arith, event, events))
-    action_within plan events coils variables has (Enter r e drain) within there =
-        let event = within.0 in
-        (there, omega (arith, event, events), λ is. has (within.1 is))
-    action_within plan events coils variables has (Leave r) within there = there
-    action_within plan events coils variables has (Lose r) within there = there
-    action_within plan events coils variables has (Arrive r) within there = there
-    action_within plan events coils variables has (Request n) within there = tt
-    action_within plan events coils variables has (AddBalls n) within there = tt
-    action_within plan events coils variables has _ within there = omega (arith, within, coils)
+    action_within plan events coils variables has x6 within there = search rules
 
 -- what contributions make is sound, where a mode came before what is of one, and a row before what acts on it
 pub sound_drafted : (cs : List Contribution) → AreOpened 0 cs → ArePlaced None cs → AreAimed (row_places 0 cs) 0 cs → AreHeard None cs → All (HasTarget (row_settings cs)) cs

@@ -1,21 +1,14 @@
 -- What stands in a plan that is being made, where so many contributions have come.
-use Rattle.std.proofs.Common.{◌≡◌, ℕ, ◌+◌, ◌-◌, List, [], ◌∷◌, ◌++◌, length, fold, set, get_or, replicate, Option, None, Some, refl, sym, ◌∙◌, ap, subst, arith}
-use Rattle.std.specs.Prelude.{unwrap_or}
-use Rattle.std.specs.List.{flat_map, last_or}
-use Rattle.std.proofs.lemmas.Grind.{flat_map-append}
+use Rattle.std.proofs.Common.{rules, ◌≡◌, ℕ, ◌+◌, ◌-◌, List, [], ◌∷◌, ◌++◌, length, fold, set, get_or, replicate, Option, None, Some, refl, sym, ◌∙◌, ap, subst, arith}
+use Rattle.std.specs.{Prelude.unwrap_or, List.{flat_map, last_or}}
+use Rattle.std.proofs.lemmas.{Grind.flat_map-append, List.Sums.{sum_by-cons, sum_by_push}}
 use Rattle.std.proofs.lemmas.List.{append-nil, append_assoc, get_or_push, get_or-set_same, length_push, length-append, length-set, length-replicate}
-use Rattle.std.proofs.lemmas.List.Sums.{sum_by-cons, sum_by_push}
 use Rattle.plan_rows.specs.declared.place.Place.{Place}
-use Rattle.plan_tables.specs.declared.entries.Action.{Action}
-use Rattle.plan_tables.specs.Devices.{list_count}
-use Rattle.plan_tables.specs.declared.table.Table.TheVariants.{Events}
-use Rattle.plan_tables.specs.PlanView.{PlanMode, no_mode}
-use Rattle.plan_contributions.specs.declared.contribution.Aim.{Aim}
-use Rattle.plan_contributions.specs.declared.contribution.Aim.TheVariants.{Run}
+use Rattle.plan_tables.specs.declared.entries.{Action.Action, ModeEvent.TheVariants.WillStart}
+use Rattle.plan_tables.specs.{Devices.list_count, declared.table.Table.TheVariants.Events, PlanView.{PlanMode, no_mode}}
+use Rattle.plan_contributions.specs.declared.contribution.Aim.{Aim, TheVariants.Run}
 use Rattle.plan_contributions.specs.Contributions.{Contribution, gives, mode, mode_event, mode_event_name, binds, does, device, does_in}
-use Rattle.plan_tables.specs.declared.entries.ModeEvent.TheVariants.{WillStart}
-use Rattle.mpf_plan.specs.Uses.{Names, number_among}
-use Rattle.mpf_plan.specs.ByNumber.{event_of, action_of, owner_at, first_of_last}
+use Rattle.mpf_plan.specs.{Uses.{Names, number_among}, ByNumber.{event_of, action_of, owner_at, first_of_last}}
 use Rattle.mpf_plan.specs.Filling.{DraftView, new_mode, with_event_in, last_priority, last_row, with_contribution, blank}
 use Rattle.mpf_plan.specs.PlanOf.{modes_given, mode_count, rows_given, row_count, lists_begun, list_total, in_turn, priority_given, priority_before, row_here, first_list_here, first_lists}
 use Rattle.mpf_plan.proofs.Drafted.{given_plan, modes_one, counts_fold}
@@ -26,10 +19,7 @@ use Rattle.mpf_plan.proofs.Drafted.{given_plan, modes_one, counts_fold}
 pub in_turn-push : {X : Type 0} (give : List Contribution → Contribution → List X) (cs before : List Contribution) (c : Contribution)
     → in_turn (λ b x after. give b x) before (cs ++ c ∷ []) ≡ in_turn (λ b x after. give b x) before cs ++ give (before ++ cs) c
 in_turn-push give [] before c = append-nil (give before c) ∙ ap (λ b. give b c) (sym (append-nil before))
-in_turn-push give (x ∷ xs) before c =
-    ap (λ l. give before x ++ l) (in_turn-push give xs (before ++ x ∷ []) c)
-    ∙ sym (append_assoc (give before x) (in_turn (λ b y after. give b y) (before ++ x ∷ []) xs) (give ((before ++ x ∷ []) ++ xs) c))
-    ∙ ap (λ b. (give before x ++ in_turn (λ b y after. give b y) (before ++ x ∷ []) xs) ++ give b c) (append_assoc before (x ∷ []) xs)
+in_turn-push give (x ∷ xs) before c = search (rules, append_assoc, in_turn-push give xs (before ++ x ∷ []) c)
 
 pub last_or-push : {X : Type 0} (o : Option X) (xs : List X) (x : X) → last_or o (xs ++ x ∷ []) ≡ Some x
 last_or-push o [] x = refl
@@ -62,9 +52,7 @@ module _ (names : Names) where
   lists_one d _ = omega arith
 
   firsts_one : (before : List Contribution) (d : DraftView) → length d.plan.lists ≡ list_total before → (c : Contribution) → (with_contribution names d c).plan.row_lists ≡ d.plan.row_lists ++ first_list_here before c
-  firsts_one before d lists (gives t n) = ap (λ p. p.row_lists) (given_plan t (number_among (names t) n) d) ∙ sym (append-nil d.plan.row_lists)
-  firsts_one before d lists (device place settings) = ap (λ n. d.plan.row_lists ++ record { 0 = n } ∷ []) lists
-  firsts_one before d lists _ = sym (append-nil d.plan.row_lists)
+  firsts_one before d lists x4 = search rules
 
   pub rows_one : (before : List Contribution) (d : DraftView) → Stands before d → (c : Contribution) → (with_contribution names d c).plan.rows ≡ d.plan.rows ++ row_here before c
   rows_one before d stands (gives t n) = ap (λ p. p.rows) (given_plan t (number_among (names t) n) d) ∙ sym (append-nil d.plan.rows)
@@ -118,5 +106,4 @@ module _ (names : Names) where
 
   pub stands_all : (cs before : List Contribution) (d : DraftView) → Stands before d → Stands (before ++ cs) (fold (with_contribution names) d cs)
   stands_all [] before d stands = subst (λ b. Stands b d) (sym (append-nil before)) stands
-  stands_all (c ∷ cs) before d stands =
-      subst (λ b. Stands b (fold (with_contribution names) d (c ∷ cs))) (append_assoc before (c ∷ []) cs) (stands_all cs (before ++ c ∷ []) (with_contribution names d c) (stands_more before d stands c))
+  stands_all (c ∷ cs) before d stands = search (rules, append_assoc, stands_more, stands_all cs (before ++ c ∷ []) (with_contribution names d c) (stands_more before d stands c))

@@ -1,16 +1,10 @@
 -- Items changed in their places, as they are seen; and switches of which the names alone are known.
-use Rattle.std.proofs.Common.{◌≡◌, ℕ, zero, suc, ◌-◌, ◌<◌, ◌≤◌, List, [], ◌∷◌, ◌++◌, ◌⊎◌, inl, inr, Bool, false, length, map, set, get_or, Vec, Global, refl, sym, ◌∙◌, ap, subst, arith}
-use Rattle.std.specs.List.{All}
-use Rattle.std.proofs.lemmas.List.{set_past, map-set, get_or-map, get_or_past, length-map}
-use Rattle.std.proofs.lemmas.List.Elements.{All-head, All-tail, All-set, All-get_or}
-use Rattle.std.proofs.lemmas.Bool.{cases_lt}
-use Rattle.plan_tables.specs.declared.entries.Action.{Action}
-use Rattle.plan_tables.specs.declared.entries.Binding.{Binding}
-use Rattle.plan_tables.specs.declared.entries.Condition.{Condition}
-use Rattle.plan_tables.specs.declared.entries.SwitchEntry.{SwitchEntry}
-use Rattle.plan_tables.specs.declared.entries.CoilLimits.{CoilLimits}
-use Rattle.plan_tables.specs.declared.entries.ModeEntry.{ModeEntry}
-use Rattle.plan_tables.specs.PlanView.{PlanSwitch, no_switch, no_coil, no_binding, PlanMode, no_mode}
+use Rattle.std.proofs.Common.{rules, ◌≡◌, ℕ, zero, suc, ◌-◌, ◌<◌, ◌≤◌, List, [], ◌∷◌, ◌++◌, ◌⊎◌, Bool, false, length, map, set, get_or, Vec, Global, refl, sym, ◌∙◌, ap, arith}
+use Rattle.std.{specs.List.All, proofs.lemmas.List.{set_past, map-set, get_or-map, get_or_past, length-map}}
+use Rattle.std.proofs.lemmas.{List.Elements.{All-head, All-tail, All-get_or}, Bool.cases_lt}
+use Rattle.plan_tables.specs.declared.entries.{Action.Action, Binding.Binding, Condition.Condition, ModeEntry.ModeEntry}
+use Rattle.plan_tables.specs.declared.entries.{SwitchEntry.SwitchEntry, CoilLimits.CoilLimits}
+use Rattle.plan_tables.specs.PlanView.{PlanSwitch, no_switch, no_coil, PlanMode, no_mode}
 use Rattle.mpf_plan.specs.Filling.{with_one_more, last_with, conditioned, last_conditioned, limited_to, named_switch, named_coil}
 use Rattle.mpf_plan.specs.Inside.{limited_coils}
 use Rattle.plan_tables.specs.Inside.{mode_entry_view, switch_entry_view, switches_view, coils_view, action_lists}
@@ -18,24 +12,21 @@ use Rattle.plan_tables.specs.Inside.{mode_entry_view, switch_entry_view, switche
 -- an item changed in its place, as it is seen
 shown_at : {X Y : Type 0} (shown : X → Y) (f : Y → Y) (xs : List X) (i : ℕ) (old new : X) (d : Y) → i < length xs → old ≡ get_or xs i old → shown new ≡ f (shown old)
     → map shown (set xs i new) ≡ set (map shown xs) i (f (get_or (map shown xs) i d))
-shown_at shown f xs i old new d within is changed =
-    map-set shown xs i new ∙ ap (set (map shown xs) i) (changed ∙ ap f (ap shown is ∙ sym (get_or-map shown xs i old d within)))
+shown_at shown f xs i old new d within is changed = search (rules, map-set, get_or-map)
 
 -- what holds of each item holds after one of them is changed
 pub All-changed : {X : Type 0} (P : X → Type 0) (f : X → X) (xs : List X) (i : ℕ) (d : X) → ((x : X) → P x → P (f x)) → All P xs → All P (set xs i (f (get_or xs i d)))
 All-changed {X} P f xs i d keeps all = by (cases_lt i (length xs))
   where
     by : (i < length xs) ⊎ (length xs ≤ i) → All P (set xs i (f (get_or xs i d)))
-    by (inl inside) = All-set P xs i (f (get_or xs i d)) (keeps (get_or xs i d) (All-get_or P xs i d inside all)) all
-    by (inr past) = subst (All P) (sym (set_past xs i (f (get_or xs i d)) past)) all
+    by x1 = search rules
 
 -- what holds of each list, and of one that is not there
 pub at_any : (P : List Action → Type 0) → P [] → (ls : List (List Action)) → All P ls → (i : ℕ) → P (get_or ls i [])
 at_any P none ls all i = by (cases_lt i (length ls))
   where
     by : (i < length ls) ⊎ (length ls ≤ i) → P (get_or ls i [])
-    by (inl within) = All-get_or P ls i [] within all
-    by (inr past) = subst P (sym (get_or_past ls i [] past)) none
+    by x1 = search (rules, All-get_or, get_or_past)
 
 -- empty lists at the end change none
 pub blank_end : (ls more : List (List Action)) → All (λ l. l ≡ []) more → (i : ℕ) → get_or (ls ++ more) i [] ≡ get_or ls i []
@@ -59,10 +50,7 @@ action_pushed lists n old new a count some is pushed =
 pub last_mode_changed : (change : PlanMode → PlanMode) (modes : List ModeEntry) (n : ℕ) (old new : ModeEntry) → n ≡ length modes → 0 < n → old ≡ get_or modes (n - 1) old → mode_entry_view new ≡ change (mode_entry_view old)
     → map mode_entry_view (set modes (n - 1) new)
     ≡ set (map mode_entry_view modes) (length (map mode_entry_view modes) - 1) (change (get_or (map mode_entry_view modes) (length (map mode_entry_view modes) - 1) no_mode))
-last_mode_changed change modes n old new count some is changed =
-    let seen = map mode_entry_view modes in
-    shown_at mode_entry_view change modes (n - 1) old new no_mode (omega (arith, count, some)) is changed
-    ∙ ap (λ k. set seen (k - 1) (change (get_or seen (k - 1) no_mode))) (count ∙ sym (length-map modes mode_entry_view))
+last_mode_changed change modes n old new count some is changed = search (rules, shown_at, get_or, length-map)
 
 -- within a list the default does not matter
 pub same_default : {X : Type 0} (xs : List X) (n : ℕ) (d e : X) → n < length xs → get_or xs n d ≡ get_or xs n e
@@ -72,9 +60,7 @@ same_default (x ∷ xs) (suc n) d e within = same_default xs n d e (omega arith)
 
 -- the binding that came last has this condition
 pub binding_conditioned : (c : Condition) (bs : List Binding) (n : ℕ) (old : Binding) → n ≡ length bs → 0 < n → old ≡ get_or bs (n - 1) old → set bs (n - 1) (conditioned c old) ≡ last_conditioned c bs
-binding_conditioned c bs n old count some is =
-    ap (λ b. set bs (n - 1) (conditioned c b)) (is ∙ same_default bs (n - 1) old no_binding (omega (arith, count, some)))
-    ∙ ap (λ k. set bs (k - 1) (conditioned c (get_or bs (k - 1) no_binding))) count
+binding_conditioned c bs n old count some is = search (rules, same_default, get_or)
 
 -- ---- switches
 
@@ -147,15 +133,11 @@ pub blank_limits : (names : List (List ℕ)) (ls : List CoilLimits) → length l
 blank_limits [] [] count all = refl
 blank_limits [] (l ∷ ls) count all = absurd (omega (arith, count))
 blank_limits (n ∷ ns) [] count all = absurd (omega (arith, count))
-blank_limits (n ∷ ns) (l ∷ ls) count all =
-    let first = All-head (λ x. x ≡ no_coil.limits) l ls all in
-    λ i. record { name = n; limits = first i } ∷ blank_limits ns ls (omega (arith, count)) (All-tail (λ x. x ≡ no_coil.limits) l ls all) i
+blank_limits (n ∷ ns) (l ∷ ls) count all = search (rules, All-head, All-tail, blank_limits ns ls (omega (arith, count)) (All-tail (λ x. x ≡ no_coil.limits) l ls all))
 
 -- as many marks as names
 pub blank_marks : (names : List (List ℕ)) (marks : List Bool) → length marks ≡ length names → All (λ m. m ≡ false) marks → marks ≡ map (λ n. false) names
 blank_marks [] [] count all = refl
 blank_marks [] (m ∷ ms) count all = absurd (omega (arith, count))
 blank_marks (n ∷ ns) [] count all = absurd (omega (arith, count))
-blank_marks (n ∷ ns) (m ∷ ms) count all =
-    let first = All-head (λ x. x ≡ false) m ms all in
-    λ i. first i ∷ blank_marks ns ms (omega (arith, count)) (All-tail (λ x. x ≡ false) m ms all) i
+blank_marks (n ∷ ns) (m ∷ ms) count all = search (rules, All-head, All-tail, blank_marks ns ms (omega (arith, count)) (All-tail (λ x. x ≡ false) m ms all))

@@ -1,27 +1,17 @@
 -- What the plan that is computed says of each switch: what its entry says, and who listens to it.
-use Rattle.std.proofs.Common.{◌≡◌, ◌≢◌, ℕ, suc, ◌+◌, ◌-◌, ◌<◌, ◌==◌, Bool, true, false, cond, if◌then◌else◌, not, ◌&&◌, ◌||◌, List, [], ◌∷◌, ◌++◌, length, map, fold, get_or, set, None, Some, refl, sym, ◌∙◌, ap, true≢false, arith}
-use Rattle.std.specs.Prelude.{unwrap_or}
-use Rattle.std.specs.Str.{bytes_eq}
-use Rattle.std.specs.List.{list_any, last_or, position_or_len}
-use Rattle.std.proofs.lemmas.Bool.{eqb-true}
-use Rattle.std.proofs.lemmas.Grind.{flat_map-append}
+use Rattle.std.proofs.Common.{rules, ◌≡◌, ◌≢◌, ℕ, suc, ◌+◌, ◌-◌, ◌<◌, ◌==◌, Bool, true, false, cond, if◌then◌else◌, not, ◌&&◌, ◌||◌, List, [], ◌∷◌, ◌++◌, length, map, fold, get_or, set, None, Some, refl, sym, ◌∙◌, ap, true≢false, arith}
+use Rattle.std.specs.{Prelude.unwrap_or, Str.bytes_eq, List.{list_any, last_or, position_or_len}}
+use Rattle.std.proofs.lemmas.{Bool.eqb-true, Grind.flat_map-append}
 use Rattle.std.proofs.lemmas.List.{append-nil, append_assoc, length_push, length-set, length-map, get_or-map, get_or-set_same, get_or-set_other, ext_get_or}
-use Rattle.std.proofs.lemmas.List.Folds.{list_any-append}
-use Rattle.std.proofs.lemmas.Slice.Eq.{bytes_eq-Decides}
-use Rattle.plan_tables.specs.declared.entries.EventId.{EventId}
-use Rattle.plan_tables.specs.declared.entries.Listener.{Listener}
-use Rattle.plan_tables.specs.declared.entries.SwitchKind.{SwitchKind}
-use Rattle.plan_tables.specs.declared.table.Table.TheVariants.{Events, Switches}
-use Rattle.plan_tables.specs.PlanView.{PlanSwitch, no_switch}
+use Rattle.std.proofs.lemmas.{List.Folds.list_any-append, Slice.Eq.bytes_eq-Decides}
+use Rattle.plan_tables.specs.declared.entries.{EventId.EventId, Listener.Listener, SwitchKind.SwitchKind}
+use Rattle.plan_tables.specs.{declared.table.Table.TheVariants.{Events, Switches}, PlanView.{PlanSwitch, no_switch}}
 use Rattle.plan_contributions.specs.Contributions.{Contribution, gives, reads, active, inactive, listens}
 use Rattle.plan_contributions.specs.UsedNames.{given, name_in_table, given_names}
-use Rattle.mpf_plan.specs.Uses.{Names, names_from, number_among}
-use Rattle.mpf_plan.specs.ByNumber.{event_of}
+use Rattle.mpf_plan.specs.{Uses.{Names, names_from, number_among}, ByNumber.event_of}
 use Rattle.mpf_plan.specs.Filling.{DraftView, with_switch, heard_by, next_listener, with_contribution, named_switch, blank, drafted, plan_from}
 use Rattle.mpf_plan.specs.PlanOf.{in_turn, row_before, is_entry_of, reading_here, listener_here, active_here, inactive_here, switch_read, switch_called}
-use Rattle.mpf_plan.proofs.Apart.{named_apart}
-use Rattle.mpf_plan.proofs.Drafted.{given_plan, given_defined, names-from}
-use Rattle.mpf_plan.proofs.Numbers.{at_number, number_at}
+use Rattle.mpf_plan.proofs.{Apart.named_apart, Drafted.{given_plan, names-from}, Numbers.{at_number, number_at}}
 use Rattle.mpf_plan.proofs.Stands.{in_turn-push, last_or-push, Stands, stands_more, stands_none}
 
 -- ---- the entry that came last
@@ -33,8 +23,7 @@ other : (l j : ℕ) → (l ≡ j → ⊥) → (l == j) ≡ false
 other l j apart = by (l == j) refl
   where
     by : (b : Bool) → (l == j) ≡ b → (l == j) ≡ false
-    by true is = absurd (apart (eqb-true l j is))
-    by false is = is
+    by x1 is = search rules
 
 -- the place of the first that passes, where one does, and where the last alone may
 first_before : (p : List ℕ → Bool) (xs ys : List (List ℕ)) → list_any p xs ≡ true → position_or_len p (xs ++ ys) < length xs
@@ -42,20 +31,17 @@ first_before p [] ys there = absurd (true≢false (sym there))
 first_before p (x ∷ xs) ys there = by (p x) there (first_before p xs ys)
   where
     by : (b : Bool) → (b || list_any p xs) ≡ true → (list_any p xs ≡ true → position_or_len p (xs ++ ys) < length xs) → cond (not b) (1 + position_or_len p (xs ++ ys)) 0 < suc (length xs)
-    by true there rest = omega arith
-    by false there rest = let within = rest there in omega arith
+    by x1 there rest = search rules
 
 first_last : (p : List ℕ → Bool) (xs : List (List ℕ)) (y : List ℕ) → list_any p xs ≡ false → position_or_len p (xs ++ y ∷ []) ≡ length xs + cond (not (p y)) 1 0
 first_last p [] y none = by (p y)
   where
     by : (b : Bool) → cond (not b) (1 + 0) 0 ≡ 0 + cond (not b) 1 0
-    by true = refl
-    by false = refl
+    by x1 = search rules
 first_last p (x ∷ xs) y none = by (p x) none (first_last p xs y)
   where
     by : (b : Bool) → (b || list_any p xs) ≡ false → (list_any p xs ≡ false → position_or_len p (xs ++ y ∷ []) ≡ length xs + cond (not (p y)) 1 0) → cond (not b) (1 + position_or_len p (xs ++ y ∷ [])) 0 ≡ suc (length xs) + cond (not (p y)) 1 0
-    by true there rest = absurd (true≢false there)
-    by false none rest = let more = rest none in omega (arith, more)
+    by x1 x2 rest = search rules
 
 -- an entry more is that of this name where it has the name, and none before has it
 entry_more : (n : List ℕ) (xs : List (List ℕ)) (m : List ℕ) → (number_among (xs ++ m ∷ []) n + 1 == length (xs ++ m ∷ [])) ≡ (bytes_eq n m && not (list_any (bytes_eq n) xs))
@@ -67,18 +53,12 @@ entry_more n xs m = by (list_any (bytes_eq n) xs) refl (bytes_eq n m) refl
     by : (h : Bool) → list_any (bytes_eq n) xs ≡ h → (b : Bool) → bytes_eq n m ≡ b → (at + 1 == length (xs ++ m ∷ [])) ≡ (b && not h)
     by true there true same = other (at + 1) (length (xs ++ m ∷ [])) (λ e. omega (arith, e, length_push xs m, first_before (bytes_eq n) xs (m ∷ []) there))
     by true there false not_same = other (at + 1) (length (xs ++ m ∷ [])) (λ e. omega (arith, e, length_push xs m, first_before (bytes_eq n) xs (m ∷ []) there))
-    by false none true same =
-        let place : at ≡ length xs + 0 = first_last (bytes_eq n) xs m none ∙ ap (λ b. length xs + cond (not b) 1 0) same in
-        let end : at + 1 ≡ length (xs ++ m ∷ []) = omega (arith, place, length_push xs m) in
-        ap (λ k. k == length (xs ++ m ∷ [])) end ∙ same_number (length (xs ++ m ∷ []))
-    by false none false not_same =
-        let place : at ≡ length xs + 1 = first_last (bytes_eq n) xs m none ∙ ap (λ b. length xs + cond (not b) 1 0) not_same in
-        other (at + 1) (length (xs ++ m ∷ [])) (λ e. omega (arith, e, place, length_push xs m))
+    by false none true same = search (rules, same, at, first_last, length_push, same_number)
+    by false none false not_same = search (rules, at, first_last, other, length_push)
 
 -- the names under which switches are given, with one contribution more
 given_more : (before : List Contribution) (c : Contribution) → given_names Switches (before ++ c ∷ []) ≡ given_names Switches before ++ name_in_table Switches (given c)
-given_more before c =
-    flat_map-append (λ x. name_in_table Switches (given x)) before (c ∷ []) ∙ ap (λ l. given_names Switches before ++ l) (append-nil (name_in_table Switches (given c)))
+given_more before c = search (rules, flat_map-append, append-nil)
 
 -- ---- the switch of this number
 
@@ -105,9 +85,7 @@ module _ (names : Names) (k : ℕ) (within : k < length (names Switches)) (own :
     switches : length d.plan.switches ≡ length (names Switches)
 
   elsewhere : (m : List ℕ) → bytes_eq n m ≡ false → k ≢ number_among (names Switches) m
-  elsewhere m differs e =
-      let inside : number_among (names Switches) m < length (names Switches) = omega (arith, e, within) in
-      true≢false (sym ((bytes_eq-Decides n m).1 (ap (λ j. get_or (names Switches) j []) e ∙ at_number (names Switches) m inside)) ∙ differs)
+  elsewhere m differs e = search (rules, bytes_eq-Decides, get_or, at_number)
 
   its_own : (m : List ℕ) → bytes_eq n m ≡ true → number_among (names Switches) m ≡ k
   its_own m same = ap (number_among (names Switches)) (sym ((bytes_eq-Decides n m).0 same)) ∙ own
@@ -147,8 +125,7 @@ module _ (names : Names) (k : ℕ) (within : k < length (names Switches)) (own :
 
   -- where nothing more is said
   called_same : (before : List Contribution) → switch_called names before n ≡ switch_read n (readings before ++ []) (listeners before ++ []) (actives before ++ []) (inactives before ++ [])
-  called_same before = λ i.
-      switch_read n (sym (append-nil (readings before)) i) (sym (append-nil (listeners before)) i) (sym (append-nil (actives before)) i) (sym (append-nil (inactives before)) i)
+  called_same before = search rules
 
   module _ (before : List Contribution) (d : DraftView) (stands : Stands before d) (known : Known before d) where
     -- a reading
@@ -237,37 +214,7 @@ module _ (names : Names) (k : ℕ) (within : k < length (names Switches)) (own :
 
     entered : (j : ℕ) (b h : Bool) → (k == j) ≡ b → get_or d.defined k true ≡ h
         → ((k == (with_switch j d).last) ≡ (b && not h)) × (get_or (with_switch j d).defined k true ≡ (h || (b || false)))
-    entered j true h at has_it = by h has_it
-      where
-        same : k ≡ j
-        same = eqb-true k j at
-
-        by : (h : Bool) → get_or d.defined k true ≡ h → ((k == (with_switch j d).last) ≡ not h) × (get_or (with_switch j d).defined k true ≡ (h || true))
-        by true is =
-            let marked : get_or d.defined j true ≡ true = ap (λ i. get_or d.defined i true) (sym same) ∙ is in (
-              ap (λ m. k == (cond m (record d { last = length d.defined }) (record d { defined = set d.defined j true; last = j })).last) marked ∙ other k (length d.defined) past_end,
-              ap (λ m. get_or (cond m (record d { last = length d.defined }) (record d { defined = set d.defined j true; last = j })).defined k true) marked ∙ is,
-            )
-        by false is =
-            let marked : get_or d.defined j true ≡ false = ap (λ i. get_or d.defined i true) (sym same) ∙ is in (
-              ap (λ m. k == (cond m (record d { last = length d.defined }) (record d { defined = set d.defined j true; last = j })).last) marked ∙ at,
-              ap (λ m. get_or (cond m (record d { last = length d.defined }) (record d { defined = set d.defined j true; last = j })).defined k true) marked
-                  ∙ ap (λ i. get_or (set d.defined i true) k true) (sym same)
-                  ∙ get_or-set_same d.defined k true true (omega (arith, within, known.marks)),
-            )
-    entered j false h at has_it = by (get_or d.defined j true)
-      where
-        apart : k ≢ j
-        apart same = true≢false (sym (ap (λ i. k == i) (sym same) ∙ same_number k) ∙ at)
-
-        so : (h : Bool) → h ≡ (h || (false || false))
-        so true = refl
-        so false = refl
-
-        by : (m : Bool) → ((k == (cond m (record d { last = length d.defined }) (record d { defined = set d.defined j true; last = j })).last) ≡ false)
-            × (get_or (cond m (record d { last = length d.defined }) (record d { defined = set d.defined j true; last = j })).defined k true ≡ (h || (false || false)))
-        by true = (other k (length d.defined) past_end, has_it ∙ so h)
-        by false = (other k j apart, get_or-set_other d.defined j k true true apart ∙ has_it ∙ so h)
+    entered j x2 h at has_it = search rules
 
     -- nothing is given as a switch
     same_entry : (c : Contribution) → name_in_table Switches (given c) ≡ [] → (is_entry_of n before ≡ is_entry_of n (before ++ c ∷ [])) × (has before ≡ has (before ++ c ∷ []))
@@ -287,8 +234,7 @@ module _ (names : Names) (k : ℕ) (within : k < length (names Switches)) (own :
     entry_next c = let same = same_entry c refl in (known.last ∙ same.0, known.defined ∙ same.1)
 
     marks_next : (c : Contribution) → length (with_contribution names d c).defined ≡ length d.defined
-    marks_next (gives t m) = given_defined t (number_among (names t) m) d
-    marks_next _ = refl
+    marks_next x1 = search rules
 
     count_next : (c : Contribution) → length (with_contribution names d c).plan.switches ≡ length d.plan.switches
     count_next (gives t m) = ap (λ p. length p.switches) (given_plan t (number_among (names t) m) d)
@@ -315,9 +261,7 @@ module _ (names : Names) (k : ℕ) (within : k < length (names Switches)) (own :
 
   known_all : (cs before : List Contribution) (d : DraftView) → Stands before d → Known before d → here (fold (with_contribution names) d cs) ≡ switch_called names (before ++ cs) n
   known_all [] before d stands known = known.switch ∙ ap (λ b. switch_called names b n) (sym (append-nil before))
-  known_all (c ∷ cs) before d stands known =
-      known_all cs (before ++ c ∷ []) (with_contribution names d c) (stands_more names before d stands c) (known_more before d stands known c)
-      ∙ ap (λ b. switch_called names b n) (append_assoc before (c ∷ []) cs)
+  known_all (c ∷ cs) before d stands known = search (rules, stands_more, known_more, append_assoc, known_all cs (before ++ c ∷ []) (with_contribution names d c) (stands_more names before d stands c) (known_more before d stands known c))
 
   known_none : Known [] (blank names)
   known_none = record {

@@ -1,33 +1,19 @@
 -- The plan as it is computed has the tables that the definition of the plan gives: what contributions give in turn.
-use Rattle.std.proofs.Common.{◌≡◌, ℕ, zero, suc, ◌+◌, ◌-◌, ◌<◌, ◌==◌, Bool, true, false, if◌then◌else◌, List, [], ◌∷◌, ◌++◌, length, map, fold, set, get_or, replicate, Option, None, Some, refl, sym, ◌∙◌, ap, arith}
-use Rattle.std.specs.Prelude.{unwrap_or}
-use Rattle.std.specs.List.{flat_map, last_or, range_with_len}
-use Rattle.std.proofs.lemmas.Bool.{eqb-true}
+use Rattle.std.proofs.Common.{rules, ◌≡◌, ℕ, zero, suc, ◌+◌, ◌-◌, ◌<◌, ◌==◌, Bool, true, false, if◌then◌else◌, List, [], ◌∷◌, ◌++◌, length, map, fold, get_or, replicate, Option, None, Some, refl, sym, ◌∙◌, ap, arith}
+use Rattle.std.specs.{Prelude.unwrap_or, List.{flat_map, last_or, range_with_len}}
 use Rattle.std.proofs.lemmas.List.{append-nil, append_assoc, get_or_push, get_or-set_same, length_push, length-set, set-set, set_at}
 use Rattle.mpf_config.specs.Rows.{Rows}
 use Rattle.plan_rows.specs.declared.place.Place.{Place}
-use Rattle.plan_tables.specs.declared.entries.Action.{Action}
-use Rattle.plan_tables.specs.declared.entries.Binding.{Binding}
-use Rattle.plan_tables.specs.declared.entries.Condition.{Condition}
-use Rattle.plan_tables.specs.declared.entries.Target.TheVariants as targets
-use Rattle.plan_tables.specs.Devices.{list_count}
-use Rattle.plan_tables.specs.declared.table.Table.{Table}
-use Rattle.plan_tables.specs.declared.table.Table.TheVariants.{Events}
-use Rattle.plan_tables.specs.Limits.{entry_names}
-use Rattle.plan_tables.specs.PlanView.{no_binding}
-use Rattle.plan_contributions.specs.declared.contribution.Aim.{Aim}
-use Rattle.plan_contributions.specs.declared.contribution.Aim.TheVariants.{Run, Start, Stop, Do, On}
-use Rattle.plan_contributions.specs.Contributions.{Contribution, gives, binds, does, device, does_in, under}
+use Rattle.plan_tables.specs.declared.entries.{Action.Action, Binding.Binding, Condition.Condition}
+use Rattle.plan_tables.specs.{declared.table.Table.{Table, TheVariants.Events}, Limits.entry_names}
+use Rattle.plan_contributions.specs.declared.contribution.Aim.{Aim, TheVariants.Run}
+use Rattle.plan_contributions.specs.Contributions.{Contribution, gives, binds, under}
 use Rattle.row_contributions.specs.Contributions.{contributions_of}
-use Rattle.mpf_plan.specs.Uses.{Names, names_from, number_among}
-use Rattle.mpf_plan.specs.ByNumber.{event_of, action_of, condition_of, owner_at, priority_at, first_of_last}
-use Rattle.mpf_plan.specs.Filling.{DraftView, last_row, target_at, next_binding, conditioned, last_conditioned, with_one_more, with_contribution, blank, plan_from}
-use Rattle.mpf_plan.specs.PlanOf.{list_total, in_turn, mode_before, priority_before, row_here, first_lists, row_before, list_after, lists_here, target_of, condition_after, binding_here, rules_here, plan_of}
-use Rattle.mpf_plan.proofs.Counts.{named_of}
-use Rattle.mpf_plan.proofs.Drafted.{given_plan, names-from}
-use Rattle.mpf_plan.proofs.ModesMade.{modes-made}
-use Rattle.mpf_plan.proofs.CoilsCalled.{coils_called}
-use Rattle.mpf_plan.proofs.SwitchesCalled.{switches_called}
+use Rattle.mpf_plan.specs.{Uses.{Names, names_from}, ByNumber.{event_of, action_of, owner_at, priority_at}}
+use Rattle.mpf_plan.specs.Filling.{DraftView, last_row, next_binding, last_conditioned, with_one_more, with_contribution, blank, plan_from}
+use Rattle.mpf_plan.specs.PlanOf.{list_total, in_turn, mode_before, priority_before, row_here, row_before, list_after, lists_here, target_of, condition_after, binding_here, rules_here, plan_of}
+use Rattle.mpf_plan.proofs.{Counts.named_of, Drafted.{given_plan, names-from}, ModesMade.modes-made}
+use Rattle.mpf_plan.proofs.{CoilsCalled.coils_called, SwitchesCalled.switches_called}
 use Rattle.mpf_plan.proofs.Stands.{Stands, rows_one, stands_more, stands_none, stands_all}
 
 module _ (names : Names) where
@@ -36,11 +22,7 @@ module _ (names : Names) where
   rows_filled : (cs before : List Contribution) (d : DraftView) → Stands before d
       → (fold (with_contribution names) d cs).plan.rows ≡ d.plan.rows ++ in_turn (λ b c after. row_here b c) before cs
   rows_filled [] before d stands = sym (append-nil d.plan.rows)
-  rows_filled (c ∷ cs) before d stands =
-      let rest = in_turn (λ b x after. row_here b x) (before ++ c ∷ []) cs in
-      rows_filled cs (before ++ c ∷ []) (with_contribution names d c) (stands_more names before d stands c)
-      ∙ ap (λ l. l ++ rest) (rows_one names before d stands c)
-      ∙ append_assoc d.plan.rows (row_here before c) rest
+  rows_filled (c ∷ cs) before d stands = search (rules, stands_more, rows_one, append_assoc, rows_filled cs (before ++ c ∷ []) (with_contribution names d c) (stands_more names before d stands c))
 
   -- ---- bindings
 
@@ -49,33 +31,12 @@ module _ (names : Names) where
   where_last None bs = bs
   where_last (Some c) bs = last_conditioned c bs
 
-  set_last : (bs : List Binding) (b : Binding) (c : Condition) → last_conditioned c (bs ++ b ∷ []) ≡ bs ++ conditioned c b ∷ []
-  set_last bs b c =
-      let at = length (bs ++ b ∷ []) - 1 in
-      let here : length bs ≡ at = omega (arith, length_push bs b) in
-      ap (λ x. set (bs ++ b ∷ []) at (conditioned c x)) (get_or_push bs b no_binding at here)
-      ∙ set_at bs b [] (conditioned c b) at here
-
   set_twice : (bs : List Binding) (c e : Condition) → last_conditioned e (last_conditioned c bs) ≡ last_conditioned e bs
   set_twice [] c e = refl
-  set_twice (x ∷ xs) c e =
-      let bs = x ∷ xs in
-      let at = length bs - 1 in
-      let new = conditioned c (get_or bs at no_binding) in
-      ap (λ (n : ℕ). set (set bs at new) (n - 1) (conditioned e (get_or (set bs at new) (n - 1) no_binding))) (length-set bs at new)
-      ∙ ap (λ (b : Binding). set (set bs at new) at (conditioned e b)) (get_or-set_same bs at new no_binding (omega arith))
-      ∙ set-set bs at new (conditioned e (get_or bs at no_binding))
+  set_twice (x ∷ xs) c e = search (rules, get_or, length-set, get_or-set_same, set-set)
 
   later_wins : (o : Option Condition) (c : Condition) (bs : List Binding) → where_last o (last_conditioned c bs) ≡ last_conditioned (unwrap_or o c) bs
-  later_wins None c bs = refl
-  later_wins (Some e) c bs = set_twice bs c e
-
-  target_same : (before : List Contribution) (d : DraftView) → Stands before d → (aim : Aim) → target_at d.plan aim ≡ target_of before aim
-  target_same before d stands Run = λ i. targets.Run (record { 0 = stands.lists i })
-  target_same before d stands Start = λ i. targets.Start (record { 0 = stands.modes i - 1 })
-  target_same before d stands Stop = λ i. targets.Stop (record { 0 = stands.modes i - 1 })
-  target_same before d stands (Do act) = λ i. targets.Act (record { 0 = stands.rows i - 1 }) act
-  target_same before d stands (On r act) = refl
+  later_wins x1 c bs = search (rules, set_twice)
 
   -- a binding with this condition
   abbrev bound_by : List Contribution → List ℕ → Place → Aim → Option Condition → Binding
@@ -88,25 +49,16 @@ module _ (names : Names) where
   }
 
   binding_same : (before : List Contribution) (d : DraftView) → Stands before d → (n : List ℕ) (place : Place) (aim : Aim) → next_binding d.plan (event_of (names Events) n) place aim ≡ bound_by before n place aim None
-  binding_same before d stands n place aim = λ i. record {
-    event = event_of (names Events) n;
-    owner = owner_at (record { 0 = stands.modes i - 1 }) place;
-    priority = priority_at (stands.priority i) place;
-    condition = None;
-    target = target_same before d stands aim i;
-  }
+  binding_same before d stands n place aim = search rules
 
   binding_last : (before : List Contribution) (n : List ℕ) (place : Place) (aim : Aim) (o : Option Condition) (bs : List Binding)
       → where_last o (bs ++ bound_by before n place aim None ∷ []) ≡ bs ++ bound_by before n place aim o ∷ []
-  binding_last before n place aim None bs = refl
-  binding_last before n place aim (Some c) bs = set_last bs (bound_by before n place aim None) c
+  binding_last before n place aim x5 bs = search (rules, length_push, get_or_push, set_at)
 
   bindings_filled : (cs before : List Contribution) (d : DraftView) → Stands before d
       → (fold (with_contribution names) d cs).plan.bindings ≡ where_last (condition_after names cs) d.plan.bindings ++ in_turn (binding_here names) before cs
   bindings_filled [] before d stands = sym (append-nil d.plan.bindings)
-  bindings_filled (gives t n ∷ cs) before d stands =
-      bindings_filled cs (before ++ gives t n ∷ []) (with_contribution names d (gives t n)) (stands_more names before d stands (gives t n))
-      ∙ ap (λ p. where_last (condition_after names cs) p.bindings ++ in_turn (binding_here names) (before ++ gives t n ∷ []) cs) (given_plan t (number_among (names t) n) d)
+  bindings_filled (gives t n ∷ cs) before d stands = search (rules, stands_more, given_plan, bindings_filled cs (before ++ gives t n ∷ []) (with_contribution names d (gives t n)) (stands_more names before d stands (gives t n)))
   bindings_filled (binds n place aim ∷ cs) before d stands =
       let c = binds n place aim in
       let o = condition_after names cs in
@@ -115,9 +67,7 @@ module _ (names : Names) where
       ∙ ap (λ b. where_last o (d.plan.bindings ++ b ∷ []) ++ rest) (binding_same before d stands n place aim)
       ∙ ap (λ l. l ++ rest) (binding_last before n place aim o d.plan.bindings)
       ∙ append_assoc d.plan.bindings (bound_by before n place aim o ∷ []) rest
-  bindings_filled (under e ∷ cs) before d stands =
-      bindings_filled cs (before ++ under e ∷ []) (with_contribution names d (under e)) (stands_more names before d stands (under e))
-      ∙ ap (λ l. l ++ in_turn (binding_here names) (before ++ under e ∷ []) cs) (later_wins (condition_after names cs) (condition_of names e) d.plan.bindings)
+  bindings_filled (under e ∷ cs) before d stands = search (rules, stands_more, later_wins, bindings_filled cs (before ++ under e ∷ []) (with_contribution names d (under e)) (stands_more names before d stands (under e)))
   bindings_filled (c ∷ cs) before d stands = bindings_filled cs (before ++ c ∷ []) (with_contribution names d c) (stands_more names before d stands c)
 
   -- ---- effect lists
@@ -150,8 +100,7 @@ module _ (names : Names) where
   other l j apart = by (l == j) refl
     where
       by : (b : Bool) → (l == j) ≡ b → (l == j) ≡ false
-      by true is = absurd (apart (eqb-true l j is))
-      by false is = is
+      by x1 is = search rules
 
   same_number : (l : ℕ) → (l == l) ≡ true
   same_number l = grind arith
@@ -162,12 +111,8 @@ module _ (names : Names) where
 
   ended-more : (said : ℕ → List Action) (a : Action) (j l m : ℕ) (ls : List (List Action)) → j ≡ l + m → ended said l (with_one_more m a ls) ≡ ended (with_first j a said) l ls
   ended-more said a j l m [] is = refl
-  ended-more said a j l zero (x ∷ xs) is =
-      let here : l ≡ j = omega (arith, is) in
-      let first : with_first j a said l ≡ a ∷ said l = said_by j l a said true (ap (λ k. l == k) (sym here) ∙ same_number l) in
-      λ i. (append_assoc x (a ∷ []) (said l) ∙ ap (λ y. x ++ y) (sym first)) i ∷ ended-past said a j (l + 1) xs (omega (arith, here)) i
-  ended-more said a j l (suc m) (x ∷ xs) is =
-      λ i. (x ++ sym (said_by j l a said false (other l j (λ same. omega (arith, same, is)))) i) ∷ ended-more said a j (l + 1) m xs (omega (arith, is)) i
+  ended-more said a j l zero (x ∷ xs) is = search (rules, said_by, same_number, append_assoc, ended-past)
+  ended-more said a j l (suc m) (x ∷ xs) is = search (rules, said_by, other, ended-more said a j (l + 1) m xs (omega (arith, is)))
 
   -- what is said of each list
   abbrev said_in : (before cs : List Contribution) → ℕ → List Action
@@ -182,10 +127,7 @@ module _ (names : Names) where
 
     lists_said : (c : Contribution) (m j : ℕ) (a e : Action) → m ≡ j → a ≡ e
         → ended (said_in (before ++ c ∷ []) cs) 0 (with_one_more m a d.plan.lists) ≡ ended (with_first j e (said_in (before ++ c ∷ []) cs)) 0 d.plan.lists ++ []
-    lists_said c m j a e number action =
-        ended-more (said_in (before ++ c ∷ []) cs) a m 0 m d.plan.lists (omega arith)
-        ∙ (λ i. ended (with_first (number i) (action i) (said_in (before ++ c ∷ []) cs)) 0 d.plan.lists)
-        ∙ sym (append-nil (ended (with_first j e (said_in (before ++ c ∷ []) cs)) 0 d.plan.lists))
+    lists_said c m j a e number action = search (rules, ended-more, append-nil)
 
     action_same : (e : _) → action_of names (last_row d.plan) e ≡ action_of names (row_before before) e
     action_same e = λ i. action_of names (record { 0 = stands.rows i - 1 }) e
@@ -202,41 +144,23 @@ module _ (names : Names) where
     lists_bound n place aim = sym (append-nil (ended (said_in (before ++ binds n place aim ∷ []) cs) 0 d.plan.lists))
 
     lists_next : (c : Contribution) → here c ≡ there c
-    lists_next (gives t n) =
-        let said = said_in (before ++ gives t n ∷ []) cs in
-        ap (λ p. ended said 0 p.lists) (given_plan t (number_among (names t) n) d) ∙ sym (append-nil (ended said 0 d.plan.lists))
-    lists_next (binds n place aim) = lists_bound n place aim
-    lists_next (does e) =
-        lists_said (does e) (length d.plan.lists - 1) (list_total before - 1) (action_of names (last_row d.plan) e) (action_of names (row_before before) e) (ap (λ n. n - 1) stands.lists) (action_same e)
-    lists_next (does_in k e) =
-        lists_said (does_in k e) ((first_of_last d.plan.row_lists).0 + k) ((first_of_last (first_lists before)).0 + k) (action_of names (last_row d.plan) e) (action_of names (row_before before) e)
-        (ap (λ firsts. (first_of_last firsts).0 + k) stands.firsts) (action_same e)
-    lists_next (device place settings) = lists_begun_here (device place settings) (list_count settings)
-    lists_next c = sym (append-nil (ended (said_in (before ++ c ∷ []) cs) 0 d.plan.lists))
+    lists_next x1 = search (rules, given_plan, append-nil, lists_bound, lists_said, action_same, lists_begun_here)
 
   lists_filled : (cs before : List Contribution) (d : DraftView) → Stands before d
       → (fold (with_contribution names) d cs).plan.lists ≡ ended (said_in before cs) 0 d.plan.lists ++ in_turn (lists_here names) before cs
   lists_filled [] before d stands = sym (ended-none 0 d.plan.lists) ∙ sym (append-nil (ended (λ k. []) 0 d.plan.lists))
-  lists_filled (c ∷ cs) before d stands =
-      let rest = in_turn (lists_here names) (before ++ c ∷ []) cs in
-      lists_filled cs (before ++ c ∷ []) (with_contribution names d c) (stands_more names before d stands c)
-      ∙ ap (λ l. l ++ rest) (lists_next before d stands cs c)
-      ∙ append_assoc (ended (said_in before (c ∷ cs)) 0 d.plan.lists) (lists_here names before c cs) rest
+  lists_filled (c ∷ cs) before d stands = search (rules, stands_more, lists_next, append_assoc, lists_filled cs (before ++ c ∷ []) (with_contribution names d c) (stands_more names before d stands c))
 
   -- ---- the game
 
   game_filled : (cs : List Contribution) (d : DraftView) → (fold (with_contribution names) d cs).plan.game ≡ last_or d.plan.game (flat_map (rules_here names) cs)
   game_filled [] d = refl
-  game_filled (gives t n ∷ cs) d =
-      game_filled cs (with_contribution names d (gives t n)) ∙ ap (λ p. last_or p.game (flat_map (rules_here names) cs)) (given_plan t (number_among (names t) n) d)
+  game_filled (gives t n ∷ cs) d = search (rules, given_plan, game_filled cs (with_contribution names d (gives t n)))
   game_filled (c ∷ cs) d = game_filled cs (with_contribution names d c)
 
   names_filled : (cs : List Contribution) (d : DraftView) → ((fold (with_contribution names) d cs).plan.events ≡ d.plan.events) × ((fold (with_contribution names) d cs).plan.variables ≡ d.plan.variables)
   names_filled [] d = (refl, refl)
-  names_filled (gives t n ∷ cs) d =
-      let rest = names_filled cs (with_contribution names d (gives t n)) in
-      let same = given_plan t (number_among (names t) n) d in
-      (rest.0 ∙ ap (λ p. p.events) same, rest.1 ∙ ap (λ p. p.variables) same)
+  names_filled (gives t n ∷ cs) d = search (rules, given_plan, names_filled cs (with_contribution names d (gives t n)))
   names_filled (c ∷ cs) d = names_filled cs (with_contribution names d c)
 
 -- ---- the law
@@ -265,8 +189,7 @@ computed-plan rows =
     none_before names cs = by (condition_after names cs)
       where
         by : (o : Option Condition) → where_last names o [] ++ in_turn (binding_here names) [] cs ≡ in_turn (binding_here names) [] cs
-        by None = refl
-        by (Some c) = refl
+        by x1 = search rules
 
 -- its tables have the names that are used
 pub plan-names : (rows : Rows) (t : Table) → entry_names (plan_of rows) t ≡ named_of (contributions_of rows) t

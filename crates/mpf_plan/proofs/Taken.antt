@@ -1,16 +1,13 @@
 -- The first of the contributions, and of the rows: one more.
-use Rattle.std.proofs.Common.{◌≡◌, ℕ, ◌+◌, ◌<◌, ◌≤◌, zero, suc, List, [], ◌∷◌, ◌++◌, length, fold, take, get_or, sym, ◌∙◌, ap, subst, arith}
+use Rattle.std.proofs.Common.{rules, ◌≡◌, ℕ, ◌+◌, ◌<◌, ◌≤◌, zero, suc, List, [], ◌∷◌, ◌++◌, length, fold, take, get_or, sym, ◌∙◌, ap, subst, arith}
 use Rattle.std.specs.List.{All, sum_by}
-use Rattle.std.proofs.lemmas.Grind.{flat_map-append}
+use Rattle.std.proofs.lemmas.{Grind.flat_map-append, List.{Elements.All-tail, Sums.{fold-append, sum_by-append}}}
 use Rattle.std.proofs.lemmas.List.{take_more, map-append, append-nil, length-append, length-map, get_or-map, get_or_append_left}
-use Rattle.std.proofs.lemmas.List.Elements.{All-tail}
-use Rattle.std.proofs.lemmas.List.Sums.{fold-append, sum_by-append}
 use Rattle.mpf_sections.specs.Rows.{SectionRows}
 use Rattle.plan_rows.specs.declared.rows.Row as rows
 use Rattle.plan_contributions.specs.declared.contribution.Contribution as contributions
-use Rattle.plan_contributions.specs.Contributions.{Contribution}
+use Rattle.plan_contributions.specs.{Contributions.Contribution, View.{contribution_view, contributions_view}}
 use Rattle.row_contributions.specs.Contributions.{row_contributions, given_by}
-use Rattle.plan_contributions.specs.View.{contribution_view, contributions_view}
 use Rattle.plan_rows.specs.View.{row_view, row_list_view}
 use Rattle.mpf_plan.specs.PlanOf.{rows_given, row_count, modes_given, mode_count}
 use Rattle.mpf_plan.specs.Numbering.{bindings_given, binding_count, lists_given, lists_count}
@@ -43,9 +40,7 @@ module _ (machine : List SectionRows) (f : Contribution → ℕ) where
       → sum_by f (given_by machine (row_list_view (take i rs))) + sum_by f (row_contributions machine (row_view (get_or rs i d))) ≤ sum_by f (given_by machine (row_list_view rs))
   part_sum [] i d within = absurd (omega arith)
   part_sum (r ∷ rs) zero d within = omega (arith, sum_by-append f (row_contributions machine (row_view r)) (given_by machine (row_list_view rs)))
-  part_sum (r ∷ rs) (suc i) d within =
-      let here = row_contributions machine (row_view r) in
-      omega (arith, sum_by-append f here (given_by machine (row_list_view rs)), sum_by-append f here (given_by machine (row_list_view (take i rs))), part_sum rs i d (omega arith))
+  part_sum (r ∷ rs) (suc i) d within = search (rules, sum_by-append, part_sum rs i d (omega arith))
 
 module _ (machine : List SectionRows) (rs : List rows.Row) (i : ℕ) (d : rows.Row) (within : i < length rs) where
   -- so it is with bindings, with rows of devices, with their effect lists, and with modes
@@ -76,5 +71,4 @@ all_right Q (c ∷ cs) ds all = all_right Q cs ds (All-tail Q c (cs ++ ds) all)
 pub all_of_row : (Q : Contribution → Type 0) (machine : List SectionRows) (rs : List rows.Row) (i : ℕ) (r : rows.Row) → i < length rs → All Q (given_by machine (row_list_view rs)) → All Q (row_contributions machine (row_view (get_or rs i r)))
 all_of_row Q machine [] i r within all = absurd (omega (arith, within))
 all_of_row Q machine (x ∷ rs) zero r within all = all_left Q (row_contributions machine (row_view x)) (given_by machine (row_list_view rs)) all
-all_of_row Q machine (x ∷ rs) (suc i) r within all =
-    all_of_row Q machine rs i r (omega (arith, within)) (all_right Q (row_contributions machine (row_view x)) (given_by machine (row_list_view rs)) all)
+all_of_row Q machine (x ∷ rs) (suc i) r within all = search (rules, all_right, all_of_row Q machine rs i r (omega (arith, within)) (all_right Q (row_contributions machine (row_view x)) (given_by machine (row_list_view rs)) all))

@@ -1,25 +1,18 @@
 -- The numbers of the names that contributions use: those of the names so far stay as names are added.
-use Rattle.std.proofs.Common.{◌≡◌, ℕ, suc, ◌+◌, ◌<◌, ◌≤◌, Bool, true, false, cond, not, List, [], ◌∷◌, ◌++◌, length, map, take, drop, get_or, Option, None, Some, refl, sym, ◌∙◌, ap, arith}
-use Rattle.std.specs.Str.{bytes_eq}
-use Rattle.std.specs.List.{All, position_or_len}
-use Rattle.std.proofs.lemmas.Grind.{flat_map-append}
+use Rattle.std.proofs.Common.{rules, ◌≡◌, ℕ, suc, ◌+◌, ◌<◌, ◌≤◌, Bool, cond, not, List, [], ◌∷◌, ◌++◌, length, take, drop, get_or, Option, refl, ◌∙◌, ap, arith}
+use Rattle.std.{specs.List.{All, position_or_len}, proofs.Math.Seq.{take-append_seam, drop-append_seam}}
+use Rattle.std.proofs.lemmas.{Grind.flat_map-append, List.Elements.{All-head, All-tail}}
 use Rattle.std.proofs.lemmas.List.{length-append, length-map, map-append, get_or-map, drop_more}
-use Rattle.std.proofs.Math.Seq.{take-append_seam, drop-append_seam}
-use Rattle.std.proofs.lemmas.List.Elements.{All-head, All-tail}
-use Rattle.plan_tables.specs.declared.table.Table.{Table}
-use Rattle.plan_tables.specs.Limits.{limit_of}
+use Rattle.plan_tables.specs.{declared.table.Table.Table, Limits.limit_of}
 use Rattle.mpf_sections.specs.Rows.{SectionRows}
 use Rattle.plan_rows.specs.declared.rows.Row as rows
 use Rattle.plan_rows.specs.View.{row_view, row_list_view}
 use Rattle.plan_contributions.specs.declared.contribution.Contribution as contributions
 use Rattle.plan_contributions.specs.View.{contribution_view, contributions_view}
-use Rattle.plan_contributions.specs.Contributions.{Contribution}
+use Rattle.plan_contributions.specs.{Contributions.Contribution, UsedNames.{used, name_in_table, uses}}
 use Rattle.row_contributions.specs.Contributions.{row_contributions, given_by}
-use Rattle.plan_contributions.specs.UsedNames.{used, name_in_table, uses}
-use Rattle.mpf_plan.specs.Uses.{Names, first_uses, names_from, number_among}
-use Rattle.mpf_plan.specs.Numbering.{number_in, number_of, numbers_of}
-use Rattle.mpf_plan.proofs.Firsts.{later_uses, first_uses-more}
-use Rattle.mpf_plan.proofs.Among.{IsAmong, IsKnown, all_known}
+use Rattle.mpf_plan.specs.{Uses.{Names, first_uses, names_from}, Numbering.{number_in, number_of, numbers_of}}
+use Rattle.mpf_plan.proofs.{Firsts.{later_uses, first_uses-more}, Among.{IsAmong, IsKnown, all_known}}
 
 -- a place within the front is the place
 within_front : {X : Type 0} (p : X → Bool) (xs ys : List X) → position_or_len p xs < length xs → position_or_len p (xs ++ ys) ≡ position_or_len p xs
@@ -28,8 +21,7 @@ within_front p (x ∷ xs) ys within = by (p x) (within_front p xs ys) within
   where
     by : (b : Bool) → (position_or_len p xs < length xs → position_or_len p (xs ++ ys) ≡ position_or_len p xs) → cond (not b) (1 + position_or_len p xs) 0 < suc (length xs)
         → cond (not b) (1 + position_or_len p (xs ++ ys)) 0 ≡ cond (not b) (1 + position_or_len p xs) 0
-    by true rest within = refl
-    by false rest within = ap (λ n. 1 + n) (rest (omega (arith, within)))
+    by x1 rest within = search rules
 
 module _ (cs more : List Contribution) where
   names-more : (t : Table) → names_from (cs ++ more) t ≡ names_from cs t ++ later_uses (uses t cs) (uses t more)
@@ -40,16 +32,11 @@ module _ (cs more : List Contribution) where
   count-more t = omega (arith, ap length (names-more t), length-append (names_from cs t) (later_uses (uses t cs) (uses t more)))
 
   number_stays : (o : Option (Table × List ℕ)) → IsAmong (names_from cs) o → number_in (names_from cs) o ≡ number_in (names_from (cs ++ more)) o
-  number_stays None among = refl
-  number_stays (Some (t, n)) among =
-      sym (ap (λ ns. number_among ns n) (names-more t) ∙ within_front (bytes_eq n) (names_from cs t) (later_uses (uses t cs) (uses t more)) among)
+  number_stays x1 among = search (rules, names-more, within_front, later_uses)
 
   numbers_stay : (ds : List Contribution) → All (IsKnown (names_from cs)) ds → numbers_of (names_from cs) ds ≡ numbers_of (names_from (cs ++ more)) ds
   numbers_stay [] known = refl
-  numbers_stay (d ∷ ds) known =
-      let here = number_stays (used d) (All-head (IsKnown (names_from cs)) d ds known) in
-      let rest = numbers_stay ds (All-tail (IsKnown (names_from cs)) d ds known) in
-      λ i. here i ∷ rest i
+  numbers_stay (d ∷ ds) known = search (rules, number_stays, All-head, All-tail, numbers_stay ds (All-tail (IsKnown (names_from cs)) d ds known))
 
 -- all names are within the limits
 abbrev pub AllFit : List Contribution → Type 0
@@ -58,13 +45,7 @@ AllFit cs = (t : Table) → length (names_from cs t) ≤ limit_of t
 -- one contribution more, with its number
 pub numbers_more : (cs : List Contribution) (d : Contribution) (old new : List ℕ) (n : ℕ) → (AllFit cs → old ≡ numbers_of (names_from cs) cs)
     → (AllFit (cs ++ d ∷ []) → n ≡ number_of (names_from (cs ++ d ∷ [])) d) → new ≡ old ++ n ∷ [] → AllFit (cs ++ d ∷ []) → new ≡ numbers_of (names_from (cs ++ d ∷ [])) (cs ++ d ∷ [])
-numbers_more cs d old new n so_far here is fit =
-    let f = number_of (names_from (cs ++ d ∷ [])) in
-    let before : AllFit cs = λ t. omega (arith, fit t, count-more cs (d ∷ []) t) in
-    is
-    ∙ ap (λ ns. ns ++ n ∷ []) (so_far before ∙ numbers_stay cs (d ∷ []) cs (all_known cs))
-    ∙ ap (λ k. map f cs ++ k ∷ []) (here fit)
-    ∙ sym (map-append f cs (d ∷ []))
+numbers_more cs d old new n so_far here is fit = search (rules, count-more, numbers_stay, all_known, map-append)
 
 -- ---- taken in turn
 
@@ -86,11 +67,7 @@ module _ (names : Names) (machine : List SectionRows) (rs : List rows.Row) (i : 
   of_others = numbers_of names (given_by machine (row_list_view (drop (i + 1) rs)))
 
   parts : numbers ≡ of_row ++ of_others
-  parts =
-      are
-      ∙ ap (λ l. numbers_of names (given_by machine (row_list_view l))) (drop_more rs i r within)
-      ∙ map-append (number_of names) (row_contributions machine (row_view (get_or rs i r))) (given_by machine (row_list_view (drop (i + 1) rs)))
-      ∙ ap (λ cs. numbers_of names cs ++ of_others) (sym here)
+  parts = search (rules, drop_more, map-append, get_or)
 
   count : length now ≡ length of_row
   count = omega (arith, length-map now contribution_view, length-map (contributions_view now) (number_of names))

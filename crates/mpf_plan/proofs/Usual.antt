@@ -1,23 +1,17 @@
 -- What holds of each usual contribution holds of those of switches, players, devices, shots and modes.
-use Rattle.std.proofs.Common.{ℕ, Bool, true, false, List, [], ◌∷◌, ◌++◌, map, codes}
-use Rattle.std.specs.Prelude.{Option, None, Some}
-use Rattle.std.specs.List.{All, flat_map}
+use Rattle.std.proofs.Common.{rules, ℕ, Bool, true, false, List, [], ◌∷◌, ◌++◌, map}
+use Rattle.std.specs.{Prelude.{Option, None, Some}, List.{All, flat_map}}
 use Rattle.std.proofs.lemmas.List.Elements.{All-nil, All-cons, All-append}
 use Rattle.mpf_values.specs.Events.{Condition, Event}
 use Rattle.mpf_sections.specs.Rows.{Written, Switch, EventPlayer, CoilPlayer, ModeSettings, SectionRows}
 use Rattle.plan_rows.specs.declared.place.Place.{Place}
-use Rattle.plan_rows.specs.declared.place.Place.TheVariants.{Control}
-use Rattle.plan_contributions.specs.declared.contribution.Aim.{Aim}
-use Rattle.plan_contributions.specs.declared.contribution.Aim.TheVariants.{Run, Start, Stop, Do}
-use Rattle.plan_tables.specs.declared.devices.Act.{Act}
-use Rattle.plan_tables.specs.declared.entries.SwitchKind.{SwitchKind}
-use Rattle.plan_tables.specs.declared.table.Table.{Table}
-use Rattle.plan_tables.specs.declared.table.Table.TheVariants.{Events, Switches}
-use Rattle.row_contributions.specs.DeviceEntries.{texts, events, Device}
+use Rattle.plan_contributions.specs.declared.contribution.Aim.{Aim, TheVariants.{Run, Do}}
+use Rattle.plan_tables.specs.declared.{devices.Act.Act, entries.SwitchKind.SwitchKind}
+use Rattle.plan_tables.specs.declared.table.Table.{Table, TheVariants.{Events, Switches}}
+use Rattle.row_contributions.specs.{DeviceEntries.{texts, Device}, CoilEntries.item_effect}
 use Rattle.plan_contributions.specs.Effects.{Deed, Effect, posts, works}
-use Rattle.row_contributions.specs.CoilEntries.{item_effect}
 use Rattle.plan_contributions.specs.Contributions.{Contribution, gives, reads, active, inactive, binds, does, does_in, mentions, unknown, under}
-use Rattle.row_contributions.specs.Contributions.{under_where, bound, always, active_posts, inactive_posts, kind_of, confirms, switch_contributions, player_contributions, coil_player_contributions, starter, stopper, stopper_where, stops_at_ball_end, stops_at_game_end, controls, act_binding, effects_from, unknown_unless, shot_switch, aim_at, act_at}
+use Rattle.row_contributions.specs.Contributions.{under_where, bound, active_posts, inactive_posts, kind_of, confirms, switch_contributions, player_contributions, coil_player_contributions, stopper_where, controls, act_binding, effects_from, unknown_unless, shot_switch, aim_at, act_at}
 use Rattle.row_contributions.proofs.RowFacts.{All-each, All-made, All-lists}
 
 -- P holds of contributions that are usual, and of those that do such an effect as devices do and players of events and coils
@@ -85,17 +79,7 @@ module _ (P : Contribution → Type 0) (R : Effect → Type 0) (usual : IsUsual 
   of_acts_at place row hs = All-each P (act_at place row) (λ h. of_bound h.0 place (aim_at row h.1)) hs
 
   of_stopper : (holds : Bool) (event : List ℕ) → All P (stopper_where holds event)
-  of_stopper true event = of_bound (always event) Control Stop
-  of_stopper false event = All-nil P
+  of_stopper x1 event = search rules
 
   pub of_controls : (s : ModeSettings) → All P (controls s)
-  of_controls s =
-      let starts = flat_map starter (events s.starts) in
-      let stops = flat_map stopper (events s.stops) in
-      let ball = stopper_where (stops_at_ball_end s) (codes "ball_ending") in
-      let game = stopper_where (stops_at_game_end s) (codes "game_ending") in
-      All-append P (starts ++ stops ++ ball) game
-      (All-append P (starts ++ stops) ball
-      (All-append P starts stops (All-each P starter (λ e. of_bound e Control Start) (events s.starts)) (All-each P stopper (λ e. of_bound e Control Stop) (events s.stops)))
-      (of_stopper (stops_at_ball_end s) (codes "ball_ending")))
-      (of_stopper (stops_at_game_end s) (codes "game_ending"))
+  of_controls s = search (rules, All-append, All-each, of_bound, of_stopper)

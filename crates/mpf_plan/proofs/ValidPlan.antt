@@ -1,55 +1,35 @@
 -- The plan of rows is valid where its tables are within their limits.
-use Rattle.std.proofs.Common.{◌≡◌, ◌≢◌, ℕ, suc, ◌+◌, ◌-◌, ◌<◌, ◌≤◌, ◌==◌, ◌⊎◌, inl, inr, if◌then◌else◌, Bool, true, false, List, [], ◌∷◌, ◌++◌, length, Option, None, Some, fold, set, get_or, replicate, slice_index_or, refl, sym, ◌∙◌, ap, subst, arith}
-use Rattle.std.specs.Prelude.{Ok}
-use Rattle.std.specs.Str.{bytes_eq}
-use Rattle.std.specs.List.{All, AllPairs, flat_map}
+use Rattle.std.proofs.Common.{rules, ◌≡◌, ◌≢◌, ℕ, suc, ◌+◌, ◌-◌, ◌<◌, ◌≤◌, ◌==◌, ◌⊎◌, inl, inr, if◌then◌else◌, Bool, true, false, List, [], ◌∷◌, ◌++◌, length, Option, None, Some, fold, set, get_or, replicate, slice_index_or, refl, sym, ◌∙◌, ap, subst, arith}
+use Rattle.std.specs.{Prelude.Ok, Str.bytes_eq, List.{All, AllPairs, flat_map}}
 use Rattle.std.proofs.lemmas.Bool.{cases_lt, eqb-true, eqb-false}
 use Rattle.std.proofs.lemmas.List.{length_push, length-set, get_or-set_same, get_or-set_other, get_or_push, get_or_past, set_past}
 use Rattle.std.proofs.lemmas.List.Elements.{All-nil, All-cons, All-head, All-tail, All-push, All-append, All-replicate, All-set, All-weaker, All-from_get_or}
-use Rattle.mpf_config.specs.Rows.{Rows}
-use Rattle.mpf_config.specs.Short.{AreListsShort}
-use Rattle.mpf_config.specs.FewModes.{AreFewModes}
+use Rattle.mpf_config.specs.{Rows.Rows, Short.AreListsShort, FewModes.AreFewModes}
 use Rattle.plan_contributions.specs.declared.contribution.Aim.TheVariants.{Run, Start, Stop, Do, On}
-use Rattle.plan_tables.specs.declared.entries.Action.{Action}
-use Rattle.plan_tables.specs.declared.entries.CoilId.{CoilId}
-use Rattle.plan_tables.specs.declared.entries.CoilLimits.{CoilLimits}
-use Rattle.plan_tables.specs.declared.entries.ListId.{ListId}
+use Rattle.plan_tables.specs.declared.entries.{Action.Action, CoilId.CoilId, CoilLimits.CoilLimits, ListId.ListId}
 use Rattle.plan_tables.specs.declared.entries.Owner.TheVariants as owners
 use Rattle.plan_tables.specs.declared.entries.Target.TheVariants as targets
-use Rattle.plan_tables.specs.declared.devices.Act.{Act}
-use Rattle.plan_tables.specs.declared.devices.DeviceRow.{DeviceRow}
-use Rattle.plan_tables.specs.declared.devices.RowId.{RowId}
-use Rattle.plan_tables.specs.declared.table.Table.{Table}
-use Rattle.plan_tables.specs.declared.table.Table.TheVariants.{Events, Bindings, Switches, Coils, Variables}
+use Rattle.plan_tables.specs.declared.devices.{Act.Act, DeviceRow.DeviceRow, RowId.RowId}
+use Rattle.plan_tables.specs.declared.table.Table.{Table, TheVariants.{Events, Bindings, Switches, Coils, Variables}}
 use Rattle.plan_tables.specs.declared.table.Table.TheVariants as tables
-use Rattle.plan_tables.specs.PlanView.{no_coil, PlanView, coil_at, row_at}
-use Rattle.plan_tables.specs.Devices.{IsWithinLimits, list_count}
-use Rattle.plan_tables.specs.Valid.{IsCoilWithin, IsValid, HasEntries}
+use Rattle.plan_tables.specs.{PlanView.{no_coil, PlanView, coil_at, row_at}, Valid.{IsCoilWithin, IsValid, HasEntries}}
+use Rattle.plan_tables.specs.{Devices.{IsWithinLimits, list_count}, Limits.{entry_count, limit_of}}
 use Rattle.plan_contributions.specs.Contributions.{Contribution, gives, reads, active, inactive, mode, mode_event, binds, does, device, does_in, listens, coil, under, plays}
-use Rattle.row_contributions.specs.Contributions.{contributions_of}
+use Rattle.row_contributions.{specs.Contributions.contributions_of, proofs.Aimed.rows_are_aimed}
 use Rattle.mpf_plan.specs.Uses.{Names, names_from, number_among, lacks_name}
 use Rattle.mpf_plan.specs.ByName.{latest_limits, AreLimitsByName, ListenersAreOwn}
-use Rattle.plan_tables.specs.Limits.{entry_count, limit_of}
 use Rattle.mpf_plan.specs.Filling.{DraftView, last_row, next_row, next_list, with_one_more, with_contribution, blank, plan_from}
-use Rattle.mpf_plan.specs.ByNumber.{action_of, first_of_last}
-use Rattle.mpf_plan.specs.PlanOf.{plan_of, plan_at}
-use Rattle.mpf_plan.proofs.Tables.{computed-plan}
-use Rattle.mpf_plan.proofs.Counts.{named_of}
+use Rattle.mpf_plan.specs.{ByNumber.{action_of, first_of_last}, PlanOf.{plan_of, plan_at}}
+use Rattle.mpf_plan.proofs.{Tables.computed-plan, Limited.limits_by_name}
+use Rattle.mpf_plan.proofs.{Counts.named_of, ModeWorks.{modes-count, works_are}, Ready.rows_are_ready}
 use Rattle.mpf_plan.proofs.Drafted.{given_plan, names-from, count-bindings, count-rows, count-row_lists, count-lists, lists_few}
-use Rattle.mpf_plan.proofs.Judged.{plan_at-Ok, plan_at-complete}
+use Rattle.mpf_plan.proofs.{Judged.{plan_at-Ok, plan_at-complete}, Heard.{rows_are_heard, plain_of_heard}}
 use Rattle.row_contributions.specs.Facts.{AreShort, IsRoomy, effects_after, effects_in_after, full, AreLimits, IsLimited, given_coil}
-use Rattle.row_contributions.proofs.Aimed.{rows_are_aimed}
 use Rattle.row_contributions.proofs.BallRows.{rows_are_fitting, targets_are_rows, drains_are_in_games}
 use Rattle.row_contributions.proofs.RowFacts.{rows_are_short, rows_are_open, rows_are_limited, rows_are_placed}
-use Rattle.mpf_plan.proofs.Apart.{all_apart, named_apart}
-use Rattle.mpf_plan.proofs.Heard.{rows_are_heard, plain_of_heard}
-use Rattle.mpf_plan.proofs.Limited.{limits_by_name}
+use Rattle.mpf_plan.proofs.{Apart.{all_apart, named_apart}, Steps.{at_any, blank_end}}
 use Rattle.mpf_plan.proofs.Owned.{IsOwnTarget, IsOwnBinding, IsOwnListener, IsOwnSwitch, own_drafted}
-use Rattle.mpf_plan.proofs.SoundDraft.{has_entries}
-use Rattle.mpf_plan.proofs.Steps.{at_any, blank_end}
-use Rattle.mpf_plan.proofs.ModeWorks.{modes-count, works_are}
-use Rattle.mpf_plan.proofs.GameWorks.{game_works_are}
-use Rattle.mpf_plan.proofs.Ready.{rows_are_ready}
+use Rattle.mpf_plan.proofs.{SoundDraft.has_entries, GameWorks.game_works_are}
 
 -- ---- the lengths of effect lists
 
@@ -208,11 +188,7 @@ module _ (names : Names) where
 -- the limits that are given are within bounds of their own
 limits_given : (cs : List Contribution) → All IsLimited cs → All (λ g. AreLimits g.1) (flat_map given_coil cs)
 limits_given [] each = All-nil (λ g. AreLimits g.1)
-limits_given (c ∷ cs) each = All-append (λ g. AreLimits g.1) (given_coil c) (flat_map given_coil cs) (here c (All-head IsLimited c cs each)) (limits_given cs (All-tail IsLimited c cs each))
-  where
-    here : (c : Contribution) → IsLimited c → All (λ g. AreLimits g.1) (given_coil c)
-    here (coil n limits) is = All-cons (λ g. AreLimits g.1) (n, limits) [] is (All-nil (λ g. AreLimits g.1))
-    here _ is = All-nil (λ g. AreLimits g.1)
+limits_given (c ∷ cs) each = search (rules, cs, All-append, All-head, All-tail, All-cons, All-nil, limits_given cs (All-tail IsLimited c cs each))
 
 -- so are those that are found of a name
 abbrev FoundWell : Option CoilLimits → Type 0
@@ -224,8 +200,7 @@ found_well n [] o each well = well
 found_well n (g ∷ gs) o each well = found_well n gs (latest_limits n o g) (All-tail (λ h. AreLimits h.1) g gs each) (by (bytes_eq n g.0))
   where
     by : (b : Bool) → FoundWell (if b then Some g.1 else o)
-    by true = All-head (λ h. AreLimits h.1) g gs each
-    by false = well
+    by x1 = search rules
 
 coils_within : (rows : Rows) → AreListsShort rows → lacks_name (contributions_of rows) ≡ false → All IsCoilWithin (plan_from (contributions_of rows)).coils
 coils_within rows short none =
@@ -269,9 +244,7 @@ valid_from rows short few_modes none_lacks within =
     }
 
 pub IsValid-plan_of : (rows : Rows) → AreListsShort rows → AreFewModes rows.modes → lacks_name (contributions_of rows) ≡ false → ((t : Table) → entry_count (plan_of rows) t ≤ limit_of t) → IsValid (plan_of rows)
-IsValid-plan_of rows short few none within =
-    let same = computed-plan rows in
-    subst IsValid same (valid_from rows short few none (subst (λ p. (t : Table) → entry_count p t ≤ limit_of t) (sym same) within))
+IsValid-plan_of rows short few none within = search (rules, few, none, computed-plan, valid_from)
 
 -- ---- whatever the rows are
 

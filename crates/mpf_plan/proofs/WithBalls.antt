@@ -1,28 +1,20 @@
 -- What the plan of contributions does with balls is right.
-use Rattle.std.proofs.Common.{◌≡◌, ℕ, suc, ◌+◌, ◌-◌, ◌<◌, ◌≤◌, ◌==◌, ◌⊎◌, inl, inr, if◌then◌else◌, Bool, true, false, List, [], ◌∷◌, ◌++◌, length, map, fold, set, get_or, refl, sym, ◌∙◌, ap, subst, arith}
-use Rattle.std.specs.Prelude.{Option, None, Some, IfSome, option_map, slice_get, Ok}
-use Rattle.std.specs.List.{All, AllPairs, flat_map}
+use Rattle.std.proofs.Common.{rules, ◌≡◌, ℕ, suc, ◌+◌, ◌-◌, ◌<◌, ◌≤◌, ◌==◌, ◌⊎◌, inl, inr, if◌then◌else◌, Bool, true, false, List, [], ◌∷◌, ◌++◌, length, map, fold, set, get_or, refl, sym, ◌∙◌, ap, subst, arith}
+use Rattle.std.specs.{Prelude.{Option, None, Some, IfSome, slice_get, Ok}, List.{All, AllPairs, flat_map}}
 use Rattle.std.proofs.Math.Seq.{map-set_same}
-use Rattle.std.proofs.lemmas.Bool.{cases_lt, eq-eqb}
+use Rattle.std.proofs.lemmas.{Bool.{cases_lt, eq-eqb}, Option.{slice_get-map, slice_get-get_or}}
 use Rattle.std.proofs.lemmas.List.{map-set, get_or-map, get_or_past, get_or_append_left, get_or_push, length_push, length-map}
 use Rattle.std.proofs.lemmas.List.Elements.{All-nil, All-push, All-head, All-tail, All-map, All-from_get_or}
-use Rattle.std.proofs.lemmas.Option.{slice_get-map, slice_get-get_or}
-use Rattle.mpf_config.specs.Rows.{Rows}
-use Rattle.mpf_config.specs.Short.{AreListsShort}
-use Rattle.plan_contributions.specs.declared.contribution.Aim.{Aim}
+use Rattle.mpf_config.specs.{Rows.Rows, Short.AreListsShort}
+use Rattle.plan_contributions.specs.{declared.contribution.Aim.Aim, Effects.Effect}
 use Rattle.plan_contributions.specs.declared.contribution.Aim.TheVariants as aims
 use Rattle.plan_rows.specs.declared.place.Place.{Place}
-use Rattle.plan_tables.specs.Devices.{list_count}
-use Rattle.plan_tables.specs.PlanView.{PlanSwitch, no_switch, PlanView, no_binding, no_row}
-use Rattle.plan_tables.specs.declared.devices.DeviceRow.{DeviceRow}
-use Rattle.plan_tables.specs.declared.devices.Settings.{Settings}
+use Rattle.plan_tables.specs.{Devices.list_count, declared.entries.{Action.Action, Listener.Listener}}
+use Rattle.plan_tables.specs.PlanView.{PlanSwitch, no_switch, PlanView, no_binding}
+use Rattle.plan_tables.specs.declared.devices.{DeviceRow.DeviceRow, Settings.Settings}
 use Rattle.plan_tables.specs.declared.devices.Settings.TheVariants as kinds
-use Rattle.plan_tables.specs.declared.entries.Action.{Action}
-use Rattle.plan_tables.specs.declared.entries.Listener.{Listener}
-use Rattle.plan_tables.specs.declared.entries.Target.{Target}
-use Rattle.plan_tables.specs.declared.entries.Target.TheVariants.{Run, Start, Stop, Act}
+use Rattle.plan_tables.specs.declared.entries.Target.{Target, TheVariants.{Run, Start, Stop, Act}}
 use Rattle.plan_tables.specs.declared.table.Table.TheVariants.{Events, Switches}
-use Rattle.plan_contributions.specs.Effects.{Effect, posts, works, changes, enters, leaves, loses, arrives, requests, adds_balls}
 use Rattle.plan_contributions.specs.Contributions.{Contribution, gives, reads, active, inactive, binds, does, device, does_in, listens, mentions, unknown, under}
 use Rattle.row_contributions.specs.Contributions.{contributions_of}
 use Rattle.row_contributions.specs.BallFacts.{IsOfNoBall, IsRightRow, LastRow, with_switch, with_effect, last_after, IsRight, IfRow, IsOffBallsAt, IsFitting, AreFitting, row_settings, ActsOffBalls, heard_after, IsHeardOnce, AreHeardOnce}
@@ -30,36 +22,19 @@ use Rattle.row_contributions.specs.Facts.{effects_after, effects_in_after, full,
 use Rattle.row_contributions.proofs.RowFacts.{rows_are_short, rows_are_of_machine}
 use Rattle.row_contributions.proofs.BallRows.{rows_are_fitting, acts_are_off_balls}
 use Rattle.plan_tables.specs.BallRows.{IsNoBallDevice, IsSwitchOf, BooksNothing, IsOffBalls, AreOfTwoRows, AreApart, IsOwnBallDevice, BallDevicesAreOwn, BookingsAreRight}
-use Rattle.mpf_plan.specs.Uses.{Names, names_from, number_among}
-use Rattle.mpf_plan.specs.Filling.{DraftView, last_row, target_at, next_binding, next_row, next_listener, heard_by, lists_for, with_one_more, conditioned, with_contribution, named_switch, blank, drafted, last_mode}
-use Rattle.mpf_plan.specs.ByNumber.{event_of, action_of, first_of_last, condition_of, owner_at}
-use Rattle.mpf_plan.specs.PlanOf.{plan_of, plan_at}
-use Rattle.mpf_plan.proofs.Tables.{computed-plan}
-use Rattle.mpf_plan.proofs.Among.{IsKnown, all_known}
-use Rattle.mpf_plan.proofs.Drafted.{given_plan}
+use Rattle.mpf_plan.specs.{Uses.{Names, names_from, number_among}, PlanOf.{plan_of, plan_at}}
+use Rattle.mpf_plan.specs.Filling.{DraftView, last_row, target_at, next_binding, next_row, next_listener, heard_by, lists_for, with_one_more, conditioned, with_contribution, named_switch, blank, drafted}
+use Rattle.mpf_plan.specs.ByNumber.{event_of, action_of, first_of_last, condition_of}
+use Rattle.mpf_plan.proofs.{Tables.computed-plan, Drafted.given_plan, RowOwners.{settings_of, settings_fold, rows_kept}}
+use Rattle.mpf_plan.proofs.{Among.{IsKnown, all_known}, Judged.plan_at-Ok, Steps.All-changed}
 use Rattle.mpf_plan.proofs.Listening.{all_of_first, all_of_second, heard_all, with_one, AreListening, listening_device, listening_more, listening_none}
-use Rattle.mpf_plan.proofs.Judged.{plan_at-Ok}
 use Rattle.mpf_plan.proofs.Ready.{IsLow, IsReady, IsNumberedIn, rows_are_ready}
 use Rattle.mpf_plan.proofs.RowActions.{settings_at, IsRunOfNone, count_of, AreMade, made_outside, made_bound, made_changed, made_begun, made_device, made_right, made_inside, made_besides, made_heard, made_none, no_ball}
-use Rattle.mpf_plan.proofs.RowOwners.{settings_of, settings_fold, rows_kept}
-use Rattle.mpf_plan.proofs.Steps.{All-changed}
 
 -- ---- what comes into the lists of a row
 
-low_nothing : (k : ℕ) (e : Effect) → 7 ≤ k → IsLow k e → IsOfNoBall e
-low_nothing k (posts n) from low = tt
-low_nothing k (works n deed) from low = tt
-low_nothing k (changes v action n) from low = tt
-low_nothing k (enters n drain) from low = absurd (omega (arith, from, low))
-low_nothing k leaves from low = absurd (omega (arith, from, low))
-low_nothing k loses from low = absurd (omega (arith, from, low))
-low_nothing k arrives from low = absurd (omega (arith, from, low))
-low_nothing k (requests n) from low = tt
-low_nothing k (adds_balls n) from low = tt
-
 right_nothing : (place : Place) (settings : Settings) (done : ℕ → List Effect) → IsNoBallDevice settings → IsRightRow place settings done → (k : ℕ) → All IsOfNoBall (done k)
-right_nothing place (kinds.BallDevice d) done none right = absurd none
-right_nothing place _ done none right = right
+right_nothing place x2 done none right = search rules
 
 -- what a row that is no ball device does so far has nothing to do with balls, where that fits what comes after it
 nothing_so_far : (cs : List Contribution) (x : LastRow) → IsNoBallDevice x.settings → AreFitting (Some x) cs → (k : ℕ) → All IsOfNoBall (x.done k)
@@ -88,8 +63,7 @@ part_of cs x k e low fits = by x.settings refl
     by (kinds.BallDevice d) same = seven (cases_lt k 7)
       where
         seven : (k < 7) ⊎ (7 ≤ k) → (k < list_count x.settings) ⊎ IsOfNoBall e
-        seven (inl below) = inl (omega (arith, below, ap list_count same))
-        seven (inr from) = inr (low_nothing k e from low)
+        seven x1 = search rules
     by _ same = inr (here (k == k) (eq-eqb k k refl) (nothing_so_far cs (with_effect k e x) (subst IsNoBallDevice (sym same) tt) fits k))
 
 -- ---- switches
@@ -107,10 +81,7 @@ heard_more l ss i =
     ∙ ap (λ ls. set (heard_in ss) i (ls ++ l ∷ [])) (by (cases_lt i (length ss)))
   where
     by : (i < length ss) ⊎ (length ss ≤ i) → (get_or ss i no_switch).listeners ≡ get_or (heard_in ss) i []
-    by (inl inside) = sym (get_or-map (λ (s : PlanSwitch). s.listeners) ss i no_switch [] inside)
-    by (inr past) =
-        ap (λ (s : PlanSwitch). s.listeners) (get_or_past ss i no_switch past)
-        ∙ sym (get_or_past (heard_in ss) i [] (omega (arith, past, length-map ss (λ (s : PlanSwitch). s.listeners))))
+    by x1 = search (rules, get_or-map, get_or_past, length-map)
 
 heard_flat : (ss : List PlanSwitch) → flat_map (λ (s : PlanSwitch). s.listeners) ss ≡ heard_all (heard_in ss)
 heard_flat [] = refl
@@ -121,9 +92,7 @@ of_heard P ss all i d within =
     subst P (get_or-map (λ (s : PlanSwitch). s.listeners) ss i d [] within) (all i [] (omega (arith, within, length-map ss (λ (s : PlanSwitch). s.listeners))))
 
 none_heard : (ns : List (List ℕ)) → All (λ ls. ls ≡ []) (heard_in (map named_switch ns))
-none_heard ns =
-    All-map (λ ls. ls ≡ []) (λ (s : PlanSwitch). s.listeners) (map named_switch ns)
-    (All-map (λ (s : PlanSwitch). s.listeners ≡ []) named_switch ns (All-from_get_or (λ n. (named_switch n).listeners ≡ []) ns [] (λ i inside. refl)))
+none_heard ns = search (rules, All-map, All-from_get_or)
 
 -- ---- rows
 
@@ -155,21 +124,10 @@ module _ (names : Names) where
       act_on r off = by (cases_lt r (length final))
         where
           by : (r < length final) ⊎ (length final ≤ r) → IsNoBallDevice (settings_at final r)
-          by (inl inside) =
-              subst (λ x. IfSome x IsNoBallDevice)
-              (slice_get-map (λ (x : DeviceRow). x.settings) final r ∙ ap (option_map (λ (x : DeviceRow). x.settings)) (slice_get-get_or final r no_row inside)) off
-          by (inr past) = subst (λ (x : DeviceRow). IsNoBallDevice x.settings) (sym (get_or_past final r no_row past)) tt
+          by x1 = search (rules, slice_get-map, slice_get-get_or, get_or_past)
 
       act_last : (rest : List DeviceRow) → final ≡ d.plan.rows ++ rest → (o : Option LastRow) → AreMade names n o d.plan.rows d.plan.row_lists d.plan.lists d.plan.bindings → IfRow (λ r. IsNoBallDevice r.settings) o → IsNoBallDevice (settings_at final (last_row d.plan).0)
-      act_last rest all None made off = absurd off
-      act_last rest all (Some x) made off =
-          let last = made.last in
-          let some = last.0 in
-          let at : settings_at final (length d.plan.rows - 1) ≡ x.settings =
-          ap (λ rows. settings_at rows (length d.plan.rows - 1)) all
-          ∙ ap (λ (r : DeviceRow). r.settings) (get_or_append_left d.plan.rows rest no_row (length d.plan.rows - 1) (omega (arith, some)))
-          ∙ last.1 in
-          subst IsNoBallDevice (sym at) off
+      act_last rest all x3 made off = search (rules, made, settings_at, get_or_append_left)
 
       act_off : (rest : List DeviceRow) → final ≡ d.plan.rows ++ rest → (m : List ℕ) (place : Place) (aim : Aim) → IsOffBallsAt o aim → ActsOffBalls (settings_of final) (binds m place aim) → IsActOfNone final (target_at d.plan aim)
       act_off rest all m place (aims.Do act) at off = act_last rest all o own.made at
@@ -284,10 +242,7 @@ module _ (names : Names) where
         }
       where
         by : (t : Target) → IsRunOfNone (first_of_last plan.row_lists).0 ((first_of_last plan.row_lists).0 + count_of o) plan.lists t → IsActOfNone final t → IsOffBalls plan t
-        by (Run l) run act = run.2
-        by (Start m) run act = tt
-        by (Stop m) run act = tt
-        by (Act r act_) run act = subst (λ rows. IsNoBallDevice (settings_at rows r.0)) (sym same) act
+        by x1 run act = search rules
 
     so_far_fold : (Q : List ℕ → Type 0) (cs : List Contribution) (n : ℕ) (f : ℕ → ℕ) (o : Option LastRow) (ns : List (List ℕ)) (d : DraftView) → (fold (with_contribution names) d cs).plan.rows ≡ final
         → AreShort n f cs → AreFitting o cs → AreHeardOnce ns cs → All (ActsOffBalls (settings_of final)) cs → All (IsKnown names) cs → All (IsReady Q) cs → IsSoFar n o ns d.plan → BookingsAreRight (fold (with_contribution names) d cs).plan
@@ -317,8 +272,7 @@ IsOwnRow row = IsOwnBallDevice row.settings row.owner
 
 module _ (names : Names) where
   own_row : (d : DraftView) (place : Place) (settings : Settings) → IsPlaceOf settings place → IsOwnRow (next_row d.plan place settings)
-  own_row d place (kinds.BallDevice b) is = ap (owner_at (last_mode d.plan)) is
-  own_row d place _ is = tt
+  own_row d place x3 is = search rules
 
   own_one : (d : DraftView) (c : Contribution) → IsOfMachine c → All IsOwnRow d.plan.rows → All IsOwnRow (with_contribution names d c).plan.rows
   own_one d (gives t n) is all = subst (λ (p : PlanView). All IsOwnRow p.rows) (sym (given_plan t (number_among (names t) n) d)) all

@@ -1,18 +1,13 @@
 -- What a plan says by names: of what its effect lists do, of what its coils may be sent, and of the names that are used.
 use Rattle.std.specs.Prelude.{ℕ, ◌≡◌, ◌<◌, if◌then◌else◌, List, length, fold, Option, None, Some, true, false}
-use Rattle.std.specs.List.{All, flat_map, list_any}
-use Rattle.std.specs.Str.{bytes_eq}
-use Rattle.plan_tables.specs.declared.entries.CoilId.{CoilId}
-use Rattle.plan_tables.specs.declared.entries.CoilLimits.{CoilLimits}
-use Rattle.plan_tables.specs.declared.entries.Action.{Action}
+use Rattle.std.specs.{List.{All, flat_map, list_any}, Str.bytes_eq}
+use Rattle.plan_tables.specs.declared.{entries.{CoilId.CoilId, CoilLimits.CoilLimits, Action.Action}, table.Table.Table}
 use Rattle.plan_tables.specs.declared.entries.Action.TheVariants.{Post, Pulse, Enable, Disable, Change, Enter, Leave, Lose, Arrive, Request, AddBalls}
 use Rattle.machine_definitions.specs.Players.{player_event}
 use Rattle.plan_tables.specs.declared.entries.Owner.TheVariants as owners
-use Rattle.plan_tables.specs.declared.table.Table.{Table}
 use Rattle.plan_tables.specs.PlanView.{PlanView, name_of_event, name_of_variable, coil_at, row_at}
 use Rattle.plan_contributions.specs.Effects.{pulse, enable, disable, Effect, posts, works, changes, enters, leaves, loses, arrives, requests, adds_balls}
-use Rattle.plan_contributions.specs.Contributions.{Contribution}
-use Rattle.plan_contributions.specs.UsedNames.{used, given_names}
+use Rattle.plan_contributions.specs.{Contributions.Contribution, UsedNames.{used, given_names}}
 use Rattle.row_contributions.specs.Facts.{given_coil}
 use Rattle.mpf_plan.specs.Uses.{is_to_be_given, is_unknown}
 

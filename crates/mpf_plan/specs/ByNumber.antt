@@ -1,22 +1,14 @@
 -- What a contribution says by names, by number; and what its place in the rows says.
 use Rattle.std.specs.Prelude.{ℕ, ◌-◌, List, map, length, slice_index_or}
-use Rattle.plan_tables.specs.declared.entries.EventId.{EventId}
-use Rattle.plan_tables.specs.declared.entries.CoilId.{CoilId}
-use Rattle.plan_tables.specs.declared.entries.ModeId.{ModeId}
-use Rattle.plan_tables.specs.declared.entries.Owner.{Owner}
+use Rattle.plan_tables.specs.declared.{entries.{EventId.EventId, ModeId.ModeId}, devices.RowId.RowId}
+use Rattle.plan_tables.specs.declared.entries.{CoilId.CoilId, Owner.Owner, Action.Action, ListId.ListId}
 use Rattle.plan_tables.specs.declared.entries.Owner.TheVariants as owners
-use Rattle.plan_tables.specs.declared.entries.Action.{Action}
 use Rattle.plan_tables.specs.declared.entries.Action.TheVariants.{Post, Pulse, Enable, Disable, Change, Enter, Leave, Lose, Arrive, Request, AddBalls}
 use Rattle.mpf_values.specs.Events.{Condition}
 use Rattle.plan_tables.specs.declared.entries.Condition as numbered
-use Rattle.plan_tables.specs.declared.entries.VariableId.{VariableId}
-use Rattle.plan_tables.specs.declared.entries.GameRules.{GameRules}
-use Rattle.machine_definitions.specs.GameEvents.{game_event_names}
-use Rattle.machine_definitions.specs.Players.{player_event}
-use Rattle.plan_tables.specs.declared.entries.ListId.{ListId}
-use Rattle.plan_tables.specs.declared.devices.RowId.{RowId}
-use Rattle.plan_rows.specs.declared.place.Place.{Place}
-use Rattle.plan_rows.specs.declared.place.Place.TheVariants.{Machine, Control, Mode}
+use Rattle.plan_tables.specs.declared.entries.{VariableId.VariableId, GameRules.GameRules}
+use Rattle.machine_definitions.specs.{GameEvents.game_event_names, Players.player_event}
+use Rattle.plan_rows.specs.declared.place.Place.{Place, TheVariants.{Machine, Control, Mode}}
 use Rattle.plan_tables.specs.declared.table.Table.TheVariants.{Events, Coils, Variables}
 use Rattle.plan_contributions.specs.Effects.{Deed, pulse, enable, disable, Effect, posts, works, changes, enters, leaves, loses, arrives, requests, adds_balls}
 use Rattle.mpf_plan.specs.Uses.{Names, number_among}

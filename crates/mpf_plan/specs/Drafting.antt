@@ -1,34 +1,22 @@
 -- How the draft of a plan changes while it is made, and what is found by number.
-use Rattle.std.specs.Prelude.{◌≡◌, ℕ, List, length, map, fold, slice_set, slice_index_or}
-use Rattle.std.specs.Global.{Vec}
+use Rattle.std.specs.{Prelude.{◌≡◌, ℕ, List, length, map, fold, slice_set, slice_index_or}, Global.Vec}
 use Rattle.mpf_config.specs.Rows.{Rows}
 use Rattle.machine_definitions.specs.GameEvents.{game_event_names}
-use Rattle.plan_tables.specs.declared.names.NameSets.{NameSets}
-use Rattle.plan_tables.specs.declared.table.Table.TheVariants.{Events}
-use Rattle.plan_tables.specs.declared.devices.RowId.{RowId}
-use Rattle.plan_tables.specs.declared.entries.Action.{Action}
-use Rattle.plan_tables.specs.declared.entries.CoilId.{CoilId}
-use Rattle.plan_tables.specs.declared.entries.CoilLimits.{CoilLimits}
-use Rattle.plan_tables.specs.declared.entries.EventId.{EventId}
-use Rattle.plan_tables.specs.declared.entries.ModeEntry.{ModeEntry}
-use Rattle.plan_tables.specs.declared.entries.SwitchEntry.{SwitchEntry}
+use Rattle.plan_tables.specs.declared.{names.NameSets.NameSets, table.Table.TheVariants.Events, devices.RowId.RowId}
+use Rattle.plan_tables.specs.declared.entries.{Action.Action, CoilId.CoilId, EventId.EventId, ModeEntry.ModeEntry}
+use Rattle.plan_tables.specs.declared.entries.{CoilLimits.CoilLimits, SwitchEntry.SwitchEntry}
 use Rattle.plan_tables.specs.PlanView.{PlanMode, PlanView, no_coil}
 use Rattle.plan_tables.specs.Inside.{name_sets_view, mode_entry_view, switches_view}
 use Rattle.plan_rows.specs.declared.rows.Row as written
 use Rattle.plan_rows.specs.View.{row_list_view}
-use Rattle.plan_contributions.specs.declared.contribution.Parts.{Parts}
-use Rattle.plan_contributions.specs.declared.contribution.Deed.{Deed}
-use Rattle.plan_contributions.specs.declared.contribution.Effect.{Effect}
+use Rattle.plan_contributions.specs.declared.contribution.{Parts.Parts, Deed.Deed, Effect.Effect}
 use Rattle.plan_contributions.specs.declared.contribution.Contribution as held
-use Rattle.plan_contributions.specs.Contributions.{Contribution, does, does_in}
+use Rattle.plan_contributions.specs.{Contributions.{Contribution, does, does_in}, UsedNames.used_by}
 use Rattle.row_contributions.specs.Contributions.{given_by}
-use Rattle.plan_contributions.specs.UsedNames.{used_by}
 use Rattle.plan_contributions.specs.View.{parts_text, deed_view, effect_view, contribution_view, contributions_view}
-use Rattle.mpf_plan.specs.declared.draft.Draft.{Draft}
-use Rattle.mpf_plan.specs.Inside.{limited_coils, draft_view}
-use Rattle.mpf_plan.specs.Numbering.{number_in, number_of, numbers_of}
+use Rattle.mpf_plan.specs.{declared.draft.Draft.Draft, Inside.{limited_coils, draft_view}}
+use Rattle.mpf_plan.specs.{Numbering.{number_in, number_of, numbers_of}, ByNumber.{event_of, action_with, action_of}}
 use Rattle.mpf_plan.specs.Filling.{DraftView, last_priority, limited_to, named_switch, named_coil, blank, drafted, with_contribution}
-use Rattle.mpf_plan.specs.ByNumber.{event_of, action_with, action_of}
 
 -- the contributions that these rows give
 abbrev pub given_by_rows : Rows → List written.Row → List Contribution

@@ -1,30 +1,17 @@
 -- The plan as it is computed: each contribution adds its own to what is there.
 use Rattle.std.specs.Prelude.{ℕ, ◌+◌, ◌-◌, Bool, true, false, cond, List, [], ◌∷◌, ◌++◌, None, Some, map, fold, length, replicate, slice_set, slice_index_or}
-use Rattle.plan_tables.specs.declared.entries.EventId.{EventId}
-use Rattle.plan_tables.specs.declared.entries.SwitchKind.{SwitchKind}
-use Rattle.plan_tables.specs.declared.entries.Listener.{Listener}
-use Rattle.plan_tables.specs.declared.entries.CoilLimits.{CoilLimits}
-use Rattle.plan_tables.specs.declared.entries.ModeId.{ModeId}
-use Rattle.plan_tables.specs.declared.entries.ModeEvent.{ModeEvent}
+use Rattle.plan_tables.specs.declared.entries.{EventId.EventId, Listener.Listener, GameRules.GameRules, Binding.Binding}
+use Rattle.plan_tables.specs.declared.entries.{SwitchKind.SwitchKind, ModeEvents.ModeEvents}
+use Rattle.plan_tables.specs.{declared.entries.{CoilLimits.CoilLimits, ModeEvent.ModeEvent}, Devices.list_count}
+use Rattle.plan_tables.specs.declared.entries.{ModeId.ModeId, Action.Action, Target.Target, ListId.ListId}
 use Rattle.plan_tables.specs.declared.entries.ModeEvent.TheVariants.{WillStart, Starting, Started, Stopping, Stopped}
-use Rattle.plan_tables.specs.declared.entries.ModeEvents.{ModeEvents}
-use Rattle.plan_tables.specs.declared.entries.Action.{Action}
 use Rattle.mpf_values.specs.Events.{Condition}
 use Rattle.plan_tables.specs.declared.entries.Condition as numbered
-use Rattle.plan_tables.specs.declared.entries.GameRules.{GameRules}
-use Rattle.plan_tables.specs.declared.entries.Target.{Target}
 use Rattle.plan_tables.specs.declared.entries.Target.TheVariants as targets
-use Rattle.plan_tables.specs.declared.entries.Binding.{Binding}
-use Rattle.plan_tables.specs.declared.entries.ListId.{ListId}
-use Rattle.plan_tables.specs.declared.devices.DeviceRow.{DeviceRow}
-use Rattle.plan_tables.specs.declared.devices.RowId.{RowId}
-use Rattle.plan_tables.specs.declared.devices.Settings.{Settings}
-use Rattle.plan_tables.specs.Devices.{list_count}
+use Rattle.plan_tables.specs.declared.devices.{DeviceRow.DeviceRow, RowId.RowId, Settings.Settings}
 use Rattle.plan_rows.specs.declared.place.Place.{Place}
-use Rattle.plan_contributions.specs.declared.contribution.Aim.{Aim}
-use Rattle.plan_contributions.specs.declared.contribution.Aim.TheVariants.{Run, Start, Stop, Do, On}
-use Rattle.plan_tables.specs.declared.table.Table.{Table}
-use Rattle.plan_tables.specs.declared.table.Table.TheVariants.{Events, Switches, Coils, Variables}
+use Rattle.plan_contributions.specs.declared.contribution.Aim.{Aim, TheVariants.{Run, Start, Stop, Do, On}}
+use Rattle.plan_tables.specs.declared.table.Table.{Table, TheVariants.{Events, Switches, Coils, Variables}}
 use Rattle.plan_tables.specs.PlanView.{PlanSwitch, no_switch, PlanCoil, no_binding, no_coil, PlanMode, no_event, no_mode, PlanView}
 use Rattle.plan_contributions.specs.Contributions.{Contribution, gives, reads, active, inactive, mode, mode_event, mode_event_name, binds, does, device, does_in, listens, mentions, unknown, coil, under, plays}
 use Rattle.mpf_plan.specs.Uses.{Names, names_from, number_among}

@@ -1,15 +1,11 @@
 -- What a plan that is being made holds.
 use Rattle.std.specs.Prelude.{ℕ, ◌<◌, List, [], ◌∷◌}
-use Rattle.plan_tables.specs.declared.names.NameSets.{NameSets}
-use Rattle.plan_tables.specs.declared.entries.CoilLimits.{CoilLimits}
+use Rattle.plan_tables.specs.declared.{names.NameSets.NameSets, entries.CoilLimits.CoilLimits}
 use Rattle.plan_tables.specs.declared.table.Table.TheVariants.{Coils}
-use Rattle.plan_tables.specs.PlanView.{PlanCoil}
-use Rattle.plan_tables.specs.Inside.{name_sets_view, tables_view}
-use Rattle.plan_contributions.specs.declared.contribution.Aim.{Aim}
-use Rattle.plan_contributions.specs.declared.contribution.Aim.TheVariants.{On}
+use Rattle.plan_tables.specs.{PlanView.PlanCoil, Inside.{name_sets_view, tables_view}}
+use Rattle.plan_contributions.specs.declared.contribution.Aim.{Aim, TheVariants.On}
 use Rattle.plan_contributions.specs.Contributions.{Contribution, binds}
-use Rattle.mpf_plan.specs.declared.draft.Draft.{Draft}
-use Rattle.mpf_plan.specs.Filling.{DraftView}
+use Rattle.mpf_plan.specs.{declared.draft.Draft.Draft, Filling.DraftView}
 
 -- a coil for each limits, with the name of its place, if there is one
 abbrev pub limited_coils : List (List ℕ) → List CoilLimits → List PlanCoil

@@ -1,26 +1,18 @@
 -- What the pass that numbers the names has found.
 use Rattle.std.specs.Prelude.{◌≡◌, ℕ, ◌<◌, ◌≤◌, ◌⊎◌, true, false, List, [], ◌∷◌, ◌++◌, ◌+◌, Bool, Option, None, Some, Result, Ok, Err, length, map, slice_get, fold, Vec}
-use Rattle.std.specs.Global.{Global}
+use Rattle.std.specs.{Global.Global, List.{sum_by, list_any}}
 use Rattle.indexmap.specs.IndexSet.{IndexSet}
-use Rattle.std.specs.List.{sum_by, list_any}
-use Rattle.plan_tables.specs.declared.names.NameTable.{NameTable}
-use Rattle.mpf_plan.specs.declared.fault.PlanFault.{PlanFault}
+use Rattle.plan_tables.specs.declared.{names.NameTable.NameTable, table.Table.Table}
+use Rattle.mpf_plan.specs.declared.{fault.PlanFault.PlanFault, first_uses.{Found.Found, NumberedNames.NumberedNames}}
 use Rattle.mpf_plan.specs.declared.fault.PlanFault.TheVariants as faults
-use Rattle.plan_tables.specs.Devices.{list_count}
-use Rattle.plan_tables.specs.declared.table.Table.{Table}
-use Rattle.mpf_plan.specs.declared.first_uses.Found.{Found}
-use Rattle.mpf_plan.specs.declared.first_uses.NumberedNames.{NumberedNames}
+use Rattle.plan_tables.specs.{Devices.list_count, NamesKept.names_of, Inside.name_sets_view}
 use Rattle.plan_contributions.specs.declared.contribution.Contribution as held
 use Rattle.plan_contributions.specs.View.{contribution_view, contributions_view}
-use Rattle.plan_contributions.specs.Contributions.{Contribution, binds, device}
-use Rattle.plan_contributions.specs.UsedNames.{used, given_names}
+use Rattle.plan_contributions.specs.{Contributions.{Contribution, binds, device}, UsedNames.{used, given_names}}
 use Rattle.mpf_plan.specs.Uses.{Names, names_from, number_among, is_unknown, lacks, lacks_name}
 use Rattle.plan_tables.specs.Limits.{limit_of, order_of, tables_in_order, first_above}
-use Rattle.mpf_plan.specs.Filling.{plan_from}
-use Rattle.mpf_plan.specs.PlanOf.{rows_given, row_count}
-use Rattle.plan_tables.specs.NamesKept.{names_of}
+use Rattle.mpf_plan.specs.{Filling.plan_from, PlanOf.{rows_given, row_count}}
 use Rattle.first_names.specs.FirstNames.{with_name, IsNameTableOf}
-use Rattle.plan_tables.specs.Inside.{name_sets_view}
 
 -- how many bindings a contribution gives, and how many all do
 abbrev pub bindings_given : Contribution → ℕ

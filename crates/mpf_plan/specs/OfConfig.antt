@@ -1,11 +1,8 @@
 -- What planning gives of a configuration as the program has it.
 use Rattle.std.specs.Prelude.{Result}
-use Rattle.mpf_config.specs.declared.config.Config.{Config}
-use Rattle.mpf_config.specs.View.{rows_view}
-use Rattle.plan_tables.specs.declared.table.Table.{Table}
-use Rattle.plan_tables.specs.PlanView.{PlanView}
-use Rattle.mpf_plan.specs.declared.fault.PlanFault.{PlanFault}
-use Rattle.mpf_plan.specs.PlanOf.{plan_of, plan_at, IsExceeded, GivesPlan}
+use Rattle.mpf_config.specs.{declared.config.Config.Config, View.rows_view}
+use Rattle.plan_tables.specs.{declared.table.Table.Table, PlanView.PlanView}
+use Rattle.mpf_plan.specs.{declared.fault.PlanFault.PlanFault, PlanOf.{plan_of, plan_at, IsExceeded, GivesPlan}}
 
 -- the answer is what planning the configuration gives, unless memory ran out
 abbrev pub PlansConfig : Config → Result PlanView PlanFault → Type 0

@@ -12,32 +12,20 @@
 -- this list posts `b`, and that it posts `c`. So `bindings` has one more, whose event is `a` and whose target is to run
 -- that list; and `lists` has one more, of two actions.
 use Rattle.std.specs.Prelude.{◌≡◌, ℕ, ◌+◌, ◌-◌, ◌==◌, if◌then◌else◌, cond, Bool, false, List, [], ◌∷◌, ◌++◌, Option, None, Some, Result, Ok, Err, map, length, unwrap_or}
-use Rattle.std.specs.List.{flat_map, sum_by, last_or, range_with_len}
-use Rattle.std.specs.Str.{bytes_eq}
+use Rattle.std.specs.{List.{flat_map, sum_by, last_or, range_with_len}, Str.bytes_eq}
 use Rattle.mpf_config.specs.Rows.{ModeRows, Rows}
-use Rattle.mpf_sections.specs.Rows.{ModeSettings}
-use Rattle.mpf_sections.specs.Typed.{mode_settings}
-use Rattle.plan_tables.specs.declared.entries.EventId.{EventId}
-use Rattle.plan_tables.specs.declared.entries.SwitchKind.{SwitchKind}
-use Rattle.plan_tables.specs.declared.entries.Listener.{Listener}
-use Rattle.plan_tables.specs.declared.entries.ModeId.{ModeId}
-use Rattle.plan_tables.specs.declared.entries.ModeEvent.{ModeEvent}
+use Rattle.mpf_sections.specs.{Rows.ModeSettings, Typed.mode_settings}
+use Rattle.plan_tables.specs.declared.entries.{EventId.EventId, Listener.Listener, GameRules.GameRules, Binding.Binding}
+use Rattle.plan_tables.specs.declared.entries.{SwitchKind.SwitchKind, ModeEvent.ModeEvent}
+use Rattle.plan_tables.specs.declared.entries.{ModeId.ModeId, Action.Action, Target.Target, ListId.ListId}
 use Rattle.plan_tables.specs.declared.entries.ModeEvent.TheVariants.{WillStart, Starting, Started, Stopping, Stopped}
-use Rattle.plan_tables.specs.declared.entries.Action.{Action}
 use Rattle.plan_tables.specs.declared.entries.Condition as numbered
-use Rattle.plan_tables.specs.declared.entries.GameRules.{GameRules}
-use Rattle.plan_tables.specs.declared.entries.Target.{Target}
 use Rattle.plan_tables.specs.declared.entries.Target.TheVariants as targets
-use Rattle.plan_tables.specs.declared.entries.Binding.{Binding}
-use Rattle.plan_tables.specs.declared.entries.ListId.{ListId}
-use Rattle.plan_tables.specs.declared.devices.DeviceRow.{DeviceRow}
-use Rattle.plan_tables.specs.declared.devices.RowId.{RowId}
-use Rattle.plan_tables.specs.Devices.{list_count}
-use Rattle.plan_contributions.specs.declared.contribution.Aim.{Aim}
-use Rattle.plan_contributions.specs.declared.contribution.Aim.TheVariants.{Run, Start, Stop, Do, On}
-use Rattle.plan_tables.specs.declared.table.Table.{Table}
-use Rattle.plan_tables.specs.declared.table.Table.TheVariants.{Events, Switches, Coils, Variables}
-use Rattle.mpf_plan.specs.declared.fault.PlanFault.{PlanFault}
+use Rattle.plan_tables.specs.declared.devices.{DeviceRow.DeviceRow, RowId.RowId}
+use Rattle.plan_tables.specs.{Devices.list_count, Limits.{first_above, IsFirstAbove}}
+use Rattle.plan_contributions.specs.declared.contribution.Aim.{Aim, TheVariants.{Run, Start, Stop, Do, On}}
+use Rattle.plan_tables.specs.declared.table.Table.{Table, TheVariants.{Events, Switches, Coils, Variables}}
+use Rattle.mpf_plan.specs.{declared.fault.PlanFault.PlanFault, ByName.limits_called}
 use Rattle.mpf_plan.specs.declared.fault.PlanFault.TheVariants as faults
 use Rattle.plan_tables.specs.PlanView.{PlanSwitch, no_switch, PlanCoil, no_coil, PlanMode, PlanView}
 use Rattle.plan_contributions.specs.Contributions.{Contribution, reads, active, inactive, mode, mode_event_name, binds, does, device, does_in, listens, under, plays}
@@ -45,8 +33,6 @@ use Rattle.row_contributions.specs.Contributions.{contributions_of}
 use Rattle.plan_contributions.specs.UsedNames.{given_names}
 use Rattle.mpf_plan.specs.Uses.{Names, names_from, number_among, lacks_name}
 use Rattle.mpf_plan.specs.ByNumber.{event_of, action_of, condition_of, owner_at, priority_at, rules_of, first_of_last}
-use Rattle.mpf_plan.specs.ByName.{limits_called}
-use Rattle.plan_tables.specs.Limits.{first_above, IsFirstAbove}
 
 -- ---- how many there are
 

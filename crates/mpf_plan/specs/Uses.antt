@@ -1,11 +1,8 @@
 -- The numbers of the names that contributions use, and the names that they lack.
 use Rattle.std.specs.Prelude.{ℕ, Bool, true, false, not, ◌&&◌, ◌||◌, List, [], ◌∷◌, Option, None, Some, filter}
-use Rattle.std.specs.List.{list_any, position_or_len}
-use Rattle.std.specs.Str.{bytes_eq}
-use Rattle.plan_tables.specs.declared.table.Table.{Table}
-use Rattle.plan_tables.specs.declared.table.Table.TheVariants.{Events, Variables}
-use Rattle.plan_contributions.specs.Contributions.{Contribution, unknown}
-use Rattle.plan_contributions.specs.UsedNames.{used, uses, given_names}
+use Rattle.std.specs.{List.{list_any, position_or_len}, Str.bytes_eq}
+use Rattle.plan_tables.specs.declared.table.Table.{Table, TheVariants.{Events, Variables}}
+use Rattle.plan_contributions.specs.{Contributions.{Contribution, unknown}, UsedNames.{used, uses, given_names}}
 
 -- ---- numbers
 

@@ -1,10 +1,8 @@
 -- What other entries say of the shots of a group.
-use Rattle.std.proofs.Common.{◌≡◌, true, false, ◌&&◌, ℕ, ◌+◌, ◌<◌, Bool, List, ◌∷◌, length, map, drop, get_or, Option, None, Some, option_map, refl, sym, ap, ◌∙◌}
-use Rattle.std.specs.Prelude.{is_some, not}
-use Rattle.std.specs.List.{list_all}
+use Rattle.std.proofs.Common.{◌≡◌, true, false, ◌&&◌, ℕ, ◌+◌, ◌<◌, Bool, List, length, map, drop, get_or, Option, None, Some, option_map, refl, sym, ap, ◌∙◌}
+use Rattle.std.specs.{Prelude.{is_some, not}, List.list_all}
 use Rattle.section_tables.specs.declared.rows.Name.{Name}
-use Rattle.mpf_sections.specs.Rows.{Written}
-use Rattle.mpf_sections.specs.View.{name_view}
+use Rattle.mpf_sections.specs.{Rows.Written, View.name_view}
 use Rattle.machine_definitions.proofs.Finding.{next-is}
 
 -- whether something is found, of what is found

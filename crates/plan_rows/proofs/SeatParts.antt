@@ -1,16 +1,12 @@
 -- What the entries of a text give under names, such as the seats of shots, one entry after the other.
 use Rattle.std.proofs.Common.{◌≡◌, ℕ, suc, ◌+◌, ◌<◌, Bool, List, [], ◌∷◌, ◌++◌, length, map, fold, drop, get_or, Option, refl, sym, ◌∙◌, ap, arith}
-use Rattle.std.specs.Prelude.{true, not, if◌then◌else◌}
-use Rattle.std.specs.Str.{bytes_eq}
-use Rattle.std.proofs.lemmas.List.{append_assoc, drop_more}
-use Rattle.std.proofs.lemmas.Grind.{fold-append}
+use Rattle.std.specs.{Prelude.{true, not, if◌then◌else◌}, Str.bytes_eq}
+use Rattle.std.proofs.lemmas.{List.{append_assoc, drop_more}, Grind.fold-append}
 use Rattle.section_tables.specs.declared.rows.Name.{Name}
 use Rattle.section_tables.specs.declared.rows.Entry as rows
-use Rattle.mpf_sections.specs.declared.section.Section.{Section}
-use Rattle.mpf_sections.specs.Rows.{Entry}
+use Rattle.mpf_sections.specs.{declared.section.Section.Section, Rows.Entry, TypedShots.shots_name}
 use Rattle.mpf_sections.specs.View.{name_view, entry_view, section_view}
 use Rattle.yaml_subset.specs.Keys.{is_among}
-use Rattle.mpf_sections.specs.TypedShots.{shots_name}
 use Rattle.machine_definitions.proofs.Finding.{next-is}
 use Rattle.plan_rows.specs.declared.place.Place.{Place}
 use Rattle.plan_rows.specs.Seats.{section_entries, text_entries, row_sections, has_row, rows_after, rows_after_all, Seat, seats_at, given_from, latest}

@@ -1,28 +1,17 @@
 -- What lists of rows and maps of seats gain, and what the entries and the sections of the program give to them.
-use Rattle.std.specs.Prelude.{◌≡◌, ℕ, Bool, List, ◌++◌, fold, map}
-use Rattle.std.specs.List.{list_any}
-use Rattle.std.specs.Str.{bytes_eq}
-use Rattle.std.specs.Borrow.{Bor}
-use Rattle.std.specs.HashMap.{HashMap}
-use Rattle.std.specs.HashSet.{HashSet}
-use Rattle.std.specs.Global.{Vec}
+use Rattle.std.specs.{Prelude.{◌≡◌, ℕ, Bool, List, ◌++◌, fold, map}, HashMap.HashMap, HashSet.HashSet}
+use Rattle.std.specs.{List.list_any, Str.bytes_eq, Borrow.Bor, Global.Vec}
 use Rattle.section_tables.specs.declared.rows.Entry as written_entries
 use Rattle.section_tables.specs.declared.rows.Name.{Name}
 use Rattle.section_tables.specs.declared.rows.Player as written_players
-use Rattle.mpf_sections.specs.declared.section.Section.{Section}
-use Rattle.mpf_sections.specs.Rows.{Written, Entry}
-use Rattle.mpf_sections.specs.TypedShots.{shot_of, shot_group_of}
-use Rattle.mpf_sections.specs.TypedBalls.{ball_device_of}
+use Rattle.mpf_sections.specs.{declared.section.Section.Section, TypedShots.{shot_of, shot_group_of}}
+use Rattle.mpf_sections.specs.{Rows.{Written, Entry}, TypedBalls.ball_device_of}
 use Rattle.mpf_sections.specs.View.{name_view, entry_view, player_view, section_view}
-use Rattle.mpf_config.specs.declared.config.ModeText.{ModeText}
-use Rattle.mpf_config.specs.Rows.{Rows}
-use Rattle.mpf_config.specs.View.{mode_view}
+use Rattle.mpf_config.specs.{declared.config.ModeText.ModeText, Rows.Rows, View.mode_view}
 use Rattle.machine_definitions.specs.Found.{is_found, section_rows}
-use Rattle.plan_rows.specs.declared.place.Place.{Place}
-use Rattle.plan_rows.specs.declared.place.Place.TheVariants.{Mode}
+use Rattle.plan_rows.specs.declared.{place.Place.{Place, TheVariants.Mode}, seats.Seats.Seats}
 use Rattle.plan_rows.specs.declared.rows.Row as rows
 use Rattle.plan_rows.specs.declared.seats.Seat as seats
-use Rattle.plan_rows.specs.declared.seats.Seats.{Seats}
 use Rattle.plan_rows.specs.Seats.{section_entries, text_entries, lists_shot, is_grouped, given_from, latest, Seat, seats_at, entry_seats, seat_of, entry_ball_row, destination_of, rows_after_text}
 use Rattle.plan_rows.specs.Rows.{Row, player, shot_row, ball_device_row, other_row, entry_row, rows_from, rows_in, text_rows, mode_rows}
 use Rattle.plan_rows.specs.View.{found_seat, found_row, found_destination, row_list_view}

@@ -1,8 +1,7 @@
 -- What other entries say of the shots of a group.
 use Rattle.std.specs.Prelude.{Bool, true, false, List, [], ◌∷◌, ◌++◌, map, take, replicate, Option, None, Some, is_some}
 use Rattle.std.specs.List.{list_all}
-use Rattle.mpf_sections.specs.Rows.{Written, Shot, ShotGroup}
-use Rattle.mpf_sections.specs.TypedShots.{default_profile}
+use Rattle.mpf_sections.specs.{Rows.{Written, Shot, ShotGroup}, TypedShots.default_profile}
 use Rattle.mpf_config.specs.Rows.{Rows}
 use Rattle.machine_definitions.specs.Shots.{Profile, shot_called, profile_of_name}
 

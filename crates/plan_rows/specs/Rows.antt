@@ -1,19 +1,14 @@
 -- The rows of a configuration, in plan order.
-use Rattle.std.specs.Prelude.{ℕ, Bool, if◌then◌else◌, List, [], ◌∷◌, ◌++◌, map, Option}
-use Rattle.std.specs.List.{flat_map}
-use Rattle.std.specs.Str.{bytes_eq}
+use Rattle.std.specs.{Prelude.{ℕ, Bool, if◌then◌else◌, List, [], ◌∷◌, ◌++◌, map, Option}, List.flat_map, Str.bytes_eq}
 use Rattle.mpf_sections.specs.Rows.{Entry, Player, ModeSettings, Content, entries, players, entry as single, listed, SectionRows}
 use Rattle.mpf_config.specs.Rows.{ModeRows, Rows}
-use Rattle.mpf_sections.specs.Typed.{mode_settings}
-use Rattle.plan_rows.specs.declared.place.Place.{Place}
-use Rattle.plan_rows.specs.declared.place.Place.TheVariants.{Machine, Control, Mode}
-use Rattle.plan_rows.specs.declared.destination.Destination.{Destination}
-use Rattle.mpf_sections.specs.Rows.{Shot, ShotGroup, BallDevice}
+use Rattle.mpf_sections.specs.{Typed.mode_settings, Rows.{Shot, ShotGroup, BallDevice}}
+use Rattle.plan_rows.specs.declared.place.Place.{Place, TheVariants.{Machine, Control, Mode}}
+use Rattle.plan_rows.specs.{declared.destination.Destination.Destination, Members.{Members, members_of}}
 use Rattle.mpf_sections.specs.TypedShots.{shots_name, shot_groups_name, shot_of, shot_group_of}
 use Rattle.mpf_sections.specs.TypedBalls.{ball_devices_name, ball_device_of}
 use Rattle.machine_definitions.specs.Shots.{Profile, has_profile, profile_of_name}
 use Rattle.plan_rows.specs.Seats.{Seat, seat_of, destination_of, rows_after_text}
-use Rattle.plan_rows.specs.Members.{Members, members_of}
 
 -- An entry in the section of this name, or the one that the section is; a shot, with its seat if it has one, whether
 -- its profile is known, and its profile; a group, with what is known of its shots; a ball device, which is the machine's,

@@ -1,18 +1,14 @@
 -- Which row of the plan each shot is in, and which is that of each ball device.
 use Rattle.std.specs.Prelude.{ℕ, suc, Bool, not, if◌then◌else◌, List, [], ◌∷◌, ◌++◌, map, fold, Option, None, Some}
-use Rattle.std.specs.List.{flat_map, list_any}
-use Rattle.std.specs.Str.{bytes_eq}
+use Rattle.std.specs.{List.{flat_map, list_any}, Str.bytes_eq}
 use Rattle.yaml_subset.specs.Keys.{is_among}
-use Rattle.mpf_sections.specs.Rows.{Written, Entry, ShotGroup, SectionRows}
+use Rattle.mpf_sections.specs.{Rows.{Written, Entry, ShotGroup, SectionRows}, TypedCoils.coil_rule_sections}
 use Rattle.mpf_sections.specs.Typed.{entries_in, counters_name, accruals_name, sequences_name, timers_name}
-use Rattle.mpf_sections.specs.TypedCoils.{coil_rule_sections}
 use Rattle.mpf_sections.specs.TypedShots.{shots_name, shot_groups_name, shot_group_of, shot_groups_in}
 use Rattle.mpf_sections.specs.TypedBalls.{ball_devices_name, playfield, ball_device_of}
 use Rattle.mpf_sections.specs.TypedSaves.{ball_saves_name, multiballs_name}
-use Rattle.plan_rows.specs.declared.destination.Destination.{Destination}
-use Rattle.plan_rows.specs.declared.destination.Destination.TheVariants.{Playfield, Device, Unknown}
-use Rattle.plan_rows.specs.declared.place.Place.{Place}
-use Rattle.plan_rows.specs.declared.place.Place.TheVariants.{Machine, Control, Mode}
+use Rattle.plan_rows.specs.declared.destination.Destination.{Destination, TheVariants.{Playfield, Device, Unknown}}
+use Rattle.plan_rows.specs.declared.place.Place.{Place, TheVariants.{Machine, Control, Mode}}
 
 -- the entries of a section, each with the section's name, and those of a text
 abbrev pub section_entries : SectionRows → List (List ℕ × Entry)

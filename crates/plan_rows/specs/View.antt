@@ -1,22 +1,15 @@
 -- What rows, seats and members hold.
 use Rattle.std.specs.Prelude.{ℕ, List, map, Option, option_map, if◌then◌else◌}
-use Rattle.std.specs.Borrow.{Bor}
-use Rattle.std.specs.HashMap.{HashMap}
-use Rattle.std.specs.Map.{lookup}
-use Rattle.std.specs.Str.{bytes_eq}
-use Rattle.mpf_sections.specs.View.{entry_view, player_view}
-use Rattle.mpf_sections.specs.Typed.{mode_settings}
-use Rattle.mpf_sections.specs.TypedShots.{shot_of, shot_group_of}
-use Rattle.mpf_sections.specs.TypedBalls.{playfield, ball_device_of}
+use Rattle.std.specs.{Borrow.Bor, HashMap.HashMap, Map.lookup, Str.bytes_eq}
+use Rattle.mpf_sections.specs.{View.{entry_view, player_view}, Typed.mode_settings}
+use Rattle.mpf_sections.specs.{TypedShots.{shot_of, shot_group_of}, TypedBalls.{playfield, ball_device_of}}
 use Rattle.machine_definitions.specs.Found.{has_bytes, profile_view, section_rows}
 use Rattle.plan_rows.specs.declared.rows.Row as rows
 use Rattle.plan_rows.specs.declared.rows.Row.TheVariants as row
 use Rattle.plan_rows.specs.declared.seats.Seat as seats
 use Rattle.plan_rows.specs.declared.members.Members as members
-use Rattle.plan_rows.specs.declared.destination.Destination.{Destination}
-use Rattle.plan_rows.specs.declared.destination.Destination.TheVariants.{Playfield}
-use Rattle.plan_rows.specs.Seats.{Seat, row_or_unknown}
-use Rattle.plan_rows.specs.Members.{Members}
+use Rattle.plan_rows.specs.declared.destination.Destination.{Destination, TheVariants.Playfield}
+use Rattle.plan_rows.specs.{Seats.{Seat, row_or_unknown}, Members.Members}
 use Rattle.plan_rows.specs.Rows.{Row, entry, alone, shot, group, ball_device, player, of_mode}
 
 abbrev pub seat_view : seats.Seat → Seat

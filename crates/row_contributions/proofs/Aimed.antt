@@ -1,42 +1,31 @@
 -- Acts on rows by their numbers are on rows of their own place and of the modes that have come: so it is with what the
 -- rows of each text give, whose seats are in its own rows, and so with all contributions of a configuration.
 use Rattle.std.proofs.Common.{rules, ◌≡◌, ℕ, suc, ◌+◌, ◌-◌, ◌<◌, ◌≤◌, Bool, false, if◌then◌else◌, List, [], ◌∷◌, ◌++◌, length, map, Option, None, Some, slice_get, refl, sym, ◌∙◌, ap, subst, arith, codes, length-append}
-use Rattle.std.specs.Prelude.{IfSome}
-use Rattle.std.specs.List.{All, flat_map}
-use Rattle.std.proofs.lemmas.Grind.{flat_map-append}
+use Rattle.std.specs.{Prelude.IfSome, List.{All, flat_map}}
+use Rattle.std.proofs.lemmas.{Grind.flat_map-append, Option.{slice_get-get_or, slice_get_within}}
 use Rattle.std.proofs.lemmas.List.{append_assoc, get_or_append_left, get_or-append_right}
-use Rattle.std.proofs.lemmas.Option.{slice_get-get_or, slice_get_within}
 use Rattle.std.proofs.lemmas.List.Elements.{All-nil, All-cons, All-head, All-tail, All-append, All-map}
 use Rattle.mpf_values.specs.Events.{Condition, Event}
 use Rattle.mpf_sections.specs.Rows.{Written, Entry, Player, Switch, EventPlayer, CoilPlayer, VariablePlayer, VariableItem, GameSettings, Shot, ShotGroup, BallDevice, ModeSettings, Content, entries, players, SectionRows}
 use Rattle.mpf_sections.specs.Rows as sections
-use Rattle.mpf_sections.specs.Typed.{mode_settings}
-use Rattle.mpf_sections.specs.TypedShots.{shot_of, shot_group_of}
-use Rattle.mpf_sections.specs.TypedBalls.{ball_device_of}
+use Rattle.mpf_sections.specs.{Typed.mode_settings, TypedShots.{shot_of, shot_group_of}, TypedBalls.ball_device_of}
 use Rattle.mpf_config.specs.Rows.{ModeRows, Rows}
 use Rattle.machine_definitions.specs.Shots.{Profile, has_profile, profile_of_name}
-use Rattle.plan_tables.specs.declared.devices.Act.{Act}
-use Rattle.plan_tables.specs.declared.entries.ModeEvent.{ModeEvent}
-use Rattle.plan_tables.specs.declared.entries.ModeEvent.TheVariants.{Starting, Started, Stopping, Stopped}
-use Rattle.plan_tables.specs.declared.table.Table.TheVariants.{Events}
-use Rattle.plan_contributions.specs.declared.contribution.Aim.{Aim}
-use Rattle.plan_contributions.specs.declared.contribution.Aim.TheVariants.{Run, Start, Stop, Do, On}
-use Rattle.plan_rows.specs.declared.place.Place.{Place}
-use Rattle.plan_rows.specs.declared.place.Place.TheVariants.{Machine, Control, Mode}
-use Rattle.row_contributions.specs.CoilEntries.{item_effect}
+use Rattle.plan_tables.specs.declared.{devices.Act.Act, table.Table.TheVariants.Events}
+use Rattle.plan_tables.specs.declared.entries.ModeEvent.{ModeEvent, TheVariants.{Starting, Started, Stopping, Stopped}}
+use Rattle.plan_contributions.specs.declared.contribution.Aim.{Aim, TheVariants.{Run, Start, Stop, Do, On}}
+use Rattle.plan_rows.specs.declared.place.Place.{Place, TheVariants.{Machine, Control, Mode}}
+use Rattle.row_contributions.specs.{CoilEntries.item_effect, Facts.{row_places, IsAimedAt, AreAimed}}
 use Rattle.row_contributions.specs.DeviceEntries.{texts, events, Device, device_of}
 use Rattle.plan_contributions.specs.Effects.{posts}
 use Rattle.row_contributions.specs.ShotEntries.{shot_acts, lone_device, group_device}
-use Rattle.plan_rows.specs.declared.destination.Destination.{Destination}
+use Rattle.plan_rows.specs.{declared.destination.Destination.Destination, Members.{Members, members_of}}
 use Rattle.plan_rows.specs.Seats.{Seat, seat_of, destination_of, rows_after_text}
-use Rattle.plan_rows.specs.Members.{Members, members_of}
 use Rattle.plan_contributions.specs.Contributions.{Contribution, mode, mode_event, binds, does, device, mentions}
 use Rattle.row_contributions.specs.Contributions.{under_where, bound, switch_contributions, player_contributions, coil_contributions, coil_player_contributions, item_contributions, variable_player_contributions, game_contributions, later_events, starter, stopper, stopper_where, stops_at_ball_end, stops_at_game_end, controls, mode_contributions, act_binding, effects_from, listens_from, device_contributions, where_device, machine_entry_contributions, entry_contributions, alone_contributions, player_entry_contributions, unknown_unless, shot_switch, act_at, seated, shot_contributions, group_contributions, ball_device_contributions, row_contributions, given_by, contributions_of}
 use Rattle.plan_rows.specs.Rows.{Row, alone, player, of_mode, entry_row, rows_from, rows_in, text_rows, mode_rows, modes_rows}
-use Rattle.row_contributions.specs.Facts.{row_places, IsAimedAt, AreAimed}
-use Rattle.row_contributions.proofs.Before.{All-every, All-flat_map}
+use Rattle.row_contributions.proofs.{Before.{All-every, All-flat_map}, Silent.{row_tells, rows_tell}}
 use Rattle.row_contributions.proofs.RowFacts.{All-each, All-made, All-listens, All-lists, entry_such, sections_each}
-use Rattle.row_contributions.proofs.Silent.{row_tells, rows_tell}
 use Rattle.row_contributions.proofs.SeatFacts.{row_given, silent, rows_of_text, IsRowAt, seat_at, rows_told_are, rows_counted}
 
 -- What a contribution of a text of this place is like: no mode comes by it, its row is of the place, and what it binds is

@@ -1,21 +1,15 @@
 -- What is collected of the entry of a ball device, part after part.
-use Rattle.std.proofs.Common.{◌≡◌, ℕ, ◌≤◌, List, [], ◌∷◌, ◌++◌, length, map, ◌∙◌, ap}
+use Rattle.std.proofs.{Common.{◌≡◌, ℕ, ◌≤◌, List, [], ◌∷◌, ◌++◌, length, map, ◌∙◌, ap}, lemmas.List.append_assoc}
 use Rattle.std.specs.Prelude.{slice_get}
-use Rattle.std.proofs.lemmas.List.{append_assoc}
-use Rattle.mpf_sections.specs.Rows.{Entry, BallDevice, SectionRows}
-use Rattle.mpf_sections.specs.Typed.{listed_names}
-use Rattle.mpf_sections.specs.TypedBalls.{ball_device_of}
+use Rattle.mpf_sections.specs.{Rows.{Entry, BallDevice, SectionRows}, Typed.listed_names, TypedBalls.ball_device_of}
 use Rattle.mpf_sections.proofs.ShotRows.{few_short}
 use Rattle.plan_tables.specs.declared.table.Table.TheVariants.{Events}
-use Rattle.plan_rows.specs.declared.destination.Destination.{Destination}
-use Rattle.plan_rows.specs.declared.place.Place.TheVariants.{Machine}
-use Rattle.plan_contributions.specs.declared.contribution.Parts.{Parts}
+use Rattle.plan_rows.specs.declared.{destination.Destination.Destination, place.Place.TheVariants.Machine}
+use Rattle.plan_contributions.specs.{declared.contribution.Parts.Parts, Effects.posts, View.parts_text}
 use Rattle.row_contributions.specs.DeviceEntries.{texts}
-use Rattle.plan_contributions.specs.Effects.{posts}
 use Rattle.row_contributions.specs.BallEntries.{drains, ball_lists, entry_mentions, ball_settings, is_known}
 use Rattle.plan_contributions.specs.Contributions.{Contribution, device, does_in, mentions}
 use Rattle.row_contributions.specs.Contributions.{effects_from, listens_from, device_contributions, unknown_unless, ball_device_contributions}
-use Rattle.plan_contributions.specs.View.{parts_text}
 
 -- some contributions after others
 pub then_these : {X : Type 0} (old now new xs ys : List X) → now ≡ old ++ xs → new ≡ now ++ ys → new ≡ old ++ (xs ++ ys)

@@ -2,46 +2,31 @@
 -- have to do with balls, and no event acts on them.
 use Rattle.std.proofs.Common.{rules, ◌≡◌, ℕ, suc, ◌+◌, ◌<◌, ◌≤◌, ◌==◌, Bool, true, false, if◌then◌else◌, List, [], ◌∷◌, ◌++◌, length, map, get_or, true≢false, refl, sym, ◌∙◌, ap, subst, arith, codes}
 use Rattle.std.specs.Prelude.{Option, None, Some, option_map, IfSome, slice_get, ◌≢◌}
-use Rattle.std.specs.Str.{bytes_eq}
-use Rattle.std.specs.List.{All, AllPairs, flat_map, list_any}
-use Rattle.std.proofs.lemmas.Bool.{or_left}
-use Rattle.mpf_sections.proofs.DeviceRows.{both}
-use Rattle.std.proofs.lemmas.Grind.{flat_map-append}
-use Rattle.std.proofs.lemmas.List.{append_assoc, length-map}
+use Rattle.std.specs.{Str.bytes_eq, List.{All, AllPairs, flat_map, list_any}}
+use Rattle.std.proofs.lemmas.{Bool.or_left, Grind.flat_map-append, Option.{slice_get-map, slice_get_within}}
+use Rattle.mpf_sections.{proofs.DeviceRows.both, specs.Rows.{Written, Entry, BallDevice, Content, SectionRows}}
+use Rattle.std.proofs.lemmas.List.{append_assoc, length-map, Folds.list_any-append}
 use Rattle.std.proofs.lemmas.List.Elements.{All-nil, All-cons, All-head, All-tail, All-append, All-weaker}
-use Rattle.std.proofs.lemmas.List.Folds.{list_any-append}
-use Rattle.std.proofs.lemmas.Option.{slice_get-map, slice_get_within}
 use Rattle.mpf_values.specs.Events.{Condition, Event}
-use Rattle.mpf_sections.specs.Rows.{Written, Entry, BallDevice, Content, SectionRows}
-use Rattle.mpf_sections.specs.TypedGame.{game_name, game_of}
-use Rattle.mpf_sections.specs.TypedBalls.{is_drain, ball_devices_in}
+use Rattle.mpf_sections.specs.{TypedGame.{game_name, game_of}, TypedBalls.{is_drain, ball_devices_in}}
 use Rattle.mpf_config.specs.Rows.{Rows}
-use Rattle.plan_tables.specs.declared.devices.Act.{Act}
-use Rattle.plan_tables.specs.declared.devices.Settings.{Settings}
-use Rattle.plan_tables.specs.Valid.{IsTargetThere}
-use Rattle.plan_tables.specs.declared.table.Table.TheVariants.{Events}
-use Rattle.plan_rows.specs.declared.destination.Destination.{Destination}
+use Rattle.plan_tables.specs.declared.{devices.{Act.Act, Settings.Settings}, table.Table.TheVariants.Events}
+use Rattle.plan_tables.specs.{Valid.IsTargetThere, BallRows.{IsNoBallDevice, IsSwitchOf}}
+use Rattle.plan_rows.specs.declared.{destination.Destination.Destination, place.Place.{Place, TheVariants.Machine}}
 use Rattle.plan_rows.specs.declared.destination.Destination.TheVariants as destinations
-use Rattle.plan_rows.specs.declared.place.Place.{Place}
-use Rattle.plan_rows.specs.declared.place.Place.TheVariants.{Machine}
 use Rattle.plan_rows.specs.Seats.{Seat, seat_of, destination_of, rows_after_text}
 use Rattle.plan_rows.specs.Rows.{alone, rows_from, rows_in, modes_rows, rows_of}
-use Rattle.plan_contributions.specs.declared.contribution.Aim.{Aim}
-use Rattle.plan_contributions.specs.declared.contribution.Aim.TheVariants.{Do, On}
-use Rattle.row_contributions.specs.CoilEntries.{defaults_called, own_pulse}
-use Rattle.row_contributions.specs.DeviceEntries.{texts}
+use Rattle.plan_contributions.specs.declared.contribution.Aim.{Aim, TheVariants.{Do, On}}
+use Rattle.row_contributions.specs.{CoilEntries.{defaults_called, own_pulse}, DeviceEntries.texts}
 use Rattle.plan_contributions.specs.Effects.{Effect, posts, works, enters, leaves, loses, arrives}
 use Rattle.row_contributions.specs.BallEntries.{is_entry, is_game, has_game, drains, ball_event, eject_pulse, ball_lists, target_of, ball_settings, ball_device_from}
 use Rattle.plan_contributions.specs.Contributions.{Contribution, binds, device, does_in, listens, mentions, under}
 use Rattle.row_contributions.specs.Contributions.{Device, act_binding, effects_from, listens_from, device_contributions, game_contributions, alone_contributions, row_contributions, given_by, contributions_of}
-use Rattle.plan_tables.specs.BallRows.{IsNoBallDevice, IsSwitchOf}
 use Rattle.row_contributions.specs.BallFacts.{IsOfNoBall, IsBallFree, IsRightRow, LastRow, last_after, IsRight, IsFitting, AreFitting, row_settings, IsTargetAmong, HasTarget, ActsOffBalls, is_plays, DrainsIn, DrainsInGame, AllDrainInGame, AreHeardOnce}
 use Rattle.row_contributions.specs.Doing.{IsBallDeviceDoing, IsMachineDoing, AreDoing}
 use Rattle.row_contributions.proofs.Before.{each_before, all_before, under_before, All-bound, each_some}
 use Rattle.row_contributions.proofs.RowFacts.{All-each, All-made, All-listens, All-lists, one, attempts, seven}
-use Rattle.row_contributions.proofs.SwitchesGiven.{or_weaker}
-use Rattle.row_contributions.proofs.Silent.{rows_tell}
-use Rattle.row_contributions.proofs.SeatFacts.{is_ball, row_given, silent}
+use Rattle.row_contributions.proofs.{SwitchesGiven.or_weaker, Silent.rows_tell, SeatFacts.{is_ball, row_given, silent}}
 use Rattle.row_contributions.proofs.Kept.{IsPlainAim, IsPlain, IsBallRow, IsPlainDevice, IsKept, row_kinds, all_kept}
 
 -- every ball device is such

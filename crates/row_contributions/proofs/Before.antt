@@ -1,13 +1,10 @@
 -- What holds of contributions, and still where others come before them.
 use Rattle.std.proofs.Common.{rules, List, [], ◌∷◌, ◌++◌, map, get_or, sym, subst}
-use Rattle.std.specs.Prelude.{Option, IfSome, unwrap_or}
-use Rattle.std.specs.List.{All, flat_map}
-use Rattle.std.proofs.lemmas.List.{append_assoc}
-use Rattle.std.proofs.lemmas.List.Elements.{All-nil, All-cons, All-head, All-tail, All-append}
+use Rattle.std.specs.{Prelude.{Option, IfSome, unwrap_or}, List.{All, flat_map}}
+use Rattle.std.proofs.lemmas.List.{append_assoc, Elements.{All-nil, All-cons, All-head, All-tail, All-append}}
 use Rattle.mpf_values.specs.Events.{Condition, Event}
-use Rattle.plan_contributions.specs.declared.contribution.Aim.{Aim}
+use Rattle.plan_contributions.specs.{declared.contribution.Aim.Aim, Contributions.{Contribution, binds, under}}
 use Rattle.plan_rows.specs.declared.place.Place.{Place}
-use Rattle.plan_contributions.specs.Contributions.{Contribution, binds, under}
 use Rattle.row_contributions.specs.Contributions.{under_where, bound}
 
 module _ (Q : List Contribution → Type 0) where

@@ -1,19 +1,14 @@
 -- What a coil is sent is within its range: the coil that is found by a name says so, or what an item says of it.
 use Rattle.std.proofs.Common.{rules, ℕ, Bool, if◌then◌else◌, List, [], ◌∷◌, get_or}
-use Rattle.std.specs.Prelude.{Option, None, Some, IfSome, fold}
-use Rattle.std.specs.Str.{bytes_eq}
-use Rattle.std.specs.List.{All, flat_map}
+use Rattle.std.specs.{Prelude.{Option, None, Some, IfSome, fold}, Str.bytes_eq, List.{All, flat_map}}
 use Rattle.std.proofs.lemmas.List.Elements.{All-nil, All-cons, All-tail}
-use Rattle.mpf_sections.specs.declared.words.CoilAction.{CoilAction}
+use Rattle.mpf_sections.{specs.declared.words.CoilAction.CoilAction, proofs.CoilRows.coils_in_range}
 use Rattle.mpf_sections.specs.Rows.{Written, Coil, CoilItem, Flipper, Autofire, SectionRows}
-use Rattle.mpf_sections.specs.TypedCoils.{coils_in}
-use Rattle.mpf_sections.specs.Short.{IsCoilInRange, IsItemInRange}
-use Rattle.mpf_sections.proofs.CoilRows.{coils_in_range}
+use Rattle.mpf_sections.specs.{TypedCoils.coils_in, Short.{IsCoilInRange, IsItemInRange}}
 use Rattle.machine_definitions.specs.Definitions.{latest_coil, no_coil, coil_of_name}
 use Rattle.row_contributions.specs.CoilEntries.{defaults_called, own_pulse, own_hold, deed_by, item_effect, flipper_device, autofire_device}
 use Rattle.plan_contributions.specs.Effects.{Deed, disable, Effect, works}
-use Rattle.row_contributions.specs.Facts.{IsDeedInRange, IsEffectInRange}
-use Rattle.row_contributions.proofs.Before.{All-flat_map, or_else}
+use Rattle.row_contributions.{specs.Facts.{IsDeedInRange, IsEffectInRange}, proofs.Before.{All-flat_map, or_else}}
 
 abbrev IsRanged : Option Coil → Type 0
 IsRanged o = IfSome o IsCoilInRange

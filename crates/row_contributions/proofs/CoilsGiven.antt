@@ -1,26 +1,18 @@
 -- The coils that contributions give are those of the machine text, in order.
 use Rattle.std.proofs.Common.{rules, ◌≡◌, ℕ, Bool, if◌then◌else◌, List, [], ◌∷◌, ◌++◌, map, refl, ◌∙◌, ap}
-use Rattle.std.specs.Prelude.{Option}
-use Rattle.std.specs.List.{flat_map}
-use Rattle.std.proofs.lemmas.Grind.{flat_map-append}
-use Rattle.std.proofs.lemmas.List.{map-append, append-nil}
-use Rattle.std.proofs.lemmas.Slice.Eq.{bytes_eq-Decides}
-use Rattle.mpf_sections.specs.Rows.{Entry, Coil, Content, SectionRows}
-use Rattle.mpf_sections.specs.TypedCoils.{coils_name, coil_of, coils_in}
+use Rattle.std.specs.{Prelude.Option, List.flat_map}
+use Rattle.std.proofs.lemmas.{Grind.flat_map-append, List.{map-append, append-nil}, Slice.Eq.bytes_eq-Decides}
+use Rattle.mpf_sections.specs.{Rows.{Entry, Coil, Content, SectionRows}, TypedCoils.{coils_name, coil_of, coils_in}}
 use Rattle.mpf_config.specs.Rows.{ModeRows, Rows}
-use Rattle.plan_tables.specs.declared.devices.Settings.{Settings}
-use Rattle.plan_tables.specs.declared.entries.CoilLimits.{CoilLimits}
-use Rattle.plan_rows.specs.declared.place.Place.{Place}
-use Rattle.plan_rows.specs.declared.place.Place.TheVariants.{Machine, Mode}
-use Rattle.row_contributions.specs.CoilEntries.{limits_of_coil}
+use Rattle.plan_tables.specs.declared.{devices.Settings.Settings, entries.CoilLimits.CoilLimits}
+use Rattle.plan_rows.specs.declared.place.Place.{Place, TheVariants.{Machine, Mode}}
+use Rattle.row_contributions.specs.{CoilEntries.limits_of_coil, Facts.{given_coil, AreCoilsOf}}
 use Rattle.plan_rows.specs.declared.destination.Destination.{Destination}
 use Rattle.plan_rows.specs.Seats.{Seat, seat_of, destination_of, rows_after_text}
 use Rattle.plan_contributions.specs.Contributions.{device}
 use Rattle.row_contributions.specs.Contributions.{coil_contributions, contributions_of}
 use Rattle.plan_rows.specs.Rows.{Row, entry_row, rows_from, rows_in, mode_rows, modes_rows}
-use Rattle.row_contributions.specs.Facts.{given_coil, AreCoilsOf}
-use Rattle.row_contributions.proofs.RowFacts.{entry_such}
-use Rattle.row_contributions.proofs.Silent.{IsSilent, told, rows_tell, none_machine}
+use Rattle.row_contributions.proofs.{RowFacts.entry_such, Silent.{IsSilent, told, rows_tell, none_machine}}
 
 silent : IsSilent given_coil
 silent = search rules

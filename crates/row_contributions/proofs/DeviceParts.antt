@@ -1,29 +1,22 @@
 -- What is collected of the entry of a device, part after part.
 use Rattle.std.proofs.Common.{rules, ◌≡◌, true, false, ℕ, ◌+◌, ◌<◌, List, [], ◌∷◌, ◌++◌, length, map, drop, get_or, refl, sym, ◌∙◌, ap}
-use Rattle.std.specs.Prelude.{Option, Some}
-use Rattle.std.proofs.lemmas.List.{append-nil, append_assoc, map-append, drop_more}
-use Rattle.std.proofs.lemmas.Grind.{flat_map-append}
-use Rattle.std.specs.List.{flat_map}
+use Rattle.std.specs.{Prelude.{Option, Some}, List.flat_map, Str.bytes_eq}
+use Rattle.std.proofs.lemmas.{List.{append-nil, append_assoc, map-append, drop_more}, Grind.flat_map-append}
 use Rattle.mpf_values.specs.Events.{Event}
-use Rattle.std.specs.Str.{bytes_eq}
-use Rattle.mpf_sections.specs.Rows.{Handled, Entry, Control}
+use Rattle.mpf_sections.specs.{Rows.{Handled, Entry, Control}, View.name_view}
 use Rattle.mpf_sections.specs.Typed.{counters_name, accruals_name, sequences_name, timers_name, with_control, step_block_of, timer_of}
 use Rattle.plan_tables.specs.declared.devices.Settings.TheVariants as kinds
-use Rattle.plan_tables.specs.declared.devices.Act.{Act}
-use Rattle.plan_tables.specs.declared.devices.Act.TheVariants.{Step}
-use Rattle.plan_tables.specs.declared.devices.Settings.{Settings}
+use Rattle.plan_tables.specs.declared.devices.{Act.{Act, TheVariants.Step}, Settings.Settings}
 use Rattle.plan_tables.specs.declared.table.Table.TheVariants.{Events}
 use Rattle.plan_contributions.specs.declared.contribution.Contribution as contributions
 use Rattle.plan_contributions.specs.declared.contribution.Contribution.TheVariants as contribution
 use Rattle.plan_rows.specs.declared.place.Place.{Place}
 use Rattle.section_tables.specs.declared.rows.Name.{Name}
-use Rattle.mpf_sections.specs.View.{name_view}
 use Rattle.row_contributions.specs.DeviceEntries.{texts, device_of, step_settings, step_device, timer_device, acts, step_acts, controlled}
-use Rattle.plan_contributions.specs.Effects.{Effect}
+use Rattle.plan_contributions.specs.{Effects.Effect, View.contributions_view}
 use Rattle.row_contributions.specs.SaveEntries.{save_device_of}
 use Rattle.plan_contributions.specs.Contributions.{Contribution, device, does_in, listens, mentions}
 use Rattle.row_contributions.specs.Contributions.{Device, act_binding, effects_from, listens_from, device_contributions}
-use Rattle.plan_contributions.specs.View.{contributions_view}
 
 -- what is made of some things, and then of others
 pub mapped_after : {X : Type 0} (f : X → Contribution) (old : List Contribution) (xs ys : List X) → (old ++ map f xs) ++ map f ys ≡ old ++ map f (xs ++ ys)

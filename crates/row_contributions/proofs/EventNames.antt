@@ -1,19 +1,12 @@
 -- The names that contributions use.
-use Rattle.std.proofs.Common.{rules, List, ℕ}
-use Rattle.std.specs.Prelude.{Option, None, Some}
-use Rattle.std.specs.List.{All}
-use Rattle.std.proofs.lemmas.List.Elements.{All-nil, All-weaker}
-use Rattle.mpf_config.specs.Rows.{Rows}
+use Rattle.std.proofs.{Common.{rules, List, ℕ}, lemmas.List.Elements.{All-nil, All-weaker}}
+use Rattle.std.specs.{Prelude.{Option, None, Some}, List.All}
+use Rattle.mpf_config.specs.{Rows.Rows, Named.IsNamedMode}
 use Rattle.mpf_sections.specs.Named.{IsName, IsNamed}
-use Rattle.mpf_config.specs.Named.{IsNamedMode}
-use Rattle.plan_tables.specs.declared.table.Table.{Table}
-use Rattle.plan_tables.specs.declared.table.Table.TheVariants.{Events, Switches}
-use Rattle.plan_contributions.specs.Contributions.{Contribution}
-use Rattle.row_contributions.specs.Contributions.{contributions_of}
-use Rattle.plan_contributions.specs.UsedNames.{used, uses, name_in_table}
-use Rattle.row_contributions.proofs.Before.{All-flat_map}
-use Rattle.row_contributions.proofs.RowFacts.{IsFitName, IsFit, any_name, rows_fit}
-use Rattle.row_contributions.specs.Facts.{IsOfNames}
+use Rattle.plan_tables.specs.declared.table.Table.{Table, TheVariants.{Events, Switches}}
+use Rattle.plan_contributions.specs.{Contributions.Contribution, UsedNames.{used, uses, name_in_table}}
+use Rattle.row_contributions.specs.{Contributions.contributions_of, Facts.IsOfNames}
+use Rattle.row_contributions.proofs.{Before.All-flat_map, RowFacts.{IsFitName, IsFit, any_name, rows_fit}}
 
 -- the name that is used, if there is one, is fit for its table
 abbrev IsFitUse : (List ℕ → Type 0) → Option (Table × List ℕ) → Type 0

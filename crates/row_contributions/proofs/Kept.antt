@@ -1,34 +1,24 @@
 -- What holds of no contributions, and still where the contributions of one more row come first, holds of all contributions
 -- of a configuration.
 use Rattle.std.proofs.Common.{rules, ◌≡◌, ℕ, zero, suc, ◌+◌, ◌-◌, ◌≤◌, Bool, true, false, if◌then◌else◌, List, [], ◌∷◌, ◌++◌, length, map, get_or, sym, subst, refl, ap, ◌∙◌, codes, arith, length-append}
-use Rattle.std.specs.Prelude.{Option, None, Some, IfSome, slice_get}
-use Rattle.std.specs.Str.{bytes_eq}
-use Rattle.std.specs.List.{All, flat_map}
-use Rattle.std.proofs.lemmas.List.{append_assoc, append-nil}
+use Rattle.std.specs.{Prelude.{Option, None, Some, IfSome, slice_get}, Str.bytes_eq, List.{All, flat_map}}
+use Rattle.std.proofs.lemmas.{List.{append_assoc, append-nil}, Grind.flat_map-append}
 use Rattle.std.proofs.lemmas.List.Elements.{All-nil, All-cons, All-head, All-tail, All-append, All-map}
-use Rattle.std.proofs.lemmas.Grind.{flat_map-append}
 use Rattle.mpf_values.specs.Events.{Condition, Event}
 use Rattle.mpf_sections.specs.Rows.{Written, Entry, Player, Switch, EventPlayer, CoilPlayer, VariablePlayer, VariableItem, GameSettings, Coil, Flipper, Autofire, Counter, StepBlock, Timer, Shot, ShotGroup, BallDevice, BallSave, Multiball, ModeSettings, Content, entries, players, SectionRows}
 use Rattle.mpf_sections.specs.Rows as sections
-use Rattle.mpf_sections.specs.Typed.{mode_settings}
-use Rattle.mpf_sections.specs.TypedShots.{shot_of}
+use Rattle.mpf_sections.specs.{Typed.mode_settings, TypedShots.shot_of}
 use Rattle.mpf_sections.specs.TypedBalls.{ball_devices_name, playfield, ball_device_of, ball_devices_in}
 use Rattle.mpf_config.specs.Rows.{ModeRows, Rows}
-use Rattle.machine_definitions.specs.Players.{player_event}
-use Rattle.machine_definitions.specs.Shots.{Profile}
-use Rattle.plan_tables.specs.declared.devices.Act.{Act}
-use Rattle.plan_tables.specs.declared.devices.Settings.{Settings}
-use Rattle.plan_tables.specs.declared.table.Table.TheVariants.{Events}
-use Rattle.plan_rows.specs.declared.destination.Destination.{Destination}
+use Rattle.machine_definitions.specs.{Players.player_event, Shots.Profile}
+use Rattle.plan_tables.specs.declared.{devices.{Act.Act, Settings.Settings}, table.Table.TheVariants.Events}
+use Rattle.plan_rows.specs.{declared.destination.Destination.Destination, Members.Members}
 use Rattle.plan_rows.specs.declared.destination.Destination.TheVariants as destinations
-use Rattle.plan_rows.specs.declared.place.Place.{Place}
-use Rattle.plan_rows.specs.declared.place.Place.TheVariants.{Machine, Control, Mode}
-use Rattle.plan_rows.specs.Members.{Members}
+use Rattle.plan_rows.specs.declared.place.Place.{Place, TheVariants.{Machine, Control, Mode}}
 use Rattle.plan_rows.specs.Seats.{Seat, seat_of, ball_row_of, row_or_unknown, destination_of, rows_after_text}
 use Rattle.plan_rows.specs.Rows.{Row, entry, alone, shot, ball_device, player, of_mode, entry_row, rows_from, text_rows, mode_rows, modes_rows, rows_of}
-use Rattle.plan_contributions.specs.declared.contribution.Aim.{Aim}
-use Rattle.plan_contributions.specs.declared.contribution.Aim.TheVariants.{Run, Start, Stop, Do, On}
-use Rattle.row_contributions.specs.VariableEntries.{item_change}
+use Rattle.plan_contributions.specs.declared.contribution.Aim.{Aim, TheVariants.{Run, Start, Stop, Do, On}}
+use Rattle.row_contributions.specs.{VariableEntries.item_change, BallFacts.IsOfNoBall}
 use Rattle.row_contributions.specs.CoilEntries.{limits_of_coil, flipper_device, autofire_device}
 use Rattle.plan_contributions.specs.Effects.{posts}
 use Rattle.row_contributions.specs.DeviceEntries.{texts, events, device_of, step_device, counter_device, timer_device}
@@ -38,12 +28,9 @@ use Rattle.row_contributions.specs.SaveEntries.{save_device, multiball_device, s
 use Rattle.plan_contributions.specs.Contributions.{Contribution, mode, binds, does, device, does_in, listens, mentions, coil}
 use Rattle.row_contributions.specs.Contributions.{under_where, bound, switch_contributions, player_contributions, coil_contributions, coil_player_contributions, item_contributions, variable_player_contributions, game_contributions, starter, stopper, stopper_where, later_events, stops_at_ball_end, stops_at_game_end, controls, mode_contributions, Device, device_contributions, where_device, machine_device, unknown_unless, shot_switch, act_at, seated, shot_contributions, group_contributions, ball_device_contributions, machine_entry_contributions, entry_contributions, alone_contributions, player_entry_contributions, row_contributions, given_by, contributions_of}
 use Rattle.plan_tables.specs.BallRows.{IsNoBallDevice}
-use Rattle.row_contributions.specs.BallFacts.{IsOfNoBall}
-use Rattle.row_contributions.proofs.CoilFacts.{all_flips, fires}
+use Rattle.row_contributions.proofs.{CoilFacts.{all_flips, fires}, SaveFacts.{all_save, all_multiball}, Silent.told}
 use Rattle.row_contributions.proofs.ShotFacts.{posts_of_shot, posts_of_group}
-use Rattle.row_contributions.proofs.SaveFacts.{all_save, all_multiball}
 use Rattle.row_contributions.proofs.RowFacts.{all_block, entry_such, sections_each}
-use Rattle.row_contributions.proofs.Silent.{told}
 use Rattle.row_contributions.proofs.SeatFacts.{row_given, silent, rows_told, rows_of_text, IsRowAt, seat_at, rows_told_are, rows_counted, ball_row_at}
 use Rattle.row_contributions.proofs.RowEffects.{Where, where_so, where_named}
 

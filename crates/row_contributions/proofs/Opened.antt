@@ -1,10 +1,8 @@
 -- What is of a mode comes after one, as contributions come.
-use Rattle.std.proofs.Common.{rules, ℕ, suc, ◌≤◌, List, [], ◌∷◌, ◌++◌}
-use Rattle.std.specs.Prelude.{Option}
+use Rattle.std.{proofs.Common.{rules, ℕ, suc, ◌≤◌, List, [], ◌∷◌, ◌++◌}, specs.Prelude.Option}
 use Rattle.mpf_values.specs.Events.{Condition}
-use Rattle.plan_contributions.specs.declared.contribution.Aim.{Aim}
+use Rattle.plan_contributions.specs.{declared.contribution.Aim.Aim, Effects.Effect}
 use Rattle.plan_rows.specs.declared.place.Place.{Place}
-use Rattle.plan_contributions.specs.Effects.{Effect}
 use Rattle.plan_contributions.specs.Contributions.{Contribution, does_in}
 use Rattle.row_contributions.specs.Contributions.{under_where, effects_from, listens_from}
 use Rattle.row_contributions.specs.Facts.{IsOpenPlace, IsOpenAim, IsOpen, modes_after, AreOpened}

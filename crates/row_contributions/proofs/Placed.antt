@@ -1,13 +1,9 @@
 -- Acts are on rows of devices whose place is that of the binding, and rows of the machine listen, as contributions come.
-use Rattle.std.proofs.Common.{rules, ◌≡◌, ℕ, suc, List, [], ◌∷◌, ◌++◌}
-use Rattle.std.specs.Prelude.{Option, None, Some}
-use Rattle.std.specs.List.{All}
-use Rattle.std.proofs.lemmas.List.Elements.{All-head, All-tail}
+use Rattle.std.proofs.{Common.{rules, ◌≡◌, ℕ, suc, List, [], ◌∷◌, ◌++◌}, lemmas.List.Elements.{All-head, All-tail}}
+use Rattle.std.specs.{Prelude.{Option, None, Some}, List.All}
 use Rattle.mpf_values.specs.Events.{Condition}
-use Rattle.plan_contributions.specs.declared.contribution.Aim.{Aim}
-use Rattle.plan_rows.specs.declared.place.Place.{Place}
-use Rattle.plan_rows.specs.declared.place.Place.TheVariants.{Machine}
-use Rattle.plan_contributions.specs.Effects.{Effect}
+use Rattle.plan_contributions.specs.{declared.contribution.Aim.Aim, Effects.Effect}
+use Rattle.plan_rows.specs.declared.place.Place.{Place, TheVariants.Machine}
 use Rattle.plan_contributions.specs.Contributions.{Contribution, does_in}
 use Rattle.row_contributions.specs.Contributions.{effects_from, listens_from, under_where}
 use Rattle.row_contributions.specs.Facts.{row_after, IsPlacedAim, IsPlaced, ArePlaced}

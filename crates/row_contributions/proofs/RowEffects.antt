@@ -1,42 +1,32 @@
 -- What holds of each effect of the rows, of each event that their switches post, and of each switch to which their devices
 -- listen, holds of those of their contributions.
 use Rattle.std.proofs.Common.{rules, ◌≡◌, ℕ, Bool, true, false, if◌then◌else◌, List, [], ◌∷◌, ◌++◌, map, get_or, codes}
-use Rattle.std.specs.Prelude.{Option, None, Some, IfSome}
-use Rattle.std.specs.Str.{bytes_eq}
-use Rattle.std.specs.List.{All, flat_map}
+use Rattle.std.specs.{Prelude.{Option, None, Some, IfSome}, Str.bytes_eq, List.{All, flat_map}}
 use Rattle.std.proofs.lemmas.List.Elements.{All-nil, All-cons, All-append, All-map, All-weaker, All-head, All-tail}
 use Rattle.std.proofs.lemmas.List.Sums.{list_all-from_AllPass}
 use Rattle.mpf_values.specs.Events.{Condition, Event}
 use Rattle.mpf_sections.specs.Rows.{Written, Entry, Player, Switch, EventPlayer, CoilPlayer, VariablePlayer, VariableItem, GameSettings, Coil, flipper, autofire, Shot, ShotGroup, BallDevice, ModeSettings, Content, entries, players, SectionRows}
 use Rattle.mpf_sections.specs.TypedGame.{variable_player_name, game_name, variable_player_of, game_of, variable_players_in}
 use Rattle.mpf_sections.specs.TypedBalls.{ball_devices_name, ball_device_of, ball_devices_in}
-use Rattle.machine_definitions.specs.Shots.{Profile, has_profile, profile_of_name}
+use Rattle.machine_definitions.specs.{Shots.{Profile, has_profile, profile_of_name}, Players.player_event}
 use Rattle.mpf_sections.specs.TypedShots.{shots_name, shot_groups_name, shot_of, shot_group_of, shots_in, shot_groups_in}
-use Rattle.machine_definitions.specs.Players.{player_event}
-use Rattle.plan_tables.specs.declared.devices.Act.{Act}
-use Rattle.plan_tables.specs.declared.table.Table.TheVariants.{Events}
-use Rattle.row_contributions.specs.VariableEntries.{item_change}
+use Rattle.plan_tables.specs.declared.{devices.Act.Act, table.Table.TheVariants.Events}
+use Rattle.row_contributions.specs.{VariableEntries.item_change, BallEntries.is_known}
 use Rattle.mpf_config.specs.Rows.{ModeRows, Rows}
 use Rattle.mpf_sections.specs.Rows as sections
 use Rattle.mpf_sections.specs.Typed.{switches_name, event_player_name, switch_of, event_player_of, mode_settings, switches_in, event_players_in}
 use Rattle.mpf_sections.specs.TypedCoils.{coils_name, coil_player_name, flippers_name, autofire_coils_name, coil_of, coil_player_of, flipper_of, autofire_of, coil_players_in, coil_rule_of}
-use Rattle.plan_rows.specs.declared.place.Place.{Place}
-use Rattle.plan_rows.specs.declared.place.Place.TheVariants.{Machine, Control, Mode}
-use Rattle.plan_contributions.specs.declared.contribution.Aim.{Aim}
-use Rattle.plan_contributions.specs.declared.contribution.Aim.TheVariants.{Start, Stop, Do}
+use Rattle.plan_rows.specs.declared.place.Place.{Place, TheVariants.{Machine, Control, Mode}}
+use Rattle.plan_contributions.specs.{declared.contribution.Aim.{Aim, TheVariants.{Start, Stop, Do}}, Effects.Effect}
 use Rattle.row_contributions.specs.CoilEntries.{limits_of_coil, flipper_device, autofire_device, rule_device_of}
-use Rattle.plan_contributions.specs.Effects.{Effect}
-use Rattle.row_contributions.specs.BallEntries.{is_known}
 use Rattle.row_contributions.specs.ShotEntries.{shot_lists, lone_device}
-use Rattle.plan_rows.specs.declared.destination.Destination.{Destination}
+use Rattle.plan_rows.specs.{declared.destination.Destination.Destination, Members.members_of}
 use Rattle.plan_rows.specs.Seats.{Seat, seat_of, destination_of, rows_after_text}
-use Rattle.plan_rows.specs.Members.{members_of}
 use Rattle.plan_contributions.specs.Contributions.{Contribution, mode, binds, does, device, mentions, coil}
 use Rattle.row_contributions.specs.Contributions.{under_where, bound, events, switch_contributions, player_contributions, coil_contributions, coil_player_contributions, item_contributions, variable_player_contributions, game_contributions, starter, stopper, stopper_where, later_events, stops_at_ball_end, stops_at_game_end, controls, mode_contributions, Device, act_binding, listens_from, effects_from, device_contributions, device_of, where_device, machine_device, unknown_unless, shot_switch, seated, shot_contributions, group_contributions, ball_device_contributions, machine_entry_contributions, entry_contributions, alone_contributions, player_entry_contributions, row_contributions, contributions_of}
 use Rattle.plan_rows.specs.Rows.{Row, entry, alone, player, of_mode, shot_row, group_row, ball_device_row, other_row, entry_row, rows_from, rows_in, mode_rows, modes_rows, rows_of}
-use Rattle.row_contributions.proofs.Before.{All-every, All-flat_map}
+use Rattle.row_contributions.proofs.{Before.{All-every, All-flat_map}, SeatFacts.targets_known}
 use Rattle.row_contributions.proofs.RowFacts.{All-made, All-listens, All-lists, sections_each, modes_each}
-use Rattle.row_contributions.proofs.SeatFacts.{targets_known}
 use Rattle.row_contributions.specs.Doing.{has_target, IsBallDeviceDoing, IsSwitchDoing, IsPlayerDoing, IsDeviceDoing, IsEntryDoing, IsCoilPlayerDoing, IsVariablePlayerDoing, IsShotDoing, IsShotGroupDoing, IsDoing, IsMachineDoing, AreDoing, Does}
 
 -- what holds of each item as it is seen

@@ -1,43 +1,32 @@
 -- What the contributions of a row are like: proved here once for each section, and all else follows from it.
 use Rattle.std.proofs.Common.{rules, ◌≡◌, ℕ, suc, ◌<◌, ◌≤◌, Bool, true, false, if◌then◌else◌, List, [], ◌∷◌, ◌++◌, length, map, get_or, refl, sym, subst, arith, codes}
-use Rattle.std.specs.Prelude.{Option, None, Some, IfSome}
-use Rattle.std.specs.Str.{bytes_eq}
-use Rattle.std.specs.List.{All, flat_map}
-use Rattle.std.proofs.lemmas.Grind.{flat_map-append}
-use Rattle.std.proofs.lemmas.List.{length-map}
+use Rattle.std.specs.{Prelude.{Option, None, Some, IfSome}, Str.bytes_eq, List.{All, flat_map}}
+use Rattle.std.proofs.lemmas.{Grind.flat_map-append, List.length-map}
 use Rattle.std.proofs.lemmas.List.Elements.{All-nil, All-cons, All-head, All-tail, All-append, All-map, All-weaker}
 use Rattle.mpf_values.specs.Events.{Event}
 use Rattle.mpf_sections.specs.Rows.{Written, Handled, Entry, Player, Switch, EventPlayer, Coil, CoilPlayer, VariableItem, VariablePlayer, GameSettings, Rule, Flipper, Autofire, BlockEvents, Counter, StepBlock, Control as TimerControl, Timer, Shot, ShotGroup, BallDevice, BallSave, Multiball, ModeSettings, Content, entries, players, SectionRows}
-use Rattle.mpf_config.specs.Rows.{ModeRows, Rows}
+use Rattle.mpf_config.specs.{Rows.{ModeRows, Rows}, Named.IsNamedMode, Short.{IsShortMode, AreListsShort}}
 use Rattle.mpf_sections.specs.Rows as sections
 use Rattle.mpf_sections.specs.Named.{IsName, AllNames, IsNamedHandled, AllNamedEvents, IsNamedEntry, IsNamedPlayer, IsNamedSwitch, IsNamedEventPlayer, IsNamedCoil, IsNamedCoilPlayer, IsNamedVariablePlayer, IsNamedRule, IsNamedFlipper, IsNamedAutofire, IsNamedShot, IsNamedShotGroup, IsNamedBallDevice, IsNamedBallSave, IsNamedMultiball, IsNamedBlock, IsNamedCounter, IsNamedStepBlock, IsNamedTimer, AreNamedSettings, IsNamedContent, IsNamed}
-use Rattle.mpf_config.specs.Named.{IsNamedMode}
 use Rattle.mpf_sections.specs.Typed.{switches_name, event_player_name, counters_name, accruals_name, sequences_name, timers_name, switch_of, event_player_of, counter_of, step_block_of, timer_of, mode_settings}
 use Rattle.mpf_sections.specs.TypedCoils.{coils_name, coil_player_name, coil_of, coil_player_of}
 use Rattle.mpf_sections.specs.TypedShots.{shots_name, shot_groups_name, shot_of, shot_group_of}
 use Rattle.mpf_sections.specs.TypedBalls.{ball_devices_name, ball_device_of}
 use Rattle.mpf_sections.specs.TypedGame.{variable_player_name, game_name, variable_player_of, game_of}
 use Rattle.mpf_sections.specs.Short.{IsGameInRange, IsCoilInRange, IsItemInRange, IsCoilPlayerInRange, IsShortEntry, IsShortPlayer, IsShortBlock, IsShortCounter, IsShortStepBlock, IsShortTimer, IsShortBallDevice, IsShortBallSave, IsShortMultiball, IsShortContent, IsShortSection}
-use Rattle.mpf_config.specs.Short.{IsShortMode, AreListsShort}
 use Rattle.mpf_sections.proofs.RowNames.{switch_named, event_player_named, mode_settings_named}
-use Rattle.mpf_sections.proofs.ShortRows.{event_player_short}
+use Rattle.mpf_sections.proofs.{ShortRows.event_player_short, BallRows.{ball_device_named, ball_device_short}}
 use Rattle.mpf_sections.proofs.DeviceRows.{counter_named, step_block_named, timer_named, counter_short, step_block_short, timer_in_range}
 use Rattle.mpf_sections.proofs.CoilRows.{coil_named, coil_player_named, flipper_named, autofire_named, coil_in_range, coil_player_short, coil_player_in_range}
 use Rattle.mpf_sections.proofs.ShotRows.{shot_named, shot_group_named, shot_group_short}
-use Rattle.mpf_sections.proofs.BallRows.{ball_device_named, ball_device_short}
 use Rattle.mpf_sections.proofs.SaveRows.{ball_save_named, multiball_named, ball_save_short, multiball_short}
 use Rattle.mpf_sections.proofs.GameRows.{variable_player_named, variable_player_short, game_in_range}
-use Rattle.plan_contributions.specs.declared.contribution.Aim.{Aim}
-use Rattle.plan_contributions.specs.declared.contribution.Aim.TheVariants.{Run, Start, Stop, Do, On}
-use Rattle.plan_rows.specs.declared.place.Place.{Place}
-use Rattle.plan_rows.specs.declared.place.Place.TheVariants.{Machine, Control, Mode}
-use Rattle.plan_tables.specs.Devices.{IsWithinLimits}
-use Rattle.plan_tables.specs.declared.devices.Act.{Act}
-use Rattle.plan_tables.specs.declared.devices.Act.TheVariants.{Count, Enable, Disable, Start as Begin}
-use Rattle.plan_tables.specs.declared.devices.Settings.{Settings}
+use Rattle.plan_contributions.specs.declared.contribution.Aim.{Aim, TheVariants.{Run, Start, Stop, Do, On}}
+use Rattle.plan_rows.specs.declared.place.Place.{Place, TheVariants.{Machine, Control, Mode}}
+use Rattle.plan_tables.specs.{Devices.IsWithinLimits, declared.{devices.Settings.Settings, entries.ModeEvent.ModeEvent}}
+use Rattle.plan_tables.specs.declared.devices.Act.{Act, TheVariants.{Count, Enable, Disable, Start as Begin}}
 use Rattle.plan_tables.specs.declared.devices.Settings.TheVariants as kinds
-use Rattle.machine_definitions.specs.Players.{player_event}
-use Rattle.machine_definitions.specs.Shots.{Profile}
+use Rattle.machine_definitions.specs.{Players.player_event, Shots.Profile}
 use Rattle.row_contributions.specs.VariableEntries.{item_change}
 use Rattle.row_contributions.specs.CoilEntries.{limits_of_coil, defaults_called, own_pulse, own_hold, item_effect, flipper_on, flipper_off, rule_device, flipper_device, autofire_device}
 use Rattle.plan_contributions.specs.Effects.{Effect, posts, works, changes, enters, leaves, loses, arrives, requests, adds_balls}
@@ -45,13 +34,10 @@ use Rattle.row_contributions.specs.DeviceEntries.{events, device_of, acts, block
 use Rattle.row_contributions.specs.BallEntries.{drains, ball_event, ball_endings, eject_pulse, attempt_effects, drain_mentions, ball_device_from, is_known}
 use Rattle.row_contributions.specs.SaveEntries.{save_device, multiball_device, save_device_of}
 use Rattle.row_contributions.specs.ShotEntries.{shot_events, group_events, shot_acts, lone_device, group_device}
-use Rattle.plan_rows.specs.declared.destination.Destination.{Destination}
+use Rattle.plan_rows.specs.{declared.destination.Destination.Destination, Members.{flags, is_enabled, Members}}
 use Rattle.plan_rows.specs.Seats.{Seat, seat_of, destination_of, rows_after_text}
-use Rattle.plan_rows.specs.Members.{flags, is_enabled, Members}
-use Rattle.plan_tables.specs.declared.entries.ModeEvent.{ModeEvent}
 use Rattle.plan_tables.specs.declared.entries.ModeEvent.TheVariants.{WillStart, Starting, Started, Stopping, Stopped}
-use Rattle.plan_tables.specs.declared.table.Table.{Table}
-use Rattle.plan_tables.specs.declared.table.Table.TheVariants.{Events, Switches, Coils, Variables}
+use Rattle.plan_tables.specs.declared.table.Table.{Table, TheVariants.{Events, Switches, Coils, Variables}}
 use Rattle.plan_contributions.specs.Contributions.{Contribution, gives, reads, active, inactive, mode, mode_event, mode_event_name, binds, does, device, does_in, listens, mentions, coil, under}
 use Rattle.row_contributions.specs.Contributions.{bound, texts, kind_of, confirms, tag_event, active_posts, inactive_posts, switch_contributions, player_contributions, coil_contributions, coil_player_contributions, item_contributions, variable_player_contributions, game_contributions, starter, stopper, stopper_where, later_events, stops_at_ball_end, stops_at_game_end, controls, mode_contributions, Device, act_binding, effects_from, listens_from, device_contributions, where_device, unknown_unless, shot_switch, act_at, seated, shot_contributions, group_contributions, ball_device_contributions, machine_device, machine_entry_contributions, entry_contributions, alone_contributions, player_entry_contributions, row_contributions, given_by, contributions_of}
 use Rattle.plan_rows.specs.Rows.{Row, entry, alone, shot, group, ball_device, player, of_mode, shot_row, group_row, ball_device_row, other_row, entry_row, rows_from, rows_in, mode_rows, modes_rows, rows_of}

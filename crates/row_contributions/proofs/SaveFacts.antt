@@ -1,6 +1,5 @@
 -- What holds of the effects of ball saves and multiballs.
-use Rattle.std.proofs.Common.{rules, ℕ, List}
-use Rattle.std.specs.List.{All}
+use Rattle.std.{proofs.Common.{rules, ℕ, List}, specs.List.All}
 use Rattle.plan_contributions.specs.Effects.{Effect, posts, requests, adds_balls}
 use Rattle.row_contributions.specs.SaveEntries.{save_event, save_endings, save_lists, multiball_event, multiball_endings, multiball_lists}
 use Rattle.row_contributions.proofs.ShotFacts.{IsFew}

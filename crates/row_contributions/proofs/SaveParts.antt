@@ -1,9 +1,6 @@
 -- What is collected of the entries of ball saves and multiballs, part after part.
-use Rattle.std.proofs.Common.{◌≡◌, true, false, ℕ, List, refl}
-use Rattle.std.specs.Str.{bytes_eq}
-use Rattle.std.specs.Prelude.{Some}
-use Rattle.mpf_sections.specs.Rows.{Entry}
-use Rattle.mpf_sections.specs.TypedSaves.{ball_saves_name, multiballs_name, ball_save_of, multiball_of}
+use Rattle.std.{proofs.Common.{◌≡◌, true, false, ℕ, List, refl}, specs.{Str.bytes_eq, Prelude.Some}}
+use Rattle.mpf_sections.specs.{Rows.Entry, TypedSaves.{ball_saves_name, multiballs_name, ball_save_of, multiball_of}}
 use Rattle.row_contributions.specs.SaveEntries.{save_device, multiball_device, save_device_of}
 
 -- the device of an entry whose section has this name

@@ -2,12 +2,9 @@
 -- are in, and which are those of its ball devices.
 use Rattle.std.proofs.Common.{rules, ◌≡◌, ℕ, suc, ◌+◌, ◌-◌, ◌≤◌, Bool, true, false, ◌||◌, not, if◌then◌else◌, List, [], ◌∷◌, ◌++◌, length, map, refl, sym, ◌∙◌, ap, subst, arith}
 use Rattle.std.specs.Prelude.{Option, None, Some, IfSome, is_some, fold, slice_get}
-use Rattle.std.specs.Str.{bytes_eq}
-use Rattle.std.specs.List.{All, flat_map, list_any}
-use Rattle.std.proofs.lemmas.Grind.{flat_map-append}
+use Rattle.std.specs.{Str.bytes_eq, List.{All, flat_map, list_any}}
+use Rattle.std.proofs.lemmas.{Grind.flat_map-append, List.Folds.list_any-append, Slice.Eq.bytes_eq-Decides}
 use Rattle.std.proofs.lemmas.List.Elements.{All-nil, All-cons, All-tail, All-append, All-weaker}
-use Rattle.std.proofs.lemmas.List.Folds.{list_any-append}
-use Rattle.std.proofs.lemmas.Slice.Eq.{bytes_eq-Decides}
 use Rattle.yaml_subset.specs.Keys.{is_among}
 use Rattle.mpf_sections.specs.Rows.{Written, Entry, Player, Content, SectionRows}
 use Rattle.mpf_sections.specs.Typed.{entries_of, switches_name, counters_name, accruals_name, sequences_name, timers_name, entries_in, counter_of, step_block_of, timer_of}
@@ -21,16 +18,14 @@ use Rattle.plan_tables.specs.declared.devices.Settings.{Settings}
 use Rattle.plan_tables.specs.declared.devices.Settings.TheVariants as kinds
 use Rattle.plan_rows.specs.declared.destination.Destination.{Destination}
 use Rattle.plan_rows.specs.declared.destination.Destination.TheVariants as destinations
-use Rattle.plan_rows.specs.declared.place.Place.{Place}
-use Rattle.plan_rows.specs.declared.place.Place.TheVariants.{Machine, Control, Mode}
-use Rattle.row_contributions.specs.BallEntries.{is_known}
+use Rattle.plan_rows.specs.declared.place.Place.{Place, TheVariants.{Machine, Control, Mode}}
+use Rattle.row_contributions.specs.{BallEntries.is_known, Doing.has_target}
 use Rattle.row_contributions.specs.SaveEntries.{save_device, multiball_device, save_device_of}
 use Rattle.row_contributions.specs.CoilEntries.{flipper_device, autofire_device}
 use Rattle.row_contributions.specs.DeviceEntries.{counter_device, step_settings, step_device, timer_device, device_of}
 use Rattle.plan_rows.specs.Seats.{section_entries, text_entries, lists_shot, is_grouped, row_sections, has_row, rows_after, rows_after_all, Seat, seats_at, given_from, latest, found_in, entry_seats, seat_of, entry_ball_row, ball_row_of, row_or_unknown, destination_of, rows_after_text}
 use Rattle.plan_contributions.specs.Contributions.{Contribution, device}
 use Rattle.row_contributions.specs.Contributions.{coil_contributions, machine_device}
-use Rattle.row_contributions.specs.Doing.{has_target}
 use Rattle.plan_rows.specs.Rows.{Row, entry, player, shot_row, group_row, ball_device_row, other_row, entry_row, rows_from, rows_in, text_rows}
 use Rattle.row_contributions.proofs.Silent.{IsSilent, told_shot, told_where, told_machine, told}
 

@@ -1,12 +1,9 @@
 -- Effect lists have room for what contributions put in them, as contributions come.
 use Rattle.std.proofs.Common.{rules, ◌≡◌, ℕ, suc, ◌+◌, ◌<◌, ◌≤◌, ◌==◌, Bool, if◌then◌else◌, List, [], ◌∷◌, ◌++◌, length, map, refl, arith}
-use Rattle.std.specs.Prelude.{Option}
-use Rattle.std.specs.List.{All, flat_map}
-use Rattle.std.proofs.lemmas.List.Elements.{All-head, All-tail}
+use Rattle.std.{specs.{Prelude.Option, List.{All, flat_map}}, proofs.lemmas.List.Elements.{All-head, All-tail}}
 use Rattle.mpf_values.specs.Events.{Condition}
 use Rattle.mpf_sections.specs.Rows.{VariableItem}
-use Rattle.plan_contributions.specs.Effects.{Effect}
-use Rattle.plan_contributions.specs.Contributions.{Contribution, does, device, does_in}
+use Rattle.plan_contributions.specs.{Effects.Effect, Contributions.{Contribution, does, device, does_in}}
 use Rattle.row_contributions.specs.Contributions.{under_where, item_contributions, effects_from, listens_from}
 use Rattle.row_contributions.specs.Facts.{effects_after, effects_in_after, full, IsRoomy, AreShort}
 use Rattle.row_contributions.proofs.Before.{under_before}

@@ -1,29 +1,22 @@
 -- What holds of shots and of groups of them: of what acts on them, of their effect lists and settings, and of the
 -- profiles that are found by name.
 use Rattle.std.proofs.Common.{rules, ◌≡◌, ℕ, ◌≤◌, Bool, if◌then◌else◌, List, [], ◌∷◌, ◌++◌, length, map, refl, arith, codes, length-append}
-use Rattle.std.specs.Prelude.{Option, None, Some, IfSome, fold}
-use Rattle.std.specs.Str.{bytes_eq}
-use Rattle.std.specs.List.{All, flat_map}
+use Rattle.std.specs.{Prelude.{Option, None, Some, IfSome, fold}, Str.bytes_eq, List.{All, flat_map}}
 use Rattle.std.proofs.lemmas.List.{length-map, length-replicate, length-take-le}
 use Rattle.std.proofs.lemmas.List.Elements.{All-nil, All-cons, All-tail, All-append, All-map, All-weaker}
-use Rattle.mpf_values.specs.Events.{Event}
-use Rattle.mpf_values.proofs.NameTexts.{IsName-from_is_name}
+use Rattle.mpf_values.{specs.Events.Event, proofs.NameTexts.IsName-from_is_name}
 use Rattle.mpf_sections.specs.Rows.{Written, Handled, Shot, ShotGroup, ShotProfile, SectionRows}
-use Rattle.mpf_sections.specs.Named.{IsName, IsNamedShotProfile, IsNamed}
-use Rattle.mpf_sections.specs.TypedShots.{shot_profiles_in}
+use Rattle.mpf_sections.specs.{Named.{IsName, IsNamedShotProfile, IsNamed}, TypedShots.shot_profiles_in}
 use Rattle.mpf_tables.proofs.TableNames.{default_profile_named}
 use Rattle.mpf_sections.proofs.ShotRows.{shot_profiles_named, shot_profiles_short}
-use Rattle.mpf_config.specs.Rows.{ModeRows, Rows}
-use Rattle.mpf_config.specs.Named.{IsNamedMode}
+use Rattle.mpf_config.specs.{Rows.{ModeRows, Rows}, Named.IsNamedMode}
 use Rattle.machine_definitions.specs.Shots.{all_sections, shot_called, Profile, profile_of, standard_profile, latest_profile, profile_called, profile_of_name}
 use Rattle.plan_tables.specs.Devices.{IsWithinLimits}
-use Rattle.plan_tables.specs.declared.devices.Act.{Act}
-use Rattle.plan_tables.specs.declared.devices.Act.TheVariants.{Hit, Advance, ResetShot, EnableShot, DisableShot}
+use Rattle.plan_tables.specs.declared.devices.Act.{Act, TheVariants.{Hit, Advance, ResetShot, EnableShot, DisableShot}}
 use Rattle.plan_contributions.specs.Effects.{Effect, posts}
-use Rattle.row_contributions.specs.DeviceEntries.{always, acts}
+use Rattle.row_contributions.{specs.DeviceEntries.{always, acts}, proofs.Before.{All-every, All-flat_map, or_else}}
 use Rattle.row_contributions.specs.ShotEntries.{shot_events, shot_lists, group_events, state_lists, group_lists, switch_hits, shot_acts, group_acts, bank_settings}
 use Rattle.plan_rows.specs.Members.{flags, Members, profile_if, first_profile, members_of}
-use Rattle.row_contributions.proofs.Before.{All-every, All-flat_map, or_else}
 
 -- ---- what acts on them
 

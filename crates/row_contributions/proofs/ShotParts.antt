@@ -1,16 +1,11 @@
 -- What is collected of the entries of shots and of their groups, part after part.
 use Rattle.std.proofs.Common.{rules, ◌≡◌, ℕ, suc, ◌+◌, ◌*◌, ◌<◌, List, [], ◌∷◌, ◌++◌, length, map, drop, get_or, sym, ◌∙◌, ap, arith}
-use Rattle.std.specs.List.{flat_map}
-use Rattle.std.specs.Borrow.{Bor}
-use Rattle.std.proofs.lemmas.List.{append_assoc, drop_more, length-append}
+use Rattle.std.{specs.{List.flat_map, Borrow.Bor}, proofs.lemmas.List.{append_assoc, drop_more, length-append}}
 use Rattle.section_tables.specs.declared.rows.Name.{Name}
 use Rattle.mpf_sections.specs.View.{name_view}
-use Rattle.machine_definitions.specs.Found.{names_view}
-use Rattle.machine_definitions.proofs.Finding.{next-is}
-use Rattle.row_contributions.specs.DeviceEntries.{texts}
-use Rattle.plan_contributions.specs.Effects.{Effect}
-use Rattle.plan_contributions.specs.Contributions.{Contribution, does_in}
-use Rattle.row_contributions.specs.Contributions.{effects_from}
+use Rattle.machine_definitions.{specs.Found.names_view, proofs.Finding.next-is}
+use Rattle.row_contributions.specs.{DeviceEntries.texts, Contributions.effects_from}
+use Rattle.plan_contributions.specs.{Effects.Effect, Contributions.{Contribution, does_in}}
 
 -- some effect lists, and then others
 pub effects-append : (k : ℕ) (xs ys : List (List Effect)) → effects_from k (xs ++ ys) ≡ effects_from k xs ++ effects_from (k + length xs) ys

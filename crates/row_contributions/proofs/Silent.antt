@@ -1,40 +1,24 @@
 -- What contributions tell that only some of them tell: where none but a coil's and a row's tells any of it, it is the
 -- coils and the rows that are told.
 use Rattle.std.proofs.Common.{rules, ◌≡◌, ℕ, suc, Bool, true, false, if◌then◌else◌, List, [], ◌∷◌, ◌++◌, Option, None, Some, map, refl, ◌∙◌, ap}
-use Rattle.std.specs.Str.{bytes_eq}
-use Rattle.std.specs.List.{flat_map}
-use Rattle.std.proofs.lemmas.Grind.{flat_map-append}
-use Rattle.std.proofs.lemmas.List.{append-nil}
+use Rattle.std.{specs.{Str.bytes_eq, List.flat_map}, proofs.lemmas.{Grind.flat_map-append, List.append-nil}}
 use Rattle.mpf_values.specs.Events.{Condition, Event}
 use Rattle.mpf_sections.specs.Rows.{Written, Entry, Player, Switch, EventPlayer, CoilPlayer, VariablePlayer, VariableItem, GameSettings, Shot, ShotGroup, BallDevice, ModeSettings, SectionRows}
-use Rattle.mpf_sections.specs.TypedGame.{min_balls_of}
-use Rattle.machine_definitions.specs.GameEvents.{game_event_names}
-use Rattle.machine_definitions.specs.Players.{player_event}
-use Rattle.plan_tables.specs.declared.devices.Act.{Act}
-use Rattle.row_contributions.specs.VariableEntries.{item_change}
-use Rattle.mpf_sections.specs.Typed.{switches_name, switch_of}
+use Rattle.mpf_sections.specs.{TypedGame.min_balls_of, Typed.{switches_name, switch_of}}
+use Rattle.machine_definitions.specs.{GameEvents.game_event_names, Players.player_event, Shots.Profile}
+use Rattle.plan_tables.specs.declared.{devices.{Act.Act, Settings.Settings}, entries.SwitchKind.SwitchKind}
+use Rattle.row_contributions.specs.{VariableEntries.item_change, BallEntries.ball_device_from}
 use Rattle.mpf_sections.specs.TypedCoils.{coils_name, coil_of}
-use Rattle.plan_tables.specs.declared.devices.Settings.{Settings}
-use Rattle.plan_tables.specs.declared.entries.ModeEvent.{ModeEvent}
-use Rattle.plan_tables.specs.declared.entries.ModeEvent.TheVariants.{Starting, Started, Stopping, Stopped}
-use Rattle.plan_tables.specs.declared.entries.SwitchKind.{SwitchKind}
-use Rattle.plan_rows.specs.declared.place.Place.{Place}
-use Rattle.plan_rows.specs.declared.place.Place.TheVariants.{Machine, Control, Mode}
-use Rattle.plan_contributions.specs.declared.contribution.Aim.{Aim}
-use Rattle.plan_contributions.specs.declared.contribution.Aim.TheVariants.{Run, Do}
+use Rattle.plan_tables.specs.declared.entries.ModeEvent.{ModeEvent, TheVariants.{Starting, Started, Stopping, Stopped}}
+use Rattle.plan_rows.specs.declared.place.Place.{Place, TheVariants.{Machine, Control, Mode}}
+use Rattle.plan_contributions.specs.{declared.contribution.Aim.{Aim, TheVariants.{Run, Do}}, Effects.{Effect, posts}}
 use Rattle.plan_tables.specs.declared.table.Table.TheVariants.{Events, Switches}
-use Rattle.row_contributions.specs.CoilEntries.{item_effect}
-use Rattle.plan_contributions.specs.Effects.{Effect, posts}
-use Rattle.row_contributions.specs.DeviceEntries.{device_of}
-use Rattle.machine_definitions.specs.Shots.{Profile}
+use Rattle.row_contributions.specs.{CoilEntries.item_effect, DeviceEntries.device_of}
 use Rattle.row_contributions.specs.ShotEntries.{lone_device, group_device}
-use Rattle.row_contributions.specs.BallEntries.{ball_device_from}
 use Rattle.plan_rows.specs.declared.destination.Destination.{Destination}
-use Rattle.plan_rows.specs.Seats.{Seat}
-use Rattle.plan_rows.specs.Members.{Members}
+use Rattle.plan_rows.specs.{Seats.Seat, Members.Members, Rows.{Row, entry, shot, group, ball_device}}
 use Rattle.plan_contributions.specs.Contributions.{Contribution, gives, reads, active, inactive, mode, mode_event, binds, does, device, does_in, listens, mentions, unknown, under, plays}
 use Rattle.row_contributions.specs.Contributions.{under_where, bound, kind_of, confirms, texts, events, active_posts, inactive_posts, switch_contributions, player_contributions, coil_contributions, coil_player_contributions, item_contributions, variable_player_contributions, game_contributions, stopper_where, later_events, controls, mode_contributions, Device, act_binding, listens_from, effects_from, device_contributions, where_device, machine_device, unknown_unless, shot_switch, seated, shot_contributions, group_contributions, ball_device_contributions, machine_entry_contributions, entry_contributions, alone_contributions, player_entry_contributions, row_contributions, given_by}
-use Rattle.plan_rows.specs.Rows.{Row, entry, shot, group, ball_device}
 
 -- each contribution but a coil's and a row's tells nothing
 pub record IsSilent {X : Type 0} (tell : Contribution → List X) : Type 0 where

@@ -1,24 +1,18 @@
 -- Each switch of the machine text is given by contributions.
 use Rattle.std.proofs.Common.{rules, ◌≡◌, ℕ, Bool, true, false, ◌||◌, if◌then◌else◌, List, [], ◌∷◌, ◌++◌, map, refl, sym, ◌∙◌, ap, inl, inr, true≢false}
-use Rattle.std.specs.Prelude.{Option}
-use Rattle.std.specs.Str.{bytes_eq}
-use Rattle.std.specs.List.{flat_map, list_any}
-use Rattle.std.proofs.lemmas.Bool.{or_cases, or_left, or_right}
-use Rattle.std.proofs.lemmas.Grind.{flat_map-append}
-use Rattle.std.proofs.lemmas.List.Folds.{list_any-append}
-use Rattle.std.proofs.lemmas.Slice.Eq.{bytes_eq-Decides}
+use Rattle.std.specs.{Prelude.Option, Str.bytes_eq, List.{flat_map, list_any}}
+use Rattle.std.proofs.lemmas.{Bool.{or_cases, or_left, or_right}, List.Folds.list_any-append}
+use Rattle.std.proofs.lemmas.{Grind.flat_map-append, Slice.Eq.bytes_eq-Decides}
 use Rattle.mpf_sections.specs.Rows.{Entry, Switch, Content, entries, SectionRows}
 use Rattle.mpf_sections.specs.Typed.{switches_name, switch_of, switches_in}
 use Rattle.mpf_config.specs.Rows.{Rows}
 use Rattle.plan_tables.specs.declared.table.Table.TheVariants.{Switches}
-use Rattle.plan_rows.specs.declared.place.Place.TheVariants.{Machine}
+use Rattle.plan_rows.specs.declared.{place.Place.TheVariants.Machine, destination.Destination.Destination}
 use Rattle.machine_definitions.specs.Definitions.{has_switch}
-use Rattle.plan_contributions.specs.Contributions.{Contribution}
+use Rattle.plan_contributions.specs.{Contributions.Contribution, UsedNames.given_names}
 use Rattle.row_contributions.specs.Contributions.{switch_contributions, machine_entry_contributions, entry_contributions, row_contributions, given_by, contributions_of}
 use Rattle.plan_rows.specs.Rows.{Row, entry_row, rows_from, rows_in, modes_rows}
-use Rattle.plan_rows.specs.declared.destination.Destination.{Destination}
 use Rattle.plan_rows.specs.Seats.{Seat, seat_of, destination_of, rows_after_text}
-use Rattle.plan_contributions.specs.UsedNames.{given_names}
 
 -- of two lists one has it
 pub or_weaker : (a b c d : Bool) → (a ≡ true → c ≡ true) → (b ≡ true → d ≡ true) → (a || b) ≡ true → (c || d) ≡ true

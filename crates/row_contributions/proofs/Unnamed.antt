@@ -1,20 +1,12 @@
 -- Bindings and rows have no names: nothing is given among them under one.
 use Rattle.std.proofs.Common.{rules, ◌≡◌, ℕ, Bool, false, if◌then◌else◌, List, [], ◌∷◌, ◌++◌, refl, ◌∙◌}
-use Rattle.std.specs.Prelude.{Some}
-use Rattle.std.specs.Str.{bytes_eq}
-use Rattle.std.specs.List.{flat_map}
-use Rattle.mpf_sections.specs.Rows.{Entry, Coil, SectionRows}
-use Rattle.mpf_sections.specs.Typed.{switches_name}
-use Rattle.mpf_sections.specs.TypedCoils.{coils_name, coil_of}
-use Rattle.plan_tables.specs.declared.devices.Settings.{Settings}
-use Rattle.plan_tables.specs.declared.table.Table.{Table}
+use Rattle.std.specs.{Prelude.Some, Str.bytes_eq, List.flat_map}
+use Rattle.mpf_sections.specs.{Rows.{Entry, Coil, SectionRows}, Typed.switches_name, TypedCoils.{coils_name, coil_of}}
+use Rattle.plan_tables.specs.declared.{devices.Settings.Settings, table.Table.Table}
 use Rattle.plan_tables.specs.declared.table.Table.TheVariants.{Events, Bindings, Switches, Coils, Variables, Rows}
-use Rattle.plan_rows.specs.declared.place.Place.{Place}
-use Rattle.plan_rows.specs.declared.place.Place.TheVariants.{Machine}
-use Rattle.plan_contributions.specs.Contributions.{Contribution, device}
+use Rattle.plan_rows.specs.{declared.place.Place.{Place, TheVariants.Machine}, Rows.Row}
+use Rattle.plan_contributions.specs.{Contributions.{Contribution, device}, UsedNames.{used, name_in_table, uses}}
 use Rattle.row_contributions.specs.Contributions.{coil_contributions, machine_device, given_by}
-use Rattle.plan_rows.specs.Rows.{Row}
-use Rattle.plan_contributions.specs.UsedNames.{used, name_in_table, uses}
 use Rattle.row_contributions.proofs.Silent.{IsSilent, told_where, told_machine, told_entry, told, rows_tell, none_machine}
 
 -- a table whose names are none of events, switches, coils and variables

@@ -1,19 +1,15 @@
 -- What the entries of ball devices say. Here `machine` is the sections of the machine text, which have the coils and the
 -- game.
 use Rattle.std.specs.Prelude.{ℕ, zero, suc, Bool, true, false, ◌&&◌, List, [], ◌∷◌, ◌++◌, length, min, Option, None, Some, is_some, codes}
-use Rattle.std.specs.List.{list_any}
-use Rattle.std.specs.Str.{bytes_eq}
+use Rattle.std.specs.{List.list_any, Str.bytes_eq}
 use Rattle.mpf_sections.specs.Rows.{Written, BallDevice, Content, entry, SectionRows}
-use Rattle.mpf_sections.specs.TypedBalls.{is_trough, is_home, is_drain}
-use Rattle.mpf_sections.specs.TypedGame.{game_name}
-use Rattle.plan_tables.specs.declared.devices.BallTarget.{BallTarget}
+use Rattle.mpf_sections.specs.{TypedBalls.{is_trough, is_home, is_drain}, TypedGame.game_name}
+use Rattle.plan_tables.specs.declared.devices.{BallTarget.BallTarget, Settings.Settings}
 use Rattle.plan_tables.specs.declared.devices.BallTarget.TheVariants as targets
-use Rattle.plan_tables.specs.declared.devices.Settings.{Settings}
 use Rattle.plan_tables.specs.declared.devices.Settings.TheVariants as kinds
 use Rattle.plan_rows.specs.declared.destination.Destination.{Destination}
 use Rattle.plan_rows.specs.declared.destination.Destination.TheVariants as destinations
-use Rattle.row_contributions.specs.CoilEntries.{defaults_called, own_pulse}
-use Rattle.row_contributions.specs.DeviceEntries.{texts, Device}
+use Rattle.row_contributions.specs.{CoilEntries.{defaults_called, own_pulse}, DeviceEntries.{texts, Device}}
 use Rattle.plan_contributions.specs.Effects.{Effect, posts, works, enters, leaves, loses, arrives}
 
 -- ---- the game

@@ -2,14 +2,10 @@
 -- to do with balls, each effect list does what it is for, and no event acts on them.
 use Rattle.std.specs.Prelude.{◌≡◌, ◌≢◌, ℕ, suc, ◌==◌, Bool, true, false, if◌then◌else◌, List, [], ◌∷◌, ◌++◌, length, Option, None, Some, option_map, IfSome, slice_get}
 use Rattle.std.specs.List.{All, flat_map, list_any}
-use Rattle.plan_contributions.specs.declared.contribution.Aim.{Aim}
-use Rattle.plan_contributions.specs.declared.contribution.Aim.TheVariants.{Do, On}
-use Rattle.plan_rows.specs.declared.place.Place.{Place}
-use Rattle.plan_rows.specs.declared.place.Place.TheVariants.{Machine}
-use Rattle.plan_tables.specs.declared.devices.Settings.{Settings}
-use Rattle.plan_tables.specs.declared.devices.Settings.TheVariants.{BallDevice}
-use Rattle.plan_tables.specs.Valid.{IsTargetThere}
-use Rattle.plan_tables.specs.BallRows.{IsNoBallDevice, IsSwitchOf}
+use Rattle.plan_contributions.specs.declared.contribution.Aim.{Aim, TheVariants.{Do, On}}
+use Rattle.plan_rows.specs.declared.place.Place.{Place, TheVariants.Machine}
+use Rattle.plan_tables.specs.declared.devices.Settings.{Settings, TheVariants.BallDevice}
+use Rattle.plan_tables.specs.{Valid.IsTargetThere, BallRows.{IsNoBallDevice, IsSwitchOf}}
 use Rattle.plan_contributions.specs.Effects.{Effect, enters, leaves, loses, arrives, requests, adds_balls}
 use Rattle.plan_contributions.specs.Contributions.{Contribution, binds, does, device, does_in, listens, plays}
 

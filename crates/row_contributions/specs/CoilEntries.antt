@@ -5,9 +5,8 @@ use Rattle.mpf_sections.specs.declared.words.CoilAction.{CoilAction}
 use Rattle.mpf_sections.specs.declared.words.CoilAction.TheVariants as actions
 use Rattle.mpf_sections.specs.Rows.{Written, Coil, CoilItem, Rule, Flipper, Autofire, CoilRule, flipper, autofire, SectionRows}
 use Rattle.plan_tables.specs.declared.entries.CoilLimits.{CoilLimits}
-use Rattle.plan_tables.specs.declared.devices.Settings.{Settings}
+use Rattle.plan_tables.specs.declared.devices.{Settings.Settings, Act.TheVariants.{Enable, Disable}}
 use Rattle.plan_tables.specs.declared.devices.Settings.TheVariants as kinds
-use Rattle.plan_tables.specs.declared.devices.Act.TheVariants.{Enable, Disable}
 use Rattle.machine_definitions.specs.Definitions.{coil_of_name}
 use Rattle.plan_contributions.specs.Effects.{Deed, pulse, enable, disable, Effect, works}
 use Rattle.row_contributions.specs.DeviceEntries.{Device, acts}

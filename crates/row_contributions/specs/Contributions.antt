@@ -1,37 +1,27 @@
 -- What the rows give to a plan, by names and in plan order.
 use Rattle.std.specs.Prelude.{ℕ, suc, Bool, true, false, not, ◌&&◌, if◌then◌else◌, List, [], ◌∷◌, ◌++◌, map, Option, None, Some, codes}
-use Rattle.std.specs.List.{flat_map, list_any}
-use Rattle.std.specs.Str.{bytes_eq}
-use Rattle.mpf_sections.specs.declared.words.Debounce.{Debounce}
-use Rattle.mpf_sections.specs.declared.words.Debounce.TheVariants.{Auto, Quick, Normal}
+use Rattle.std.specs.{List.{flat_map, list_any}, Str.bytes_eq}
+use Rattle.mpf_sections.specs.declared.words.Debounce.{Debounce, TheVariants.{Auto, Quick, Normal}}
 use Rattle.mpf_values.specs.Events.{Condition, Event}
 use Rattle.mpf_sections.specs.Rows.{Written, Entry, Player, Switch, EventPlayer, ModeSettings, VariablePlayer, VariableItem, GameSettings, SectionRows}
 use Rattle.mpf_sections.specs.TypedGame.{variable_player_name, game_name, variable_player_of, game_of, min_balls_of}
-use Rattle.machine_definitions.specs.GameEvents.{game_event_names}
-use Rattle.machine_definitions.specs.Players.{player_event}
-use Rattle.row_contributions.specs.VariableEntries.{item_change}
+use Rattle.machine_definitions.specs.{GameEvents.game_event_names, Definitions.makes_quick}
+use Rattle.machine_definitions.specs.{Players.player_event, Shots.Profile}
+use Rattle.row_contributions.specs.{VariableEntries.item_change, BallEntries.{is_known, ball_device_from}}
 use Rattle.mpf_config.specs.Rows.{Rows}
 use Rattle.mpf_sections.specs.Typed.{switches_name, event_player_name, switch_of, event_player_of}
-use Rattle.plan_tables.specs.declared.entries.SwitchKind.{SwitchKind}
+use Rattle.plan_tables.specs.declared.{entries.SwitchKind.SwitchKind, devices.Act.Act}
 use Rattle.plan_tables.specs.declared.entries.ModeEvent.TheVariants.{Starting, Started, Stopping, Stopped}
-use Rattle.plan_rows.specs.declared.place.Place.{Place}
-use Rattle.plan_rows.specs.declared.place.Place.TheVariants.{Machine, Control, Mode}
-use Rattle.plan_contributions.specs.declared.contribution.Aim.{Aim}
-use Rattle.plan_contributions.specs.declared.contribution.Aim.TheVariants.{Run, Start, Stop, Do, On}
-use Rattle.plan_tables.specs.declared.devices.Act.{Act}
+use Rattle.plan_rows.specs.declared.place.Place.{Place, TheVariants.{Machine, Control, Mode}}
+use Rattle.plan_contributions.specs.declared.contribution.Aim.{Aim, TheVariants.{Run, Start, Stop, Do, On}}
 use Rattle.plan_tables.specs.declared.table.Table.TheVariants.{Events, Switches}
 pub use Rattle.row_contributions.specs.DeviceEntries.{texts, events, Device, always, device_of}
 use Rattle.plan_contributions.specs.Effects.{Effect, posts}
 use Rattle.plan_contributions.specs.Contributions.{Contribution, gives, reads, active, inactive, mode, mode_event, binds, does, device, does_in, listens, mentions, unknown, coil, under, plays}
-use Rattle.machine_definitions.specs.Definitions.{makes_quick}
 use Rattle.row_contributions.specs.CoilEntries.{limits_of_coil, item_effect, flipper_device, autofire_device}
 use Rattle.mpf_sections.specs.Rows.{Coil, CoilPlayer, Shot, ShotGroup, BallDevice}
-use Rattle.machine_definitions.specs.Shots.{Profile}
 use Rattle.row_contributions.specs.ShotEntries.{shot_acts, lone_device, group_device}
-use Rattle.row_contributions.specs.BallEntries.{is_known, ball_device_from}
-use Rattle.plan_rows.specs.declared.destination.Destination.{Destination}
-use Rattle.plan_rows.specs.Seats.{Seat}
-use Rattle.plan_rows.specs.Members.{Members}
+use Rattle.plan_rows.specs.{declared.destination.Destination.Destination, Seats.Seat, Members.Members}
 use Rattle.mpf_sections.specs.TypedCoils.{coils_name, coil_player_name, flippers_name, autofire_coils_name, coil_of, coil_player_of, flipper_of, autofire_of}
 use Rattle.plan_rows.specs.Rows.{Row, entry, alone, shot, group, ball_device, player, of_mode, rows_of}
 

@@ -8,9 +8,8 @@ use Rattle.section_tables.specs.Rows.{Handled}
 use Rattle.mpf_sections.specs.Rows.{Written, Entry, BlockEvents, Counter, StepBlock, Control, Timer}
 use Rattle.mpf_sections.specs.Typed.{counters_name, accruals_name, sequences_name, timers_name, counter_of, step_block_of, timer_of}
 use Rattle.machine_settings.specs.declared.settings.StepSettings.{StepSettings}
-use Rattle.plan_tables.specs.declared.devices.Settings.{Settings}
+use Rattle.plan_tables.specs.declared.devices.{Settings.Settings, Act.Act}
 use Rattle.plan_tables.specs.declared.devices.Settings.TheVariants as kinds
-use Rattle.plan_tables.specs.declared.devices.Act.{Act}
 use Rattle.plan_tables.specs.declared.devices.Act.TheVariants.{Count, Step, Enable, Disable, Reset, Restart, Start, Stop, Pause, Add, Subtract, Jump}
 use Rattle.plan_rows.specs.Members.{is_none}
 use Rattle.row_contributions.specs.SaveEntries.{save_device_of}

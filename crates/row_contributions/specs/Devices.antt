@@ -3,8 +3,7 @@ use Rattle.std.specs.Prelude.{ℕ, List, map, None}
 use Rattle.mpf_values.specs.Events.{Event}
 use Rattle.section_tables.specs.Rows.{Handled}
 use Rattle.mpf_sections.specs.Rows.{Written}
-use Rattle.plan_tables.specs.declared.devices.Settings.{Settings}
-use Rattle.plan_tables.specs.declared.devices.Act.{Act}
+use Rattle.plan_tables.specs.declared.devices.{Settings.Settings, Act.Act}
 use Rattle.plan_contributions.specs.Effects.{Effect}
 
 abbrev pub texts : List Written → List (List ℕ)

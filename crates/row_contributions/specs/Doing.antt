@@ -1,23 +1,17 @@
 -- What holds of each effect, of each event that a switch posts, and of each switch to which a device listens or which a
 -- setting names: of those of rows, and of those of contributions.
 use Rattle.std.specs.Prelude.{◌≡◌, ◌≢◌, ℕ, Bool, true, ◌||◌, List, Option, None, Some, IfSome, IsSome}
-use Rattle.std.specs.List.{All, AllPairs, flat_map, list_any}
-use Rattle.std.specs.Str.{bytes_eq}
+use Rattle.std.specs.{List.{All, AllPairs, flat_map, list_any}, Str.bytes_eq}
 use Rattle.mpf_sections.specs.Rows.{Switch, EventPlayer, CoilPlayer, VariablePlayer, Shot, ShotGroup, BallDevice, SectionRows}
-use Rattle.mpf_sections.specs.TypedBalls.{playfield, ball_devices_in}
-use Rattle.mpf_sections.specs.TypedGame.{variable_players_in}
-use Rattle.row_contributions.specs.VariableEntries.{item_change}
+use Rattle.mpf_sections.specs.{TypedBalls.{playfield, ball_devices_in}, TypedCoils.{coil_players_in, coil_rule_of}}
+use Rattle.mpf_sections.specs.{TypedGame.variable_players_in, TypedShots.{shots_in, shot_groups_in}}
+use Rattle.row_contributions.specs.{VariableEntries.item_change, BallEntries.ball_lists}
 use Rattle.mpf_config.specs.Rows.{ModeRows, Rows}
 use Rattle.mpf_sections.specs.Typed.{entries_in, switches_in, event_players_in}
-use Rattle.mpf_sections.specs.TypedCoils.{coil_players_in, coil_rule_of}
-use Rattle.mpf_sections.specs.TypedShots.{shots_in, shot_groups_in}
 use Rattle.machine_definitions.specs.Shots.{shot_called, has_profile, profile_of_name}
-use Rattle.plan_tables.specs.declared.table.Table.{Table}
-use Rattle.plan_tables.specs.declared.table.Table.TheVariants.{Events, Switches}
-use Rattle.row_contributions.specs.DeviceEntries.{texts, Device, device_of}
+use Rattle.plan_tables.specs.declared.table.Table.{Table, TheVariants.{Events, Switches}}
+use Rattle.row_contributions.specs.{DeviceEntries.{texts, Device, device_of}, ShotEntries.{shot_lists, group_lists}}
 use Rattle.plan_contributions.specs.Effects.{Effect, posts}
-use Rattle.row_contributions.specs.ShotEntries.{shot_lists, group_lists}
-use Rattle.row_contributions.specs.BallEntries.{ball_lists}
 use Rattle.plan_rows.specs.Members.{members_of}
 use Rattle.row_contributions.specs.CoilEntries.{item_effect, rule_device_of}
 use Rattle.plan_contributions.specs.Contributions.{Contribution, active, inactive, does, does_in, listens, mentions, unknown}

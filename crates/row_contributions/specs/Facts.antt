@@ -1,28 +1,19 @@
 -- What holds of the contributions of rows.
 use Rattle.std.specs.Prelude.{◌≡◌, ℕ, suc, ◌<◌, ◌≤◌, ◌==◌, if◌then◌else◌, List, [], ◌∷◌, ◌++◌, map, Option, None, Some, slice_get, codes}
 use Rattle.std.specs.List.{All, flat_map}
-use Rattle.mpf_sections.specs.Named.{IsName}
-use Rattle.mpf_sections.specs.Rows.{SectionRows}
+use Rattle.mpf_sections.specs.{Named.IsName, Rows.SectionRows, TypedCoils.coils_in}
 use Rattle.mpf_sections.specs.Short.{IsPulseInRange, IsPowerInRange}
-use Rattle.mpf_sections.specs.TypedCoils.{coils_in}
-use Rattle.plan_contributions.specs.declared.contribution.Aim.{Aim}
-use Rattle.plan_contributions.specs.declared.contribution.Aim.TheVariants.{Run, Start, Stop, Do, On}
-use Rattle.plan_rows.specs.declared.place.Place.{Place}
-use Rattle.plan_rows.specs.declared.place.Place.TheVariants.{Machine, Control, Mode}
-use Rattle.plan_tables.specs.Devices.{IsWithinLimits}
-use Rattle.plan_tables.specs.declared.devices.Settings.{Settings}
-use Rattle.plan_tables.specs.declared.devices.Settings.TheVariants.{Flipper, Autofire, BallDevice}
-use Rattle.plan_tables.specs.declared.entries.CoilLimits.{CoilLimits}
-use Rattle.plan_tables.specs.declared.entries.ModeEvent.{ModeEvent}
+use Rattle.plan_contributions.specs.declared.contribution.Aim.{Aim, TheVariants.{Run, Start, Stop, Do, On}}
+use Rattle.plan_rows.specs.declared.place.Place.{Place, TheVariants.{Machine, Control, Mode}}
+use Rattle.plan_tables.specs.{Devices.IsWithinLimits, declared.entries.{CoilLimits.CoilLimits, ModeEvent.ModeEvent}}
+use Rattle.plan_tables.specs.declared.devices.Settings.{Settings, TheVariants.{Flipper, Autofire, BallDevice}}
 use Rattle.plan_contributions.specs.Effects.{Deed, pulse, enable, disable, Effect, posts, works, changes, enters, leaves, loses, arrives, requests, adds_balls}
 use Rattle.row_contributions.specs.DeviceEntries.{block_event, block_endings, timer_event, timer_endings}
-use Rattle.row_contributions.specs.CoilEntries.{limits_of_coil}
+use Rattle.row_contributions.specs.{CoilEntries.limits_of_coil, BallEntries.{ball_event, ball_endings}}
 use Rattle.row_contributions.specs.ShotEntries.{shot_events, group_events}
-use Rattle.row_contributions.specs.BallEntries.{ball_event, ball_endings}
 use Rattle.row_contributions.specs.SaveEntries.{save_event, save_endings, multiball_event, multiball_endings}
 use Rattle.plan_contributions.specs.Contributions.{Contribution, mode, mode_event_name, binds, does, device, does_in, listens, coil, plays}
-use Rattle.machine_definitions.specs.GameEvents.{game_event_names}
-use Rattle.machine_definitions.specs.Players.{player_event}
+use Rattle.machine_definitions.specs.{GameEvents.game_event_names, Players.player_event}
 
 -- ---- names
 

@@ -1,15 +1,11 @@
 -- What rows give to a plan, as the program has them.
-use Rattle.std.specs.Prelude.{ℕ, Bool, List, [], ◌∷◌, ◌++◌, map, Option, option_map}
-use Rattle.std.specs.List.{flat_map}
-use Rattle.std.specs.Global.{Vec}
-use Rattle.section_tables.specs.declared.rows.Name.{Name}
-use Rattle.section_tables.specs.declared.rows.Handler.{Handler}
+use Rattle.std.specs.{Prelude.{ℕ, Bool, List, [], ◌∷◌, ◌++◌, map, Option, option_map}, List.flat_map, Global.Vec}
+use Rattle.section_tables.specs.declared.rows.{Name.Name, Handler.Handler}
 use Rattle.section_tables.specs.declared.rows.Entry as entry_rows
 use Rattle.section_tables.specs.declared.rows.Player as player_rows
 use Rattle.section_tables.specs.declared.rows.Keyed as keyed_rows
 use Rattle.section_tables.specs.declared.rows.Fields as field_rows
-use Rattle.mpf_sections.specs.declared.typed.NameAt.{NameAt}
-use Rattle.mpf_sections.specs.declared.typed.HandledAt.{HandledAt}
+use Rattle.mpf_sections.specs.declared.typed.{NameAt.NameAt, HandledAt.HandledAt}
 use Rattle.mpf_sections.specs.declared.typed.Switch as typed_switches
 use Rattle.mpf_sections.specs.declared.typed.EventPlayer as typed_players
 use Rattle.mpf_sections.specs.declared.typed.ModeSettings as typed_settings
@@ -29,31 +25,22 @@ use Rattle.mpf_sections.specs.declared.shots.ShotGroup as typed_groups
 use Rattle.mpf_sections.specs.declared.balls.BallDevice as typed_balls
 use Rattle.mpf_sections.specs.declared.saves.BallSave as typed_saves
 use Rattle.mpf_sections.specs.declared.saves.Multiball as typed_multiballs
-use Rattle.mpf_sections.specs.Rows.{SectionRows}
+use Rattle.mpf_sections.specs.{Rows.SectionRows, TypedCoils.coil_item_of, TypedGame.variable_item_of}
 use Rattle.mpf_sections.specs.Typed.{controls_of, control_of, with_control}
-use Rattle.mpf_sections.specs.TypedCoils.{coil_item_of}
-use Rattle.mpf_sections.specs.TypedGame.{variable_item_of}
 use Rattle.mpf_sections.specs.View.{name_view, name_at_view, handler_view, handlers_view, handled_at_view, entry_view, player_view, keyed_view, fields_view, switch_view, event_player_view, mode_settings_view, block_view, counter_view, step_block_view, timer_view, coil_view, coil_player_view, rule_view, flipper_view, autofire_view, variable_player_view, game_view, shot_view, shot_group_view, ball_device_view, ball_save_view, multiball_view}
 use Rattle.machine_definitions.specs.declared.profile.Profile as profiles
 use Rattle.machine_definitions.specs.Found.{profile_view}
-use Rattle.plan_rows.specs.declared.place.Place.{Place}
-use Rattle.plan_rows.specs.declared.place.Place.TheVariants.{Machine}
-use Rattle.plan_rows.specs.declared.destination.Destination.{Destination}
+use Rattle.plan_rows.specs.declared.{place.Place.{Place, TheVariants.Machine}, destination.Destination.Destination}
 use Rattle.plan_rows.specs.declared.seats.Seat as seats
 use Rattle.plan_rows.specs.declared.members.Members as members
 use Rattle.plan_rows.specs.View.{seat_view, members_view}
-use Rattle.plan_tables.specs.declared.devices.Act.{Act}
-use Rattle.plan_tables.specs.declared.devices.Settings.{Settings}
-use Rattle.machine_settings.specs.declared.settings.BlockSettings.{BlockSettings}
-use Rattle.machine_settings.specs.declared.settings.StepSettings.{StepSettings}
-use Rattle.plan_tables.specs.declared.entries.SwitchKind.{SwitchKind}
-use Rattle.plan_tables.specs.declared.table.Table.TheVariants.{Events}
-use Rattle.plan_contributions.specs.declared.contribution.Aim.{Aim}
-use Rattle.plan_contributions.specs.declared.contribution.Parts.{Parts}
+use Rattle.plan_tables.specs.declared.devices.{Act.Act, Settings.Settings}
+use Rattle.machine_settings.specs.declared.settings.{BlockSettings.BlockSettings, StepSettings.StepSettings}
+use Rattle.plan_tables.specs.declared.{entries.SwitchKind.SwitchKind, table.Table.TheVariants.Events}
+use Rattle.plan_contributions.specs.{declared.contribution.{Aim.Aim, Parts.Parts}, Effects.posts, View.parts_text}
 use Rattle.plan_contributions.specs.declared.contribution.Effect as effects
 use Rattle.plan_contributions.specs.declared.contribution.Contribution as contributions
 use Rattle.row_contributions.specs.DeviceEntries.{texts, events, acts, or_own, block_acts, block_mentions, block_lists, counter_device, step_acts, step_settings, step_device, controlled, timer_device, device_of}
-use Rattle.plan_contributions.specs.Effects.{posts}
 use Rattle.row_contributions.specs.ShotEntries.{shot_acts, switch_hits, group_acts, lone_device, shot_lists, state_lists, group_lists}
 use Rattle.row_contributions.specs.BallEntries.{ball_settings, ball_lists, attempt_effects, eject_pulse}
 use Rattle.row_contributions.specs.SaveEntries.{save_device, save_acts, multiball_device, save_device_of}
@@ -61,7 +48,6 @@ use Rattle.row_contributions.specs.declared.collect_coils.Defaults as defaults
 use Rattle.row_contributions.specs.CoilEntries.{Defaults, item_effect, flipper_on, flipper_off, rule_device, flipper_device, autofire_device}
 use Rattle.plan_contributions.specs.Contributions.{Contribution, active, inactive, does, does_in, mentions}
 use Rattle.row_contributions.specs.Contributions.{kind_of, bound, act_binding, act_at, effects_from, listens_from, tag_event, active_posts, inactive_posts, switch_contributions, player_contributions, coil_contributions, coil_player_contributions, item_contributions, variable_player_contributions, game_contributions, mode_contributions, controls, device_contributions, where_device, shot_switch, shot_contributions, group_contributions, ball_device_contributions, machine_entry_contributions, entry_contributions, alone_contributions, player_entry_contributions}
-use Rattle.plan_contributions.specs.View.{parts_text}
 
 -- ---- settings
 

@@ -4,9 +4,8 @@ use Rattle.std.specs.List.{flat_map}
 use Rattle.mpf_values.specs.Events.{Event}
 use Rattle.mpf_sections.specs.Rows.{Written, Shot, ShotGroup}
 use Rattle.machine_definitions.specs.Shots.{Profile}
-use Rattle.plan_tables.specs.declared.devices.Act.{Act}
+use Rattle.plan_tables.specs.declared.devices.{Act.Act, Settings.Settings}
 use Rattle.plan_tables.specs.declared.devices.Act.TheVariants.{Reset, Hit, Advance, ResetShot, EnableShot, DisableShot, RotateRight, RotateLeft}
-use Rattle.plan_tables.specs.declared.devices.Settings.{Settings}
 use Rattle.plan_tables.specs.declared.devices.Settings.TheVariants as kinds
 use Rattle.plan_contributions.specs.Effects.{Effect, posts}
 use Rattle.row_contributions.specs.DeviceEntries.{Device, always, acts, texts}

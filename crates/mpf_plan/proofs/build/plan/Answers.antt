@@ -1,8 +1,6 @@
-use Rattle.std.proofs.Common.{◌≡◌, ◌≤◌, subst}
-use Rattle.std.specs.Prelude.{IfOk}
+use Rattle.std.{proofs.Common.{◌≡◌, ◌≤◌, subst}, specs.Prelude.IfOk}
 use Rattle.mpf_config.specs.Rows.{Rows}
-use Rattle.plan_tables.specs.declared.table.Table.{Table}
-use Rattle.plan_tables.specs.Limits.{entry_count, limit_of}
+use Rattle.plan_tables.specs.{declared.table.Table.Table, Limits.{entry_count, limit_of}}
 use Rattle.mpf_plan.specs.PlanOf.{IsExceeded, GivesPlan, plan_at, plan_of}
 use Rattle.mpf_plan.proofs.build.plan.Goals as goal
 

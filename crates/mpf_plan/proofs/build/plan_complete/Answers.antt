@@ -1,7 +1,5 @@
 use Rattle.std.proofs.Common.{subst}
-use Rattle.mpf_config.specs.Rows.{Rows}
-use Rattle.mpf_config.specs.Short.{AreListsShort}
-use Rattle.mpf_config.specs.FewModes.{AreFewModes}
+use Rattle.mpf_config.specs.{Rows.Rows, Short.AreListsShort, FewModes.AreFewModes}
 use Rattle.mpf_plan.proofs.build.plan_complete.Goals as goal
 
 pub plan_of_rows-requires-clause-short : goal.plan_of_rows-requires-clause-short

@@ -1,11 +1,7 @@
-use Rattle.std.proofs.Common.{refl, ap, sym, ◌∙◌}
-use Rattle.std.specs.Prelude.{Ok, Err}
-use Rattle.std.proofs.lemmas.Result.{err_from_is_err_and}
+use Rattle.std.{proofs.{Common.{rules, refl, ap, ◌∙◌}, lemmas.Result.err_from_is_err_and}, specs.Prelude.Err}
 use Rattle.row_contributions.specs.Contributions.{given_by}
 use Rattle.plan_rows.specs.View.{row_list_view}
-use Rattle.mpf_plan.specs.Uses.{lacks_name}
-use Rattle.mpf_plan.specs.Numbering.{numbers_of}
-use Rattle.mpf_plan.proofs.Drafted.{entries_count, coils_count}
+use Rattle.mpf_plan.{specs.Uses.lacks_name, proofs.Drafted.{entries_count, coils_count}}
 use Rattle.mpf_plan.proofs.Planned.{refused_exact, refused_limit, rows_within, is_plan, is_planned, is_valid, modes_few, acts_few, lists_within}
 use Rattle.mpf_plan.proofs.build.plan_of_rows.Goals as goal
 
@@ -31,9 +27,7 @@ fill-requires-clause-acts c =
     c.in_ok-numbered.ensures.4
 
 pub fill-requires-clause-lists : goal.fill-requires-clause-lists
-fill-requires-clause-lists c =
-    lists_within c.args.definitions.now c.args.definitions.now.machine c.args.rows.now c.args.rows.now refl c.requires.rows refl c.requires.short
-    c.in_ok-numbered.ensures.4
+fill-requires-clause-lists c = search (rules, lists_within)
 
 pub new-requires-clause-valid : goal.new-requires-clause-valid
 new-requires-clause-valid c =
@@ -46,8 +40,7 @@ pub new-requires-clause-coils : goal.new-requires-clause-coils
 new-requires-clause-coils c = coils_count c.in_ok-numbered.numbered.names c.in_ok-draft.draft (given_by c.args.definitions.now.machine (row_list_view c.args.rows.now)) c.in_ok-draft.ensures
 
 pub returns-clause-exact : goal.returns-clause-exact
-returns-clause-exact c =
-    is_planned c.args.definitions.now c.args.definitions.now.machine refl c.args.rows.now c.args.rows.now c.requires.rows refl c.in_ok-numbered.numbered c.in_ok-numbered.ensures c.in_ok-draft.draft c.args.rows.now refl c.in_ok-draft.ensures ∙ ap Ok (sym c.in_ok-plan.ensures)
+returns-clause-exact c = search (rules, is_planned)
 
 pub returns-clause-plan : goal.returns-clause-plan
 returns-clause-plan c =
@@ -58,6 +51,4 @@ returns-clause-within c =
     rows_within c.args.definitions.now c.args.definitions.now.machine refl c.args.rows.now c.args.rows.now c.requires.rows refl c.in_ok-numbered.numbered c.in_ok-numbered.ensures
 
 pub fill-requires-clause-numbers : goal.fill-requires-clause-numbers
-fill-requires-clause-numbers c =
-    let cs = given_by c.args.definitions.now.machine (row_list_view c.args.rows.now) in
-    c.deref.ensures.value ∙ c.in_ok-numbered.ensures.5 ∙ ap (λ ns. numbers_of ns cs) (sym c.in_ok-numbered.ensures.1)
+fill-requires-clause-numbers c = search rules

@@ -1,9 +1,7 @@
-use Rattle.mpf_plan.specs.Filling.{with_contribution}
+use Rattle.mpf_plan.specs.{Filling.with_contribution, Inside.{IsActNumbered, draft_view}}
 use Rattle.plan_tables.specs.Inside.{name_sets_view}
-use Rattle.mpf_plan.specs.Inside.{IsActNumbered, draft_view}
 use Rattle.mpf_plan.proofs.Drafted.{lists_fit, device_rows_fit, modes_fit}
-use Rattle.mpf_plan.proofs.Taken.{all_here, added_next}
-use Rattle.mpf_plan.proofs.UseNumbers.{number_here}
+use Rattle.mpf_plan.proofs.{Taken.{all_here, added_next}, UseNumbers.number_here}
 use Rattle.mpf_plan.proofs.fill.add_all.Goals as goal
 
 pub add-requires-clause-lists : goal.add-requires-clause-lists

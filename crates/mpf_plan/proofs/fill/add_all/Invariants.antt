@@ -1,8 +1,7 @@
 use Rattle.std.proofs.Common.{◌≡◌, fold, take}
-use Rattle.mpf_plan.specs.Filling.{with_contribution}
+use Rattle.mpf_plan.specs.{Filling.with_contribution, Inside.draft_view}
 use Rattle.plan_tables.specs.Inside.{name_sets_view}
 use Rattle.plan_contributions.specs.View.{contributions_view}
-use Rattle.mpf_plan.specs.Inside.{draft_view}
 use Rattle.mpf_plan.proofs.fill.add_all.Given as goal
 
 abbrev pub invariant-loop-place : goal.invariant-loop-place

@@ -1,8 +1,6 @@
 use Rattle.std.proofs.Common.{◌≡◌, ℕ, [], ◌∷◌, ◌++◌, length, map, replicate, Vec, Global, ◌∙◌, ap, arith}
 use Rattle.std.proofs.lemmas.List.{length-map}
-use Rattle.plan_tables.specs.declared.entries.Action.{Action}
-use Rattle.plan_tables.specs.declared.entries.ListId.{ListId}
-use Rattle.plan_tables.specs.Inside.{action_lists}
+use Rattle.plan_tables.specs.{declared.entries.{Action.Action, ListId.ListId}, Inside.action_lists}
 use Rattle.mpf_plan.specs.Inside.{draft_view}
 use Rattle.mpf_plan.proofs.fill.add_device.Goals as goal
 

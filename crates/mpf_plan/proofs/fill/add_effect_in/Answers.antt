@@ -1,9 +1,7 @@
 use Rattle.std.proofs.Common.{◌+◌, ap, ◌∙◌}
 use Rattle.plan_contributions.specs.View.{effect_view}
 use Rattle.plan_tables.specs.Inside.{name_sets_view, action_lists}
-use Rattle.mpf_plan.specs.Inside.{draft_view}
-use Rattle.mpf_plan.specs.Filling.{with_one_more}
-use Rattle.mpf_plan.specs.ByNumber.{action_of, first_of_last}
+use Rattle.mpf_plan.specs.{Inside.draft_view, Filling.with_one_more, ByNumber.{action_of, first_of_last}}
 use Rattle.mpf_plan.proofs.fill.add_effect_in.Goals as goal
 
 pub returns : goal.returns

@@ -1,7 +1,5 @@
 use Rattle.std.proofs.Common.{◌∙◌, ap}
-use Rattle.mpf_plan.specs.Filling.{with_listener}
-use Rattle.mpf_plan.specs.Inside.{draft_view}
-use Rattle.mpf_plan.proofs.Collected.{on_ok}
+use Rattle.mpf_plan.{specs.{Filling.with_listener, Inside.draft_view}, proofs.Collected.on_ok}
 use Rattle.mpf_plan.proofs.fill.add_listener.Goals as goal
 
 pub returns : goal.returns

@@ -1,5 +1,4 @@
-use Rattle.std.proofs.Common.{◌≡◌, length}
-use Rattle.std.specs.List.{All}
+use Rattle.std.{proofs.Common.{◌≡◌, length}, specs.List.All}
 use Rattle.plan_tables.specs.PlanView.{no_coil}
 use Rattle.mpf_plan.proofs.fill.blank_coils.Given as goal
 

@@ -1,5 +1,4 @@
-use Rattle.std.proofs.Common.{◌≡◌, length}
-use Rattle.std.specs.List.{All}
+use Rattle.std.{proofs.Common.{◌≡◌, length}, specs.List.All}
 use Rattle.mpf_plan.proofs.Steps.{IsBlank}
 use Rattle.mpf_plan.proofs.fill.blank_switches.Given as goal
 

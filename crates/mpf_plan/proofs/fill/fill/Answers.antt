@@ -1,36 +1,23 @@
-use Rattle.std.proofs.Common.{◌≡◌, refl, fold, length, take, drop, sym, ◌∙◌, ap, subst, arith}
-use Rattle.std.specs.List.{All}
-use Rattle.std.proofs.lemmas.List.{take_all}
-use Rattle.std.proofs.lemmas.List.Sums.{fold-append}
+use Rattle.std.proofs.Common.{rules, ◌≡◌, refl, fold, length, take, drop, sym, ◌∙◌, ap, subst, arith}
+use Rattle.std.{specs.List.All, proofs.lemmas.List.{take_all, Sums.fold-append}}
 use Rattle.row_contributions.specs.Contributions.{given_by}
 use Rattle.plan_contributions.specs.View.{contributions_view}
 use Rattle.plan_rows.specs.View.{row_list_view}
 use Rattle.plan_tables.specs.Inside.{name_sets_view}
-use Rattle.mpf_plan.specs.Filling.{with_contribution, blank, drafted}
-use Rattle.mpf_plan.specs.Inside.{IsActNumbered}
-use Rattle.mpf_plan.proofs.Taken.{all_of_row}
-use Rattle.mpf_plan.proofs.Collected.{row_is, row_more}
+use Rattle.mpf_plan.specs.{Filling.{with_contribution, blank, drafted}, Inside.IsActNumbered}
+use Rattle.mpf_plan.proofs.{Taken.all_of_row, Collected.{row_is, row_more}}
 use Rattle.mpf_plan.proofs.UseNumbers.{numbers_enough, numbers_taken, numbers_left}
 use Rattle.mpf_plan.proofs.Drafted.{row_fits, row_rows_fit, row_modes_fit}
 use Rattle.mpf_plan.proofs.fill.fill.Goals as goal
 
 pub add_all-requires-clause-lists : goal.add_all-requires-clause-lists
-add_all-requires-clause-lists c =
-    let row = c.row-item.result in
-    let here = row_is c.args.definitions.now.machine c.args.rows.now c.loop-row.row-index row c.loop-row-test.true c.row-item.is c.deref.result.now c.collect_row.new.contributions.items c.deref.ensures.value c.in_ok-collect_row.ensures in
-    row_fits c.args.definitions.now.machine c.args.names.now c.loop-row.draft c.args.rows.now c.loop-row.row-index row c.deref.result.now c.loop-row-test.true here c.loop-row.invariant.made c.requires.bindings c.requires.lists
+add_all-requires-clause-lists c = search (rules, row_is, row_fits)
 
 pub add_all-requires-clause-rows : goal.add_all-requires-clause-rows
-add_all-requires-clause-rows c =
-    let row = c.row-item.result in
-    let here = row_is c.args.definitions.now.machine c.args.rows.now c.loop-row.row-index row c.loop-row-test.true c.row-item.is c.deref.result.now c.collect_row.new.contributions.items c.deref.ensures.value c.in_ok-collect_row.ensures in
-    row_rows_fit c.args.definitions.now.machine c.args.names.now c.loop-row.draft c.args.rows.now c.loop-row.row-index row c.deref.result.now c.loop-row-test.true here c.loop-row.invariant.made c.requires.rows
+add_all-requires-clause-rows c = search (rules, row_is, row_rows_fit)
 
 pub add_all-requires-clause-modes : goal.add_all-requires-clause-modes
-add_all-requires-clause-modes c =
-    let row = c.row-item.result in
-    let here = row_is c.args.definitions.now.machine c.args.rows.now c.loop-row.row-index row c.loop-row-test.true c.row-item.is c.deref.result.now c.collect_row.new.contributions.items c.deref.ensures.value c.in_ok-collect_row.ensures in
-    row_modes_fit c.args.definitions.now.machine c.args.names.now c.loop-row.draft c.args.rows.now c.loop-row.row-index row c.deref.result.now c.loop-row-test.true here c.loop-row.invariant.made c.requires.modes
+add_all-requires-clause-modes c = search (rules, row_is, row_modes_fit)
 
 pub add_all-requires-clause-acts : goal.add_all-requires-clause-acts
 add_all-requires-clause-acts c =
@@ -52,16 +39,7 @@ split_at-requires c =
     omega (arith, c.len.ensures, c.collect_row.new.contributions.ok.0, numbers_enough (name_sets_view c.args.names.now) machine rows i row c.loop-row-test.true c.loop-row.numbers_left.now c.loop-row.invariant.left now here)
 
 pub add_all-requires-clause-numbers : goal.add_all-requires-clause-numbers
-add_all-requires-clause-numbers c =
-    let machine = c.args.definitions.now.machine in
-    let rows = c.args.rows.now in
-    let i = c.loop-row.row-index in
-    let row = c.row-item.result in
-    let here = row_is machine rows i row c.loop-row-test.true c.row-item.is c.deref.result.now c.collect_row.new.contributions.items c.deref.ensures.value c.in_ok-collect_row.ensures in
-    let count : c.len.result ≡ length c.deref.result.now = omega (arith, c.len.ensures, c.collect_row.new.contributions.ok.0, ap length c.deref.ensures.value) in
-    c.split_at.ensures.front
-    ∙ ap (λ n. take n c.loop-row.numbers_left.now) count
-    ∙ numbers_taken (name_sets_view c.args.names.now) machine rows i row c.loop-row-test.true c.loop-row.numbers_left.now c.loop-row.invariant.left c.deref.result.now here
+add_all-requires-clause-numbers c = search (rules, row_is, numbers_left, numbers_taken)
 
 pub loop-row-preserved : goal.loop-row-preserved
 loop-row-preserved c =
@@ -87,6 +65,4 @@ loop-row-preserved c =
     }
 
 pub returns : goal.returns
-returns c =
-    c.loop-row.invariant.made
-    ∙ ap (λ rs. drafted (name_sets_view c.args.names.now) (given_by c.args.definitions.now.machine (row_list_view rs))) (take_all c.loop-row.row-index c.args.rows.now c.loop-row-test.false)
+returns c = search (rules, take_all)

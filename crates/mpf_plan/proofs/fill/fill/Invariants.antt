@@ -1,9 +1,7 @@
 use Rattle.std.proofs.Common.{◌≡◌, take, drop}
 use Rattle.row_contributions.specs.Contributions.{given_by}
-use Rattle.mpf_plan.specs.Filling.{drafted}
+use Rattle.mpf_plan.specs.{Filling.drafted, Inside.draft_view, Numbering.numbers_of}
 use Rattle.plan_tables.specs.Inside.{name_sets_view}
-use Rattle.mpf_plan.specs.Inside.{draft_view}
-use Rattle.mpf_plan.specs.Numbering.{numbers_of}
 use Rattle.plan_rows.specs.View.{row_list_view}
 use Rattle.mpf_plan.proofs.fill.fill.Given as goal
 

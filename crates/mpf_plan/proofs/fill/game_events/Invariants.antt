@@ -1,7 +1,6 @@
 use Rattle.std.proofs.Common.{◌≡◌, length, map, take}
 use Rattle.machine_definitions.specs.GameEvents.{game_event_names}
-use Rattle.plan_tables.specs.declared.table.Table.TheVariants.{Events}
-use Rattle.plan_tables.specs.Inside.{name_sets_view}
+use Rattle.plan_tables.specs.{declared.table.Table.TheVariants.Events, Inside.name_sets_view}
 use Rattle.mpf_plan.specs.ByNumber.{event_of}
 use Rattle.mpf_plan.proofs.fill.game_events.Given as goal
 

@@ -1,11 +1,7 @@
-use Rattle.std.proofs.Common.{◌≡◌, length, map, None, Vec, Global, sym, ◌∙◌, ap, arith}
-use Rattle.std.proofs.lemmas.List.{length-map}
-use Rattle.plan_tables.specs.declared.entries.Action.{Action}
+use Rattle.std.proofs.{Common.{◌≡◌, length, map, None, Vec, Global, sym, ◌∙◌, ap, arith}, lemmas.List.length-map}
+use Rattle.plan_tables.specs.{declared.entries.Action.Action, Inside.mode_entry_view}
 use Rattle.plan_tables.specs.declared.entries.Target.TheVariants as targets
-use Rattle.plan_tables.specs.Inside.{mode_entry_view}
-use Rattle.mpf_plan.specs.Filling.{last_priority, target_at}
-use Rattle.mpf_plan.specs.ByNumber.{owner_at, priority_at}
-use Rattle.mpf_plan.specs.Inside.{draft_view}
+use Rattle.mpf_plan.specs.{Filling.{last_priority, target_at}, ByNumber.{owner_at, priority_at}, Inside.draft_view}
 use Rattle.mpf_plan.proofs.fill.next_binding.Goals as goal
 use Rattle.mpf_plan.proofs.fill.next_binding.Goals.{in-Run, in-Start, in-Stop, in-Do, in-On}
 

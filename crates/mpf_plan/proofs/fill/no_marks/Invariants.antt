@@ -1,5 +1,4 @@
-use Rattle.std.proofs.Common.{◌≡◌, false, length}
-use Rattle.std.specs.List.{All}
+use Rattle.std.{proofs.Common.{◌≡◌, false, length}, specs.List.All}
 use Rattle.mpf_plan.proofs.fill.no_marks.Given as goal
 
 abbrev pub invariant-loop : goal.invariant-loop

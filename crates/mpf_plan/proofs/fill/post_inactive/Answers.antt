@@ -1,8 +1,6 @@
 use Rattle.std.proofs.Common.{[], ◌∷◌, ◌++◌, ap, arith}
-use Rattle.plan_tables.specs.declared.table.Table.TheVariants.{Switches}
-use Rattle.plan_tables.specs.Inside.{name_sets_view, switch_entry_view}
-use Rattle.mpf_plan.specs.Inside.{draft_view}
-use Rattle.mpf_plan.proofs.Steps.{switch_changed, switch_unchanged}
+use Rattle.plan_tables.specs.{declared.table.Table.TheVariants.Switches, Inside.{name_sets_view, switch_entry_view}}
+use Rattle.mpf_plan.{specs.Inside.draft_view, proofs.Steps.{switch_changed, switch_unchanged}}
 use Rattle.mpf_plan.proofs.fill.post_inactive.Goals as goal
 
 pub returns-in_ok-push : goal.returns-in_ok-push

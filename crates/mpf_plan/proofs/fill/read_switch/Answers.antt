@@ -1,8 +1,6 @@
 use Rattle.std.proofs.Common.{refl, ap, arith}
-use Rattle.plan_tables.specs.declared.table.Table.TheVariants.{Switches}
-use Rattle.plan_tables.specs.Inside.{name_sets_view}
-use Rattle.mpf_plan.specs.Inside.{draft_view}
-use Rattle.mpf_plan.proofs.Steps.{switch_changed, switch_unchanged}
+use Rattle.plan_tables.specs.{declared.table.Table.TheVariants.Switches, Inside.name_sets_view}
+use Rattle.mpf_plan.{specs.Inside.draft_view, proofs.Steps.{switch_changed, switch_unchanged}}
 use Rattle.mpf_plan.proofs.fill.read_switch.Goals as goal
 
 pub returns-then-last-len : goal.returns-then-last-len

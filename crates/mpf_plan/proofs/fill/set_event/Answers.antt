@@ -1,7 +1,6 @@
 use Rattle.std.proofs.Common.{◌≡◌, length, ap, arith}
-use Rattle.mpf_plan.specs.Filling.{with_event_in}
+use Rattle.mpf_plan.{specs.Filling.with_event_in, proofs.Steps.last_mode_changed}
 use Rattle.plan_tables.specs.Inside.{mode_entry_view}
-use Rattle.mpf_plan.proofs.Steps.{last_mode_changed}
 use Rattle.mpf_plan.proofs.fill.set_event.Goals as goal
 
 pub returns-then-count-gt0 : goal.returns-then-count-gt0

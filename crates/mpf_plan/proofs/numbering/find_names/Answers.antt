@@ -1,10 +1,7 @@
-use Rattle.std.proofs.Common.{inr, refl, sym, ◌∙◌, ◌+◌, subst, arith}
-use Rattle.std.proofs.lemmas.List.{take_all}
+use Rattle.std.proofs.{Common.{inr, refl, sym, ◌∙◌, ◌+◌, subst, arith}, lemmas.List.take_all}
 use Rattle.row_contributions.specs.Contributions.{given_by}
 use Rattle.plan_rows.specs.View.{row_list_view}
-use Rattle.mpf_plan.specs.Numbering.{HasFound}
-use Rattle.mpf_plan.proofs.Collected.{row_more}
-use Rattle.mpf_plan.proofs.FirstRows.{events_exceed}
+use Rattle.mpf_plan.{specs.Numbering.HasFound, proofs.{Collected.row_more, FirstRows.events_exceed}}
 use Rattle.mpf_plan.proofs.numbering.find_names.Goals as goal
 
 pub loop-row-init : goal.loop-row-init

@@ -1,9 +1,7 @@
-use Rattle.std.proofs.Common.{◌≡◌, List, drop, nat_lt}
-use Rattle.std.specs.Prelude.{find}
+use Rattle.std.{proofs.Common.{◌≡◌, List, drop, nat_lt}, specs.Prelude.find}
 use Rattle.plan_contributions.specs.Contributions.{Contribution}
 use Rattle.plan_tables.specs.Limits.{entry_count, limit_of, first_above}
-use Rattle.mpf_plan.specs.Filling.{plan_from}
-use Rattle.mpf_plan.specs.Numbering.{HasFound}
+use Rattle.mpf_plan.specs.{Filling.plan_from, Numbering.HasFound}
 use Rattle.mpf_plan.proofs.numbering.first_above.Given as goal
 
 -- the first table above its limit is among those that are left

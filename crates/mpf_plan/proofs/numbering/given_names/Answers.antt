@@ -1,9 +1,7 @@
-use Rattle.std.proofs.Common.{subst}
-use Rattle.std.proofs.lemmas.List.{take_all}
+use Rattle.std.proofs.{Common.subst, lemmas.List.take_all}
 use Rattle.row_contributions.specs.Contributions.{given_by}
 use Rattle.plan_rows.specs.View.{row_list_view}
-use Rattle.mpf_plan.specs.Numbering.{HoldGivenNames}
-use Rattle.mpf_plan.proofs.Collected.{row_more}
+use Rattle.mpf_plan.{specs.Numbering.HoldGivenNames, proofs.Collected.row_more}
 use Rattle.mpf_plan.proofs.numbering.given_names.Goals as goal
 
 pub loop-row-preserved : goal.loop-row-preserved

@@ -1,9 +1,7 @@
-use Rattle.std.proofs.Common.{◌≡◌, length, get_or, nat_lt, sym, ◌∙◌, ap, subst}
-use Rattle.std.proofs.lemmas.Option.{slice_get_read}
+use Rattle.std.proofs.{Common.{◌≡◌, length, get_or, nat_lt, sym, ◌∙◌, ap, subst}, lemmas.Option.slice_get_read}
 use Rattle.plan_tables.specs.Limits.{entry_count, limit_of, order_of, tables_in_order}
 use Rattle.mpf_plan.specs.Filling.{plan_from}
-use Rattle.mpf_plan.proofs.ByTable.{place_within}
-use Rattle.mpf_plan.proofs.Found.{bindings_above, rows_above, names_above}
+use Rattle.mpf_plan.proofs.{ByTable.place_within, Found.{bindings_above, rows_above, names_above}}
 use Rattle.mpf_plan.proofs.numbering.is_above.Goals as goal
 
 pub returns-in-Bindings : goal.returns-in-Bindings

@@ -1,9 +1,6 @@
-use Rattle.std.proofs.Common.{◌||◌, sym, ◌∙◌, ap}
-use Rattle.std.specs.Option.{option_map}
-use Rattle.plan_contributions.specs.UsedNames.{used, given_names}
-use Rattle.plan_contributions.specs.View.{parts_text, named_view, contribution_view}
-use Rattle.mpf_plan.specs.Uses.{is_lacking}
-use Rattle.mpf_plan.proofs.Lacking.{lacking_named}
+use Rattle.std.{proofs.Common.{◌||◌, sym, ◌∙◌, ap}, specs.Option.option_map}
+use Rattle.plan_contributions.specs.{UsedNames.{used, given_names}, View.{parts_text, named_view, contribution_view}}
+use Rattle.mpf_plan.{specs.Uses.is_lacking, proofs.Lacking.lacking_named}
 use Rattle.mpf_plan.proofs.numbering.is_other.Goals as goal
 
 pub returns : goal.returns

@@ -1,17 +1,10 @@
-use Rattle.std.proofs.Common.{◌≡◌, Bool, false, take, sym, ◌∙◌, ap, subst}
-use Rattle.std.specs.List.{list_any}
-use Rattle.std.proofs.lemmas.Bool.{or_from}
-use Rattle.std.proofs.lemmas.List.{take_all}
-use Rattle.std.proofs.lemmas.List.Folds.{list_any-append}
-use Rattle.plan_contributions.specs.Contributions.{Contribution}
+use Rattle.std.{proofs.Common.{rules, ◌≡◌, Bool, false, take, sym, ◌∙◌, ap, subst}, specs.List.list_any}
+use Rattle.std.proofs.lemmas.{Bool.or_from, List.{take_all, Folds.list_any-append}}
+use Rattle.plan_contributions.specs.{Contributions.Contribution, UsedNames.given_names, View.contributions_view}
 use Rattle.row_contributions.specs.Contributions.{given_by}
-use Rattle.plan_contributions.specs.UsedNames.{given_names}
-use Rattle.mpf_plan.specs.Uses.{lacks}
-use Rattle.plan_contributions.specs.View.{contributions_view}
+use Rattle.mpf_plan.specs.{Uses.lacks, Numbering.HoldGivenNames}
 use Rattle.plan_rows.specs.View.{row_list_view}
-use Rattle.mpf_plan.specs.Numbering.{HoldGivenNames}
-use Rattle.mpf_plan.proofs.Collected.{row_is, row_more}
-use Rattle.mpf_plan.proofs.Lacking.{any_row}
+use Rattle.mpf_plan.proofs.{Collected.{row_is, row_more}, Lacking.any_row}
 use Rattle.mpf_plan.proofs.numbering.lacks_name.Goals as goal
 
 pub loop-row-preserved : goal.loop-row-preserved
@@ -35,6 +28,4 @@ returns-then-lacking c =
     ∙ sym (c.in_ok-lacking.ensures all (subst (HoldGivenNames all) (sym c.deref.ensures.value) c.in_ok-sets.ensures)) ∙ c.if-lacking.true))
 
 pub returns : goal.returns
-returns c =
-    let all = given_by c.args.definitions.now.machine (row_list_view c.args.rows.now) in
-    sym (subst (λ rs. list_any (lacks (λ t. given_names t all)) (given_by c.args.definitions.now.machine (row_list_view rs)) ≡ false) (take_all c.loop-row.row-index c.args.rows.now c.loop-row-test.false) c.loop-row.invariant)
+returns c = search (rules, take_all)

@@ -1,5 +1,4 @@
-use Rattle.std.proofs.Common.{◌≡◌, false, take}
-use Rattle.std.specs.List.{list_any}
+use Rattle.std.{proofs.Common.{◌≡◌, false, take}, specs.List.list_any}
 use Rattle.row_contributions.specs.Contributions.{given_by}
 use Rattle.plan_contributions.specs.UsedNames.{given_names}
 use Rattle.mpf_plan.specs.Uses.{lacks}

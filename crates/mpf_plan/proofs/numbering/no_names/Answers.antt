@@ -1,22 +1,15 @@
-use Rattle.std.proofs.Common.{◌≡◌, ℕ, ◌+◌, false, [], length, get_or, Some, refl, sym, ◌∙◌, ap, subst, arith}
-use Rattle.std.specs.Prelude.{slice_get}
-use Rattle.std.proofs.lemmas.List.{length_push}
-use Rattle.std.proofs.lemmas.Option.{none-some}
-use Rattle.plan_tables.specs.declared.table.Table.TheVariants.{Events}
-use Rattle.plan_tables.specs.declared.names.NameTable.{NameTable}
-use Rattle.plan_tables.specs.Limits.{limit_of, order_of, tables_in_order}
-use Rattle.mpf_plan.proofs.ByTable.{table_at, each_pushed}
-use Rattle.mpf_plan.proofs.Found.{found_none}
+use Rattle.std.proofs.Common.{rules, ◌≡◌, ℕ, ◌+◌, false, [], length, get_or, Some, refl, sym, ◌∙◌, ap, subst}
+use Rattle.std.{specs.Prelude.slice_get, proofs.lemmas.{List.length_push, Option.none-some}}
+use Rattle.plan_tables.specs.declared.{table.Table.TheVariants.Events, names.NameTable.NameTable}
+use Rattle.plan_tables.specs.Limits.{limit_of, tables_in_order}
+use Rattle.mpf_plan.proofs.{ByTable.{table_at, each_pushed}, Found.found_none}
 use Rattle.mpf_plan.proofs.numbering.no_names.Goals as goal
 
 abbrev IsEmptyAt : ℕ → NameTable → Type 0
 IsEmptyAt i k = (k.limit ≡ limit_of (get_or tables_in_order i Events)) × (k.above ≡ false) × (k.set.keys ≡ [])
 
 pub loop-table-init : goal.loop-table-init
-loop-table-init c = record {
-  count = ap length c.new-tables.ensures.items;
-  empty = λ i k at. absurd (none-some k (sym (ap (λ ts. slice_get ts i) c.new-tables.ensures.items) ∙ at));
-}
+loop-table-init c = search (rules, none-some)
 
 pub loop-table-preserved : goal.loop-table-preserved
 loop-table-preserved c =
@@ -30,10 +23,4 @@ loop-table-preserved c =
     }
 
 pub returns : goal.returns
-returns c =
-    let tables = c.loop-table.tables.items in
-    let count : length tables ≡ length tables_in_order = omega (arith, c.loop-table.invariant.count, c.loop-table-test.false, c.loop-table.auto.table-index-end) in
-    record {
-      count = count;
-      names = found_none tables count (λ t k at. let here = c.loop-table.invariant.empty (order_of t) k at in (here.0 ∙ ap limit_of (table_at t), here.1, here.2));
-    }
+returns c = search (rules, found_none, table_at)

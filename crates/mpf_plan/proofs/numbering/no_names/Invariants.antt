@@ -1,8 +1,5 @@
-use Rattle.std.proofs.Common.{◌≡◌, ℕ, false, [], length, get_or, Some}
-use Rattle.std.specs.Prelude.{slice_get}
-use Rattle.plan_tables.specs.declared.table.Table.TheVariants.{Events}
-use Rattle.plan_tables.specs.declared.names.NameTable.{NameTable}
-use Rattle.plan_tables.specs.Limits.{limit_of}
+use Rattle.std.{proofs.Common.{◌≡◌, ℕ, false, [], length, get_or, Some}, specs.Prelude.slice_get}
+use Rattle.plan_tables.specs.{declared.{table.Table.TheVariants.Events, names.NameTable.NameTable}, Limits.limit_of}
 use Rattle.mpf_plan.proofs.numbering.no_names.Given as goal
 
 abbrev pub invariant-loop-table : goal.invariant-loop-table

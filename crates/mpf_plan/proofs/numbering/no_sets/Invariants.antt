@@ -1,5 +1,4 @@
-use Rattle.std.proofs.Common.{◌≡◌, [], length}
-use Rattle.std.specs.List.{All}
+use Rattle.std.{proofs.Common.{◌≡◌, [], length}, specs.List.All}
 use Rattle.mpf_plan.proofs.numbering.no_sets.Given as goal
 
 abbrev pub invariant-loop-table : goal.invariant-loop-table

@@ -1,6 +1,5 @@
 use Rattle.std.proofs.Common.{List, ◌++◌, take}
-use Rattle.plan_contributions.specs.Contributions.{Contribution}
-use Rattle.plan_contributions.specs.View.{contributions_view}
+use Rattle.plan_contributions.specs.{Contributions.Contribution, View.contributions_view}
 use Rattle.mpf_plan.specs.Numbering.{HasFound}
 use Rattle.mpf_plan.proofs.numbering.note_all.Given as goal
 

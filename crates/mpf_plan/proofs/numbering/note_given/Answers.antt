@@ -1,11 +1,8 @@
-use Rattle.std.proofs.Common.{length, ◌++◌, sym, ◌∙◌, ap, subst, take}
+use Rattle.std.proofs.{Common.{rules, ◌++◌, sym, ◌∙◌, ap, subst, take}, lemmas.List.{append-nil, take_all, length-set}}
 use Rattle.std.specs.Option.{option_map}
-use Rattle.std.proofs.lemmas.List.{append-nil, take_all, length-set}
 use Rattle.plan_contributions.specs.View.{parts_text, named_view, contributions_view}
-use Rattle.mpf_plan.specs.Numbering.{HoldGivenNames}
-use Rattle.mpf_plan.proofs.Collected.{one_more}
+use Rattle.mpf_plan.{specs.Numbering.HoldGivenNames, proofs.{Collected.one_more, Lacking.{given_nameless, given_named}}}
 use Rattle.first_names.proofs.FirstNames.{use_inserted}
-use Rattle.mpf_plan.proofs.Lacking.{given_nameless, given_named}
 use Rattle.mpf_plan.proofs.numbering.note_given.Goals.{in-Some+in_ok-write_name+in_ok-insert, in_default}
 use Rattle.mpf_plan.proofs.numbering.note_given.Goals as goal
 
@@ -18,10 +15,7 @@ loop-contribution-preserved c =
     let i = c.loop-contribution.contribution-index in
     let sets = c.loop-contribution.sets.items in
     record {
-      count = elim c.match-given.branch [
-        | in-Some+in_ok-write_name+in_ok-insert w ↦ ap (λ v. length v.items) w.sets-is ∙ length-set sets w.index.result w.insert.new.self ∙ c.loop-contribution.invariant.count
-        | in_default w ↦ ap (λ v. length v.items) w.sets-is ∙ c.loop-contribution.invariant.count
-      ];
+      count = search (rules, in-Some+in_ok-write_name+in_ok-insert, length-set, in_default);
       names = λ before has. subst (λ cs. HoldGivenNames cs c.match-given.sets.items) (one_more before cs i _ c.loop-contribution-test.true) (elim c.match-given.branch [
         | in-Some+in_ok-write_name+in_ok-insert w ↦
             let name = parts_text w.in-Some.name in

@@ -1,6 +1,5 @@
 use Rattle.std.proofs.Common.{◌≡◌, List, ◌++◌, length, take}
-use Rattle.plan_contributions.specs.Contributions.{Contribution}
-use Rattle.plan_contributions.specs.View.{contributions_view}
+use Rattle.plan_contributions.specs.{Contributions.Contribution, View.contributions_view}
 use Rattle.plan_tables.specs.Limits.{tables_in_order}
 use Rattle.mpf_plan.specs.Numbering.{HoldGivenNames}
 use Rattle.mpf_plan.proofs.numbering.note_given.Given as goal

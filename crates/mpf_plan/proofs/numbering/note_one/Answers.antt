@@ -1,5 +1,4 @@
-use Rattle.std.proofs.Common.{refl, sym, ◌∙◌, ap}
-use Rattle.std.specs.Option.{option_map}
+use Rattle.std.{proofs.Common.{refl, sym, ◌∙◌, ap}, specs.Option.option_map}
 use Rattle.plan_contributions.specs.View.{parts_text, named_view, contribution_view}
 use Rattle.mpf_plan.proofs.Found.{found_nameless, found_named}
 use Rattle.mpf_plan.proofs.numbering.note_one.Goals as goal

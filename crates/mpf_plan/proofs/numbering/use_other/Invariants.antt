@@ -1,10 +1,6 @@
-use Rattle.std.proofs.Common.{◌≡◌, List, false, take}
-use Rattle.std.specs.List.{list_any}
-use Rattle.plan_contributions.specs.Contributions.{Contribution}
-use Rattle.plan_contributions.specs.UsedNames.{given_names}
-use Rattle.mpf_plan.specs.Uses.{lacks}
-use Rattle.plan_contributions.specs.View.{contributions_view}
-use Rattle.mpf_plan.specs.Numbering.{HoldGivenNames}
+use Rattle.std.{proofs.Common.{◌≡◌, List, false, take}, specs.List.list_any}
+use Rattle.plan_contributions.specs.{Contributions.Contribution, UsedNames.given_names, View.contributions_view}
+use Rattle.mpf_plan.specs.{Uses.lacks, Numbering.HoldGivenNames}
 use Rattle.mpf_plan.proofs.numbering.use_other.Given as goal
 
 abbrev pub invariant-loop-contribution : goal.invariant-loop-contribution

@@ -1,6 +1,4 @@
-use Rattle.std.proofs.Common.{◌++◌, map, codes, ap, ◌∙◌}
-use Rattle.std.proofs.lemmas.List.{append_assoc}
-use Rattle.std.specs.List.{flat_map}
+use Rattle.std.{proofs.{Common.{◌++◌, map, codes, ap, ◌∙◌}, lemmas.List.append_assoc}, specs.List.flat_map}
 use Rattle.mpf_sections.specs.View.{handler_view, mode_settings_view}
 use Rattle.row_contributions.specs.Contributions.{starter, stopper, stopper_where, stops_at_ball_end, stops_at_game_end, events}
 use Rattle.plan_contributions.specs.View.{contributions_view}

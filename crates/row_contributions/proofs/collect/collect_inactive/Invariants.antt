@@ -1,8 +1,7 @@
 use Rattle.std.proofs.Common.{◌≡◌, ◌++◌, map, drop}
 use Rattle.mpf_sections.specs.View.{name_view}
-use Rattle.plan_contributions.specs.Contributions.{inactive}
+use Rattle.plan_contributions.specs.{Contributions.inactive, View.contributions_view}
 use Rattle.row_contributions.specs.Contributions.{texts}
-use Rattle.plan_contributions.specs.View.{contributions_view}
 use Rattle.row_contributions.proofs.collect.collect_inactive.Given as goal
 
 abbrev pub invariant-loop-name : goal.invariant-loop-name

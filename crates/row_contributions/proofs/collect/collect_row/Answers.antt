@@ -1,7 +1,5 @@
-use Rattle.std.proofs.Common.{length, ap, arith}
-use Rattle.std.proofs.lemmas.List.{length-map}
-use Rattle.mpf_sections.specs.Rows.{ShotGroup, BallDevice}
-use Rattle.mpf_sections.specs.View.{name_view, entry_view}
+use Rattle.std.proofs.{Common.{length, ap, arith}, lemmas.List.length-map}
+use Rattle.mpf_sections.specs.{Rows.{ShotGroup, BallDevice}, View.{name_view, entry_view}}
 use Rattle.mpf_sections.proofs.ShotRows.{shot_group_few}
 use Rattle.row_contributions.proofs.BallParts.{ball_device_few}
 use Rattle.row_contributions.proofs.collect.collect_row.Goals as goal

@@ -1,11 +1,7 @@
-use Rattle.std.proofs.Common.{sym, ◌∙◌, rules, tests}
-use Rattle.std.specs.Prelude.{codes}
-use Rattle.std.specs.Str.{bytes_eq}
-use Rattle.std.proofs.lemmas.Iterator.{YieldsList-from_slice}
-use Rattle.std.proofs.lemmas.Iterator.Search.{any_from_yields_List}
+use Rattle.std.{proofs.Common.{sym, ◌∙◌, rules, tests}, specs.{Prelude.codes, Str.bytes_eq}}
+use Rattle.std.proofs.lemmas.Iterator.{YieldsList-from_slice, Search.any_from_yields_List}
 use Rattle.section_tables.specs.declared.rows.Name.{Name}
-use Rattle.mpf_sections.specs.View.{name_view}
-use Rattle.mpf_sections.proofs.Each.{any_mapped}
+use Rattle.mpf_sections.{specs.View.name_view, proofs.Each.any_mapped}
 use Rattle.row_contributions.proofs.collect.confirms.Goals as goal
 
 pub returns : goal.returns

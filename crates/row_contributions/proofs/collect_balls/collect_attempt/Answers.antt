@@ -1,11 +1,7 @@
-use Rattle.std.proofs.Common.{[], ◌∷◌, map, codes}
-use Rattle.std.specs.Prelude.{option_map}
+use Rattle.std.{proofs.Common.{[], ◌∷◌, map, codes}, specs.Prelude.option_map}
 use Rattle.mpf_sections.specs.View.{name_at_view}
-use Rattle.plan_contributions.specs.Effects.{posts}
-use Rattle.row_contributions.specs.BallEntries.{ball_event, eject_pulse}
-use Rattle.plan_contributions.specs.Contributions.{does_in}
-use Rattle.plan_contributions.specs.View.{contributions_view}
-use Rattle.row_contributions.proofs.BallParts.{then_these, post_of}
+use Rattle.plan_contributions.specs.{Effects.posts, Contributions.does_in, View.contributions_view}
+use Rattle.row_contributions.{specs.BallEntries.{ball_event, eject_pulse}, proofs.BallParts.{then_these, post_of}}
 use Rattle.row_contributions.proofs.collect_balls.collect_attempt.Goals as goal
 
 pub returns : goal.returns

@@ -2,12 +2,9 @@ use Rattle.std.proofs.Common.{Bool, ◌++◌, map, ap, ◌∙◌}
 use Rattle.plan_tables.specs.declared.table.Table.TheVariants.{Events}
 use Rattle.plan_rows.specs.declared.place.Place.TheVariants.{Machine}
 use Rattle.mpf_sections.specs.View.{ball_device_view}
-use Rattle.row_contributions.specs.BallEntries.{entry_mentions, ball_settings}
-use Rattle.plan_contributions.specs.Contributions.{mentions}
-use Rattle.row_contributions.specs.Contributions.{unknown_unless}
-use Rattle.plan_contributions.specs.View.{contributions_view}
-use Rattle.row_contributions.proofs.BallParts.{ball_device_collected}
-use Rattle.row_contributions.proofs.DeviceParts.{row_first}
+use Rattle.row_contributions.specs.{BallEntries.{entry_mentions, ball_settings}, Contributions.unknown_unless}
+use Rattle.plan_contributions.specs.{Contributions.mentions, View.contributions_view}
+use Rattle.row_contributions.proofs.{BallParts.ball_device_collected, DeviceParts.row_first}
 use Rattle.row_contributions.proofs.collect_balls.collect_ball_device.Goals as goal
 
 pub returns : goal.returns

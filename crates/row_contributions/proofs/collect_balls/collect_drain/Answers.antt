@@ -1,8 +1,7 @@
 use Rattle.std.proofs.Common.{◌++◌, [], ◌∷◌, map, Bool, ap, sym, ◌∙◌}
 use Rattle.plan_tables.specs.declared.table.Table.TheVariants.{Events}
 use Rattle.row_contributions.specs.BallEntries.{drain_mentions}
-use Rattle.plan_contributions.specs.Contributions.{mentions}
-use Rattle.plan_contributions.specs.View.{contributions_view}
+use Rattle.plan_contributions.specs.{Contributions.mentions, View.contributions_view}
 use Rattle.row_contributions.proofs.collect_balls.collect_drain.Goals as goal
 
 pub returns-in_ok-collect_event : goal.returns-in_ok-collect_event

@@ -1,9 +1,7 @@
 use Rattle.std.proofs.Common.{[], ◌∷◌, codes}
 use Rattle.plan_contributions.specs.Effects.{posts, leaves, loses, arrives}
-use Rattle.row_contributions.specs.BallEntries.{ball_event}
-use Rattle.plan_contributions.specs.Contributions.{does_in}
-use Rattle.plan_contributions.specs.View.{contributions_view}
-use Rattle.row_contributions.proofs.BallParts.{then_these, post_of}
+use Rattle.row_contributions.{specs.BallEntries.ball_event, proofs.BallParts.{then_these, post_of}}
+use Rattle.plan_contributions.specs.{Contributions.does_in, View.contributions_view}
 use Rattle.row_contributions.proofs.collect_balls.collect_later.Goals as goal
 
 pub returns : goal.returns

@@ -1,11 +1,8 @@
 use Rattle.std.proofs.Common.{List, ℕ, ◌++◌, [], ◌∷◌, map, ap, ◌∙◌, codes}
 use Rattle.mpf_sections.specs.View.{ball_device_view}
-use Rattle.plan_contributions.specs.Effects.{enters}
+use Rattle.plan_contributions.specs.{Effects.enters, Contributions.does_in, View.contributions_view}
 use Rattle.row_contributions.specs.BallEntries.{drains, ball_event, attempt_effects, later_lists}
-use Rattle.plan_contributions.specs.Contributions.{does_in}
-use Rattle.row_contributions.specs.Contributions.{effects_from}
-use Rattle.plan_contributions.specs.View.{contributions_view}
-use Rattle.row_contributions.proofs.BallParts.{then_these}
+use Rattle.row_contributions.{specs.Contributions.effects_from, proofs.BallParts.then_these}
 use Rattle.row_contributions.proofs.collect_balls.collect_lists.Goals as goal
 
 pub returns : goal.returns

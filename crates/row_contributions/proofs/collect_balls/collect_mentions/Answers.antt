@@ -1,9 +1,7 @@
 use Rattle.std.proofs.Common.{◌++◌, [], ◌∷◌, map, ap, ◌∙◌, codes}
 use Rattle.plan_tables.specs.declared.table.Table.TheVariants.{Events}
-use Rattle.row_contributions.specs.BallEntries.{ball_event, drain_mentions}
-use Rattle.plan_contributions.specs.Contributions.{mentions}
-use Rattle.plan_contributions.specs.View.{contributions_view}
-use Rattle.row_contributions.proofs.BallParts.{then_these}
+use Rattle.row_contributions.{specs.BallEntries.{ball_event, drain_mentions}, proofs.BallParts.then_these}
+use Rattle.plan_contributions.specs.{Contributions.mentions, View.contributions_view}
 use Rattle.row_contributions.proofs.collect_balls.collect_mentions.Goals as goal
 
 pub returns : goal.returns

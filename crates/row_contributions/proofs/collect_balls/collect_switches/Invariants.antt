@@ -1,7 +1,6 @@
 use Rattle.std.proofs.Common.{◌≡◌, ◌++◌, map, drop}
 use Rattle.mpf_sections.specs.View.{name_view}
-use Rattle.row_contributions.specs.DeviceEntries.{texts}
-use Rattle.row_contributions.specs.Contributions.{listens_from}
+use Rattle.row_contributions.specs.{DeviceEntries.texts, Contributions.listens_from}
 use Rattle.plan_contributions.specs.View.{contributions_view}
 use Rattle.row_contributions.proofs.collect_balls.collect_switches.Given as goal
 

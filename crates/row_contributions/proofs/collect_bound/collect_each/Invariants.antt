@@ -1,5 +1,4 @@
-use Rattle.std.proofs.Common.{◌≡◌, ◌++◌, map, drop}
-use Rattle.std.specs.List.{flat_map}
+use Rattle.std.{proofs.Common.{◌≡◌, ◌++◌, map, drop}, specs.List.flat_map}
 use Rattle.mpf_sections.specs.View.{handler_view}
 use Rattle.row_contributions.specs.Contributions.{events, bound}
 use Rattle.plan_contributions.specs.View.{contributions_view}

@@ -1,9 +1,7 @@
 use Rattle.std.proofs.Common.{◌≡◌, ◌++◌, map, drop}
-use Rattle.mpf_sections.specs.TypedCoils.{coil_item_of}
-use Rattle.mpf_sections.specs.View.{keyed_view}
+use Rattle.mpf_sections.specs.{TypedCoils.coil_item_of, View.keyed_view}
 use Rattle.row_contributions.specs.CoilEntries.{item_effect}
-use Rattle.plan_contributions.specs.Contributions.{does}
-use Rattle.plan_contributions.specs.View.{contributions_view}
+use Rattle.plan_contributions.specs.{Contributions.does, View.contributions_view}
 use Rattle.row_contributions.proofs.collect_coils.collect_items.Given as goal
 
 abbrev pub invariant-loop-keyed : goal.invariant-loop-keyed

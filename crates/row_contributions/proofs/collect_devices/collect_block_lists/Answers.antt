@@ -1,10 +1,7 @@
 use Rattle.std.proofs.Common.{◌++◌, [], ◌∷◌, map, codes, ap, ◌∙◌}
 use Rattle.mpf_sections.specs.View.{name_view}
-use Rattle.row_contributions.specs.DeviceEntries.{block_event, or_own}
-use Rattle.plan_contributions.specs.Contributions.{does_in}
-use Rattle.plan_contributions.specs.Effects.{posts}
-use Rattle.plan_contributions.specs.View.{contributions_view}
-use Rattle.row_contributions.proofs.DeviceParts.{lists_collected}
+use Rattle.row_contributions.{specs.DeviceEntries.{block_event, or_own}, proofs.DeviceParts.lists_collected}
+use Rattle.plan_contributions.specs.{Contributions.does_in, Effects.posts, View.contributions_view}
 use Rattle.row_contributions.proofs.collect_devices.collect_block_lists.Goals as goal
 
 pub returns : goal.returns

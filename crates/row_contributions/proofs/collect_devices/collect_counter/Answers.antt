@@ -1,13 +1,10 @@
-use Rattle.std.proofs.Common.{◌++◌, map, refl, ap, ◌∙◌}
-use Rattle.std.specs.List.{flat_map}
+use Rattle.std.{proofs.Common.{◌++◌, map, refl, ap, ◌∙◌}, specs.List.flat_map}
 use Rattle.mpf_sections.specs.View.{handler_view, block_view, counter_view}
-use Rattle.plan_tables.specs.declared.devices.Act.TheVariants.{Count}
+use Rattle.plan_tables.specs.declared.{devices.Act.TheVariants.Count, table.Table.TheVariants.Events}
 use Rattle.plan_tables.specs.declared.devices.Settings.TheVariants as kinds
-use Rattle.plan_tables.specs.declared.table.Table.TheVariants.{Events}
 use Rattle.row_contributions.specs.DeviceEntries.{acts, block_acts, block_mentions, block_lists, counter_device}
 use Rattle.row_contributions.specs.Contributions.{act_binding, effects_from}
-use Rattle.plan_contributions.specs.Contributions.{mentions}
-use Rattle.plan_contributions.specs.View.{contributions_view}
+use Rattle.plan_contributions.specs.{Contributions.mentions, View.contributions_view}
 use Rattle.row_contributions.proofs.DeviceParts.{made_after, row_first, device_collected}
 use Rattle.row_contributions.proofs.collect_devices.collect_counter.Goals as goal
 

@@ -1,11 +1,9 @@
-use Rattle.std.proofs.Common.{◌++◌, map, refl, ap, ◌∙◌}
-use Rattle.std.specs.List.{flat_map}
+use Rattle.std.{proofs.Common.{◌++◌, map, refl, ap, ◌∙◌}, specs.List.flat_map}
 use Rattle.mpf_sections.specs.View.{handlers_view, block_view, step_block_view}
 use Rattle.plan_tables.specs.declared.table.Table.TheVariants.{Events}
 use Rattle.row_contributions.specs.DeviceEntries.{block_acts, block_mentions, block_lists, step_acts, step_device}
 use Rattle.row_contributions.specs.Contributions.{act_binding, effects_from}
-use Rattle.plan_contributions.specs.Contributions.{mentions}
-use Rattle.plan_contributions.specs.View.{contributions_view}
+use Rattle.plan_contributions.specs.{Contributions.mentions, View.contributions_view}
 use Rattle.row_contributions.proofs.DeviceParts.{made_after, row_first, device_collected}
 use Rattle.row_contributions.proofs.collect_devices.collect_step_block.Goals as goal
 

@@ -1,10 +1,7 @@
-use Rattle.std.proofs.Common.{◌+◌, ◌++◌, map, drop, get_or, ap, ◌∙◌}
-use Rattle.std.proofs.lemmas.List.{append_assoc}
-use Rattle.std.specs.List.{flat_map}
+use Rattle.std.{proofs.{Common.{◌+◌, ◌++◌, map, drop, get_or, ap, ◌∙◌}, lemmas.List.append_assoc}, specs.List.flat_map}
 use Rattle.mpf_sections.specs.View.{handler_view, handlers_view}
 use Rattle.plan_tables.specs.declared.devices.Act.TheVariants.{Step}
-use Rattle.row_contributions.specs.DeviceEntries.{acts, step_acts}
-use Rattle.row_contributions.specs.Contributions.{act_binding}
+use Rattle.row_contributions.specs.{DeviceEntries.{acts, step_acts}, Contributions.act_binding}
 use Rattle.plan_contributions.specs.View.{contributions_view}
 use Rattle.row_contributions.proofs.DeviceParts.{steps_next}
 use Rattle.row_contributions.proofs.collect_devices.collect_steps.Goals as goal

@@ -1,8 +1,6 @@
-use Rattle.std.proofs.Common.{◌≡◌, ◌++◌, map, drop}
-use Rattle.std.specs.List.{flat_map}
+use Rattle.std.{proofs.Common.{◌≡◌, ◌++◌, map, drop}, specs.List.flat_map}
 use Rattle.mpf_sections.specs.View.{handlers_view}
-use Rattle.row_contributions.specs.DeviceEntries.{step_acts}
-use Rattle.row_contributions.specs.Contributions.{act_binding}
+use Rattle.row_contributions.specs.{DeviceEntries.step_acts, Contributions.act_binding}
 use Rattle.plan_contributions.specs.View.{contributions_view}
 use Rattle.row_contributions.proofs.collect_devices.collect_steps.Given as goal
 

@@ -1,8 +1,7 @@
 use Rattle.std.proofs.Common.{◌++◌, refl, ap, ◌∙◌}
 use Rattle.mpf_sections.specs.View.{timer_view}
-use Rattle.row_contributions.specs.DeviceEntries.{timer_lists, timer_device}
+use Rattle.row_contributions.specs.{DeviceEntries.{timer_lists, timer_device}, Contributions.effects_from}
 use Rattle.plan_tables.specs.declared.devices.Settings.TheVariants as kinds
-use Rattle.row_contributions.specs.Contributions.{effects_from}
 use Rattle.plan_contributions.specs.View.{contributions_view}
 use Rattle.row_contributions.proofs.DeviceParts.{row_first, device_collected}
 use Rattle.row_contributions.proofs.collect_devices.collect_timer.Goals as goal

@@ -1,9 +1,6 @@
-use Rattle.std.proofs.Common.{◌≡◌, ◌++◌, map, drop}
-use Rattle.std.specs.List.{flat_map}
-use Rattle.mpf_sections.specs.Typed.{controls_of}
-use Rattle.mpf_sections.specs.View.{fields_view}
-use Rattle.row_contributions.specs.DeviceEntries.{controlled}
-use Rattle.row_contributions.specs.Contributions.{act_binding}
+use Rattle.std.{proofs.Common.{◌≡◌, ◌++◌, map, drop}, specs.List.flat_map}
+use Rattle.mpf_sections.specs.{Typed.controls_of, View.fields_view}
+use Rattle.row_contributions.specs.{DeviceEntries.controlled, Contributions.act_binding}
 use Rattle.plan_contributions.specs.View.{contributions_view}
 use Rattle.row_contributions.proofs.collect_devices.collect_timer_acts.Given as goal
 

@@ -1,9 +1,7 @@
 use Rattle.std.proofs.Common.{◌≡◌, ◌++◌, map, drop}
 use Rattle.mpf_sections.specs.View.{name_view}
-use Rattle.plan_contributions.specs.Contributions.{does_in}
-use Rattle.plan_contributions.specs.Effects.{posts}
+use Rattle.plan_contributions.specs.{Contributions.does_in, Effects.posts, View.contributions_view}
 use Rattle.row_contributions.specs.Contributions.{texts}
-use Rattle.plan_contributions.specs.View.{contributions_view}
 use Rattle.row_contributions.proofs.collect_devices.collect_written.Given as goal
 
 abbrev pub invariant-loop-name : goal.invariant-loop-name

@@ -1,7 +1,6 @@
 use Rattle.std.proofs.Common.{◌≡◌, ◌++◌, map, drop}
 use Rattle.plan_tables.specs.declared.table.Table.TheVariants.{Events}
-use Rattle.plan_contributions.specs.Contributions.{mentions}
-use Rattle.plan_contributions.specs.View.{contributions_view}
+use Rattle.plan_contributions.specs.{Contributions.mentions, View.contributions_view}
 use Rattle.row_contributions.proofs.collect_game.collect_events.Given as goal
 
 abbrev pub invariant-loop-name : goal.invariant-loop-name

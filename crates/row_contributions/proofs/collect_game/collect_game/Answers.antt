@@ -1,11 +1,9 @@
-use Rattle.std.proofs.Common.{◌++◌, map, [], ◌∷◌, ap, ◌∙◌}
-use Rattle.std.proofs.lemmas.List.{append_assoc, map-append}
+use Rattle.std.proofs.{Common.{◌++◌, map, [], ◌∷◌, ap, ◌∙◌}, lemmas.List.{append_assoc, map-append}}
 use Rattle.machine_definitions.specs.GameEvents.{game_event_names}
 use Rattle.plan_tables.specs.declared.table.Table.TheVariants.{Events}
 use Rattle.plan_contributions.specs.declared.contribution.Contribution.TheVariants as contribution
-use Rattle.plan_contributions.specs.Contributions.{mentions, plays}
+use Rattle.plan_contributions.specs.{Contributions.{mentions, plays}, View.{contribution_view, contributions_view}}
 use Rattle.row_contributions.specs.Contributions.{game_contributions}
-use Rattle.plan_contributions.specs.View.{contribution_view, contributions_view}
 use Rattle.row_contributions.proofs.collect_game.collect_game.Goals as goal
 
 pub returns : goal.returns

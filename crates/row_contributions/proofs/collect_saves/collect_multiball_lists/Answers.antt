@@ -1,9 +1,6 @@
 use Rattle.std.proofs.Common.{[], ◌∷◌, codes}
-use Rattle.plan_contributions.specs.Effects.{posts, adds_balls}
-use Rattle.row_contributions.specs.SaveEntries.{multiball_event}
-use Rattle.plan_contributions.specs.Contributions.{does_in}
-use Rattle.plan_contributions.specs.View.{contributions_view}
-use Rattle.row_contributions.proofs.BallParts.{then_these, post_of}
+use Rattle.plan_contributions.specs.{Effects.{posts, adds_balls}, Contributions.does_in, View.contributions_view}
+use Rattle.row_contributions.{specs.SaveEntries.multiball_event, proofs.BallParts.{then_these, post_of}}
 use Rattle.row_contributions.proofs.collect_saves.collect_multiball_lists.Goals as goal
 
 pub returns : goal.returns

@@ -1,14 +1,10 @@
-use Rattle.std.proofs.Common.{◌≡◌, ◌++◌, ◌+◌, ℕ, length, List, map, drop, ap, ◌∙◌, arith}
+use Rattle.std.proofs.{Common.{◌≡◌, ◌++◌, ◌+◌, ℕ, length, List, map, drop, ap, ◌∙◌, arith}, lemmas.List.length-map}
 use Rattle.std.specs.List.{flat_map}
-use Rattle.std.proofs.lemmas.List.{length-map}
 use Rattle.mpf_sections.specs.View.{name_view}
 use Rattle.machine_definitions.specs.Found.{profile_view}
-use Rattle.row_contributions.specs.DeviceEntries.{texts}
-use Rattle.plan_contributions.specs.Effects.{posts}
-use Rattle.row_contributions.specs.ShotEntries.{shot_events, shot_lists}
-use Rattle.row_contributions.specs.Contributions.{effects_from}
-use Rattle.plan_contributions.specs.View.{contributions_view}
-use Rattle.row_contributions.proofs.ShotParts.{shot_next}
+use Rattle.row_contributions.specs.{DeviceEntries.texts, Contributions.effects_from}
+use Rattle.plan_contributions.specs.{Effects.posts, View.contributions_view}
+use Rattle.row_contributions.{specs.ShotEntries.{shot_events, shot_lists}, proofs.ShotParts.shot_next}
 use Rattle.row_contributions.proofs.collect_shots.collect_each_shot.Goals as goal
 
 pub loop-shot-preserved : goal.loop-shot-preserved

@@ -1,10 +1,7 @@
-use Rattle.std.proofs.Common.{◌≡◌, ◌*◌, ◌++◌, length, map, drop}
-use Rattle.std.specs.List.{flat_map}
+use Rattle.std.{proofs.Common.{◌≡◌, ◌*◌, ◌++◌, length, map, drop}, specs.List.flat_map}
 use Rattle.mpf_sections.specs.View.{name_view}
 use Rattle.machine_definitions.specs.Found.{profile_view}
-use Rattle.row_contributions.specs.DeviceEntries.{texts}
-use Rattle.row_contributions.specs.ShotEntries.{shot_lists}
-use Rattle.row_contributions.specs.Contributions.{effects_from}
+use Rattle.row_contributions.specs.{DeviceEntries.texts, ShotEntries.shot_lists, Contributions.effects_from}
 use Rattle.plan_contributions.specs.View.{contributions_view}
 use Rattle.row_contributions.proofs.collect_shots.collect_each_shot.Given as goal
 

@@ -1,9 +1,6 @@
 use Rattle.std.proofs.Common.{◌≡◌, ◌+◌, ◌++◌, map, drop}
-use Rattle.plan_contributions.specs.Effects.{posts}
-use Rattle.row_contributions.specs.ShotEntries.{shot_events}
-use Rattle.row_contributions.specs.Contributions.{effects_from}
-use Rattle.plan_contributions.specs.View.{contributions_view}
-use Rattle.row_contributions.proofs.ShotParts.{lists_of}
+use Rattle.plan_contributions.specs.{Effects.posts, View.contributions_view}
+use Rattle.row_contributions.{specs.{ShotEntries.shot_events, Contributions.effects_from}, proofs.ShotParts.lists_of}
 use Rattle.row_contributions.proofs.collect_shots.collect_shot_lists.Given as goal
 
 abbrev pub invariant-loop-state : goal.invariant-loop-state

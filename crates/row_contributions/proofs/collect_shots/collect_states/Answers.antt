@@ -1,8 +1,6 @@
 use Rattle.std.proofs.Common.{◌++◌, ◌+◌, ℕ, List, map, drop, ap, ◌∙◌, arith}
-use Rattle.plan_contributions.specs.Effects.{posts}
-use Rattle.row_contributions.specs.ShotEntries.{group_events}
-use Rattle.row_contributions.specs.Contributions.{effects_from}
-use Rattle.plan_contributions.specs.View.{contributions_view}
+use Rattle.plan_contributions.specs.{Effects.posts, View.contributions_view}
+use Rattle.row_contributions.specs.{ShotEntries.group_events, Contributions.effects_from}
 use Rattle.row_contributions.proofs.ShotParts.{lists_of, state_next}
 use Rattle.row_contributions.proofs.collect_shots.collect_states.Goals as goal
 

@@ -1,7 +1,5 @@
-use Rattle.std.proofs.Common.{◌≡◌, ◌++◌, map, drop}
-use Rattle.std.specs.List.{flat_map}
-use Rattle.mpf_sections.specs.TypedGame.{variable_item_of}
-use Rattle.mpf_sections.specs.View.{keyed_view}
+use Rattle.std.{proofs.Common.{◌≡◌, ◌++◌, map, drop}, specs.List.flat_map}
+use Rattle.mpf_sections.specs.{TypedGame.variable_item_of, View.keyed_view}
 use Rattle.row_contributions.specs.Contributions.{item_contributions}
 use Rattle.plan_contributions.specs.View.{contributions_view}
 use Rattle.row_contributions.proofs.collect_variables.collect_changes.Given as goal
