@@ -1,21 +1,14 @@
 -- What a ledger says follows from what it has booked.
+use Rattle.std.{proofs.Common.rules, specs.List.count_by}
 use Rattle.std.proofs.Common.{◌≡◌, ℕ, ◌+◌, ◌-◌, ◌<◌, ◌==◌, nat_lt, Bool, cond, List, [], ◌∷◌, ◌++◌, length, slice_index_or, slice_set, refl, ap, ap₂, sym, subst, ◌∙◌, inl, inr, append-nil, append_assoc, arith}
-use Rattle.std.specs.List.{count_by}
-use Rattle.std.proofs.lemmas.Bool.{cases_eq, cases_lt, eq-eqb, ne_eqb, lt-ltb, le-ltb}
+use Rattle.std.proofs.lemmas.{Bool.{cases_eq, cases_lt, eq-eqb, ne_eqb, lt-ltb, le-ltb}, List.Sums.sum_by_push}
 use Rattle.std.proofs.lemmas.List.{length-set, length-replicate, get_or_past, get_or-set_same, get_or-set_other, get_or-replicate}
-use Rattle.std.proofs.lemmas.List.Sums.{sum_by_push}
-use Rattle.plan_tables.specs.declared.devices.RowId.{RowId}
-use Rattle.plan_tables.specs.declared.devices.BallTarget.{BallTarget}
-use Rattle.plan_tables.specs.declared.devices.BallTarget.TheVariants.{Playfield, Device}
-use Rattle.plan_tables.specs.PlanView.{PlanView}
-use Rattle.ball_devices.specs.declared.booking.Origin.{Origin}
-use Rattle.ball_devices.specs.declared.booking.Origin.TheVariants.{Awaited, Found, New}
-use Rattle.ball_devices.specs.declared.booking.Booking.{Booking}
-use Rattle.ball_devices.specs.declared.booking.Booking.TheVariants.{Entered, Left, Lost, Arrived}
+use Rattle.plan_tables.specs.declared.devices.{RowId.RowId, BallTarget.{BallTarget, TheVariants.{Playfield, Device}}}
+use Rattle.plan_tables.specs.{PlanView.{PlanView, is_target}, Valid.IsTargetThere}
+use Rattle.ball_devices.specs.declared.booking.Origin.{Origin, TheVariants.{Awaited, Found, New}}
+use Rattle.ball_devices.specs.declared.booking.Booking.{Booking, TheVariants.{Entered, Left, Lost, Arrived}}
 use Rattle.ball_devices.specs.Ledger.{Ledger, no_balls, counted_in, transit_to, set_counted, origin_of, taken, left, lost, arrived, IsLedger}
 use Rattle.ball_devices.specs.Bookings.{LedgerCall, Enter, Leave, Lose, Arrive, after_call, booked, MayBook, after_calls, booked_by, MayBookAll, is_new_entry, is_found_entry, is_entry_into, is_exit_from, is_start_for, is_end_for, is_loose, HasBooked, origin_after, Says, one}
-use Rattle.plan_tables.specs.Valid.{IsTargetThere}
-use Rattle.plan_tables.specs.PlanView.{is_target}
 use Rattle.ball_devices.specs.Laws.{BallsAreSomewhere, LedgersFollowBookings, OriginsFollowBookings}
 use Rattle.ball_devices.proofs.Ledgers.{origin-says, new-is, call-is, calls-are}
 
@@ -27,38 +20,13 @@ one-same i j same = ap one (eq-eqb i j same)
 one-other : (i j : ℕ) → (i ≡ j → ⊥) → one (i == j) ≡ 0
 one-other i j other = ap one (ne_eqb i j other)
 
-read-set : (xs : List ℕ) (i j n : ℕ) → i ≡ j → j < length xs → slice_index_or (slice_set xs j n) i 0 ≡ n
-read-set xs i j n same within = ap (λ (k : ℕ). slice_index_or (slice_set xs j n) k 0) same ∙ get_or-set_same xs j n 0 within
-
 read-more : (xs : List ℕ) (i j : ℕ) → j < length xs
     → slice_index_or (slice_set xs j (slice_index_or xs j 0 + 1)) i 0 ≡ slice_index_or xs i 0 + one (i == j)
-read-more xs i j within =
-    elim (cases_eq i j) [
-      | inl same ↦
-          let set = read-set xs i j (slice_index_or xs j 0 + 1) same within in
-          let was : slice_index_or xs i 0 ≡ slice_index_or xs j 0 = ap (λ (k : ℕ). slice_index_or xs k 0) same in
-          let one_more = one-same i j same in
-          omega arith
-      | inr other ↦
-          let stays = get_or-set_other xs j i (slice_index_or xs j 0 + 1) 0 other in
-          let no_more = one-other i j other in
-          omega arith
-    ]
+read-more xs i j within = search (rules, cases_eq, get_or-set_same, slice_index_or, one-same, get_or-set_other, one-other)
 
 read-less : (xs : List ℕ) (i j : ℕ) → j < length xs → 0 < slice_index_or xs j 0
     → slice_index_or (slice_set xs j (slice_index_or xs j 0 - 1)) i 0 + one (i == j) ≡ slice_index_or xs i 0
-read-less xs i j within some =
-    elim (cases_eq i j) [
-      | inl same ↦
-          let set = read-set xs i j (slice_index_or xs j 0 - 1) same within in
-          let was : slice_index_or xs i 0 ≡ slice_index_or xs j 0 = ap (λ (k : ℕ). slice_index_or xs k 0) same in
-          let one_more = one-same i j same in
-          omega arith
-      | inr other ↦
-          let stays = get_or-set_other xs j i (slice_index_or xs j 0 - 1) 0 other in
-          let no_more = one-other i j other in
-          omega arith
-    ]
+read-less xs i j within some = search (rules, cases_eq, get_or-set_same, slice_index_or, one-same, get_or-set_other, one-other)
 
 -- ---- one booking more
 
@@ -125,8 +93,7 @@ module _ (l : Ledger) (rows : length l.to_devices ≡ length l.counted) where
       where
         on_way : (target : BallTarget)
             → transit_to (taken d Awaited l) target + one (is_end_for target (Entered d Awaited)) ≡ transit_to l target + 0
-        on_way Playfield = refl
-        on_way (Device e) = omega (arith, read-less l.to_devices e.0 d.0 to_devices some)
+        on_way x1 = search (rules, read-less, to_devices)
     entered-told Found says = record {
       rows = entered-rows;
       known = omega arith;
@@ -163,8 +130,7 @@ module _ (l : Ledger) (rows : length l.to_devices ≡ length l.counted) where
       where
         on_way : (target : BallTarget)
             → transit_to (left d Playfield l) target + 0 ≡ transit_to l target + one (is_target target Playfield)
-        on_way Playfield = omega arith
-        on_way (Device e) = refl
+        on_way x1 = search rules
     left-told (Device to) there = record {
       rows = gone-rows;
       known = omega arith;
@@ -175,8 +141,7 @@ module _ (l : Ledger) (rows : length l.to_devices ≡ length l.counted) where
       where
         on_way : (target : BallTarget)
             → transit_to (left d (Device to) l) target + 0 ≡ transit_to l target + one (is_target target (Device to))
-        on_way Playfield = refl
-        on_way (Device e) = omega (arith, read-more l.to_devices e.0 to.0 (omega (arith, there)))
+        on_way x1 = search (rules, read-more, to_devices)
 
     lost-told : Tells (Lost d) l (lost d l)
     lost-told = record {
@@ -201,8 +166,7 @@ module _ (l : Ledger) (rows : length l.to_devices ≡ length l.counted) where
     where
       on_way : (target : BallTarget)
           → transit_to (arrived Playfield l) target + one (is_target target Playfield) ≡ transit_to l target + 0
-      on_way Playfield = omega arith
-      on_way (Device e) = refl
+      on_way x1 = search rules
   arrived-told (Device to) there some = record {
     rows = refl;
     known = omega arith;
@@ -213,8 +177,7 @@ module _ (l : Ledger) (rows : length l.to_devices ≡ length l.counted) where
     where
       on_way : (target : BallTarget)
           → transit_to (arrived (Device to) l) target + one (is_target target (Device to)) ≡ transit_to l target + 0
-      on_way Playfield = refl
-      on_way (Device e) = omega (arith, read-less l.to_devices e.0 to.0 (omega (arith, there)) some)
+      on_way x1 = search (rules, read-less, to_devices)
 
   pub call-told : (c : LedgerCall) → MayBook c l → Tells (booked c l) l (after_call c l)
   call-told (Enter d) may = entered-told d may.0 (origin_of d l) (origin-says d l)
@@ -264,8 +227,7 @@ none-booked plan = record {
         ]
 
     on_way : (target : BallTarget) → ◌≡◌ {A = ℕ} 0 (transit_to (no_balls plan) target + 0)
-    on_way Playfield = omega arith
-    on_way (Device d) = omega (arith, none d.0)
+    on_way x1 = search (rules, none)
 
 module _ (plan : PlanView) (calls : List LedgerCall) (may : MayBookAll calls (no_balls plan)) where
   from_new : Followed [] calls (no_balls plan)

@@ -2,8 +2,7 @@
 use Rattle.std.proofs.Common.{◌≡◌, ℕ, ◌+◌, ◌<◌, List, [], ◌∷◌, ◌++◌, length, map, take, drop, get_or, slice_set, ap, ap₂, sym, ◌∙◌, arith}
 use Rattle.std.proofs.lemmas.List.{length-drop, get_or-drop, drop-set-lt, map_more, take_more_set}
 use Rattle.std.proofs.lemmas.Grind.{drop_more_same}
-use Rattle.device_objects.specs.declared.state.BallSwitch.{BallSwitch}
-use Rattle.device_objects.specs.BallDevice.{not_due}
+use Rattle.device_objects.specs.{declared.state.BallSwitch.BallSwitch, BallDevice.not_due}
 
 -- so many are not due, and those that are left are as they were
 pub record IsCalmBelow (old new : List BallSwitch) (i : ℕ) : Type 0 where

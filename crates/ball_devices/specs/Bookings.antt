@@ -1,15 +1,10 @@
 -- What the ledger has booked, and what follows from that alone.
 use Rattle.std.specs.Prelude.{◌≡◌, ℕ, ◌+◌, ◌==◌, ◌<◌, ◌^◌, nat_lt, Bool, true, false, ◌&&◌, cond, if◌then◌else◌, List, [], ◌∷◌, length}
 use Rattle.std.specs.List.{count_by}
-use Rattle.plan_tables.specs.declared.devices.RowId.{RowId}
-use Rattle.plan_tables.specs.declared.devices.BallTarget.{BallTarget}
-use Rattle.plan_tables.specs.declared.devices.BallTarget.TheVariants.{Playfield, Device}
-use Rattle.plan_tables.specs.PlanView.{is_target}
-use Rattle.plan_tables.specs.Valid.{IsTargetThere}
-use Rattle.ball_devices.specs.declared.booking.Origin.{Origin}
-use Rattle.ball_devices.specs.declared.booking.Origin.TheVariants.{Awaited, Found, New}
-use Rattle.ball_devices.specs.declared.booking.Booking.{Booking}
-use Rattle.ball_devices.specs.declared.booking.Booking.TheVariants.{Entered, Left, Lost, Arrived}
+use Rattle.plan_tables.specs.declared.devices.{RowId.RowId, BallTarget.{BallTarget, TheVariants.{Playfield, Device}}}
+use Rattle.plan_tables.specs.{PlanView.is_target, Valid.IsTargetThere}
+use Rattle.ball_devices.specs.declared.booking.Origin.{Origin, TheVariants.{Awaited, Found, New}}
+use Rattle.ball_devices.specs.declared.booking.Booking.{Booking, TheVariants.{Entered, Left, Lost, Arrived}}
 use Rattle.ball_devices.specs.Ledger.{Ledger, counted_in, transit_to, origin_of, entered, left, lost, arrived}
 
 -- ---- the calls of a ledger

@@ -1,7 +1,6 @@
 -- What holds of a ledger after every list of calls from `new` on.
 use Rattle.std.specs.Prelude.{◌≡◌, List, ◌<◌, length}
-use Rattle.plan_tables.specs.declared.devices.RowId.{RowId}
-use Rattle.plan_tables.specs.PlanView.{PlanView}
+use Rattle.plan_tables.specs.{declared.devices.RowId.RowId, PlanView.PlanView}
 use Rattle.ball_devices.specs.Ledger.{IsBalanced, no_balls, origin_of}
 use Rattle.ball_devices.specs.Bookings.{LedgerCall, HasBooked, MayBookAll, after_calls, booked_by, origin_after}
 

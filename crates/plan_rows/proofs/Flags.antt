@@ -1,6 +1,6 @@
 -- A flag for each of 16 shots, set one after the other.
+use Rattle.std.proofs.{Common.rules, lemmas.Bool.cases_lt}
 use Rattle.std.proofs.Common.{◌≡◌, false, ℕ, zero, suc, ◌+◌, ◌<◌, ◌≤◌, Bool, List, [], ◌∷◌, ◌++◌, length, map, take, replicate, set, get_or, min, sym, ◌∙◌, ap, ⊎_elim, arith}
-use Rattle.std.proofs.lemmas.Bool.{cases_lt}
 use Rattle.std.proofs.lemmas.List.{length-map, length-take, get_or-map, take_all, take-append-le, take-replicate, take-take}
 use Rattle.plan_rows.specs.Members.{flags}
 
@@ -21,19 +21,7 @@ filled_next (suc n) (suc p) (suc k) (b ∷ bs) room within some = ap (λ l. b �
 
 -- all of them
 filled_all : (n p k : ℕ) (bs : List Bool) → n ≤ p → k ≡ min (length bs) n → filled n p k bs ≡ take n (bs ++ replicate p false)
-filled_all n p k bs room end =
-    ⊎_elim
-    (λ (short : length bs < n).
-    let same : k ≡ length bs = omega arith in
-    let here : length bs ≤ k = omega arith in
-    ap (λ l. take n (l ++ replicate p false)) (take_all k bs here))
-    (λ (long : n ≤ length bs).
-    let same : k ≡ n = omega arith in
-    ap (λ i. take n (take i bs ++ replicate p false)) same
-    ∙ take-append-le n (take n bs) (replicate p false) (simp length-take (omega arith))
-    ∙ take-take n n bs (omega arith)
-    ∙ sym (take-append-le n bs (replicate p false) long))
-    (cases_lt (length bs) n)
+filled_all n p k bs room end = search (rules, ⊎_elim, take_all, take-append-le, length-take, take-take, cases_lt)
 
 -- the first flags of some items
 module _ {X Y : Type 0} (f : Y → Bool) (view : X → Y) (xs : List X) (k : ℕ) where

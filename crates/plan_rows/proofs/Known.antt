@@ -1,14 +1,13 @@
 -- What other entries say of the shots of a group.
-use Rattle.std.proofs.Common.{◌≡◌, true, false, ◌&&◌, ℕ, ◌+◌, ◌<◌, Bool, List, length, map, drop, get_or, Option, None, Some, option_map, refl, sym, ap, ◌∙◌}
-use Rattle.std.specs.{Prelude.{is_some, not}, List.list_all}
+use Rattle.std.{proofs.Common.rules, specs.{Prelude.{is_some, not}, List.list_all}}
+use Rattle.std.proofs.Common.{◌≡◌, true, false, ◌&&◌, ℕ, ◌+◌, ◌<◌, Bool, List, length, map, drop, get_or, Option, option_map, sym, ap, ◌∙◌}
 use Rattle.section_tables.specs.declared.rows.Name.{Name}
 use Rattle.mpf_sections.specs.{Rows.Written, View.name_view}
 use Rattle.machine_definitions.proofs.Finding.{next-is}
 
 -- whether something is found, of what is found
 pub is_some-map : {X Y : Type 0} (f : X → Y) (o : Option X) → is_some (option_map f o) ≡ is_some o
-is_some-map f None = refl
-is_some-map f (Some x) = refl
+is_some-map f x2 = search rules
 
 not-false : (a b : Bool) → a ≡ not b → b ≡ false → a ≡ true
 not-false a b e is = e ∙ ap not is

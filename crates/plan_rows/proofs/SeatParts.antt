@@ -1,7 +1,7 @@
 -- What the entries of a text give under names, such as the seats of shots, one entry after the other.
-use Rattle.std.proofs.Common.{◌≡◌, ℕ, suc, ◌+◌, ◌<◌, Bool, List, [], ◌∷◌, ◌++◌, length, map, fold, drop, get_or, Option, refl, sym, ◌∙◌, ap, arith}
+use Rattle.std.proofs.{Common.rules, lemmas.{List.{append_assoc, drop_more}, Grind.fold-append}}
+use Rattle.std.proofs.Common.{◌≡◌, ℕ, ◌+◌, ◌<◌, Bool, List, [], ◌∷◌, ◌++◌, length, map, fold, drop, get_or, Option, refl, sym, ◌∙◌, ap}
 use Rattle.std.specs.{Prelude.{true, not, if◌then◌else◌}, Str.bytes_eq}
-use Rattle.std.proofs.lemmas.{List.{append_assoc, drop_more}, Grind.fold-append}
 use Rattle.section_tables.specs.declared.rows.Name.{Name}
 use Rattle.section_tables.specs.declared.rows.Entry as rows
 use Rattle.mpf_sections.specs.{declared.section.Section.Section, Rows.Entry, TypedShots.shots_name}
@@ -21,12 +21,7 @@ found_after name o xs = fold (latest name) o xs
 pub seat_next : (name : List ℕ) (o : Option Seat) (row : ℕ) (shots : List Name) (i : ℕ) (d : Name) → i < length shots
     → found_after name (latest name o ((name_view (get_or shots i d)).text, record { row = row; shot = i })) (seats_at row (i + 1) (map name_view (drop (i + 1) shots)))
     ≡ found_after name o (seats_at row i (map name_view (drop i shots)))
-seat_next name o row shots i d within =
-    let next : i + 1 ≡ suc i = omega arith in
-    let later = map name_view (drop (i + 1) shots) in
-    let found = latest name o ((name_view (get_or shots i d)).text, record { row = row; shot = i }) in
-    ap (λ k. found_after name found (seats_at row k later)) next
-    ∙ ap (λ l. found_after name o (seats_at row i (map name_view l))) (sym (drop_more shots i d within))
+seat_next name o row shots i d within = search (rules, get_or, drop_more)
 
 -- ---- the entries of a text
 

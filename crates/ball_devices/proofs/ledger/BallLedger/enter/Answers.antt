@@ -1,5 +1,4 @@
-use Rattle.std.proofs.Common.{rules, arith}
-use Rattle.std.proofs.lemmas.Grind.{common_steps}
+use Rattle.std.proofs.{Common.{rules, arith}, lemmas.Grind.common_steps}
 use Rattle.ball_devices.proofs.ledger.BallLedger.enter.Goals as goal
 
 pub returns-clause-state : goal.returns-clause-state
