@@ -76,7 +76,6 @@ module _ (start now : CoreView) (stays : StaysWithin start)
 
     -- what is done then is one step more, and one line more at least
     module _ (next : CoreView) (next_is : next ≡ follow (after_taken written.plan first.event) written) where
-
       pub next-steps : next ≡ follow (plan_steps plan (count + 1)) start
       next-steps = search (rules, plan-stays, written-is, steps-are)
 

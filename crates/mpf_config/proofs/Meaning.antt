@@ -40,7 +40,7 @@ new_modes_sound spot names (w ∷ ws) u e =
 
 new_modes_complete : (spot : Spot) (names : List (List ℕ)) (ws : List Written) → All is_no_machine ws → AreNew names (map (λ w. w.text) ws) → modes_new_at spot names ws ≡ Ok tt
 new_modes_complete spot names [] others apart = refl
-new_modes_complete spot names (w ∷ ws) others apart = search (rules, other_owner, All-head, fresh_complete, All-tail, new_modes_complete spot (w.text ∷ names) ws (All-tail is_no_machine w ws others) apart.1,)
+new_modes_complete spot names (w ∷ ws) others apart = search (rules, other_owner, All-head, fresh_complete, All-tail, new_modes_complete spot (w.text ∷ names) ws (All-tail is_no_machine w ws others) apart.1)
 
 modes_sound : (text : List ℕ) (p : Pair) (ws : List Written) → modes_at text p ≡ Ok ws → AreModesListed within_limits p ws
 unfolding modes_at

@@ -292,7 +292,7 @@ module _ (f : Contribution → ℕ) where
   taken_few : (cs : List contributions.Contribution) (i : ℕ) → sum_by f (contributions_view (take i cs)) ≤ sum_by f (contributions_view cs)
   taken_few cs zero = omega arith
   taken_few [] (suc i) = omega arith
-  taken_few (c ∷ cs) (suc i) = search (rules, sum_by-cons, taken_few cs i,)
+  taken_few (c ∷ cs) (suc i) = search (rules, sum_by-cons, taken_few cs i)
 
 module _ (names : NameSets) (old new : Draft) (cs : List contributions.Contribution) (i : ℕ) where
   -- there are no more lists than the contributions give

@@ -14,7 +14,6 @@ use Rattle.mpf_plan.proofs.{Heard.IsPlain, Apart.named_apart, Numbers.{name_at, 
 -- ---- a name that is used is given
 
 module _ (n : List ℕ) (there : Names) where
-
   given_among : (cs : List Contribution) → list_any (lacks there) cs ≡ false → list_any (bytes_eq n) (uses Coils cs) ≡ true → list_any (bytes_eq n) (there Coils) ≡ true
   given_among [] has is = absurd (true≢false (sym is))
   given_among (c ∷ cs) has is =

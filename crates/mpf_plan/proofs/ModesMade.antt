@@ -134,7 +134,6 @@ module _ (names : Names) where
   none_mapped make none (x ∷ xs) = λ i. none x i ++ none_mapped make none xs i
 
   module _ (rows : Rows) (place : Place) (seat : List ℕ → Option Seat) (destination : List ℕ → Destination) where
-
     none_from : (name : List ℕ) (content : Content) → flat_map modes_of (rows_from rows place seat destination name content) ≡ []
     none_from name x2 = search (rules, none_mapped)
 

@@ -14,7 +14,6 @@ IsFitUse P None = Unit {0}
 IsFitUse P (Some u) = IsFitName P u.0 u.1
 
 module _ (P : List ℕ → Type 0) where
-
   use_fit : (c : Contribution) → IsFit P c → IsFitUse P (used c)
   use_fit x1 h = search rules
 

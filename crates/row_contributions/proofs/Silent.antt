@@ -236,7 +236,6 @@ module _ {X : Type 0} (tell : Contribution → List X) (silent : IsSilent tell) 
 
   -- where rows tell nothing either, no entry does but a coil of the machine text
   module _ (none : (place : Place) (settings : Settings) → tell (device place settings) ≡ []) (machine : List SectionRows) where
-
     pub none_machine : (section : List ℕ) (e : Entry) → bytes_eq section coils_name ≡ false → told_machine machine section e ≡ []
     none_machine section e other = by (bytes_eq section coils_name) (bytes_eq section switches_name) other
       where

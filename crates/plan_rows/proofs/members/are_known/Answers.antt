@@ -1,4 +1,5 @@
-use Rattle.std.{◌∙◌}}
+use Rattle.std.{proofs.Common.{ap, ◌∙◌}, specs.Prelude.is_some}
+use Rattle.mpf_sections.specs.{Rows.Written, View.shot_view}
 use Rattle.machine_definitions.specs.Shots.{shot_called}
 use Rattle.plan_rows.proofs.Known.{known, missing, all_next, not_all}
 use Rattle.plan_rows.proofs.members.are_known.Goals as goal

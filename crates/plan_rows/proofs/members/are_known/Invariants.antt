@@ -1,4 +1,4 @@
-use Rattle.std.{map, drop}}
+use Rattle.std.{proofs.Common.{◌≡◌, map, drop}, specs.{Prelude.is_some, List.list_all}}
 use Rattle.mpf_sections.specs.View.{name_view}
 use Rattle.machine_definitions.specs.Shots.{shot_called}
 use Rattle.plan_rows.proofs.members.are_known.Given as goal

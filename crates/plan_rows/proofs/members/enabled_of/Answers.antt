@@ -1,6 +1,7 @@
 use Rattle.std.proofs.Common.{◌<◌, length, Bool, List, ℕ, set, ap, ◌∙◌, arith}
+use Rattle.mpf_sections.specs.{Rows.Written, View.name_view}
 use Rattle.machine_definitions.specs.Shots.{shot_called}
-use Rattle.plan_rows.{flag_more, flag_all}}
+use Rattle.plan_rows.{specs.Members.is_enabled_if, proofs.Flags.{first_flags, flag_more, flag_all}}
 use Rattle.plan_rows.proofs.members.enabled_of.Goals as goal
 
 pub loop-number-preserved : goal.loop-number-preserved

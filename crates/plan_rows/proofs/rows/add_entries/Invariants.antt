@@ -1,6 +1,6 @@
 use Rattle.std.proofs.Common.{◌≡◌, ◌++◌, map, drop}
 use Rattle.mpf_sections.specs.View.{entry_view}
-use Rattle.plan_rows.specs.{found_destination, row_list_view}}
+use Rattle.plan_rows.specs.{Rows.entry_row, View.{found_seat, found_destination, row_list_view}}
 use Rattle.plan_rows.proofs.rows.add_entries.Given as goal
 
 abbrev pub invariant-loop-entry : goal.invariant-loop-entry

@@ -1,5 +1,6 @@
 use Rattle.std.proofs.Common.{◌≡◌, ◌++◌, map, drop}
 use Rattle.mpf_sections.specs.View.{player_view}
+use Rattle.plan_rows.specs.{Rows.player, View.row_list_view}
 use Rattle.plan_rows.proofs.rows.add_players.Given as goal
 
 abbrev pub invariant-loop-player : goal.invariant-loop-player

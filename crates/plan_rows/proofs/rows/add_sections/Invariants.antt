@@ -1,6 +1,6 @@
 use Rattle.std.proofs.Common.{◌≡◌, ◌++◌, map, drop}
 use Rattle.mpf_sections.specs.View.{section_view}
-use Rattle.plan_rows.specs.{found_destination, row_list_view}}
+use Rattle.plan_rows.specs.{Rows.rows_in, View.{found_seat, found_destination, row_list_view}}
 use Rattle.plan_rows.proofs.rows.add_sections.Given as goal
 
 abbrev pub invariant-loop-section : goal.invariant-loop-section

@@ -1,5 +1,6 @@
 use Rattle.std.proofs.Common.{◌++◌, map, ◌∙◌}
 use Rattle.mpf_sections.specs.View.{section_view}
+use Rattle.plan_rows.specs.{Rows.rows_in, View.row_list_view}
 use Rattle.plan_rows.proofs.rows.add_text.Goals as goal
 
 pub returns-clause-rows : goal.returns-clause-rows

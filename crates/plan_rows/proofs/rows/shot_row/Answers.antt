@@ -1,7 +1,8 @@
 use Rattle.std.proofs.Common.{◌≡◌, option_map, ap, ◌∙◌}
-use Rattle.machine_definitions.specs.{profile_of_name}}
+use Rattle.mpf_sections.specs.{Rows.Shot, TypedShots.shot_of, View.entry_view}
+use Rattle.machine_definitions.specs.{Found.profile_view, Shots.{has_profile, profile_of_name}}
 use Rattle.machine_definitions.proofs.Finding.{value-found}
-use Rattle.plan_rows.specs.{found_seat}}
+use Rattle.plan_rows.specs.{Rows.shot, View.{seat_view, found_seat}}
 use Rattle.plan_rows.proofs.rows.shot_row.Goals as goal
 
 pub returns : goal.returns

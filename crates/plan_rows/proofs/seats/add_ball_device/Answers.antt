@@ -1,6 +1,8 @@
 use Rattle.std.proofs.Common.{◌≡◌, Bool, true, [], ◌∷◌, fold, Some, ap, sym, ◌∙◌}
-use Rattle.mpf_sections.specs.{ball_device_of}}
+use Rattle.std.{specs.{Prelude.if◌then◌else◌, Str.bytes_eq}, proofs.lemmas.Iterator.Adapters.option_map_id}
+use Rattle.mpf_sections.specs.{TypedBalls.{ball_devices_name, ball_device_of}, View.entry_view}
 use Rattle.machine_definitions.proofs.Finding.{took-value}
+use Rattle.plan_rows.specs.{Seats.latest, View.found_row}
 use Rattle.plan_rows.proofs.seats.add_ball_device.Goals as goal
 
 pub returns-in_ok-insert : goal.returns-in_ok-insert

@@ -1,7 +1,7 @@
 use Rattle.std.proofs.Common.{◌+◌, map, drop, get_or, Option, ap, ◌∙◌}
 use Rattle.mpf_sections.specs.View.{name_view}
 use Rattle.machine_definitions.proofs.Finding.{took-value}
-use Rattle.plan_rows.specs.{seats_at}, found_seat}}
+use Rattle.plan_rows.specs.{Seats.{Seat, seats_at}, View.{seat_view, found_seat}}
 use Rattle.plan_rows.proofs.SeatParts.{found_after, seat_next}
 use Rattle.plan_rows.proofs.seats.add_seats.Goals as goal
 

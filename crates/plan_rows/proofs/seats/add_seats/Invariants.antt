@@ -1,5 +1,6 @@
 use Rattle.std.proofs.Common.{◌≡◌, ℕ, List, map, drop}
 use Rattle.mpf_sections.specs.View.{name_view}
+use Rattle.plan_rows.{specs.{Seats.seats_at, View.found_seat}, proofs.SeatParts.found_after}
 use Rattle.plan_rows.proofs.seats.add_seats.Given as goal
 
 abbrev pub invariant-loop-shot : goal.invariant-loop-shot

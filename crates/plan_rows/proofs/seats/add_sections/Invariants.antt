@@ -2,7 +2,7 @@ use Rattle.std.proofs.Common.{◌≡◌, ℕ, List, map, drop}
 use Rattle.mpf_sections.specs.View.{section_view}
 use Rattle.machine_definitions.specs.Found.{is_found}
 use Rattle.plan_rows.specs.Seats.{text_entries, rows_after_all, given_from, entry_seats, entry_ball_row}
-use Rattle.plan_rows.{found_row}}
+use Rattle.plan_rows.{specs.View.{found_seat, found_row}, proofs.SeatParts.found_after}
 use Rattle.plan_rows.proofs.seats.add_sections.Given as goal
 
 abbrev pub invariant-loop-section : goal.invariant-loop-section

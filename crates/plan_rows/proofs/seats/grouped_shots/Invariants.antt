@@ -1,4 +1,5 @@
-use Rattle.std.{◌||◌, ℕ, List, map, drop}, flat_map}}
+use Rattle.std.{proofs.Common.{◌≡◌, ◌||◌, ℕ, List, map, drop}, specs.List.{list_any, flat_map}}
+use Rattle.mpf_sections.specs.{TypedShots.shot_groups_in, View.section_view}
 use Rattle.machine_definitions.specs.Found.{is_found}
 use Rattle.plan_rows.specs.Seats.{lists_shot, is_grouped}
 use Rattle.plan_rows.proofs.seats.grouped_shots.Given as goal

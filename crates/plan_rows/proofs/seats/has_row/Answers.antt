@@ -1,5 +1,6 @@
-use Rattle.std.{ap, ◌∙◌}}
+use Rattle.std.{proofs.Common.{sym, ap, ◌∙◌}, specs.Prelude.not}
 use Rattle.mpf_sections.specs.View.{entry_view}
+use Rattle.machine_definitions.{specs.Found.is_found, proofs.Finding.name-found}
 use Rattle.plan_rows.proofs.SeatParts.{shot_has_row}
 use Rattle.plan_rows.proofs.seats.has_row.Goals as goal
 

@@ -1,4 +1,4 @@
-use Rattle.std.proofs.{◌≡◌, suc, IfOk, sym, ◌∙◌}}
+use Rattle.std.proofs.{Common.{rules, ◌≡◌, suc, IfOk, sym, ◌∙◌}, lemmas.Result.IfOk-weaker}
 use Rattle.plan_rows.proofs.seats.rows_after.Goals as goal
 
 pub returns-then-has_row : goal.returns-then-has_row

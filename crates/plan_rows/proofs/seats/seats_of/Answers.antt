@@ -1,6 +1,8 @@
 use Rattle.std.proofs.Common.{◌≡◌, ℕ, Bool, List, map, None, ap, ◌∙◌}
-use Rattle.std.specs.{if◌then◌else◌}}
+use Rattle.std.specs.{Prelude.{option_map, if◌then◌else◌}, Map.lookup, Str.bytes_eq}
+use Rattle.mpf_sections.specs.{TypedBalls.playfield, View.section_view}
 use Rattle.machine_definitions.specs.Found.{has_bytes, is_found}
+use Rattle.plan_rows.specs.{declared.destination.Destination.TheVariants.Playfield, View.seat_view}
 use Rattle.plan_rows.specs.Seats.{is_grouped, text_entries, rows_after_all, given_from, entry_seats, entry_ball_row, row_or_unknown}
 use Rattle.plan_rows.proofs.SeatParts.{found_after}
 use Rattle.plan_rows.proofs.seats.seats_of.Goals as goal

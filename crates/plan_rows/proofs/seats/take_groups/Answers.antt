@@ -1,5 +1,6 @@
-use Rattle.std.{Bool, List, map, drop, ◌+◌, ap, ◌∙◌}}
-use Rattle.machine_definitions.{next-is}}
+use Rattle.std.{proofs.Common.{◌||◌, Bool, List, map, drop, ◌+◌, ap, ◌∙◌}, specs.List.list_any}
+use Rattle.mpf_sections.specs.{TypedShots.shot_group_of, View.entry_view}
+use Rattle.machine_definitions.{specs.Found.is_found, proofs.Finding.{or_more, next-is}}
 use Rattle.plan_rows.specs.Seats.{lists_shot}
 use Rattle.plan_rows.proofs.seats.take_groups.Goals as goal
 

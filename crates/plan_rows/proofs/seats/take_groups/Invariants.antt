@@ -1,4 +1,5 @@
-use Rattle.std.{◌||◌, ℕ, List, map, drop}}
+use Rattle.std.{proofs.Common.{◌≡◌, ◌||◌, ℕ, List, map, drop}, specs.List.list_any}
+use Rattle.mpf_sections.specs.{TypedShots.shot_group_of, View.entry_view}
 use Rattle.machine_definitions.specs.Found.{is_found}
 use Rattle.plan_rows.specs.Seats.{lists_shot}
 use Rattle.plan_rows.proofs.seats.take_groups.Given as goal

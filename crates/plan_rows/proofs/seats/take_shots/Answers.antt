@@ -1,6 +1,6 @@
-use Rattle.std.{Bool, List, map, drop, ◌+◌, ap, ◌∙◌}}
+use Rattle.std.{proofs.Common.{◌||◌, Bool, List, map, drop, ◌+◌, ap, ◌∙◌}, specs.{List.list_any, Str.bytes_eq}}
 use Rattle.mpf_sections.specs.View.{name_view}
-use Rattle.machine_definitions.{or_more, next-is}}
+use Rattle.machine_definitions.{specs.Found.is_found, proofs.Finding.{took-name, or_more, next-is}}
 use Rattle.plan_rows.proofs.seats.take_shots.Goals as goal
 
 pub loop-shot-preserved : goal.loop-shot-preserved

@@ -1,4 +1,4 @@
-use Rattle.std.{◌||◌, ℕ, List, map, drop}}
+use Rattle.std.{proofs.Common.{◌≡◌, ◌||◌, ℕ, List, map, drop}, specs.{List.list_any, Str.bytes_eq}}
 use Rattle.mpf_sections.specs.View.{name_view}
 use Rattle.machine_definitions.specs.Found.{is_found}
 use Rattle.plan_rows.proofs.seats.take_shots.Given as goal

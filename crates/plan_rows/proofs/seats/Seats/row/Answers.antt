@@ -1,4 +1,4 @@
-use Rattle.std.proofs.{◌∙◌}}
+use Rattle.std.proofs.{Common.{sym, ◌∙◌}, lemmas.Iterator.Adapters.option_map_id}
 use Rattle.machine_definitions.proofs.Finding.{value-found}
 use Rattle.plan_rows.proofs.seats.Seats.row.Goals as goal
 
