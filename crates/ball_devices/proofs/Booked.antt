@@ -1,6 +1,6 @@
 -- What a ledger says follows from what it has booked.
-use Rattle.std.{proofs.Common.rules, specs.List.count_by}
-use Rattle.std.proofs.Common.{◌≡◌, ℕ, ◌+◌, ◌-◌, ◌<◌, ◌==◌, nat_lt, Bool, cond, List, [], ◌∷◌, ◌++◌, length, slice_index_or, slice_set, refl, ap, ap₂, sym, subst, ◌∙◌, inl, inr, append-nil, append_assoc, arith}
+use Rattle.std.specs.List.{count_by}
+use Rattle.std.proofs.Common.{rules, ◌≡◌, ℕ, ◌+◌, ◌-◌, ◌<◌, ◌==◌, nat_lt, Bool, cond, List, [], ◌∷◌, ◌++◌, length, slice_index_or, slice_set, refl, ap, ap₂, sym, subst, ◌∙◌, inl, inr, append-nil, append_assoc, arith}
 use Rattle.std.proofs.lemmas.{Bool.{cases_eq, cases_lt, eq-eqb, ne_eqb, lt-ltb, le-ltb}, List.Sums.sum_by_push}
 use Rattle.std.proofs.lemmas.List.{length-set, length-replicate, get_or_past, get_or-set_same, get_or-set_other, get_or-replicate}
 use Rattle.plan_tables.specs.declared.devices.{RowId.RowId, BallTarget.{BallTarget, TheVariants.{Playfield, Device}}}
