@@ -1,13 +1,10 @@
 -- What the words of the command line ask for.
 use Rattle.std.proofs.Common.{◌≡◌, inl, inr, ℕ, true, false, List, [], ◌∷◌, Option, Some, None, IsSome, Result, Ok, Err, IfOk, IfErr, refl, sym, ap, ap₂, ◌∙◌, subst, option_map, codes}
 use Rattle.clap.specs.Words.{HasKind, Kinds, Row, Text, is_simple, is_simple_and_free, kind_of}
-use Rattle.clap.specs.declared.error.Error.{Error}
-use Rattle.clap.specs.declared.error.kind.ErrorKind.TheVariants.{OutOfMemory}
+use Rattle.clap.specs.declared.error.{Error.Error, kind.ErrorKind.TheVariants.OutOfMemory}
 use Rattle.clap.proofs.OnLiterals.{clap_on_literals}
 use Rattle.command_line.specs.CommandLine.{pinball_app, AskView, check, verify, play, ask_view, asked_at, where_no_fault, begins_with_hyphen, Asks}
-use Rattle.command_line.specs.declared.ask.Ask.{Ask}
-use Rattle.command_line.specs.declared.ask.AskFault.{AskFault}
-use Rattle.command_line.specs.declared.ask.AskFault.TheVariants.{NoMemory}
+use Rattle.command_line.specs.declared.ask.{Ask.Ask, AskFault.{AskFault, TheVariants.NoMemory}}
 
 pub pinball_app_is_simple : is_simple pinball_app ≡ true
 unfolding pinball_app clap_on_literals

@@ -1,15 +1,10 @@
 -- What the words of the command line ask for, as `clap` reads them.
 use Rattle.std.specs.Prelude.{◌≡◌, ◌==◌, ℕ, Bool, true, false, List, [], ◌∷◌, Option, Some, None, Result, Ok, Err, map, option_map, option_and_then, if◌then◌else◌, codes, String, string_bytes}
-use Rattle.std.specs.Str.{bytes_eq}
-use Rattle.std.specs.Borrow.{Bor}
-use Rattle.std.specs.Global.{Global}
-use Rattle.clap.specs.Simple.{on_top}
+use Rattle.std.specs.{Str.bytes_eq, Borrow.Bor, Global.Global}
+use Rattle.clap.specs.{Simple.on_top, declared.builder.action.ArgAction.TheVariants.Set}
 use Rattle.clap.specs.Words.{App, Kinds, Row, Rule, Text, fault_of, first_of, new_app, new_rule, subcommand_of, with_rule, with_subcommand}
-use Rattle.clap.specs.declared.builder.action.ArgAction.TheVariants.{Set}
-use Rattle.command_line.specs.declared.ask.Ask.{Ask}
-use Rattle.command_line.specs.declared.ask.Ask.TheVariants.{Check, Verify, Play}
-use Rattle.command_line.specs.declared.ask.AskFault.{AskFault}
-use Rattle.command_line.specs.declared.ask.AskFault.TheVariants.{NoMemory}
+use Rattle.command_line.specs.declared.ask.Ask.{Ask, TheVariants.{Check, Verify, Play}}
+use Rattle.command_line.specs.declared.ask.AskFault.{AskFault, TheVariants.NoMemory}
 
 -- ---- the command line
 

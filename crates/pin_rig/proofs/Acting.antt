@@ -1,42 +1,27 @@
 -- A rig that is held acts on an input that is not refused, and is held again.
-use Rattle.std.proofs.Common.{◌≡◌, ℕ, ◌+◌, ◌<◌, ◌≤◌, ◌^◌, None, Ok, List, ◌∷◌, ◌++◌, length, take, drop, refl, ap, sym, ◌∙◌, subst, arith}
+use Rattle.std.proofs.Common.{rules, ◌≡◌, ℕ, ◌+◌, ◌<◌, ◌≤◌, ◌^◌, None, Ok, List, ◌∷◌, ◌++◌, length, take, drop, refl, ap, sym, ◌∙◌, subst, arith}
 use Rattle.std.specs.List.{All}
-use Rattle.std.proofs.lemmas.Option.{slice_get_within, none-some}
-use Rattle.std.proofs.lemmas.List.{length-map, take_all, take-append-drop}
-use Rattle.plan_tables.specs.PlanView.{PlanView}
-use Rattle.plan_tables.specs.declared.entries.SwitchKind.{SwitchKind}
-use Rattle.coil_guard.specs.declared.state.CoilState.{CoilState}
-use Rattle.coil_guard.specs.SentCommands.{coil_of}
-use Rattle.written_machine.specs.declared.line.Line.{Line}
-use Rattle.written_machine.specs.Machine.{Machine}
-use Rattle.written_machine.specs.Devices.{HasDevices}
-use Rattle.written_machine.specs.EventStep.{EventSteps}
-use Rattle.written_machine.specs.PlanOrder.{plan_steps}
+use Rattle.std.proofs.lemmas.{Option.{slice_get_within, none-some}, List.{length-map, take_all, take-append-drop}}
+use Rattle.plan_tables.specs.{PlanView.PlanView, declared.entries.SwitchKind.SwitchKind}
+use Rattle.coil_guard.specs.{declared.state.CoilState.CoilState, SentCommands.coil_of}
+use Rattle.written_machine.specs.{declared.line.Line.Line, CheckedView.CheckedView}
+use Rattle.written_machine.specs.{Machine.Machine, Devices.HasDevices, EventStep.EventSteps, PlanOrder.plan_steps}
 use Rattle.written_machine.specs.Run.{Stimulus, SwitchChange, Alarm, Wait, moment_of, IsAllowed, begin, IsReached}
-use Rattle.written_machine.specs.CheckedView.{CheckedView}
-use Rattle.written_machine.proofs.PlanSteps.{plan_steps-event_steps}
+use Rattle.written_machine.proofs.{PlanSteps.plan_steps-event_steps, Silence.begin-still}
 use Rattle.written_machine.proofs.Reached.{reached-next, reached-within, reached-same, reached-has_states, reached-devices, reached-kinds, reached-complete, reached-modes}
 use Rattle.written_machine.proofs.Alarms.{has_states-begin, moment-begin, moment-after}
-use Rattle.written_machine.specs.NextAlarm.{next_alarm}
-use Rattle.written_machine.proofs.Silence.{begin-still}
-use Rattle.coil_driver.specs.Board.{HasTakenAll, commands_of, after_lines}
-use Rattle.coil_driver.specs.Driver.{DriverView, IsSendable, HasSent, HasStopped}
+use Rattle.coil_driver.specs.{Board.after_lines, Driver.{DriverView, IsSendable, HasSent, HasStopped}, Agrees.Agrees}
 use Rattle.coil_driver.proofs.Sending.{cascade-agrees, sent-sendable}
-use Rattle.coil_driver.specs.Agrees.{Agrees}
 use Rattle.machine_core.specs.Core.{CoreView, IsWhole, CanCall, HasHandlers, IsPlayable, HasRoom, StaysWithin, HasSettled, after}
-use Rattle.machine_core.proofs.Settling.{follows-handles}
-use Rattle.machine_core.proofs.Room.{drop-found}
-use Rattle.pin_rig.specs.declared.input.Input.{Input}
+use Rattle.machine_core.proofs.{Settling.follows-handles, Room.drop-found}
+use Rattle.pin_rig.specs.{declared.input.Input.Input, Inside.IsHeld}
 use Rattle.pin_rig.specs.Rig.{RigView, stimulus_at, RigCascade, RigStep, RigHalt}
-use Rattle.pin_rig.specs.Inside.{IsHeld}
 use Rattle.pin_rig.proofs.Judging.{judged-allowed, judged-running, judged-asks, AsksFor}
 use Rattle.pin_rig.proofs.Counting.{taken-no_fault, not_taken-fault}
 
 -- what a machine is asked for its core can do
 asked-playable : (rig : RigView) (core : CoreView) (stimulus : Stimulus) → rig.machine ≡ core.machine → length core.machine.switches.kinds ≡ length rig.checked.plan.switches → AsksFor rig stimulus → IsPlayable core stimulus
-asked-playable rig core (SwitchChange at switch level) is count asks = let within = asks.1 in (asks.0, omega arith)
-asked-playable rig core (Alarm at source) is count asks = (asks.0, ap next_alarm (sym is) ∙ asks.1)
-asked-playable rig core (Wait at) is count asks = asks
+asked-playable rig core x3 is count asks = search (rules, count)
 
 -- what is seen of a rig that holds these
 abbrev pub rig_of : CheckedView → CoreView → DriverView → ℕ → RigView
@@ -120,9 +105,7 @@ module _ (c : CheckedView) (core : CoreView) (driver : DriverView) (shown : ℕ)
     agrees = cascade-agrees c.plan stimulus core.machine count new.machine steps
 
     reached : IsReached c.plan (held.reached.0 ++ (plan_steps c.plan c.bound begun).lines) new.machine
-    reached =
-        subst (IsReached c.plan (held.reached.0 ++ (plan_steps c.plan c.bound begun).lines)) same
-        (reached-next c held.accepted held.reached.0 core.machine held.reached.1 stimulus allowed)
+    reached = search (rules, same, reached-next, allowed)
 
     late : new.machine.moment < 2 ^ 40
     late = omega (arith, early, moment-after c.plan stimulus core.machine count new.machine steps)
@@ -150,31 +133,10 @@ module _ (c : CheckedView) (core : CoreView) (driver : DriverView) (shown : ℕ)
     -- with what is sent of them
     module _ (sent : DriverView) (counted : length sent.sent ≡ length driver.sent) (place : ℕ) where
       cascade : sent.sent ≡ after_lines (take place new.machine.lines) driver.sent → RigCascade input rig (rig_of c new sent place)
-      cascade sent_is = record {
-        stimulus = stimulus;
-        stimulus_is = judged;
-        allowed = allowed;
-        checked_is = refl;
-        machine_is = sym same;
-        count = count;
-        steps = steps;
-        settles = settled.settles;
-        sent_is = sent_is;
-      }
+      cascade sent_is = search (rules, allowed, same, count, steps)
 
       held-on : place ≤ length new.machine.lines → (sent.faulted ≡ None → (place ≡ length new.machine.lines) × (sent.sent ≡ new.machine.coils)) → IsHeld c new sent place
-      held-on within all = record {
-        accepted = held.accepted;
-        plan_is = plan-again;
-        core_is = core-again;
-        early = late;
-        room = let was = held.room in let is = ap (λ (v : CoreView). v.room) settled.new_is in omega (arith, was, is);
-        reached = (held.reached.0 ++ (plan_steps c.plan c.bound begun).lines, reached);
-        coils = counted ∙ held.coils;
-        shown_within = within;
-        all_shown = λ none. (all none).0;
-        all_sent = λ none. (all none).1;
-      }
+      held-on within all = search (rules, plan-again, core-again, early, late, reached)
 
       -- all
       module _ (whole : HasSent new.machine.lines driver sent) (place_is : place ≡ length new.machine.lines) where
@@ -182,25 +144,15 @@ module _ (c : CheckedView) (core : CoreView) (driver : DriverView) (shown : ℕ)
         shown-all = take_all place new.machine.lines (omega (arith, place_is))
 
         whole-step : RigStep input rig (rig_of c new sent place)
-        whole-step = record {
-          cascade = cascade (whole.sent ∙ ap (λ ls. after_lines ls driver.sent) (sym shown-all));
-          lines_are = shown-all;
-          taken = subst (λ ls. HasTakenAll (commands_of ls) driver.board sent.board) (sym shown-all) whole.taken;
-          no_fault = taken-no_fault (commands_of new.machine.lines) driver.board sent.board whole.taken;
-          running = whole.faulted ∙ running;
-        }
+        whole-step = search (rules, cascade, shown-all, taken-no_fault, running)
 
         whole-held : IsHeld c new sent place
-        whole-held =
-            held-on (omega (arith, place_is))
-            (λ none. (place_is, whole.sent ∙ ap (after_lines new.machine.lines) (held.all_sent running) ∙ sym agrees.coils))
+        whole-held = search (rules, held-on, running, agrees)
 
       -- or those before one that the board has not taken
       module _ (part : HasStopped new.machine.lines place driver sent) where
         part-lines : new.machine.lines ≡ take place new.machine.lines ++ part.line ∷ drop (place + 1) new.machine.lines
-        part-lines =
-            let ls = new.machine.lines in
-            sym (take-append-drop place ls) ∙ ap (λ rest. take place ls ++ rest) (drop-found ls place part.line part.there)
+        part-lines = search (rules, take-append-drop, drop-found)
 
         part-halt : RigHalt input rig (rig_of c new sent place)
         part-halt =

@@ -1,11 +1,9 @@
 -- A board's fault in a step shows in its count of faults.
-use Rattle.std.proofs.Common.{◌≡◌, ◌≢◌, ℕ, ◌<◌, ◌-◌, ◌^◌, ◌⊎◌, inl, inr, List, [], ◌∷◌, ◌++◌, length, length-append, refl, sym, ap, ◌∙◌, subst, arith}
+use Rattle.std.proofs.Common.{rules, ◌≡◌, ◌≢◌, ◌-◌, ◌^◌, inr, List, [], ◌∷◌, ◌++◌, length, length-append, refl, ap, ◌∙◌, arith}
 use Rattle.coil_guard.specs.declared.command.Command.{Command}
-use Rattle.coil_guard.specs.Boards.{HasFaulted}
 use Rattle.written_machine.specs.declared.line.Line.{Line}
 use Rattle.written_machine.specs.declared.line.Happening.TheVariants as lines
-use Rattle.coil_driver.specs.Board.{BoardView, HasTakenAll, HasNotTaken, command_of, commands_of}
-use Rattle.coil_driver.proofs.Serving.{commands-append}
+use Rattle.coil_driver.{specs.Board.{BoardView, HasTakenAll, HasNotTaken, commands_of}, proofs.Serving.commands-append}
 use Rattle.pin_rig.specs.Rig.{HasFaultedOn}
 
 taken-count : (commands : List Command) (old new : BoardView) → HasTakenAll commands old new → new.fault_count ≡ old.fault_count
@@ -18,8 +16,7 @@ last-taken [] old new all last sent = sent refl
 last-taken (command ∷ more) old new (mid, one, all) last sent = one.no_fault (inr last)
 
 pub taken-no_fault : (commands : List Command) (old new : BoardView) → HasTakenAll commands old new → HasFaultedOn commands old new → ⊥
-taken-no_fault commands old new all (inl risen) = let same = taken-count commands old new all in omega (arith, risen, same)
-taken-no_fault commands old new all (inr both) = last-taken commands old new all both.0 both.1
+taken-no_fault commands old new all x5 = search (rules, taken-count, last-taken)
 
 -- a command among others
 not_nil : (first : List Command) (command : Command) (second : List Command) → first ++ command ∷ second ≢ []
@@ -29,15 +26,8 @@ not_nil first command second is =
     omega (arith, counts, both)
 
 has_command : (ls shown later : List Line) (line : Line) (command : Command) → line.happening ≡ lines.Coil command → ls ≡ shown ++ line ∷ later → commands_of ls ≢ []
-has_command ls shown later line command line_is is none =
-    not_nil (commands_of shown) command (commands_of later)
-    (ap (λ cs. commands_of shown ++ (cs ++ commands_of later)) (sym (ap command_of line_is)) ∙ sym (commands-append shown (line ∷ later)) ∙ ap commands_of (sym is) ∙ none)
+has_command ls shown later line command line_is is none = search (rules, not_nil, commands-append)
 
 pub not_taken-fault : (ls shown later : List Line) (line : Line) (command : Command) (old mid new : BoardView) → line.happening ≡ lines.Coil command → ls ≡ shown ++ line ∷ later
     → HasTakenAll (commands_of shown) old mid → HasNotTaken mid new → HasFaultedOn (commands_of ls) old new
-not_taken-fault ls shown later line command old mid new line_is is all not =
-    let same = taken-count (commands_of shown) old mid all in
-    elim (not.count) [
-      | inl risen ↦ inl (omega (arith, risen, same))
-      | inr last ↦ inr (sym same ∙ last, has_command ls shown later line command line_is is)
-    ]
+not_taken-fault ls shown later line command old mid new line_is is all not = search (rules, taken-count, has_command)

@@ -1,22 +1,16 @@
 -- What an input is judged to be may come next.
-use Rattle.std.proofs.Common.{◌≡◌, ℕ, ◌<◌, ◌≤◌, ◌^◌, nat_lt, nat_le, Bool, true, false, cond, if◌then◌else◌, Option, Some, None, Result, Ok, Err, option_map, length, inl, inr, arith, refl, sym, subst, ap, ◌∙◌}
+use Rattle.std.proofs.Common.{rules, ◌≡◌, ℕ, ◌<◌, ◌≤◌, ◌^◌, nat_lt, nat_le, Bool, cond, if◌then◌else◌, Option, Some, None, Result, Ok, Err, option_map, length, inl, inr, arith, refl, sym, subst, ap, ◌∙◌}
 use Rattle.std.specs.Result.{result_and}
 use Rattle.std.proofs.lemmas.Bool.{cond_both, cond-true, cond-false, ltb-true, ltb-false, lt-ltb, le-ltb, leb-false, lt-leb}
-use Rattle.plan_tables.specs.declared.entries.SwitchId.{SwitchId}
-use Rattle.plan_tables.specs.declared.entries.CoilId.{CoilId}
-use Rattle.plan_tables.specs.Valid.{IsValid}
-use Rattle.written_machine.specs.Machine.{Machine}
+use Rattle.plan_tables.specs.{declared.entries.{SwitchId.SwitchId, CoilId.CoilId}, Valid.IsValid}
+use Rattle.written_machine.{specs.{Machine.Machine, NextAlarm.{next_alarm, is_due_by}}, proofs.Reached.reached-not_late}
 use Rattle.written_machine.specs.Run.{Source, Stimulus, SwitchChange, Alarm, Wait, IsTimely, IsAllowed}
-use Rattle.written_machine.specs.NextAlarm.{next_alarm, is_due_by}
 use Rattle.written_machine.proofs.NextAlarms.{none-nothing, found-is_next, next-is_found, not_due-nothing, nothing-not_due}
-use Rattle.written_machine.proofs.Reached.{reached-not_late}
-use Rattle.pin_rig.specs.declared.input.Input.{Input}
+use Rattle.pin_rig.specs.declared.input.{Input.Input, StepFault.StepFault}
 use Rattle.pin_rig.specs.declared.input.Input.TheVariants as inputs
-use Rattle.pin_rig.specs.declared.input.StepFault.{StepFault}
 use Rattle.pin_rig.specs.declared.input.StepFault.TheVariants as faults
-use Rattle.pin_rig.specs.Refused.{is_too_late, admitted}
+use Rattle.pin_rig.specs.{Refused.{is_too_late, admitted}, Steps.IsOfInput}
 use Rattle.pin_rig.specs.Rig.{RigView, timely, alarm_at, stimulus_in, unless_halted, stimulus_at, IsOfRun, IsNextMoment}
-use Rattle.pin_rig.specs.Steps.{IsOfInput}
 
 ok_is : (a b : Stimulus) → ◌≡◌ {A = Result Stimulus StepFault} (Ok a) (Ok b) → a ≡ b
 ok_is a b h = cc
@@ -25,26 +19,17 @@ ok_is a b h = cc
 
 -- a moment that is admitted is not before that of the latest stimulus, nor too late
 pub admitted-is : (latest at : ℕ) → admitted latest at ≡ Ok tt → (latest ≤ at) × (at < 2 ^ 40)
-admitted-is latest at =
-    cond_both (nat_lt at latest) (Err faults.Backwards) (cond (nat_le (2 ^ 40) at) (Err faults.TooLate) (Ok tt)) (λ (r : Result Unit StepFault). r ≡ Ok tt → (latest ≤ at) × (at < 2 ^ 40))
-    (λ t h. cc)
-    (λ t. cond_both (nat_le (2 ^ 40) at) (Err faults.TooLate) (Ok tt) (λ (r : Result Unit StepFault). r ≡ Ok tt → (latest ≤ at) × (at < 2 ^ 40))
-    (λ u h. cc)
-    (λ u h. (ltb-false at latest t, leb-false (2 ^ 40) at u)))
+admitted-is latest at = search (rules, at, cond_both, nat_lt, nat_le, ltb-false, leb-false)
 
 -- and such a moment is admitted
 pub admitted-ok : (latest at : ℕ) → latest ≤ at → at < 2 ^ 40 → admitted latest at ≡ Ok tt
-admitted-ok latest at forward early =
-    cond-false (nat_lt at latest) (Err faults.Backwards) (cond (nat_le (2 ^ 40) at) (Err faults.TooLate) (Ok tt)) (le-ltb at latest forward)
-    ∙ cond-false (nat_le (2 ^ 40) at) (Err faults.TooLate) (Ok tt) (lt-leb (2 ^ 40) at early)
+admitted-ok latest at forward early = search (rules, at, early, cond-false, nat_lt, nat_le, le-ltb, lt-leb)
 
 both_ok : (r : Result Unit StepFault) (given : Result Stimulus StepFault) (stimulus : Stimulus) → result_and r given ≡ Ok stimulus → (r ≡ Ok tt) × (given ≡ Ok stimulus)
-both_ok (Ok done) given stimulus h = (refl, h)
-both_ok (Err fault) given stimulus h = cc
+both_ok x1 given stimulus h = search rules
 
 late_or : (late : Bool) (given : Result Stimulus StepFault) → result_and (if late then Err faults.TooLate else Ok (tt {0})) given ≡ (if late then Err faults.TooLate else given)
-late_or true given = refl
-late_or false given = refl
+late_or x1 given = search rules
 
 -- no alarm is late, so that the moment of one is refused only where it is too late
 pub alarm-judged : (rig : RigView) → IsValid rig.checked.plan → IsOfRun rig → (a : ℕ × Source) → next_alarm rig.machine ≡ Some a → alarm_at (next_alarm rig.machine) ≡ result_and (admitted rig.machine.moment a.0) (Ok (Alarm a.0 a.1))
@@ -84,23 +69,15 @@ alarm-is s given (Some a) next h =
 -- a change is that of a switch of the plan
 change-is : (rig : RigView) (at : ℕ) (switch : SwitchId) (level : Bool) (given : Stimulus) → cond (nat_lt switch.0 (length rig.checked.plan.switches)) (timely rig.machine at (SwitchChange at switch level)) (Err faults.NoSuchSwitch) ≡ Ok given
     → IsTimely rig.machine at × (switch.0 < length rig.checked.plan.switches) × (SwitchChange at switch level ≡ given)
-change-is rig at switch level given =
-    cond_both (nat_lt switch.0 (length rig.checked.plan.switches)) (timely rig.machine at (SwitchChange at switch level)) (Err faults.NoSuchSwitch)
-    (λ (r : Result Stimulus StepFault). r ≡ Ok given → IsTimely rig.machine at × (switch.0 < length rig.checked.plan.switches) × (SwitchChange at switch level ≡ given))
-    (λ t h. let (time, is) = timely-is rig.machine at (SwitchChange at switch level) given h in (time, ltb-true switch.0 (length rig.checked.plan.switches) t, is))
-    (λ t h. cc)
+change-is rig at switch level given = search (rules, at, cond_both, nat_lt, timely-is, ltb-true)
 
 -- so it may come
 in-allowed : (rig : RigView) (input : Input) (given : Stimulus) → stimulus_in rig.checked rig.machine input ≡ Ok given → IsAllowed rig.checked.plan rig.machine given
-in-allowed rig (inputs.Change at switch level) given h =
-    let (time, within, is) = change-is rig at switch level given h in
-    subst (IsAllowed rig.checked.plan rig.machine) is (time, within)
+in-allowed rig (inputs.Change at switch level) given h = search (rules, at, change-is)
 in-allowed rig inputs.Alarm given h =
     let a = alarm-is rig.machine given (next_alarm rig.machine) refl h in
     subst (IsAllowed rig.checked.plan rig.machine) a.given_is (found-is_next rig.machine a.at a.source a.next, a.early)
-in-allowed rig (inputs.Wait at) given h =
-    let (time, is) = timely-is rig.machine at (Wait at) given h in
-    subst (IsAllowed rig.checked.plan rig.machine) is time
+in-allowed rig (inputs.Wait at) given h = search (rules, at, timely-is)
 
 -- and it is the stimulus of the input
 in-of_input : (rig : RigView) (input : Input) (given : Stimulus) → stimulus_in rig.checked rig.machine input ≡ Ok given → IsOfInput input given
@@ -135,22 +112,17 @@ timely-ok s at stimulus time =
     ∙ cond-false (is_due_by at s) (Err faults.AlarmPending) (Ok stimulus) (nothing-not_due s at time.quiet)
 
 allowed-in : (rig : RigView) (input : Input) (given : Stimulus) → IsOfInput input given → IsAllowed rig.checked.plan rig.machine given → stimulus_in rig.checked rig.machine input ≡ Ok given
-allowed-in rig (inputs.Change at switch level) given is allowed =
-    let (time, within) = subst (IsAllowed rig.checked.plan rig.machine) is allowed in
-    cond-true (nat_lt switch.0 (length rig.checked.plan.switches)) (timely rig.machine at (SwitchChange at switch level)) (Err faults.NoSuchSwitch) (lt-ltb switch.0 (length rig.checked.plan.switches) within)
-    ∙ timely-ok rig.machine at (SwitchChange at switch level) time ∙ ap Ok (sym is)
+allowed-in rig (inputs.Change at switch level) given is allowed = search (rules, at, cond-true, nat_lt, lt-ltb, timely-ok)
 allowed-in rig inputs.Alarm given (at, source, is) allowed =
     let (next, early) = subst (IsAllowed rig.checked.plan rig.machine) is allowed in
     ap alarm_at (next-is_found rig.machine at source next)
     ∙ cond-false (nat_le (2 ^ 40) at) (Err faults.TooLate) (Ok (Alarm at source)) (lt-leb (2 ^ 40) at early) ∙ ap Ok (sym is)
-allowed-in rig (inputs.Wait at) given is allowed =
-    timely-ok rig.machine at (Wait at) (subst (IsAllowed rig.checked.plan rig.machine) is allowed) ∙ ap Ok (sym is)
+allowed-in rig (inputs.Wait at) given is allowed = search (rules, at, timely-ok)
 
 -- ---- as long as the rig is not halted
 
 ok-running : (halted : Option CoilId) (given : Result Stimulus StepFault) (stimulus : Stimulus) → unless_halted halted given ≡ Ok stimulus → (halted ≡ None) × (given ≡ Ok stimulus)
-ok-running None given stimulus h = (refl, h)
-ok-running (Some coil) given stimulus h = cc
+ok-running x1 given stimulus h = search rules
 
 module _ (rig : RigView) (input : Input) (given : Stimulus) (judged : stimulus_at rig input ≡ Ok given) where
   both : (rig.faulted ≡ None) × (stimulus_in rig.checked rig.machine input ≡ Ok given)
@@ -169,8 +141,7 @@ module _ (rig : RigView) (input : Input) (given : Stimulus) (judged : stimulus_a
   judged-asks = in-asks rig input given both.1
 
 pub allowed-judged : (rig : RigView) (input : Input) (given : Stimulus) → rig.faulted ≡ None → IsOfInput input given → IsAllowed rig.checked.plan rig.machine given → stimulus_at rig input ≡ Ok given
-allowed-judged rig input given running is allowed =
-    ap (λ (halted : Option CoilId). unless_halted halted (stimulus_in rig.checked rig.machine input)) running ∙ allowed-in rig input given is allowed
+allowed-judged rig input given running is allowed = search (rules, allowed-in)
 
 -- ---- an input that is refused is not one at which the board does not take a command
 
@@ -182,32 +153,6 @@ IsRefusal fault = Unit {0}
 abbrev Refuses : Result Stimulus StepFault → Type 0
 Refuses (Ok stimulus) = Unit {0}
 Refuses (Err fault) = IsRefusal fault
-
-timely-refuses : (s : Machine) (at : ℕ) (stimulus : Stimulus) → Refuses (timely s at stimulus)
-timely-refuses s at stimulus = by (nat_lt at s.moment) (is_too_late at) (is_due_by at s)
-  where
-    by : (back late due : Bool) → Refuses (result_and (if back then Err faults.Backwards else if late then Err faults.TooLate else Ok (tt {0})) (if due then Err faults.AlarmPending else Ok stimulus))
-    by true late due = tt
-    by false true due = tt
-    by false false true = tt
-    by false false false = tt
-
-in-refuses : (rig : RigView) (input : Input) → Refuses (stimulus_in rig.checked rig.machine input)
-in-refuses rig (inputs.Change at switch level) = by (nat_lt switch.0 (length rig.checked.plan.switches))
-  where
-    by : (there : Bool) → Refuses (if there then timely rig.machine at (SwitchChange at switch level) else Err faults.NoSuchSwitch)
-    by true = timely-refuses rig.machine at (SwitchChange at switch level)
-    by false = tt
-in-refuses rig inputs.Alarm = by (next_alarm rig.machine)
-  where
-    late : (a : ℕ × Source) (b : Bool) → Refuses (if b then Err faults.TooLate else Ok (Alarm a.0 a.1))
-    late a true = tt
-    late a false = tt
-
-    by : (o : Option (ℕ × Source)) → Refuses (alarm_at o)
-    by None = tt
-    by (Some a) = late a (is_too_late a.0)
-in-refuses rig (inputs.Wait at) = timely-refuses rig.machine at (Wait at)
 
 -- ---- the alarm that is due next
 

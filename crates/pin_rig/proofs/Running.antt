@@ -1,43 +1,24 @@
 -- Steps, one after another, are a run, and a board has taken just the commands of their lines.
-use Rattle.std.proofs.Common.{◌≡◌, ◌||◌, ℕ, None, Some, List, [], ◌∷◌, ◌++◌, filter, refl, ap, sym, ◌∙◌, subst, append_assoc, arith}
-use Rattle.std.proofs.lemmas.Grind.{flat_map-append}
-use Rattle.std.proofs.lemmas.List.{append-nil}
-use Rattle.plan_tables.specs.PlanView.{coil_numbers}
-use Rattle.plan_tables.specs.declared.entries.CoilId.{CoilId}
-use Rattle.plan_tables.specs.declared.entries.Owner.{Owner}
-use Rattle.plan_tables.specs.declared.entries.CoilLimits.{CoilLimits}
-use Rattle.coil_guard.specs.declared.command.Command.{Command}
+use Rattle.std.proofs.Common.{rules, ◌≡◌, ℕ, None, Some, List, [], ◌∷◌, ◌++◌, refl, ap, sym, ◌∙◌, subst, append_assoc, arith}
+use Rattle.std.proofs.lemmas.{Grind.flat_map-append, List.append-nil}
+use Rattle.plan_tables.specs.declared.entries.{Owner.Owner, CoilLimits.CoilLimits}
+use Rattle.coil_guard.specs.declared.{command.{Command.Command, Answer.Answer}, state.CoilState.CoilState}
 use Rattle.coil_guard.specs.declared.command.Command.TheVariants as commands
-use Rattle.coil_guard.specs.declared.command.Answer.{Answer}
 use Rattle.coil_guard.specs.declared.command.Answer.TheVariants as answers
-use Rattle.coil_guard.specs.declared.state.CoilState.{CoilState}
-use Rattle.coil_guard.specs.SentCommands.{Sending, is_on}
-use Rattle.coil_guard.specs.CoilStep.{is_on_at}
-use Rattle.coil_guard.specs.Coils.{coil_at}
+use Rattle.coil_guard.specs.{SentCommands.Sending, Calls.{CoilCall, sent_as}, Follows.Follows}
 use Rattle.coil_guard.specs.Calls as calls_of
-use Rattle.coil_guard.specs.Calls.{CoilCall, sent_as}
-use Rattle.coil_guard.specs.Follows.{Follows}
 use Rattle.coil_guard.specs.Asked.{limits_of, after_asking, answer_asking}
 use Rattle.coil_guard.proofs.Following.{calls_follow, later_follows}
-use Rattle.written_machine.specs.declared.line.Line.{Line}
-use Rattle.written_machine.specs.declared.line.Happening.{Happening}
+use Rattle.written_machine.specs.declared.line.{Line.Line, Happening.Happening}
 use Rattle.written_machine.specs.declared.line.Happening.TheVariants as lines
-use Rattle.written_machine.specs.CheckedView.{CheckedView}
-use Rattle.written_machine.specs.Accepted.{IsAccepted}
-use Rattle.written_machine.specs.Run.{IsAllowed, IsRun}
-use Rattle.written_machine.specs.Machine.{initial}
-use Rattle.written_machine.specs.Sent.{sent_at, sent_in, sendings}
-use Rattle.written_machine.proofs.Alarms.{forward, moment-after, not_late-run, not_late-initial}
-use Rattle.written_machine.proofs.Guarded.{follows-run}
+use Rattle.written_machine.specs.{CheckedView.CheckedView, Run.{IsAllowed, IsRun}}
+use Rattle.written_machine.specs.{Accepted.IsAccepted, Machine.initial, Sent.{sent_at, sent_in, sendings}}
+use Rattle.written_machine.proofs.{Alarms.{forward, moment-after, not_late-run, not_late-initial}, Guarded.follows-run}
 use Rattle.coil_driver.specs.Board.{BoardView, HasTakenAll, commands_of, after_happening, after_line, after_lines, TellsMore}
-use Rattle.coil_driver.proofs.Sending.{cascade-agrees}
+use Rattle.coil_driver.proofs.{Sending.cascade-agrees, Serving.{taken-append, commands-append, taken-tells}}
 use Rattle.coil_driver.specs.Agrees.{IsSent, AreSent}
-use Rattle.coil_driver.specs.ShutDown.{is_faulted}
-use Rattle.coil_driver.proofs.Serving.{taken-append, commands-append, taken-tells}
-use Rattle.pin_rig.specs.declared.input.Input.{Input}
-use Rattle.pin_rig.specs.Rig.{RigView, RigCascade}
+use Rattle.pin_rig.{specs.{declared.input.Input.Input, Rig.{RigView, RigCascade}}, proofs.Judging.judged-of_input}
 use Rattle.pin_rig.specs.Steps.{AreSteps, AreStepsToHalt, at_rest, IsRunOf, PutsOffWhatIsOn}
-use Rattle.pin_rig.proofs.Judging.{judged-of_input}
 
 -- ---- the run
 
@@ -60,9 +41,7 @@ none-run old idle = record { checked_is = refl; stimuli = []; of_inputs = tt; ru
 -- steps, and a run from their state on
 run-on : (inputs others : List Input) (old mid : RigView) (trace rest : List Line) (new : RigView) → old.machine.waiting ≡ [] → AreSteps inputs old trace mid
     → (mid.machine.waiting ≡ [] → IsRunOf others mid rest new) → IsRunOf (inputs ++ others) old (trace ++ rest) new
-run-on [] others old mid trace rest new idle (none, is) later =
-    let from = later (ap (λ (v : RigView). v.machine.waiting) is ∙ idle) in
-    subst (λ ls. IsRunOf others old (ls ++ rest) new) (sym none) (subst (λ v. IsRunOf others v rest new) is from)
+run-on [] others old mid trace rest new idle (none, is) later = search rules
 run-on (input ∷ inputs) others old mid trace rest new idle (next, then_lines, step, steps, is) later =
     subst (λ ls. IsRunOf (input ∷ (inputs ++ others)) old ls new) (sym (ap (λ ls. ls ++ rest) is ∙ append_assoc next.machine.lines then_lines rest))
     (cascade-run input (inputs ++ others) old next (then_lines ++ rest) new idle step.cascade (run-on inputs others next mid then_lines rest new step.cascade.settles steps later))
@@ -92,13 +71,7 @@ steps-taken inputs old trace new steps = taken-tells (commands_of trace) old.boa
 
 pub halt-taken : (inputs : List Input) (last : Input) (old : RigView) (trace shown : List Line) (new : RigView) → AreStepsToHalt inputs last old trace shown new
     → TellsMore (commands_of shown) old.board.told new.board.told × ((later : List Line) × (trace ≡ shown ++ later))
-halt-taken inputs last old trace shown new h =
-    let all =
-    subst (λ cs. HasTakenAll cs old.board h.halt.board) (sym (ap commands_of h.shown_is ∙ commands-append h.earlier new.lines))
-    (taken-append (commands_of h.earlier) (commands_of new.lines) old.board h.mid.board h.halt.board (steps-board inputs old h.earlier h.mid h.steps) h.halt.taken) in (
-      subst (TellsMore (commands_of shown) old.board.told) (sym h.halt.not_taken.list) (taken-tells (commands_of shown) old.board h.halt.board all),
-      (h.halt.line ∷ h.halt.later, h.trace_is ∙ ap (λ ls. h.earlier ++ ls) h.halt.lines_are ∙ sym (append_assoc h.earlier new.lines (h.halt.line ∷ h.halt.later)) ∙ ap (λ ls. ls ++ h.halt.line ∷ h.halt.later) (sym h.shown_is)),
-    )
+halt-taken inputs last old trace shown new h = search (rules, commands-append, taken-append, steps-board, taken-tells, append_assoc)
 
 -- ---- the guard of what was sent
 
@@ -151,10 +124,7 @@ module _ (c : CheckedView) (board : BoardView) (accepted : IsAccepted c) where
   limits = limits_of c.plan
 
   pub steps-follow : (inputs : List Input) (trace : List Line) (new : RigView) → AreSteps inputs (at_rest c board) trace new → Follows limits (sendings trace) new.sent new.machine.moment
-  steps-follow inputs trace new steps =
-      let ran = steps-run inputs (at_rest c board) trace new refl steps in
-      subst (λ s. Follows limits (sendings trace) s new.machine.moment) (sym (steps-agree inputs (at_rest c board) trace new refl steps))
-      (follows-run c.plan accepted.limits accepted.valid ran.stimuli trace new.machine ran.run)
+  steps-follow inputs trace new steps = search (rules, steps-run, steps-agree, follows-run)
 
   pub halt-follow : (inputs : List Input) (last : Input) (trace shown : List Line) (new : RigView) → AreStepsToHalt inputs last (at_rest c board) trace shown new → Follows limits (sendings shown) new.sent new.machine.moment
   halt-follow inputs last trace shown new h =
@@ -177,7 +147,4 @@ module _ (c : CheckedView) (board : BoardView) (accepted : IsAccepted c) where
 -- ---- what is put off at the end
 
 pub off-by_commands : (c : CheckedView) (rig : RigView) (shown : List Line) → Follows (limits_of c.plan) (sendings shown) rig.sent rig.machine.moment → PutsOffWhatIsOn rig shown
-off-by_commands c rig shown follows =
-    let now = rig.machine.moment in
-    let on : (coil : CoilId) → is_on_at now (coil_at rig.sent coil) ≡ is_on (sendings shown) coil now = λ coil. sym ((follows.each coil).on now (omega arith)) in
-    (λ i. filter (λ coil. on coil i || is_faulted rig.faulted coil) (coil_numbers rig.checked.plan))
+off-by_commands c rig shown follows = search rules

@@ -1,20 +1,12 @@
 -- Which device may take the place of another one, what comes out, and that exchanges leave the steps as they are.
 use Rattle.std.specs.Prelude.{◌≡◌, ◌≢◌, ℕ, ◌<◌, ◌≤◌, None, List, [], ◌∷◌, ◌++◌, length, codes}
-use Rattle.plan_tables.specs.PlanView.{row_at}
-use Rattle.plan_tables.specs.declared.devices.DeviceRow.{DeviceRow}
-use Rattle.plan_tables.specs.declared.devices.RowId.{RowId}
-use Rattle.device_objects.specs.declared.state.DeviceState.{DeviceState}
+use Rattle.plan_tables.specs.{PlanView.row_at, declared.devices.{DeviceRow.DeviceRow, RowId.RowId}}
+use Rattle.device_objects.specs.{declared.state.{DeviceState.DeviceState, Eject.TheVariants.Idle}, DeviceStep.due_of}
 use Rattle.device_objects.specs.declared.state.DeviceState.TheVariants as states
-use Rattle.device_objects.specs.declared.state.Eject.TheVariants.{Idle}
-use Rattle.device_objects.specs.DeviceStep.{due_of}
-use Rattle.written_machine.specs.declared.line.Line.{Line}
-use Rattle.written_machine.specs.Machine.{device_at, world_of}
+use Rattle.written_machine.specs.{declared.line.Line.Line, Machine.{device_at, world_of}}
 use Rattle.machine_core.specs.Stopping.{stopped_state}
-use Rattle.pin_rig.specs.declared.exchange.Refusal.{Refusal}
-use Rattle.pin_rig.specs.declared.exchange.Refusal.TheVariants.{Halted, NoSuchRow, WrongRow, WrongState}
-use Rattle.pin_rig.specs.declared.input.Input.{Input}
-use Rattle.pin_rig.specs.Rig.{RigView, RigStep}
-use Rattle.pin_rig.specs.Steps.{AreSteps}
+use Rattle.pin_rig.specs.declared.exchange.Refusal.{Refusal, TheVariants.{Halted, NoSuchRow, WrongRow, WrongState}}
+use Rattle.pin_rig.specs.{declared.input.Input.Input, Rig.{RigView, RigStep}, Steps.AreSteps}
 
 -- its number
 abbrev pub refusal_number : Refusal → ℕ

@@ -1,14 +1,11 @@
 -- What a rig holds, and what is returned for an input.
 use Rattle.std.specs.Prelude.{◌≡◌, ℕ, ◌<◌, ◌≤◌, ◌^◌, None, Result, Ok, Err, List, length}
-use Rattle.written_machine.specs.Accepted.{IsAccepted}
-use Rattle.written_machine.specs.CheckedView.{CheckedView}
-use Rattle.written_machine.specs.Run.{Stimulus, IsReached}
+use Rattle.written_machine.specs.{Accepted.IsAccepted, CheckedView.CheckedView}
+use Rattle.written_machine.specs.{Run.{Stimulus, IsReached}, declared.line.Line.Line}
 use Rattle.coil_driver.specs.Driver.{DriverView}
 use Rattle.machine_core.specs.declared.stimulus.Stimulus.{Stimulus as HeldStimulus}
-use Rattle.machine_core.specs.Core.{CoreView, IsWhole}
-use Rattle.machine_core.specs.Stimuli.{stimulus_view}
+use Rattle.machine_core.specs.{Core.{CoreView, IsWhole}, Stimuli.stimulus_view}
 use Rattle.pin_rig.specs.declared.input.StepFault.{StepFault}
-use Rattle.written_machine.specs.declared.line.Line.{Line}
 
 -- what is returned for a stimulus, or for why there is none
 abbrev pub GivesStimulus : Result HeldStimulus StepFault → Result Stimulus StepFault → Type 0

@@ -1,15 +1,12 @@
 -- What holds once the lines that a step lends are given back.
 use Rattle.std.specs.Prelude.{◌≡◌, List, [], Result, MatchResult}
-use Rattle.std.specs.Borrow.{Bor, Fml, MutBor, RattleType}
-use Rattle.std.specs.Io.BufRead.{Rests}
+use Rattle.std.specs.{Borrow.{Bor, Fml, MutBor, RattleType}, Io.BufRead.Rests}
 use mir.Syntax.{named}
 use Rattle.coil_guard.specs.declared.board.Board.{Ghosts as BoardGhosts}
 use Rattle.device_objects.specs.declared.device.Device.{Ghosts as DeviceGhosts}
 use Rattle.written_machine.specs.declared.line.Line.{Line}
-use Rattle.pin_rig.specs.contracts.rig.Rig.{the_row}
-use Rattle.pin_rig.specs.declared.input.Input.{Input}
-use Rattle.pin_rig.specs.declared.input.StepFault.{StepFault}
-use Rattle.pin_rig.specs.Rig.{RigView, RigStep, HasFailed}
+use Rattle.pin_rig.specs.{contracts.rig.Rig.the_row, Rig.{RigView, RigStep, HasFailed}}
+use Rattle.pin_rig.specs.declared.input.{Input.Input, StepFault.StepFault}
 
 -- after a step the lines are those of the new state
 abbrev pub IsStepped : Input → RigView → RigView → Result (Bor (List Line)) StepFault → Type 0

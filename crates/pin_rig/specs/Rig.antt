@@ -2,23 +2,15 @@
 use Rattle.std.specs.Prelude.{◌≡◌, ◌≢◌, ◌⊎◌, ℕ, ◌<◌, ◌≤◌, ◌-◌, ◌^◌, nat_lt, if◌then◌else◌, Option, Some, None, Result, Ok, Err, List, [], ◌∷◌, ◌++◌, length}
 use Rattle.std.specs.Result.{result_and}
 use Rattle.plan_tables.specs.declared.entries.CoilId.{CoilId}
-use Rattle.coil_guard.specs.declared.command.Command.{Command}
-use Rattle.coil_guard.specs.declared.state.CoilState.{CoilState}
-use Rattle.coil_guard.specs.SentCommands.{coil_of}
-use Rattle.written_machine.specs.declared.line.Line.{Line}
+use Rattle.coil_guard.specs.{declared.{command.Command.Command, state.CoilState.CoilState}, SentCommands.coil_of}
+use Rattle.written_machine.specs.{declared.line.Line.Line, NextAlarm.{next_alarm, is_due_by}}
 use Rattle.written_machine.specs.declared.line.Happening.TheVariants as lines
-use Rattle.written_machine.specs.CheckedView.{CheckedView}
-use Rattle.written_machine.specs.Machine.{Machine}
-use Rattle.written_machine.specs.EventStep.{EventSteps}
+use Rattle.written_machine.specs.{CheckedView.CheckedView, Machine.Machine, EventStep.EventSteps, PlanOrder.settled}
 use Rattle.written_machine.specs.Run.{Source, source_due, Stimulus, SwitchChange, Alarm, Wait, IsAllowed, begin, IsReached}
-use Rattle.written_machine.specs.NextAlarm.{next_alarm, is_due_by}
-use Rattle.written_machine.specs.PlanOrder.{settled}
 use Rattle.coil_driver.specs.Board.{BoardView, HasTakenAll, HasNotTaken, commands_of, after_lines}
-use Rattle.pin_rig.specs.declared.input.Input.{Input}
+use Rattle.pin_rig.specs.{declared.input.{Input.Input, StepFault.StepFault}, Refused.{is_too_late, admitted}}
 use Rattle.pin_rig.specs.declared.input.Input.TheVariants as inputs
-use Rattle.pin_rig.specs.declared.input.StepFault.{StepFault}
 use Rattle.pin_rig.specs.declared.input.StepFault.TheVariants as faults
-use Rattle.pin_rig.specs.Refused.{is_too_late, admitted}
 
 pub record RigView : Type 0 where
   -- what was accepted, and the state of its machine

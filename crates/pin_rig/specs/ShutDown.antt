@@ -1,9 +1,7 @@
 -- Which coils are put off when a rig ends.
 use Rattle.std.specs.Prelude.{◌||◌, Bool, List, filter}
-use Rattle.plan_tables.specs.PlanView.{coil_numbers}
-use Rattle.plan_tables.specs.declared.entries.CoilId.{CoilId}
-use Rattle.coil_guard.specs.CoilStep.{is_on_at}
-use Rattle.coil_guard.specs.Coils.{coil_at}
+use Rattle.plan_tables.specs.{PlanView.coil_numbers, declared.entries.CoilId.CoilId}
+use Rattle.coil_guard.specs.{CoilStep.is_on_at, Coils.coil_at}
 use Rattle.coil_driver.specs.ShutDown.{is_faulted}
 use Rattle.pin_rig.specs.Rig.{RigView}
 

@@ -1,23 +1,14 @@
 -- Steps, one after another.
 use Rattle.std.specs.Prelude.{◌≡◌, ◌↔◌, ◌||◌, ℕ, Bool, None, List, [], ◌∷◌, ◌++◌, filter, Ok}
-use Rattle.plan_tables.specs.PlanView.{coil_numbers}
-use Rattle.plan_tables.specs.declared.entries.CoilId.{CoilId}
-use Rattle.coil_guard.specs.Asked.{limits_of}
-use Rattle.coil_guard.specs.Coils.{all_off}
-use Rattle.coil_guard.specs.Follows.{Follows}
-use Rattle.coil_guard.specs.SentCommands.{is_on}
-use Rattle.written_machine.specs.declared.line.Line.{Line}
-use Rattle.written_machine.specs.CheckedView.{CheckedView}
-use Rattle.written_machine.specs.Accepted.{IsAccepted}
-use Rattle.written_machine.specs.Machine.{initial}
+use Rattle.plan_tables.specs.{PlanView.coil_numbers, declared.entries.CoilId.CoilId}
+use Rattle.coil_guard.specs.{Asked.limits_of, Coils.all_off, Follows.Follows, SentCommands.is_on}
+use Rattle.written_machine.specs.{declared.line.Line.Line, Machine.initial, Sent.sendings}
+use Rattle.written_machine.specs.{CheckedView.CheckedView, Accepted.IsAccepted}
 use Rattle.written_machine.specs.Run.{Source, Stimulus, SwitchChange, Alarm, Wait, IsAllowed, IsRun}
-use Rattle.written_machine.specs.Sent.{sendings}
-use Rattle.coil_driver.specs.Board.{BoardView, commands_of, TellsMore}
-use Rattle.coil_driver.specs.ShutDown.{is_faulted}
-use Rattle.pin_rig.specs.declared.input.Input.{Input}
+use Rattle.coil_driver.specs.{Board.{BoardView, commands_of, TellsMore}, ShutDown.is_faulted}
+use Rattle.pin_rig.specs.{declared.input.Input.Input, ShutDown.coils_to_put_off}
 use Rattle.pin_rig.specs.declared.input.Input.TheVariants as inputs
 use Rattle.pin_rig.specs.Rig.{RigView, stimulus_at, RigStep, RigHalt}
-use Rattle.pin_rig.specs.ShutDown.{coils_to_put_off}
 
 -- each input is a step, and the trace is the lines of all, step by step
 abbrev pub AreSteps : List Input → RigView → List Line → RigView → Type 0

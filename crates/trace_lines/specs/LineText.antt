@@ -1,17 +1,12 @@
 -- What the lines of a trace say, as bytes.
 use Rattle.std.specs.Prelude.{ℕ, ℤ, Bool, if◌then◌else◌, List, [], ◌∷◌, ◌++◌, codes}
-use Rattle.std.specs.List.{flat_map}
-use Rattle.std.specs.Fmt.{decimal, signed_decimal}
+use Rattle.std.specs.{List.flat_map, Fmt.{decimal, signed_decimal}}
 use Rattle.plan_tables.specs.PlanView.{PlanView, mode_at, name_of_event, name_of_variable, switch_at, coil_at}
-use Rattle.plan_tables.specs.declared.entries.CoilId.{CoilId}
-use Rattle.plan_tables.specs.declared.entries.Owner.{Owner}
+use Rattle.plan_tables.specs.declared.entries.{CoilId.CoilId, Owner.Owner}
 use Rattle.plan_tables.specs.declared.entries.Owner.TheVariants as owners
-use Rattle.coil_guard.specs.declared.command.Command.{Command}
-use Rattle.coil_guard.specs.declared.command.Command.TheVariants.{Pulse, Enable, Disable}
+use Rattle.coil_guard.specs.declared.command.Command.{Command, TheVariants.{Pulse, Enable, Disable}}
 use Rattle.coil_guard.specs.SentCommands.{coil_of}
-use Rattle.written_machine.specs.declared.line.BallCounts.{BallCounts}
-use Rattle.written_machine.specs.declared.line.Line.{Line}
-use Rattle.written_machine.specs.declared.line.Happening.{Happening}
+use Rattle.written_machine.specs.declared.line.{BallCounts.BallCounts, Line.Line, Happening.Happening}
 use Rattle.written_machine.specs.declared.line.Happening.TheVariants as happenings
 
 -- the name of a mode, or `machine`

@@ -1,6 +1,5 @@
 -- Texts on a page, and those that go from it to a writer.
-use Rattle.std.specs.Prelude.{◌≡◌, ℕ, ◌+◌, Option, List, ◌++◌, length, take}
-use Rattle.std.specs.Io.KnownBytes.{Appends, append_known}
+use Rattle.std.specs.{Prelude.{◌≡◌, ℕ, ◌+◌, Option, List, ◌++◌, length, take}, Io.KnownBytes.{Appends, append_known}}
 
 -- what was written, and then what is on the page, has grown by the text
 abbrev pub Puts : Option (List ℕ) → List ℕ → Option (List ℕ) → List ℕ → List ℕ → Type 0

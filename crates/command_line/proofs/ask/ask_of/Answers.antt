@@ -1,9 +1,7 @@
 use Rattle.std.proofs.Common.{◌≡◌, Some, IsSome, option_map, codes, sym, ap, ap₂, ◌∙◌, subst}
 use Rattle.std.proofs.lemmas.Result.{IfErr-weaker, IfOk-weaker}
-use Rattle.clap.specs.Words.{found_of, rows_of, subcommand_rows_of}
-use Rattle.clap.proofs.WalkLemmas.{first_value-rows}
-use Rattle.command_line.specs.CommandLine.{asked_by, asked_of}
-use Rattle.command_line.proofs.Words.{met_together}
+use Rattle.clap.{specs.Words.{found_of, rows_of, subcommand_rows_of}, proofs.WalkLemmas.first_value-rows}
+use Rattle.command_line.{specs.CommandLine.{asked_by, asked_of}, proofs.Words.met_together}
 use Rattle.command_line.proofs.ask.ask_of.Goals as goal
 
 pub returns-in-Some-clause-asked : goal.returns-in-Some-clause-asked

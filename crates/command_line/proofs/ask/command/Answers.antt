@@ -1,7 +1,6 @@
 use Rattle.std.proofs.Common.{◌≡◌, [], ◌∷◌, Some, None, Global, map, string_bytes, codes}
-use Rattle.command_line.specs.CommandLine.{check, verify, play}
+use Rattle.command_line.{specs.CommandLine.{check, verify, play}, proofs.Words.asks}
 use Rattle.command_line.proofs.Words as words
-use Rattle.command_line.proofs.Words.{asks}
 use Rattle.command_line.proofs.ask.command.Goals as goal
 
 pub returns-clause-checks : goal.returns-clause-checks

@@ -1,5 +1,4 @@
-use Rattle.std.proofs.Common.{◌≡◌, ap, ap₂, ◌∙◌}
-use Rattle.std.proofs.lemmas.Result.{IfOk-weaker}
+use Rattle.std.proofs.{Common.{◌≡◌, ap, ap₂, ◌∙◌}, lemmas.Result.IfOk-weaker}
 use Rattle.clap.specs.Words.{App, app_of, with_subcommand}
 use Rattle.command_line.specs.CommandLine.{check_app, verify_app, program_app, pinball_app}
 use Rattle.command_line.proofs.ask.pinball.Goals as goal

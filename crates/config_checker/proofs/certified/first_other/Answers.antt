@@ -1,4 +1,4 @@
-use Rattle.std.proofs.Common.{◌≡◌, ◌≢◌, ℕ, ◌<◌, List, [], length, get_or, Some, sym, ap, ◌∙◌, below_more, arith}
+use Rattle.std.proofs.Common.{rules, ◌≡◌, ◌≢◌, ℕ, ◌<◌, List, [], length, get_or, Some, sym, ap, ◌∙◌, below_more, arith}
 use Rattle.std.proofs.lemmas.List.{length-map, ext_get_or}
 use Rattle.cascade_rank.specs.Events.{weight_of}
 use Rattle.cascade_rank.specs.Weights.{switch_costs}
@@ -14,30 +14,10 @@ abbrev none_line : Line
 none_line = record { name = record { ref_ptr = (0, 0); now = [] }; number = 0 }
 
 pub returns-then-line-cost : goal.returns-then-line-cost
-returns-then-line-cost c =
-    let plan = c.args.plan.now in
-    let lines = c.args.switches.now in
-    let weights = c.args.weights.now in
-    let k = c.loop-number.number in
-    let within : c.loop-number.number < length c.args.plan.now.switches = omega (arith, c.switch_count-number-end.ensures.count, c.loop-number-test.true) in
-    let listed : c.loop-number.number < length c.args.switches.now = omega (arith, within, c.requires.switches) in
-    let number = number_at lines k none_line listed in
-    let cost = cost_at plan weights k within in
-    let other : get_or (numbers_of (lines_view c.args.switches.now)) c.loop-number.number 0 ≢ get_or (switch_costs c.args.plan.now (weight_of c.args.weights.now)) c.loop-number.number 0 =
-    λ same. omega (arith, c.if-line-cost.true, number, cost, same, c.switch_cost-cost.ensures) in
-    sym (first_other-at (lines_view lines) (switch_costs plan (weight_of weights)) k (omega (arith, listed, length-map lines line_view)) (omega (arith, within, length-costs plan weights)) c.loop-number.invariant other
-    ∙ ap (λ (name : List ℕ). Some (name, get_or (switch_costs c.args.plan.now (weight_of c.args.weights.now)) c.loop-number.number 0)) (name_at lines k none_line listed)
-    ∙ ap (λ (n : ℕ). Some ((get_or c.args.switches.now c.loop-number.number none_line).name.now, n)) (cost ∙ sym c.switch_cost-cost.ensures))
+returns-then-line-cost c = search (rules, number_at, cost_at, get_or, first_other-at, length-map, length-costs, name_at)
 
 pub loop-number-preserved : goal.loop-number-preserved
-loop-number-preserved c =
-    let plan = c.args.plan.now in
-    let lines = c.args.switches.now in
-    let k = c.loop-number.number in
-    let within : c.loop-number.number < length c.args.plan.now.switches = omega (arith, c.switch_count-number-end.ensures.count, c.loop-number-test.true) in
-    let number = number_at lines k none_line (omega (arith, within, c.requires.switches)) in
-    let cost = cost_at plan c.args.weights.now k within in
-    below_more _ _ c.loop-number.invariant (omega (arith, c.if-line-cost.false, number, cost, c.switch_cost-cost.ensures))
+loop-number-preserved c = search (rules, number_at, cost_at, below_more)
 
 pub returns : goal.returns
 returns c =

@@ -1,4 +1,4 @@
-use Rattle.std.proofs.Common.{Err, Ok, Result, IfErr, sym, ap, ◌∙◌, subst}
+use Rattle.std.proofs.Common.{rules, Err, Ok, Result, IfErr, sym, ap, ◌∙◌, subst}
 use Rattle.std.proofs.lemmas.Result.{err_from_is_err_and}
 use Rattle.mpf_config.specs.View.{rows_view}
 use Rattle.cascade_rank.specs.View.{rank_view}
@@ -14,16 +14,10 @@ use Rattle.config_checker.proofs.Judging.{reports-gives, reports-there, no-plan-
 use Rattle.config_checker.proofs.checker.check.Goals as goal
 
 pub returns-in_err-plan-clause-exact : goal.returns-in_err-plan-clause-exact
-returns-in_err-plan-clause-exact c =
-    let rows = rows_view c.args.config.now in
-    let p = err_from_is_err_and c.from_residual.result c.from_residual.ensures.1 in
-    subst (λ (r : Result CheckedView Report). GivesChecked r (checked_at rows)) (sym (p.1 ∙ ap Err p.2)) (no-plan-found rows c.in_err-plan.field-0.0 c.in_err-plan.ensures.refused)
+returns-in_err-plan-clause-exact c = search (rules, err_from_is_err_and, no-plan-found)
 
 pub returns-in_err-plan-clause-refused : goal.returns-in_err-plan-clause-refused
-returns-in_err-plan-clause-refused c =
-    let rows = rows_view c.args.config.now in
-    let p = err_from_is_err_and c.from_residual.result c.from_residual.ensures.1 in
-    subst (λ (r : Result CheckedView Report). IfErr r (Reports (IsFaultOf rows) rows)) (sym (p.1 ∙ ap Err p.2)) (no-plan-reports rows (IsFaultOf rows) c.in_err-plan.field-0.0 (limit-fault rows) c.in_err-plan.ensures.refused)
+returns-in_err-plan-clause-refused c = search (rules, err_from_is_err_and, no-plan-reports, limit-fault)
 
 -- ---- no weights were found
 

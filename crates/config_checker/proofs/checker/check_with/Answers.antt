@@ -1,4 +1,4 @@
-use Rattle.std.proofs.Common.{Err, Ok, Result, IfErr, sym, ap, ◌∙◌, subst}
+use Rattle.std.proofs.Common.{rules, Err, Ok, Result, IfErr, sym, ap, ◌∙◌, subst}
 use Rattle.std.proofs.lemmas.Result.{err_from_is_err_and}
 use Rattle.mpf_config.specs.View.{rows_view}
 use Rattle.config_checker.specs.declared.report.Report.{Report}
@@ -15,36 +15,18 @@ use Rattle.config_checker.proofs.Judging.{no-plan-given, no-plan-reports, limit-
 use Rattle.config_checker.proofs.checker.check_with.Goals as goal
 
 pub returns-in_err-plan-clause-exact : goal.returns-in_err-plan-clause-exact
-returns-in_err-plan-clause-exact c =
-    let rows = rows_view c.args.config.now in
-    let text = c.args.certificate.now in
-    let p = err_from_is_err_and c.from_residual.result c.from_residual.ensures.1 in
-    subst (λ (r : Result CheckedView Report). GivesChecked r (checked_with_at rows text)) (sym (p.1 ∙ ap Err p.2)) (no-plan-given rows text c.in_err-plan.field-0.0 c.in_err-plan.ensures.refused)
+returns-in_err-plan-clause-exact c = search (rules, err_from_is_err_and, no-plan-given)
 
 pub returns-in_err-plan-clause-refused : goal.returns-in_err-plan-clause-refused
-returns-in_err-plan-clause-refused c =
-    let rows = rows_view c.args.config.now in
-    let there = IsFaultWith rows c.args.certificate.now in
-    let p = err_from_is_err_and c.from_residual.result c.from_residual.ensures.1 in
-    subst (λ (r : Result CheckedView Report). IfErr r (Reports there rows)) (sym (p.1 ∙ ap Err p.2)) (no-plan-reports rows there c.in_err-plan.field-0.0 (limit-fault_with rows c.args.certificate.now) c.in_err-plan.ensures.refused)
+returns-in_err-plan-clause-refused c = search (rules, err_from_is_err_and, no-plan-reports, limit-fault_with)
 
 -- ---- the certificate is refused
 
 pub returns-in_err-weights-clause-exact : goal.returns-in_err-weights-clause-exact
-returns-in_err-weights-clause-exact c =
-    let rows = rows_view c.args.config.now in
-    let text = c.args.certificate.now in
-    let p = err_from_is_err_and c.from_residual-in_err-weights.result c.from_residual-in_err-weights.ensures.1 in
-    subst (λ (r : Result CheckedView Report). GivesChecked r (checked_with_at rows text)) (sym (p.1 ∙ ap Err p.2))
-    (given-checked rows c.in_ok-plan.ensures.none c.in_ok-plan.plan c.in_ok-plan.ensures.plan text c.in_err-weights.field-0.0 c.in_err-weights.ensures)
+returns-in_err-weights-clause-exact c = search (rules, err_from_is_err_and, given-checked)
 
 pub returns-in_err-weights-clause-refused : goal.returns-in_err-weights-clause-refused
-returns-in_err-weights-clause-refused c =
-    let rows = rows_view c.args.config.now in
-    let text = c.args.certificate.now in
-    let p = err_from_is_err_and c.from_residual-in_err-weights.result c.from_residual-in_err-weights.ensures.1 in
-    subst (λ (r : Result CheckedView Report). IfErr r (Reports (IsFaultWith rows text) rows)) (sym (p.1 ∙ ap Err p.2))
-    (given-fault rows c.in_ok-plan.ensures.none c.in_ok-plan.plan c.in_ok-plan.ensures.plan text c.in_err-weights.field-0.0 c.in_err-weights.ensures)
+returns-in_err-weights-clause-refused c = search (rules, err_from_is_err_and, given-fault)
 
 -- ---- accepted
 
@@ -54,8 +36,7 @@ new-requires c =
     plan_accepted (rows_view c.args.config.now) c.args.config.now.lists_short c.args.config.now.few_modes c.in_ok-plan.ensures.none _ c.in_ok-plan.ensures.plan certified.0
 
 pub returns-clause-exact : goal.returns-clause-exact
-returns-clause-exact c =
-    certified-checked (rows_view c.args.config.now) c.in_ok-plan.ensures.none c.in_ok-plan.plan c.in_ok-plan.ensures.plan c.args.certificate.now ∙ c.in_ok-weights.ensures ∙ ap Ok (sym c.new.ensures)
+returns-clause-exact c = search (rules, certified-checked)
 
 pub returns-clause-text : goal.returns-clause-text
 returns-clause-text c =

@@ -1,4 +1,4 @@
-use Rattle.std.proofs.Common.{sym, ap, subst, ◌∙◌}
+use Rattle.std.proofs.Common.{rules, sym, ap, subst, ◌∙◌}
 use Rattle.std.specs.Prelude.{Result, Ok, Err, IfErr, OnOk}
 use Rattle.std.proofs.lemmas.Result.{err_from_is_err_and, IfErr-weaker}
 use Rattle.plan_tables.specs.PlanView.{PlanView}
@@ -8,17 +8,13 @@ use Rattle.config_checker.proofs.Judging.{no-plan-own, no-plan-limit}
 use Rattle.config_checker.proofs.checker.plan_of_definitions.Goals as goal
 
 pub returns-in_err-refuse_own-clause-refused : goal.returns-in_err-refuse_own-clause-refused
-returns-in_err-refuse_own-clause-refused c =
-    let rows = c.args.definitions.now in
-    let p = err_from_is_err_and c.from_residual.result c.from_residual.ensures.1 in
-    subst (λ (r : Result PlanView Report). IfErr r (λ report. ReportsNoPlan rows report)) (sym (p.1 ∙ ap Err p.2)) (no-plan-own rows c.in_err-refuse_own.field-0.0 c.in_err-refuse_own.ensures.own)
+returns-in_err-refuse_own-clause-refused c = search (rules, err_from_is_err_and, no-plan-own)
 
 pub returns-clause-none : goal.returns-clause-none
 returns-clause-none c = always c.plan_within.result c.in_ok-refuse_own.ensures.none
   where
     always : {X E : Type 0} {P : Type 0} (r : Result X E) → P → OnOk r P
-    always (Ok x) p = p
-    always (Err e) p = tt
+    always x1 p = search rules
 
 pub returns-clause-refused : goal.returns-clause-refused
 returns-clause-refused c = IfErr-weaker c.plan_within.result _ _ (λ report one. no-plan-limit c.args.definitions.now report c.in_ok-refuse_own.ensures.none one) c.plan_within.ensures.limit

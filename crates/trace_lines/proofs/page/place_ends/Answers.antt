@@ -1,5 +1,4 @@
-use Rattle.std.proofs.Common.{◌-◌, length, arith}
-use Rattle.std.proofs.lemmas.List.{take_rest}
+use Rattle.std.proofs.{Common.{◌-◌, length, arith}, lemmas.List.take_rest}
 use Rattle.trace_lines.proofs.Pages.{placed-ends}
 use Rattle.trace_lines.proofs.page.place_ends.Goals as goal
 

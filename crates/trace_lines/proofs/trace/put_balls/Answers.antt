@@ -1,8 +1,5 @@
-use Rattle.std.proofs.Common.{[], ◌∷◌, ◌++◌, ◌∙◌, codes}
-use Rattle.std.specs.Fmt.{decimal}
-use Rattle.std.proofs.KnownBytes.{Appends-trans}
-use Rattle.trace_lines.proofs.Writing.{last-piece}
-use Rattle.trace_lines.proofs.Fronts.{four-counts}
+use Rattle.std.{proofs.{Common.{[], ◌∷◌, ◌++◌, ◌∙◌, codes}, KnownBytes.Appends-trans}, specs.Fmt.decimal}
+use Rattle.trace_lines.proofs.{Writing.last-piece, Fronts.four-counts}
 use Rattle.trace_lines.proofs.trace.put_balls.Goals as goal
 
 pub returns : goal.returns

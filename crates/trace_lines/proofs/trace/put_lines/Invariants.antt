@@ -1,7 +1,5 @@
-use Rattle.std.proofs.Common.{take}
-use Rattle.std.specs.List.{flat_map}
-use Rattle.trace_lines.specs.Pages.{Puts}
-use Rattle.trace_lines.specs.LineText.{line_text}
+use Rattle.std.{proofs.Common.take, specs.List.flat_map}
+use Rattle.trace_lines.specs.{Pages.Puts, LineText.line_text}
 use Rattle.trace_lines.proofs.trace.put_lines.Given as goal
 
 -- the lines so far are put on the page

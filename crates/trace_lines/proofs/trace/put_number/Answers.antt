@@ -1,6 +1,5 @@
 use Rattle.std.proofs.Common.{rules, ◌≡◌, ◌+◌, ◌-◌, ◌++◌, ◌∷◌, [], take, drop, ◌∙◌, arith, take-take}
-use Rattle.std.specs.Fmt.{decimal}
-use Rattle.std.proofs.lemmas.Fmt.{decimal_digit, length-decimal-le}
+use Rattle.std.{specs.Fmt.decimal, proofs.lemmas.Fmt.{decimal_digit, length-decimal-le}}
 use Rattle.trace_lines.proofs.Fronts.{front-part}
 use Rattle.trace_lines.proofs.trace.put_number.Goals as goal
 

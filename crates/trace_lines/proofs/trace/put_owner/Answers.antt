@@ -1,8 +1,6 @@
-use Rattle.std.proofs.Common.{◌≡◌, ℕ, ◌+◌, ◌++◌, codes, take, ap, ◌∙◌, refl}
-use Rattle.std.specs.Fmt.{decimal}
+use Rattle.std.{proofs.Common.{◌≡◌, ℕ, ◌+◌, ◌++◌, codes, take, ap, ◌∙◌, refl}, specs.Fmt.decimal}
 use Rattle.plan_tables.specs.PlanView.{mode_at}
-use Rattle.trace_lines.proofs.Writing.{last-piece}
-use Rattle.trace_lines.proofs.Fronts.{front-to-blank}
+use Rattle.trace_lines.proofs.{Writing.last-piece, Fronts.front-to-blank}
 use Rattle.trace_lines.proofs.trace.put_owner.Goals as goal
 
 pub returns-in_ok-put_start-in-Mode : goal.returns-in_ok-put_start-in-Mode

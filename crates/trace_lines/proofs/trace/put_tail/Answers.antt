@@ -1,6 +1,5 @@
 use Rattle.std.proofs.Common.{codes, refl}
-use Rattle.trace_lines.proofs.Writing.{last-piece}
-use Rattle.trace_lines.specs.LineText.{balls_text}
+use Rattle.trace_lines.{proofs.Writing.last-piece, specs.LineText.balls_text}
 use Rattle.trace_lines.proofs.trace.put_tail.Goals as goal
 
 pub returns-in_ok-put-in-Balls : goal.returns-in_ok-put-in-Balls

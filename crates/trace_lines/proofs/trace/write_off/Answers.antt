@@ -1,5 +1,4 @@
-use Rattle.trace_lines.proofs.Writing.{one-more-piece}
-use Rattle.trace_lines.specs.LineText.{off_text}
+use Rattle.trace_lines.{proofs.Writing.one-more-piece, specs.LineText.off_text}
 use Rattle.trace_lines.proofs.trace.write_off.Goals as goal
 
 pub loop-coil-preserved : goal.loop-coil-preserved

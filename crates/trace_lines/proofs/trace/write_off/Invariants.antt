@@ -1,6 +1,4 @@
-use Rattle.std.proofs.Common.{take}
-use Rattle.std.specs.List.{flat_map}
-use Rattle.std.specs.Io.KnownBytes.{Appends}
+use Rattle.std.{proofs.Common.take, specs.{List.flat_map, Io.KnownBytes.Appends}}
 use Rattle.trace_lines.specs.LineText.{off_text}
 use Rattle.trace_lines.proofs.trace.write_off.Given as goal
 

@@ -1,11 +1,7 @@
-use Rattle.std.proofs.Common.{ℕ, subst, sym}
-use Rattle.std.specs.Prelude.{filter}
+use Rattle.std.{proofs.Common.{ℕ, subst, sym}, specs.Prelude.filter}
 use Rattle.plan_tables.specs.PlanView.{PlanView, coil_numbers}
-use Rattle.coil_driver.specs.Board.{BoardView, board_view}
-use Rattle.coil_driver.specs.Driver.{is_due_off}
-use Rattle.coil_driver.specs.ShutDown.{ArePutOff}
-use Rattle.pin_rig.specs.Rig.{RigView}
-use Rattle.pin_rig.specs.ShutDown.{coils_to_put_off}
+use Rattle.coil_driver.specs.{Board.{BoardView, board_view}, Driver.is_due_off, ShutDown.ArePutOff}
+use Rattle.pin_rig.specs.{Rig.RigView, ShutDown.coils_to_put_off}
 use Rattle.pin_rig.proofs.rig.Rig.end.Goals as goal
 
 pub returns-clause-off : goal.returns-clause-off

@@ -1,10 +1,7 @@
 use Rattle.std.proofs.Common.{ap, sym, ◌∙◌, subst}
 use Rattle.machine_core.specs.Core.{CoreView}
-use Rattle.pin_rig.specs.Exchange.{MayTakePlace, IsTakenOut}
-use Rattle.pin_rig.specs.Inside.{IsHeld}
-use Rattle.pin_rig.specs.Rig.{RigView}
-use Rattle.pin_rig.proofs.Acting.{rig_of}
-use Rattle.pin_rig.proofs.Exchanging.{may-there, may-row, taken-out}
+use Rattle.pin_rig.specs.{Exchange.{MayTakePlace, IsTakenOut}, Inside.IsHeld, Rig.RigView}
+use Rattle.pin_rig.proofs.{Acting.rig_of, Exchanging.{may-there, may-row, taken-out}}
 use Rattle.pin_rig.proofs.rig.Rig.exchange.Goals as goal
 
 pub exchange-requires-clause-there : goal.exchange-requires-clause-there

@@ -1,9 +1,8 @@
 use Rattle.std.proofs.Common.{rules, ◌≡◌, Some, subst}
 use Rattle.plan_tables.specs.Valid.{IsValid}
 use Rattle.machine_core.specs.Stimuli.{source_view}
-use Rattle.pin_rig.specs.Rig.{RigView}
+use Rattle.pin_rig.{specs.Rig.RigView, proofs.Judging.alarm-judged}
 use Rattle.written_machine.specs.NextAlarm.{next_alarm}
-use Rattle.pin_rig.proofs.Judging.{alarm-judged}
 use Rattle.pin_rig.proofs.rig.Rig.judge_alarm.Goals as goal
 
 pub returns-in_err-check_moment : goal.returns-in_err-check_moment

@@ -1,7 +1,6 @@
 use Rattle.std.proofs.Common.{◌≡◌, Err, map, ap, subst}
 use Rattle.plan_tables.specs.PlanView.{PlanView}
-use Rattle.machine_core.specs.declared.fault.CoreFault.TheVariants.{WrongDevice}
-use Rattle.machine_core.specs.Fit.{IsFirstWrong}
+use Rattle.machine_core.specs.{declared.fault.CoreFault.TheVariants.WrongDevice, Fit.IsFirstWrong}
 use Rattle.pin_rig.proofs.rig.Rig.new.Goals as goal
 
 pub returns-in-Err-clause-wrong : goal.returns-in-Err-clause-wrong

@@ -1,8 +1,6 @@
 use Rattle.std.proofs.Common.{rules, ◌≡◌, ℕ, Some, option_map, subst}
-use Rattle.written_machine.specs.Run.{Source}
-use Rattle.written_machine.specs.NextAlarm.{next_alarm}
-use Rattle.pin_rig.specs.Rig.{IsNextMoment}
-use Rattle.pin_rig.proofs.Judging.{next-moment}
+use Rattle.written_machine.specs.{Run.Source, NextAlarm.next_alarm}
+use Rattle.pin_rig.{specs.Rig.IsNextMoment, proofs.Judging.next-moment}
 use Rattle.pin_rig.proofs.rig.Rig.next_due.Goals as goal
 
 pub returns-in_err-at-clause-least : goal.returns-in_err-at-clause-least

@@ -1,6 +1,5 @@
 use Rattle.std.proofs.Common.{rules, ◌≡◌, ◌+◌, ◌-◌, ℕ, length, take, drop, ap, ◌∙◌, arith, take-take}
-use Rattle.std.proofs.lemmas.Fmt.{length-decimal-le}
-use Rattle.std.specs.Fmt.{decimal}
+use Rattle.std.{proofs.lemmas.Fmt.length-decimal-le, specs.Fmt.decimal}
 use Rattle.trace_lines.proofs.Fronts.{front-part}
 use Rattle.trace_lines.proofs.front.Front.new.Goals as goal
 
