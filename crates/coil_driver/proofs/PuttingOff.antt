@@ -1,17 +1,12 @@
 -- Coils are put off, one after another.
 use Rattle.std.proofs.Common.{◌≡◌, ℕ, suc, ◌+◌, ◌<◌, ◌≤◌, inl, inr, Bool, true, false, List, [], ◌∷◌, ◌++◌, length, take, filter, refl, sym, ap, ap₂, ◌∙◌, subst, length-append, arith}
-use Rattle.std.specs.Prelude.{◌||◌, if◌then◌else◌}
+use Rattle.std.{specs.Prelude.{◌||◌, if◌then◌else◌}, proofs.lemmas.List.Elements.filter-append}
 use Rattle.std.proofs.lemmas.List.{append-nil, take_more, take_all, length-set, get_or-set_other}
-use Rattle.std.proofs.lemmas.List.Elements.{filter-append}
 use Rattle.std.proofs.lemmas.List.FromFn.{length-map-range_with_len, get_or-map-range_with_len}
-use Rattle.plan_tables.specs.PlanView.{PlanView, coil_numbers}
-use Rattle.plan_tables.specs.declared.entries.CoilId.{CoilId}
-use Rattle.coil_guard.specs.declared.command.Command.TheVariants.{Disable}
-use Rattle.coil_guard.specs.Limits.{no_limits}
-use Rattle.coil_guard.specs.CoilStep.{off, is_on_at, disabled}
-use Rattle.coil_guard.specs.Coils.{coil_at, set_coil, after_disable}
-use Rattle.coil_driver.specs.Board.{BoardView, HasTaken, HasNotTaken}
-use Rattle.coil_driver.specs.ShutDown.{is_faulted, ArePutOff}
+use Rattle.plan_tables.specs.{PlanView.{PlanView, coil_numbers}, declared.entries.CoilId.CoilId}
+use Rattle.coil_guard.specs.{declared.command.Command.TheVariants.Disable, Coils.{coil_at, set_coil, after_disable}}
+use Rattle.coil_guard.specs.{Limits.no_limits, CoilStep.{off, is_on_at, disabled}}
+use Rattle.coil_driver.specs.{Board.{BoardView, HasTaken, HasNotTaken}, ShutDown.{is_faulted, ArePutOff}}
 use Rattle.coil_driver.specs.Driver.{DriverView, is_due_off, HasPutOff}
 
 -- ---- one coil more

@@ -1,39 +1,26 @@
 -- The lines of a cascade have just the commands that its guard has sent.
 use Rattle.std.proofs.Common.{◌≡◌, ℕ, ◌<◌, ◌^◌, inl, inr, Bool, true, false, cond, if◌then◌else◌, List, [], ◌∷◌, ◌++◌, length, refl, sym, ap, ◌∙◌, subst, arith}
-use Rattle.std.specs.Prelude.{◌&&◌, nat_le, nat_lt, ◌||◌}
-use Rattle.std.specs.List.{All}
+use Rattle.std.specs.{Prelude.{◌&&◌, nat_le, nat_lt, ◌||◌}, List.All}
 use Rattle.std.proofs.lemmas.Bool.{cases_lt, and_parts, cond_both, leb-true, ltb-true, false≢true}
-use Rattle.std.proofs.lemmas.List.{get_or_past}
-use Rattle.std.proofs.lemmas.List.Elements.{All-cons}
-use Rattle.plan_tables.specs.PlanView.{PlanView, work_of}
-use Rattle.plan_tables.specs.declared.entries.Owner.{Owner}
-use Rattle.plan_tables.specs.declared.entries.CoilId.{CoilId}
-use Rattle.coil_guard.specs.declared.command.Command.{Command}
+use Rattle.std.proofs.lemmas.List.{get_or_past, Elements.All-cons}
+use Rattle.plan_tables.specs.{PlanView.{PlanView, work_of}, declared.entries.{Owner.Owner, CoilId.CoilId}}
+use Rattle.coil_guard.specs.declared.{command.{Command.Command, Answer.Answer}, state.CoilState.CoilState}
 use Rattle.coil_guard.specs.declared.command.Command.TheVariants as commands
-use Rattle.coil_guard.specs.declared.command.Answer.{Answer}
 use Rattle.coil_guard.specs.declared.command.Answer.TheVariants as answers
-use Rattle.coil_guard.specs.declared.state.CoilState.{CoilState}
-use Rattle.coil_guard.specs.Limits.{no_limits}
+use Rattle.coil_guard.specs.{Limits.no_limits, SentCommands.coil_of}
 use Rattle.coil_guard.specs.CoilStep.{off, is_on_at, takes_pulse, pulsed, takes_enable, enabled, disabled}
-use Rattle.coil_guard.specs.Coils.{coil_at, set_coil}
-use Rattle.coil_guard.specs.SentCommands.{coil_of}
-use Rattle.coil_guard.specs.Asked.{after_asking, answer_asking}
+use Rattle.coil_guard.specs.{Coils.{coil_at, set_coil}, Asked.{after_asking, answer_asking}}
 use Rattle.ball_devices.specs.Bookings.{LedgerCall, after_call, booked, can_book}
 use Rattle.cascade_rank.specs.Cost.{Cost}
-use Rattle.written_machine.specs.declared.line.Line.{Line}
-use Rattle.written_machine.specs.declared.line.Happening.{Happening}
+use Rattle.written_machine.specs.declared.line.{Line.Line, Happening.Happening}
 use Rattle.written_machine.specs.declared.line.Happening.TheVariants as lines
 use Rattle.written_machine.specs.Machine.{Machine, write, set_ledger, told, ask_coil, book, counts_of}
-use Rattle.written_machine.specs.EventStep.{taken, EventStep, EventSteps}
-use Rattle.written_machine.specs.Run.{Stimulus, begin}
+use Rattle.written_machine.specs.{EventStep.{taken, EventStep, EventSteps}, Run.{Stimulus, begin}}
 use Rattle.written_machine.specs.Moves.{Move, Wrote, Sent, Began, Ended, Asked, Booked, do_move, Licence, MayDo, Does, IsNoCommand, TakesPart, Begins, ordinary, working}
-use Rattle.written_machine.proofs.Does.{start-by, stop-by, does-keeps}
-use Rattle.written_machine.proofs.Parts.{does-before, does-after, does-begin}
-use Rattle.written_machine.proofs.Held.{asked-count}
-use Rattle.written_machine.proofs.Keeps.{step-keeps, steps-keep}
+use Rattle.written_machine.proofs.{Does.{start-by, stop-by, does-keeps}, Parts.{does-before, does-after, does-begin}}
+use Rattle.written_machine.proofs.{Held.asked-count, Keeps.{step-keeps, steps-keep}}
 use Rattle.coil_driver.specs.Board.{after_happening, after_line, after_lines}
-use Rattle.coil_driver.specs.Driver.{IsToCoil, IsSendable}
-use Rattle.coil_driver.specs.Agrees.{IsSent, AreSent, Agrees}
+use Rattle.coil_driver.specs.{Driver.{IsToCoil, IsSendable}, Agrees.{IsSent, AreSent, Agrees}}
 
 -- ---- one command
 

@@ -1,13 +1,10 @@
 -- The commands of lines are sent, one after another.
 use Rattle.std.proofs.Common.{◌≡◌, ℕ, ◌+◌, ◌<◌, Option, None, Some, Ok, List, [], ◌∷◌, ◌++◌, length, take, get_or, sym, ap, ◌∙◌, subst, append_assoc}
-use Rattle.std.proofs.lemmas.Grind.{flat_map-append}
-use Rattle.std.proofs.lemmas.List.{take_more}
-use Rattle.coil_guard.specs.declared.command.Command.{Command}
-use Rattle.coil_guard.specs.Boards.{IsToldAfter}
+use Rattle.std.proofs.lemmas.{Grind.flat_map-append, List.take_more}
+use Rattle.coil_guard.specs.{declared.command.Command.Command, Boards.IsToldAfter}
 use Rattle.written_machine.specs.declared.line.Line.{Line}
 use Rattle.coil_driver.specs.Board.{BoardView, HasTakenAll, command_of, commands_of, after_lines, TellsMore}
-use Rattle.coil_driver.specs.Driver.{DriverView, HasSent}
-use Rattle.coil_driver.proofs.Sending.{after_lines-append}
+use Rattle.coil_driver.{specs.Driver.{DriverView, HasSent}, proofs.Sending.after_lines-append}
 
 pub taken-append : (first second : List Command) (a b c : BoardView) → HasTakenAll first a b → HasTakenAll second b c → HasTakenAll (first ++ second) a c
 taken-append [] second a b c is more = subst (λ x. HasTakenAll second x c) is more

@@ -2,12 +2,9 @@
 use Rattle.std.specs.Prelude.{◌≡◌, ℕ, List, [], ◌∷◌}
 use Rattle.plan_tables.specs.declared.entries.Owner.{Owner}
 use Rattle.coil_guard.specs.declared.command.Answer.TheVariants as answers
-use Rattle.coil_guard.specs.declared.state.CoilState.{CoilState}
-use Rattle.coil_guard.specs.Asked.{answer_asking}
-use Rattle.written_machine.specs.declared.line.Line.{Line}
-use Rattle.written_machine.specs.declared.line.Happening.{Happening}
+use Rattle.coil_guard.specs.{declared.state.CoilState.CoilState, Asked.answer_asking}
+use Rattle.written_machine.specs.{declared.line.{Line.Line, Happening.Happening}, Machine.Machine}
 use Rattle.written_machine.specs.declared.line.Happening.TheVariants as lines
-use Rattle.written_machine.specs.Machine.{Machine}
 use Rattle.coil_driver.specs.Board.{after_line, after_lines}
 
 -- where it is a command, the guard sends it

@@ -1,13 +1,9 @@
 -- What a board is sent, and what it takes of that.
-use Rattle.std.specs.Prelude.{◌≡◌, ℕ, true, false, Option, None, Some, Ok, List, [], ◌∷◌, ◌++◌}
-use Rattle.std.specs.List.{flat_map}
+use Rattle.std.specs.{Prelude.{◌≡◌, ℕ, true, false, Option, None, Some, Ok, List, [], ◌∷◌, ◌++◌}, List.flat_map}
 use Rattle.plan_tables.specs.declared.entries.Owner.{Owner}
-use Rattle.coil_guard.specs.declared.command.Command.{Command}
-use Rattle.coil_guard.specs.declared.state.CoilState.{CoilState}
-use Rattle.coil_guard.specs.Asked.{after_asking}
-use Rattle.coil_guard.specs.Boards.{HasFaulted, IsToldAfter, Answers, IsAnswered}
-use Rattle.written_machine.specs.declared.line.Line.{Line}
-use Rattle.written_machine.specs.declared.line.Happening.{Happening}
+use Rattle.coil_guard.specs.declared.{command.Command.Command, state.CoilState.CoilState}
+use Rattle.coil_guard.specs.{Asked.after_asking, Boards.{HasFaulted, IsToldAfter, Answers, IsAnswered}}
+use Rattle.written_machine.specs.declared.line.{Line.Line, Happening.Happening}
 use Rattle.written_machine.specs.declared.line.Happening.TheVariants as lines
 
 -- what a board says of itself: the commands that it has taken, where it tells them; the count of its faults; and its answers

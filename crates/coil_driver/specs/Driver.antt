@@ -1,14 +1,9 @@
 -- A board, and what was sent to it.
 use Rattle.std.specs.Prelude.{◌≡◌, ◌⊎◌, ℕ, suc, ◌<◌, ◌^◌, ◌||◌, ◌++◌, Bool, Option, Some, None, List, [], ◌∷◌, take, slice_get}
 use Rattle.plan_tables.specs.declared.entries.CoilId.{CoilId}
-use Rattle.coil_guard.specs.declared.command.Command.{Command}
-use Rattle.coil_guard.specs.declared.command.Command.TheVariants.{Disable}
-use Rattle.coil_guard.specs.declared.state.CoilState.{CoilState}
-use Rattle.coil_guard.specs.CoilStep.{is_on_at}
-use Rattle.coil_guard.specs.Coils.{coil_at}
-use Rattle.coil_guard.specs.SentCommands.{coil_of}
-use Rattle.written_machine.specs.declared.line.Line.{Line}
-use Rattle.written_machine.specs.declared.line.Happening.{Happening}
+use Rattle.coil_guard.specs.declared.{command.Command.{Command, TheVariants.Disable}, state.CoilState.CoilState}
+use Rattle.coil_guard.specs.{CoilStep.is_on_at, Coils.coil_at, SentCommands.coil_of}
+use Rattle.written_machine.specs.declared.line.{Line.Line, Happening.Happening}
 use Rattle.written_machine.specs.declared.line.Happening.TheVariants as lines
 use Rattle.coil_driver.specs.Board.{BoardView, HasTaken, HasTakenAll, HasNotTaken, commands_of, after_lines}
 use Rattle.coil_driver.specs.ShutDown.{is_faulted}

@@ -1,18 +1,15 @@
 -- What is done where a switch was accepted.
 use Rattle.std.proofs.Common.{rules, ◌≡◌, ◌<◌, List, [], ◌∷◌, length, length-append, sym, ap, ◌∙◌, subst, arith}
 use Rattle.plan_tables.specs.PlanView.{PlanView, act_of_listener, listeners_of, posts_of}
-use Rattle.plan_tables.specs.declared.entries.EventId.{EventId}
-use Rattle.plan_tables.specs.declared.entries.Listener.{Listener}
+use Rattle.plan_tables.specs.declared.entries.{EventId.EventId, Listener.Listener}
 use Rattle.plan_tables.specs.declared.entries.Owner.TheVariants as owners
 use Rattle.device_objects.specs.declared.device.Call.TheVariants as calls
 use Rattle.switch_core.specs.declared.change.Change.{Change}
 use Rattle.written_machine.specs.declared.line.Happening.TheVariants as lines
 use Rattle.written_machine.specs.Machine.{Machine, write, post, all_do, tell_listener, tell_listeners, confirm_on_playfield, do_accepted}
-use Rattle.machine_core.specs.Core.{CoreView, CanCall, HasRoom, after}
-use Rattle.machine_core.specs.Goes.{Goes}
+use Rattle.machine_core.specs.{Core.{CoreView, CanCall, HasRoom, after}, Goes.Goes}
 use Rattle.machine_core.proofs.Going.{goes-then, goes-can, goes-all, goes-post, goes-write, goes-call, goes-playfield}
-use Rattle.machine_core.proofs.Listing.{grown}
-use Rattle.machine_core.proofs.Room.{room-before}
+use Rattle.machine_core.proofs.{Listing.grown, Room.room-before}
 
 module _ (a : Change) (now : CoreView) (room : HasRoom now.room (do_accepted now.plan a now.machine)) where
   abbrev plan : PlanView

@@ -1,22 +1,15 @@
 -- What the next alarm comes from.
 use Rattle.std.proofs.Common.{rules, ◌≡◌, ℕ, ◌<◌, Option, Some, None, option_map, MatchOption, length, refl, ap, sym, ◌∙◌, subst, arith}
-use Rattle.std.specs.Option.{IsSome}
-use Rattle.std.proofs.lemmas.Option.{same_Some}
-use Rattle.plan_tables.specs.PlanView.{PlanView}
-use Rattle.plan_tables.specs.declared.entries.SwitchId.{SwitchId}
-use Rattle.plan_tables.specs.declared.devices.RowId.{RowId}
+use Rattle.std.{specs.Option.IsSome, proofs.lemmas.Option.same_Some}
+use Rattle.plan_tables.specs.{PlanView.PlanView, declared.{entries.SwitchId.SwitchId, devices.RowId.RowId}}
 use Rattle.device_objects.specs.declared.device.Call.TheVariants as calls
 use Rattle.device_objects.specs.Laws.{MayCome}
 use Rattle.switch_core.specs.declared.change.Change.{Change}
 use Rattle.switch_core.specs.Switches.{SwitchesView, next_due, IsNextDue, IsNothingDue, accept, accept_due, reported, after_fire, reported_by_fire}
-use Rattle.switch_core.proofs.NextDue.{next_due-is, next_due-is_due}
-use Rattle.switch_core.proofs.Lists.{due-within}
+use Rattle.switch_core.proofs.{NextDue.{next_due-is, next_due-is_due}, Lists.due-within}
 use Rattle.written_machine.specs.Machine.{Machine, set_switches, device_at, do_accepted}
-use Rattle.written_machine.specs.Devices.{HasDevices}
-use Rattle.written_machine.specs.Run.{Source, switch, device, fire}
-use Rattle.written_machine.specs.NextAlarm.{next_alarm}
-use Rattle.written_machine.proofs.Does.{due-row}
-use Rattle.written_machine.proofs.NextAlarms.{found-is_next, next_alarm-due}
+use Rattle.written_machine.specs.{Devices.HasDevices, Run.{Source, switch, device, fire}, NextAlarm.next_alarm}
+use Rattle.written_machine.proofs.{Does.due-row, NextAlarms.{found-is_next, next_alarm-due}}
 use Rattle.machine_core.specs.Core.{CoreView, IsWhole, HasRoom, after}
 
 within-found : (s new : SwitchesView) (o : Option (ℕ × SwitchId)) (a : Change) → MatchOption o (IsNothingDue s) (λ d. IsNextDue s d.0 d.1) → option_map (λ d. reported new d.1) o ≡ Some a → a.switch.0 < length s.states

@@ -1,13 +1,10 @@
 -- What leaves devices that can be called, and coils that can be asked.
-use Rattle.std.proofs.Common.{rules, ◌≡◌, ◌<◌, Bool, List, [], length, refl, ◌∙◌}
+use Rattle.std.proofs.{Common.{rules, ◌≡◌, ◌<◌, Bool, List, [], length, refl, ◌∙◌}, lemmas.List.Elements.All-get_or}
 use Rattle.std.specs.List.{All}
-use Rattle.std.proofs.lemmas.List.Elements.{All-get_or}
-use Rattle.plan_tables.specs.PlanView.{PlanView, actions_at}
+use Rattle.plan_tables.specs.{PlanView.{PlanView, actions_at}, declared.entries.ListId.ListId}
 use Rattle.plan_tables.specs.Valid.{HasEntries, IsActionWithin}
-use Rattle.plan_tables.specs.declared.entries.ListId.{ListId}
 use Rattle.cascade_rank.specs.Cost.{Cost}
-use Rattle.written_machine.specs.Machine.{Machine}
-use Rattle.written_machine.specs.Moves.{Move, do_move, Does}
+use Rattle.written_machine.specs.{Machine.Machine, Moves.{Move, do_move, Does}}
 use Rattle.written_machine.proofs.Does.{does-keeps, has_devices-does, moment-does}
 use Rattle.machine_core.specs.Core.{CoreView, CanCall}
 

@@ -1,13 +1,8 @@
 -- One device of a list of them is called.
 use Rattle.std.proofs.Common.{◌≡◌, ℕ, ◌<◌, List, length, map, set, get_or, ap, sym, ◌∙◌}
-use Rattle.std.proofs.Math.Seq.{map-set_same}
-use Rattle.std.proofs.lemmas.List.{get_or-map, map-set}
-use Rattle.plan_tables.specs.PlanView.{PlanView, no_row, row_at}
-use Rattle.plan_tables.specs.declared.devices.DeviceRow.{DeviceRow}
-use Rattle.plan_tables.specs.declared.devices.RowId.{RowId}
-use Rattle.device_objects.specs.declared.device.Call.{Call}
-use Rattle.device_objects.specs.declared.state.DeviceState.{DeviceState}
-use Rattle.device_objects.specs.declared.state.World.{World}
+use Rattle.std.proofs.{Math.Seq.map-set_same, lemmas.List.{get_or-map, map-set}}
+use Rattle.plan_tables.specs.{PlanView.{PlanView, no_row, row_at}, declared.devices.{DeviceRow.DeviceRow, RowId.RowId}}
+use Rattle.device_objects.specs.declared.{device.Call.Call, state.{DeviceState.DeviceState, World.World}}
 use Rattle.device_objects.specs.DeviceStep.{device_step, first_state}
 use Rattle.written_machine.specs.Machine.{device_state}
 

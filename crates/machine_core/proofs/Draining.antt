@@ -1,16 +1,11 @@
 -- A ball has drained: the first ball save that is active, and what is done where there is none.
 use Rattle.std.proofs.Common.{rules, ◌≡◌, ℕ, Bool, true, false, if◌then◌else◌, Option, None, List, filter, drop, ap, sym, subst}
 use Rattle.plan_tables.specs.PlanView.{PlanView, is_multiball, is_save, row_at, row_numbers}
-use Rattle.plan_tables.specs.declared.entries.GameEvent.TheVariants.{BallDrain}
-use Rattle.plan_tables.specs.declared.devices.RowId.{RowId}
+use Rattle.plan_tables.specs.declared.{entries.GameEvent.TheVariants.BallDrain, devices.RowId.RowId}
 use Rattle.written_machine.specs.Machine.{Machine, device_at, drain_ball, end_multiballs, first_active_save, is_active_save, step_game}
 use Rattle.player_game.specs.GameStep.{is_ball_on}
-use Rattle.machine_core.specs.Balls.{drain_now}
-use Rattle.machine_core.specs.Core.{CoreView, CanCall, HasRoom, after}
-use Rattle.machine_core.proofs.Going.{goes-can, goes-end}
-use Rattle.machine_core.proofs.Listing.{first_from}
-use Rattle.machine_core.proofs.Playing.{goes-step}
-use Rattle.machine_core.proofs.Room.{room-before}
+use Rattle.machine_core.specs.{Balls.drain_now, Core.{CoreView, CanCall, HasRoom, after}}
+use Rattle.machine_core.proofs.{Going.{goes-can, goes-end}, Listing.first_from, Playing.goes-step, Room.room-before}
 
 -- ---- ball saves and multiballs, from a number on
 

@@ -1,23 +1,13 @@
 -- A ball enters a device.
 use Rattle.std.proofs.Common.{rules, ◌≡◌, ◌<◌, Bool, true, false, length, length-append, ap, sym, ◌∙◌, subst}
-use Rattle.plan_tables.specs.PlanView.{PlanView}
-use Rattle.plan_tables.specs.Valid.{HasGame}
-use Rattle.plan_tables.specs.declared.entries.EventId.{EventId}
-use Rattle.plan_tables.specs.declared.entries.Owner.{Owner}
-use Rattle.plan_tables.specs.declared.devices.BallTarget.TheVariants.{Device}
-use Rattle.plan_tables.specs.declared.devices.RowId.{RowId}
-use Rattle.plan_tables.specs.declared.devices.Telling.{Telling}
-use Rattle.plan_tables.specs.declared.devices.Telling.TheVariants.{Arrived}
-use Rattle.ball_devices.specs.declared.booking.Origin.{Origin}
-use Rattle.ball_devices.specs.Ledger.{origin_of}
-use Rattle.ball_devices.specs.Bookings.{is_awaited}
+use Rattle.plan_tables.specs.{PlanView.PlanView, Valid.HasGame, declared.entries.{EventId.EventId, Owner.Owner}}
+use Rattle.plan_tables.specs.declared.devices.{BallTarget.TheVariants.Device, RowId.RowId}
+use Rattle.plan_tables.specs.declared.devices.Telling.{Telling, TheVariants.Arrived}
+use Rattle.ball_devices.specs.{declared.booking.Origin.Origin, Ledger.origin_of, Bookings.is_awaited}
 use Rattle.ball_devices.specs.Bookings as calls_of_ledger
 use Rattle.written_machine.specs.Machine.{Machine, post, book, drain_if, after_entry, enter_ball}
-use Rattle.machine_core.specs.Core.{CoreView, CanCall, HasRoom, after}
-use Rattle.machine_core.specs.Goes.{AlwaysGoes, Tell}
-use Rattle.machine_core.proofs.Going.{goes-post, goes-after_entry}
-use Rattle.machine_core.proofs.Listing.{grown}
-use Rattle.machine_core.proofs.Room.{room-before}
+use Rattle.machine_core.specs.{Core.{CoreView, CanCall, HasRoom, after}, Goes.{AlwaysGoes, Tell}}
+use Rattle.machine_core.proofs.{Going.{goes-post, goes-after_entry}, Listing.grown, Room.room-before}
 
 module _ (plan : PlanView) (tell : Telling → Machine → Machine) (owner : Owner) (r : RowId) (drain : Bool) where
   -- where it was on its way, the device that ejected it is told, and else it may have drained

@@ -1,16 +1,10 @@
 -- A device takes the place of one of the same row, in the same state.
-use Rattle.std.proofs.Common.{◌≡◌, ℕ, ◌<◌, Some, List, length, map, set, get_or, ap, sym, ◌∙◌}
-use Rattle.std.specs.List.{slice_get}
-use Rattle.std.proofs.Math.Seq.{map-set_same}
-use Rattle.std.proofs.lemmas.Option.{slice_get_within, get_or_from_slice_get}
-use Rattle.plan_tables.specs.PlanView.{PlanView, row_at}
-use Rattle.plan_tables.specs.declared.devices.DeviceRow.{DeviceRow}
-use Rattle.plan_tables.specs.declared.devices.RowId.{RowId}
-use Rattle.device_objects.specs.declared.state.DeviceState.{DeviceState}
-use Rattle.device_objects.specs.declared.state.World.{World}
+use Rattle.std.{proofs.Common.{◌≡◌, ℕ, ◌<◌, Some, List, length, map, set, get_or, ap, sym, ◌∙◌}, specs.List.slice_get}
+use Rattle.std.proofs.{Math.Seq.map-set_same, lemmas.Option.{slice_get_within, get_or_from_slice_get}}
+use Rattle.plan_tables.specs.{PlanView.{PlanView, row_at}, declared.devices.{DeviceRow.DeviceRow, RowId.RowId}}
+use Rattle.device_objects.specs.declared.state.{DeviceState.DeviceState, World.World}
 use Rattle.written_machine.specs.Machine.{device_state}
-use Rattle.machine_core.specs.Stopping.{stopped_state}
-use Rattle.machine_core.proofs.Calling.{row-is, state-is, rows-kept}
+use Rattle.machine_core.{specs.Stopping.stopped_state, proofs.Calling.{row-is, state-is, rows-kept}}
 
 module _ {A : Type 0} (row : A → DeviceRow) (state : A → DeviceState) (plan : PlanView) (items : List A) (at : RowId) (old new : A)
     (rows : map row items ≡ plan.rows) (there : slice_get items at.0 ≡ Some old) (same_row : row new ≡ row_at plan at) (same_state : state new ≡ device_state (map state items) at) where

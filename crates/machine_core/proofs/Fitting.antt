@@ -1,13 +1,9 @@
 -- Which devices are those of a plan.
 use Rattle.std.proofs.Common.{◌≡◌, ℕ, suc, ◌<◌, ◌≤◌, inl, inr, Some, None, List, [], ◌∷◌, length, map, replicate, get_or, refl, ap, sym, ◌∙◌, arith}
-use Rattle.std.specs.Prelude.{slice_get}
-use Rattle.std.proofs.lemmas.Bool.{cases_lt}
+use Rattle.std.{specs.Prelude.slice_get, proofs.lemmas.{Bool.cases_lt, List.{get_or-map, length-map}}}
 use Rattle.std.proofs.lemmas.Option.{slice_get-get_or, slice_get_within, same_Some}
-use Rattle.std.proofs.lemmas.List.{get_or-map, length-map}
-use Rattle.plan_tables.specs.PlanView.{PlanView, no_row, row_at}
-use Rattle.plan_tables.specs.declared.devices.DeviceRow.{DeviceRow}
-use Rattle.device_objects.specs.declared.state.DeviceState.{DeviceState}
-use Rattle.device_objects.specs.DeviceStep.{due_of, first_state}
+use Rattle.plan_tables.specs.{PlanView.{PlanView, no_row, row_at}, declared.devices.DeviceRow.DeviceRow}
+use Rattle.device_objects.specs.{declared.state.DeviceState.DeviceState, DeviceStep.{due_of, first_state}}
 use Rattle.device_objects.proofs.Moments.{first-quiet}
 use Rattle.machine_core.specs.Fit.{IsRight, IsFit, IsFirstWrong}
 

@@ -2,28 +2,21 @@
 use Rattle.std.proofs.Common.{rules, ◌≡◌, ℕ, zero, suc, Bool, true, false, if◌then◌else◌, List, [], ◌∷◌, length, set, replicate, refl, sym, ap, ◌∙◌}
 use Rattle.std.proofs.lemmas.List.{map-set}
 use Rattle.plan_tables.specs.PlanView.{PlanView, coil_numbers, game_event, may_hold_ball_end, mode_event}
-use Rattle.plan_tables.specs.declared.entries.CoilId.{CoilId}
-use Rattle.plan_tables.specs.declared.entries.Owner.{Owner}
+use Rattle.plan_tables.specs.declared.entries.{CoilId.CoilId, Owner.Owner, GameEvent.TheVariants.BallEnded}
 use Rattle.plan_tables.specs.declared.entries.ModeEvent.TheVariants.{Started, Stopping, Stopped}
 use Rattle.plan_tables.specs.declared.entries.Owner.TheVariants as owners
-use Rattle.plan_tables.specs.declared.entries.Work.TheVariants.{Mode}
-use Rattle.plan_tables.specs.declared.entries.ModeId.{ModeId}
+use Rattle.plan_tables.specs.declared.entries.{Work.TheVariants.Mode, ModeId.ModeId}
 use Rattle.mode_stack.specs.declared.phase.Phase.TheVariants as phases
-use Rattle.mode_stack.specs.declared.phase.ModeState.{ModeState}
-use Rattle.mode_stack.specs.ModeStep.{in_phase, is_running, entered, ended}
-use Rattle.mode_stack.specs.Modes.{mode_state, running_of}
+use Rattle.mode_stack.specs.{declared.phase.ModeState.ModeState, Modes.{mode_state, running_of}}
+use Rattle.mode_stack.{specs.ModeStep.{in_phase, is_running, entered, ended}, proofs.WhoRuns.starting_keeps_who_runs}
 use Rattle.mode_stack.specs.Modes as modes
-use Rattle.mode_stack.proofs.WhoRuns.{starting_keeps_who_runs}
 use Rattle.event_queue.specs.Handlers.{none_running}
-use Rattle.plan_tables.specs.declared.entries.GameEvent.TheVariants.{BallEnded}
 use Rattle.player_game.specs.GameStep.{ends_ball}
 use Rattle.device_objects.specs.declared.device.Call.{Call}
 use Rattle.device_objects.specs.declared.device.Call.TheVariants as calls
 use Rattle.written_machine.specs.Machine.{Machine, all_do, post, post_if, set_mode, stop_mode, release_ball_end, drop_hold, call_devices, release_coil, release_coils}
 use Rattle.written_machine.specs.EventStep.{do_before, do_after}
-use Rattle.written_machine.proofs.Does.{stop-by}
-use Rattle.written_machine.proofs.Parts.{does-calls}
-use Rattle.written_machine.proofs.Silence.{still-does}
+use Rattle.written_machine.proofs.{Does.stop-by, Parts.does-calls, Silence.still-does}
 use Rattle.machine_core.specs.Core.{CoreView, HasHandlers, after, follow}
 
 -- where the same modes run, the handlers are the same

@@ -1,35 +1,24 @@
 -- What is kept while actions are done, devices are called, and other devices are told.
 use Rattle.std.proofs.Common.{rules, ℕ, ℤ, Bool, if◌then◌else◌, Option, None, Some, List, [], ◌∷◌, length-append, refl, arith}
 use Rattle.plan_tables.specs.PlanView.{PlanView, act_told, actions_at, list_of_row, row_at, target_of}
-use Rattle.plan_tables.specs.declared.entries.Action.{Action}
+use Rattle.plan_tables.specs.declared.entries.{Action.Action, EventId.EventId, Owner.Owner, VariableId.VariableId}
 use Rattle.plan_tables.specs.declared.entries.Action.TheVariants.{Post, Pulse, Enable, Disable, Change as ChangeVariable, Enter, Leave, Lose, Arrive, Request, AddBalls}
-use Rattle.plan_tables.specs.declared.entries.EventId.{EventId}
-use Rattle.plan_tables.specs.declared.entries.Owner.{Owner}
-use Rattle.plan_tables.specs.declared.entries.VariableId.{VariableId}
 use Rattle.plan_tables.specs.declared.devices.BallTarget.TheVariants as targets
-use Rattle.plan_tables.specs.declared.devices.RowId.{RowId}
-use Rattle.plan_tables.specs.declared.devices.Telling.{Telling}
-use Rattle.plan_tables.specs.declared.devices.Telling.TheVariants.{Arrived, Wanted}
-use Rattle.ball_devices.specs.Bookings.{LedgerCall}
+use Rattle.plan_tables.specs.declared.devices.{RowId.RowId, Telling.{Telling, TheVariants.{Arrived, Wanted}}}
+use Rattle.ball_devices.specs.{Bookings.LedgerCall, Ledger.origin_of}
 use Rattle.ball_devices.specs.Bookings as calls_of_ledger
-use Rattle.ball_devices.specs.Ledger.{origin_of}
-use Rattle.ball_devices.specs.declared.booking.Origin.{Origin}
-use Rattle.ball_devices.specs.declared.booking.Origin.TheVariants.{Awaited}
+use Rattle.ball_devices.specs.declared.booking.Origin.{Origin, TheVariants.Awaited}
 use Rattle.coil_guard.specs.declared.command.Command.{Command}
 use Rattle.coil_guard.specs.declared.command.Command.TheVariants as commands
 use Rattle.device_objects.specs.declared.device.Call.{Call}
 use Rattle.device_objects.specs.declared.device.Call.TheVariants as calls
-use Rattle.player_game.specs.GameStep.{GameState}
-use Rattle.player_game.specs.Players.{PlayersState}
+use Rattle.player_game.specs.{GameStep.GameState, Players.PlayersState}
 use Rattle.switch_core.specs.declared.change.Change.{Change}
-use Rattle.written_machine.specs.declared.line.Happening.{Happening}
+use Rattle.written_machine.specs.{declared.line.Happening.Happening, Moves.{Turned, Does, moved}}
 use Rattle.written_machine.specs.Machine.{Machine, write, post, set_device, set_game, set_players, all_do, ask_coil, tell_change, book, drain_if, after_entry, enter_ball, want_balls, add_balls, do_action_by, do_list_by, do_answer_by, called, call_device_by, tell_nobody, told_device, tell_device, tell_first, call_device, ask_ball, end_multiballs, confirm_on_playfield}
-use Rattle.written_machine.specs.Moves.{Turned, Does, moved}
-use Rattle.written_machine.proofs.Does.{has_devices-does}
+use Rattle.written_machine.proofs.{Does.has_devices-does, Held.asked-count}
 use Rattle.written_machine.proofs.Growth.{post-grows, asked-grows, told-grows}
-use Rattle.written_machine.proofs.Held.{asked-count}
-use Rattle.machine_core.specs.Core.{CoreView, CanCall, after}
-use Rattle.machine_core.specs.Goes.{Goes}
+use Rattle.machine_core.specs.{Core.{CoreView, CanCall, after}, Goes.Goes}
 
 -- devices can be called as before
 pub goes-can : (old : CoreView) (does : Machine → Machine) → Goes old.plan old.machine (does old.machine) → CanCall old → CanCall (after does old)

@@ -1,21 +1,12 @@
 -- The handlers of an event, one after another.
 use Rattle.std.proofs.Common.{rules, ◌≡◌, ℕ, ◌+◌, ◌<◌, ◌≤◌, Bool, Option, Some, None, List, ◌∷◌, length, drop, get_or, inl, inr, ap, sym, ◌∙◌, subst, arith}
-use Rattle.std.specs.Prelude.{slice_get}
+use Rattle.std.{specs.Prelude.slice_get, proofs.lemmas.{Bool.cases_lt, List.{drop_all, drop_more, Elements.All-get_or}}}
 use Rattle.std.proofs.lemmas.Option.{get_or_from_slice_get, none-some, slice_get-get_or, slice_get_within}
-use Rattle.std.proofs.lemmas.Bool.{cases_lt}
-use Rattle.std.proofs.lemmas.List.{drop_all, drop_more}
-use Rattle.std.proofs.lemmas.List.Elements.{All-get_or}
-use Rattle.plan_tables.specs.Valid.{HasEntries, IsBindingWithin}
-use Rattle.plan_tables.specs.PlanView.{PlanView, no_binding, binding_at}
-use Rattle.plan_tables.specs.declared.entries.BindingId.{BindingId}
-use Rattle.plan_tables.specs.declared.entries.EventId.{EventId}
-use Rattle.plan_tables.specs.declared.entries.Binding.{Binding}
-use Rattle.event_queue.specs.PlanOrder.{in_order}
-use Rattle.event_queue.proofs.PlanOrder.{in_order-count}
-use Rattle.written_machine.specs.Machine.{all_do, do_binding, do_handler}
-use Rattle.written_machine.proofs.Growth.{handler-grows}
-use Rattle.machine_core.specs.Core.{CoreView, HasRoom, after}
-use Rattle.machine_core.proofs.Room.{room-first, all_do-first}
+use Rattle.plan_tables.specs.{Valid.{HasEntries, IsBindingWithin}, PlanView.{PlanView, no_binding, binding_at}}
+use Rattle.plan_tables.specs.declared.entries.{BindingId.BindingId, EventId.EventId, Binding.Binding}
+use Rattle.event_queue.{specs.PlanOrder.in_order, proofs.PlanOrder.in_order-count}
+use Rattle.written_machine.{specs.Machine.{all_do, do_binding, do_handler}, proofs.Growth.handler-grows}
+use Rattle.machine_core.{specs.Core.{CoreView, HasRoom, after}, proofs.Room.{room-first, all_do-first}}
 
 -- From the k-th on the handlers of an event are still to run: run now, they are all, run at the start.
 module _ (running : List Bool) (start now : CoreView) (kept : start.running ≡ running) (event : EventId) (k : ℕ)

@@ -1,10 +1,8 @@
 -- How many balls are at home, one device after another.
 use Rattle.std.proofs.Common.{◌≡◌, ℕ, ◌+◌, ◌<◌, ◌≤◌, ◌^◌, Bool, true, false, List, length, filter, map, drop, ap, ◌∙◌, arith}
 use Rattle.std.proofs.lemmas.List.Sums.{sum_by-cons}
-use Rattle.plan_tables.specs.PlanView.{PlanView, is_home, row_at, row_numbers}
-use Rattle.plan_tables.specs.declared.devices.RowId.{RowId}
-use Rattle.ball_devices.specs.Ledger.{Ledger, IsLedger, counted_in, total}
-use Rattle.ball_devices.proofs.Ledgers.{at_most_total}
+use Rattle.plan_tables.specs.{PlanView.{PlanView, is_home, row_at, row_numbers}, declared.devices.RowId.RowId}
+use Rattle.ball_devices.{specs.Ledger.{Ledger, IsLedger, counted_in, total}, proofs.Ledgers.at_most_total}
 use Rattle.machine_core.proofs.Listing.{row-first, row-other, rows-end}
 
 module _ (plan : PlanView) (l : Ledger) where

@@ -1,27 +1,16 @@
 -- The rows of a plan, one after another, and what their devices answer.
-use Rattle.std.specs.Prelude.{◌&&◌, find}
+use Rattle.std.specs.{Prelude.{◌&&◌, find}, List.All}
 use Rattle.std.proofs.Common.{rules, ◌≡◌, ℕ, ◌+◌, ◌<◌, ◌≤◌, Bool, true, false, Option, None, Some, List, [], ◌∷◌, length, filter, drop, refl, ap, sym, ◌∙◌, subst, arith}
-use Rattle.std.proofs.lemmas.Bool.{and_parts}
-use Rattle.std.specs.List.{All}
-use Rattle.std.proofs.lemmas.List.{drop_all, drop_more}
-use Rattle.std.proofs.lemmas.List.Elements.{All-get_or}
-use Rattle.plan_tables.specs.PlanView.{PlanView, is_owner, row_at, row_numbers}
-use Rattle.plan_tables.specs.Devices.{list_count}
-use Rattle.plan_tables.specs.declared.entries.ModeId.{ModeId}
+use Rattle.std.proofs.lemmas.{Bool.and_parts, List.{drop_all, drop_more, Elements.All-get_or}}
+use Rattle.plan_tables.specs.{PlanView.{PlanView, is_owner, row_at, row_numbers}, Devices.list_count}
+use Rattle.plan_tables.specs.declared.{entries.ModeId.ModeId, devices.RowId.RowId}
 use Rattle.plan_tables.specs.declared.entries.Owner.TheVariants as owners
-use Rattle.plan_tables.specs.declared.devices.RowId.{RowId}
-use Rattle.device_objects.specs.declared.device.Call.{Call}
-use Rattle.device_objects.specs.Laws.{MayCome}
-use Rattle.device_objects.specs.Outcomes.{outcomes}
-use Rattle.device_objects.proofs.Answered.{answers_are_outcomes}
-use Rattle.device_objects.proofs.Lists.{outcomes_of_row}
+use Rattle.device_objects.specs.{declared.device.Call.Call, Laws.MayCome, Outcomes.outcomes}
+use Rattle.device_objects.proofs.{Answered.answers_are_outcomes, Lists.outcomes_of_row}
 use Rattle.cascade_rank.proofs.Rows.{length-rows, row_of}
-use Rattle.written_machine.specs.Devices.{HasDevices}
-use Rattle.written_machine.specs.Machine.{Machine, world_of, device_at, called, call_device}
-use Rattle.machine_core.specs.Core.{CoreView, CanCall, after}
-use Rattle.machine_core.proofs.Room.{Grows}
-use Rattle.machine_core.specs.Goes.{Goes}
-use Rattle.machine_core.proofs.Going.{goes-can, goes-call}
+use Rattle.written_machine.specs.{Devices.HasDevices, Machine.{Machine, world_of, device_at, called, call_device}}
+use Rattle.machine_core.specs.{Core.{CoreView, CanCall, after}, Goes.Goes}
+use Rattle.machine_core.proofs.{Room.Grows, Going.{goes-can, goes-call}}
 
 -- as much as before, and more
 pub grown : (plan : PlanView) (s t : Machine) → Goes plan s t → Grows s t

@@ -1,23 +1,15 @@
 -- What an event of the game leads to.
 use Rattle.std.proofs.Common.{rules, ◌≡◌, ℕ, ◌+◌, ◌-◌, ◌<◌, Bool, true, false, if◌then◌else◌, Option, None, Some, List, ◌∷◌, refl, ap, sym, ◌∙◌, subst, arith}
 use Rattle.std.specs.List.{range_with_len}
-use Rattle.plan_tables.specs.PlanView.{PlanView}
-use Rattle.plan_tables.specs.Valid.{HasGame}
-use Rattle.plan_tables.specs.declared.entries.GameEvent.{GameEvent}
-use Rattle.plan_tables.specs.declared.entries.GameEvent.TheVariants.{BallDrain}
-use Rattle.plan_tables.specs.declared.devices.Act.TheVariants.{Save}
-use Rattle.plan_tables.specs.declared.devices.RowId.{RowId}
+use Rattle.plan_tables.specs.{PlanView.{PlanView, game_event}, Valid.HasGame}
+use Rattle.plan_tables.specs.declared.entries.GameEvent.{GameEvent, TheVariants.BallDrain}
+use Rattle.plan_tables.specs.declared.devices.{Act.TheVariants.Save, RowId.RowId}
 use Rattle.device_objects.specs.declared.device.Call.TheVariants as calls
-use Rattle.player_game.specs.Choices.{is_drain}
+use Rattle.player_game.specs.{Choices.is_drain, declared.game.GameWork.GameWork, GameStep.GameStep}
 use Rattle.plan_tables.specs.declared.entries.Owner.TheVariants as owners
-use Rattle.mode_stack.specs.declared.phase.ModeState.{ModeState}
-use Rattle.mode_stack.specs.Modes.{running_of}
-use Rattle.player_game.specs.declared.game.GameWork.{GameWork}
-use Rattle.player_game.specs.GameStep.{GameStep}
-use Rattle.plan_tables.specs.PlanView.{game_event}
+use Rattle.mode_stack.specs.{declared.phase.ModeState.ModeState, Modes.running_of}
 use Rattle.written_machine.specs.Machine.{Machine, all_do, ask_ball, do_game, drain_ball, end_multiballs, first_active_save, post_game, step_game, write_finals}
-use Rattle.machine_core.specs.Core.{CoreView, CanCall, HasRoom, IsWorkOfGame, after, played, step_at}
-use Rattle.machine_core.specs.Goes.{Goes}
+use Rattle.machine_core.specs.{Core.{CoreView, CanCall, HasRoom, IsWorkOfGame, after, played, step_at}, Goes.Goes}
 use Rattle.machine_core.proofs.Going.{goes-none, goes-then, goes-can, goes-all, goes-post, goes-write, goes-call, goes-ask, goes-end}
 use Rattle.machine_core.proofs.Room.{room-before}
 

@@ -1,35 +1,21 @@
 -- The coils that an owner holds are put off, the lowest first.
 use Rattle.std.proofs.Common.{rules, ◌≡◌, ℕ, zero, suc, ◌+◌, ◌-◌, ◌<◌, ◌≤◌, Bool, true, false, if◌then◌else◌, Option, None, Some, option_map, List, [], ◌∷◌, ◌++◌, length, take, drop, get_or, refl, sym, ap, ◌∙◌, subst, length-append, arith}
-use Rattle.std.proofs.lemmas.Bool.{cond-true, cond-false, or_right}
+use Rattle.std.proofs.lemmas.{Bool.{cond-true, cond-false, or_right}, Option.same_Some}
 use Rattle.std.proofs.lemmas.List.{take-append-drop, drop_more, take_more, take_all, length-set, get_or-set_same, get_or-set_other}
 use Rattle.std.proofs.lemmas.List.FromFn.{length-map-range_with_len, get_or-map-range_with_len}
-use Rattle.std.proofs.lemmas.Option.{same_Some}
 use Rattle.std.specs.Prelude.{nat_lt, is_some}
 use Rattle.plan_tables.specs.PlanView.{PlanView, coil_numbers}
-use Rattle.plan_tables.specs.declared.entries.ModeId.{ModeId}
-use Rattle.plan_tables.specs.declared.entries.ModeEvent.TheVariants.{Stopping}
-use Rattle.plan_tables.specs.declared.entries.Work.{Work}
-use Rattle.plan_tables.specs.declared.entries.Work.TheVariants.{Mode}
+use Rattle.plan_tables.specs.declared.entries.{ModeId.ModeId, CoilId.CoilId, Owner.Owner}
+use Rattle.plan_tables.specs.declared.entries.{ModeEvent.TheVariants.Stopping, Work.{Work, TheVariants.Mode}}
 use Rattle.device_objects.specs.declared.device.Call.TheVariants as calls
-use Rattle.plan_tables.specs.declared.entries.CoilId.{CoilId}
-use Rattle.plan_tables.specs.declared.entries.Owner.{Owner}
-use Rattle.coil_guard.specs.declared.command.Command.{Command}
-use Rattle.coil_guard.specs.declared.command.Command.TheVariants.{Disable}
-use Rattle.coil_guard.specs.declared.state.CoilState.{CoilState}
-use Rattle.coil_guard.specs.Limits.{no_limits}
-use Rattle.coil_guard.specs.CoilStep.{off, is_on_at, is_held_by, disabled}
-use Rattle.coil_guard.specs.Lowest.{IsLowest}
-use Rattle.coil_guard.proofs.Lowest.{lowest-is}
+use Rattle.coil_guard.specs.declared.{command.Command.{Command, TheVariants.Disable}, state.CoilState.CoilState}
+use Rattle.coil_guard.specs.{Limits.no_limits, Lowest.IsLowest, Owners.is_holder}
+use Rattle.coil_guard.{specs.CoilStep.{off, is_on_at, is_held_by, disabled}, proofs.Lowest.lowest-is}
 use Rattle.coil_guard.specs.Coils.{coil_at, set_coil, put_off, next_held, after_release, answer_release}
-use Rattle.coil_guard.specs.Owners.{is_holder}
 use Rattle.written_machine.specs.declared.line.Happening.TheVariants as lines
 use Rattle.written_machine.specs.Machine.{Machine, write, set_coils, all_do, ask_coil, call_devices, release_coil, release_coils}
-use Rattle.written_machine.specs.EventStep.{do_after}
-use Rattle.written_machine.proofs.Parts.{does-calls}
-use Rattle.written_machine.proofs.Growth.{asked-grows, all_do-grows}
-use Rattle.machine_core.specs.Core.{CoreView, CanCall, HasRoom, after}
-use Rattle.machine_core.proofs.Callable.{can-does}
-use Rattle.machine_core.proofs.Room.{Grows}
+use Rattle.written_machine.{specs.EventStep.do_after, proofs.{Parts.does-calls, Growth.{asked-grows, all_do-grows}}}
+use Rattle.machine_core.{specs.Core.{CoreView, CanCall, HasRoom, after}, proofs.{Callable.can-does, Room.Grows}}
 
 all_do-append : {X : Type 0} (f : X → Machine → Machine) (xs ys : List X) (s : Machine) → all_do f (xs ++ ys) s ≡ all_do f ys (all_do f xs s)
 all_do-append f [] ys s = refl

@@ -1,19 +1,15 @@
 -- What leaves room in the end left room before.
 use Rattle.std.proofs.Common.{rules, ◌≡◌, ℕ, ℤ, zero, suc, ◌+◌, ◌≤◌, ◌<◌, Option, Some, List, [], ◌∷◌, length, drop, length-append, ap, sym, ◌∙◌, subst, arith}
 use Rattle.std.specs.Prelude.{slice_get}
-use Rattle.plan_tables.specs.declared.entries.EventId.{EventId}
-use Rattle.plan_tables.specs.declared.entries.Owner.{Owner}
+use Rattle.plan_tables.specs.declared.entries.{EventId.EventId, Owner.Owner, GameEvent.GameEvent, VariableId.VariableId}
 use Rattle.plan_tables.specs.declared.entries.Owner.TheVariants as owners
-use Rattle.plan_tables.specs.declared.entries.GameEvent.{GameEvent}
-use Rattle.plan_tables.specs.declared.entries.VariableId.{VariableId}
 use Rattle.machine_settings.specs.declared.words.VariableAction.{VariableAction}
 use Rattle.plan_tables.specs.PlanView.{PlanView, game_event}
 use Rattle.player_game.specs.Players.{changed_to, after_change as players_after_change, score_of}
 use Rattle.written_machine.specs.declared.line.Happening.TheVariants as lines
 use Rattle.written_machine.specs.Machine.{Machine, post, set_players, all_do, tell_change, change_variable, post_game, write_final}
 use Rattle.written_machine.proofs.Growth.{all_do-grows, post-grows}
-use Rattle.event_queue.specs.declared.queue.Posted.{Posted}
-use Rattle.event_queue.specs.Queue.{QueueView, IsTaken}
+use Rattle.event_queue.specs.{declared.queue.Posted.Posted, Queue.{QueueView, IsTaken}}
 use Rattle.machine_core.specs.Core.{CoreView, TakesFirst, HasRoom, after}
 
 -- the second machine has as many lines and waiting events at least

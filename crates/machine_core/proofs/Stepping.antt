@@ -1,27 +1,14 @@
 -- What is done at an event that was taken: the machine's work before its handlers, they, and the work after them.
 use Rattle.std.proofs.Common.{rules, ◌≡◌, Bool, Some, None, List, refl, ap, sym, ◌∙◌, subst}
-use Rattle.plan_tables.specs.declared.entries.BindingId.{BindingId}
+use Rattle.plan_tables.specs.declared.entries.{BindingId.BindingId, EventId.EventId, Work.{Work, TheVariants.Nothing}}
 use Rattle.plan_tables.specs.PlanView.{PlanView, work_of}
-use Rattle.plan_tables.specs.declared.entries.EventId.{EventId}
-use Rattle.plan_tables.specs.declared.entries.Work.{Work}
-use Rattle.plan_tables.specs.declared.entries.Work.TheVariants.{Nothing}
 use Rattle.mode_stack.specs.Modes.{running_of}
 use Rattle.event_queue.specs.PlanOrder.{in_order}
-use Rattle.written_machine.specs.Machine.{Machine, all_do, do_handler}
-use Rattle.written_machine.specs.EventStep.{is_kept, do_before, do_after}
-use Rattle.written_machine.proofs.Does.{grows-does}
-use Rattle.written_machine.proofs.Growth.{all_do-grows, handler-grows}
+use Rattle.written_machine.specs.{Machine.{Machine, all_do, do_handler}, EventStep.{is_kept, do_before, do_after}}
+use Rattle.written_machine.proofs.{Does.grows-does, Growth.{all_do-grows, handler-grows}, Silence.handlers-still}
 use Rattle.written_machine.proofs.Parts.{does-handlers, does-before, does-after}
-use Rattle.written_machine.proofs.Silence.{handlers-still}
 use Rattle.machine_core.specs.Core.{CoreView, CanCall, HasHandlers, HasRoom, after, follow, after_taken}
-use Rattle.machine_core.specs.Inside.{kept_at}
-use Rattle.machine_core.proofs.Following.{follow-nothing}
-use Rattle.machine_core.proofs.Room.{room-before}
-use Rattle.machine_core.proofs.Callable.{can-does}
-
--- what is done to one machine alike leaves one core alike
-follow-same : (f g : Machine → Machine) (c : CoreView) → f c.machine ≡ g c.machine → follow f c ≡ follow g c
-follow-same f g c same = λ i. record { plan = c.plan; running = running_of (same i).modes; machine = same i; room = c.room }
+use Rattle.machine_core.{specs.Inside.kept_at, proofs.{Following.follow-nothing, Room.room-before, Callable.can-does}}
 
 -- ---- whether the machine has work at an event
 

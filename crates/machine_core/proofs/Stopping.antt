@@ -1,12 +1,9 @@
 -- Each device of a list of them stops.
 use Rattle.std.proofs.Common.{rules, ◌≡◌, ℕ, ◌+◌, ◌<◌, ◌≤◌, List, [], ◌∷◌, ◌++◌, length, map, set, get_or, take, drop, zip, refl, ap, sym, ◌∙◌, arith}
-use Rattle.std.proofs.lemmas.List.{append-nil, drop_all, get_or-map, length-map, map-set, take_all}
-use Rattle.std.proofs.lemmas.List.Edits.{map_over_more}
+use Rattle.std.proofs.lemmas.List.{append-nil, drop_all, get_or-map, length-map, map-set, take_all, Edits.map_over_more}
 use Rattle.std.proofs.lemmas.Simd.{map-map}
-use Rattle.plan_tables.specs.PlanView.{PlanView}
-use Rattle.plan_tables.specs.declared.devices.DeviceRow.{DeviceRow}
-use Rattle.device_objects.specs.declared.state.DeviceState.{DeviceState}
-use Rattle.device_objects.specs.declared.state.World.{World}
+use Rattle.plan_tables.specs.{PlanView.PlanView, declared.devices.DeviceRow.DeviceRow}
+use Rattle.device_objects.specs.declared.state.{DeviceState.DeviceState, World.World}
 use Rattle.written_machine.specs.Machine.{Machine, world_of}
 use Rattle.machine_core.specs.Stopping.{AreStopped, stopped_state}
 

@@ -2,23 +2,13 @@
 use Rattle.std.specs.Prelude.{◌&&◌, find, is_some}
 use Rattle.std.proofs.Common.{rules, ◌≡◌, ℕ, Bool, false, cond, Option, None, Some, List, [], ◌∷◌, map, filter, refl, ap, sym, ◌∙◌}
 use Rattle.plan_tables.specs.PlanView.{PlanView, feeds, row_at, row_numbers}
-use Rattle.plan_tables.specs.declared.devices.BallTarget.{BallTarget}
-use Rattle.plan_tables.specs.declared.devices.RowId.{RowId}
-use Rattle.device_objects.specs.declared.state.Eject.{Eject}
-use Rattle.device_objects.specs.declared.state.DeviceState.{DeviceState}
-use Rattle.device_objects.specs.BallDevice.{is_away, timeout_of, earlier}
-use Rattle.device_objects.specs.DeviceStep.{due_of}
-use Rattle.event_queue.specs.Alarms.{least_of}
-use Rattle.event_queue.proofs.Least.{alarms_give_the_least}
-use Rattle.written_machine.specs.Machine.{Machine, device_at, first_away, is_device_away}
-use Rattle.written_machine.proofs.NextAlarms.{dues-at}
+use Rattle.plan_tables.specs.declared.devices.{BallTarget.BallTarget, RowId.RowId}
+use Rattle.device_objects.specs.{declared.state.DeviceState.DeviceState, DeviceStep.due_of}
+use Rattle.event_queue.{specs.Alarms.least_of, proofs.Least.alarms_give_the_least}
+use Rattle.written_machine.{specs.Machine.{Machine, device_at, first_away, is_device_away}, proofs.NextAlarms.dues-at}
 
 and-false : (b : Bool) → false ≡ (b && false)
 and-false x1 = search rules
-
--- it waits no longer than its timeout
-eject-due : (due : Option ℕ) (e : Eject) → is_away e ≡ (is_some (earlier due (timeout_of e)) && is_away e)
-eject-due x1 x2 = search rules
 
 pub away-due : (s : DeviceState) → is_device_away s ≡ (is_some (due_of s) && is_device_away s)
 away-due x1 = search rules

@@ -1,9 +1,7 @@
 -- What the ledger of balls is told, what another device may be told, and what is done when a ball drains.
 use Rattle.std.specs.Prelude.{ℕ, ◌<◌}
-use Rattle.plan_tables.specs.PlanView.{PlanView}
-use Rattle.plan_tables.specs.Valid.{IsTargetThere}
-use Rattle.plan_tables.specs.declared.devices.Telling.{Telling}
-use Rattle.plan_tables.specs.declared.devices.Telling.TheVariants.{Arrived, Wanted}
+use Rattle.plan_tables.specs.{PlanView.PlanView, Valid.IsTargetThere}
+use Rattle.plan_tables.specs.declared.devices.Telling.{Telling, TheVariants.{Arrived, Wanted}}
 use Rattle.ball_devices.specs.Bookings.{LedgerCall, Enter, Leave, Lose, Arrive}
 use Rattle.written_machine.specs.Machine.{Machine, drain_ball, first_active_save}
 use Rattle.machine_core.specs.declared.balls.BallCall.{BallCall}

@@ -1,23 +1,15 @@
 -- The state of a machine with its room, and what is done with it.
 use Rattle.std.specs.Prelude.{◌≡◌, ℕ, ◌<◌, ◌≤◌, ◌^◌, Bool, Option, Some, None, List, [], ◌∷◌, length}
-use Rattle.plan_tables.specs.PlanView.{PlanView}
-use Rattle.plan_tables.specs.declared.entries.Work.{Work}
-use Rattle.plan_tables.specs.declared.entries.Work.TheVariants.{Nothing, Mode, Game}
-use Rattle.plan_tables.specs.declared.entries.GameEvent.{GameEvent}
-use Rattle.plan_tables.specs.Valid.{HasGame}
-use Rattle.player_game.specs.declared.game.GameWork.{GameWork}
-use Rattle.player_game.specs.GameStep.{GameStep, game_step}
+use Rattle.plan_tables.specs.{PlanView.PlanView, declared.entries.{GameEvent.GameEvent, EventId.EventId}, Valid.HasGame}
+use Rattle.plan_tables.specs.declared.entries.Work.{Work, TheVariants.{Nothing, Mode, Game}}
+use Rattle.player_game.specs.{declared.game.GameWork.GameWork, GameStep.{GameStep, game_step}}
 use Rattle.switch_core.specs.Switches.{IsComplete}
-use Rattle.event_queue.specs.declared.queue.Posted.{Posted}
+use Rattle.event_queue.specs.{declared.queue.Posted.Posted, PlanOrder.by_priority}
 use Rattle.mode_stack.specs.Modes.{running_of}
-use Rattle.plan_tables.specs.declared.entries.EventId.{EventId}
-use Rattle.event_queue.specs.PlanOrder.{by_priority}
 use Rattle.written_machine.specs.Machine.{Machine, all_do, do_handler, home_of, set_game, set_players}
-use Rattle.written_machine.specs.Devices.{HasDevices}
+use Rattle.written_machine.specs.{Devices.HasDevices, NextAlarm.next_alarm, PlanOrder.plan_steps}
 use Rattle.written_machine.specs.EventStep.{work_before, work_after, handlers_in}
 use Rattle.written_machine.specs.Run.{Stimulus, SwitchChange, Alarm, Wait}
-use Rattle.written_machine.specs.NextAlarm.{next_alarm}
-use Rattle.written_machine.specs.PlanOrder.{plan_steps}
 
 pub record CoreView : Type 0 where
   pub plan : PlanView

@@ -1,9 +1,7 @@
 -- Whether devices are those of a plan, in their first states.
 use Rattle.std.specs.Prelude.{◌≡◌, ℕ, ◌<◌, List, length, map, slice_get, Some}
-use Rattle.plan_tables.specs.PlanView.{PlanView, row_at}
-use Rattle.plan_tables.specs.declared.devices.DeviceRow.{DeviceRow}
-use Rattle.device_objects.specs.declared.state.DeviceState.{DeviceState}
-use Rattle.device_objects.specs.DeviceStep.{first_state}
+use Rattle.plan_tables.specs.{PlanView.{PlanView, row_at}, declared.devices.DeviceRow.DeviceRow}
+use Rattle.device_objects.specs.{declared.state.DeviceState.DeviceState, DeviceStep.first_state}
 
 -- at this number there is a row, and the device of the row in its first state
 pub record IsRight (plan : PlanView) (rows : List DeviceRow) (states : List DeviceState) (number : ℕ) : Type 0 where

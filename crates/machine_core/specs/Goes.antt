@@ -1,9 +1,7 @@
 -- What is kept while another device is told of an action, or not.
 use Rattle.std.specs.Prelude.{◌≡◌, ◌≤◌, length}
-use Rattle.plan_tables.specs.PlanView.{PlanView}
-use Rattle.plan_tables.specs.declared.devices.Telling.{Telling}
-use Rattle.written_machine.specs.Devices.{HasDevices}
-use Rattle.written_machine.specs.Machine.{Machine}
+use Rattle.plan_tables.specs.{PlanView.PlanView, declared.devices.Telling.Telling}
+use Rattle.written_machine.specs.{Devices.HasDevices, Machine.Machine}
 
 -- The second machine has as many lines and waiting events at least. Its modes and its moment are the same, and its
 -- devices can be called and its coils asked as before.

@@ -1,14 +1,10 @@
 -- What a core holds.
 use Rattle.std.specs.Prelude.{◌≡◌, ℕ, ◌<◌, ◌≤◌, ◌^◌, Option, List, length, map}
-use Rattle.plan_tables.specs.PlanView.{PlanView}
-use Rattle.plan_tables.specs.declared.devices.DeviceRow.{DeviceRow}
-use Rattle.device_objects.specs.declared.state.DeviceState.{DeviceState}
-use Rattle.device_objects.specs.DeviceStep.{due_of}
+use Rattle.plan_tables.specs.{PlanView.PlanView, declared.devices.DeviceRow.DeviceRow}
+use Rattle.device_objects.specs.{declared.state.DeviceState.DeviceState, DeviceStep.due_of}
 use Rattle.mode_stack.specs.Modes.{ModesView}
-use Rattle.event_queue.specs.Handlers.{HandlersView}
-use Rattle.event_queue.specs.Queue.{QueueView}
-use Rattle.player_game.specs.GameStep.{GameView}
-use Rattle.player_game.specs.Players.{PlayersView}
+use Rattle.event_queue.specs.{Handlers.HandlersView, Queue.QueueView}
+use Rattle.player_game.specs.{GameStep.GameView, Players.PlayersView}
 use Rattle.ball_devices.specs.Ledger.{Ledger}
 
 -- The parts of a core fit together. Its devices have these rows and states.

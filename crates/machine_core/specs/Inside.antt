@@ -1,11 +1,8 @@
 -- What the functions inside this crate see: whether a stop was kept for a mode, and which actions are rare.
 use Rattle.std.specs.Prelude.{Bool, false, Option, Some, None}
-use Rattle.plan_tables.specs.declared.entries.Action.{Action}
-use Rattle.plan_tables.specs.declared.entries.Action.TheVariants.{Post, Change}
-use Rattle.plan_tables.specs.declared.entries.Work.{Work}
-use Rattle.plan_tables.specs.declared.entries.Work.TheVariants.{Nothing, Mode, Game}
-use Rattle.written_machine.specs.EventStep.{is_kept}
-use Rattle.written_machine.specs.Machine.{Machine}
+use Rattle.plan_tables.specs.declared.entries.Action.{Action, TheVariants.{Post, Change}}
+use Rattle.plan_tables.specs.declared.entries.Work.{Work, TheVariants.{Nothing, Mode, Game}}
+use Rattle.written_machine.specs.{EventStep.is_kept, Machine.Machine}
 
 -- where there is work, whether a stop is kept for the mode that becomes active
 abbrev pub kept_at : Work → Machine → Option Bool

@@ -1,9 +1,8 @@
 -- What a stimulus is, and what an alarm comes from, to the written machine.
 use Rattle.std.specs.Prelude.{ℕ}
 use Rattle.written_machine.specs.Run.{Source, switch, device, Stimulus, SwitchChange, Alarm, Wait}
-use Rattle.machine_core.specs.declared.stimulus.Source.{Source as HeldSource}
+use Rattle.machine_core.specs.declared.stimulus.{Source.Source as HeldSource, Stimulus.Stimulus as HeldStimulus}
 use Rattle.machine_core.specs.declared.stimulus.Source.TheVariants as held_source
-use Rattle.machine_core.specs.declared.stimulus.Stimulus.{Stimulus as HeldStimulus}
 use Rattle.machine_core.specs.declared.stimulus.Stimulus.TheVariants as held
 
 abbrev pub source_view : HeldSource → Source

@@ -1,11 +1,8 @@
 -- What the devices of a machine are, once they have stopped.
 use Rattle.std.specs.Prelude.{◌≡◌, ℕ, List, map, zip}
-use Rattle.plan_tables.specs.PlanView.{PlanView}
-use Rattle.plan_tables.specs.declared.devices.DeviceRow.{DeviceRow}
-use Rattle.device_objects.specs.declared.device.Call.TheVariants.{ModeStop}
-use Rattle.device_objects.specs.declared.state.DeviceState.{DeviceState}
-use Rattle.device_objects.specs.declared.state.World.{World}
-use Rattle.device_objects.specs.DeviceStep.{device_step}
+use Rattle.plan_tables.specs.{PlanView.PlanView, declared.devices.DeviceRow.DeviceRow}
+use Rattle.device_objects.specs.{declared.device.Call.TheVariants.ModeStop, DeviceStep.device_step}
+use Rattle.device_objects.specs.declared.state.{DeviceState.DeviceState, World.World}
 use Rattle.written_machine.specs.Machine.{Machine, world_of}
 
 -- the state of a device of this row, after it was told that its mode stops

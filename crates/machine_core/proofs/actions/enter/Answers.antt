@@ -1,4 +1,4 @@
-use Rattle.std.proofs.Common.{rules, sym, ◌∙◌}
+use Rattle.std.proofs.Common.{rules}
 use Rattle.machine_core.proofs.Entering.{booked-room, event-room, entered-there, entered-calls, tell-room, entered-awaited, drain-game, drain-room, entered-other}
 use Rattle.machine_core.proofs.actions.enter.Goals as goal
 

@@ -1,15 +1,10 @@
-use Rattle.std.proofs.Common.{rules, ◌≡◌, ◌+◌, ◌<◌, ◌≤◌, ◌∷◌, List, drop, get_or, length, ap, sym, ◌∙◌, subst}
-use Rattle.std.specs.List.{All}
-use Rattle.std.proofs.lemmas.List.{drop_all, drop_more}
-use Rattle.std.proofs.lemmas.List.Elements.{All-get_or}
-use Rattle.plan_tables.specs.PlanView.{PlanView, rows_of}
+use Rattle.std.proofs.Common.{rules, ◌≡◌, ◌+◌, ◌∷◌, List, drop, get_or, ap, ◌∙◌, subst}
+use Rattle.std.proofs.lemmas.List.{drop_all, drop_more, Elements.All-get_or}
+use Rattle.plan_tables.specs.{PlanView.{PlanView, rows_of}, declared.devices.RowId.RowId}
 use Rattle.plan_tables.specs.declared.entries.Owner.TheVariants as owners
-use Rattle.plan_tables.specs.declared.devices.RowId.{RowId}
-use Rattle.written_machine.specs.Machine.{Machine, all_do, call_device, call_devices}
-use Rattle.machine_core.specs.Core.{CoreView, after}
-use Rattle.machine_core.proofs.Room.{room-first, all_do-first}
-use Rattle.machine_core.proofs.Going.{goes-call}
-use Rattle.machine_core.proofs.Listing.{grown, call-calls}
+use Rattle.written_machine.specs.Machine.{Machine, call_device, call_devices}
+use Rattle.machine_core.specs.Core.{after}
+use Rattle.machine_core.proofs.{Room.{room-first, all_do-first}, Going.goes-call, Listing.{grown, call-calls}}
 use Rattle.machine_core.proofs.calls.call_devices.Goals as goal
 
 none : RowId

@@ -1,4 +1,4 @@
-use Rattle.std.proofs.Common.{rules, ◌<◌, length, get_or, ap, arith}
+use Rattle.std.proofs.Common.{rules, get_or}
 use Rattle.machine_core.proofs.Stopping.{none-stopped, one-stopped, rows-stay, states-stopped}
 use Rattle.machine_core.proofs.core_state.stop_all.Goals as goal
 

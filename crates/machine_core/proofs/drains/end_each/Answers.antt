@@ -1,14 +1,10 @@
-use Rattle.std.proofs.Common.{rules, true, ◌≡◌, ◌+◌, ◌<◌, ◌≤◌, List, filter, length, sym, ap, ◌∙◌, subst, arith}
+use Rattle.std.proofs.Common.{rules, true, ◌≡◌, ◌+◌, ◌<◌, List, length, sym, ap, ◌∙◌, subst, arith}
 use Rattle.plan_tables.specs.PlanView.{PlanView, is_multiball, multiball_rows, row_at}
-use Rattle.plan_tables.specs.declared.devices.Act.TheVariants.{End}
-use Rattle.plan_tables.specs.declared.devices.DeviceRow.{DeviceRow}
-use Rattle.plan_tables.specs.declared.devices.RowId.{RowId}
+use Rattle.plan_tables.specs.declared.devices.{Act.TheVariants.End, DeviceRow.DeviceRow, RowId.RowId}
 use Rattle.device_objects.specs.declared.device.Call.TheVariants as calls
 use Rattle.written_machine.specs.Machine.{Machine, all_do, call_device}
-use Rattle.machine_core.specs.Core.{CoreView, CanCall, after}
-use Rattle.machine_core.proofs.Room.{room-first, all_do-first}
-use Rattle.machine_core.proofs.Going.{goes-call}
-use Rattle.machine_core.proofs.Draining.{multiplies, multiballs_from}
+use Rattle.machine_core.{specs.Core.{CoreView, CanCall, after}, proofs.Draining.{multiplies, multiballs_from}}
+use Rattle.machine_core.proofs.{Room.{room-first, all_do-first}, Going.goes-call}
 use Rattle.machine_core.proofs.Listing.{grown, call-calls, row-first, row-other, rows-end}
 use Rattle.machine_core.proofs.drains.end_each.Goals as goal
 use Rattle.machine_core.proofs.drains.end_each.Goals.{then-is_multiball, else-is_multiball}

@@ -1,10 +1,8 @@
 use Rattle.std.proofs.Common.{◌≡◌}
-use Rattle.plan_tables.specs.PlanView.{multiball_rows}
-use Rattle.plan_tables.specs.declared.devices.Act.TheVariants.{End}
+use Rattle.plan_tables.specs.{PlanView.multiball_rows, declared.devices.Act.TheVariants.End}
 use Rattle.device_objects.specs.declared.device.Call.TheVariants as calls
 use Rattle.written_machine.specs.Machine.{all_do, call_device}
-use Rattle.machine_core.specs.Core.{CanCall, after}
-use Rattle.machine_core.proofs.Draining.{multiballs_from}
+use Rattle.machine_core.{specs.Core.{CanCall, after}, proofs.Draining.multiballs_from}
 use Rattle.machine_core.proofs.drains.end_each.Given as goal
 
 -- the calls that are left, made now, are all, made at the start

@@ -1,7 +1,5 @@
-use Rattle.std.proofs.Common.{rules, ◌<◌, ◌≤◌, length, ap, sym, ◌∙◌, arith}
-use Rattle.plan_tables.specs.PlanView.{PlanView}
-use Rattle.machine_core.proofs.Draining.{saves, active, save-on, save-off}
-use Rattle.machine_core.proofs.Listing.{first-here, first-later, first-end}
+use Rattle.std.proofs.Common.{rules}
+use Rattle.machine_core.proofs.{Draining.{save-on, save-off}, Listing.{first-here, first-later, first-end}}
 use Rattle.machine_core.proofs.drains.first_active_save.Goals as goal
 
 pub loop-number-preserved : goal.loop-number-preserved

@@ -1,7 +1,6 @@
 use Rattle.std.proofs.Common.{◌≡◌, ◌<◌, ◌≤◌, inl, inr, length, map, sym, ap, ◌∙◌, subst, true≢false, arith}
 use Rattle.std.proofs.lemmas.Bool.{cases_lt}
-use Rattle.machine_core.specs.Fit.{IsRight}
-use Rattle.machine_core.proofs.Fitting.{right-at, first-at, too-few, not-right, all-fit}
+use Rattle.machine_core.{specs.Fit.IsRight, proofs.Fitting.{right-at, first-at, too-few, not-right, all-fit}}
 use Rattle.machine_core.proofs.fit.first_wrong.Goals as goal
 use Rattle.machine_core.proofs.fit.first_wrong.Goals.{then-number-devices-via-then-number-devices, then-number-devices-via-else-number-devices+then-not-is_right}
 

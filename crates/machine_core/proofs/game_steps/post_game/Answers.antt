@@ -1,12 +1,7 @@
-use Rattle.std.proofs.Common.{rules, ◌+◌, drop, get_or, ap, sym, ◌∙◌}
-use Rattle.std.proofs.lemmas.List.{drop_more}
-use Rattle.plan_tables.specs.PlanView.{PlanView, game_event}
-use Rattle.plan_tables.specs.declared.entries.EventId.{EventId}
+use Rattle.std.proofs.{Common.{rules, ◌+◌, drop, get_or}, lemmas.List.drop_more}
 use Rattle.plan_tables.specs.declared.entries.GameEvent.TheVariants.{SwStart}
-use Rattle.plan_tables.specs.declared.entries.Owner.TheVariants.{Machine}
-use Rattle.written_machine.specs.Machine.{all_do, post, post_game}
-use Rattle.machine_core.specs.Core.{CoreView, after}
-use Rattle.machine_core.proofs.Room.{all_do-first, game-room}
+use Rattle.written_machine.specs.Machine.{all_do, post_game}
+use Rattle.machine_core.{specs.Core.after, proofs.Room.{all_do-first, game-room}}
 use Rattle.machine_core.proofs.game_steps.post_game.Goals as goal
 
 pub post-requires : goal.post-requires

@@ -1,9 +1,6 @@
-use Rattle.std.proofs.Common.{rules, ◌≡◌, ◌+◌, ◌-◌, ◌<◌, Bool, true, length, ap, ◌∙◌, subst, arith}
-use Rattle.std.specs.List.{range_with_len}
+use Rattle.std.{proofs.Common.{rules, ◌≡◌, ◌+◌, ◌-◌, ◌<◌, Bool, true, length, subst, arith}, specs.List.range_with_len}
 use Rattle.written_machine.specs.Machine.{all_do, write_final, write_finals}
-use Rattle.machine_core.specs.Core.{CoreView, HasRoom, after}
-use Rattle.machine_core.proofs.Room.{all_do-first, final-room}
-use Rattle.machine_core.proofs.Playing.{finals-first}
+use Rattle.machine_core.{specs.Core.{HasRoom, after}, proofs.{Room.{all_do-first, final-room}, Playing.finals-first}}
 use Rattle.machine_core.proofs.game_steps.tell_scores.Goals as goal
 
 pub tell_score-requires-clause-room : goal.tell_score-requires-clause-room

@@ -1,5 +1,4 @@
-use Rattle.std.proofs.Common.{◌≡◌, ◌+◌, ◌-◌, length}
-use Rattle.std.specs.List.{range_with_len}
+use Rattle.std.{proofs.Common.{◌≡◌, ◌+◌, ◌-◌, length}, specs.List.range_with_len}
 use Rattle.written_machine.specs.Machine.{all_do, write_final}
 use Rattle.machine_core.specs.Core.{after}
 use Rattle.machine_core.proofs.game_steps.tell_scores.Given as goal

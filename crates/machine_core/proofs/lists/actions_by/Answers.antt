@@ -1,15 +1,8 @@
-use Rattle.std.proofs.Common.{rules, ◌+◌, drop, get_or, sym, subst}
-use Rattle.std.proofs.lemmas.List.{drop_more}
-use Rattle.std.proofs.lemmas.List.Elements.{All-get_or}
-use Rattle.plan_tables.specs.PlanView.{PlanView}
-use Rattle.plan_tables.specs.Valid.{IsActionWithin}
-use Rattle.plan_tables.specs.declared.entries.Action.{Action}
-use Rattle.plan_tables.specs.declared.entries.Action.TheVariants.{Post}
+use Rattle.std.proofs.{Common.{rules, ◌+◌, drop, get_or, sym, subst}, lemmas.List.{drop_more, Elements.All-get_or}}
+use Rattle.plan_tables.specs.{PlanView.PlanView, declared.entries.Action.{Action, TheVariants.Post}}
 use Rattle.written_machine.specs.Machine.{Machine, all_do, do_action_by}
-use Rattle.machine_core.specs.Core.{CoreView, CanCall, after}
-use Rattle.machine_core.proofs.Going.{goes-can, goes-action_by}
-use Rattle.machine_core.proofs.Listing.{grown}
-use Rattle.machine_core.proofs.Room.{room-first, all_do-first}
+use Rattle.machine_core.specs.Core.{CanCall, after}
+use Rattle.machine_core.proofs.{Going.{goes-can, goes-action_by}, Listing.grown, Room.{room-first, all_do-first}}
 use Rattle.machine_core.proofs.lists.actions_by.Goals as goal
 
 none : Action

@@ -1,11 +1,7 @@
-use Rattle.std.proofs.Common.{rules, ◌<◌, List, ℕ, length, ap, sym, ◌∙◌, subst}
-use Rattle.std.specs.List.{All}
-use Rattle.plan_tables.specs.PlanView.{row_at}
-use Rattle.plan_tables.specs.Devices.{list_count}
-use Rattle.written_machine.specs.Machine.{called, do_answer_by, set_device}
-use Rattle.machine_core.specs.Core.{CoreView, CanCall, HasRoom, after}
-use Rattle.machine_core.proofs.Going.{goes-can, goes-turn}
-use Rattle.machine_core.proofs.Listing.{answer-lists}
+use Rattle.std.{proofs.Common.{rules, ◌<◌, length, sym, ◌∙◌, subst}, specs.List.All}
+use Rattle.plan_tables.specs.{PlanView.row_at, Devices.list_count}
+use Rattle.written_machine.specs.Machine.{called}
+use Rattle.machine_core.{specs.Core.CoreView, proofs.{Going.{goes-can, goes-turn}, Listing.answer-lists}}
 use Rattle.machine_core.proofs.lists.call_by.Goals as goal
 
 pub lists_by-requires-clause-row : goal.lists_by-requires-clause-row

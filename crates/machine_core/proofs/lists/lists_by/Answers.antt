@@ -1,19 +1,11 @@
 use Rattle.std.proofs.Common.{rules, ◌≡◌, ◌+◌, ◌<◌, ℕ, List, drop, get_or, length, sym, ap, ◌∙◌, subst}
-use Rattle.std.proofs.lemmas.List.{drop_more}
-use Rattle.std.proofs.lemmas.List.Elements.{All-get_or}
+use Rattle.std.proofs.lemmas.List.{drop_more, Elements.All-get_or}
 use Rattle.plan_tables.specs.PlanView.{PlanView, actions_at, list_of_row, row_at}
-use Rattle.plan_tables.specs.Devices.{list_count}
-use Rattle.plan_tables.specs.declared.entries.Action.{Action}
-use Rattle.plan_tables.specs.declared.entries.Owner.{Owner}
-use Rattle.plan_tables.specs.declared.devices.DeviceRow.{DeviceRow}
+use Rattle.plan_tables.specs.declared.{entries.{Action.Action, Owner.Owner}, devices.DeviceRow.DeviceRow}
 use Rattle.written_machine.specs.Machine.{Machine, all_do, do_action_by, do_answer_by, do_list_by}
-use Rattle.std.specs.List.{All}
-use Rattle.plan_tables.specs.Valid.{IsActionWithin}
 use Rattle.machine_core.specs.Core.{CoreView, CanCall, HasRoom, after}
-use Rattle.machine_core.proofs.Callable.{actions-within}
-use Rattle.machine_core.proofs.Going.{goes-can, goes-list_by}
-use Rattle.machine_core.proofs.Room.{room-first, all_do-first}
-use Rattle.machine_core.proofs.Listing.{grown}
+use Rattle.machine_core.proofs.{Callable.actions-within, Listing.grown}
+use Rattle.machine_core.proofs.{Going.{goes-can, goes-list_by}, Room.{room-first, all_do-first}}
 use Rattle.machine_core.proofs.lists.lists_by.Goals as goal
 
 pub row-owner-requires : goal.row-owner-requires

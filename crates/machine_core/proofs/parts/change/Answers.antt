@@ -1,8 +1,7 @@
-use Rattle.std.proofs.Common.{rules, Option, ap, sym, ◌∙◌, subst}
-use Rattle.switch_core.specs.declared.change.Change.{Change}
-use Rattle.switch_core.specs.Switches.{after_change}
+use Rattle.std.proofs.Common.{rules, Option, ap, ◌∙◌}
+use Rattle.switch_core.specs.{declared.change.Change.Change, Switches.after_change}
 use Rattle.written_machine.specs.Machine.{do_accepted, do_if_accepted, set_switches}
-use Rattle.machine_core.specs.Core.{CoreView, CanCall, after}
+use Rattle.machine_core.specs.Core.{CoreView, after}
 use Rattle.machine_core.proofs.parts.change.Goals as goal
 
 pub run_accepted-requires-clause-calls : goal.run_accepted-requires-clause-calls

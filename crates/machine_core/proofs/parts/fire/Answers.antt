@@ -1,5 +1,4 @@
-use Rattle.std.proofs.Common.{rules, ◌<◌, Some, length, ap, sym, ◌∙◌, subst}
-use Rattle.machine_core.specs.Core.{CoreView}
+use Rattle.std.proofs.Common.{rules, ap}
 use Rattle.machine_core.specs.Stimuli.{source_view}
 use Rattle.machine_core.proofs.Alarms.{fired-within, next-of, next-row, next-due, fired-room, fired-done}
 use Rattle.machine_core.proofs.parts.fire.Goals as goal

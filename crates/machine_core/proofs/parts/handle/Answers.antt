@@ -1,7 +1,5 @@
-use Rattle.std.proofs.Common.{rules, ◌≡◌, ◌<◌, ◌≤◌, Some, [], ◌∷◌, length, refl, sym, ◌∙◌, subst, arith}
-use Rattle.std.specs.Prelude.{slice_get}
+use Rattle.std.{proofs.Common.{rules, ◌≡◌, Some, [], ◌∷◌, refl, subst}, specs.Prelude.slice_get}
 use Rattle.plan_tables.specs.PlanView.{PlanView}
-use Rattle.plan_tables.specs.Valid.{IsBindingWithin}
 use Rattle.mode_stack.specs.Modes.{running_of}
 use Rattle.machine_core.proofs.Handling.{handler-count, handler-done, handler-left, handler-place, handler-room, handler-run, handlers-end, plan-now, binding-within}
 use Rattle.machine_core.proofs.Stepping.{handled-calls}

@@ -1,15 +1,9 @@
 use Rattle.std.proofs.Common.{rules, ◌∙◌, ap, sym}
-use Rattle.plan_tables.specs.PlanView.{PlanView, mode_at}
-use Rattle.plan_tables.specs.declared.entries.EventId.{EventId}
-use Rattle.plan_tables.specs.declared.entries.Mode.{Mode as ModeValue}
-use Rattle.plan_tables.specs.declared.entries.Owner.TheVariants.{Machine}
-use Rattle.plan_tables.specs.declared.entries.Work.{Work}
-use Rattle.plan_tables.specs.declared.entries.Work.TheVariants.{Mode}
-use Rattle.written_machine.specs.Machine.{release_ball_end, post, stop_mode}
-use Rattle.written_machine.specs.EventStep.{do_after}
-use Rattle.machine_core.specs.Core.{after, follow}
+use Rattle.plan_tables.specs.{PlanView.{PlanView, mode_at}, declared.entries.{EventId.EventId, Mode.Mode as ModeValue}}
+use Rattle.plan_tables.specs.declared.entries.{Owner.TheVariants.Machine, Work.{Work, TheVariants.Mode}}
+use Rattle.written_machine.specs.{Machine.post, EventStep.do_after}
+use Rattle.machine_core.{specs.Core.{after, follow}, proofs.Releasing.{stopped-room, stopped-coils}}
 use Rattle.machine_core.proofs.Following.{follow-still, release-still, stop-still, ended-follows}
-use Rattle.machine_core.proofs.Releasing.{stopped-room, stopped-coils}
 use Rattle.machine_core.proofs.parts.mode_after.Goals as goal
 
 pub returns-then-kept : goal.returns-then-kept

@@ -1,9 +1,7 @@
-use Rattle.std.proofs.Common.{◌+◌, drop, get_or}
-use Rattle.std.proofs.lemmas.List.{drop_more}
+use Rattle.std.proofs.{Common.{◌+◌, drop, get_or}, lemmas.List.drop_more}
 use Rattle.plan_tables.specs.declared.entries.EventId.{EventId}
 use Rattle.written_machine.specs.Machine.{all_do, post}
-use Rattle.machine_core.specs.Core.{after}
-use Rattle.machine_core.proofs.Room.{post-room}
+use Rattle.machine_core.{specs.Core.after, proofs.Room.post-room}
 use Rattle.machine_core.proofs.parts.post_each.Goals as goal
 
 none : EventId

@@ -1,7 +1,5 @@
-use Rattle.std.proofs.Common.{rules, refl, sym, ◌∙◌}
+use Rattle.std.proofs.Common.{rules, refl}
 use Rattle.plan_tables.specs.PlanView.{work_of}
-use Rattle.mode_stack.specs.Modes.{running_of}
-use Rattle.event_queue.specs.PlanOrder.{in_order}
 use Rattle.written_machine.specs.EventStep.{is_kept, do_before}
 use Rattle.machine_core.specs.Core.{follow}
 use Rattle.machine_core.proofs.Stepping.{before-room, before-calls, handled-calls, kept-none, kept-some, none-is, ready-handles, ready-room, then-handles, then-room, last-is}

@@ -1,16 +1,11 @@
-use Rattle.std.proofs.Common.{rules, ◌≡◌, ◌+◌, ◌<◌, drop, get_or, length, ap, sym, ◌∙◌, subst}
-use Rattle.std.proofs.lemmas.List.{drop_more}
-use Rattle.std.proofs.lemmas.List.Elements.{All-get_or}
+use Rattle.std.proofs.Common.{rules, ◌≡◌, ◌+◌, drop, get_or, ap, sym, ◌∙◌, subst}
+use Rattle.std.proofs.lemmas.List.{drop_more, Elements.All-get_or}
 use Rattle.plan_tables.specs.PlanView.{PlanView, act_of_listener}
-use Rattle.plan_tables.specs.Valid.{IsListenerWithin}
-use Rattle.plan_tables.specs.declared.devices.Act.{Act}
-use Rattle.plan_tables.specs.declared.entries.Listener.{Listener}
+use Rattle.plan_tables.specs.declared.{devices.Act.Act, entries.Listener.Listener}
 use Rattle.device_objects.specs.declared.device.Call.TheVariants as calls
 use Rattle.written_machine.specs.Machine.{Machine, all_do, call_device, tell_listener}
-use Rattle.machine_core.specs.Core.{CoreView, HasRoom, after}
-use Rattle.machine_core.proofs.Going.{goes-call}
-use Rattle.machine_core.proofs.Listing.{call-calls, grown}
-use Rattle.machine_core.proofs.Room.{room-first, all_do-first}
+use Rattle.machine_core.specs.Core.{HasRoom, after}
+use Rattle.machine_core.proofs.{Going.goes-call, Listing.{call-calls, grown}, Room.{room-first, all_do-first}}
 use Rattle.machine_core.proofs.parts.tell_listeners.Goals as goal
 
 none : Listener

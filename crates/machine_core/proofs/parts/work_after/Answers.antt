@@ -1,12 +1,6 @@
-use Rattle.std.proofs.Common.{rules, ◌≡◌, ◌<◌, length, ap, sym, ◌∙◌, subst}
-use Rattle.plan_tables.specs.PlanView.{PlanView, work_of}
-use Rattle.plan_tables.specs.Valid.{HasGame}
-use Rattle.plan_tables.specs.declared.entries.Work.{Work}
-use Rattle.written_machine.specs.Machine.{do_game}
-use Rattle.written_machine.specs.EventStep.{do_after}
-use Rattle.machine_core.specs.Core.{HasRoom, IsWorkOf, follow}
-use Rattle.machine_core.proofs.Following.{follow-nothing, follow-still}
-use Rattle.machine_core.proofs.Playing.{game-still}
+use Rattle.std.proofs.Common.{rules, subst}
+use Rattle.plan_tables.specs.{PlanView.work_of, Valid.HasGame}
+use Rattle.machine_core.{specs.Core.IsWorkOf, proofs.{Following.{follow-nothing, follow-still}, Playing.game-still}}
 use Rattle.machine_core.proofs.parts.work_after.Goals as goal
 
 pub mode_after-requires-clause-mode : goal.mode_after-requires-clause-mode

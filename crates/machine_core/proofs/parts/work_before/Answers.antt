@@ -1,9 +1,4 @@
-use Rattle.std.proofs.Common.{rules, ◌≡◌, ◌<◌, Some, length, ap, sym, ◌∙◌, subst}
-use Rattle.plan_tables.specs.PlanView.{PlanView, work_of}
-use Rattle.plan_tables.specs.declared.entries.Work.{Work}
-use Rattle.written_machine.specs.EventStep.{do_before}
-use Rattle.machine_core.specs.Core.{HasRoom, IsWorkOf, follow}
-use Rattle.machine_core.specs.Inside.{kept_at}
+use Rattle.std.proofs.Common.{rules}
 use Rattle.machine_core.proofs.Following.{follow-nothing}
 use Rattle.machine_core.proofs.parts.work_before.Goals as goal
 

@@ -1,4 +1,4 @@
-use Rattle.std.proofs.Common.{rules, not, ap, sym, ◌∙◌}
+use Rattle.std.proofs.Common.{rules}
 use Rattle.machine_core.proofs.Telling.{unless-some, none-away}
 use Rattle.machine_core.proofs.tellings.first_away.Goals as goal
 

@@ -1,5 +1,4 @@
-use Rattle.std.proofs.Common.{◌≡◌, drop}
-use Rattle.std.specs.Prelude.{find}
+use Rattle.std.{proofs.Common.{◌≡◌, drop}, specs.Prelude.find}
 use Rattle.written_machine.specs.Machine.{first_away}
 use Rattle.machine_core.proofs.Telling.{away}
 use Rattle.machine_core.proofs.tellings.first_away.Given as goal

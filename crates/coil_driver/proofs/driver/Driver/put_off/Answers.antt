@@ -1,6 +1,5 @@
 use Rattle.std.proofs.Common.{◌<◌, ◌≤◌, ◌+◌, length, sym, subst, arith}
-use Rattle.coil_driver.specs.declared.report.ShutReport.{ShutReport}
-use Rattle.coil_driver.specs.Driver.{DriverView}
+use Rattle.coil_driver.specs.{declared.report.ShutReport.ShutReport, Driver.DriverView}
 use Rattle.coil_driver.proofs.PuttingOff.{IsPuttingOff, putting-left, putting-more, putting-end}
 use Rattle.coil_driver.proofs.driver.Driver.put_off.Goals as goal
 use Rattle.coil_driver.proofs.driver.Driver.put_off.Goals.{then-takes_off, else-takes_off}

@@ -1,10 +1,7 @@
-use Rattle.std.proofs.Common.{rules, ◌≡◌, ◌<◌, length, map, slice_set, ap, sym, ◌∙◌, arith}
+use Rattle.std.proofs.Common.{rules, ◌<◌, length, map, slice_set, ap, sym, ◌∙◌, arith}
 use Rattle.std.proofs.lemmas.List.{length-map, map-set}
-use Rattle.device_objects.specs.declared.state.World.{World}
-use Rattle.player_game.specs.GameStep.{in_play}
-use Rattle.device_objects.specs.DeviceStep.{device_step, due_of}
-use Rattle.machine_core.specs.Core.{CoreView}
-use Rattle.machine_core.proofs.Calling.{rows-kept, states-turned}
+use Rattle.device_objects.specs.DeviceStep.{due_of}
+use Rattle.machine_core.{specs.Core.CoreView, proofs.Calling.{rows-kept, states-turned}}
 use Rattle.machine_core.proofs.core_state.Core.call.Goals as goal
 
 pub invariant_of-self : goal.invariant_of-self

@@ -1,8 +1,6 @@
-use Rattle.std.proofs.Common.{◌≡◌, ◌<◌, ℤ, Some, length, w64, ap, sym, ◌∙◌, subst}
-use Rattle.std.proofs.lemmas.Int.{to_z-of_z}
+use Rattle.std.proofs.{Common.{◌≡◌, ◌<◌, ℤ, Some, length, w64, ap, sym, ◌∙◌, subst}, lemmas.Int.to_z-of_z}
 use Rattle.player_game.specs.Players.{changed_to}
-use Rattle.machine_core.specs.Core.{CoreView}
-use Rattle.machine_core.proofs.Room.{changed-room}
+use Rattle.machine_core.{specs.Core.CoreView, proofs.Room.changed-room}
 use Rattle.machine_core.proofs.core_state.Core.change_variable.Goals as goal
 
 pub write-requires : goal.write-requires

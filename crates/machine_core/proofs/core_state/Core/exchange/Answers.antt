@@ -2,10 +2,8 @@ use Rattle.std.proofs.Common.{rules, ◌≡◌, map, ap, sym, ◌∙◌}
 use Rattle.plan_tables.specs.PlanView.{row_at}
 use Rattle.device_objects.specs.declared.state.World.{World}
 use Rattle.player_game.specs.GameStep.{in_play}
-use Rattle.device_objects.specs.DeviceStep.{due_of}
 use Rattle.written_machine.specs.Machine.{device_at, device_state, world_of}
-use Rattle.machine_core.specs.Core.{CoreView}
-use Rattle.machine_core.specs.Stopping.{stopped_state}
+use Rattle.machine_core.specs.{Core.CoreView, Stopping.stopped_state}
 use Rattle.machine_core.proofs.Exchanging.{old-row, old-stopped, rows-stay, states-stay}
 use Rattle.machine_core.proofs.core_state.Core.exchange.Goals as goal
 

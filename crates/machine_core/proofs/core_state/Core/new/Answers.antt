@@ -1,13 +1,7 @@
-use Rattle.std.proofs.Common.{rules, map, length, ap, sym, subst, ◌∙◌, arith}
-use Rattle.written_machine.specs.Devices.{HasDevices}
-use Rattle.written_machine.proofs.Alarms.{initial-devices}
-use Rattle.std.proofs.lemmas.List.{length-replicate}
-use Rattle.mode_stack.specs.declared.phase.Phase.TheVariants.{Idle}
-use Rattle.mode_stack.specs.ModeStep.{in_phase}
-use Rattle.mode_stack.specs.Modes.{running_of}
-use Rattle.device_objects.specs.DeviceStep.{due_of}
-use Rattle.machine_core.proofs.Fitting.{first-dues}
-use Rattle.machine_core.proofs.Following.{idle-runs}
+use Rattle.std.proofs.{Common.{rules, map, length, ap, sym, subst, ◌∙◌}, lemmas.List.length-replicate}
+use Rattle.written_machine.{specs.Devices.HasDevices, proofs.Alarms.initial-devices}
+use Rattle.mode_stack.specs.{declared.phase.Phase.TheVariants.Idle, ModeStep.in_phase, Modes.running_of}
+use Rattle.machine_core.proofs.{Fitting.first-dues, Following.idle-runs}
 use Rattle.machine_core.proofs.core_state.Core.new.Goals as goal
 
 pub returns-clause-whole : goal.returns-clause-whole

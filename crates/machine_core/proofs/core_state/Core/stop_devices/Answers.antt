@@ -1,9 +1,7 @@
 use Rattle.std.proofs.Common.{◌≡◌, List, length, map, refl, ap, sym, ◌∙◌, subst}
 use Rattle.device_objects.specs.declared.state.World.{World}
 use Rattle.player_game.specs.GameStep.{in_play}
-use Rattle.machine_core.specs.Core.{CoreView}
-use Rattle.machine_core.specs.Stopping.{AreStopped}
-use Rattle.machine_core.proofs.Stopping.{lent-whole, machine-stopped}
+use Rattle.machine_core.{specs.{Core.CoreView, Stopping.AreStopped}, proofs.Stopping.{lent-whole, machine-stopped}}
 use Rattle.machine_core.proofs.core_state.Core.stop_devices.Goals as goal
 
 pub returns : goal.returns
