@@ -1,41 +1,26 @@
 -- What is due: only a stimulus alters that, and no alarm comes late.
 use Rattle.std.proofs.Common.{rules, ◌≡◌, ℕ, ◌≤◌, ◌<◌, ◌⊎◌, Option, None, Some, IfSome, List, [], length, slice_set, refl, ap, sym, subst, ◌∙◌, inl, inr, arith}
-use Rattle.std.proofs.lemmas.Bool.{cases_eq, cases_lt}
-use Rattle.std.proofs.lemmas.Option.{none-some}
+use Rattle.std.proofs.lemmas.{Bool.{cases_eq, cases_lt}, Option.none-some, List.Elements.All-get_or}
 use Rattle.std.proofs.lemmas.List.{get_or_past, get_or-map, get_or-set_same, get_or-set_other, length-map, length-replicate, length-set}
-use Rattle.std.proofs.lemmas.List.Elements.{All-get_or}
-use Rattle.mode_stack.specs.declared.phase.Phase.TheVariants.{Idle}
-use Rattle.mode_stack.specs.ModeStep.{in_phase}
-use Rattle.plan_tables.specs.PlanView.{PlanView, no_row, row_at, work_of}
-use Rattle.plan_tables.specs.Valid.{IsValid}
-use Rattle.plan_tables.specs.Devices.{IsWithinLimits}
-use Rattle.plan_tables.specs.declared.entries.SwitchId.{SwitchId}
-use Rattle.plan_tables.specs.declared.devices.RowId.{RowId}
-use Rattle.plan_tables.specs.declared.devices.DeviceRow.{DeviceRow}
-use Rattle.device_objects.specs.declared.device.Call.{Call}
+use Rattle.mode_stack.specs.{declared.phase.Phase.TheVariants.Idle, ModeStep.in_phase}
+use Rattle.plan_tables.specs.{PlanView.{PlanView, no_row, row_at, work_of}, Valid.IsValid, Devices.IsWithinLimits}
+use Rattle.plan_tables.specs.declared.{entries.SwitchId.SwitchId, devices.{RowId.RowId, DeviceRow.DeviceRow}}
+use Rattle.device_objects.specs.{declared.{device.Call.Call, state.DeviceState.DeviceState}, Laws.IsDone}
 use Rattle.device_objects.specs.declared.device.Call.TheVariants as calls
-use Rattle.device_objects.specs.declared.state.DeviceState.{DeviceState}
 use Rattle.device_objects.specs.DeviceStep as devices
-use Rattle.device_objects.proofs.Shapes.{states_keep_their_shape}
-use Rattle.device_objects.specs.Laws.{IsDone}
+use Rattle.device_objects.proofs.{Shapes.states_keep_their_shape, Lists.lists_are_of_the_row}
 use Rattle.device_objects.proofs.Moments.{arms-later, fired-done, first-quiet, devices_are_due_with_their_parts}
-use Rattle.switch_core.specs.SwitchStep.{idle}
+use Rattle.switch_core.{specs.SwitchStep.idle, proofs.DueMoments.{changes_arm_later, accept-due, accept-done}}
 use Rattle.switch_core.specs.Switches.{SwitchesView, IsComplete, due_of, after_change, reported_by_change, accept, reported}
-use Rattle.switch_core.proofs.DueMoments.{changes_arm_later, accept-due, accept-done}
-use Rattle.written_machine.specs.declared.line.Line.{Line}
+use Rattle.written_machine.specs.{declared.line.Line.Line, AlarmsEnd.IsPartDone}
 use Rattle.written_machine.specs.Machine.{Machine, set_switches, set_device, world_of, device_state, device_at, called, initial}
-use Rattle.written_machine.specs.Devices.{HasDevices}
-use Rattle.written_machine.specs.EventStep.{taken, EventStep, EventSteps}
-use Rattle.written_machine.specs.PlanOrder.{settled}
-use Rattle.written_machine.specs.AlarmsEnd.{IsPartDone}
+use Rattle.written_machine.specs.{Devices.HasDevices, EventStep.{taken, EventStep, EventSteps}, PlanOrder.settled}
 use Rattle.written_machine.specs.Run.{Source, switch, device, source_due, part_due, IsNothingLate, IsNextAlarm, Stimulus, SwitchChange, Alarm, Wait, moment_of, IsAllowed, arrived, begin, IsRun}
 use Rattle.cascade_rank.specs.Cost.{Cost}
 use Rattle.written_machine.specs.Moves.{Move, do_move, Does, TakesPart, Begins, IsMachine, ordinary, working, MayWork}
 use Rattle.written_machine.proofs.Does.{start-by, stop-by, book-by, does-keeps, due-row, off-has_coils, HasStates, moment-move, moment-does, has_states-does, switches-does}
-use Rattle.device_objects.proofs.Lists.{lists_are_of_the_row}
 use Rattle.written_machine.proofs.Parts.{does-answer, does-call, does-accepted, does-if_accepted, does-begin, does-before, does-after}
-use Rattle.written_machine.proofs.Keeps.{step-keeps, steps-keep, run-keeps}
-use Rattle.written_machine.proofs.PlanSteps.{plan_steps-event_steps}
+use Rattle.written_machine.proofs.{Keeps.{step-keeps, steps-keep, run-keeps}, PlanSteps.plan_steps-event_steps}
 
 -- ---- what is due of devices
 
@@ -69,11 +54,7 @@ module _ (plan : PlanView) where
         new = slice_set s.devices r.0 (called plan call r s).0
 
         at : devices.part_due (device_state new r) k ≡ Some due → (devices.part_due (device_at s r) k ≡ Some due) ⊎ (s.moment < due)
-        at here =
-            elim (turned-at call r s) [
-              | inl next ↦ arms-later (row_at plan r).settings call s.moment (world_of s) (device_at s r) (limits r) k due (sym (ap (λ state. devices.part_due state k) next) ∙ here)
-              | inr none ↦ absurd (none-some due (sym (none k) ∙ here))
-            ]
+        at here = search (rules, turned-at, arms-later, limits, none-some)
 
     later-move : (x : Move) (s : Machine) → IsLater s (do_move plan x s)
     later-move x s = search (rules, start-by, stop-by, later-turned, book-by)

@@ -1,25 +1,17 @@
 -- Playing the next alarm again and again comes to an end: each part of a source comes at most once at each moment.
 use Rattle.std.proofs.Common.{rules, ◌≡◌, ℕ, zero, suc, ◌+◌, ◌-◌, ◌*◌, ◌≤◌, ◌<◌, ◌⊎◌, Bool, true, false, if◌then◌else◌, nat_le, Option, Some, None, List, [], ◌∷◌, ◌++◌, length, length-append, map, Contains, refl, ap, sym, ◌∙◌, subst, inl, inr, arith}
-use Rattle.std.specs.Option.{option_map_or}
-use Rattle.std.specs.List.{range_with_len}
-use Rattle.std.proofs.lemmas.List.FromFn.{get_or-range_with_len}
-use Rattle.std.proofs.lemmas.Bool.{cases_lt, le-leb}
+use Rattle.std.specs.{Option.option_map_or, List.range_with_len}
+use Rattle.std.proofs.lemmas.{List.FromFn.get_or-range_with_len, Bool.{cases_lt, le-leb}}
 use Rattle.std.proofs.lemmas.List.{length-map, get_or-map, get_or_append_left, get_or-append-add}
-use Rattle.plan_tables.specs.PlanView.{PlanView, row_numbers}
-use Rattle.plan_tables.specs.Valid.{IsValid}
+use Rattle.plan_tables.specs.{PlanView.{PlanView, row_numbers}, Valid.IsValid}
 use Rattle.cascade_rank.specs.Cost.{switches_of}
-use Rattle.cascade_rank.proofs.Rows.{length-rows, row_of}
-use Rattle.cascade_rank.proofs.Switches.{length-switches, switch_of}
+use Rattle.cascade_rank.proofs.{Rows.{length-rows, row_of}, Switches.{length-switches, switch_of}}
 use Rattle.switch_core.proofs.Lists.{due-within}
-use Rattle.written_machine.specs.declared.line.Line.{Line}
-use Rattle.written_machine.specs.Machine.{Machine}
-use Rattle.written_machine.specs.PlanOrder.{settled}
+use Rattle.written_machine.specs.{declared.line.Line.Line, AlarmsEnd.AlarmsEnd}
+use Rattle.written_machine.specs.{Machine.Machine, PlanOrder.settled, AlarmsBy.{due_by, alarms_by, state_after}}
 use Rattle.written_machine.specs.Run.{Source, switch, device, source_due, part_due, IsNoAlarmDueBy, IsNothingLate, IsNextAlarm, Stimulus, Alarm, begin, IsReached}
 use Rattle.written_machine.specs.NextAlarm.{next_alarm, source_count, part_count, most_alarms}
-use Rattle.written_machine.specs.AlarmsBy.{due_by, alarms_by, state_after}
-use Rattle.written_machine.specs.AlarmsEnd.{AlarmsEnd}
-use Rattle.written_machine.proofs.PlanSteps.{IsSteps, plan_steps-are_steps}
-use Rattle.written_machine.proofs.Does.{HasStates, due-row}
+use Rattle.written_machine.proofs.{PlanSteps.{IsSteps, plan_steps-are_steps}, Does.{HasStates, due-row}}
 use Rattle.written_machine.proofs.Alarms.{has_states-after, arms_later, alarm-done, moment-after, next-first, not_late-from}
 use Rattle.written_machine.proofs.NextAlarms.{due_by-some, due_by-none, nothing-due_by, some-due_by}
 use Rattle.written_machine.proofs.Reached.{reached-not_late, reached-has_states}
@@ -173,8 +165,7 @@ module _ (plan : PlanView) (bound : ℕ) where
         no_more other k = flag-no_more (is_part_due s.moment s other k) (is_part_due s.moment (after_alarm at source s) other k) (weaker other k)
 
         each : (other : Source) → due_parts s.moment (after_alarm at source s) other ≤ due_parts s.moment s other
-        each other =
-            total-no_more (λ k. flag (is_part_due s.moment s other k)) (λ k. flag (is_part_due s.moment (after_alarm at source s) other k)) (no_more other) (range_with_len 0 17)
+        each other = search (rules, total-no_more, no_more)
 
   -- ---- alarms, one after another
 

@@ -1,51 +1,35 @@
 -- A whole call of a ball device books what it answers, and leaves the ledger in step with the devices.
 use Rattle.std.proofs.Common.{rules, ◌≡◌, ℕ, ◌+◌, ◌<◌, ◌≤◌, ◌==◌, ◌&&◌, if◌then◌else◌, Bool, true, false, Option, Some, None, List, [], ◌∷◌, length, refl, sym, ap, ap₂, ◌∙◌, subst, arith}
-use Rattle.std.specs.Prelude.{unwrap_or}
-use Rattle.std.specs.List.{All, count_by}
-use Rattle.std.proofs.lemmas.Bool.{eq-eqb, ne_eqb}
-use Rattle.std.proofs.lemmas.List.Elements.{All-filter, filter_passes}
-use Rattle.plan_tables.specs.declared.entries.GameEvent.TheVariants.{BallDrain}
+use Rattle.std.specs.{Prelude.unwrap_or, List.{All, count_by}}
+use Rattle.std.proofs.lemmas.{Bool.{eq-eqb, ne_eqb}, List.Elements.{All-filter, filter_passes}}
+use Rattle.plan_tables.specs.declared.entries.{GameEvent.TheVariants.BallDrain, Owner.Owner}
 use Rattle.plan_tables.specs.PlanView.{PlanView, feeders_of, feeds, game_event, is_target, list_of_row, row_at, row_numbers, target_in, target_of, first_trough, is_trough}
 use Rattle.plan_tables.specs.Valid.{IsTargetThere, IsValid}
 use Rattle.plan_tables.specs.declared.devices.Act.TheVariants as acts
-use Rattle.plan_tables.specs.declared.devices.BallSettings.{BallSettings}
-use Rattle.plan_tables.specs.declared.devices.BallTarget.{BallTarget}
-use Rattle.plan_tables.specs.declared.devices.BallTarget.TheVariants.{Playfield, Device}
-use Rattle.plan_tables.specs.declared.devices.RowId.{RowId}
-use Rattle.plan_tables.specs.declared.devices.Settings.{Settings}
+use Rattle.plan_tables.specs.declared.devices.{BallSettings.BallSettings, RowId.RowId, Settings.Settings}
+use Rattle.plan_tables.specs.declared.devices.BallTarget.{BallTarget, TheVariants.{Playfield, Device}}
 use Rattle.plan_tables.specs.declared.devices.Settings.TheVariants as kinds
-use Rattle.plan_tables.specs.declared.entries.Action.{Action}
-use Rattle.plan_tables.specs.declared.entries.Action.TheVariants.{Enter, Leave, Lose, Arrive}
-use Rattle.plan_tables.specs.declared.entries.Owner.{Owner}
-use Rattle.ball_devices.specs.declared.booking.Booking.TheVariants.{Entered}
-use Rattle.ball_devices.specs.declared.booking.Origin.{Origin}
-use Rattle.ball_devices.specs.declared.booking.Origin.TheVariants.{Awaited}
+use Rattle.plan_tables.specs.declared.entries.Action.{Action, TheVariants.{Enter, Leave, Lose, Arrive}}
+use Rattle.ball_devices.specs.declared.booking.{Booking.TheVariants.Entered, Origin.{Origin, TheVariants.Awaited}}
 use Rattle.ball_devices.specs.Ledger.{counted_in, transit_to, origin_of}
 use Rattle.ball_devices.specs.Bookings.{LedgerCall, MayBook, booked, is_new_entry, is_entry_into, is_exit_from, is_start_for, is_end_for, one}
 use Rattle.ball_devices.specs.Bookings as ledger_calls
-use Rattle.ball_devices.proofs.Ledgers.{origin-says, call-is}
-use Rattle.ball_devices.proofs.Booked.{call-told}
+use Rattle.ball_devices.proofs.{Ledgers.{origin-says, call-is}, Booked.call-told}
 use Rattle.cascade_rank.proofs.Rows.{rows-within}
-use Rattle.device_objects.specs.declared.device.Call.{Call}
+use Rattle.device_objects.specs.declared.{device.Call.Call, state.{BallState.BallState, DeviceState.DeviceState}}
 use Rattle.device_objects.specs.declared.device.Call.TheVariants as calls
-use Rattle.device_objects.specs.declared.state.BallState.{BallState}
-use Rattle.device_objects.specs.declared.state.DeviceState.{DeviceState}
 use Rattle.device_objects.specs.declared.state.DeviceState.TheVariants as states
-use Rattle.device_objects.specs.BallDevice.{is_away, ball_step}
+use Rattle.device_objects.specs.{BallDevice.{is_away, ball_step}, DeviceStep.device_step, Laws.HasBallShape}
 use Rattle.device_objects.specs.BallDevice as lists
-use Rattle.device_objects.specs.DeviceStep.{device_step}
-use Rattle.device_objects.specs.Laws.{HasBallShape}
 use Rattle.device_objects.proofs.BallShapes.{ball_step-shape}
 use Rattle.player_game.specs.GameStep.{is_ball_on}
 use Rattle.plan_tables.specs.BallRows.{actions_in, BooksBalls, BooksRightly, BookingsAreRight, IsPlain}
-use Rattle.plan_tables.specs.declared.devices.Telling.{Telling}
-use Rattle.plan_tables.specs.declared.devices.Telling.TheVariants.{Arrived, Wanted}
+use Rattle.plan_tables.specs.declared.devices.Telling.{Telling, TheVariants.{Arrived, Wanted}}
 use Rattle.written_machine.specs.Machine.{Machine, post, set_device, book, drain_if, after_entry, do_action_by, do_list_by, world_of, device_at, do_answer_by, call_device_by, is_device_away, first_away, tell_nobody, tell_device, tell_first, call_device}
 use Rattle.written_machine.proofs.BallSteps.{balls_in, IsQuiet, AreQuiet, Answer, nothing, enters, leaves, loses, arrives, IsAnswer, IsUsual, step-answer, confirm-answer, step-confirmed, requested-answer}
-use Rattle.written_machine.proofs.BallFeeders.{Found, find-found, row-counts}
+use Rattle.written_machine.proofs.{BallFeeders.{Found, find-found, row-counts}, Feeding.first_trough-is}
 use Rattle.written_machine.proofs.BallPlays.{IsOther, nothing-other, then-other, post-other, list-other, Plays, still, ball, arrival, both, IsNoCall, request}
 use Rattle.written_machine.proofs.BallCalm.{balls_at, no_lag, lag_at, limit, IsCalm, feeder, one-no, one-yes, surely_booked, other-calm, room, turned-calm}
-use Rattle.written_machine.proofs.Feeding.{first_trough-is}
 
 pub no_call-usual : (call : Call) → IsNoCall call → IsUsual call
 no_call-usual call none = absurd none
@@ -272,9 +256,7 @@ module _ (plan : PlanView) (valid : IsValid plan) (right : BookingsAreRight plan
       p q = is_device_away (device_at s q)
 
       by : (o : Option RowId) → Found p (IsFeedingRow (Device to)) (feeders_of plan (Device to)) o → IsCalm plan no_lag (tell_device plan (Arrived (Device to)) o s)
-      by None none =
-          let late : one (to.0 == to.0) ≡ 1 = ap one (eq-eqb to.0 to.0 refl) in
-          absurd (omega (arith, none, late, h.away (Device to) inside))
+      by None none = search (rules, eq-eqb)
       by (Some q) (away, row) =
           let of = feeder (Device to) (row_at plan q).settings row.feeds_it in
           let state = h.shapes q of.d row.within of.is in

@@ -2,34 +2,24 @@
 -- target. A whole call of a ball device leaves it so, and all that it books may be booked.
 use Rattle.std.proofs.Common.{rules, ◌≡◌, ℕ, ◌+◌, ◌^◌, ◌<◌, ◌≤◌, ◌&&◌, inl, inr, Bool, true, false, List, length, slice_set, sym, ap, ap₂, ◌∙◌, subst, arith}
 use Rattle.std.specs.List.{count_by}
-use Rattle.std.proofs.lemmas.Bool.{cases_eq}
-use Rattle.std.proofs.lemmas.List.{length-set, get_or-set_same, get_or-set_other}
-use Rattle.std.proofs.lemmas.List.Elements.{All-from_get_or}
-use Rattle.std.proofs.lemmas.List.Sums.{sum_by-le, count_by-le-length, length-filter}
+use Rattle.std.proofs.lemmas.{Bool.cases_eq, List.Sums.{sum_by-le, count_by-le-length, length-filter}}
+use Rattle.std.proofs.lemmas.List.{length-set, get_or-set_same, get_or-set_other, Elements.All-from_get_or}
 use Rattle.plan_tables.specs.PlanView.{PlanView, feeders_of, feeds, is_target, no_row, row_at, row_numbers}
-use Rattle.plan_tables.specs.Valid.{IsTargetThere, IsValid}
-use Rattle.plan_tables.specs.declared.devices.BallSettings.{BallSettings}
-use Rattle.plan_tables.specs.declared.devices.BallTarget.{BallTarget}
-use Rattle.plan_tables.specs.declared.devices.BallTarget.TheVariants.{Playfield, Device}
-use Rattle.plan_tables.specs.declared.devices.RowId.{RowId}
-use Rattle.plan_tables.specs.declared.devices.Settings.{Settings}
+use Rattle.plan_tables.specs.{Valid.{IsTargetThere, IsValid}, declared.entries.Owner.Owner}
+use Rattle.plan_tables.specs.declared.devices.{BallSettings.BallSettings, RowId.RowId, Settings.Settings}
+use Rattle.plan_tables.specs.declared.devices.BallTarget.{BallTarget, TheVariants.{Playfield, Device}}
 use Rattle.plan_tables.specs.declared.devices.Settings.TheVariants as kinds
-use Rattle.plan_tables.specs.declared.entries.Owner.{Owner}
 use Rattle.ball_devices.specs.declared.booking.Origin.{Origin}
 use Rattle.ball_devices.specs.Ledger.{Ledger, counted_in, transit_to, all_counted, all_in_transit, IsLedger}
 use Rattle.ball_devices.specs.Bookings.{LedgerCall, MayBook, after_call, booked, can_book, is_new, one, Says}
 use Rattle.cascade_rank.proofs.Rows.{length-rows}
-use Rattle.device_objects.specs.declared.state.BallState.{BallState}
-use Rattle.device_objects.specs.declared.state.DeviceState.{DeviceState}
+use Rattle.device_objects.specs.declared.state.{BallState.BallState, DeviceState.DeviceState}
 use Rattle.device_objects.specs.declared.state.DeviceState.TheVariants as states
-use Rattle.device_objects.specs.BallDevice.{is_away}
-use Rattle.device_objects.specs.DeviceStep.{first_state}
-use Rattle.device_objects.specs.Laws.{HasBallShape}
+use Rattle.device_objects.specs.{BallDevice.is_away, DeviceStep.first_state, Laws.HasBallShape}
 use Rattle.written_machine.specs.declared.line.Happening.TheVariants as lines
 use Rattle.written_machine.specs.Machine.{Machine, write, set_ledger, counts_of, book, device_state, device_at, is_device_away}
-use Rattle.written_machine.proofs.BallSteps.{balls_in}
+use Rattle.written_machine.proofs.{BallSteps.balls_in, BallPlays.{IsOther, one_row}}
 use Rattle.written_machine.proofs.BallFeeders.{filter-same, row-changes}
-use Rattle.written_machine.proofs.BallPlays.{IsOther, one_row}
 
 -- how many balls count in a device
 abbrev pub balls_at : DeviceState → ℕ
@@ -133,11 +123,8 @@ module _ (plan : PlanView) where
         let most = valid.row_limit in
         omega (arith, sums, rows, most)
 
-    few_feeders : (target : BallTarget) → length (feeders_of plan target) ≤ 1024
-    few_feeders target = search (rules, length-rows, length-filter, count_by-le-length)
-
     few_on_way : (target : BallTarget) → IsTargetThere (length plan.rows) target → transit_to s.ledger target ≤ 1024
-    few_on_way target there = search (rules, few_feeders, count_by-le-length)
+    few_on_way target there = search (rules, length-rows, length-filter, count_by-le-length)
 
     transit-few : all_in_transit s.ledger ≤ 1049600
     transit-few =
@@ -207,14 +194,7 @@ module _ (plan : PlanView) where
         balls_here = here ∙ ap balls_at (sym (next-same h.count))
 
         few : (q : RowId) → q.0 < length plan.rows → counted_in u.ledger q ≤ 16
-        few q inside =
-            elim (cases_eq q.0 r.0) [
-              | inl same ↦
-                  let all = count_by-le-length (λ b. b.counted) t.switches in
-                  let size = shape.switches in
-                  subst (λ (k : RowId). counted_in u.ledger k ≤ 16) (same_row q same) (omega (arith, here, all, size))
-              | inr other ↦ let before = h.few q inside in omega (arith, before, others q inside other)
-            ]
+        few q inside = search (rules, cases_eq, count_by-le-length, shape, ledger, same_row)
 
         held : (q : RowId) (e : BallSettings) → q.0 < length plan.rows → (row_at plan q).settings ≡ kinds.BallDevice e → counted_in u.ledger q ≡ balls_at (device_state next_devices q)
         held q e inside of =

@@ -3,20 +3,14 @@ use Rattle.std.proofs.Common.{rules, ◌≡◌, ℕ, suc, ◌+◌, ◌==◌, inl
 use Rattle.std.specs.List.{All, AllPairs, count_by, filter, flat_map, list_any, range_with_len, sum_by}
 use Rattle.std.proofs.lemmas.Bool.{and_parts, cases_Bool, cases_eq, cases_lt, eqb-true, false≢true, ne_eqb, or_cases}
 use Rattle.std.proofs.lemmas.List.{get_or_past, get_or-set_same, get_or-set_other, set_past}
-use Rattle.std.proofs.lemmas.List.Elements.{All-head, All-tail}
-use Rattle.std.proofs.lemmas.List.Folds.{flat_map-map}
-use Rattle.std.proofs.lemmas.List.FromFn.{fill_by_all}
+use Rattle.std.proofs.lemmas.List.{Elements.{All-head, All-tail}, Folds.flat_map-map, FromFn.fill_by_all}
 use Rattle.std.proofs.lemmas.List.Sums.{sum_by-append, sum_by-cons, sum_by-set}
 use Rattle.plan_tables.specs.PlanView.{PlanView, PlanSwitch, listeners_of, no_switch, switch_at}
-use Rattle.plan_tables.specs.declared.devices.RowId.{RowId}
-use Rattle.plan_tables.specs.declared.entries.Listener.{Listener}
-use Rattle.plan_tables.specs.declared.entries.SwitchId.{SwitchId}
+use Rattle.plan_tables.specs.declared.{devices.RowId.RowId, entries.{Listener.Listener, SwitchId.SwitchId}}
 use Rattle.cascade_rank.specs.Cost.{switches_of}
-use Rattle.device_objects.specs.declared.state.BallSwitch.{BallSwitch}
-use Rattle.device_objects.specs.BallDevice.{empty}
+use Rattle.device_objects.specs.{declared.state.BallSwitch.BallSwitch, BallDevice.empty}
 use Rattle.plan_tables.specs.BallRows.{AreApart, AreOfTwoRows}
-use Rattle.written_machine.specs.Counted.{ball_switches}
-use Rattle.written_machine.proofs.BallFeeders.{filter-count}
+use Rattle.written_machine.{specs.Counted.ball_switches, proofs.BallFeeders.filter-count}
 use Rattle.ball_devices.specs.Bookings.{one}
 
 -- ---- pairs
@@ -30,8 +24,7 @@ module _ {X : Type 0} (R : X → X → Type 0) where
 
 sum-same : {X : Type 0} (f g : X → ℕ) (xs : List X) → All (λ x. f x ≡ g x) xs → sum_by f xs ≡ sum_by g xs
 sum-same f g [] same = refl
-sum-same f g (x ∷ xs) same =
-    omega (arith, sum_by-cons f x xs, sum_by-cons g x xs, All-head (λ y. f y ≡ g y) x xs same, sum-same f g xs (All-tail (λ y. f y ≡ g y) x xs same))
+sum-same f g (x ∷ xs) same = search (rules, sum_by-cons, All-head, All-tail, sum-same f g xs (All-tail (λ y. f y ≡ g y) x xs same))
 
 -- ---- who listens for a ball switch
 
@@ -91,33 +84,13 @@ module _ (r : RowId) where
       ]
     where
       later : (l.row.0 == r.0) ≡ false → (i : ℕ) → is_heard r i (l ∷ ls) ≡ true → is_heard r i ls ≡ true
-      later not i is =
-          elim (or_cases (is_for r i l) (is_heard r i ls) is) [
-            | inl first ↦ absurd (false≢true (sym not ∙ (and_parts (l.row.0 == r.0) (l.switch == i) first).0))
-            | inr more ↦ more
-          ]
+      later not i is = search (rules, or_cases, and_parts)
 
       still : (i : ℕ) → counts (set bs l.switch empty) i ≡ true → is_heard r i ls ≡ true
-      still i is =
-          elim (cases_eq i l.switch) [
-            | inl same ↦ absurd (false≢true (sym (ap (counts (set bs l.switch empty)) same ∙ emptied-none bs l.switch) ∙ is))
-            | inr other ↦
-                elim (or_cases (is_for r i l) (is_heard r i ls) (heard i (sym (emptied-other bs l.switch i other) ∙ is))) [
-                  | inl first ↦ absurd (other (sym (eqb-true l.switch i (and_parts (l.row.0 == r.0) (l.switch == i) first).1)))
-                  | inr more ↦ more
-                ]
-          ]
+      still i is = search (rules, cases_eq, emptied-none, or_cases, emptied-other, eqb-true, and_parts)
 
       unchanged : l.row.0 ≡ r.0 → (m : Listener) → AreApart l m → counts_at (set bs l.switch empty) m ≡ counts_at bs m
-      unchanged row m are =
-          elim (cases_Bool (m.row.0 == r.0)) [
-            | inl its ↦
-                let same_row : l.row ≡ m.row = ap (λ (k : ℕ). record { 0 = k }) (row ∙ sym (eqb-true m.row.0 r.0 its)) in
-                ap (λ (b : Bool). one (m.row.0 == r.0 && b)) (emptied-other bs l.switch m.switch (λ same. are same_row (sym same)))
-            | inr not ↦
-                ap (λ (b : Bool). one (b && counts (set bs l.switch empty) m.switch)) not
-                ∙ sym (ap (λ (b : Bool). one (b && counts bs m.switch)) not)
-          ]
+      unchanged row m are = search (rules, cases_Bool, eqb-true, emptied-other)
 
   -- ---- the switches of a row
 
@@ -127,9 +100,7 @@ module _ (r : RowId) where
   -- no listener of the row
   none-of_row : (bs : List BallSwitch) (ls : List Listener) → All (λ (l : Listener). l.row.0 ≡ r.0 → ⊥) ls → sum_by (counts_at bs) ls ≡ 0
   none-of_row bs [] none = refl
-  none-of_row bs (l ∷ ls) none =
-      let here : counts_at bs l ≡ 0 = ap (λ (b : Bool). one (b && counts bs l.switch)) (ne_eqb l.row.0 r.0 (All-head (λ (m : Listener). m.row.0 ≡ r.0 → ⊥) l ls none)) in
-      omega (arith, sum_by-cons (counts_at bs) l ls, here, none-of_row bs ls (All-tail (λ (m : Listener). m.row.0 ≡ r.0 → ⊥) l ls none))
+  none-of_row bs (l ∷ ls) none = search (rules, ne_eqb, All-head, sum_by-cons, All-tail, none-of_row bs ls (All-tail (λ (m : Listener). m.row.0 ≡ r.0 → ⊥) l ls none))
 
   -- the one listener of the row that a switch has, if it has one, says whether a ball counts at it
   switch-count : (bs : List BallSwitch) (c : Bool) (ls : List Listener) → AllPairs AreOfTwoRows ls

@@ -1,11 +1,8 @@
 -- How many of the rows that pass one test pass another: where one row changes, and where there is one.
 use Rattle.std.proofs.Common.{rules, ◌≡◌, ℕ, zero, suc, ◌+◌, ◌<◌, ◌≤◌, ◌==◌, inl, inr, Bool, true, false, cond, if◌then◌else◌, Option, None, Some, List, [], ◌∷◌, ◌&&◌, map, refl, sym, ap, ap₂, subst, arith}
-use Rattle.std.specs.Prelude.{filter, find}
-use Rattle.std.specs.List.{All, count_by, range_with_len}
-use Rattle.std.proofs.lemmas.Bool.{cases_eq, eq-eqb, ne_eqb}
-use Rattle.std.proofs.lemmas.List.Elements.{All-head, All-tail}
-use Rattle.std.proofs.lemmas.List.Sums.{sum_by-cons}
-use Rattle.std.proofs.lemmas.Option.{none-some, same_Some}
+use Rattle.std.specs.{Prelude.{filter, find}, List.{All, count_by, range_with_len}}
+use Rattle.std.proofs.lemmas.{Bool.{cases_eq, eq-eqb, ne_eqb}, Option.{none-some, same_Some}}
+use Rattle.std.proofs.lemmas.List.{Elements.{All-head, All-tail}, Sums.sum_by-cons}
 use Rattle.plan_tables.specs.declared.devices.RowId.{RowId}
 use Rattle.ball_devices.specs.Bookings.{one}
 
@@ -28,8 +25,7 @@ module _ {X : Type 0} where
   pub filter-same : (p q f : X → Bool) (xs : List X) → ((x : X) → f x ≡ true → p x ≡ q x)
       → count_by p (filter f xs) ≡ count_by q (filter f xs)
   filter-same p q f [] same = refl
-  filter-same p q f (x ∷ xs) same =
-      omega (arith, filter-count p f x xs, filter-count q f x xs, one-same (f x) (p x) (q x) (same x), filter-same p q f xs same)
+  filter-same p q f (x ∷ xs) same = search (rules, filter-count, one-same, filter-same p q f xs same)
 
 -- ---- one row changes
 
@@ -45,14 +41,7 @@ module _ (f p q : RowId → Bool) (r : ℕ) (others : (x : RowId) → (x.0 ≡ r
 
   absent : (n k : ℕ) → r < k → count_from p k n ≡ count_from q k n
   absent zero k past = refl
-  absent (suc n) k past =
-      omega (
-        arith,
-        filter-count p f (row k) (map row (range_with_len (k + 1) n)),
-        filter-count q f (row k) (map row (range_with_len (k + 1) n)),
-        one-other k (λ is. omega arith),
-        absent n (k + 1) (omega arith),
-      )
+  absent (suc n) k past = search (rules, filter-count, one-other, absent n (k + 1) (omega arith))
 
   one-at : (test : RowId → Bool) (k : ℕ) → k ≡ r → one (f (row k) && test (row k)) ≡ one (f (row r) && test (row r))
   one-at test k is = ap (λ (m : ℕ). one (f (row m) && test (row m))) is

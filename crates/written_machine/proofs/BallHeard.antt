@@ -1,60 +1,44 @@
 -- In every run each ball switch follows the changes of the switch that it is.
-use Rattle.std.proofs.Common.{rules, ◌≡◌, ℕ, zero, suc, ◌<◌, ◌≤◌, ◌⊎◌, inl, inr, if◌then◌else◌, not, Bool, true, false, cond, ◌||◌, Option, Some, None, List, [], ◌∷◌, ◌++◌, length, slice_set, get_or, refl, ap, ap₂, sym, ◌∙◌, subst, arith}
-use Rattle.std.specs.Option.{IfSome}
-use Rattle.std.specs.List.{All, AllPairs, count_by, flat_map}
+use Rattle.std.proofs.Common.{rules, ◌≡◌, ℕ, zero, suc, ◌<◌, ◌≤◌, ◌⊎◌, inl, inr, if◌then◌else◌, not, Bool, true, false, cond, Option, Some, None, List, [], ◌∷◌, ◌++◌, length, slice_set, get_or, refl, ap, ap₂, sym, ◌∙◌, subst, arith}
+use Rattle.std.specs.{Option.IfSome, List.{All, AllPairs, count_by, flat_map}}
 use Rattle.std.proofs.lemmas.Bool.{and_parts, cases_Bool, cases_eq, cases_lt, eq-eqb, false≢true, true≢false, ne_eqb, or_left}
 use Rattle.std.proofs.lemmas.List.{append-nil, get_or_past, get_or-set_same, get_or-set_other, get_or-replicate}
-use Rattle.std.proofs.lemmas.List.Concat.{flat_map-append}
-use Rattle.std.proofs.lemmas.List.Elements.{All-get_or}
-use Rattle.std.proofs.lemmas.Option.{none-some}
+use Rattle.std.proofs.lemmas.{List.{Concat.flat_map-append, Elements.All-get_or}, Option.none-some}
 use Rattle.plan_tables.specs.PlanView.{PlanView, PlanSwitch, listeners_of, no_row, no_switch, row_at, switch_at}
-use Rattle.plan_tables.specs.Valid.{IsListenerWithin, IsValid}
-use Rattle.plan_tables.specs.declared.devices.BallSettings.{BallSettings}
-use Rattle.plan_tables.specs.declared.devices.RowId.{RowId}
-use Rattle.plan_tables.specs.declared.devices.Settings.{Settings}
+use Rattle.plan_tables.specs.{Valid.{IsListenerWithin, IsValid}, BallRows.{AreOfTwoRows, BookingsAreRight, IsSwitchOf}}
+use Rattle.plan_tables.specs.declared.devices.{BallSettings.BallSettings, RowId.RowId, Settings.Settings}
 use Rattle.plan_tables.specs.declared.devices.Settings.TheVariants as kinds
-use Rattle.plan_tables.specs.declared.entries.Listener.{Listener}
+use Rattle.plan_tables.specs.declared.entries.{Listener.Listener, SwitchId.SwitchId, SwitchKind.SwitchKind}
 use Rattle.plan_tables.specs.declared.entries.Owner.TheVariants as owners
-use Rattle.plan_tables.specs.declared.entries.SwitchId.{SwitchId}
-use Rattle.plan_tables.specs.declared.entries.SwitchKind.{SwitchKind}
 use Rattle.ball_devices.specs.Ledger.{counted_in}
 use Rattle.cascade_rank.specs.Cost.{switches_of}
 use Rattle.device_objects.specs.declared.device.Call.TheVariants as calls
-use Rattle.device_objects.specs.declared.state.BallState.{BallState}
-use Rattle.device_objects.specs.declared.state.BallSwitch.{BallSwitch}
-use Rattle.device_objects.specs.declared.state.DeviceState.{DeviceState}
+use Rattle.device_objects.specs.declared.state.{BallState.BallState, BallSwitch.BallSwitch, DeviceState.DeviceState}
 use Rattle.device_objects.specs.declared.state.DeviceState.TheVariants as states
 use Rattle.device_objects.specs.BallDevice.{empty, noted, turned, fire}
 use Rattle.device_objects.specs.BallDevice as balls
 use Rattle.device_objects.specs.DeviceStep as devices
-use Rattle.device_objects.proofs.BallDue.{switch-is_part}
-use Rattle.device_objects.proofs.BallMoments.{ball-parts_none, ball-parts_first}
-use Rattle.switch_core.specs.declared.change.Change.{Change}
-use Rattle.switch_core.specs.SwitchStep.{SwitchState, changed, is_taken}
+use Rattle.device_objects.proofs.{BallDue.switch-is_part, BallMoments.{ball-parts_none, ball-parts_first}}
+use Rattle.switch_core.specs.{declared.change.Change.Change, SwitchStep.{changed, is_taken}}
 use Rattle.switch_core.specs.SwitchStep as switch_steps
 use Rattle.switch_core.specs.Switches.{SwitchesView, no_kind, kind_at, state_at, active_at, due_of, after_change, accept, reported, AreRead}
 use Rattle.switch_core.proofs.Lists as switch_lists
 use Rattle.switch_core.proofs.Reading.{idle-all_read, idle-inactive, active-other, change-read, accept-read, change-other_level, accept-other_level, change-same_levels}
 use Rattle.switch_core.proofs.DueMoments.{due-set, idle-kind, idle-nothing_due, changes_arm_later, accept-due, accept-done}
 use Rattle.written_machine.specs.declared.line.Happening.TheVariants as lines
-use Rattle.written_machine.specs.declared.line.Line.{Line}
-use Rattle.plan_tables.specs.BallRows.{AreOfTwoRows, BookingsAreRight, IsSwitchOf}
+use Rattle.written_machine.specs.{declared.line.Line.Line, Counted.{ball_switches, is_counted}}
 use Rattle.written_machine.specs.SwitchLines.{LevelChange, change_at, changes_of, LeadTo}
-use Rattle.written_machine.specs.Counted.{ball_switches, is_counted}
-use Rattle.written_machine.specs.EventStep.{EventStep}
-use Rattle.written_machine.specs.Devices.{ActsAreOwn}
+use Rattle.written_machine.specs.{EventStep.EventStep, Devices.ActsAreOwn}
 use Rattle.written_machine.specs.Machine.{Machine, initial, write, set_switches, set_device, world_of, device_at, called, tell_first, tell_listeners, do_accepted, do_if_accepted, call_device}
 use Rattle.written_machine.specs.Run.{Source, switch, device, source_due, IsNoAlarmDueBy, IsNothingLate, Stimulus, SwitchChange, Alarm, Wait, IsAllowed, arrived, begin, InEveryRun}
-use Rattle.written_machine.proofs.Does.{HasStates}
+use Rattle.written_machine.proofs.{Does.HasStates, Keeps.run-keeps, BallFired.{IsFired, fire-fired}}
 use Rattle.written_machine.proofs.Alarms.{switches-steps, switches-begin, not_late-steps, not_late-begin, not_late-initial, allowed-first, forward, has_states-step, has_states-begin, has_states-initial}
-use Rattle.written_machine.proofs.Keeps.{run-keeps}
 use Rattle.written_machine.proofs.BallPlays.{is_ball, other-plays, accepted-plays, event-plays, IsNoCall}
 use Rattle.written_machine.proofs.BallCalm.{balls_at, no_lag, IsCalm, calm-other}
 use Rattle.written_machine.proofs.BallRuns.{first-ball, calm-initial, step-calm, begin-calm, due-within}
 use Rattle.written_machine.proofs.BallLevels.{Follows, first-follows, not_yet, IsInTime, noted-follows}
 use Rattle.written_machine.proofs.BallCounting.{is_for, is_heard, row-count}
 use Rattle.written_machine.proofs.BallSteady.{ball_of, switches_at, IsSteady, answer-steady, telling-steady, plays-steady, no_call-keeping}
-use Rattle.written_machine.proofs.BallFired.{IsFired, fire-fired}
 use Rattle.written_machine.proofs.BallListeners.{ball_switch, heard-all, switches-apart, IsListener, IsNotedBy, listeners-noted}
 
 -- ---- one ball switch
@@ -137,11 +121,8 @@ module _ (plan : PlanView) where
       → AreHeard ls s → AreHeard ms t
   on-heard ls ms s t after dues quick same changes levels reads h = search rules
 
-  changes-after : (before ls ms : List Line) (n : SwitchId) → changes_of n ls ≡ changes_of n ms → changes_of n (before ++ ls) ≡ changes_of n (before ++ ms)
-  changes-after before ls ms n same = search (rules, flat_map-append)
-
   steady-heard : (before : List Line) (s t : Machine) → IsSteady plan s t → t.switches ≡ s.switches → AreHeard (before ++ s.lines) s → AreHeard (before ++ t.lines) t
-  steady-heard before s t steady switches h = search (rules, on-heard, changes-after)
+  steady-heard before s t steady switches h = search (rules, on-heard, flat_map-append)
 
   -- ---- what is due of a ball switch is due of its device
 
@@ -165,9 +146,7 @@ module _ (plan : PlanView) where
       state = (calm.shapes r d (row-within r d is) is).is
 
       here : balls.part_due ball i ≡ Some at
-      here =
-          switch-is_part ball.switches (balls.timeout_of ball.eject) i at
-          (ap (λ (x : DeviceState). (get_or (ball_of x).switches i empty).due) (sym state) ∙ due)
+      here = search (rules, switch-is_part, ball, get_or, ball_of, state)
 
       by : (o : Option ℕ) → balls.due_of ball ≡ o → (first : ℕ) × (source_due s (device r) ≡ Some first) × (first ≤ at)
       by None none = absurd (none-some at (sym (ball-parts_none ball none i) ∙ here))
@@ -276,10 +255,7 @@ module _ (plan : PlanView) where
 
       accepted-heard : finished.switches ≡ v → AreHeard (ls ++ finished.lines) finished
       accepted-heard switches = record {
-        heard = λ m r d i is its.
-            subst (λ (k : ℕ). IsHeard d (quick_at m) k (due_of finished.switches m) (ball_switch finished r i) (changes_of m (ls ++ finished.lines))) (sym final_moment)
-            (subst (λ (w : SwitchesView). IsHeard d (quick_at m) at (due_of w m) (ball_switch finished r i) (changes_of m (ls ++ finished.lines))) (sym switches)
-            (one m r d i is its));
+        heard = search (rules, ball_switch, ls, final_moment, one);
         unheard = λ r d i is none.
             final_switch r d i is
             ∙ (ap (λ (b : Bool). cond b (noted d active at (ball_switch s r i)) (ball_switch s r i)) (never_heard r i n none) ∙ h.unheard r d i is none);
@@ -401,11 +377,7 @@ module _ (plan : PlanView) where
               ]
             where
               has_place : (place : ℕ) → (get_or ball.switches place empty).due ≡ Some at → place < length ball.switches
-              has_place place its =
-                  elim (cases_lt place (length ball.switches)) [
-                    | inl inside ↦ inside
-                    | inr past ↦ absurd (none-some at (sym (ap (λ (b : BallSwitch). b.due) (get_or_past ball.switches place empty past)) ∙ its))
-                  ]
+              has_place place its = search (rules, cases_lt, ball, none-some, get_or_past)
 
       fired_changes : (m : SwitchId) → changes_of m (ls ++ after_alarm.lines) ≡ changes_of m ls
       fired_changes m = search (rules, flat_map-append, answered, append-nil)
@@ -429,9 +401,7 @@ module _ (plan : PlanView) where
               | inr turn ↦ absurd (none-some at (sym (ap (λ (b : BallSwitch). b.due) (h.unheard q e i of none)) ∙ turn.0))
             ];
         quick = λ n fast. ap (λ (w : SwitchesView). due_of w n) switches ∙ h.quick n fast;
-        changes = λ n.
-            subst (λ (w : SwitchesView). LeadTo false (changes_of n (ls ++ after_alarm.lines)) (active_at w n)) (sym switches)
-            (subst (λ (cs : List LevelChange). LeadTo false cs (active_at s.switches n)) (sym (fired_changes n)) (h.changes n));
+        changes = search (rules, ls, fired_changes);
         reads = subst AreRead (sym switches) h.reads;
       }
 
@@ -440,13 +410,9 @@ module _ (plan : PlanView) where
     kind-is : (s : Machine) → HasStates plan s → (n : SwitchId) → kind_at s.switches n ≡ (switch_at plan n).kind
     kind-is s states n = ap (λ (ks : List SwitchKind). get_or ks n.0 no_kind) states.kinds ∙ idle-kind plan n
 
-    -- a quick switch is not due when its level changes
-    changed-quick : (kind : SwitchKind) (at : ℕ) (level : Bool) (x : SwitchState) → kind.quick ≡ true → x.due ≡ None → (changed kind at level x).due ≡ None
-    changed-quick kind at level x fast none = search rules
-
     quick-after : (s : Machine) → HasStates plan s → ((m : SwitchId) → quick_at m ≡ true → due_of s.switches m ≡ None) → (n : SwitchId) (level : Bool) (at : ℕ)
         → (m : SwitchId) → quick_at m ≡ true → due_of (after_change n level at s.switches) m ≡ None
-    quick-after s states quick n level at m fast = search (rules, none-from, due-set, none-some, changed-quick, kind-is)
+    quick-after s states quick n level at m fast = search (rules, none-from, due-set, none-some, kind-is)
 
     begin-heard : (before : List Line) (stimulus : Stimulus) (s : Machine) → IsAllowed plan s stimulus → IsFollowed before s
         → AreHeard ((before ++ s.lines) ++ (begin plan stimulus s).lines) (begin plan stimulus s)
@@ -528,12 +494,7 @@ module _ (plan : PlanView) where
     one-heard : (r : RowId) (ls : List Listener) (k : ℕ) (e : Listener) → k < length ls → (get_or ls k e).row.0 ≡ r.0 → is_heard r (get_or ls k e).switch ls ≡ true
     one-heard r [] k e within its = absurd (omega arith)
     one-heard r (l ∷ ls) zero e within its = search rules
-    one-heard r (l ∷ ls) (suc k) e within its =
-        let more = one-heard r ls k e (omega arith) its in
-        elim (cases_Bool (is_for r (get_or ls k e).switch l)) [
-          | inl also ↦ or_left (is_for r (get_or ls k e).switch l) (is_heard r (get_or ls k e).switch ls) also
-          | inr not ↦ ap (λ (b : Bool). b || is_heard r (get_or ls k e).switch ls) not ∙ more
-        ]
+    one-heard r (l ∷ ls) (suc k) e within its = search (rules, ls, within, cases_Bool, is_for, get_or, or_left, is_heard, one-heard r ls k e (omega arith) its)
 
     two_rows : (n : SwitchId) → AllPairs AreOfTwoRows (listeners_of plan n)
     two_rows n = search (rules, cases_lt, there, All-get_or, get_or_past, within)
@@ -560,9 +521,7 @@ module _ (plan : PlanView) where
         ∙ row-count plan r (switches_at s r) (is_counted plan d at trace) right.apart
         (λ k e there. record {
           once = two_rows (get_or (switches_of plan) k e);
-          says = λ j l inside its.
-              listener-says trace s h calm at later quiet r d is (get_or (switches_of plan) k e) (get_or (listeners_of plan (get_or (switches_of plan) k e)) j l).switch
-              (one-heard r (listeners_of plan (get_or (switches_of plan) k e)) j l inside its);
+          says = search (rules, listener-says, calm, get_or, one-heard);
         })
         (λ i counts. covered h i counts (cases_Bool (is_heard r i all_listeners)))))
       where

@@ -1,10 +1,8 @@
 -- Whether a ball counts at a ball switch follows from its changes alone.
-use Rattle.std.proofs.Common.{rules, ◌≡◌, ℕ, zero, suc, ◌+◌, ◌<◌, ◌≤◌, Bool, true, false, not, cond, ◌&&◌, Option, Some, None, List, [], ◌∷◌, ◌++◌, if◌then◌else◌, nat_le, refl, ap, sym, ◌∙◌, append-nil, arith}
-use Rattle.std.specs.List.{filter, list_all, last_or}
-use Rattle.std.proofs.lemmas.List.Folds.{list_all-append}
+use Rattle.std.proofs.Common.{rules, ◌≡◌, ℕ, zero, suc, ◌+◌, ◌<◌, ◌≤◌, Bool, true, false, not, cond, ◌&&◌, Option, Some, None, List, [], ◌∷◌, ◌++◌, if◌then◌else◌, nat_le, refl, ◌∙◌, append-nil, arith}
+use Rattle.std.{specs.List.{filter, last_or}, proofs.lemmas.List.Folds.list_all-append}
 use Rattle.plan_tables.specs.declared.devices.BallSettings.{BallSettings}
-use Rattle.device_objects.specs.declared.state.BallSwitch.{BallSwitch}
-use Rattle.device_objects.specs.BallDevice.{empty, noted}
+use Rattle.device_objects.specs.{declared.state.BallSwitch.BallSwitch, BallDevice.{empty, noted}}
 use Rattle.written_machine.specs.SwitchLines.{LevelChange}
 use Rattle.written_machine.specs.Counted.{counts_from, is_late, not_undone, level_after, counted_level}
 
@@ -25,10 +23,6 @@ last-push : (o : Option LevelChange) (xs : List LevelChange) (x : LevelChange) �
 last-push o [] x = refl
 last-push o (y ∷ ys) x = last-push (Some y) ys x
 
-level-push : (xs : List LevelChange) (c : LevelChange) (b : Bool)
-    → level_after (last_or None (xs ++ cond b (c ∷ []) [])) ≡ cond b c.active (level_after (last_or None xs))
-level-push xs c b = search (rules, last-push, append-nil)
-
 module _ (d : BallSettings) where
   late-over : (quick : Bool) (moment from : ℕ) (c : LevelChange) → c.at ≤ moment → is_late quick from c ≡ true → nat_le from moment ≡ true
   late-over quick moment from c before late = search rules
@@ -38,18 +32,7 @@ module _ (d : BallSettings) where
       → filter (λ x. nat_le (counts_from d x) moment) (not_undone d quick (past ++ c ∷ []))
       ≡ filter (λ x. is_late quick (counts_from d x) c) (not_undone d quick past) ++ filter (λ x. nat_le (counts_from d x) moment) (c ∷ [])
   not_undone-push quick moment [] c before = refl
-  not_undone-push quick moment (p ∷ later) c before =
-      let near : LevelChange → Bool = is_late quick (counts_from d p) in
-      let f : LevelChange → Bool = λ x. nat_le (counts_from d x) moment in
-      let g : LevelChange → Bool = λ x. is_late quick (counts_from d x) c in
-      let old = not_undone d quick later in
-      let new = not_undone d quick (later ++ c ∷ []) in
-      let rest : filter f new ≡ filter g old ++ filter f (c ∷ []) = not_undone-push quick moment later c before in
-      let stays : list_all near (later ++ c ∷ []) ≡ (list_all near later && g p) = list_all-append near later (c ∷ []) ∙ ap (λ b. list_all near later && b) (and-true (near c)) in
-      let over : g p ≡ true → f p ≡ true = λ is. late-over quick moment (counts_from d p) c before is in
-      filter-cond f (list_all near (later ++ c ∷ [])) (p ∷ new) new ∙ ap (λ b. cond b (cond (f p) (p ∷ filter f new) (filter f new)) (filter f new)) stays
-      ∙ kept p (filter f new) (filter g old) (filter f (c ∷ [])) (list_all near later) (g p) (f p) rest over
-      ∙ ap (λ xs. xs ++ filter f (c ∷ [])) (sym (filter-cond g (list_all near later) (p ∷ old) old))
+  not_undone-push quick moment (p ∷ later) c before = search (rules, nat_le, list_all-append, and-true, late-over, filter-cond, kept, not_undone-push quick moment later c before)
 
   -- what counted when the later change came
   abbrev level_before : Bool → LevelChange → List LevelChange → Bool
@@ -57,7 +40,7 @@ module _ (d : BallSettings) where
 
   counted-push : (quick : Bool) (moment : ℕ) (past : List LevelChange) (c : LevelChange) → c.at ≤ moment
       → counted_level d quick moment (past ++ c ∷ []) ≡ cond (nat_le (counts_from d c) moment) c.active (level_before quick c past)
-  counted-push quick moment past c before = search (rules, not_undone-push, level-push, nat_le)
+  counted-push quick moment past c before = search (rules, not_undone-push, last-push, append-nil, nat_le)
 
   before-normal : (c : LevelChange) (past : List LevelChange) (before : ℕ) → c.at ≡ before + 1 → level_before false c past ≡ counted_level d false before past
   before-normal c past before is = search rules

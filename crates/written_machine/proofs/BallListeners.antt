@@ -2,31 +2,22 @@
 use Rattle.std.proofs.Common.{rules, ◌≡◌, ℕ, zero, suc, ◌<◌, ◌==◌, inl, inr, Bool, true, false, cond, ◌&&◌, ◌||◌, List, [], ◌∷◌, ◌++◌, length, get_or, refl, ap, ap₂, sym, ◌∙◌, subst, arith}
 use Rattle.std.specs.List.{All, AllPairs, flat_map}
 use Rattle.std.proofs.lemmas.Bool.{and_from, cases_Bool, cases_eq, eq-eqb, false≢true, ne_eqb, or_cases}
-use Rattle.std.proofs.lemmas.List.{get_or-set_same, get_or-set_other}
-use Rattle.std.proofs.lemmas.List.Elements.{All-head, All-tail}
+use Rattle.std.proofs.lemmas.List.{get_or-set_same, get_or-set_other, Elements.{All-head, All-tail}}
 use Rattle.plan_tables.specs.PlanView.{PlanView, PlanSwitch, act_of_listener, no_row, no_switch, row_at}
-use Rattle.plan_tables.specs.Valid.{IsValid}
-use Rattle.plan_tables.specs.declared.devices.BallSettings.{BallSettings}
-use Rattle.plan_tables.specs.declared.devices.RowId.{RowId}
+use Rattle.plan_tables.specs.{Valid.IsValid, declared.entries.{Listener.Listener, SwitchId.SwitchId}}
+use Rattle.plan_tables.specs.declared.devices.{BallSettings.BallSettings, RowId.RowId}
 use Rattle.plan_tables.specs.declared.devices.Settings.TheVariants as kinds
-use Rattle.plan_tables.specs.declared.entries.Listener.{Listener}
-use Rattle.plan_tables.specs.declared.entries.SwitchId.{SwitchId}
 use Rattle.device_objects.specs.declared.device.Call.TheVariants as calls
-use Rattle.device_objects.specs.declared.state.BallState.{BallState}
-use Rattle.device_objects.specs.declared.state.BallSwitch.{BallSwitch}
-use Rattle.device_objects.specs.declared.state.DeviceState.{DeviceState}
+use Rattle.device_objects.specs.declared.state.{BallState.BallState, BallSwitch.BallSwitch, DeviceState.DeviceState}
 use Rattle.device_objects.specs.declared.state.DeviceState.TheVariants as states
-use Rattle.device_objects.specs.BallDevice.{empty, noted, set_switch}
+use Rattle.device_objects.specs.{BallDevice.{empty, noted, set_switch}, DeviceStep.{device_step, first_state}}
 use Rattle.device_objects.specs.BallDevice as balls
-use Rattle.device_objects.specs.DeviceStep.{device_step, first_state}
 use Rattle.plan_tables.specs.BallRows.{AreApart, BookingsAreRight, IsNoBallDevice, IsSwitchOf}
-use Rattle.written_machine.specs.SwitchLines.{changes_of}
-use Rattle.written_machine.specs.Devices.{ActsAreOwn}
+use Rattle.written_machine.specs.{SwitchLines.changes_of, Devices.ActsAreOwn}
 use Rattle.written_machine.specs.Machine.{Machine, set_device, all_do, world_of, device_at, do_answer_by, tell_first, tell_listener}
 use Rattle.written_machine.proofs.BallPlays.{is_ball, not_both, one_row, other-plays, IsNoCall}
-use Rattle.written_machine.proofs.BallCalm.{no_lag, IsCalm}
+use Rattle.written_machine.proofs.{BallCalm.{no_lag, IsCalm}, BallRuns.usual-listener}
 use Rattle.written_machine.proofs.BallCalls.{call-calm, plays-calm, no_call-usual}
-use Rattle.written_machine.proofs.BallRuns.{usual-listener}
 use Rattle.written_machine.proofs.BallCounting.{is_for, is_heard, pairs-head, pairs-tail}
 use Rattle.written_machine.proofs.BallSteady.{ball_of, switches_at, plays-steady, no_call-keeping}
 
@@ -58,11 +49,7 @@ module _ (r : RowId) (i : ℕ) where
 
   heard-right : (a b : List Listener) → is_heard r i b ≡ true → is_heard r i (a ++ b) ≡ true
   heard-right [] b heard = heard
-  heard-right (l ∷ a) b heard =
-      elim (cases_Bool (is_for r i l)) [
-        | inl is ↦ ap (λ (x : Bool). x || is_heard r i (a ++ b)) is
-        | inr not ↦ ap (λ (x : Bool). x || is_heard r i (a ++ b)) not ∙ heard-right a b heard
-      ]
+  heard-right (l ∷ a) b heard = search (rules, cases_Bool, is_for, is_heard, heard-right a b heard)
 
   parts-apart : (a b : List Listener) → AllPairs AreApart (a ++ b) → is_heard r i a ≡ true → is_heard r i b ≡ true → ⊥
   parts-apart [] b apart one other = false≢true one
@@ -91,8 +78,7 @@ module _ (r : RowId) (i : ℕ) where
   switches-apart (x ∷ xs) zero zero apart other one also = other refl
   switches-apart (x ∷ xs) zero (suc m) apart other one also = parts-apart x.listeners (flat_map listeners xs) apart one (heard-all xs m also)
   switches-apart (x ∷ xs) (suc n) zero apart other one also = parts-apart x.listeners (flat_map listeners xs) apart also (heard-all xs n one)
-  switches-apart (x ∷ xs) (suc n) (suc m) apart other one also =
-      switches-apart xs n m (rest-apart x.listeners (flat_map listeners xs) apart) (λ same. other (ap (λ (k : ℕ). suc k) same)) one also
+  switches-apart (x ∷ xs) (suc n) (suc m) apart other one also = search (rules, rest-apart, switches-apart xs n m (rest-apart x.listeners (flat_map listeners xs) apart) (λ same. other (ap (λ (k : ℕ). suc k) same)) one also)
 
 -- ---- what the listeners of a switch are told
 

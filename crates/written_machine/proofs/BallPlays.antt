@@ -1,70 +1,44 @@
 -- What the parts of the machine do with balls: a ball device is called, a ball has arrived on the playfield, or nothing
 -- that concerns balls happens.
-use Rattle.std.proofs.Common.{rules, ◌≡◌, ℕ, ℤ, ◌<◌, ◌==◌, ◌&&◌, inl, inr, ◌⊎◌, if◌then◌else◌, Bool, true, false, Option, Some, None, List, [], ◌∷◌, ◌++◌, length, refl, ap, subst, zero, suc}
+use Rattle.std.proofs.Common.{rules, ◌≡◌, ℕ, ℤ, ◌<◌, ◌==◌, ◌&&◌, inl, inr, ◌⊎◌, if◌then◌else◌, Bool, true, false, Option, Some, None, List, [], ◌∷◌, ◌++◌, length, refl, ap, subst}
 use Rattle.std.specs.List.{All, range_with_len}
-use Rattle.std.proofs.lemmas.Bool.{cases_lt}
-use Rattle.std.proofs.lemmas.List.{append-nil, get_or_past}
-use Rattle.std.proofs.lemmas.List.Concat.{flat_map-append}
+use Rattle.std.proofs.lemmas.{Bool.cases_lt, List.FromFn.{length-range_with_len, get_or-range_with_len}}
+use Rattle.std.proofs.lemmas.List.{append-nil, get_or_past, Concat.flat_map-append, Sorted.All-permutation}
 use Rattle.std.proofs.lemmas.List.Elements.{All-head, All-tail, All-get_or, All-nil, All-map, All-filter, All-from_get_or, filter_passes}
-use Rattle.std.proofs.lemmas.List.FromFn.{length-range_with_len, get_or-range_with_len}
-use Rattle.std.proofs.lemmas.List.Sorted.{All-permutation}
-use Rattle.plan_tables.specs.PlanView.{PlanView, act_of_listener, actions_at, binding_at, coil_numbers, game_event, is_owner, list_of_row, listeners_of, mode_event, no_binding, places_of, posts_of, row_at, row_numbers, rows_of, switch_at, work_of, is_multiball, is_save, multiball_rows, save_rows}
-use Rattle.plan_tables.specs.Valid.{HasEntries, IsBindingWithin, IsListenerWithin, IsTargetWithin}
-use Rattle.plan_tables.specs.Devices.{list_count}
+use Rattle.plan_tables.specs.PlanView.{PlanView, act_of_listener, actions_at, binding_at, coil_numbers, game_event, is_owner, list_of_row, listeners_of, mode_event, places_of, posts_of, row_at, row_numbers, rows_of, switch_at, work_of, is_multiball, is_save, multiball_rows, save_rows}
+use Rattle.plan_tables.specs.Valid.{HasEntries, IsListenerWithin, IsTargetWithin}
+use Rattle.plan_tables.specs.{Devices.list_count, declared.devices.BallTarget.TheVariants.Playfield}
 use Rattle.plan_tables.specs.declared.devices.Act.TheVariants as acts
-use Rattle.plan_tables.specs.declared.devices.BallSettings.{BallSettings}
-use Rattle.plan_tables.specs.declared.devices.BallTarget.TheVariants.{Playfield}
-use Rattle.plan_tables.specs.declared.devices.RowId.{RowId}
-use Rattle.plan_tables.specs.declared.devices.Settings.{Settings}
+use Rattle.plan_tables.specs.declared.devices.{BallSettings.BallSettings, RowId.RowId, Settings.Settings}
 use Rattle.plan_tables.specs.declared.devices.Settings.TheVariants as kinds
-use Rattle.plan_tables.specs.declared.entries.Action.{Action}
+use Rattle.plan_tables.specs.declared.entries.{Action.Action, CoilId.CoilId, ListId.ListId, Owner.Owner}
 use Rattle.plan_tables.specs.declared.entries.Action.TheVariants.{Post, Pulse, Enable, Disable, Change as ChangeVariable, Request, AddBalls}
-use Rattle.plan_tables.specs.declared.entries.BindingId.{BindingId}
-use Rattle.plan_tables.specs.declared.entries.CoilId.{CoilId}
-use Rattle.plan_tables.specs.declared.entries.EventId.{EventId}
-use Rattle.plan_tables.specs.declared.entries.ListId.{ListId}
-use Rattle.plan_tables.specs.declared.entries.Listener.{Listener}
+use Rattle.plan_tables.specs.declared.entries.{BindingId.BindingId, VariableId.VariableId}
+use Rattle.plan_tables.specs.declared.entries.{EventId.EventId, Listener.Listener, ModeId.ModeId, SwitchId.SwitchId}
 use Rattle.plan_tables.specs.declared.entries.ModeEvent.TheVariants.{WillStart, Starting, Started, Stopping, Stopped}
-use Rattle.plan_tables.specs.declared.entries.ModeId.{ModeId}
-use Rattle.plan_tables.specs.declared.entries.Owner.{Owner}
 use Rattle.plan_tables.specs.declared.entries.Owner.TheVariants as owners
-use Rattle.plan_tables.specs.declared.entries.SwitchId.{SwitchId}
-use Rattle.plan_tables.specs.declared.entries.Target.{Target}
-use Rattle.plan_tables.specs.declared.entries.Target.TheVariants.{Run, Start, Stop, Act as ActOn}
-use Rattle.plan_tables.specs.declared.entries.VariableId.{VariableId}
-use Rattle.plan_tables.specs.declared.entries.Work.{Work}
-use Rattle.plan_tables.specs.declared.entries.Work.TheVariants.{Nothing, Mode, Game}
+use Rattle.plan_tables.specs.declared.entries.Target.{Target, TheVariants.{Run, Start, Stop, Act as ActOn}}
+use Rattle.plan_tables.specs.declared.entries.Work.{Work, TheVariants.{Nothing, Mode, Game}}
 use Rattle.cascade_rank.proofs.Rows.{rows-within}
-use Rattle.coil_guard.specs.declared.command.Answer.{Answer}
-use Rattle.coil_guard.specs.declared.command.Command.{Command}
+use Rattle.coil_guard.specs.declared.command.{Answer.Answer, Command.Command}
 use Rattle.coil_guard.specs.declared.command.Command.TheVariants as commands
-use Rattle.coil_guard.specs.Asked.{after_asking, answer_asking}
-use Rattle.coil_guard.specs.CoilStep.{is_held_by}
-use Rattle.coil_guard.specs.Coils.{coil_at}
+use Rattle.coil_guard.specs.{Asked.{after_asking, answer_asking}, CoilStep.is_held_by, Coils.coil_at}
 use Rattle.device_objects.proofs.Lists.{lists_are_of_the_row}
-use Rattle.device_objects.specs.declared.device.Call.{Call}
+use Rattle.device_objects.specs.declared.{device.Call.Call, state.DeviceState.DeviceState}
 use Rattle.device_objects.specs.declared.device.Call.TheVariants as calls
-use Rattle.device_objects.specs.declared.state.DeviceState.{DeviceState}
-use Rattle.event_queue.specs.declared.queue.Posted.{Posted}
-use Rattle.event_queue.specs.Handlers.{runs_at, handlers, IsHandlerOrder}
-use Rattle.mode_stack.specs.ModeStep.{entered, ended}
-use Rattle.mode_stack.specs.Modes.{mode_state, running_of}
-use Rattle.player_game.specs.Players.{is_met, score_of}
-use Rattle.plan_tables.specs.declared.entries.GameEvent.TheVariants.{BallDrain}
-use Rattle.player_game.specs.GameStep.{GameStep, missing, more_balls, in_play}
+use Rattle.event_queue.specs.{declared.queue.Posted.Posted, Handlers.{runs_at, handlers, IsHandlerOrder}}
+use Rattle.mode_stack.specs.{ModeStep.{entered, ended}, Modes.{mode_state, running_of}}
+use Rattle.player_game.specs.{Players.{is_met, score_of}, GameStep.{GameStep, missing, more_balls, in_play}}
+use Rattle.plan_tables.specs.declared.entries.GameEvent.{GameEvent, TheVariants.BallDrain}
 use Rattle.switch_core.specs.declared.change.Change.{Change}
-use Rattle.written_machine.specs.declared.line.Happening.{Happening}
+use Rattle.written_machine.specs.{declared.line.Happening.Happening, Devices.ActsAreOwn, Moves.step_now}
 use Rattle.written_machine.specs.declared.line.Happening.TheVariants as lines
 use Rattle.plan_tables.specs.BallRows.{BooksNothing, actions_in, BooksRightly, IsNoBallDevice, IsOffBalls, BookingsAreRight, IsPlain}
 use Rattle.written_machine.specs.SwitchLines.{change_at, changes_of}
 use Rattle.written_machine.specs.EventStep.{taken, do_before, do_after, is_kept, before_handlers, after_event, handlers_in}
-use Rattle.written_machine.specs.Devices.{ActsAreOwn}
-use Rattle.plan_tables.specs.declared.devices.Telling.{Telling}
-use Rattle.plan_tables.specs.declared.devices.Telling.TheVariants.{Arrived, Wanted}
+use Rattle.plan_tables.specs.declared.devices.Telling.{Telling, TheVariants.{Arrived, Wanted}}
 use Rattle.written_machine.specs.Machine.{Machine, write, post, set_mode, set_device, set_coils, set_players, set_game, all_do, release_ball_end, start_mode, stop_mode, told, ask_coil, release_coil, release_coils, tell_change, do_action_by, do_list_by, world_of, device_at, called, tell_first, call_device, call_devices, do_target, do_handler, write_final, write_finals, ask_ball, do_step, tell_listener, tell_listeners, confirm_on_playfield, do_action, do_list, end_multiballs, first_active_save, want_balls, step_game, drain_ball, do_game}
 use Rattle.written_machine.proofs.Feeding.{All-at, multiballs-within, first_active_save-is}
-use Rattle.written_machine.specs.Moves.{step_now}
-use Rattle.plan_tables.specs.declared.entries.GameEvent.{GameEvent}
 
 -- ---- what does not concern balls
 
@@ -175,14 +149,12 @@ module _ (plan : PlanView) where
   pub all-play : {X : Type 0} {may : Call → Type 0} (f : X → Machine → Machine) (Q : X → Type 0) → ((x : X) (s : Machine) → Q x → Plays plan may s (f x s))
       → (xs : List X) → All Q xs → (s : Machine) → Plays plan may s (all_do f xs s)
   all-play f Q each [] all s = still (nothing-other s)
-  all-play f Q each (x ∷ xs) all s =
-      both (each x s (All-head Q x xs all)) (all-play f Q each xs (All-tail Q x xs all) (f x s))
+  all-play f Q each (x ∷ xs) all s = search (rules, both, All-head, All-tail, all-play f Q each xs (All-tail Q x xs all) (f x s))
 
   module _ (may : Call → Type 0) where
     -- balls that are wanted, if any
     want-plays : (n : ℕ) (s : Machine) → Plays plan may s (want_balls (tell_first plan) n s)
-    want-plays zero s = still (nothing-other s)
-    want-plays (suc n) s = request (suc n) s
+    want-plays x1 s = search (rules, still, nothing-other, request)
 
     -- an action that books nothing may ask for balls
     action-plays : (owner : Owner) (a : Action) (s : Machine) → BooksNothing a → Plays plan may s (do_action plan owner a s)
@@ -304,8 +276,7 @@ module _ (plan : PlanView) where
           (still (posts-other (λ e. e) (posts_of plan a.switch a.active) (confirm_on_playfield plan a s)))
         where
           confirms : (b : Bool) → Plays plan may s (if b then tell_first plan (Arrived Playfield) s else s)
-          confirms true = arrival s
-          confirms false = still (nothing-other s)
+          confirms x1 = search (rules, arrival, still, nothing-other)
 
       -- ---- what is bound to events
 
@@ -320,11 +291,7 @@ module _ (plan : PlanView) where
       handler-plays place s within = by (is_met plan s.players (binding_at plan place).condition)
         where
           by : (met : Bool) → Plays plan may s (if met then do_target plan (binding_at plan place).owner (binding_at plan place).target s else s)
-          by true =
-              target-plays (binding_at plan place).owner (binding_at plan place).target s
-              (All-get_or (λ b. IsOffBalls plan b.target) plan.bindings place.0 no_binding within right.bindings)
-              (All-get_or (IsBindingWithin plan) plan.bindings place.0 no_binding within entries.bindings).2
-          by false = still (nothing-other s)
+          by x1 = search (rules, target-plays, All-get_or, within, still, nothing-other)
 
       handlers-play : (s : Machine) (e : EventId) (order : List BindingId) → IsHandlerOrder plan (handlers_in plan s e) order
           → Plays plan may s (all_do (do_handler plan) order s)
@@ -359,8 +326,7 @@ module _ (plan : PlanView) where
       -- ---- the game, and events
 
       ask-plays : (b : Bool) (s : Machine) → Plays plan may s (ask_ball plan b s)
-      ask-plays true s = request 1 s
-      ask-plays false s = still (nothing-other s)
+      ask-plays x1 s = search (rules, request, still, nothing-other)
 
       step-plays : (step : GameStep) (s : Machine) → Plays plan may s (do_step plan step s)
       step-plays step s =

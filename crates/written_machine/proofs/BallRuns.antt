@@ -1,37 +1,24 @@
 -- In every run the ledger is in step with the devices.
 use Rattle.std.proofs.Common.{rules, ◌≡◌, ℕ, ◌<◌, cond, Bool, false, Option, Some, List, [], ◌∷◌, length, refl, sym, ap, ◌∙◌, subst, arith}
-use Rattle.std.specs.List.{count_by}
-use Rattle.std.proofs.lemmas.Bool.{cases_lt}
-use Rattle.std.proofs.lemmas.Option.{none-some}
+use Rattle.std.{specs.List.count_by, proofs.lemmas.{Bool.cases_lt, Option.none-some, List.Sums.sum_by-cons}}
 use Rattle.std.proofs.lemmas.List.{get_or_past, length-map, length-replicate, get_or-map, get_or-replicate}
-use Rattle.std.proofs.lemmas.List.Sums.{sum_by-cons}
 use Rattle.plan_tables.specs.PlanView.{PlanView, act_of_listener, feeders_of, feeds, row_at, row_numbers}
-use Rattle.plan_tables.specs.Valid.{IsValid}
-use Rattle.plan_tables.specs.declared.devices.BallSettings.{BallSettings}
-use Rattle.plan_tables.specs.declared.devices.BallTarget.{BallTarget}
-use Rattle.plan_tables.specs.declared.devices.RowId.{RowId}
+use Rattle.plan_tables.specs.{Valid.IsValid, declared.entries.Listener.Listener, BallRows.BookingsAreRight}
+use Rattle.plan_tables.specs.declared.devices.{BallSettings.BallSettings, BallTarget.BallTarget, RowId.RowId}
 use Rattle.plan_tables.specs.declared.devices.Settings.TheVariants as kinds
-use Rattle.plan_tables.specs.declared.entries.Listener.{Listener}
 use Rattle.plan_tables.specs.declared.entries.Owner.TheVariants as owners
-use Rattle.ball_devices.specs.Ledger.{no_balls, counted_in, transit_to}
-use Rattle.ball_devices.proofs.Ledgers.{new-is}
+use Rattle.ball_devices.{specs.Ledger.{no_balls, counted_in, transit_to}, proofs.Ledgers.new-is}
 use Rattle.device_objects.specs.declared.device.Call.TheVariants as calls
 use Rattle.device_objects.specs.BallDevice as balls
-use Rattle.device_objects.specs.DeviceStep.{due_of, first_state}
-use Rattle.device_objects.proofs.BallShapes.{first_ball-shape}
+use Rattle.device_objects.{specs.DeviceStep.{due_of, first_state}, proofs.BallShapes.first_ball-shape}
 use Rattle.switch_core.specs.declared.change.Change.{Change}
 use Rattle.written_machine.specs.declared.line.Happening.TheVariants as lines
-use Rattle.plan_tables.specs.BallRows.{BookingsAreRight}
-use Rattle.written_machine.specs.EventStep.{EventStep}
-use Rattle.written_machine.specs.Devices.{ActsAreOwn}
+use Rattle.written_machine.specs.{EventStep.EventStep, Devices.ActsAreOwn}
 use Rattle.written_machine.specs.Machine.{Machine, initial, write, device_at, is_device_away, tell_listeners, do_accepted, do_if_accepted}
 use Rattle.written_machine.specs.Run.{switch, device, Stimulus, SwitchChange, Alarm, Wait, IsAllowed, arrived, begin, InEveryRun}
-use Rattle.written_machine.proofs.Keeps.{run-keeps}
-use Rattle.written_machine.proofs.BallSteps.{IsUsual}
-use Rattle.written_machine.proofs.BallFeeders.{filter-same}
+use Rattle.written_machine.proofs.{Keeps.run-keeps, BallSteps.IsUsual, BallFeeders.filter-same}
 use Rattle.written_machine.proofs.BallPlays.{call-plays, listeners-play, accepted-plays, event-plays, IsNoCall}
-use Rattle.written_machine.proofs.BallCalm.{balls_at, no_lag, IsCalm, feeder}
-use Rattle.written_machine.proofs.BallCalls.{plays-calm, no_call-usual}
+use Rattle.written_machine.proofs.{BallCalm.{balls_at, no_lag, IsCalm, feeder}, BallCalls.{plays-calm, no_call-usual}}
 
 pub usual-listener : (active : Bool) (l : Listener) → IsUsual (calls.Act (act_of_listener active l))
 usual-listener active l = search rules

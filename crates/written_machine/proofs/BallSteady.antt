@@ -1,38 +1,24 @@
 -- Only the calls of switches, and alarms, concern the ball switches of a device.
 use Rattle.std.proofs.Common.{rules, ◌≡◌, ℕ, Bool, Option, Some, None, List, [], ◌∷◌, length, refl}
-use Rattle.std.proofs.lemmas.Bool.{cases_eq, cases_lt}
+use Rattle.std.proofs.lemmas.{Bool.{cases_eq, cases_lt}, List.Concat.flat_map-append}
 use Rattle.std.proofs.lemmas.List.{append-nil, length-set, get_or-set_same, get_or-set_other, set_past}
-use Rattle.std.proofs.lemmas.List.Concat.{flat_map-append}
 use Rattle.plan_tables.specs.PlanView.{PlanView, row_at, target_of, act_told}
 use Rattle.plan_tables.specs.declared.devices.Act.TheVariants as acts
-use Rattle.plan_tables.specs.declared.devices.BallSettings.{BallSettings}
-use Rattle.plan_tables.specs.declared.devices.BallTarget.TheVariants.{Playfield}
-use Rattle.plan_tables.specs.declared.devices.RowId.{RowId}
+use Rattle.plan_tables.specs.declared.devices.{BallSettings.BallSettings, BallTarget.TheVariants.Playfield, RowId.RowId}
 use Rattle.plan_tables.specs.declared.devices.Settings.TheVariants as kinds
-use Rattle.plan_tables.specs.declared.entries.Action.{Action}
+use Rattle.plan_tables.specs.declared.entries.{Action.Action, Owner.Owner, SwitchId.SwitchId}
 use Rattle.plan_tables.specs.declared.entries.Action.TheVariants.{Post, Pulse, Enable, Disable, Change as ChangeVariable, Enter, Leave, Lose, Arrive, Request, AddBalls}
-use Rattle.plan_tables.specs.declared.entries.Owner.{Owner}
-use Rattle.plan_tables.specs.declared.entries.SwitchId.{SwitchId}
-use Rattle.ball_devices.specs.declared.booking.Origin.{Origin}
-use Rattle.ball_devices.specs.Ledger.{origin_of}
-use Rattle.ball_devices.specs.Bookings.{LedgerCall}
+use Rattle.ball_devices.specs.{declared.booking.Origin.Origin, Ledger.origin_of, Bookings.LedgerCall}
 use Rattle.ball_devices.specs.Bookings as ledger_calls
-use Rattle.device_objects.specs.declared.device.Call.{Call}
+use Rattle.device_objects.specs.declared.{device.Call.Call, state.{BallState.BallState, Eject.Eject}}
 use Rattle.device_objects.specs.declared.device.Call.TheVariants as calls
-use Rattle.device_objects.specs.declared.state.BallState.{BallState}
-use Rattle.device_objects.specs.declared.state.BallSwitch.{BallSwitch}
-use Rattle.device_objects.specs.declared.state.DeviceState.{DeviceState}
+use Rattle.device_objects.specs.declared.state.{BallSwitch.BallSwitch, DeviceState.DeviceState}
 use Rattle.device_objects.specs.declared.state.DeviceState.TheVariants as states
-use Rattle.device_objects.specs.declared.state.Eject.{Eject}
-use Rattle.device_objects.specs.declared.state.World.{World}
-use Rattle.device_objects.specs.BallDevice.{confirm}
+use Rattle.device_objects.specs.{BallDevice.confirm, DeviceStep.first_state}
 use Rattle.device_objects.specs.BallDevice as balls
-use Rattle.device_objects.specs.DeviceStep.{device_step, first_state}
-use Rattle.written_machine.specs.SwitchLines.{changes_of}
-use Rattle.plan_tables.specs.declared.devices.Telling.{Telling}
-use Rattle.plan_tables.specs.declared.devices.Telling.TheVariants.{Arrived, Wanted}
+use Rattle.written_machine.{specs.SwitchLines.changes_of, proofs.Does.book-by}
+use Rattle.plan_tables.specs.declared.devices.Telling.{Telling, TheVariants.{Arrived, Wanted}}
 use Rattle.written_machine.specs.Machine.{Machine, post, set_device, all_do, book, drain_if, after_entry, do_action_by, device_at, called, do_answer_by, call_device_by, tell_nobody, tell_device, tell_first, told_device, want_balls}
-use Rattle.written_machine.proofs.Does.{book-by}
 use Rattle.written_machine.proofs.BallPlays.{IsOther, one_row, post-other, action-other, Plays, still, ball, arrival, both, IsNoCall, request, same-other}
 
 -- the state of a ball device
@@ -63,10 +49,6 @@ no_call-keeping call none = absurd none
 module _ (d : BallSettings) where
   confirm-switches : (now : ℕ) (eject : Eject) (b : BallState) → (confirm d now eject b).0.switches ≡ b.switches
   confirm-switches now eject b = search rules
-
-  state-switches : (call : Call) (now : ℕ) (world : World) (state : DeviceState) → IsKeeping call
-      → (ball_of (device_step (kinds.BallDevice d) call now world state).0).switches ≡ (ball_of state).switches
-  state-switches call now world state keeps = search rules
 
 module _ (plan : PlanView) where
   pub other-steady : {s t : Machine} → IsOther plan s t → IsSteady plan s t
@@ -118,7 +100,7 @@ module _ (plan : PlanView) where
 
     -- a call that keeps the ball switches
     turned-steady : (call : Call) → IsKeeping call → (r : RowId) (s : Machine) → IsSteady plan s (set_device r (called plan call r s).0 s)
-    turned-steady call keeps r s = search (rules, length-set, state-switches, cases_lt, get_or-set_same, set_past, cases_eq, one_row, get_or-set_other)
+    turned-steady call keeps r s = search (rules, length-set, cases_lt, get_or-set_same, set_past, cases_eq, one_row, get_or-set_other)
 
     call-steady : (call : Call) → IsKeeping call → (r : RowId) (s : Machine) → IsSteady plan s (call_device_by plan tell call r s)
     call-steady call keeps r s =

@@ -1,32 +1,22 @@
 -- In every run all that the ledger books stands in the trace, with the counts that follow from it.
 use Rattle.std.proofs.Common.{rules, ◌≡◌, ℕ, ◌+◌, ◌<◌, ◌⊎◌, inl, inr, true, List, [], ◌∷◌, ◌++◌, length, length-append, get_or, drop, refl, sym, ap, ◌∙◌, subst, append_assoc, arith}
-use Rattle.std.proofs.lemmas.List.{append-nil, length-replicate}
-use Rattle.std.proofs.lemmas.List.Concat.{flat_map-append}
-use Rattle.plan_tables.specs.PlanView.{PlanView, work_of}
-use Rattle.plan_tables.specs.declared.devices.RowId.{RowId}
-use Rattle.plan_tables.specs.declared.entries.Owner.{Owner}
-use Rattle.ball_devices.specs.declared.booking.Booking.{Booking}
-use Rattle.ball_devices.specs.declared.booking.Booking.TheVariants.{Entered}
-use Rattle.ball_devices.specs.declared.booking.Origin.{Origin}
+use Rattle.std.proofs.lemmas.List.{append-nil, length-replicate, Concat.flat_map-append}
+use Rattle.plan_tables.specs.{PlanView.{PlanView, work_of}, declared.{devices.RowId.RowId, entries.Owner.Owner}}
+use Rattle.ball_devices.specs.declared.booking.{Booking.{Booking, TheVariants.Entered}, Origin.Origin}
 use Rattle.ball_devices.specs.Ledger.{Ledger, no_balls, origin_of, IsBalanced, IsLedger}
 use Rattle.ball_devices.specs.Bookings.{LedgerCall, Enter, MayBook, MayBookAll, after_call, after_calls, booked, booked_by, can_book, HasBooked, origin_after}
 use Rattle.ball_devices.proofs.Ledgers.{new-is, calls-are, call-is}
 use Rattle.ball_devices.proofs.Booked.{call-told, balls_are_somewhere, ledgers_follow_bookings, origins_are_by_bookings}
 use Rattle.cascade_rank.specs.Cost.{Cost}
-use Rattle.written_machine.specs.declared.line.BallCounts.{BallCounts}
-use Rattle.written_machine.specs.declared.line.Happening.{Happening}
+use Rattle.written_machine.specs.declared.line.{BallCounts.BallCounts, Happening.Happening, Line.Line}
 use Rattle.written_machine.specs.declared.line.Happening.TheVariants as lines
-use Rattle.written_machine.specs.declared.line.Line.{Line}
 use Rattle.written_machine.specs.Counted.{booked_at, bookings, IsLedgerOf, AreOriginsRight, AreCountsRight}
-use Rattle.written_machine.specs.EventStep.{taken, EventStep}
-use Rattle.written_machine.specs.Machine.{Machine, initial, write, told, counts_of}
-use Rattle.written_machine.specs.Moves.{Move, Booked as Books, do_move, Licence, MayDo, Does, IsNoBooking, TakesPart, Begins, ordinary, working}
+use Rattle.written_machine.specs.{EventStep.{taken, EventStep}, Machine.{Machine, initial, write, told, counts_of}}
+use Rattle.written_machine.specs.Moves.{Move, do_move, Licence, MayDo, Does, IsNoBooking, TakesPart, Begins, ordinary, working}
 use Rattle.written_machine.specs.Run.{Stimulus, IsAllowed, begin, IsRun, InEveryRun}
 use Rattle.written_machine.proofs.Does.{start-by, stop-by, book-by, does-keeps}
-use Rattle.written_machine.proofs.Parts.{does-before, does-after, does-begin}
-use Rattle.written_machine.proofs.Keeps.{step-keeps, run-keeps}
-use Rattle.coil_guard.specs.declared.command.Answer.{Answer}
-use Rattle.coil_guard.specs.declared.command.Command.{Command}
+use Rattle.written_machine.proofs.{Parts.{does-before, does-after, does-begin}, Keeps.{step-keeps, run-keeps}}
+use Rattle.coil_guard.specs.declared.command.{Answer.Answer, Command.Command}
 
 -- ---- one call more
 

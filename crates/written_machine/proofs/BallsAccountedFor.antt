@@ -1,11 +1,8 @@
 -- In every run of an accepted plan the ledger says where the known balls are.
-use Rattle.std.proofs.Common.{arith}
-use Rattle.written_machine.specs.GoodRun.{BallsAreAccountedFor}
-use Rattle.written_machine.specs.CheckedView.{CheckedView}
-use Rattle.written_machine.specs.Accepted.{IsAccepted}
+use Rattle.std.proofs.Common.{rules}
+use Rattle.written_machine.specs.{GoodRun.BallsAreAccountedFor, CheckedView.CheckedView, Accepted.IsAccepted}
 use Rattle.written_machine.proofs.BallTrace.{told-run, booked-run, somewhere-run}
-use Rattle.written_machine.proofs.BallRuns.{calm-run}
-use Rattle.written_machine.proofs.BallHeard.{counted-run}
+use Rattle.written_machine.proofs.{BallRuns.calm-run, BallHeard.counted-run}
 
 pub balls-accounted_for : (c : CheckedView) → IsAccepted c → BallsAreAccountedFor c
 balls-accounted_for c accepted = record {
@@ -14,7 +11,5 @@ balls-accounted_for c accepted = record {
   origins = λ stimuli trace s run. (told-run c.plan stimuli trace s run).origins;
   told = λ stimuli trace s run. (told-run c.plan stimuli trace s run).told;
   counted = counted-run c.plan accepted.valid accepted.own accepted.bookings;
-  away = λ stimuli trace s run target there.
-      let calm = calm-run c.plan accepted.valid accepted.own accepted.bookings stimuli trace s run in
-      omega (arith, calm.away target there);
+  away = search (rules, calm-run);
 }

@@ -1,32 +1,22 @@
 -- Where weights fit, no event step raises the potential. So each cascade ends within the bound.
 use Rattle.std.proofs.Common.{rules, ◌≡◌, ℕ, zero, suc, ◌+◌, ◌≤◌, ◌<◌, Bool, if◌then◌else◌, Some, None, List, [], ◌∷◌, length, refl, ap, sym, subst, arith, length-append}
-use Rattle.plan_tables.specs.PlanView.{PlanView, work_of}
-use Rattle.plan_tables.specs.declared.entries.EventId.{EventId}
-use Rattle.plan_tables.specs.Valid.{HasEntries, IsValid}
-use Rattle.plan_tables.specs.declared.entries.SwitchId.{SwitchId}
-use Rattle.switch_core.specs.declared.change.Change.{Change}
-use Rattle.switch_core.proofs.Lists.{due-within}
-use Rattle.written_machine.specs.declared.line.Line.{Line}
+use Rattle.plan_tables.specs.{PlanView.{PlanView, work_of}, Valid.{HasEntries, IsValid}}
+use Rattle.plan_tables.specs.declared.entries.{EventId.EventId, SwitchId.SwitchId}
+use Rattle.switch_core.{specs.declared.change.Change.Change, proofs.Lists.due-within}
+use Rattle.written_machine.specs.{declared.line.Line.Line, GoodRun.CascadesEnd, CheckedView.CheckedView}
 use Rattle.written_machine.specs.declared.line.Happening.TheVariants as lines
-use Rattle.cascade_rank.specs.Cost.{price}
-use Rattle.cascade_rank.specs.Events.{weight_of}
-use Rattle.cascade_rank.specs.Weights.{IsFitting, bound_of}
+use Rattle.cascade_rank.specs.{Cost.price, Events.weight_of, Weights.{IsFitting, bound_of}, Verified.IsVerified}
 use Rattle.cascade_rank.proofs.Switches.{acceptance-within_bound}
-use Rattle.event_queue.specs.declared.queue.Posted.{Posted}
-use Rattle.event_queue.specs.PlanOrder.{by_priority}
+use Rattle.event_queue.specs.{declared.queue.Posted.Posted, PlanOrder.by_priority}
 use Rattle.written_machine.specs.Machine.{Machine, initial, all_do, do_handler}
 use Rattle.written_machine.specs.EventStep.{taken, is_kept, before_handlers, handlers_in, EventStep, EventSteps, after_event}
 use Rattle.written_machine.specs.Run.{switch, Stimulus, IsAllowed, begin, InEveryRun}
 use Rattle.written_machine.specs.StimulusCost.{cost_if_accepted, cost_of_stimulus, weigh}
-use Rattle.written_machine.specs.GoodRun.{CascadesEnd}
-use Rattle.written_machine.specs.CheckedView.{CheckedView}
-use Rattle.cascade_rank.specs.Verified.{IsVerified}
 use Rattle.written_machine.proofs.Does.{potential, potential-does, AreOfPlan, WaitsInPlan, waits-does, HasStates, has_states-does, due-row, has_devices-does}
 use Rattle.written_machine.specs.Moves.{TakesPart, Begins, ordinary, working}
 use Rattle.written_machine.proofs.Parts.{does-order, does-begin, does-before, does-after}
 use Rattle.written_machine.proofs.Pricing.{handlers-priced, before-priced, after-priced, IsFired, stimulus-priced, fire-within_bound}
-use Rattle.written_machine.proofs.Growth.{event-grows}
-use Rattle.written_machine.proofs.Order.{order_cost, plan_order-step}
+use Rattle.written_machine.proofs.{Growth.event-grows, Order.{order_cost, plan_order-step}}
 use Rattle.written_machine.proofs.Alarms.{has_states-step, has_states-begin, has_states-initial}
 use Rattle.written_machine.proofs.Keeps.{step-keeps, steps-keep, run-keeps}
 
@@ -128,9 +118,7 @@ module _ (plan : PlanView) (valid : IsValid plan) (w : EventId → ℕ) (fits : 
   -- each waiting event weighs at least 1
   waiting-weigh : (ps : List Posted) → AreOfPlan plan ps → length ps ≤ weigh w ps
   waiting-weigh [] h = omega arith
-  waiting-weigh (p ∷ ps) h =
-      let fit = fits p.event h.0 in
-      omega (arith, fit, waiting-weigh ps h.1)
+  waiting-weigh (p ∷ ps) h = search (rules, waiting-weigh ps h.1)
 
 -- where the weights fit and the bound is theirs, each cascade ends within it
 pub fitting-cascades_end : (c : CheckedView) → IsValid c.plan → IsFitting c.plan (weight_of c.weights) → c.bound ≡ bound_of c.plan (weight_of c.weights) → CascadesEnd c

@@ -1,15 +1,10 @@
 -- A mode's own five events come in turn: which of them wait, by its phase.
-use Rattle.std.proofs.Common.{◌≡◌, true, false, ◌==◌, cond, List, [], ◌∷◌, ◌++◌, refl, ap, ◌∙◌, rules}
-use Rattle.std.specs.List.{AllByRecursion}
+use Rattle.std.proofs.Common.{◌≡◌, true, false, ◌==◌, cond, List, [], ◌∷◌, ◌++◌, refl, rules}
 use Rattle.plan_tables.specs.PlanView.{PlanView, work_of}
-use Rattle.plan_tables.specs.declared.entries.ModeId.{ModeId}
-use Rattle.plan_tables.specs.declared.entries.ModeEvent.{ModeEvent}
+use Rattle.plan_tables.specs.declared.entries.{ModeId.ModeId, ModeEvent.ModeEvent, Work.{Work, TheVariants.Mode}}
 use Rattle.plan_tables.specs.declared.entries.ModeEvent.TheVariants.{WillStart, Starting, Started, Stopping, Stopped}
-use Rattle.plan_tables.specs.declared.entries.Work.{Work}
-use Rattle.plan_tables.specs.declared.entries.Work.TheVariants.{Mode}
-use Rattle.mode_stack.specs.declared.phase.Phase.{Phase}
+use Rattle.mode_stack.specs.{declared.phase.Phase.Phase, ModeStep.is_running}
 use Rattle.mode_stack.specs.declared.phase.Phase.TheVariants as phases
-use Rattle.mode_stack.specs.ModeStep.{is_running}
 use Rattle.event_queue.specs.declared.queue.Posted.{Posted}
 
 -- those of the mode: of one event, and of the events that wait
@@ -38,8 +33,7 @@ mine-push m w xs ys = search rules
 -- one event more waits
 pub waiting_of-push : (plan : PlanView) (m : ModeId) (ps : List Posted) (p : Posted) → waiting_of plan m (ps ++ p ∷ []) ≡ waiting_of plan m ps ++ mine m (work_of plan p.event) []
 waiting_of-push plan m [] p = refl
-waiting_of-push plan m (q ∷ ps) p =
-    ap (λ (xs : List ModeEvent). mine m (work_of plan q.event) xs) (waiting_of-push plan m ps p) ∙ mine-push m (work_of plan q.event) (waiting_of plan m ps) (mine m (work_of plan p.event) [])
+waiting_of-push plan m (q ∷ ps) p = search (rules, mine-push, waiting_of-push plan m ps p)
 
 -- ---- from one phase to the next
 
@@ -76,7 +70,3 @@ stopped-quiet p q x1 = search rules
 abbrev pub IsNoEnd : ModeEvent → Type 0
 IsNoEnd Stopped = ⊥
 IsNoEnd _ = Unit {0}
-
--- where the mode runs, its last event does not wait
-pub running-no_end : (p : Phase) (l : List ModeEvent) → IsTurn p l → is_running p ≡ true → AllByRecursion IsNoEnd l
-running-no_end p l x1 is = search rules

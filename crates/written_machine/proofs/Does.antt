@@ -1,49 +1,32 @@
 -- What one cost pays for: single changes of the machine, one after another, each by a licence.
 use Rattle.std.proofs.Common.{rules, ◌≡◌, ◌&&◌, ℕ, ℤ, ◌+◌, ◌-◌, ◌≤◌, ◌<◌, inl, inr, Option, Some, Bool, true, List, [], ◌∷◌, ◌++◌, length, length-append, slice_index_or, slice_set, if◌then◌else◌, map, refl, ap, sym, subst, ◌∙◌, arith}
-use Rattle.std.proofs.lemmas.Bool.{cases_eq, cases_lt, false≢true}
-use Rattle.std.proofs.lemmas.Option.{none-some}
-use Rattle.std.specs.List.{All, AllByRecursion}
+use Rattle.std.{proofs.lemmas.Bool.{cases_eq, cases_lt, false≢true}, specs.List.{All, AllByRecursion}}
+use Rattle.std.proofs.lemmas.{Option.none-some, List.Elements.{All-head, All-tail}}
 use Rattle.std.proofs.lemmas.List.{length-map, length-set, get_or-map, get_or_past, get_or-set_same, get_or-set_other, set_past}
-use Rattle.std.proofs.lemmas.List.Elements.{All-head, All-tail}
 use Rattle.plan_tables.specs.PlanView.{PlanView, may_hold_ball_end, mode_event, no_row, row_at}
-use Rattle.plan_tables.specs.Valid.{HasEntries}
-use Rattle.plan_tables.specs.declared.entries.EventId.{EventId}
-use Rattle.plan_tables.specs.declared.entries.Owner.{Owner}
-use Rattle.plan_tables.specs.declared.entries.CoilId.{CoilId}
-use Rattle.plan_tables.specs.declared.entries.ModeId.{ModeId}
-use Rattle.plan_tables.specs.declared.entries.VariableId.{VariableId}
-use Rattle.plan_tables.specs.declared.entries.ModeEvent.TheVariants.{WillStart, Stopping}
+use Rattle.plan_tables.specs.{Valid.HasEntries, declared.entries.ModeEvent.TheVariants.{WillStart, Stopping}}
+use Rattle.plan_tables.specs.declared.{entries.{EventId.EventId, ModeId.ModeId}, devices.RowId.RowId}
+use Rattle.plan_tables.specs.declared.entries.{Owner.Owner, CoilId.CoilId, VariableId.VariableId}
 use Rattle.plan_tables.specs.declared.entries.Owner.TheVariants as owners
-use Rattle.plan_tables.specs.declared.devices.RowId.{RowId}
-use Rattle.device_objects.specs.declared.device.Call.{Call}
-use Rattle.device_objects.specs.declared.state.DeviceState.{DeviceState}
-use Rattle.device_objects.specs.DeviceStep.{due_of, first_state}
-use Rattle.device_objects.specs.Laws.{HasShape}
+use Rattle.device_objects.specs.declared.{device.Call.Call, state.DeviceState.DeviceState}
+use Rattle.device_objects.specs.{DeviceStep.{due_of, first_state}, Laws.HasShape}
 use Rattle.device_objects.proofs.Shapes.{states_keep_their_shape}
-use Rattle.mode_stack.specs.declared.phase.ModeState.{ModeState}
+use Rattle.mode_stack.specs.{declared.phase.ModeState.ModeState, Modes.{needs_game, mode_state}}
 use Rattle.mode_stack.specs.ModeStep.{starts, started, stopped, stop_answer}
-use Rattle.mode_stack.specs.Modes.{needs_game, mode_state}
-use Rattle.player_game.specs.GameStep.{GameState, held_if, released, more_balls}
-use Rattle.player_game.specs.Players.{PlayersState, after_change}
-use Rattle.player_game.specs.Choices.{AreFew}
-use Rattle.player_game.proofs.StayFew.{players_stay_few}
-use Rattle.cascade_rank.proofs.Within.{mode_event-within}
+use Rattle.player_game.{specs.GameStep.{GameState, held_if, released, more_balls}, proofs.StayFew.players_stay_few}
+use Rattle.player_game.specs.{Players.{PlayersState, after_change}, Choices.AreFew}
+use Rattle.cascade_rank.{proofs.Within.mode_event-within, specs.Cost.{Cost, Lines, Both, price, each_of}}
 use Rattle.switch_core.specs.Switches.{all_idle}
-use Rattle.cascade_rank.specs.Cost.{Cost, Lines, Both, price, each_of}
 use Rattle.event_queue.specs.declared.queue.Posted.{Posted}
-use Rattle.coil_guard.specs.declared.command.Command.{Command}
+use Rattle.coil_guard.specs.declared.{command.Command.Command, state.CoilState.CoilState}
 use Rattle.coil_guard.specs.declared.command.Command.TheVariants as commands
-use Rattle.coil_guard.specs.declared.state.CoilState.{CoilState}
 use Rattle.coil_guard.specs.CoilStep.{off, is_held_by, takes_enable, enabled}
-use Rattle.coil_guard.specs.Coils.{all_off, coil_at, set_coil}
-use Rattle.coil_guard.specs.Limits.{no_limits}
+use Rattle.coil_guard.specs.{Coils.{all_off, coil_at, set_coil}, Limits.no_limits, Asked.{limits_of, after_asking}}
 use Rattle.plan_tables.proofs.Owners.{is_owner-same}
-use Rattle.coil_guard.specs.Asked.{limits_of, after_asking}
 use Rattle.ball_devices.specs.Bookings.{LedgerCall, after_call, booked, can_book}
 use Rattle.written_machine.specs.declared.line.Happening.TheVariants as lines
 use Rattle.written_machine.specs.Machine.{Machine, write, post, set_ledger, counts_of, book, set_mode, set_game, has_game, is_post, post_if, start_mode, stop_mode, all_do, world_of, device_state, device_at, called}
-use Rattle.written_machine.specs.Devices.{HasDevices}
-use Rattle.written_machine.specs.StimulusCost.{weigh}
+use Rattle.written_machine.specs.{Devices.HasDevices, StimulusCost.weigh}
 use Rattle.written_machine.specs.Moves.{Move, Wrote, Sent, Switched, Began, Ended, Marked, Released, Turned, Asked, Booked, Varied, Stepped, AddedBalls, do_move, cost_of_move, MayHold, IsListed, Licence, MayDo, Does, quiet, moved, both, less, Grows}
 
 -- what these cost one after another, where each finds the state that the one before it leaves
@@ -105,9 +88,6 @@ module _ (owner : Owner) (call : LedgerCall) (s : Machine) where
   pub book-by : (P : Machine → Type 0) → (can_book call s.ledger ≡ true → P booked_now) → P s → P (book owner call s)
   book-by P here not = search rules
 
-  pub booked-length : length booked_now.lines ≡ length s.lines + 1
-  booked-length = search (rules, length-append)
-
 -- ---- the potential grows by no more than the cost
 
 -- lines so far, and the weights of the waiting events
@@ -118,12 +98,9 @@ pub weigh-append : (w : EventId → ℕ) (ps qs : List Posted) → weigh w (ps +
 weigh-append w [] qs = omega arith
 weigh-append w (p ∷ ps) qs = omega (arith, weigh-append w ps qs)
 
-potential-post : (w : EventId → ℕ) (owner : Owner) (e : EventId) (s : Machine) → potential w (post owner e s) ≤ potential w s + w e
-potential-post w owner e s = omega (arith, weigh-append w s.waiting (record { event = e; owner = owner } ∷ []))
-
 module _ (plan : PlanView) where
   potential-move : (w : EventId → ℕ) (x : Move) (s : Machine) → potential w (do_move plan x s) ≤ potential w s + price w (cost_of_move plan x)
-  potential-move w x s = search (rules, length-append, potential-post, start-by, stop-by, book-by, booked-length)
+  potential-move w x s = search (rules, length-append, weigh-append, start-by, stop-by, book-by)
 
   pub potential-does : {may : Move → Type 0} (w : EventId → ℕ) {c : Cost} {s t : Machine} → Does plan may c s t → potential w t ≤ potential w s + price w c
   potential-does w quiet = omega arith
@@ -145,7 +122,7 @@ module _ (plan : PlanView) where
   of_plan-push (q ∷ ps) p h k = (h.0, of_plan-push ps p h.1 k)
 
   pub grows-move : (x : Move) (s : Machine) → Grows s (do_move plan x s)
-  grows-move x s = search (rules, length-append, start-by, stop-by, book-by, booked-length)
+  grows-move x s = search (rules, length-append, start-by, stop-by, book-by)
 
   pub moment-move : (x : Move) (s : Machine) → (do_move plan x s).moment ≡ s.moment
   moment-move x s = search rules

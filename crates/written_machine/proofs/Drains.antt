@@ -1,12 +1,8 @@
 -- What the game's own step leads to where a ball has drained.
 use Rattle.std.proofs.Common.{rules, ◌≡◌, ◌==◌, true, List, [], ◌∷◌, refl, ◌∙◌, ap}
-use Rattle.plan_tables.specs.PlanView.{PlanView}
-use Rattle.plan_tables.specs.declared.entries.GameEvent.{GameEvent}
-use Rattle.plan_tables.specs.declared.entries.GameEvent.TheVariants.{BallDrain}
-use Rattle.player_game.specs.GameStep.{in_play}
-use Rattle.player_game.proofs.Draining.{tested-left, drain-requests, drain-finals}
-use Rattle.written_machine.specs.Machine.{Machine, all_do, post_game, step_game}
-use Rattle.written_machine.specs.Moves.{Stepped, step_now, do_move}
+use Rattle.plan_tables.specs.{PlanView.PlanView, declared.entries.GameEvent.{GameEvent, TheVariants.BallDrain}}
+use Rattle.player_game.{specs.GameStep.in_play, proofs.Draining.{tested-left, drain-requests, drain-finals}}
+use Rattle.written_machine.specs.{Machine.{Machine, all_do, post_game, step_game}, Moves.{Stepped, step_now, do_move}}
 
 module _ (plan : PlanView) where
   -- to post changes no game

@@ -1,22 +1,13 @@
 -- The ball devices that may be told of a ball that has arrived, and the first trough.
 use Rattle.std.proofs.Common.{rules, ◌≡◌, suc, ◌<◌, Bool, true, false, cond, Some, List, [], ◌∷◌, length, refl, subst, arith}
-use Rattle.std.specs.Prelude.{Contains, find}
-use Rattle.std.specs.List.{All}
-use Rattle.std.proofs.lemmas.Bool.{cases_lt}
-use Rattle.std.proofs.lemmas.List.{get_or_past}
-use Rattle.std.proofs.lemmas.List.Elements.{All-filter, All-get_or, filter_passes}
-use Rattle.std.proofs.lemmas.Option.{none-some}
+use Rattle.std.{specs.{Prelude.{Contains, find}, List.All}, proofs.lemmas.{Bool.cases_lt, Option.none-some}}
+use Rattle.std.proofs.lemmas.List.{get_or_past, Elements.{All-filter, All-get_or, filter_passes}}
 use Rattle.plan_tables.specs.PlanView.{PlanView, feeders_of, feeds, first_trough, is_trough, row_at, row_numbers, multiball_rows, save_rows, is_save, is_multiball}
-use Rattle.plan_tables.specs.declared.devices.BallTarget.{BallTarget}
-use Rattle.plan_tables.specs.declared.devices.RowId.{RowId}
-use Rattle.plan_tables.specs.declared.devices.Settings.{Settings}
-use Rattle.plan_tables.specs.declared.entries.Owner.{Owner}
+use Rattle.plan_tables.specs.declared.devices.{BallTarget.BallTarget, RowId.RowId, Settings.Settings}
+use Rattle.plan_tables.specs.declared.{entries.Owner.Owner, devices.Telling.{Telling, TheVariants.{Arrived, Wanted}}}
 use Rattle.plan_tables.specs.declared.entries.Owner.TheVariants as owners
-use Rattle.plan_tables.proofs.Owners.{row_numbers-within}
-use Rattle.plan_tables.specs.BallRows.{IsOwnBallDevice}
+use Rattle.plan_tables.{proofs.Owners.row_numbers-within, specs.BallRows.IsOwnBallDevice}
 use Rattle.written_machine.specs.Devices.{ActsAreOwn}
-use Rattle.plan_tables.specs.declared.devices.Telling.{Telling}
-use Rattle.plan_tables.specs.declared.devices.Telling.TheVariants.{Arrived, Wanted}
 use Rattle.written_machine.specs.Machine.{Machine, device_at, first_away, is_device_away, told_device, first_active_save, is_active_save}
 
 -- ---- what is found in a list
@@ -27,9 +18,7 @@ found p [] x is = absurd (none-some x is)
 found p (y ∷ ys) x is = by (p y) refl (found p ys x) is
   where
     by : (b : Bool) → p y ≡ b → (find p ys ≡ Some x → Contains ys x × (p x ≡ true)) → cond b (Some y) (find p ys) ≡ Some x → Contains (y ∷ ys) x × (p x ≡ true)
-    by true passes rest here =
-        let same : y ≡ x = cc in
-        ((0, omega arith, same), subst (λ z. p z ≡ true) same passes)
+    by true passes rest here = search rules
     by false passes rest later =
         let (there, passes_too) = rest later in
         ((suc there.0, let within = there.1 in omega (arith, within), there.2), passes_too)

@@ -1,14 +1,9 @@
 -- Every run of an accepted plan is good.
-use Rattle.written_machine.specs.GoodRun.{IsGood}
-use Rattle.written_machine.specs.CheckedView.{CheckedView}
-use Rattle.written_machine.specs.Accepted.{IsAccepted}
+use Rattle.written_machine.specs.{GoodRun.IsGood, CheckedView.CheckedView, Accepted.IsAccepted}
 use Rattle.plan_tables.specs.declared.entries.Owner.TheVariants as owners
-use Rattle.written_machine.proofs.Cascade.{verified-cascades_end}
+use Rattle.written_machine.proofs.{Cascade.verified-cascades_end, BallHeard.changes-run}
 use Rattle.written_machine.proofs.Guarded.{follows-run, skips-run, stretches-run, holder-run}
-use Rattle.written_machine.proofs.BallsAccountedFor.{balls-accounted_for}
-use Rattle.written_machine.proofs.BallHeard.{changes-run}
-use Rattle.written_machine.proofs.Levels.{levels-run}
-use Rattle.written_machine.proofs.Moments.{timed-run}
+use Rattle.written_machine.proofs.{BallsAccountedFor.balls-accounted_for, Levels.levels-run, Moments.timed-run}
 use Rattle.written_machine.proofs.Silence.{stopped_is_silent, stopped_is_resting, stopped_holds_nothing}
 
 pub every_run_is_good : (c : CheckedView) → IsAccepted c → IsGood c

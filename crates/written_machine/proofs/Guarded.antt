@@ -1,39 +1,28 @@
 -- What is sent to coils is within their limits, and nothing is skipped for a limit, in every run.
 use Rattle.std.proofs.Common.{rules, ◌≡◌, ℕ, ◌≤◌, Bool, true, false, List, [], ◌∷◌, ◌++◌, refl, sym, ap, ◌∙◌, subst, append_assoc, arith}
-use Rattle.std.proofs.lemmas.Grind.{flat_map-append}
-use Rattle.std.proofs.lemmas.List.{append-nil}
-use Rattle.plan_tables.specs.PlanView.{PlanView, work_of}
-use Rattle.plan_tables.specs.Valid.{IsValid}
-use Rattle.plan_tables.specs.declared.entries.CoilId.{CoilId}
-use Rattle.plan_tables.specs.declared.entries.Owner.{Owner}
-use Rattle.coil_guard.specs.declared.command.Command.{Command}
+use Rattle.std.proofs.lemmas.{Grind.flat_map-append, List.append-nil}
+use Rattle.plan_tables.specs.{PlanView.{PlanView, work_of}, Valid.IsValid}
+use Rattle.plan_tables.specs.declared.entries.{CoilId.CoilId, Owner.Owner, CoilLimits.CoilLimits}
+use Rattle.coil_guard.specs.declared.{command.{Command.Command, Answer.Answer}, state.CoilState.CoilState}
 use Rattle.coil_guard.specs.declared.command.Command.TheVariants as commands
-use Rattle.coil_guard.specs.declared.command.Answer.{Answer}
 use Rattle.coil_guard.specs.declared.command.Answer.TheVariants as answers
-use Rattle.coil_guard.specs.declared.state.CoilState.{CoilState}
-use Rattle.plan_tables.specs.declared.entries.CoilLimits.{CoilLimits}
-use Rattle.coil_guard.specs.Limits.{limits_at, IsWithin}
+use Rattle.coil_guard.specs.{Limits.{limits_at, IsWithin}, Follows.Follows}
 use Rattle.coil_guard.specs.SentCommands.{Sending, is_held_for, IsOnThroughout}
 use Rattle.coil_guard.specs.Calls.{CoilCall, after_call, sent_by, sent_if, due_by}
 use Rattle.coil_guard.specs.Calls as calls_of
-use Rattle.coil_guard.specs.Follows.{Follows}
 use Rattle.coil_guard.specs.Asked.{limits_of, after_asking, answer_asking}
 use Rattle.coil_guard.proofs.Following.{new_follows, calls_follow}
 use Rattle.cascade_rank.specs.Cost.{Cost}
-use Rattle.written_machine.specs.declared.line.Line.{Line}
-use Rattle.written_machine.specs.declared.line.Happening.{Happening}
+use Rattle.written_machine.specs.declared.line.{Line.Line, Happening.Happening}
 use Rattle.written_machine.specs.declared.line.Happening.TheVariants as lines
 use Rattle.ball_devices.specs.Bookings.{after_call as after_booking, booked}
 use Rattle.written_machine.specs.Machine.{Machine, initial, write, told, ask_coil, set_ledger, counts_of}
-use Rattle.written_machine.specs.EventStep.{taken, EventStep}
+use Rattle.written_machine.specs.{EventStep.{taken, EventStep}, CoilActions.ActionsKeepLimits}
 use Rattle.written_machine.specs.Run.{Stimulus, moment_of, IsAllowed, IsNothingLate, arrived, begin, IsRun}
-use Rattle.written_machine.specs.CoilActions.{ActionsKeepLimits}
 use Rattle.written_machine.specs.Sent.{sent_at, sent_in, sendings, IsIdle, AreSkippedIdle}
 use Rattle.written_machine.specs.Moves.{Move, Wrote, Began, Ended, Asked, Booked, do_move, Licence, MayDo, Does, IsNoCommand, TakesPart, Begins, ordinary, working}
-use Rattle.written_machine.proofs.Does.{book-by, does-keeps}
+use Rattle.written_machine.proofs.{Does.{book-by, does-keeps}, Held.IsHolding, Keeps.{step-keeps, run-keeps}}
 use Rattle.written_machine.proofs.Parts.{does-before, does-after, does-begin}
-use Rattle.written_machine.proofs.Held.{IsHolding}
-use Rattle.written_machine.proofs.Keeps.{step-keeps, run-keeps}
 use Rattle.written_machine.proofs.Alarms.{not_late-steps, not_late-begin, not_late-initial, allowed-first, forward}
 
 -- ---- the call that asks for a command
@@ -105,9 +94,6 @@ told-skip command a c is = search rules
 told-same : (command : Command) (a : Answer) (c : Command) → told command a ≡ lines.Skip c → command ≡ c
 told-same command a c is = search rules
 
-no-sending : (moment : ℕ) (owner : Owner) (what : Happening) → IsNoCommand what → sent_at moment owner what ≡ []
-no-sending moment owner what is = search rules
-
 -- ---- every move
 
 module _ (plan : PlanView) (allowed : ActionsKeepLimits plan) where
@@ -124,7 +110,7 @@ module _ (plan : PlanView) (allowed : ActionsKeepLimits plan) where
   line-more before ls l = sym (append_assoc before ls (l ∷ []))
 
   quiet-guarded : (before : List Line) (owner : Owner) (what : Happening) (s : Machine) → IsNoCommand what → IsGuarded before s → IsGuarded before (write owner what s)
-  quiet-guarded before owner what s none h = search (rules, line-more, sendings-push, no-sending, append-nil, fine-push)
+  quiet-guarded before owner what s none h = search (rules, line-more, sendings-push, append-nil, fine-push)
 
   asked-guarded : (before : List Line) (owner : Owner) (command : Command) (s : Machine) → IsWithin limits command → IsGuarded before s → IsGuarded before (ask_coil owner command s)
   asked-guarded before owner command s within h =

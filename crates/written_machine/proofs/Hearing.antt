@@ -1,22 +1,13 @@
 -- Whether a mode may be heard, read off the lines that were written and the events that wait.
 use Rattle.std.proofs.Common.{◌≡◌, ℕ, ◌<◌, ◌⊎◌, inl, inr, Bool, true, false, ◌==◌, cond, List, [], ◌∷◌, ◌++◌, length, refl, ap, sym, subst, rules}
-use Rattle.std.specs.List.{AllByRecursion}
-use Rattle.std.proofs.lemmas.List.Elements.{All-from_recursion}
-use Rattle.plan_tables.specs.PlanView.{PlanView, mode_event, work_of}
-use Rattle.plan_tables.specs.Valid.{IsValid}
-use Rattle.plan_tables.specs.declared.entries.ModeId.{ModeId}
-use Rattle.plan_tables.specs.declared.entries.ModeEvent.{ModeEvent}
-use Rattle.plan_tables.specs.declared.entries.ModeEvent.TheVariants.{WillStart, Started, Stopped}
-use Rattle.plan_tables.specs.declared.entries.Owner.{Owner}
+use Rattle.std.{specs.List.AllByRecursion, proofs.lemmas.List.Elements.All-from_recursion}
+use Rattle.plan_tables.{specs.{PlanView.{PlanView, mode_event, work_of}, Valid.IsValid}, proofs.Worked.work_found}
+use Rattle.plan_tables.specs.declared.entries.{ModeId.ModeId, Owner.Owner, Work.{Work, TheVariants.{Nothing, Mode}}}
+use Rattle.plan_tables.specs.declared.entries.ModeEvent.{ModeEvent, TheVariants.{WillStart, Started, Stopped}}
 use Rattle.plan_tables.specs.declared.entries.Owner.TheVariants as owners
-use Rattle.plan_tables.specs.declared.entries.Work.{Work}
-use Rattle.plan_tables.specs.declared.entries.Work.TheVariants.{Nothing, Mode}
-use Rattle.plan_tables.proofs.Worked.{work_found}
 use Rattle.event_queue.specs.declared.queue.Posted.{Posted}
-use Rattle.written_machine.specs.declared.line.Line.{Line}
-use Rattle.written_machine.specs.declared.line.Happening.{Happening}
+use Rattle.written_machine.specs.{declared.line.{Line.Line, Happening.Happening}, Silent.{IsLineOf, HasStarted}}
 use Rattle.written_machine.specs.declared.line.Happening.TheVariants as lines
-use Rattle.written_machine.specs.Silent.{IsLineOf, HasStarted}
 
 -- ---- what was written and what waits, as one list
 

@@ -1,17 +1,13 @@
 -- Ball saves that are active, and multiballs that are running: what the machine's work does with those that are not.
-use Rattle.std.proofs.Common.{rules, ◌≡◌, ℕ, Bool, true, false, []}
-use Rattle.std.proofs.lemmas.List.{set-get_or}
+use Rattle.std.proofs.{Common.{rules, ◌≡◌, ℕ, Bool, true, false}, lemmas.List.set-get_or}
 use Rattle.plan_tables.specs.PlanView.{PlanView, is_multiball, row_at}
-use Rattle.plan_tables.specs.declared.devices.RowId.{RowId}
+use Rattle.plan_tables.specs.declared.devices.{RowId.RowId, Settings.Settings}
 use Rattle.plan_tables.specs.declared.devices.Act.TheVariants as acts
-use Rattle.plan_tables.specs.declared.devices.Settings.{Settings}
 use Rattle.device_objects.specs.declared.device.Call.TheVariants as calls
-use Rattle.device_objects.specs.declared.state.DeviceState.{DeviceState}
+use Rattle.device_objects.specs.declared.state.{DeviceState.DeviceState, World.World}
 use Rattle.device_objects.specs.declared.state.DeviceState.TheVariants as states
-use Rattle.device_objects.specs.declared.state.World.{World}
-use Rattle.device_objects.specs.DeviceStep.{device_step, first_state, IsInactive}
-use Rattle.device_objects.specs.Laws.{HasShape}
-use Rattle.device_objects.proofs.Inactive.{first-inactive, stopped-inactive}
+use Rattle.device_objects.specs.{DeviceStep.{device_step, IsInactive}, Laws.HasShape}
+use Rattle.device_objects.proofs.Inactive.{stopped-inactive}
 use Rattle.written_machine.specs.Machine.{Machine, device_at, call_device, is_active_save}
 
 -- whether it is an active ball save, or a running multiball
@@ -26,20 +22,12 @@ active-on state is = search rules
 inactive-off : (state : DeviceState) → IsInactive state → is_on state ≡ false
 inactive-off state h = search rules
 
--- none is at first, nor where its mode has stopped
-pub first-off : (settings : Settings) → is_on (first_state settings) ≡ false
-first-off settings = inactive-off (first_state settings) (first-inactive settings)
-
 pub stopped-off : (settings : Settings) (now : ℕ) (world : World) (state : DeviceState) → HasShape settings state → is_on (device_step settings calls.ModeStop now world state).0 ≡ false
 stopped-off settings now world state shape = inactive-off (device_step settings calls.ModeStop now world state).0 (stopped-inactive settings now world state shape)
 
 -- ---- a multiball that is not running does not end
 
-end-idle : (settings : Settings) (now : ℕ) (world : World) (state : DeviceState) → is_multiball settings ≡ true → is_on state ≡ false
-    → device_step settings (calls.Act acts.End) now world state ≡ (state, [])
-end-idle settings now world state is off = search rules
-
 -- so nothing happens where it is told to
 pub end-still : (plan : PlanView) (r : RowId) (s : Machine) → is_multiball (row_at plan r).settings ≡ true → is_on (device_at s r) ≡ false
     → call_device plan (calls.Act acts.End) r s ≡ s
-end-still plan r s is off = search (rules, end-idle, set-get_or)
+end-still plan r s is off = search (rules, set-get_or)

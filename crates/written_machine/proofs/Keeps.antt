@@ -1,15 +1,11 @@
 -- What the parts of an event step and the beginning of a stimulus keep, each run keeps, with the trace so far.
 use Rattle.std.proofs.Common.{rules, ◌≡◌, ℕ, zero, suc, Bool, List, [], ◌∷◌, ◌++◌, ap, sym, ◌∙◌, subst, append_assoc}
-use Rattle.plan_tables.specs.PlanView.{PlanView}
-use Rattle.written_machine.specs.declared.line.Line.{Line}
+use Rattle.plan_tables.specs.PlanView.{PlanView, work_of}
+use Rattle.written_machine.specs.{declared.line.Line.Line, Run.{Stimulus, IsAllowed, begin, IsRun}}
 use Rattle.cascade_rank.specs.Cost.{Cost}
 use Rattle.event_queue.specs.declared.queue.Posted.{Posted}
-use Rattle.written_machine.specs.Machine.{Machine}
-use Rattle.plan_tables.specs.PlanView.{work_of}
+use Rattle.written_machine.{specs.{Machine.Machine, Moves.{Does, MayHandle}}, proofs.Parts.does-order}
 use Rattle.written_machine.specs.EventStep.{before_handlers, is_kept, do_after, EventStep, EventSteps}
-use Rattle.written_machine.specs.Run.{Stimulus, IsAllowed, begin, IsRun}
-use Rattle.written_machine.specs.Moves.{Does, MayHandle}
-use Rattle.written_machine.proofs.Parts.{does-order}
 
 -- Inv holds between event steps, and During while an event is handled: from the machine's work before its handlers until
 -- that after them, whether a stop was kept or not. The lines since the latest stimulus stand behind the earlier ones.

@@ -1,20 +1,15 @@
 -- The stimuli of a run are calls of the switches. So what is accepted after every list of calls is accepted in every
 -- run.
 use Rattle.std.proofs.Common.{rules, ◌≡◌, ℕ, ◌≤◌, List, [], ◌∷◌, ap, sym, ◌∙◌, subst, arith}
-use Rattle.plan_tables.specs.PlanView.{PlanView}
-use Rattle.plan_tables.specs.Valid.{IsValid}
+use Rattle.plan_tables.specs.{PlanView.PlanView, Valid.IsValid}
 use Rattle.switch_core.specs.Switches.{SwitchesView, all_idle, active_at, IsNothingDueBy as IsNoSwitchDueBy}
 use Rattle.switch_core.specs.Calls.{SwitchCall, Fire, call_moment, after_call, after_calls, last_moment, IsInTime, AreInTime}
 use Rattle.switch_core.specs.Calls as calls
-use Rattle.switch_core.proofs.DueMoments.{fire-accepts}
-use Rattle.switch_core.proofs.Following.{levels_are_accepted}
-use Rattle.written_machine.specs.declared.line.Line.{Line}
-use Rattle.written_machine.specs.Machine.{Machine, initial}
+use Rattle.switch_core.proofs.{DueMoments.fire-accepts, Following.levels_are_accepted}
+use Rattle.written_machine.{specs.{declared.line.Line.Line, SwitchCalls.switch_calls}, proofs.NextAlarms.next_alarm-due}
+use Rattle.written_machine.specs.{Machine.{Machine, initial}, GoodRun.LevelsFollowRawChanges}
 use Rattle.written_machine.specs.Run.{switch, device, Stimulus, SwitchChange, Alarm, Wait, IsNothingLate, begin, IsRun}
-use Rattle.written_machine.specs.GoodRun.{LevelsFollowRawChanges}
-use Rattle.written_machine.specs.SwitchCalls.{switch_calls}
 use Rattle.written_machine.proofs.Alarms.{switches-steps, switches-begin, moment-after, not_late-after, not_late-initial, forward}
-use Rattle.written_machine.proofs.NextAlarms.{next_alarm-due}
 
 -- The calls that stimuli make are in time, and lead from the switches of one state to those of the other.
 record IsCalled (moment : ℕ) (stimuli : List (Stimulus × ℕ)) (s t : Machine) : Type 0 where

@@ -1,20 +1,12 @@
 -- The actions of a plan, by their owners.
-use Rattle.std.proofs.Common.{rules, ◌≡◌, ℕ, zero, suc, ◌<◌, Bool, true, false, List, [], ◌∷◌, length, get_or, if◌then◌else◌, refl, sym, ap, ◌∙◌, subst, arith}
-use Rattle.std.specs.Prelude.{Contains, ◌||◌}
-use Rattle.std.specs.List.{flat_map, list_any, range_with_len}
-use Rattle.std.proofs.lemmas.Bool.{eq-eqb}
-use Rattle.std.proofs.lemmas.List.Elements.{Contains-append_left, Contains-append_right}
+use Rattle.std.proofs.Common.{rules, ◌≡◌, ℕ, zero, suc, ◌<◌, Bool, true, List, [], ◌∷◌, length, get_or, if◌then◌else◌, refl, sym, ap, ◌∙◌, subst, arith}
+use Rattle.std.specs.{Prelude.{Contains, ◌||◌}, List.{flat_map, list_any, range_with_len}}
+use Rattle.std.proofs.lemmas.{Bool.eq-eqb, List.Elements.{Contains-append_left, Contains-append_right}}
 use Rattle.std.proofs.lemmas.List.FromFn.{length-range_with_len, get_or-range_with_len, length-map-range_with_len, get_or-map-range_with_len}
-use Rattle.plan_tables.specs.Devices.{list_count}
+use Rattle.plan_tables.specs.{Devices.list_count, declared.devices.RowId.RowId}
 use Rattle.plan_tables.specs.PlanView.{PlanView, actions_at, actions_of, actions_of_binding, actions_of_row, actions_of_target, is_enable_of, is_owner, list_of_row, row_at, row_numbers}
-use Rattle.plan_tables.specs.declared.devices.RowId.{RowId}
-use Rattle.plan_tables.specs.declared.entries.Action.{Action}
-use Rattle.plan_tables.specs.declared.entries.Action.TheVariants.{Enable}
-use Rattle.plan_tables.specs.declared.entries.Binding.{Binding}
-use Rattle.plan_tables.specs.declared.entries.CoilId.{CoilId}
-use Rattle.plan_tables.specs.declared.entries.ListId.{ListId}
-use Rattle.plan_tables.specs.declared.entries.Owner.{Owner}
-use Rattle.plan_tables.specs.declared.entries.Target.TheVariants.{Run}
+use Rattle.plan_tables.specs.declared.entries.{Action.{Action, TheVariants.Enable}, Binding.Binding, ListId.ListId}
+use Rattle.plan_tables.specs.declared.entries.{CoilId.CoilId, Owner.Owner, Target.TheVariants.Run}
 
 pub same-is_owner : (owner : Owner) → is_owner owner owner ≡ true
 same-is_owner owner = search rules
@@ -41,11 +33,7 @@ range-contains count n below = (n, omega (arith, below, length-range_with_len 0 
 pub contains-any : {X : Type 0} (p : X → Bool) (xs : List X) (x : X) → Contains xs x → p x ≡ true → list_any p xs ≡ true
 contains-any p [] x (i, within, is) holds = absurd (omega arith)
 contains-any p (y ∷ xs) x (zero, within, is) holds = ap (λ b. b || list_any p xs) (ap p is ∙ holds)
-contains-any p (y ∷ xs) x (suc i, within, is) holds = by (p y) (contains-any p xs x (i, omega arith, is) holds)
-  where
-    by : (b : Bool) → list_any p xs ≡ true → (b || list_any p xs) ≡ true
-    by true found = refl
-    by false found = found
+contains-any p (y ∷ xs) x (suc i, within, is) holds = search (rules, contains-any p xs x (i, omega arith, is) holds)
 
 -- ---- the actions of an owner
 

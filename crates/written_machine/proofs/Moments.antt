@@ -1,20 +1,14 @@
 -- In every run the lines since the latest stimulus have its moment.
-use Rattle.std.proofs.Common.{rules, ◌≡◌, List, [], refl}
-use Rattle.std.specs.List.{All}
-use Rattle.std.proofs.lemmas.List.Elements.{All-nil, All-push}
-use Rattle.plan_tables.specs.PlanView.{PlanView, work_of}
-use Rattle.plan_tables.specs.declared.entries.Owner.{Owner}
+use Rattle.std.{proofs.{Common.{rules, ◌≡◌, List, [], refl}, lemmas.List.Elements.{All-nil, All-push}}, specs.List.All}
+use Rattle.plan_tables.specs.{PlanView.{PlanView, work_of}, declared.entries.Owner.Owner}
 use Rattle.cascade_rank.specs.Cost.{Cost}
-use Rattle.written_machine.specs.declared.line.Happening.{Happening}
+use Rattle.written_machine.specs.declared.line.{Happening.Happening, Line.Line}
 use Rattle.written_machine.specs.declared.line.Happening.TheVariants as lines
-use Rattle.written_machine.specs.declared.line.Line.{Line}
-use Rattle.written_machine.specs.EventStep.{taken, EventStep}
-use Rattle.written_machine.specs.Machine.{Machine, initial, write}
+use Rattle.written_machine.specs.{EventStep.{taken, EventStep}, Machine.{Machine, initial, write}}
 use Rattle.written_machine.specs.Moves.{Move, Wrote, Began, Ended, Asked, Booked as Books, do_move, Licence, MayDo, Does, TakesPart, Begins, ordinary, working}
 use Rattle.written_machine.specs.Run.{Stimulus, IsAllowed, begin, moment_of, InEveryRun}
 use Rattle.written_machine.proofs.Does.{start-by, stop-by, book-by, does-keeps}
-use Rattle.written_machine.proofs.Parts.{does-before, does-after, does-begin}
-use Rattle.written_machine.proofs.Keeps.{step-keeps, run-keeps}
+use Rattle.written_machine.proofs.{Parts.{does-before, does-after, does-begin}, Keeps.{step-keeps, run-keeps}}
 
 abbrev IsTimed : Machine → Type 0
 IsTimed s = All (λ l. l.moment ≡ s.moment) s.lines

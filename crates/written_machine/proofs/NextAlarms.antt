@@ -2,19 +2,13 @@
 use Rattle.std.proofs.Common.{rules, ◌≡◌, ℕ, ◌<◌, ◌≤◌, ◌⊎◌, inl, inr, true, false, nat_le, Option, Some, None, option_map, List, map, refl, ap, sym, subst, ◌∙◌, arith}
 use Rattle.std.specs.Option.{option_map_or}
 use Rattle.std.proofs.lemmas.Bool.{cases_lt, cond_both, cond-true, leb-true, leb-false, le-leb, lt-leb}
-use Rattle.std.proofs.lemmas.List.{get_or_past, get_or-map, length-map}
-use Rattle.std.proofs.lemmas.Option.{none-some, same_Some}
-use Rattle.plan_tables.specs.declared.entries.SwitchId.{SwitchId}
-use Rattle.plan_tables.specs.declared.devices.RowId.{RowId}
-use Rattle.switch_core.specs.Switches.{IsNextDue, next_due}
-use Rattle.switch_core.proofs.NextDue.{next_due-least, not_due-quiet}
+use Rattle.std.proofs.lemmas.{List.{get_or_past, get_or-map, length-map}, Option.{none-some, same_Some}}
+use Rattle.plan_tables.specs.declared.{entries.SwitchId.SwitchId, devices.RowId.RowId}
+use Rattle.switch_core.{specs.Switches.{IsNextDue, next_due}, proofs.NextDue.{next_due-least, not_due-quiet}}
 use Rattle.device_objects.specs.DeviceStep as devices
-use Rattle.event_queue.specs.Alarms.{due_of, least_of}
-use Rattle.event_queue.proofs.Least.{alarms_give_the_least}
-use Rattle.written_machine.specs.Machine.{Machine}
+use Rattle.event_queue.{specs.Alarms.{due_of, least_of}, proofs.Least.alarms_give_the_least}
+use Rattle.written_machine.specs.{Machine.Machine, NextAlarm.{first_of, next_alarm, is_due_by}, AlarmsBy.due_by}
 use Rattle.written_machine.specs.Run.{Source, switch, device, source_due, IsNotAfter, IsNoAlarmDueBy, IsNextAlarm}
-use Rattle.written_machine.specs.NextAlarm.{first_of, next_alarm, is_due_by}
-use Rattle.written_machine.specs.AlarmsBy.{due_by}
 
 -- the next alarm of a switch is what is due next among the switches
 pub next_alarm-due : (s : Machine) (at : ℕ) (n : SwitchId) → IsNextAlarm s at (switch n) → IsNextDue s.switches at n
@@ -124,18 +118,12 @@ next-is_found s at source h = by (next_alarm s) refl
   where
     by : (o : Option (ℕ × Source)) → next_alarm s ≡ o → next_alarm s ≡ Some (at, source)
     by None is = absurd (none-nothing s is source at h.due)
-    by (Some x) is =
-        let same = next-unique s x.0 at x.1 source (found-is_next s x.0 x.1 is) h in
-        is ∙ (λ i. Some (same.0 i, same.1 i))
+    by (Some x) is = search (rules, next-unique, found-is_next)
 
 -- ---- whether one is due by a moment
 
--- nothing is due before the next alarm
-next-early : (s : Machine) (at : ℕ) (first : Source) → IsNextAlarm s at first → (source : Source) (due : ℕ) → source_due s source ≡ Some due → at ≤ due
-next-early s at first next source due is = search rules
-
 pub not_due-nothing : (s : Machine) (at : ℕ) → is_due_by at s ≡ false → IsNoAlarmDueBy s at
-not_due-nothing s at h source due is = search (rules, nat_le, none-nothing, next-early, found-is_next, leb-false)
+not_due-nothing s at h source due is = search (rules, nat_le, none-nothing, found-is_next, leb-false)
 
 pub nothing-not_due : (s : Machine) (at : ℕ) → IsNoAlarmDueBy s at → is_due_by at s ≡ false
 nothing-not_due s at h = by (next_alarm s) refl
@@ -146,11 +134,8 @@ nothing-not_due s at h = by (next_alarm s) refl
 
 -- ---- one that is due by a moment
 
-due_by-cases : (until : ℕ) (o : Option (ℕ × Source)) (a : ℕ × Source) → due_by until o ≡ Some a → (o ≡ Some a) × (a.0 ≤ until)
-due_by-cases until o a h = search rules
-
 pub due_by-some : (s : Machine) (until at : ℕ) (source : Source) → due_by until (next_alarm s) ≡ Some (at, source) → IsNextAlarm s at source × (at ≤ until)
-due_by-some s until at source h = search (rules, due_by-cases, found-is_next)
+due_by-some s until at source h = search (rules, found-is_next)
 
 pub some-due_by : (s : Machine) (until at : ℕ) (source : Source) → IsNextAlarm s at source → at ≤ until → due_by until (next_alarm s) ≡ Some (at, source)
 some-due_by s until at source next by = search (rules, next-is_found, cond-true, nat_le, le-leb)

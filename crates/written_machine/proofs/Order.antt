@@ -1,22 +1,14 @@
 -- An order of handlers costs no more than its event.
 use Rattle.std.proofs.Common.{◌≡◌, ℕ, ◌+◌, ◌≤◌, Bool, not, List, [], ◌∷◌, map, refl, ap, arith}
-use Rattle.std.proofs.lemmas.List.Filters.{sum_by-filter_both}
-use Rattle.std.proofs.lemmas.List.Sorted.{sum_by-IsPermutation}
-use Rattle.plan_tables.specs.PlanView.{PlanView, binding_at, places_of, bound_to}
-use Rattle.plan_tables.specs.declared.entries.EventId.{EventId}
-use Rattle.plan_tables.specs.declared.entries.BindingId.{BindingId}
-use Rattle.plan_tables.specs.declared.entries.Binding.{Binding}
-use Rattle.plan_tables.proofs.BoundTo.{places_of-bound}
-use Rattle.cascade_rank.specs.Cost.{Cost, price, each_of, cost_of_binding, cost_of_work}
-use Rattle.cascade_rank.specs.Weights.{need}
+use Rattle.std.proofs.lemmas.List.{Filters.sum_by-filter_both, Sorted.sum_by-IsPermutation}
+use Rattle.plan_tables.{specs.PlanView.{PlanView, binding_at, places_of, bound_to}, proofs.BoundTo.places_of-bound}
+use Rattle.plan_tables.specs.declared.entries.{EventId.EventId, BindingId.BindingId, Binding.Binding}
+use Rattle.cascade_rank.specs.{Cost.{Cost, price, each_of, cost_of_binding, cost_of_work}, Weights.need}
 use Rattle.cascade_rank.proofs.Prices.{price-each_sum}
-use Rattle.event_queue.specs.declared.queue.Posted.{Posted}
+use Rattle.event_queue.specs.{declared.queue.Posted.Posted, PlanOrder.by_priority}
 use Rattle.mode_stack.specs.Modes.{running_of}
-use Rattle.event_queue.specs.Handlers.{takes_part, handlers, IsHandlerOrder}
-use Rattle.event_queue.specs.PlanOrder.{by_priority}
-use Rattle.event_queue.proofs.Sort.{by_priority-is_order}
-use Rattle.written_machine.specs.Machine.{Machine}
-use Rattle.written_machine.specs.EventStep.{before_handlers, handlers_in, EventStep, after_event}
+use Rattle.event_queue.{specs.Handlers.{takes_part, handlers, IsHandlerOrder}, proofs.Sort.by_priority-is_order}
+use Rattle.written_machine.specs.{Machine.Machine, EventStep.{before_handlers, handlers_in, EventStep, after_event}}
 use Rattle.written_machine.proofs.Parts.{cost_of_handler}
 
 each_of-map : {X Y : Type 0} (f : Y → Cost) (g : X → Y) (xs : List X) (w : EventId → ℕ) → price w (each_of f (map g xs)) ≡ price w (each_of (λ x. f (g x)) xs)

@@ -1,74 +1,46 @@
 -- What each part of the machine does, and by which licence.
-use Rattle.std.proofs.Common.{rules, ◌≡◌, ℕ, ℤ, ◌<◌, ◌≤◌, get_or, if◌then◌else◌, Bool, true, false, Option, Some, None, List, [], length, refl, sym, subst, inl, inr, arith, suc, zero, ◌==◌}
-use Rattle.std.specs.List.{All, range_with_len}
-use Rattle.std.specs.Prelude.{◌&&◌, Contains}
-use Rattle.std.proofs.lemmas.Bool.{cases_lt}
-use Rattle.std.proofs.lemmas.List.{get_or_past}
-use Rattle.std.proofs.lemmas.List.Elements.{All-get_or, All-nil, filter_passes}
-use Rattle.std.proofs.lemmas.List.Sorted.{All-permutation}
+use Rattle.std.proofs.Common.{rules, ◌≡◌, ℕ, ℤ, ◌<◌, ◌≤◌, get_or, if◌then◌else◌, Bool, true, false, Option, Some, None, List, length, refl, sym, subst, inl, inr, arith, suc, zero, ◌==◌}
+use Rattle.std.{specs.{List.{All, range_with_len}, Prelude.{◌&&◌, Contains}}, proofs.lemmas.Bool.cases_lt}
+use Rattle.std.proofs.lemmas.List.{get_or_past, Elements.{All-get_or, All-nil, filter_passes}, Sorted.All-permutation}
 use Rattle.plan_tables.specs.PlanView.{PlanView, act_of_listener, actions_of, coil_numbers, listeners_of, no_row, no_switch, no_binding, switch_at, posts_of, actions_at, binding_at, is_owner, list_of_row, game_event, may_hold_ball_end, mode_event, row_at, row_numbers, rows_of, target_of, work_of, act_told, multiball_rows}
 use Rattle.plan_tables.specs.Valid.{HasEntries, HasGame, IsEventWithin, IsActionWithin, IsTargetWithin, IsWorkAt}
-use Rattle.plan_tables.specs.declared.entries.EventId.{EventId}
-use Rattle.plan_tables.specs.declared.entries.ListId.{ListId}
-use Rattle.plan_tables.specs.declared.entries.BindingId.{BindingId}
-use Rattle.plan_tables.specs.declared.entries.SwitchId.{SwitchId}
+use Rattle.plan_tables.specs.declared.entries.{EventId.EventId, SwitchId.SwitchId, ModeId.ModeId, Listener.Listener}
+use Rattle.plan_tables.specs.declared.entries.{ListId.ListId, Owner.Owner, Action.Action, CoilId.CoilId}
+use Rattle.plan_tables.specs.declared.entries.{BindingId.BindingId, VariableId.VariableId}
 use Rattle.plan_tables.specs.declared.entries.ModeEvent.TheVariants.{WillStart, Starting, Started, Stopping, Stopped}
-use Rattle.plan_tables.specs.declared.entries.ModeId.{ModeId}
-use Rattle.plan_tables.specs.declared.entries.Work.{Work}
-use Rattle.plan_tables.specs.declared.entries.Work.TheVariants.{Nothing, Mode, Game}
-use Rattle.plan_tables.specs.declared.entries.GameEvent.{GameEvent}
-use Rattle.plan_tables.specs.declared.entries.GameEvent.TheVariants.{BallDrain, BallEnded}
-use Rattle.plan_tables.specs.declared.entries.VariableId.{VariableId}
-use Rattle.player_game.specs.GameStep.{ends_ball, is_ball_on, in_play, missing, more_balls}
+use Rattle.plan_tables.specs.declared.entries.Work.{Work, TheVariants.{Nothing, Mode, Game}}
+use Rattle.plan_tables.specs.declared.entries.GameEvent.{GameEvent, TheVariants.{BallDrain, BallEnded}}
+use Rattle.player_game.specs.{GameStep.{ends_ball, is_ball_on, in_play, missing, more_balls}, Choices.is_drain}
 use Rattle.player_game.specs.Players.{is_met, changed_to, after_change as players_after_change, score_of}
-use Rattle.plan_tables.specs.declared.entries.Owner.{Owner}
 use Rattle.plan_tables.specs.declared.entries.Owner.TheVariants as owners
-use Rattle.plan_tables.specs.declared.entries.Action.{Action}
 use Rattle.plan_tables.specs.declared.entries.Action.TheVariants.{Post, Pulse, Enable, Disable, Change as ChangeVariable, Enter, Leave, Lose, Arrive, AddBalls, Request}
-use Rattle.plan_tables.specs.declared.entries.Target.{Target}
-use Rattle.plan_tables.specs.declared.entries.Target.TheVariants.{Run, Start, Stop, Act}
-use Rattle.plan_tables.specs.Devices.{list_count}
-use Rattle.plan_tables.specs.declared.devices.RowId.{RowId}
+use Rattle.plan_tables.specs.declared.entries.Target.{Target, TheVariants.{Run, Start, Stop, Act}}
+use Rattle.plan_tables.specs.{Devices.list_count, declared.devices.{RowId.RowId, Act.TheVariants.{End, Save}}}
 use Rattle.plan_tables.specs.declared.devices.BallTarget.TheVariants.{Playfield, Device}
-use Rattle.plan_tables.specs.declared.devices.Act.TheVariants.{End, Save}
-use Rattle.ball_devices.specs.declared.booking.Origin.{Origin}
-use Rattle.ball_devices.specs.declared.booking.Origin.TheVariants.{Awaited}
-use Rattle.ball_devices.specs.Ledger.{origin_of}
+use Rattle.ball_devices.specs.{declared.booking.Origin.{Origin, TheVariants.Awaited}, Ledger.origin_of}
 use Rattle.ball_devices.specs.Bookings as calls_of_ledger
-use Rattle.plan_tables.specs.declared.entries.CoilId.{CoilId}
-use Rattle.plan_tables.specs.declared.entries.Listener.{Listener}
 use Rattle.coil_guard.specs.declared.command.Command.TheVariants as commands
-use Rattle.coil_guard.specs.CoilStep.{is_held_by}
-use Rattle.coil_guard.specs.Coils.{coil_at}
-use Rattle.device_objects.proofs.Lists.{lists_are_of_the_row}
-use Rattle.device_objects.specs.declared.device.Call.{Call}
+use Rattle.coil_guard.specs.{CoilStep.is_held_by, Coils.coil_at}
+use Rattle.device_objects.{proofs.Lists.lists_are_of_the_row, specs.declared.device.Call.Call}
 use Rattle.device_objects.specs.declared.device.Call.TheVariants as calls
-use Rattle.plan_tables.proofs.Owners.{is_owner-same}
-use Rattle.plan_tables.proofs.Worked.{work_found}
-use Rattle.switch_core.specs.declared.change.Change.{Change}
-use Rattle.switch_core.specs.SwitchStep.{changed, fired}
+use Rattle.plan_tables.proofs.{Owners.is_owner-same, Worked.work_found}
+use Rattle.switch_core.specs.{declared.change.Change.Change, SwitchStep.{changed, fired}}
 use Rattle.switch_core.specs.Switches.{kind_at, state_at, after_change, reported_by_change, accept, reported}
-use Rattle.mode_stack.specs.ModeStep.{entered, ended}
-use Rattle.mode_stack.specs.Modes.{mode_state}
+use Rattle.mode_stack.specs.{ModeStep.{entered, ended}, Modes.mode_state}
 use Rattle.written_machine.specs.declared.line.Happening.TheVariants as lines
 use Rattle.cascade_rank.specs.Cost.{Cost, Lines, Both, Greater, each_of, cost_of_post, cost_of_drain, cost_of_target, cost_of_binding, led_by, led_by_stopped, cost_if_led, cost_of_choice}
-use Rattle.cascade_rank.proofs.Games.{game_event-below, game_has-event}
-use Rattle.cascade_rank.proofs.Within.{posts-below, mode_event-within}
+use Rattle.cascade_rank.proofs.{Games.{game_event-below, game_has-event}, Within.{posts-below, mode_event-within}}
 use Rattle.event_queue.specs.Handlers.{IsHandlerOrder}
-use Rattle.plan_tables.specs.declared.devices.Telling.{Telling}
-use Rattle.plan_tables.specs.declared.devices.Telling.TheVariants.{Arrived, Wanted}
+use Rattle.plan_tables.specs.declared.devices.Telling.{Telling, TheVariants.{Arrived, Wanted}}
 use Rattle.written_machine.specs.Machine.{Machine, write, post, post_if, release_ball_end, drop_hold, ask_coil, release_coil, release_coils, set_switches, set_mode, set_device, set_players, all_do, tell_change, post_game, write_final, write_finals, do_game, book, drain_if, after_entry, do_action_by, do_list_by, do_answer_by, call_device_by, tell_nobody, told_device, tell_device, tell_first, do_list, do_answer, world_of, device_at, called, call_device, call_devices, tell_listener, tell_listeners, confirm_on_playfield, ask_ball, do_target, do_handler, do_accepted, do_if_accepted, want_balls, step_game, end_multiballs, drain_ball, first_active_save, set_game}
 use Rattle.written_machine.specs.EventStep.{do_before, do_after, handlers_in}
 use Rattle.written_machine.specs.Run.{switch, device, Stimulus, SwitchChange, Alarm, Wait, moment_of, arrived, begin}
-use Rattle.written_machine.specs.StimulusCost.{cost_of_stimulus}
+use Rattle.written_machine.specs.{StimulusCost.cost_of_stimulus, CoilActions.{KeepsLimits, ActionsKeepLimits}}
 use Rattle.written_machine.specs.Devices.{ActsAreOwn, IsOwnAct, IsOwnListener}
-use Rattle.written_machine.specs.CoilActions.{KeepsLimits, ActionsKeepLimits}
 use Rattle.written_machine.specs.FreePosts.{IsFree, IsFreeAction, IsFreeSwitch, PostsAreFree}
-use Rattle.written_machine.proofs.Feeding.{told_device-is}
+use Rattle.written_machine.proofs.{Feeding.told_device-is, Does.{each_now, all_do-does, all_do-does_now, does-weaker}}
 use Rattle.written_machine.proofs.Listed.{binding-among, row-among, contains-at, enable-listed}
-use Rattle.written_machine.proofs.Does.{each_now, all_do-does, all_do-does_now, does-weaker}
 use Rattle.written_machine.specs.Moves.{Move, Wrote, Sent, Switched, Began, Ended, Marked, Released, Turned, Asked, Booked, Varied, Stepped, AddedBalls, step_now, do_move, MayHold, Licence, MayDo, IsFreeThere, Does, quiet, moved, both, less, IsMachine, ordinary, MayHandle, Begins, MayBegin, working, MayWork}
-use Rattle.player_game.specs.Choices.{is_drain}
 use Rattle.player_game.proofs.DrainEvent.{drain-is}
 
 -- ---- what is in a plan
@@ -86,8 +58,7 @@ module _ (plan : PlanView) where
   ])
     where
       by : (a : Bool) → IsFreeSwitch plan (switch_at plan n) → All (IsFree plan) (posts_of plan n a)
-      by true h = h.0
-      by false h = h.1
+      by x1 h = search rules
 
   -- where a binding starts or stops a mode or acts on a device, it is one of the plan
   abbrev pub IsThere : Target → Type 0

@@ -2,16 +2,11 @@
 use Rattle.std.proofs.Common.{rules, ◌≡◌, ℕ, zero, suc, ◌+◌, ◌-◌, ◌≤◌, List, [], ◌∷◌, ◌++◌, length, refl, ap, sym, ◌∙◌, subst, inl, inr, ◌⊎◌, arith, append_assoc}
 use Rattle.std.proofs.lemmas.Bool.{cases_lt}
 use Rattle.plan_tables.specs.PlanView.{PlanView}
-use Rattle.written_machine.specs.declared.line.Line.{Line}
-use Rattle.event_queue.specs.declared.queue.Posted.{Posted}
-use Rattle.event_queue.specs.PlanOrder.{by_priority}
-use Rattle.written_machine.specs.Machine.{Machine, initial}
+use Rattle.written_machine.specs.{declared.line.Line.Line, Machine.{Machine, initial}}
+use Rattle.event_queue.specs.{declared.queue.Posted.Posted, PlanOrder.by_priority}
 use Rattle.written_machine.specs.EventStep.{before_handlers, handlers_in, EventStep, EventSteps, after_event}
-use Rattle.written_machine.specs.PlanOrder.{plan_step_from, plan_step, plan_steps}
-use Rattle.written_machine.specs.Run.{Stimulus, IsAllowed, begin, IsRun}
-use Rattle.written_machine.specs.GoodRun.{CascadesEnd}
-use Rattle.written_machine.specs.CheckedView.{CheckedView}
-use Rattle.written_machine.proofs.Order.{plan_order-step}
+use Rattle.written_machine.{specs.PlanOrder.{plan_step_from, plan_step, plan_steps}, proofs.Order.plan_order-step}
+use Rattle.written_machine.specs.{Run.{Stimulus, IsAllowed, begin, IsRun}, GoodRun.CascadesEnd, CheckedView.CheckedView}
 
 module _ (plan : PlanView) where
   -- where no event waits, nothing happens
@@ -92,8 +87,7 @@ module _ (plan : PlanView) where
   -- one stimulus more at the end of a run after which no event waits
   pub IsRun-push : (stimuli : List (Stimulus × ℕ)) (s : Machine) (trace : List Line) (m : Machine) (stimulus : Stimulus) (n : ℕ) (t : Machine) → IsRun plan stimuli s trace m → m.waiting ≡ [] → IsAllowed plan m stimulus → EventSteps plan n (begin plan stimulus m) t → IsRun plan (stimuli ++ (stimulus, n) ∷ []) s (trace ++ t.lines) t
   IsRun-push [] s trace m stimulus n t (none, is) idle allowed steps = search rules
-  IsRun-push ((first, k) ∷ more) s trace m stimulus n t (empty, first_allowed, (mid, rest, went, run, lines)) idle allowed steps =
-      (empty, first_allowed, (mid, rest ++ t.lines, went, IsRun-push more mid rest m stimulus n t run idle allowed steps, ap (λ (ls : List Line). ls ++ t.lines) lines ∙ append_assoc mid.lines rest t.lines))
+  IsRun-push ((first, k) ∷ more) s trace m stimulus n t (empty, first_allowed, (mid, rest, went, run, lines)) idle allowed steps = search (rules, steps, append_assoc, IsRun-push more mid rest m stimulus n t run idle allowed steps)
 
 -- After a run of a good plan at whose end no event waits, and a stimulus that may come next:
 module _ (c : CheckedView) (good : CascadesEnd c) (stimuli : List (Stimulus × ℕ)) (trace : List Line) (s : Machine) (run : IsRun c.plan stimuli (initial c.plan) trace s) (empty : s.waiting ≡ []) (stimulus : Stimulus) (allowed : IsAllowed c.plan s stimulus) where

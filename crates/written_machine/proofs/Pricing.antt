@@ -1,71 +1,43 @@
 -- What things cost in a state is within what they cost in any, where each device has a state of its shape.
-use Rattle.std.proofs.Common.{rules, ◌≡◌, ℕ, ℤ, ◌+◌, ◌<◌, ◌≤◌, Bool, true, false, if◌then◌else◌, cond, filter, inl, inr, Option, None, Some, List, [], ◌∷◌, length, refl, ap, sym, subst, arith, ◌==◌}
-use Rattle.std.specs.Prelude.{◌&&◌, IsSome, Contains}
-use Rattle.std.specs.List.{All, list_any}
-use Rattle.std.proofs.lemmas.Bool.{cases_lt}
-use Rattle.std.proofs.lemmas.List.{get_or_past}
-use Rattle.std.proofs.lemmas.List.FromFn.{length-range_with_len}
+use Rattle.std.proofs.Common.{rules, ◌≡◌, ℕ, ℤ, ◌+◌, ◌<◌, ◌≤◌, Bool, true, false, if◌then◌else◌, cond, filter, Option, None, Some, List, [], ◌∷◌, length, refl, ap, sym, subst, arith, ◌==◌}
+use Rattle.std.specs.{Prelude.{◌&&◌, IsSome, Contains}, List.{All, list_any}}
+use Rattle.std.proofs.lemmas.{Bool.cases_lt, List.{get_or_past, FromFn.length-range_with_len}}
 use Rattle.std.proofs.lemmas.List.Elements.{All-get_or, All-head, All-nil, All-tail}
-use Rattle.plan_tables.specs.PlanView.{PlanView, act_of_listener, actions_at, actions_of, coil_numbers, feeders_of, first_trough, is_enable_of, list_of_row, listeners_of, no_switch, row_at, row_numbers, rows_of, switch_at, target_of, multiball_rows, save_rows, act_told, work_of}
-use Rattle.plan_tables.specs.declared.entries.Action.{Action}
+use Rattle.plan_tables.specs.PlanView.{PlanView, act_of_listener, actions_at, actions_of, coil_numbers, feeders_of, first_trough, is_enable_of, list_of_row, listeners_of, row_at, row_numbers, rows_of, switch_at, target_of, multiball_rows, save_rows, act_told, work_of}
+use Rattle.plan_tables.specs.declared.entries.{Action.Action, ListId.ListId, CoilId.CoilId, Owner.Owner}
 use Rattle.plan_tables.specs.declared.entries.Action.TheVariants.{Disable, Change as ChangeVariable, Enter, Leave, Lose, Arrive, Request, AddBalls}
-use Rattle.plan_tables.specs.declared.entries.ListId.{ListId}
-use Rattle.plan_tables.specs.declared.entries.VariableId.{VariableId}
-use Rattle.plan_tables.specs.declared.entries.GameEvent.TheVariants.{BallDrain}
-use Rattle.plan_tables.specs.declared.devices.Act.TheVariants.{Save, End}
-use Rattle.plan_tables.specs.declared.devices.BallTarget.TheVariants.{Playfield}
+use Rattle.plan_tables.specs.declared.entries.{VariableId.VariableId, GameRules.GameRules}
+use Rattle.plan_tables.specs.declared.entries.GameEvent.{GameEvent, TheVariants.BallDrain}
+use Rattle.plan_tables.specs.declared.devices.{Act.TheVariants.{Save, End}, RowId.RowId}
+use Rattle.plan_tables.specs.{declared.devices.BallTarget.TheVariants.Playfield, Valid.HasEntries}
 use Rattle.ball_devices.specs.declared.booking.Origin.{Origin}
 use Rattle.ball_devices.specs.Bookings as calls_of_ledger
-use Rattle.plan_tables.specs.Valid.{HasEntries, IsListenerWithin}
-use Rattle.plan_tables.specs.declared.entries.CoilId.{CoilId}
-use Rattle.plan_tables.specs.declared.entries.ModeId.{ModeId}
-use Rattle.plan_tables.specs.declared.entries.SwitchId.{SwitchId}
-use Rattle.plan_tables.specs.declared.entries.Owner.{Owner}
+use Rattle.plan_tables.specs.declared.entries.{ModeId.ModeId, SwitchId.SwitchId, EventId.EventId, BindingId.BindingId}
 use Rattle.coil_guard.specs.declared.command.Command.TheVariants as commands
-use Rattle.coil_guard.specs.CoilStep.{is_held_by}
-use Rattle.coil_guard.specs.Coils.{coil_at}
-use Rattle.switch_core.specs.declared.change.Change.{Change}
-use Rattle.switch_core.specs.Switches.{accept, reported}
+use Rattle.coil_guard.specs.{CoilStep.is_held_by, Coils.coil_at}
+use Rattle.switch_core.specs.{declared.change.Change.Change, Switches.{accept, reported}}
 use Rattle.written_machine.specs.declared.line.Happening.TheVariants as lines
-use Rattle.plan_tables.specs.declared.entries.EventId.{EventId}
-use Rattle.plan_tables.specs.declared.entries.BindingId.{BindingId}
 use Rattle.plan_tables.specs.declared.entries.ModeEvent.TheVariants.{WillStart, Starting, Started, Stopping, Stopped}
 use Rattle.plan_tables.specs.declared.entries.Owner.TheVariants as owners
-use Rattle.plan_tables.specs.declared.entries.Target.{Target}
-use Rattle.plan_tables.specs.declared.entries.Target.TheVariants.{Run, Act}
-use Rattle.plan_tables.specs.declared.entries.Work.{Work}
-use Rattle.plan_tables.specs.declared.entries.Work.TheVariants.{Nothing, Mode, Game}
-use Rattle.plan_tables.specs.declared.entries.GameEvent.{GameEvent}
-use Rattle.plan_tables.specs.declared.entries.GameRules.{GameRules}
-use Rattle.player_game.specs.Players.{after_change as players_after_change, most_players}
+use Rattle.plan_tables.{specs.declared.entries.Target.{Target, TheVariants.{Run, Act}}, proofs.Owners.rows_of-within}
+use Rattle.plan_tables.specs.declared.entries.Work.{Work, TheVariants.{Nothing, Mode, Game}}
+use Rattle.player_game.specs.{Players.most_players, Choices.{choices, tells_scores, AreFew}}
 use Rattle.player_game.specs.GameStep.{GameStep, game_step, in_play}
-use Rattle.player_game.specs.Choices.{choices, tells_scores, AreFew}
-use Rattle.player_game.proofs.StayFew.{players_stay_few}
-use Rattle.plan_tables.specs.declared.devices.RowId.{RowId}
-use Rattle.plan_tables.proofs.Owners.{rows_of-within}
-use Rattle.device_objects.specs.declared.device.Call.{Call}
+use Rattle.player_game.proofs.{StayFew.players_stay_few, DrainEvent.drain-is}
+use Rattle.device_objects.specs.{declared.device.Call.Call, Outcomes.outcomes, Laws.MayCome}
 use Rattle.device_objects.specs.declared.device.Call.TheVariants as calls
-use Rattle.device_objects.specs.Outcomes.{outcomes}
-use Rattle.device_objects.specs.Laws.{MayCome}
 use Rattle.device_objects.proofs.Answered.{answers_are_outcomes}
-use Rattle.mode_stack.specs.ModeStep.{entered}
-use Rattle.mode_stack.specs.Modes.{mode_state}
+use Rattle.mode_stack.specs.{ModeStep.entered, Modes.mode_state}
 use Rattle.cascade_rank.specs.Cost.{Cost, Lines, price, each_of, dearest_of, cost_of_acceptance, cost_of_action_by, cost_of_list_by, cost_of_answer_by, cost_of_call_by, cost_of_nobody, cost_of_told, cost_of_telling, cost_of_arrival, cost_of_scores, cost_of_list, cost_of_call, cost_of_choice, cost_of_trough, cost_of_request, cost_of_playfield_switch, cost_of_game, cost_of_listener, cost_of_releases, cost_of_target, cost_of_starts, led_by, cost_if_led}
-use Rattle.cascade_rank.specs.Weights.{bound_of}
-use Rattle.cascade_rank.proofs.Prices.{price-dearest}
-use Rattle.cascade_rank.proofs.Rows.{length-rows, row_of}
-use Rattle.plan_tables.specs.declared.devices.Telling.{Telling}
-use Rattle.plan_tables.specs.declared.devices.Telling.TheVariants.{Arrived, Wanted}
+use Rattle.cascade_rank.{specs.Weights.bound_of, proofs.{Prices.price-dearest, Rows.{length-rows, row_of}}}
+use Rattle.plan_tables.specs.declared.devices.Telling.{Telling, TheVariants.{Arrived, Wanted}}
 use Rattle.written_machine.specs.Machine.{Machine, write, set_switches, set_mode, set_device, all_do, ask_coil, release_coil, tell_change, after_entry, do_action_by, do_list_by, do_answer_by, call_device_by, first_away, tell_nobody, tell_device, tell_first, step_game, first_active_save, world_of, device_at, called, call_device, call_devices, tell_listener, tell_listeners, home_of, do_handler}
-use Rattle.written_machine.specs.Devices.{HasDevices}
+use Rattle.written_machine.specs.{Devices.HasDevices, Moves.{Turned, Booked, step_now}}
 use Rattle.written_machine.specs.Run.{switch, device, source_due, Stimulus, SwitchChange, Alarm, Wait, arrived}
 use Rattle.written_machine.specs.StimulusCost.{cost_if_accepted, cost_of_stimulus}
-use Rattle.written_machine.specs.Moves.{Turned, Booked, step_now}
 use Rattle.written_machine.proofs.Does.{each_now, has_devices-does, has_devices-move, HasCoils, asked-has_coils}
 use Rattle.written_machine.proofs.Feeding.{first_away-is, first_trough-is, multiballs-within, first_active_save-is}
-use Rattle.written_machine.proofs.Drains.{last-posts}
-use Rattle.player_game.proofs.DrainEvent.{drain-is}
-use Rattle.written_machine.proofs.Resting.{stops-turn}
+use Rattle.written_machine.proofs.{Drains.last-posts, Resting.stops-turn}
 use Rattle.written_machine.proofs.Parts.{IsThere, target-there, cost_of_handler, action_now_by, list_now_by, answer_now_by, call_now_by, nobody_now, told_now, telling_now, list_now, call_now, target_now, handler_now, listener_now, playfield_now, accepted_now, if_accepted_now, release_now, stimulus_now, before_now, finals_now, request_now, step_game_now, drained_now, game_now, after_now, does-handler, does-finals, does-step}
 
 module _ (plan : PlanView) (entries : HasEntries plan) (w : EventId → ℕ) where
@@ -281,11 +253,7 @@ module _ (plan : PlanView) (entries : HasEntries plan) (w : EventId → ℕ) whe
 
       by : (b : Bool) → (in_play after.game == 1) ≡ b
           → price w (step_game_now plan BallDrain s) + price w (if b then each_now (call_device plan (calls.Act End)) (call_now plan (calls.Act End)) (multiball_rows plan) after else Lines 0) ≤ price w (cost_of_game plan (Game BallDrain))
-      by true one =
-          let silent = ap (λ (es : List GameEvent). price w (cost_of_choice plan es)) (last-posts plan s one) in
-          let ends = each_end-priced after (has_devices-does plan (does-step plan BallDrain e is s) has) in
-          omega (arith, step-priced BallDrain s has few, silent, ends)
-      by false more = omega (arith, step-priced BallDrain s has few, posts)
+      by x1 x2 = search (rules, last-posts, each_end-priced, after, has_devices-does, does-step, step-priced, posts)
 
   -- the first ball save that is active is one of those that may save it
   drained-priced : (e : EventId) → work_of plan e ≡ Game BallDrain → (s : Machine) → HasDevices plan s.devices → AreFew plan s.players
@@ -338,11 +306,7 @@ module _ (plan : PlanView) (entries : HasEntries plan) (w : EventId → ℕ) whe
           by false = omega arith
 
       listeners-within : (n : SwitchId) → All (λ l. l.row.0 < length plan.rows) (listeners_of plan n)
-      listeners-within n =
-          elim (cases_lt n.0 (length plan.switches)) [
-            | inl within ↦ All-get_or (λ sw. All (IsListenerWithin (length plan.rows)) sw.listeners) plan.switches n.0 no_switch within entries.listeners
-            | inr past ↦ subst (λ sw. All (IsListenerWithin (length plan.rows)) sw.listeners) (sym (get_or_past plan.switches n.0 no_switch past)) (All-nil (IsListenerWithin (length plan.rows)))
-          ]
+      listeners-within n = search (rules, cases_lt, All-get_or, get_or_past, All-nil)
 
   if_accepted-priced : (o : Option Change) (s : Machine) → HasDevices plan s.devices → price w (if_accepted_now plan o s) ≤ price w (cost_if_accepted plan o)
   if_accepted-priced o s has = search (rules, accepted-priced)

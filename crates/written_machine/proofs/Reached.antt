@@ -1,18 +1,13 @@
 -- States that a run leads to, with no event waiting: the next stimulus, and the next, all in plan order.
 use Rattle.std.proofs.Common.{◌≡◌, ℕ, ◌+◌, ◌≤◌, List, [], ◌∷◌, ◌++◌, length, refl}
-use Rattle.plan_tables.specs.PlanView.{PlanView}
-use Rattle.plan_tables.specs.Valid.{IsValid}
+use Rattle.plan_tables.specs.{PlanView.PlanView, Valid.IsValid}
 use Rattle.switch_core.specs.Switches.{IsComplete, all_idle}
-use Rattle.written_machine.specs.declared.line.Line.{Line}
-use Rattle.written_machine.specs.Machine.{Machine, initial}
-use Rattle.written_machine.specs.Devices.{HasDevices}
-use Rattle.written_machine.specs.PlanOrder.{plan_steps, settled}
+use Rattle.written_machine.specs.{declared.line.Line.Line, CheckedView.CheckedView}
+use Rattle.written_machine.specs.{Machine.{Machine, initial}, PlanOrder.{plan_steps, settled}}
+use Rattle.written_machine.specs.{Devices.HasDevices, Accepted.IsAccepted}
 use Rattle.written_machine.specs.Run.{IsNothingLate, Stimulus, IsAllowed, begin, IsReached}
-use Rattle.written_machine.specs.CheckedView.{CheckedView}
-use Rattle.written_machine.specs.Accepted.{IsAccepted}
-use Rattle.written_machine.proofs.Cascade.{verified-cascades_end}
+use Rattle.written_machine.proofs.{Cascade.verified-cascades_end, Does.HasStates}
 use Rattle.written_machine.proofs.PlanSteps.{settled-run, settled-idle, settled-steps, settled-same, settling-within}
-use Rattle.written_machine.proofs.Does.{HasStates}
 use Rattle.written_machine.proofs.Alarms.{has_states-run, has_states-initial, complete, not_late-run, not_late-initial}
 
 module _ (plan : PlanView) where

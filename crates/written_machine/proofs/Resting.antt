@@ -1,30 +1,20 @@
 -- No device of a mode is due, active as a ball save, or running as a multiball, unless the mode runs: what moves of
 -- handlers, the machine's works and stimuli keep.
 use Rattle.std.proofs.Common.{rules, ◌≡◌, ℕ, zero, suc, ◌<◌, ◌⊎◌, inl, inr, true, None, Some, List, [], ◌∷◌, length, slice_set, refl, ap, sym, subst, ◌∙◌, arith, false}
-use Rattle.std.specs.Prelude.{Contains}
-use Rattle.std.proofs.lemmas.Bool.{cases_eq, cases_lt}
-use Rattle.std.proofs.lemmas.Option.{none-some}
+use Rattle.std.{specs.Prelude.Contains, proofs.lemmas.{Bool.{cases_eq, cases_lt}, Option.none-some}}
 use Rattle.std.proofs.lemmas.List.{get_or-set_same, get_or-set_other, get_or_past}
-use Rattle.plan_tables.specs.PlanView.{PlanView, no_row, row_at}
-use Rattle.plan_tables.specs.Valid.{IsValid}
-use Rattle.plan_tables.specs.declared.entries.ModeId.{ModeId}
-use Rattle.plan_tables.specs.declared.entries.Owner.{Owner}
+use Rattle.plan_tables.specs.{PlanView.{PlanView, no_row, row_at}, Valid.IsValid}
+use Rattle.plan_tables.specs.declared.{entries.{ModeId.ModeId, Owner.Owner, CoilId.CoilId}, devices.RowId.RowId}
 use Rattle.plan_tables.specs.declared.entries.Owner.TheVariants as owners
-use Rattle.plan_tables.specs.declared.devices.RowId.{RowId}
-use Rattle.plan_tables.specs.declared.entries.CoilId.{CoilId}
-use Rattle.device_objects.specs.declared.device.Call.{Call}
+use Rattle.device_objects.specs.declared.{device.Call.Call, state.DeviceState.DeviceState}
 use Rattle.device_objects.specs.declared.device.Call.TheVariants as calls
-use Rattle.device_objects.specs.declared.state.DeviceState.{DeviceState}
-use Rattle.device_objects.specs.DeviceStep.{due_of, first_state}
-use Rattle.device_objects.proofs.Moments.{stopped-quiet}
-use Rattle.mode_stack.specs.Modes.{needs_game, running_of}
-use Rattle.mode_stack.proofs.WhoRuns.{starting_keeps_who_runs}
+use Rattle.device_objects.{specs.DeviceStep.{due_of, first_state}, proofs.Moments.stopped-quiet}
+use Rattle.mode_stack.{specs.Modes.{needs_game, running_of}, proofs.WhoRuns.starting_keeps_who_runs}
 use Rattle.event_queue.specs.Handlers.{takes_part}
-use Rattle.written_machine.specs.Devices.{HasDevices, ActsAreOwn}
+use Rattle.written_machine.{specs.Devices.{HasDevices, ActsAreOwn}, proofs.Inactive.{is_on, stopped-off}}
 use Rattle.written_machine.specs.Machine.{Machine, set_device, has_game, all_do, world_of, device_state, device_at, called, call_device}
 use Rattle.written_machine.specs.Moves.{Move, Wrote, Sent, Switched, Began, Ended, Turned, Asked, Booked, Varied, Stepped, AddedBalls, do_move, MayDo, ordinary}
 use Rattle.written_machine.proofs.Does.{start-by, stop-by, booked_now, book-by, due-row, has_devices-move}
-use Rattle.written_machine.proofs.Inactive.{is_on, stopped-off}
 use Rattle.written_machine.proofs.Held.{IsHolding, IsNotHolding, asked-count, asked-held}
 
 -- ---- devices whose mode stops
@@ -80,10 +70,6 @@ module _ (plan : PlanView) where
       by (inl (suc i, within, is)) = inl (i, omega arith, is)
       by (inr quiet) = inr (turned-quiet r q s there has (inr quiet))
 
-  -- a device that is on is one of the plan
-  pub on-row : (s : Machine) (r : RowId) → HasDevices plan s.devices → is_on (device_at s r) ≡ true → r.0 < length plan.rows
-  on-row s r has is = search (rules, cases_lt, is_on, get_or_past)
-
 -- ---- what rests
 
 -- The devices and coils have states. Where a device of the mode is due, or is an active ball save or a running multiball,
@@ -111,7 +97,7 @@ module _ (plan : PlanView) (valid : IsValid plan) (own : ActsAreOwn plan) (m : M
   -- where all devices of the mode are quiet, and it holds no coil
   pub quiet-rests : (s : Machine) → HasDevices plan s.devices → ((r : RowId) → r.0 < length plan.rows → (row_at plan r).owner ≡ owners.Mode m → IsQuiet plan s r)
       → length s.coils ≡ length plan.coils → ((coil : CoilId) → IsNotHolding (owners.Mode m) s.coils coil) → Rests plan m s
-  quiet-rests s has quiet count free = search (rules, none-some, due-row, on-row)
+  quiet-rests s has quiet count free = search (rules, none-some, due-row, cases_lt, is_on, get_or_past)
 
   -- ---- moves
 

@@ -1,66 +1,42 @@
 -- A mode that is stopped is silent, in every run: what the moves of handlers, the machine's works and the beginning of a
 -- stimulus keep.
 use Rattle.std.proofs.Common.{◌≡◌, ℕ, ◌<◌, ◌⊎◌, if◌then◌else◌, inl, inr, Some, Bool, true, false, ◌==◌, cond, List, [], ◌∷◌, ◌++◌, length, refl, ap, sym, subst, ◌∙◌, rules, Option, All, None}
-use Rattle.std.specs.List.{range_with_len}
-use Rattle.std.proofs.lemmas.Bool.{cases_eq, eq-eqb, ne_eqb, cases_lt}
+use Rattle.std.{specs.List.range_with_len, proofs.lemmas.Bool.{cases_eq, eq-eqb, ne_eqb, cases_lt}}
 use Rattle.std.proofs.lemmas.List.{get_or-replicate, length-replicate, length-set, get_or_past, get_or-map, length-map}
-use Rattle.plan_tables.specs.PlanView.{PlanView, coil_numbers, game_event, may_hold_ball_end, is_owner, mode_event, row_at, rows_of, work_of, is_multiball, multiball_rows, row_numbers}
+use Rattle.plan_tables.specs.PlanView.{PlanView, coil_numbers, game_event, may_hold_ball_end, is_owner, mode_event, row_at, rows_of, work_of, is_multiball, multiball_rows}
 use Rattle.plan_tables.specs.Valid.{HasGame, IsValid, IsWorkAt}
-use Rattle.plan_tables.specs.declared.entries.EventId.{EventId}
-use Rattle.plan_tables.specs.declared.entries.ModeId.{ModeId}
-use Rattle.plan_tables.specs.declared.entries.ModeEvent.{ModeEvent}
+use Rattle.plan_tables.specs.declared.{entries.{EventId.EventId, ModeId.ModeId}, devices.RowId.RowId}
+use Rattle.plan_tables.specs.declared.entries.{ModeEvent.ModeEvent, Owner.Owner, CoilId.CoilId}
 use Rattle.plan_tables.specs.declared.entries.ModeEvent.TheVariants.{WillStart, Starting, Started, Stopping, Stopped}
-use Rattle.plan_tables.specs.declared.entries.Owner.{Owner}
 use Rattle.plan_tables.specs.declared.entries.Owner.TheVariants as owners
-use Rattle.plan_tables.specs.declared.entries.Work.{Work}
-use Rattle.plan_tables.specs.declared.entries.Work.TheVariants.{Nothing, Mode, Game}
-use Rattle.plan_tables.specs.declared.entries.GameEvent.{GameEvent}
-use Rattle.plan_tables.specs.declared.entries.GameEvent.TheVariants.{BallDrain, BallEnded}
-use Rattle.player_game.specs.GameStep.{ends_ball, in_play}
-use Rattle.player_game.specs.Players.{score_of}
-use Rattle.plan_tables.specs.declared.devices.RowId.{RowId}
-use Rattle.plan_tables.proofs.Owners.{rows_of-there}
-use Rattle.plan_tables.proofs.Holding.{holds-game}
-use Rattle.plan_tables.proofs.Worked.{work_found}
-use Rattle.device_objects.specs.declared.device.Call.{Call}
+use Rattle.plan_tables.specs.declared.entries.Work.{Work, TheVariants.{Nothing, Mode, Game}}
+use Rattle.plan_tables.specs.declared.entries.GameEvent.{GameEvent, TheVariants.{BallDrain, BallEnded}}
+use Rattle.player_game.specs.{GameStep.{ends_ball, in_play}, Players.score_of, Choices.is_drain}
+use Rattle.plan_tables.proofs.{Owners.rows_of-there, Holding.holds-game, Worked.work_found}
+use Rattle.device_objects.specs.declared.{device.Call.Call, state.DeviceState.DeviceState}
 use Rattle.device_objects.specs.declared.device.Call.TheVariants as calls
-use Rattle.device_objects.specs.declared.state.DeviceState.{DeviceState}
-use Rattle.mode_stack.specs.declared.phase.Phase.{Phase}
+use Rattle.mode_stack.{specs.declared.phase.{Phase.Phase, ModeState.ModeState}, proofs.WhoRuns.starting_keeps_who_runs}
 use Rattle.mode_stack.specs.declared.phase.Phase.TheVariants as phases
-use Rattle.mode_stack.specs.declared.phase.ModeState.{ModeState}
-use Rattle.mode_stack.specs.ModeStep.{in_phase, is_running, entered, ended}
-use Rattle.mode_stack.specs.Modes.{mode_state, running_of}
-use Rattle.mode_stack.proofs.WhoRuns.{starting_keeps_who_runs}
-use Rattle.plan_tables.specs.declared.entries.CoilId.{CoilId}
-use Rattle.coil_guard.specs.declared.command.Command.TheVariants as commands
-use Rattle.coil_guard.specs.CoilStep.{is_held_by}
-use Rattle.coil_guard.specs.Coils.{coil_at}
+use Rattle.mode_stack.specs.{ModeStep.{in_phase, is_running, entered, ended}, Modes.{mode_state, running_of}}
 use Rattle.cascade_rank.specs.Cost.{Cost}
-use Rattle.event_queue.specs.declared.queue.Posted.{Posted}
-use Rattle.event_queue.specs.Handlers.{takes_part}
-use Rattle.event_queue.specs.PlanOrder.{by_priority}
+use Rattle.event_queue.specs.{declared.queue.Posted.Posted, Handlers.takes_part, PlanOrder.by_priority}
 use Rattle.event_queue.proofs.Sort.{by_priority-is_order}
-use Rattle.written_machine.specs.declared.line.Line.{Line}
+use Rattle.written_machine.specs.{declared.line.Line.Line, Devices.ActsAreOwn}
 use Rattle.written_machine.specs.declared.line.Happening.TheVariants as lines
-use Rattle.written_machine.specs.Devices.{ActsAreOwn}
-use Rattle.written_machine.specs.FreePosts.{IsFreeWork, PostsAreFree}
-use Rattle.written_machine.specs.Machine.{Machine, initial, post, set_mode, post_if, release_ball_end, drop_hold, post_game, write_final, write_finals, ask_ball, ask_coil, release_coil, release_coils, stop_mode, all_do, do_game, device_state, call_devices, do_handler, device_at, drain_ball, end_multiballs, step_game, first_active_save, call_device}
+use Rattle.written_machine.specs.{FreePosts.{IsFreeWork, PostsAreFree}, Silent.{HasStarted, IsSilent}}
+use Rattle.written_machine.specs.Machine.{Machine, initial, post, set_mode, post_if, release_ball_end, drop_hold, post_game, write_final, write_finals, ask_ball, release_coil, release_coils, stop_mode, all_do, do_game, device_state, call_devices, do_handler, device_at, drain_ball, end_multiballs, step_game, first_active_save, call_device}
 use Rattle.written_machine.specs.EventStep.{taken, before_handlers, handlers_in, do_before, do_after}
 use Rattle.written_machine.specs.Run.{device, source_due, Stimulus, moment_of, IsAllowed, arrived, begin, IsRun}
-use Rattle.written_machine.specs.Silent.{HasStarted, IsSilent}
 use Rattle.written_machine.specs.Moves.{Move, Wrote, Sent, Began, Ended, Marked, Released, Asked, Booked, do_move, MayDo, Does, TakesPart, IsMachine, Begins, ordinary, MayHandle}
 use Rattle.written_machine.proofs.Does.{start-by, stop-by, book-by, does-keeps, off-has_coils}
 use Rattle.written_machine.proofs.Parts.{does-calls, does-releases, does-request, does-order, does-begin, does-call}
-use Rattle.written_machine.proofs.Keeps.{step-keeps, run-keeps}
+use Rattle.written_machine.proofs.{Keeps.{step-keeps, run-keeps}, Feeding.first_active_save-is}
 use Rattle.written_machine.proofs.Cycles.{mine, waiting_of, IsTurn, idle, turn-will_start, turn-starting, turn-started, turn-stopping, turn-stopped, stopping-runs}
 use Rattle.written_machine.proofs.Hearing.{Said, written, all_written, awaited, all_awaited, heard_at, heard_after, heard, IsFine, heard-push, fine-push, heard-started, fine-silent}
 use Rattle.written_machine.proofs.Speaking.{Holds, HoldsIn, heard_in, phase_in, IsRunning, takes-runs, runs-takes, own_state, other_state, wrote-holds, asked-holds, booked-holds, posted-holds, gamed-holds, own_post, own_set, own_change, other_post, other_set, start-holds, stop-holds, lines-push}
-use Rattle.written_machine.proofs.Inactive.{is_on, active-on, first-off, end-still}
-use Rattle.written_machine.proofs.Alarms.{initial-devices, initial-quiet}
+use Rattle.written_machine.proofs.{Inactive.{is_on, active-on, end-still}, Alarms.{initial-devices, initial-quiet}}
 use Rattle.written_machine.proofs.Held.{IsHolding, off-not, released-none}
 use Rattle.written_machine.proofs.Resting.{stops-turn, stops-quiet, Rests, running-rests, runs-rests, quiet-rests, move-rests, IsQuietState}
-use Rattle.player_game.specs.Choices.{is_drain}
-use Rattle.written_machine.proofs.Feeding.{first_active_save-is}
 use Rattle.plan_tables.specs.declared.devices.Act.TheVariants as acts
 use Rattle.std.proofs.lemmas.List.Elements.{All-tail, All-head, filter_passes}
 
@@ -68,11 +44,7 @@ use Rattle.std.proofs.lemmas.List.Elements.{All-tail, All-head, filter_passes}
 
 release-devices : (owner : Owner) (cs : List CoilId) (s : Machine) → (all_do (release_coil owner) cs s).devices ≡ s.devices
 release-devices owner [] s = refl
-release-devices owner (c ∷ cs) s = release-devices owner cs (release_coil owner c s) ∙ one (is_held_by owner (coil_at s.coils c))
-  where
-    one : (held : Bool) → (if held then ask_coil owner (commands.Disable c) s else s).devices ≡ s.devices
-    one true = refl
-    one false = refl
+release-devices owner (c ∷ cs) s = search (rules, release-devices owner cs (release_coil owner c s))
 
 module _ (plan : PlanView) (by : Owner → Type 0) (switches : Type 0) where
   still-move : (x : Move) (s : Machine) → MayDo plan (ordinary plan by switches) x → running_of (do_move plan x s).modes ≡ running_of s.modes
@@ -183,8 +155,7 @@ module _ (plan : PlanView) (valid : IsValid plan) (free : PostsAreFree plan) (ow
       number_of (owners.Mode i) = i.0
 
       mode_runs : (owners.Mode m ≡ owners.Mode k) ⊎ IsMachine (owners.Mode m) → IsTaking s
-      mode_runs (inl is) = runs (sym (ap number_of is))
-      mode_runs (inr is) = absurd (search (rules, is))
+      mode_runs x1 = search (rules, runs, number_of)
 
   -- ---- the work after the handlers
 
@@ -255,8 +226,7 @@ module _ (plan : PlanView) (valid : IsValid plan) (free : PostsAreFree plan) (ow
       ends has false = gone
 
       by : (holds : Bool) → may_hold_ball_end plan k ≡ holds → Stays before [] (if holds then post_if (ends_ball k s.game) (game_event plan BallEnded) (drop_hold k s) else s)
-      by true is = ends (holds-game plan k is) (ends_ball k s.game)
-      by false is = h
+      by x1 is = search (rules, ends, holds-game)
 
   own_after : (before : List Line) (kept : Bool) (which : ModeEvent) (s : Machine) → Stays before (still_due which) s → Stays before [] (do_after plan kept (Mode m which) s)
   own_after before kept WillStart s h = (own_post plan valid m within before (WillStart ∷ []) [] Starting s h.0 (turn-will_start (phase_in m s) (waiting_of plan m s.waiting) h.0.holds.turns), post-rests (mode_event plan m Starting) s h.1)
@@ -311,8 +281,7 @@ module _ (plan : PlanView) (valid : IsValid plan) (free : PostsAreFree plan) (ow
       (does-call plan (λ owner. (owner ≡ (row_at plan r).owner) ⊎ IsMachine owner) ⊥ (inr refl) call r (λ owns. inl refl) s) refl h
     where
       runs : (owners.Mode m ≡ (row_at plan r).owner) ⊎ IsMachine (owners.Mode m) → IsTaking s
-      runs (inl is) = h.1.acts r (sym is) on
-      runs (inr is) = absurd (search (rules, is))
+      runs x1 = search rules
 
   -- a multiball that is not running does nothing
   end-stays : (before : List Line) (r : RowId) → is_multiball (row_at plan r).settings ≡ true → (s : Machine) → Stays before [] s → Stays before [] (call_device plan (calls.Act acts.End) r s)
@@ -328,8 +297,7 @@ module _ (plan : PlanView) (valid : IsValid plan) (free : PostsAreFree plan) (ow
           (end-stays before r (All-head (λ q. is_multiball (row_at plan q).settings ≡ true) r rs all) t k)
 
       by : (b : Bool) → Stays before [] (if b then all_do (call_device plan (calls.Act acts.End)) (multiball_rows plan) s else s)
-      by true = all_stay (multiball_rows plan) (filter_passes (λ r. is_multiball (row_at plan r).settings) (row_numbers plan)) s h
-      by false = h
+      by x1 = search (rules, all_stay, filter_passes)
 
   drained-stays : (before : List Line) (s : Machine) → HasGame plan → (o : Option RowId) → first_active_save plan s ≡ o → Stays before [] s → Stays before [] (drain_ball plan o s)
   drained-stays before s has None is h = ends-stay before (step_game plan BallDrain s) (step-stays before BallDrain s has h)
@@ -393,11 +361,7 @@ module _ (plan : PlanView) (valid : IsValid plan) (free : PostsAreFree plan) (ow
             let here : HoldsIn plan m before (which ∷ []) s = record {
               count = count;
               fine = fine;
-              holds = record {
-                waits = subst (λ (b : Bool). IsFine m b (all_awaited plan s.waiting)) (sym is) waits;
-                turns = own_turn;
-                speaks = λ r. now ∙ speaks_after which (phase_in m s) (waiting_of plan m s.waiting) on own_turn speaks r;
-              };
+              holds = search (rules, all_awaited, speaks_after, phase_in, waiting_of);
             } in
             subst (λ (b : Bool). Stays before (cond b (still_due which) []) (do_before plan (Mode k which) s)) (sym (eq-eqb k.0 m.0 same))
             (subst (λ (n : ℕ). Stays before (still_due which) (do_before plan (Mode (numbered n) which) s)) (sym same) (own_before before which s on now (here, rests)))
@@ -406,11 +370,7 @@ module _ (plan : PlanView) (valid : IsValid plan) (free : PostsAreFree plan) (ow
             let here : HoldsIn plan m before [] s = record {
               count = count;
               fine = fine;
-              holds = record {
-                waits = subst (λ (b : Bool). IsFine m b (all_awaited plan s.waiting)) (sym is) waits;
-                turns = subst (λ (b : Bool). IsTurn (phase_in m s) (cond b (which ∷ waiting_of plan m s.waiting) (waiting_of plan m s.waiting))) (ne_eqb k.0 m.0 other) turns;
-                speaks = λ r. now ∙ speaks r;
-              };
+              holds = search (rules, all_awaited, phase_in, waiting_of, ne_eqb);
             } in
             subst (λ (b : Bool). Stays before (cond b (still_due which) []) (do_before plan (Mode k which) s)) (sym (ne_eqb k.0 m.0 other)) (other_before before k which s other (here, rests))
       ]
@@ -445,7 +405,7 @@ module _ (plan : PlanView) (valid : IsValid plan) (free : PostsAreFree plan) (ow
 
   -- at first no ball save is active, and no multiball is running
   initial-off : (r : RowId) → is_on (device_at (initial plan) r) ≡ false
-  initial-off r = search (rules, cases_lt, is_on, get_or-map, first-off, length-map, get_or_past)
+  initial-off r = search (rules, cases_lt, is_on, get_or-map, length-map, get_or_past)
 
   stays-initial : Stays [] [] (initial plan)
   stays-initial = (

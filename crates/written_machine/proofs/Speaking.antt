@@ -1,39 +1,27 @@
 -- What holds of a mode at every moment of a run: which of its events wait, and that nothing of it waits to be written where
 -- it must not be heard.
 use Rattle.std.proofs.Common.{◌≡◌, ◌&&◌, ℕ, ◌<◌, inl, inr, Bool, true, false, cond, if◌then◌else◌, List, [], ◌∷◌, ◌++◌, length, refl, ap, sym, subst, ◌∙◌, append_assoc, arith, rules}
-use Rattle.std.specs.List.{AllByRecursion}
-use Rattle.std.proofs.lemmas.Bool.{cases_eq, eq-eqb, ne_eqb}
+use Rattle.std.{specs.List.AllByRecursion, proofs.lemmas.Bool.{cases_eq, eq-eqb, ne_eqb}}
 use Rattle.std.proofs.lemmas.List.{append-nil, get_or-set_same, get_or-set_other, get_or-map, length-set}
 use Rattle.plan_tables.specs.PlanView.{PlanView, may_hold_ball_end, mode_event, work_of}
-use Rattle.plan_tables.specs.Valid.{IsValid}
-use Rattle.plan_tables.specs.declared.entries.EventId.{EventId}
-use Rattle.plan_tables.specs.declared.entries.ModeId.{ModeId}
-use Rattle.plan_tables.specs.declared.entries.ModeEvent.{ModeEvent}
-use Rattle.plan_tables.specs.declared.entries.ModeEvent.TheVariants.{WillStart, Starting, Stopping}
-use Rattle.plan_tables.specs.declared.entries.Owner.{Owner}
+use Rattle.plan_tables.specs.{Valid.IsValid, declared.entries.Work.{Work, TheVariants.{Nothing, Mode}}}
+use Rattle.plan_tables.specs.declared.entries.{EventId.EventId, ModeId.ModeId, Owner.Owner}
+use Rattle.plan_tables.specs.declared.entries.ModeEvent.{ModeEvent, TheVariants.{WillStart, Starting, Stopping}}
 use Rattle.plan_tables.specs.declared.entries.Owner.TheVariants as owners
-use Rattle.plan_tables.specs.declared.entries.Work.{Work}
-use Rattle.plan_tables.specs.declared.entries.Work.TheVariants.{Nothing, Mode}
 use Rattle.player_game.specs.GameStep.{GameState, held_if}
-use Rattle.mode_stack.specs.declared.phase.Phase.{Phase}
+use Rattle.mode_stack.specs.declared.phase.{Phase.Phase, ModeState.ModeState}
 use Rattle.mode_stack.specs.declared.phase.Phase.TheVariants as phases
-use Rattle.mode_stack.specs.declared.phase.ModeState.{ModeState}
 use Rattle.mode_stack.specs.ModeStep.{in_phase, is_running, starts, started, stopped_from, stop_answer}
 use Rattle.mode_stack.specs.Modes.{needs_game, mode_state, running_of}
 use Rattle.event_queue.specs.declared.queue.Posted.{Posted}
-use Rattle.written_machine.specs.declared.line.Line.{Line}
-use Rattle.written_machine.specs.declared.line.Happening.{Happening}
+use Rattle.written_machine.specs.{declared.line.{Line.Line, Happening.Happening}, Moves.IsNoEvent}
 use Rattle.written_machine.specs.declared.line.Happening.TheVariants as lines
-use Rattle.coil_guard.specs.declared.command.Command.{Command}
-use Rattle.coil_guard.specs.declared.command.Answer.{Answer}
-use Rattle.coil_guard.specs.declared.command.Answer.TheVariants as answers
-use Rattle.coil_guard.specs.Asked.{after_asking, answer_asking}
+use Rattle.coil_guard.specs.{declared.command.{Command.Command, Answer.Answer}, Asked.{after_asking, answer_asking}}
 use Rattle.ball_devices.specs.Bookings.{LedgerCall, after_call, booked}
 use Rattle.written_machine.specs.Machine.{Machine, write, post, set_ledger, counts_of, book, set_coils, told, ask_coil, set_mode, set_game, has_game, is_post, post_if, start_mode, stop_mode}
-use Rattle.written_machine.proofs.Cycles.{mine, waiting_of, IsTurn, waiting_of-push, turn-start, turn-stop, IsNoEnd, running-no_end}
+use Rattle.written_machine.proofs.Cycles.{mine, waiting_of, IsTurn, waiting_of-push, turn-start, turn-stop, IsNoEnd}
 use Rattle.written_machine.proofs.Hearing.{Said, work_written, written, all_written, all_awaited, heard_at, heard_after, heard, IsFine, written-push, awaited-push, heard-push, fine-push}
 use Rattle.written_machine.proofs.Does.{begun_mode, book-by}
-use Rattle.written_machine.specs.Moves.{IsNoEvent}
 
 -- Of the mode's events: the one that is being handled, as long as its work is still to come, and those that wait. And
 -- whether it may be heard now.
@@ -61,7 +49,7 @@ module _ (plan : PlanView) (m : ModeId) where
   -- one event more waits, and the mode is in another phase
   holds-push : (on : Bool) (front after : List ModeEvent) (q : List Posted) (p next : Phase) (x : Posted) → Holds plan m on front q p
       → IsTurn next (after ++ (waiting_of plan m q ++ mine m (work_of plan x.event) [])) → (x.owner ≡ owners.Mode m → is_running p ≡ true) → (is_running next ≡ true → on ≡ true) → Holds plan m on after (q ++ x ∷ []) next
-  holds-push on front after q p next x h turns runs speaks = search (rules, awaited-push, fine-push, all_awaited, heard_on, no_end-rest, waiting_of, running-no_end, waiting_of-push)
+  holds-push on front after q p next x h turns runs speaks = search (rules, awaited-push, fine-push, all_awaited, heard_on, no_end-rest, waiting_of, waiting_of-push)
 
 -- whether the mode may be heard after all that was written
 abbrev pub heard_in : PlanView → ModeId → List Line → Machine → Bool
@@ -126,8 +114,7 @@ module _ (plan : PlanView) (valid : IsValid plan) (m : ModeId) (within : m.0 < l
       answer = answer_asking command owner s.moment s.coils
 
       told-quiet : (a : Answer) → work_written plan (told command a) ≡ Nothing
-      told-quiet (answers.Sent sent) = refl
-      told-quiet answers.Skipped = refl
+      told-quiet x1 = search rules
 
   -- the ledger books something
   pub booked-holds : (front : List ModeEvent) (owner : Owner) (call : LedgerCall) (s : Machine) → (owner ≡ owners.Mode m → IsRunning m s) → HoldsIn plan m before front s → HoldsIn plan m before front (book owner call s)

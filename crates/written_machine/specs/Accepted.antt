@@ -1,11 +1,8 @@
 -- What is accepted.
-use Rattle.plan_tables.specs.Valid.{IsValid}
+use Rattle.plan_tables.specs.{Valid.IsValid, BallRows.BookingsAreRight}
 use Rattle.cascade_rank.specs.Verified.{IsVerified}
-use Rattle.written_machine.specs.CheckedView.{CheckedView}
-use Rattle.written_machine.specs.FreePosts.{PostsAreFree}
-use Rattle.written_machine.specs.Devices.{ActsAreOwn}
-use Rattle.written_machine.specs.CoilActions.{ActionsKeepLimits}
-use Rattle.plan_tables.specs.BallRows.{BookingsAreRight}
+use Rattle.written_machine.specs.{CheckedView.CheckedView, CoilActions.ActionsKeepLimits}
+use Rattle.written_machine.specs.{FreePosts.PostsAreFree, Devices.ActsAreOwn}
 
 -- The plan is valid, nothing posts an event at which the machine itself does something, but that of the start button,
 -- bindings act on devices of their own owner alone, only the machine's devices listen to switches, and ball devices are

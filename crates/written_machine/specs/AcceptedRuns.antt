@@ -1,9 +1,7 @@
 -- Every run of what is accepted is good, whoever found its weights.
-use Rattle.plan_tables.specs.PlanView.{PlanView}
-use Rattle.plan_tables.specs.Valid.{IsValid}
+use Rattle.plan_tables.specs.{PlanView.PlanView, Valid.IsValid}
 use Rattle.cascade_rank.specs.Verified.{IsVerified}
-use Rattle.written_machine.specs.CheckedView.{CheckedView}
-use Rattle.written_machine.specs.Accepted.{IsAccepted}
+use Rattle.written_machine.specs.{CheckedView.CheckedView, Accepted.IsAccepted}
 use Rattle.written_machine.specs.GoodRun.{CascadesEnd, LevelsFollowRawChanges, IsGood}
 
 pub record AcceptedIsGood : Type 0 where

@@ -2,10 +2,8 @@
 use Rattle.std.specs.Prelude.{ℕ, zero, suc, nat_le, if◌then◌else◌, Option, Some, None, List, [], ◌∷◌}
 use Rattle.std.specs.Option.{option_map_or}
 use Rattle.plan_tables.specs.PlanView.{PlanView}
-use Rattle.written_machine.specs.Machine.{Machine}
-use Rattle.written_machine.specs.Run.{Source, Stimulus, Alarm}
-use Rattle.written_machine.specs.NextAlarm.{next_alarm}
-use Rattle.written_machine.specs.PlanOrder.{settled}
+use Rattle.written_machine.specs.{Machine.Machine, PlanOrder.settled}
+use Rattle.written_machine.specs.{Run.{Source, Stimulus, Alarm}, NextAlarm.next_alarm}
 
 -- the next alarm, where it is due by the moment
 abbrev pub due_by : ℕ → Option (ℕ × Source) → Option (ℕ × Source)

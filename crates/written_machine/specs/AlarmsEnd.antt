@@ -1,14 +1,9 @@
 -- Alarms come to an end, since a stimulus arms nothing for its own moment.
 use Rattle.std.specs.Prelude.{◌≡◌, ℕ, ◌<◌, ◌⊎◌, Some, List}
-use Rattle.plan_tables.specs.PlanView.{PlanView}
-use Rattle.plan_tables.specs.Valid.{IsValid}
-use Rattle.written_machine.specs.Devices.{HasDevices}
-use Rattle.written_machine.specs.declared.line.Line.{Line}
-use Rattle.written_machine.specs.Machine.{Machine}
-use Rattle.written_machine.specs.EventStep.{EventSteps}
+use Rattle.plan_tables.specs.{PlanView.PlanView, Valid.IsValid}
+use Rattle.written_machine.specs.{Devices.HasDevices, Machine.Machine, EventStep.EventSteps, NextAlarm.most_alarms}
+use Rattle.written_machine.specs.{declared.line.Line.Line, AlarmsBy.{alarms_by, state_after}}
 use Rattle.written_machine.specs.Run.{Source, source_due, part_due, IsNoAlarmDueBy, Stimulus, Alarm, moment_of, begin, IsReached}
-use Rattle.written_machine.specs.NextAlarm.{most_alarms}
-use Rattle.written_machine.specs.AlarmsBy.{alarms_by, state_after}
 
 -- What is due after a stimulus and event steps was due before it, or is due later than it came.
 abbrev pub StimuliArmLater : Type 0

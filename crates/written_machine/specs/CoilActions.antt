@@ -1,11 +1,9 @@
 -- What the actions of an accepted plan ask of coils.
 use Rattle.std.specs.List.{All}
-use Rattle.plan_tables.specs.PlanView.{PlanView}
-use Rattle.plan_tables.specs.declared.entries.Action.{Action}
+use Rattle.plan_tables.specs.{PlanView.PlanView, declared.entries.Action.Action}
 use Rattle.plan_tables.specs.declared.entries.Action.TheVariants.{Post, Pulse, Enable, Disable, Change as ChangeVariable, Enter, Leave, Lose, Arrive, Request, AddBalls}
 use Rattle.coil_guard.specs.declared.command.Command.TheVariants as commands
-use Rattle.coil_guard.specs.Limits.{IsWithin}
-use Rattle.coil_guard.specs.Asked.{limits_of}
+use Rattle.coil_guard.specs.{Limits.IsWithin, Asked.limits_of}
 
 -- The command to a coil that an action asks for, if it asks for one, is within the limits of the coil.
 abbrev pub KeepsLimits : PlanView → Action → Type 0

@@ -2,22 +2,14 @@
 use Rattle.std.specs.Prelude.{◌≡◌, ℕ, ◌+◌, ◌==◌, Bool, false, if◌then◌else◌, nat_le, nat_lt, Option, None, Some, List, [], ◌∷◌, ◌++◌, length, filter}
 use Rattle.std.specs.List.{flat_map, list_all, list_any, last_or}
 use Rattle.plan_tables.specs.PlanView.{PlanView, listeners_of, switch_at}
-use Rattle.plan_tables.specs.declared.devices.BallSettings.{BallSettings}
-use Rattle.plan_tables.specs.declared.devices.RowId.{RowId}
-use Rattle.plan_tables.specs.declared.entries.SwitchId.{SwitchId}
+use Rattle.plan_tables.specs.declared.{devices.{BallSettings.BallSettings, RowId.RowId}, entries.SwitchId.SwitchId}
 use Rattle.cascade_rank.specs.Cost.{switches_of}
-use Rattle.ball_devices.specs.declared.booking.Booking.{Booking}
-use Rattle.ball_devices.specs.declared.booking.Booking.TheVariants.{Entered}
-use Rattle.ball_devices.specs.declared.booking.Origin.{Origin}
-use Rattle.ball_devices.specs.Ledger.{Ledger}
-use Rattle.ball_devices.specs.Bookings.{HasBooked, origin_after}
+use Rattle.ball_devices.specs.declared.booking.{Booking.{Booking, TheVariants.Entered}, Origin.Origin}
+use Rattle.ball_devices.specs.{Ledger.Ledger, Bookings.{HasBooked, origin_after}}
 use Rattle.device_objects.specs.BallDevice.{delay}
-use Rattle.written_machine.specs.declared.line.BallCounts.{BallCounts}
-use Rattle.written_machine.specs.declared.line.Line.{Line}
-use Rattle.written_machine.specs.declared.line.Happening.{Happening}
+use Rattle.written_machine.specs.declared.line.{BallCounts.BallCounts, Line.Line, Happening.Happening}
 use Rattle.written_machine.specs.declared.line.Happening.TheVariants as lines
-use Rattle.written_machine.specs.Machine.{counts_of}
-use Rattle.written_machine.specs.SwitchLines.{LevelChange, changes_of}
+use Rattle.written_machine.specs.{Machine.counts_of, SwitchLines.{LevelChange, changes_of}}
 
 -- ---- bookings
 

@@ -1,18 +1,10 @@
 -- What holds of the devices in every run, and of what acts on them in an accepted plan.
-use Rattle.std.specs.Prelude.{◌≡◌, ◌<◌, List, length}
-use Rattle.std.specs.List.{All}
-use Rattle.plan_tables.specs.PlanView.{PlanView, row_at}
-use Rattle.plan_tables.specs.declared.entries.Owner.{Owner}
-use Rattle.plan_tables.specs.declared.entries.Owner.TheVariants.{Machine}
-use Rattle.plan_tables.specs.declared.entries.Listener.{Listener}
-use Rattle.plan_tables.specs.declared.entries.Target.{Target}
-use Rattle.plan_tables.specs.declared.entries.Target.TheVariants.{Run, Start, Stop, Act}
-use Rattle.plan_tables.specs.declared.devices.RowId.{RowId}
-use Rattle.plan_tables.specs.BallRows.{BallDevicesAreOwn}
-use Rattle.device_objects.specs.Laws.{HasShape}
-use Rattle.device_objects.specs.declared.state.DeviceState.{DeviceState}
-use Rattle.written_machine.specs.Machine.{device_state}
-use Rattle.written_machine.specs.Run.{InEveryRun}
+use Rattle.std.specs.{Prelude.{◌≡◌, ◌<◌, List, length}, List.All}
+use Rattle.plan_tables.specs.{PlanView.{PlanView, row_at}, declared.devices.RowId.RowId, BallRows.BallDevicesAreOwn}
+use Rattle.plan_tables.specs.declared.entries.{Owner.{Owner, TheVariants.Machine}, Listener.Listener}
+use Rattle.plan_tables.specs.declared.entries.Target.{Target, TheVariants.{Run, Start, Stop, Act}}
+use Rattle.device_objects.specs.{Laws.HasShape, declared.state.DeviceState.DeviceState}
+use Rattle.written_machine.specs.{Machine.device_state, Run.InEveryRun}
 
 -- The state of each device has the shape of its row.
 pub record HasDevices (plan : PlanView) (devices : List DeviceState) : Type 0 where

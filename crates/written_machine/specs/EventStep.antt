@@ -1,18 +1,14 @@
 -- One event is taken from the queue and handled.
 use Rattle.std.specs.Prelude.{◌≡◌, ℕ, zero, suc, Bool, false, if◌then◌else◌, List, ◌∷◌}
 use Rattle.plan_tables.specs.PlanView.{PlanView, mode_event, work_of}
-use Rattle.plan_tables.specs.declared.entries.EventId.{EventId}
-use Rattle.plan_tables.specs.declared.entries.BindingId.{BindingId}
+use Rattle.plan_tables.specs.declared.entries.{EventId.EventId, BindingId.BindingId}
 use Rattle.plan_tables.specs.declared.entries.ModeEvent.TheVariants.{WillStart, Starting, Started, Stopping, Stopped}
-use Rattle.plan_tables.specs.declared.entries.Work.{Work}
-use Rattle.plan_tables.specs.declared.entries.Work.TheVariants.{Nothing, Mode, Game}
+use Rattle.plan_tables.specs.declared.entries.Work.{Work, TheVariants.{Nothing, Mode, Game}}
 use Rattle.plan_tables.specs.declared.entries.Owner.TheVariants as owners
 use Rattle.device_objects.specs.declared.device.Call.TheVariants as calls
-use Rattle.mode_stack.specs.ModeStep.{entered, ended}
-use Rattle.mode_stack.specs.Modes.{mode_state, running_of}
+use Rattle.mode_stack.specs.{ModeStep.{entered, ended}, Modes.{mode_state, running_of}}
 use Rattle.written_machine.specs.declared.line.Happening.TheVariants as lines
-use Rattle.event_queue.specs.declared.queue.Posted.{Posted}
-use Rattle.event_queue.specs.Handlers.{handlers, IsHandlerOrder}
+use Rattle.event_queue.specs.{declared.queue.Posted.Posted, Handlers.{handlers, IsHandlerOrder}}
 use Rattle.written_machine.specs.Machine.{Machine, write, post, set_mode, all_do, stop_mode, release_ball_end, call_devices, release_coils, do_game, do_handler}
 
 -- the first waiting event is taken, and its line is written

@@ -1,13 +1,9 @@
 -- What a plan must not post.
-use Rattle.std.specs.Prelude.{◌≡◌}
-use Rattle.std.specs.List.{All}
+use Rattle.std.specs.{Prelude.◌≡◌, List.All}
 use Rattle.plan_tables.specs.PlanView.{PlanSwitch, PlanView, work_of}
-use Rattle.plan_tables.specs.declared.entries.EventId.{EventId}
-use Rattle.plan_tables.specs.declared.entries.Action.{Action}
+use Rattle.plan_tables.specs.declared.entries.{EventId.EventId, Action.Action, GameEvent.TheVariants.SwStart}
 use Rattle.plan_tables.specs.declared.entries.Action.TheVariants.{Post, Pulse, Enable, Disable, Change as ChangeVariable, Enter, Leave, Lose, Arrive, Request, AddBalls}
-use Rattle.plan_tables.specs.declared.entries.Work.{Work}
-use Rattle.plan_tables.specs.declared.entries.Work.TheVariants.{Nothing, Mode, Game}
-use Rattle.plan_tables.specs.declared.entries.GameEvent.TheVariants.{SwStart}
+use Rattle.plan_tables.specs.declared.entries.Work.{Work, TheVariants.{Nothing, Mode, Game}}
 
 -- no work, or that of the start button
 abbrev pub IsFreeWork : Work → Type 0

@@ -10,39 +10,24 @@
 -- 5. the parts, in the crates below: weights in `cascade_rank`, coils in `coil_guard`, modes in `mode_stack`, devices
 --    in `device_objects`, the ledger in `ball_devices`, the game in `player_game`, switches in `switch_core`, handlers
 --    in `event_queue`.
-use Rattle.std.specs.Prelude.{◌≡◌, ℕ, ◌+◌, ◌<◌, ◌≤◌, false, true, Some, List, ◌∷◌, length}
-use Rattle.plan_tables.specs.PlanView.{PlanView, feeders_of, row_at, switch_at}
-use Rattle.plan_tables.specs.Valid.{IsTargetThere}
-use Rattle.plan_tables.specs.declared.entries.SwitchId.{SwitchId}
-use Rattle.plan_tables.specs.declared.entries.ModeId.{ModeId}
+use Rattle.std.specs.{Prelude.{◌≡◌, ℕ, ◌+◌, ◌<◌, ◌≤◌, false, true, Some, List, ◌∷◌, length}, List.{All, count_by}}
+use Rattle.plan_tables.specs.{PlanView.{PlanView, feeders_of, row_at, switch_at}, Valid.IsTargetThere}
+use Rattle.plan_tables.specs.declared.entries.{SwitchId.SwitchId, ModeId.ModeId, CoilId.CoilId}
 use Rattle.plan_tables.specs.declared.entries.Owner.TheVariants as owners
-use Rattle.plan_tables.specs.declared.devices.RowId.{RowId}
-use Rattle.plan_tables.specs.declared.devices.BallTarget.{BallTarget}
-use Rattle.plan_tables.specs.declared.devices.BallSettings.{BallSettings}
-use Rattle.plan_tables.specs.declared.devices.Settings.TheVariants.{BallDevice}
+use Rattle.plan_tables.specs.declared.devices.{RowId.RowId, BallTarget.BallTarget}
+use Rattle.plan_tables.specs.declared.devices.{BallSettings.BallSettings, Settings.TheVariants.BallDevice}
 use Rattle.ball_devices.specs.Ledger.{IsBalanced, counted_in, transit_to}
-use Rattle.switch_core.specs.SwitchStep.{raw_at_rest}
-use Rattle.switch_core.specs.Switches.{active_at}
-use Rattle.switch_core.specs.AcceptedLevel.{accepted_level}
-use Rattle.switch_core.specs.Calls.{raw_changes}
-use Rattle.cascade_rank.specs.Cost.{price}
-use Rattle.cascade_rank.specs.Events.{weight_of}
+use Rattle.switch_core.specs.{SwitchStep.raw_at_rest, AcceptedLevel.accepted_level}
+use Rattle.switch_core.specs.{Switches.active_at, Calls.raw_changes}
+use Rattle.cascade_rank.specs.{Cost.price, Events.weight_of}
 use Rattle.event_queue.specs.declared.queue.Posted.{Posted}
 use Rattle.written_machine.specs.Machine.{Machine, device_at, is_device_away}
-use Rattle.written_machine.specs.EventStep.{EventStep}
+use Rattle.written_machine.specs.{EventStep.EventStep, StimulusCost.{cost_of_stimulus, weigh}, CheckedView.CheckedView}
 use Rattle.written_machine.specs.Run.{device, source_due, IsNoAlarmDueBy, InEveryRun, InEveryCascade}
-use Rattle.written_machine.specs.StimulusCost.{cost_of_stimulus, weigh}
-use Rattle.written_machine.specs.SwitchCalls.{switch_calls}
-use Rattle.written_machine.specs.Silent.{HasStarted, IsSilent}
-use Rattle.written_machine.specs.Sent.{sendings, AreSkippedIdle}
-use Rattle.written_machine.specs.SwitchLines.{changes_of, LeadTo}
+use Rattle.written_machine.specs.{SwitchCalls.switch_calls, Silent.{HasStarted, IsSilent}}
+use Rattle.written_machine.specs.{Sent.{sendings, AreSkippedIdle}, SwitchLines.{changes_of, LeadTo}}
 use Rattle.written_machine.specs.Counted.{bookings, IsLedgerOf, AreOriginsRight, AreCountsRight, ball_switches, is_counted}
-use Rattle.coil_guard.specs.Limits.{limits_at, IsWithin}
-use Rattle.coil_guard.specs.SentCommands.{is_held_for, IsOnThroughout}
-use Rattle.coil_guard.specs.Asked.{limits_of}
-use Rattle.std.specs.List.{All, count_by}
-use Rattle.plan_tables.specs.declared.entries.CoilId.{CoilId}
-use Rattle.written_machine.specs.CheckedView.{CheckedView}
+use Rattle.coil_guard.specs.{Limits.{limits_at, IsWithin}, SentCommands.{is_held_for, IsOnThroughout}, Asked.limits_of}
 
 -- The cascade of each stimulus ends within the certificate's bound.
 pub record CascadesEnd (c : CheckedView) : Type 0 where

@@ -2,66 +2,42 @@
 use Rattle.std.specs.Prelude.{ℕ, zero, suc, ◌==◌, ℤ, Bool, true, false, not, ◌&&◌, if◌then◌else◌, find, Option, Some, None, List, [], ◌∷◌, ◌++◌, length, map, slice_index_or, slice_set}
 use Rattle.std.specs.List.{range_with_len}
 use Rattle.plan_tables.specs.PlanView.{PlanView, act_of_listener, act_told, actions_at, binding_at, coil_numbers, feeders_of, first_trough, game_event, may_hold_ball_end, home_rows, list_of_row, listeners_of, mode_event, multiball_rows, no_row, posts_of, row_at, rows_of, save_rows, switch_at, target_of}
-use Rattle.plan_tables.specs.declared.entries.EventId.{EventId}
-use Rattle.plan_tables.specs.declared.entries.SwitchId.{SwitchId}
-use Rattle.plan_tables.specs.declared.entries.ListId.{ListId}
-use Rattle.plan_tables.specs.declared.entries.BindingId.{BindingId}
-use Rattle.plan_tables.specs.declared.entries.Owner.{Owner}
+use Rattle.plan_tables.specs.declared.entries.{EventId.EventId, Listener.Listener}
+use Rattle.plan_tables.specs.declared.entries.{SwitchId.SwitchId, BindingId.BindingId}
+use Rattle.plan_tables.specs.declared.entries.{ListId.ListId, CoilId.CoilId, ModeId.ModeId, Binding.Binding}
+use Rattle.plan_tables.specs.declared.entries.{Owner.Owner, Action.Action, VariableId.VariableId}
 use Rattle.plan_tables.specs.declared.entries.Owner.TheVariants as owners
-use Rattle.plan_tables.specs.declared.entries.Action.{Action}
 use Rattle.plan_tables.specs.declared.entries.Action.TheVariants.{Post, Pulse, Enable, Disable, Change as ChangeVariable, Enter, Leave, Lose, Arrive, Request, AddBalls}
-use Rattle.plan_tables.specs.declared.entries.VariableId.{VariableId}
 use Rattle.machine_settings.specs.declared.words.VariableAction.{VariableAction}
-use Rattle.plan_tables.specs.declared.entries.GameEvent.{GameEvent}
-use Rattle.plan_tables.specs.declared.entries.GameEvent.TheVariants.{BallDrain, BallEnded}
+use Rattle.plan_tables.specs.declared.entries.GameEvent.{GameEvent, TheVariants.{BallDrain, BallEnded}}
 use Rattle.player_game.specs.Players.{PlayersState, no_players, is_met, changed_to, after_change as players_after_change, score_of}
 use Rattle.player_game.specs.Choices.{is_drain}
 use Rattle.player_game.specs.GameStep.{GameState, GameStep, no_game, game_step, is_none, is_ball_on, in_play, missing, more_balls, held_if, released, ends_ball}
-use Rattle.plan_tables.specs.declared.entries.CoilId.{CoilId}
-use Rattle.plan_tables.specs.declared.entries.Listener.{Listener}
-use Rattle.plan_tables.specs.declared.entries.Target.{Target}
-use Rattle.plan_tables.specs.declared.entries.Target.TheVariants.{Run, Start, Stop, Act}
-use Rattle.plan_tables.specs.declared.entries.ModeId.{ModeId}
+use Rattle.plan_tables.specs.declared.entries.Target.{Target, TheVariants.{Run, Start, Stop, Act}}
 use Rattle.plan_tables.specs.declared.entries.ModeEvent.TheVariants.{WillStart, Stopping}
-use Rattle.plan_tables.specs.declared.entries.Binding.{Binding}
-use Rattle.plan_tables.specs.declared.devices.RowId.{RowId}
-use Rattle.plan_tables.specs.declared.devices.BallTarget.{BallTarget}
-use Rattle.plan_tables.specs.declared.devices.BallTarget.TheVariants.{Playfield, Device}
-use Rattle.plan_tables.specs.declared.devices.Act.TheVariants.{Save, End}
-use Rattle.plan_tables.specs.declared.devices.Telling.{Telling}
-use Rattle.plan_tables.specs.declared.devices.Telling.TheVariants.{Arrived, Wanted}
-use Rattle.device_objects.specs.declared.device.Call.{Call}
+use Rattle.plan_tables.specs.declared.devices.{RowId.RowId, Act.TheVariants.{Save, End}}
+use Rattle.plan_tables.specs.declared.devices.BallTarget.{BallTarget, TheVariants.{Playfield, Device}}
+use Rattle.plan_tables.specs.declared.devices.Telling.{Telling, TheVariants.{Arrived, Wanted}}
+use Rattle.device_objects.specs.declared.{device.Call.Call, state.{DeviceState.DeviceState, World.World}}
 use Rattle.device_objects.specs.declared.device.Call.TheVariants as calls
-use Rattle.device_objects.specs.declared.state.DeviceState.{DeviceState}
-use Rattle.device_objects.specs.declared.state.World.{World}
 use Rattle.device_objects.specs.declared.state.DeviceState.TheVariants as states
-use Rattle.device_objects.specs.BallDevice.{is_away}
-use Rattle.device_objects.specs.DeviceStep.{device_step, first_state}
-use Rattle.ball_devices.specs.declared.booking.Origin.{Origin}
-use Rattle.ball_devices.specs.declared.booking.Origin.TheVariants.{Awaited, Found, New}
+use Rattle.device_objects.specs.{BallDevice.is_away, DeviceStep.{device_step, first_state}}
+use Rattle.ball_devices.specs.declared.booking.Origin.{Origin, TheVariants.{Awaited, Found, New}}
 use Rattle.ball_devices.specs.Ledger.{Ledger, no_balls, counted_in, all_counted, all_in_transit, origin_of, total}
 use Rattle.ball_devices.specs.Bookings.{LedgerCall, after_call, booked, can_book}
 use Rattle.ball_devices.specs.Bookings as calls_of_ledger
 use Rattle.switch_core.specs.declared.change.Change.{Change}
 use Rattle.switch_core.specs.Switches.{SwitchesView, all_idle, after_change, reported_by_change, accept, reported}
-use Rattle.mode_stack.specs.declared.phase.ModeState.{ModeState}
-use Rattle.mode_stack.specs.declared.phase.StopAnswer.{StopAnswer}
+use Rattle.mode_stack.specs.declared.phase.{ModeState.ModeState, StopAnswer.StopAnswer}
 use Rattle.mode_stack.specs.declared.phase.StopAnswer.TheVariants as answers
-use Rattle.mode_stack.specs.ModeStep.{starts, started, stopped, stop_answer}
-use Rattle.mode_stack.specs.Modes.{needs_game, mode_state}
+use Rattle.mode_stack.specs.{ModeStep.{starts, started, stopped, stop_answer}, Modes.{needs_game, mode_state}}
 use Rattle.mode_stack.specs.Modes as modes
-use Rattle.written_machine.specs.declared.line.BallCounts.{BallCounts}
-use Rattle.written_machine.specs.declared.line.Line.{Line}
-use Rattle.written_machine.specs.declared.line.Happening.{Happening}
+use Rattle.written_machine.specs.declared.line.{BallCounts.BallCounts, Line.Line, Happening.Happening}
 use Rattle.written_machine.specs.declared.line.Happening.TheVariants as lines
 use Rattle.event_queue.specs.declared.queue.Posted.{Posted}
-use Rattle.coil_guard.specs.declared.command.Command.{Command}
+use Rattle.coil_guard.specs.declared.command.{Command.Command, Answer.{Answer, TheVariants.{Sent, Skipped}}}
 use Rattle.coil_guard.specs.declared.command.Command.TheVariants as commands
-use Rattle.coil_guard.specs.declared.command.Answer.{Answer}
-use Rattle.coil_guard.specs.declared.command.Answer.TheVariants.{Sent, Skipped}
-use Rattle.coil_guard.specs.declared.state.CoilState.{CoilState}
-use Rattle.coil_guard.specs.CoilStep.{is_held_by}
-use Rattle.coil_guard.specs.Coils.{all_off, coil_at}
+use Rattle.coil_guard.specs.{declared.state.CoilState.CoilState, CoilStep.is_held_by, Coils.{all_off, coil_at}}
 use Rattle.coil_guard.specs.Asked.{limits_of, after_asking, answer_asking}
 
 pub record Machine : Type 0 where

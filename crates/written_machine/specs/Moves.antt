@@ -1,40 +1,24 @@
 -- What handlers and works do, one change of the machine after another, and which changes are theirs to make.
-use Rattle.std.specs.Prelude.{◌≡◌, ℕ, ℤ, ◌-◌, ◌≤◌, ◌<◌, ◌⊎◌, Option, true, length}
-use Rattle.std.specs.List.{list_any}
+use Rattle.std.specs.{Prelude.{◌≡◌, ℕ, ℤ, ◌-◌, ◌≤◌, ◌<◌, ◌⊎◌, Option, true, length}, List.list_any}
 use Rattle.plan_tables.specs.PlanView.{PlanView, actions_of, is_enable_of, mode_event, row_at, work_of}
-use Rattle.plan_tables.specs.Valid.{HasEntries, IsValid}
-use Rattle.plan_tables.specs.declared.entries.EventId.{EventId}
-use Rattle.plan_tables.specs.declared.entries.Owner.{Owner}
-use Rattle.plan_tables.specs.declared.entries.CoilId.{CoilId}
-use Rattle.plan_tables.specs.declared.entries.SwitchId.{SwitchId}
-use Rattle.plan_tables.specs.declared.entries.ModeId.{ModeId}
-use Rattle.plan_tables.specs.declared.entries.VariableId.{VariableId}
-use Rattle.plan_tables.specs.declared.entries.GameEvent.{GameEvent}
-use Rattle.plan_tables.specs.declared.entries.GameEvent.TheVariants.{BallDrain}
-use Rattle.plan_tables.specs.declared.entries.ModeEvent.TheVariants.{WillStart, Stopping}
+use Rattle.plan_tables.specs.{Valid.{HasEntries, IsValid}, declared.entries.ModeEvent.TheVariants.{WillStart, Stopping}}
+use Rattle.plan_tables.specs.declared.entries.{EventId.EventId, SwitchId.SwitchId, ModeId.ModeId, VariableId.VariableId}
+use Rattle.plan_tables.specs.declared.entries.{Owner.Owner, CoilId.CoilId, Work.TheVariants.{Mode, Game}}
+use Rattle.plan_tables.specs.declared.entries.GameEvent.{GameEvent, TheVariants.BallDrain}
 use Rattle.plan_tables.specs.declared.entries.Owner.TheVariants as owners
-use Rattle.plan_tables.specs.declared.devices.RowId.{RowId}
+use Rattle.plan_tables.specs.declared.{devices.RowId.RowId, entries.Action.TheVariants.{Pulse, Enable, Disable}}
 use Rattle.device_objects.specs.declared.device.Call.{Call}
 use Rattle.ball_devices.specs.Bookings.{LedgerCall}
-use Rattle.mode_stack.specs.declared.phase.ModeState.{ModeState}
-use Rattle.player_game.specs.Players.{after_change}
-use Rattle.player_game.specs.GameStep.{GameStep, game_step, more_balls}
-use Rattle.switch_core.specs.SwitchStep.{SwitchState}
-use Rattle.switch_core.specs.Switches.{set_state}
-use Rattle.written_machine.specs.declared.line.Happening.{Happening}
+use Rattle.mode_stack.specs.{declared.phase.ModeState.ModeState, Modes.running_of}
+use Rattle.player_game.specs.{Players.after_change, GameStep.{GameStep, game_step, more_balls}}
+use Rattle.switch_core.specs.{SwitchStep.SwitchState, Switches.set_state}
+use Rattle.written_machine.specs.{declared.line.Happening.Happening, FreePosts.{PostsAreFree, IsFree}}
 use Rattle.written_machine.specs.declared.line.Happening.TheVariants as lines
 use Rattle.cascade_rank.specs.Cost.{Cost, Lines, Both, price, cost_of_post}
-use Rattle.coil_guard.specs.declared.command.Command.{Command}
+use Rattle.coil_guard.specs.{declared.command.Command.Command, Limits.IsWithin, Asked.limits_of}
 use Rattle.coil_guard.specs.declared.command.Command.TheVariants as commands
-use Rattle.coil_guard.specs.Limits.{IsWithin}
-use Rattle.coil_guard.specs.Asked.{limits_of}
-use Rattle.written_machine.specs.CoilActions.{ActionsKeepLimits}
+use Rattle.written_machine.specs.{CoilActions.ActionsKeepLimits, Devices.ActsAreOwn}
 use Rattle.written_machine.specs.Machine.{ask_coil, told, Machine, write, post, set_switches, set_mode, set_device, set_players, set_game, book, home_of, start_mode, stop_mode, drop_hold, called}
-use Rattle.written_machine.specs.Devices.{ActsAreOwn}
-use Rattle.written_machine.specs.FreePosts.{PostsAreFree, IsFree}
-use Rattle.plan_tables.specs.declared.entries.Work.TheVariants.{Mode, Game}
-use Rattle.plan_tables.specs.declared.entries.Action.TheVariants.{Pulse, Enable, Disable}
-use Rattle.mode_stack.specs.Modes.{running_of}
 use Rattle.event_queue.specs.Handlers.{takes_part, handlers}
 use Rattle.written_machine.specs.Run.{switch, device, Stimulus, SwitchChange, Alarm, Wait}
 

@@ -5,8 +5,7 @@ use Rattle.plan_tables.specs.PlanView.{PlanView}
 use Rattle.switch_core.specs.Switches.{next_due}
 use Rattle.device_objects.specs.DeviceStep as devices
 use Rattle.event_queue.specs.Alarms.{least_of}
-use Rattle.written_machine.specs.Machine.{Machine}
-use Rattle.written_machine.specs.Run.{Source, switch, device}
+use Rattle.written_machine.specs.{Machine.Machine, Run.{Source, switch, device}}
 
 -- the next alarm of a switch, and of a device: its moment, and its source
 abbrev pub next_of_switches : Machine → Option (ℕ × Source)

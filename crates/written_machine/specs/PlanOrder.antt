@@ -1,11 +1,9 @@
 -- The event steps that the controller takes: each event's handlers run in plan order.
 use Rattle.std.specs.Prelude.{ℕ, zero, suc, List, [], ◌∷◌}
 use Rattle.plan_tables.specs.PlanView.{PlanView}
-use Rattle.event_queue.specs.declared.queue.Posted.{Posted}
-use Rattle.event_queue.specs.PlanOrder.{by_priority}
-use Rattle.written_machine.specs.Machine.{Machine}
+use Rattle.event_queue.specs.{declared.queue.Posted.Posted, PlanOrder.by_priority}
+use Rattle.written_machine.specs.{Machine.Machine, Run.{Stimulus, begin}}
 use Rattle.written_machine.specs.EventStep.{before_handlers, handlers_in, after_event}
-use Rattle.written_machine.specs.Run.{Stimulus, begin}
 
 -- the event step in plan order; nothing where no event waits
 abbrev pub plan_step_from : PlanView → List Posted → Machine → Machine

@@ -1,14 +1,11 @@
 -- Stimuli, and runs of the machine.
 use Rattle.std.specs.Prelude.{◌≡◌, ℕ, ◌<◌, ◌≤◌, ◌^◌, ◌⊎◌, Bool, Option, Some, List, [], ◌∷◌, ◌++◌, length}
-use Rattle.plan_tables.specs.PlanView.{PlanView}
-use Rattle.plan_tables.specs.declared.entries.SwitchId.{SwitchId}
-use Rattle.plan_tables.specs.declared.devices.RowId.{RowId}
+use Rattle.plan_tables.specs.{PlanView.PlanView, declared.{entries.SwitchId.SwitchId, devices.RowId.RowId}}
 use Rattle.switch_core.specs.Switches.{due_of}
 use Rattle.device_objects.specs.declared.device.Call.TheVariants as calls
 use Rattle.device_objects.specs.DeviceStep as devices
-use Rattle.written_machine.specs.declared.line.Line.{Line}
+use Rattle.written_machine.specs.{declared.line.Line.Line, EventStep.EventSteps}
 use Rattle.written_machine.specs.Machine.{Machine, initial, call_device, change_switch, device_at, fire_switch}
-use Rattle.written_machine.specs.EventStep.{EventSteps}
 
 -- ---- what can be due
 

@@ -1,10 +1,7 @@
 -- A mode that is stopped is silent.
-use Rattle.std.specs.Prelude.{◌≡◌, ◌<◌, List, ◌∷◌, ◌++◌, length}
-use Rattle.std.specs.List.{All}
+use Rattle.std.specs.{Prelude.{◌≡◌, ◌<◌, List, ◌∷◌, ◌++◌, length}, List.All}
 use Rattle.plan_tables.specs.PlanView.{PlanView, mode_event}
-use Rattle.plan_tables.specs.declared.entries.ModeId.{ModeId}
-use Rattle.plan_tables.specs.declared.entries.ModeEvent.{ModeEvent}
-use Rattle.plan_tables.specs.declared.entries.ModeEvent.TheVariants.{Started, Stopped}
+use Rattle.plan_tables.specs.declared.entries.{ModeId.ModeId, ModeEvent.{ModeEvent, TheVariants.{Started, Stopped}}}
 use Rattle.plan_tables.specs.declared.entries.Owner.TheVariants as owners
 use Rattle.written_machine.specs.declared.line.Line.{Line}
 use Rattle.written_machine.specs.declared.line.Happening.TheVariants as lines

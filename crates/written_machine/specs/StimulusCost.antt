@@ -1,14 +1,11 @@
 -- What a stimulus costs, and what the events weigh that wait.
 use Rattle.std.specs.Prelude.{ℕ, ◌+◌, Option, Some, None, List, [], ◌∷◌}
-use Rattle.plan_tables.specs.PlanView.{PlanView}
-use Rattle.plan_tables.specs.declared.entries.EventId.{EventId}
+use Rattle.plan_tables.specs.{PlanView.PlanView, declared.entries.EventId.EventId}
 use Rattle.device_objects.specs.declared.device.Call.TheVariants as calls
-use Rattle.switch_core.specs.declared.change.Change.{Change}
-use Rattle.switch_core.specs.Switches.{accept, reported, reported_by_change}
+use Rattle.switch_core.specs.{declared.change.Change.Change, Switches.{accept, reported, reported_by_change}}
 use Rattle.cascade_rank.specs.Cost.{Cost, Lines, cost_of_acceptance, cost_of_call}
 use Rattle.event_queue.specs.declared.queue.Posted.{Posted}
-use Rattle.written_machine.specs.Machine.{Machine}
-use Rattle.written_machine.specs.Run.{Source, switch, device, Stimulus, SwitchChange, Alarm, Wait}
+use Rattle.written_machine.specs.{Machine.Machine, Run.{Source, switch, device, Stimulus, SwitchChange, Alarm, Wait}}
 
 -- what the acceptance of a switch costs, if there is one
 abbrev pub cost_if_accepted : PlanView → Option Change → Cost

@@ -1,9 +1,7 @@
 -- What a trace says of switches: when each was accepted as active or inactive.
-use Rattle.std.specs.Prelude.{◌≡◌, ℕ, ◌==◌, Bool, not, if◌then◌else◌, List, [], ◌∷◌}
-use Rattle.std.specs.List.{flat_map}
+use Rattle.std.specs.{Prelude.{◌≡◌, ℕ, ◌==◌, Bool, not, if◌then◌else◌, List, [], ◌∷◌}, List.flat_map}
 use Rattle.plan_tables.specs.declared.entries.SwitchId.{SwitchId}
-use Rattle.written_machine.specs.declared.line.Line.{Line}
-use Rattle.written_machine.specs.declared.line.Happening.{Happening}
+use Rattle.written_machine.specs.declared.line.{Line.Line, Happening.Happening}
 use Rattle.written_machine.specs.declared.line.Happening.TheVariants as lines
 
 -- that a switch was accepted as active or inactive, and when

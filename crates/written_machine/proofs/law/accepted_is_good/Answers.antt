@@ -1,6 +1,4 @@
-use Rattle.written_machine.proofs.Cascade.{verified-cascades_end}
-use Rattle.written_machine.proofs.Good.{every_run_is_good}
-use Rattle.written_machine.proofs.Levels.{levels-run}
+use Rattle.written_machine.proofs.{Cascade.verified-cascades_end, Good.every_run_is_good, Levels.levels-run}
 use Rattle.written_machine.proofs.law.accepted_is_good.Goals as goal
 
 pub returns : goal.returns

@@ -1,6 +1,5 @@
-use Rattle.written_machine.specs.Machine.{initial}
+use Rattle.written_machine.{specs.Machine.initial, proofs.AlarmsEnd.alarms_end}
 use Rattle.written_machine.proofs.Alarms.{arms_later, alarm-done, has_states-run, has_states-initial}
-use Rattle.written_machine.proofs.AlarmsEnd.{alarms_end}
 use Rattle.written_machine.proofs.law.alarms_end.Goals as goal
 
 pub returns-clause-arms_later : goal.returns-clause-arms_later
