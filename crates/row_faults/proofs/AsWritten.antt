@@ -1,15 +1,12 @@
 -- What settings have, in the order in which they are written.
 use Rattle.std.proofs.Common.{◌≡◌, ◌==◌, ℕ, true, List, length, [], ◌∷◌, ◌++◌, map, codes, refl, ap, sym, ◌∙◌, arith}
-use Rattle.std.specs.List.{All, flat_map}
-use Rattle.std.proofs.lemmas.Bool.{eqb-true}
+use Rattle.std.{specs.List.{All, flat_map}, proofs.lemmas.Bool.eqb-true}
 use Rattle.section_tables.specs.Kinds.{Setting}
 use Rattle.mpf_tables.specs.SectionTables as tables
-use Rattle.mpf_sections.specs.Rows.{Written, Switch, BlockEvents, Counter, StepBlock}
-use Rattle.mpf_sections.specs.Typed.{place_of}
+use Rattle.mpf_sections.specs.{Rows.{Written, Switch, BlockEvents, Counter, StepBlock}, Typed.place_of}
 use Rattle.row_faults.specs.AsWritten.{put_by, ordered_by, written_before, in_order, as_written}
 use Rattle.row_faults.specs.Reserved.{switch_posts, block_posts, counter_posts, step_posts}
-use Rattle.row_faults.proofs.None.{flat_map-none, each-All, map-All}
-use Rattle.row_faults.proofs.ByLine.{ordered-all, ordered-seen}
+use Rattle.row_faults.proofs.{None.{flat_map-none, each-All, map-All}, ByLine.{ordered-all, ordered-seen}}
 
 -- what is of each item of what settings have is of all that each has
 module _ {X : Type 0} (table : List Setting) (order : List ℕ) (parts : List (List ℕ × List X)) where

@@ -1,35 +1,14 @@
 -- What a stable sort by number makes of a list.
-use Rattle.std.proofs.Common.{◌≡◌, ℕ, ◌<◌, ◌≤◌, nat_lt, ◌==◌, if◌then◌else◌, Bool, true, false, cond, not, ◌&&◌, List, [], ◌∷◌, filter, map, length, suc, refl, sym, ap, ◌∙◌, inl, inr, arith, true≢false}
-use Rattle.std.specs.List.{All, AllAdjacentBelow}
-use Rattle.std.specs.List.Sorted.{IsSortedByKey, IsStableByKey, IsNonDecreasingBy, ties}
-use Rattle.std.specs.Ordering.{is_lt, is_le, nat_cmp}
-use Rattle.std.specs.declared.cmp.Ordering.TheVariants.{Less, Equal, Greater}
-use Rattle.std.proofs.lemmas.Bool.{cases_lt, le-ltb, lt-ltb, ne_eqb, cases_Bool}
+use Rattle.std.proofs.Common.{rules, ◌≡◌, ℕ, ◌<◌, ◌≤◌, nat_lt, Bool, true, false, List, [], ◌∷◌, filter, map, length, suc, refl, sym, ap, ◌∙◌, inl, inr, arith}
+use Rattle.std.specs.List.{All, AllAdjacentBelow, Sorted.{IsSortedByKey, IsStableByKey, IsNonDecreasingBy, ties}}
+use Rattle.std.{specs.Ordering.{is_lt, is_le, nat_cmp}, proofs.lemmas.Bool.{cases_lt, le-ltb, lt-ltb}}
 use Rattle.std.proofs.lemmas.List.Elements.{All-nil, All-cons, All-head, All-tail, All-weaker}
 use Rattle.std.proofs.lemmas.List.Sorted.{IsNonDecreasingBy-from_sort, IsNonDecreasingBy-from_all_adjacent}
 use Rattle.row_faults.specs.AsWritten.{put_by, ordered_by}
 
-less-is : (less same : Bool) → is_lt (cond less Less (cond same Equal Greater)) ≡ less
-less-is true same = refl
-less-is false true = refl
-less-is false false = refl
-
-nat_cmp-less : (x y : ℕ) → is_lt (nat_cmp x y) ≡ nat_lt x y
-nat_cmp-less x y = less-is (nat_lt x y) (x == y)
-
-above-not : (x y : ℕ) → y < x → is_le (nat_cmp x y) ≡ false
-above-not x y above =
-    let not_less : nat_lt x y ≡ false = le-ltb x y (omega (arith, above)) in
-    let not_same : (x == y) ≡ false = ne_eqb x y (λ same. omega (arith, above, same)) in
-    rw (not_less, not_same) refl
-
 -- what is compared as at most another number is at most that
 pub at-most : (x y : ℕ) → is_le (nat_cmp x y) ≡ true → x ≤ y
-at-most x y e =
-    elim (cases_lt y x) [
-      | inl above ↦ absurd (true≢false (sym e ∙ above-not x y above))
-      | inr at ↦ at
-    ]
+at-most x y e = search rules
 
 module _ {X : Type 0} where
   apart : (x : X) (xs : List X) → [] ≡ x ∷ xs → ⊥
@@ -55,18 +34,10 @@ module _ {X : Type 0} where
   same_kept p x xs ys e = rw e refl
 
   same_rest : (p : X → Bool) (x : X) (xs ys : List X) → filter p (x ∷ xs) ≡ filter p (x ∷ ys) → filter p xs ≡ filter p ys
-  same_rest p x xs ys e =
-      elim (cases_Bool (p x)) [
-        | inl holds ↦ tails x x (filter p xs) (filter p ys) (sym (kept p x xs holds) ∙ e ∙ kept p x ys holds)
-        | inr fails ↦ sym (dropped p x xs fails) ∙ e ∙ dropped p x ys fails
-      ]
+  same_rest p x xs ys e = search rules
 
   swapped : (p : X → Bool) (x y : X) (xs : List X) → (p x ≡ true → p y ≡ false) → filter p (y ∷ x ∷ xs) ≡ filter p (x ∷ y ∷ xs)
-  swapped p x y xs h =
-      elim (cases_Bool (p x)) [
-        | inl holds ↦ dropped p y (x ∷ xs) (h holds) ∙ kept p x xs holds ∙ sym (kept p x (y ∷ xs) holds ∙ ap (λ (zs : List X). x ∷ zs) (dropped p y xs (h holds)))
-        | inr fails ↦ same_kept p y (x ∷ xs) xs (dropped p x xs fails) ∙ sym (dropped p x (y ∷ xs) fails)
-      ]
+  swapped p x y xs h = search rules
 
   module _ (number : X → ℕ) where
     -- x is before y
@@ -79,38 +50,17 @@ module _ {X : Type 0} where
     Ascends (x ∷ xs) = All (λ y. number x ≤ number y) xs × Ascends xs
 
     tied-from : (x y : X) → number x ≡ number y → ties lower x y ≡ true
-    tied-from x y same =
-        let left : lower x y ≡ false = nat_cmp-less (number x) (number y) ∙ le-ltb (number x) (number y) (omega arith) in
-        let right : lower y x ≡ false = nat_cmp-less (number y) (number x) ∙ le-ltb (number y) (number x) (omega arith) in
-        λ i. not (left i) && not (right i)
-
-    above-apart : (x y : X) → number x < number y → ties lower x y ≡ false
-    above-apart x y less = ap (λ (b : Bool). not b && not (lower y x)) (nat_cmp-less (number x) (number y) ∙ lt-ltb (number x) (number y) less)
+    tied-from x y same = search rules
 
     below-apart : (x y : X) → number y < number x → ties lower x y ≡ false
-    below-apart x y less =
-        let left : lower x y ≡ false = nat_cmp-less (number x) (number y) ∙ le-ltb (number x) (number y) (omega arith) in
-        let right : lower y x ≡ true = nat_cmp-less (number y) (number x) ∙ lt-ltb (number y) (number x) less in
-        λ i. not (left i) && not (right i)
+    below-apart x y less = search rules
 
     tied-same : (x y : X) → ties lower x y ≡ true → number x ≡ number y
-    tied-same x y e =
-        elim (cases_lt (number x) (number y)) [
-          | inl less ↦ absurd (true≢false (sym e ∙ above-apart x y less))
-          | inr reached ↦
-              elim (cases_lt (number y) (number x)) [
-                | inl less ↦ absurd (true≢false (sym e ∙ below-apart x y less))
-                | inr other ↦ omega arith
-              ]
-        ]
+    tied-same x y e = search rules
 
     -- a list that begins with a lower number has others of that number
     begins-lower : (y z : X) (ys zs : List X) → All (λ w. number z ≤ number w) zs → number y < number z → filter (ties lower y) (y ∷ ys) ≡ filter (ties lower y) (z ∷ zs) → ⊥
-    begins-lower y z ys zs above less e =
-        let none : filter (ties lower y) (z ∷ zs) ≡ [] =
-        none_kept (ties lower y) (z ∷ zs)
-        (All-cons (λ w. ties lower y w ≡ false) z zs (above-apart y z less) (All-weaker (λ w. number z ≤ number w) (λ w. ties lower y w ≡ false) (λ w le. above-apart y w (omega (arith, less, le))) zs above)) in
-        apart y (filter (ties lower y) ys) (sym none ∙ sym e ∙ kept (ties lower y) y ys (tied-from y y refl))
+    begins-lower y z ys zs above less e = search (rules, none_kept, All-cons, rules, lt-ltb, All-weaker, apart, kept, tied-from)
 
     -- two lists that ascend, and in which equal numbers come in one order
     pub ascends-only : (ys zs : List X) → Ascends ys → Ascends zs → ((x : X) → filter (ties lower x) ys ≡ filter (ties lower x) zs) → ys ≡ zs
@@ -143,11 +93,7 @@ module _ {X : Type 0} where
 
     put-all : (P : X → Type 0) (x : X) (ys : List X) → P x → All P ys → All P (put_by number x ys)
     put-all P x [] p all = All-cons P x [] p (All-nil P)
-    put-all P x (y ∷ ys) p all =
-        elim (cases_lt (number y) (number x)) [
-          | inl less ↦ rw (put-later x y ys less) (All-cons P y (put_by number x ys) (All-head P y ys all) (put-all P x ys p (All-tail P y ys all)))
-          | inr le ↦ rw (put-here x y ys le) (All-cons P x (y ∷ ys) p all)
-        ]
+    put-all P x (y ∷ ys) p all = search (rules, cases_lt, put-later, All-cons, All-head, All-tail, put-here, put-all P x ys p (All-tail P y ys all))
 
     put-ascends : (x : X) (ys : List X) → Ascends ys → Ascends (put_by number x ys)
     put-ascends x [] a = (All-nil (λ y. number x ≤ number y), tt)
@@ -161,14 +107,7 @@ module _ {X : Type 0} where
 
     put-kept : (w x : X) (ys : List X) → filter (ties lower w) (put_by number x ys) ≡ filter (ties lower w) (x ∷ ys)
     put-kept w x [] = refl
-    put-kept w x (y ∷ ys) =
-        elim (cases_lt (number y) (number x)) [
-          | inl less ↦
-              ap (filter (ties lower w)) (put-later x y ys less)
-              ∙ same_kept (ties lower w) y (put_by number x ys) (x ∷ ys) (put-kept w x ys)
-              ∙ swapped (ties lower w) x y ys (λ yes. let same = tied-same w x yes in below-apart w y (omega (arith, same, less)))
-          | inr le ↦ ap (filter (ties lower w)) (put-here x y ys le)
-        ]
+    put-kept w x (y ∷ ys) = search (rules, cases_lt, put-later, same_kept, swapped, tied-same, below-apart, put-here, put-kept w x ys)
 
     ordered-ascends : (xs : List X) → Ascends (ordered_by number xs)
     ordered-ascends [] = tt
@@ -184,13 +123,11 @@ module _ {X : Type 0} where
 
     -- what a stable sort gives
     pub sorted-is : (xs ys : List X) → IsSortedByKey number nat_cmp ys → IsStableByKey number nat_cmp xs ys → ys ≡ ordered_by number xs
-    sorted-is xs ys sorted stable =
-        ascends-only ys (ordered_by number xs) (ascends-from ys (IsNonDecreasingBy-from_sort number ys sorted)) (ordered-ascends xs) (λ x. stable x ∙ sym (ordered-kept x xs))
+    sorted-is xs ys sorted stable = search (rules, ascends-only, ascends-from, IsNonDecreasingBy-from_sort, ordered-ascends, ordered-kept)
 
     -- a list in order stays as it is
     pub in-order : (xs : List X) → AllAdjacentBelow (λ x y. number x ≤ number y) xs (length xs) → xs ≡ ordered_by number xs
-    in-order xs adjacent =
-        ascends-only xs (ordered_by number xs) (ascends-from xs (IsNonDecreasingBy-from_all_adjacent number xs adjacent)) (ordered-ascends xs) (λ x. sym (ordered-kept x xs))
+    in-order xs adjacent = search (rules, ascends-only, ascends-from, IsNonDecreasingBy-from_all_adjacent, ordered-ascends, ordered-kept)
 
     -- each item of an ordered list is one of the list
     pub ordered-all : (P : X → Type 0) (xs : List X) → All P (ordered_by number xs) → All P xs
@@ -217,12 +154,7 @@ module _ {X : Type 0} where
 module _ {X Y : Type 0} (view : X → Y) (number : Y → ℕ) where
   put-seen : (x : X) (ys : List X) → map view (put_by (λ z. number (view z)) x ys) ≡ put_by number (view x) (map view ys)
   put-seen x [] = refl
-  put-seen x (y ∷ ys) = by (nat_lt (number (view y)) (number (view x))) (put-seen x ys)
-    where
-      by : (b : Bool) → map view (put_by (λ z. number (view z)) x ys) ≡ put_by number (view x) (map view ys)
-          → map view (if b then y ∷ put_by (λ z. number (view z)) x ys else x ∷ y ∷ ys) ≡ (if b then view y ∷ put_by number (view x) (map view ys) else view x ∷ view y ∷ map view ys)
-      by true rest = ap (λ (zs : List Y). view y ∷ zs) rest
-      by false rest = refl
+  put-seen x (y ∷ ys) = search (rules, nat_lt, put-seen x ys)
 
   pub ordered-seen : (xs : List X) → map view (ordered_by (λ z. number (view z)) xs) ≡ ordered_by number (map view xs)
   ordered-seen [] = refl

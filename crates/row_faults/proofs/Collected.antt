@@ -1,33 +1,22 @@
 -- What was found, and what is found after it.
-use Rattle.std.proofs.Common.{◌≡◌, ℕ, Bool, true, false, List, [], ◌++◌, map, refl, append_assoc, sym, ap, ◌∙◌}
+use Rattle.std.proofs.Common.{rules, ◌≡◌, ℕ, Bool, List, [], ◌++◌, map, append_assoc, ap}
 use Rattle.std.proofs.lemmas.List.{append-nil, map-append}
 use Rattle.mpf_sections.specs.Rows.{Written}
-use Rattle.row_faults.specs.declared.fault.RowFaultKind.TheVariants.{Name}
-use Rattle.row_faults.specs.CoilFaults.{fault_if}
-use Rattle.row_faults.specs.FaultView.{RowFaultView}
-use Rattle.row_faults.specs.Collected.{FaultsView, with_faults, group_faults}
-use Rattle.row_faults.specs.RowFaults.{name_fault}
-use Rattle.row_faults.specs.ShotFaults.{Listed, taken_after, kept_if, misplaced}
-use Rattle.row_faults.proofs.Listed.{misplaced-append}
+use Rattle.row_faults.specs.{declared.fault.RowFaultKind.TheVariants.Name, ShotFaults.{Listed, taken_after, kept_if}}
+use Rattle.row_faults.specs.{CoilFaults.fault_if, FaultView.RowFaultView, RowFaults.name_fault}
+use Rattle.row_faults.{specs.Collected.{FaultsView, with_faults, group_faults}, proofs.Listed.misplaced-append}
 
 pub with-none : (f : FaultsView) → with_faults f [] ≡ f
 with-none f = ap (λ (fs : List RowFaultView). record { rows = f.rows; modes = f.modes; text = f.text; found = fs }) (append-nil f.found)
 
 pub with-more : (f : FaultsView) (first more : List RowFaultView) → with_faults (with_faults f first) more ≡ with_faults f (first ++ more)
-with-more f first more =
-    ap (λ (fs : List RowFaultView). record { rows = f.rows; modes = f.modes; text = f.text; found = fs }) (append_assoc f.found first more)
+with-more f first more = search (rules, append_assoc)
 
 -- the faults of what groups list, after some of it was listed
 pub group-more : (f g : FaultsView) (is_own is_taken others : List ℕ → Bool) (ls ms : List Listed) → g ≡ with_faults f (group_faults f is_own is_taken ls) → others ≡ taken_after is_taken ls
     → with_faults g (group_faults g is_own others ms) ≡ with_faults f (group_faults f is_own is_taken (ls ++ ms))
-group-more f g is_own is_taken others ls ms is taken =
-    ap (λ (h : FaultsView). with_faults h (group_faults h is_own others ms)) is
-    ∙ with-more f (group_faults f is_own is_taken ls) (group_faults f is_own others ms)
-    ∙ ap (λ (test : List ℕ → Bool). with_faults f (group_faults f is_own is_taken ls ++ group_faults f is_own test ms)) taken
-    ∙ ap (with_faults f) (sym (map-append (name_fault f.text) (misplaced f.rows is_own is_taken ls) (misplaced f.rows is_own (taken_after is_taken ls) ms)))
-    ∙ ap (λ ws. with_faults f (map (name_fault f.text) ws)) (sym (misplaced-append f.rows is_own is_taken ls ms))
+group-more f g is_own is_taken others ls ms is taken = search (rules, with-more, map-append, misplaced-append)
 
 -- a fault where something is wrong with a name, as one of the names with which something is wrong
 pub fault-kept : (wrong : Bool) (text : List ℕ) (w : Written) → fault_if wrong Name text w ≡ map (name_fault text) (kept_if wrong w [])
-fault-kept true text w = refl
-fault-kept false text w = refl
+fault-kept x1 text w = search rules

@@ -1,17 +1,12 @@
 -- Ball devices by their places lead where they do by their names.
-use Rattle.std.proofs.Common.{◌≡◌, ◌⊎◌, ℕ, zero, suc, ◌+◌, ◌<◌, ◌==◌, Bool, true, false, cond, ◌||◌, List, length, map, get_or, Option, Some, None, IfSome, unwrap_or, option_map, refl, ap, ◌∙◌, inl, inr, arith}
-use Rattle.std.specs.List.{slice_get}
-use Rattle.std.specs.Str.{bytes_eq}
-use Rattle.std.proofs.lemmas.Bool.{eq-eqb, ne_eqb}
-use Rattle.std.proofs.lemmas.List.{length-map}
+use Rattle.std.proofs.Common.{rules, ◌≡◌, ◌⊎◌, ℕ, zero, suc, ◌+◌, ◌<◌, ◌==◌, Bool, true, false, cond, ◌||◌, List, length, map, get_or, Option, Some, None, IfSome, unwrap_or, option_map, refl, ap, ◌∙◌, inl, inr, arith}
+use Rattle.std.specs.{List.slice_get, Str.bytes_eq}
+use Rattle.std.proofs.lemmas.{Bool.{eq-eqb, ne_eqb}, List.length-map, Simd.map-map}
 use Rattle.std.proofs.lemmas.Option.{slice_get-map, slice_get_cases, get_or_from_slice_get}
-use Rattle.std.proofs.lemmas.Simd.{map-map}
-use Rattle.mpf_sections.specs.Rows.{BallDevice}
+use Rattle.mpf_sections.specs.{Rows.BallDevice, TypedBalls.playfield}
 use Rattle.machine_definitions.specs.Definitions.{ball_device_among}
-use Rattle.mpf_sections.specs.TypedBalls.{playfield}
 use Rattle.row_faults.specs.Routes.{target_leads, leads_by, leads_to_playfield}
-use Rattle.row_faults.specs.Numbers.{device_at, IsNumbered, number_of, after}
-use Rattle.row_faults.proofs.Numbers.{after-beyond}
+use Rattle.row_faults.{specs.Numbers.{device_at, IsNumbered, number_of, after}, proofs.Numbers.after-beyond}
 
 module _ (devices : List BallDevice) (found : List ℕ → Option ℕ) (h : IsNumbered devices found) where
   abbrev count : ℕ
@@ -25,8 +20,7 @@ module _ (devices : List BallDevice) (found : List ℕ → Option ℕ) (h : IsNu
 
   -- beyond the places nothing moves
   stays : (k n : ℕ) → n ≡ count ⊎ n ≡ count + 1 → after targets k n ≡ n
-  stays k n (inl e) = after-beyond targets k n (omega (arith, e, length-map devices (λ (d : BallDevice). number d.target.text)))
-  stays k n (inr e) = after-beyond targets k n (omega (arith, e, length-map devices (λ (d : BallDevice). number d.target.text)))
+  stays k n x3 = search (rules, after-beyond, length-map)
 
   apart : (n : ℕ) → n < count → (n == count) ≡ false
   apart n less = ne_eqb n count (λ e. omega (arith, less, e))
@@ -35,20 +29,14 @@ module _ (devices : List BallDevice) (found : List ℕ → Option ℕ) (h : IsNu
   beyond = ne_eqb (count + 1) count (λ e. omega (arith, e))
 
   at_first : (b : Bool) (o : Option ℕ) → IfSome o (λ n. n < count) → (cond b count (unwrap_or o (count + 1)) == count) ≡ b
-  at_first true o within = eq-eqb count count refl
-  at_first false (Some n) within = apart n within
-  at_first false None within = beyond
+  at_first x1 x2 within = search rules
 
   -- a place moves to its target
   moves : (n : ℕ) (d : BallDevice) → slice_get devices n ≡ Some d → get_or targets n n ≡ number d.target.text
   moves n d is = get_or_from_slice_get targets n (number d.target.text) n (slice_get-map (λ (d : BallDevice). number d.target.text) devices n ∙ ap (option_map (λ (d : BallDevice). number d.target.text)) is)
 
   there : (n : ℕ) → n < count → slice_get devices n ≡ None → ⊥
-  there n less none =
-      elim (slice_get_cases devices n).1 [
-        | inl found ↦ let other = found.2 in cc
-        | inr past ↦ let le = past.0 in omega (arith, less, le)
-      ]
+  there n less none = search (rules, slice_get_cases)
 
   at_next : (k : ℕ) → ((name : List ℕ) → (after targets k (number name) == count) ≡ leads_by devices k name) → (b : Bool) (o : Option ℕ) (e : Option BallDevice) → IfSome o (λ n. n < count) → device_at devices o ≡ e
       → (after targets (suc k) (cond b count (unwrap_or o (count + 1))) == count) ≡ (b || target_leads (leads_by devices k) e)
@@ -62,15 +50,6 @@ module _ (devices : List BallDevice) (found : List ℕ → Option ℕ) (h : IsNu
   leads-same zero name = at_first (bytes_eq name playfield) (found name) (h.within name)
   leads-same (suc k) name = at_next k (leads-same k) (bytes_eq name playfield) (found name) (ball_device_among devices name) (h.within name) (h.called name)
 
-  leads-are : map (λ (n : ℕ). n == count) (map (after targets count) targets) ≡ map (leads_to_playfield devices) devices
-  leads-are =
-      map-map (λ (n : ℕ). n == count) (after targets count) targets
-      ∙ map-map (λ (n : ℕ). after targets count n == count) (λ (d : BallDevice). number d.target.text) devices
-      ∙ (λ i. map (λ (d : BallDevice). leads-same count d.target.text i) devices)
-
   -- which ball devices lead to the playfield
   pub leads-by-ends : (places ends : List ℕ) (times : ℕ) → places ≡ targets → times ≡ count → ends ≡ map (after places times) places → map (λ (n : ℕ). n == length ends) ends ≡ map (leads_to_playfield devices) devices
-  leads-by-ends places ends times same all e =
-      let is : ends ≡ map (after targets count) targets = e ∙ (λ i. map (after (same i) (all i)) (same i)) in
-      let long : length ends ≡ count = ap length is ∙ length-map targets (after targets count) ∙ length-map devices (λ (d : BallDevice). number d.target.text) in
-      ap (λ (k : ℕ). map (λ (n : ℕ). n == k) ends) long ∙ ap (map (λ (n : ℕ). n == count)) is ∙ leads-are
+  leads-by-ends places ends times same all e = search (rules, length-map, rules, map-map, leads-same)

@@ -1,12 +1,11 @@
 -- What groups list, name by name.
-use Rattle.std.proofs.Common.{◌≡◌, ℕ, Bool, true, false, List, [], ◌∷◌, ◌++◌, refl, sym, ap, ◌∙◌}
+use Rattle.std.proofs.Common.{rules, ◌≡◌, ℕ, Bool, List, [], ◌∷◌, ◌++◌, refl, sym, ap, ◌∙◌}
 use Rattle.mpf_sections.specs.Rows.{Written}
 use Rattle.mpf_config.specs.Rows.{Rows}
-use Rattle.row_faults.specs.ShotFaults.{Listed, taken_with, taken_after, kept_if, is_misplaced, misplaced}
+use Rattle.row_faults.specs.ShotFaults.{Listed, taken_with, taken_after, kept_if, misplaced}
 
 kept-append : (b : Bool) (w : Written) (ws others : List Written) → kept_if b w (ws ++ others) ≡ kept_if b w ws ++ others
-kept-append true w ws others = refl
-kept-append false w ws others = refl
+kept-append x1 w ws others = search rules
 
 -- names of two lists are taken one after the other
 pub taken-append : (is_taken : List ℕ → Bool) (ls ms : List Listed) → taken_after is_taken (ls ++ ms) ≡ taken_after (taken_after is_taken ls) ms
@@ -16,9 +15,7 @@ taken-append is_taken (l ∷ ls) ms = taken-append (taken_with l is_taken) ls ms
 module _ (rows : Rows) (is_own : List ℕ → Bool) where
   pub misplaced-append : (is_taken : List ℕ → Bool) (ls ms : List Listed) → misplaced rows is_own is_taken (ls ++ ms) ≡ misplaced rows is_own is_taken ls ++ misplaced rows is_own (taken_after is_taken ls) ms
   misplaced-append is_taken [] ms = refl
-  misplaced-append is_taken (l ∷ ls) ms =
-      ap (kept_if (is_misplaced rows is_own is_taken l) l.shot) (misplaced-append (taken_with l is_taken) ls ms)
-      ∙ kept-append (is_misplaced rows is_own is_taken l) l.shot (misplaced rows is_own (taken_with l is_taken) ls) (misplaced rows is_own (taken_after (taken_with l is_taken) ls) ms)
+  misplaced-append is_taken (l ∷ ls) ms = search (rules, kept-append, misplaced-append (taken_with l is_taken) ls ms)
 
 -- the same of the names that are taken
 pub taken-more : (is_taken others : List ℕ → Bool) (ls ms : List Listed) → others ≡ taken_after is_taken ls → taken_after others ms ≡ taken_after is_taken (ls ++ ms)

@@ -1,26 +1,20 @@
 -- Lists without items, and the faults that they are made of.
-use Rattle.std.proofs.Common.{◌≡◌, ℕ, nat_lt, Bool, true, false, ◌||◌, if◌then◌else◌, List, [], ◌∷◌, ◌++◌, map, refl, sym, ◌∙◌, inl, inr}
+use Rattle.std.proofs.Common.{rules, ◌≡◌, ℕ, nat_lt, Bool, true, false, ◌||◌, if◌then◌else◌, List, [], ◌∷◌, ◌++◌, map, refl, sym, ◌∙◌, inl, inr}
 use Rattle.std.specs.List.{All, filter, flat_map}
-use Rattle.std.proofs.lemmas.Bool.{cases_Bool}
-use Rattle.std.proofs.lemmas.List.Elements.{All-nil, All-cons, All-head, All-tail, All-append}
+use Rattle.std.proofs.lemmas.{Bool.cases_Bool, List.Elements.{All-nil, All-cons, All-head, All-tail, All-append}}
 use Rattle.mpf_sections.specs.Rows.{Written}
-use Rattle.row_faults.specs.declared.fault.RowFaultKind.{RowFaultKind}
-use Rattle.row_faults.specs.FaultView.{RowFaultView}
-use Rattle.row_faults.specs.CoilFaults.{fault_at, fault_if}
-use Rattle.row_faults.specs.AsWritten.{put_by, ordered_by}
-use Rattle.row_faults.specs.RowFaults.{listed_once}
+use Rattle.row_faults.specs.{declared.fault.RowFaultKind.RowFaultKind, CoilFaults.fault_if, RowFaults.listed_once}
+use Rattle.row_faults.specs.{FaultView.RowFaultView, AsWritten.{put_by, ordered_by}}
 
 pub filled : {X : Type 0} (x : X) (xs : List X) → x ∷ xs ≡ [] → ⊥
 filled x xs e = cc
 
 -- tests that find nothing
 pub fault_if-none : (wrong : Bool) (kind : RowFaultKind) (text : List ℕ) (w : Written) → fault_if wrong kind text w ≡ [] → wrong ≡ false
-fault_if-none true kind text w e = absurd (filled (fault_at kind text w) [] e)
-fault_if-none false kind text w e = refl
+fault_if-none x1 kind text w e = search rules
 
 pub or-none : (a b : Bool) → (a || b) ≡ false → (a ≡ false) × (b ≡ false)
-or-none true b e = absurd cc
-or-none false b e = (refl, e)
+or-none x1 b e = search rules
 
 pub map-none : {X Y : Type 0} (f : X → Y) (xs : List X) → map f xs ≡ [] → xs ≡ []
 map-none f [] e = refl
@@ -53,8 +47,7 @@ put-filled number x [] e = filled x [] e
 put-filled number x (y ∷ ys) e = by (nat_lt (number y) (number x)) e
   where
     by : (b : Bool) → (if b then y ∷ put_by number x ys else x ∷ y ∷ ys) ≡ [] → ⊥
-    by true e = filled y (put_by number x ys) e
-    by false e = filled x (y ∷ ys) e
+    by x1 e = search rules
 
 pub ordered-none : {X : Type 0} (number : X → ℕ) (xs : List X) → ordered_by number xs ≡ [] → xs ≡ []
 ordered-none number [] e = refl
@@ -72,9 +65,7 @@ All-each P f (x ∷ xs) h = All-append P (f x) (flat_map f xs) (All-head (λ y. 
 -- the same the other way round
 All-front : {X : Type 0} (P : X → Type 0) (xs ys : List X) → All P (xs ++ ys) → All P xs × All P ys
 All-front P [] ys h = (All-nil P, h)
-All-front P (x ∷ xs) ys h =
-    let rest = All-front P xs ys (All-tail P x (xs ++ ys) h) in
-    (All-cons P x xs (All-head P x (xs ++ ys) h) rest.0, rest.1)
+All-front P (x ∷ xs) ys h = search (rules, All-tail, All-cons, All-head, All-front P xs ys (All-tail P x (xs ++ ys) h))
 
 pub each-All : {X Y : Type 0} (P : Y → Type 0) (f : X → List Y) (xs : List X) → All P (flat_map f xs) → All (λ x. All P (f x)) xs
 each-All P f [] h = All-nil (λ x. All P (f x))

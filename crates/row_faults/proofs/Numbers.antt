@@ -1,9 +1,7 @@
 -- Going on from place to place.
 use Rattle.std.proofs.Common.{◌≡◌, ℕ, zero, suc, ◌+◌, ◌<◌, ◌≤◌, List, length, map, get_or, refl, sym, ap, ◌∙◌, ⊎_elim, arith}
-use Rattle.std.proofs.lemmas.Bool.{cases_lt}
+use Rattle.std.proofs.{lemmas.{Bool.cases_lt, Simd.map-map}, Math.ListN.get_or-eq_default}
 use Rattle.std.proofs.lemmas.List as lists
-use Rattle.std.proofs.Math.ListN.{get_or-eq_default}
-use Rattle.std.proofs.lemmas.Simd.{map-map}
 use Rattle.row_faults.specs.Numbers.{after}
 
 module _ (targets : List ℕ) where

@@ -1,22 +1,15 @@
 -- Faults of one text, each on a later line than the one before it, print lines that differ.
-use Rattle.std.proofs.Common.{◌≡◌, ℕ, ◌<◌, ◌≤◌, ◌+◌, ◌^◌, suc, zero, true, false, nat_lt, List, [], ◌∷◌, ◌++◌, codes, drop, get_or, append_assoc, refl, sym, ap, ◌∙◌, arith}
-use Rattle.std.specs.Char.{digit_value}
-use Rattle.std.specs.Fmt.{decimal, digits}
-use Rattle.std.specs.Str.{bytes_eq}
-use Rattle.std.specs.Str.Parse.{AllDigits}
+use Rattle.std.proofs.Common.{rules, ◌≡◌, ℕ, ◌<◌, ◌≤◌, ◌+◌, ◌^◌, suc, zero, true, false, nat_lt, List, [], ◌∷◌, ◌++◌, codes, drop, get_or, append_assoc, refl, sym, ap, ◌∙◌, arith}
+use Rattle.std.specs.{Char.digit_value, Fmt.{decimal, digits}, Str.{bytes_eq, Parse.AllDigits}}
 use Rattle.std.proofs.lemmas.Bool.{and_parts, false_from_ne_true, ltb-true}
 use Rattle.std.proofs.lemmas.Fmt.{decimal_is_IsNumeral, decimal_injective}
-use Rattle.std.proofs.lemmas.List.{append_cancel_left}
-use Rattle.std.proofs.lemmas.Slice.Eq.{bytes_eq-Decides}
+use Rattle.std.proofs.lemmas.{List.append_cancel_left, Slice.Eq.bytes_eq-Decides}
 use Rattle.yaml_subset.specs.Keys.{is_among}
-use Rattle.mpf_config.specs.Escaped.{escaped}
-use Rattle.mpf_config.specs.FaultLine.{spaced}
-use Rattle.row_faults.specs.declared.fault.RowFaultKind.{RowFaultKind}
+use Rattle.mpf_config.specs.{Escaped.escaped, FaultLine.spaced}
+use Rattle.row_faults.specs.{declared.fault.RowFaultKind.RowFaultKind, FaultView.RowFaultView, RowFaults.listed_once}
 use Rattle.row_faults.specs.declared.fault.RowFaultKind.TheVariants.{Name, PulseLimit, PowerLimit, HoldNotAllowed, TimerAtEnd, BallRoute}
-use Rattle.row_faults.specs.FaultView.{RowFaultView}
 use Rattle.row_faults.specs.FaultText.{row_fault_number, row_fault_name, row_title, row_place, row_fault_line}
 use Rattle.row_faults.specs.Rising.{HaveLines, is_before_next, are_rising}
-use Rattle.row_faults.specs.RowFaults.{listed_once}
 
 -- the byte of a title that is its number
 number_at : (k : RowFaultKind) (rest : List ℕ) → get_or (row_title k ++ rest) 6 0 ≡ 48 + row_fault_number k
@@ -38,8 +31,7 @@ abbrev title_by : ℕ → List ℕ
 title_by n = codes "fault " ++ decimal n ++ spaced (name_by n)
 
 title_is : (k : RowFaultKind) → row_title k ≡ title_by (row_fault_number k)
-title_is Name = refl
-title_is _ = refl
+title_is x1 = search rules
 
 -- texts that begin with titles, and are one, begin with the same title
 same_title : (k m : RowFaultKind) (a b : List ℕ) → row_title k ++ a ≡ row_title m ++ b → row_title k ≡ row_title m
@@ -68,8 +60,7 @@ same_digits (x ∷ ds) (y ∷ es) a b p q e =
 
 -- the place, part by part
 place_is : (text name : List ℕ) (line : ℕ) → row_place text line name ≡ spaced (escaped text) ++ (spaced (decimal line) ++ (spaced name ++ 10 ∷ []))
-place_is text name line =
-    append_assoc (spaced (escaped text) ++ spaced (decimal line)) (spaced name) (10 ∷ []) ∙ append_assoc (spaced (escaped text)) (spaced (decimal line)) (spaced name ++ 10 ∷ [])
+place_is text name line = search (rules, append_assoc)
 
 -- faults of one text that print the same line are on one line
 same_line : (f g : RowFaultView) → f.text ≡ g.text → f.line < 2 ^ 64 → g.line < 2 ^ 64 → row_fault_line f ≡ row_fault_line g → f.line ≡ g.line

@@ -1,28 +1,19 @@
 -- Where nothing is wrong with the ways of balls, they lead to the playfield, and each ball switch is of one device.
-use Rattle.std.proofs.Common.{◌≡◌, ◌≢◌, ℕ, suc, ◌≤◌, Bool, true, false, not, ◌&&◌, ◌||◌, List, [], ◌∷◌, ◌++◌, Option, Some, None, is_some, refl, sym, ◌∙◌, true≢false, arith}
-use Rattle.std.specs.Option.{is_none}
-use Rattle.std.specs.List.{All, AllPairs, flat_map}
-use Rattle.std.specs.Str.{bytes_eq}
-use Rattle.std.proofs.lemmas.Bool.{not-false}
-use Rattle.std.proofs.lemmas.List.Elements.{All-nil, All-cons, All-weaker}
-use Rattle.std.proofs.lemmas.List.Kept.{AllPairs-cons}
+use Rattle.std.proofs.Common.{rules, ◌≡◌, ◌≢◌, ℕ, suc, ◌≤◌, Bool, true, false, not, ◌&&◌, ◌||◌, List, [], ◌∷◌, ◌++◌, Option, is_some, sym, ◌∙◌, true≢false, arith}
+use Rattle.std.specs.{Option.is_none, List.{All, AllPairs, flat_map}, Str.bytes_eq}
+use Rattle.std.proofs.lemmas.List.{Elements.{All-nil, All-cons, All-weaker}, Kept.AllPairs-cons}
 use Rattle.std.proofs.lemmas.Slice.Eq.{bytes_eq-Decides}
 use Rattle.mpf_sections.specs.Rows.{Written, BallDevice}
-use Rattle.mpf_sections.specs.TypedBalls.{is_trough}
 use Rattle.row_faults.specs.declared.fault.RowFaultKind.TheVariants.{BallRoute}
-use Rattle.row_faults.specs.CoilFaults.{fault_if}
-use Rattle.row_faults.specs.Routes.{leads_to_playfield, lacks_coil, switch_names, taken_too, all_taken, is_one_taken}
+use Rattle.row_faults.specs.{CoilFaults.fault_if, Sound.{IsRouted, AreRouted}}
+use Rattle.row_faults.specs.Routes.{switch_names, taken_too, all_taken, is_one_taken}
 use Rattle.row_faults.specs.BallFaults.{is_route_wrong, rest_faults, is_free, route_faults}
-use Rattle.row_faults.specs.Sound.{IsRouted, AreRouted}
 use Rattle.row_faults.proofs.None.{fault_if-none, or-none, append-none}
 
 -- ---- eject coils
 
 has_coil : (o : Option Written) (mechanical trough : Bool) → (is_none o && (not mechanical || trough)) ≡ false → ((is_some o || mechanical) ≡ true) × (trough ≡ true → is_some o ≡ true)
-has_coil (Some w) mechanical trough e = (refl, λ _. refl)
-has_coil None true true e = absurd cc
-has_coil None true false e = (refl, λ no. absurd (true≢false (sym no)))
-has_coil None false trough e = absurd cc
+has_coil x1 x2 x3 e = search rules
 
 -- ---- ball switches
 
@@ -41,8 +32,7 @@ free-more (n ∷ ns) more is_taken e h =
     let both = or-none (is_taken n) (is_one_taken ns (taken_too n is_taken)) e in
     let rest = free-more ns more (taken_too n is_taken) both.1 h in
     record {
-      free = All-cons (λ q. is_taken q ≡ false) n (ns ++ more) both.0
-          (All-weaker (λ q. taken_too n is_taken q ≡ false) (λ q. is_taken q ≡ false) (λ q no. (or-none (is_taken q) (bytes_eq q n) no).0) (ns ++ more) rest.free);
+      free = search rules;
       apart = AllPairs-cons (λ v w. v ≢ w) n (ns ++ more)
           (All-weaker (λ q. taken_too n is_taken q ≡ false) (λ q. n ≢ q) (λ q no. other n q (or-none (is_taken q) (bytes_eq q n) no).1) (ns ++ more) rest.free)
           rest.apart;
@@ -56,11 +46,7 @@ module _ (devices : List BallDevice) (text : List ℕ) where
     pub switches : AreFree is_taken (flat_map switch_names ds)
 
   routed : (is_taken : List ℕ → Bool) (d : BallDevice) → is_route_wrong devices is_taken d ≡ false → IsRouted devices d × (is_one_taken (switch_names d) is_taken ≡ false)
-  routed is_taken d e =
-      let parts = or-none (not (leads_to_playfield devices d) || is_one_taken (switch_names d) is_taken) (lacks_coil d) e in
-      let ways = or-none (not (leads_to_playfield devices d)) (is_one_taken (switch_names d) is_taken) parts.0 in
-      let coil = has_coil d.eject_coil d.ejects.mechanical (is_trough d) parts.1 in
-      (record { leads = not-false (leads_to_playfield devices d) ways.0; ejects = coil.0; trough = coil.1 }, ways.1)
+  routed is_taken d e = search rules
 
   rest-none : (is_taken : List ℕ → Bool) (ds : List BallDevice) → rest_faults devices is_taken text ds ≡ [] → AreFine is_taken ds
   rest-none is_taken [] e = record { each = All-nil (IsRouted devices); switches = record { free = All-nil (λ n. is_taken n ≡ false); apart = λ i j d before within. absurd (none j within) } }

@@ -1,45 +1,24 @@
 -- The faults of rows, as they are found.
-use Rattle.std.proofs.Common.{◌≡◌, ℕ, Bool, true, false, not, ◌||◌, List, [], ◌∷◌, ◌++◌, map, append_assoc, refl, sym, ap, ◌∙◌, inl, inr}
-use Rattle.std.specs.List.{list_any, filter, flat_map}
-use Rattle.std.specs.Global.{Vec}
-use Rattle.std.specs.Str.{bytes_eq}
-use Rattle.std.specs.Ordering.{nat_cmp}
-use Rattle.std.specs.BTreeMap.{is_at}
-use Rattle.std.specs.Cmp.Lexicographic.{slice_cmp}
-use Rattle.std.proofs.lemmas.Bool.{not-true, not-false, cases_Bool}
-use Rattle.std.proofs.lemmas.List.{map-append}
-use Rattle.std.proofs.lemmas.List.Folds.{list_any-append}
-use Rattle.std.proofs.lemmas.Slice.Eq.{bytes_eq-Decides}
-use Rattle.yaml_subset.specs.Keys.{is_among}
-use Rattle.yaml_subset.proofs.KeySets.{contains_key}
-use Rattle.row_faults.specs.declared.fault.RowFault.{RowFault}
-use Rattle.row_faults.specs.FaultView.{RowFaultView}
-use Rattle.row_faults.specs.FaultText.{row_fault_line}
-use Rattle.mpf_sections.specs.Rows.{SectionRows}
+use Rattle.std.proofs.Common.{rules, ◌≡◌, ℕ, Bool, true, false, not, ◌||◌, List, [], ◌∷◌, ◌++◌, map, append_assoc, refl, sym, ap, ◌∙◌}
+use Rattle.std.specs.{List.{list_any, filter, flat_map}, Ordering.nat_cmp, BTreeMap.is_at}
+use Rattle.std.specs.{Global.Vec, Str.bytes_eq, Cmp.Lexicographic.slice_cmp}
+use Rattle.std.proofs.lemmas.{Bool.{not-true, not-false}, List.{map-append, Folds.list_any-append}}
+use Rattle.yaml_subset.{specs.Keys.is_among, proofs.KeySets.contains_key}
+use Rattle.row_faults.specs.declared.fault.{RowFault.RowFault, RowFaultKind.TheVariants.Name}
+use Rattle.row_faults.specs.{FaultView.RowFaultView, CoilFaults.fault_if, View.{row_fault_view, row_faults_view}}
+use Rattle.row_faults.specs.{FaultText.row_fault_line, BallFaults.ball_device_faults}
+use Rattle.mpf_sections.specs.{Rows.{SectionRows, VariableItem, VariablePlayer}, Typed.timers_in, TypedShots.shots_in}
 use Rattle.mpf_config.specs.Rows.{ModeRows, Rows}
-use Rattle.mpf_config.specs.BundleText.{machine_name, mode_text_name}
-use Rattle.mpf_sections.specs.Typed.{timers_in}
-use Rattle.mpf_sections.specs.Rows.{VariableItem, VariablePlayer}
-use Rattle.mpf_sections.specs.TypedGame.{variable_players_in}
-use Rattle.mpf_sections.specs.TypedShots.{shots_in}
-use Rattle.mpf_sections.specs.TypedBalls.{ball_devices_in}
-use Rattle.machine_definitions.specs.Definitions.{ball_devices_of}
-use Rattle.row_faults.specs.BallFaults.{ball_device_faults, route_faults}
-use Rattle.machine_definitions.specs.GameEvents.{reserved_game_events}
-use Rattle.machine_definitions.specs.Players.{player_event, is_set_by_game}
-use Rattle.row_faults.specs.declared.fault.RowFaultKind.TheVariants.{Name}
-use Rattle.row_faults.specs.CoilFaults.{fault_if}
+use Rattle.mpf_sections.specs.{TypedGame.variable_players_in, TypedBalls.ball_devices_in}
+use Rattle.machine_definitions.specs.{GameEvents.reserved_game_events, Players.{player_event, is_set_by_game}}
 use Rattle.row_faults.specs.Reserved.{mode_events, events_of_modes, posts_in}
-use Rattle.row_faults.specs.AsWritten.{ordered_by}
-use Rattle.row_faults.specs.RowFaults.{fault_line, fault_number, name_fault, starts_at_end, timer_fault, coil_faults_in, section_faults, written_faults, text_faults, mode_faults, is_none_taken, faults_by, listed_once}
-use Rattle.row_faults.specs.ShotFaults.{shot_faults, listed_in, listed_of, is_own_shot, taken_after, misplaced}
-use Rattle.row_faults.specs.View.{row_fault_view, row_faults_view}
+use Rattle.row_faults.specs.RowFaults.{name_fault, starts_at_end, timer_fault, coil_faults_in, section_faults, written_faults, text_faults, mode_faults, faults_by, listed_once}
+use Rattle.row_faults.specs.ShotFaults.{shot_faults, listed_in, misplaced}
 
 -- ---- sets
 
 or_false : (b : Bool) → (b || false) ≡ b
-or_false true = refl
-or_false false = refl
+or_false x1 = search rules
 
 -- whether a set has a name
 pub has_name : (keys : List (Vec ℕ)) (name : List ℕ) → list_any (λ (k : Vec ℕ). is_at (slice_cmp nat_cmp name) k.items) keys ≡ is_among (map (λ (k : Vec ℕ). k.items) keys) name
@@ -72,9 +51,7 @@ same_lines lines others (f ∷ fs) h =
 module _ (lines known : List (List ℕ)) (fault : RowFaultView) (rest : List RowFaultView) (fresh : Bool) (is : fresh ≡ not (is_among lines (row_fault_line fault))) (knows : (q : List ℕ) → is_among known q ≡ (bytes_eq (row_fault_line fault) q || is_among lines q)) where
   -- a fault whose line is new
   pub once-new : fresh ≡ true → listed_once lines (fault ∷ rest) ≡ fault ∷ listed_once known rest
-  once-new new =
-      let none : is_among lines (row_fault_line fault) ≡ false = not-true (is_among lines (row_fault_line fault)) (sym is ∙ new) in
-      rw none (ap (λ (faults : List RowFaultView). fault ∷ faults) (sym (same_lines known (row_fault_line fault ∷ lines) rest knows)))
+  once-new new = search (rules, not-true, same_lines)
 
   -- a fault whose line was there
   pub once-again : fresh ≡ false → listed_once lines (fault ∷ rest) ≡ listed_once known rest
@@ -83,11 +60,7 @@ module _ (lines known : List (List ℕ)) (fault : RowFaultView) (rest : List Row
       rw there (sym (same_lines known lines rest (λ q. knows q ∙ again q there)))
     where
       again : (q : List ℕ) → is_among lines (row_fault_line fault) ≡ true → (bytes_eq (row_fault_line fault) q || is_among lines q) ≡ is_among lines q
-      again q there =
-          elim (cases_Bool (bytes_eq (row_fault_line fault) q)) [
-            | inl holds ↦ let e : row_fault_line fault ≡ q = (bytes_eq-Decides (row_fault_line fault) q).0 holds in ap (λ (b : Bool). b || is_among lines q) holds ∙ sym (ap (is_among lines) (sym e) ∙ there)
-            | inr fails ↦ ap (λ (b : Bool). b || is_among lines q) fails
-          ]
+      again q there = search rules
 
 -- ---- the faults that are listed, and those that are left
 
@@ -128,28 +101,16 @@ module _ (modes others : List (List ℕ)) (rows : Rows) (same : (q : List ℕ) �
   same_section is_own is_taken text s = ap (λ (test : List ℕ → Bool). section_by test rows is_own is_taken text s) (λ i q. same q i)
 
   same_written : (is_own is_taken : List ℕ → Bool) (text : List ℕ) (ss : List SectionRows) → written_faults modes rows is_own is_taken text ss ≡ written_faults others rows is_own is_taken text ss
-  same_written is_own is_taken text [] = refl
-  same_written is_own is_taken text (s ∷ ss) =
-      let later = taken_after is_taken (listed_in rows s) in
-      ap (λ (fs : List RowFaultView). fs ++ written_faults modes rows is_own later text ss) (same_section is_own is_taken text s)
-      ∙ ap (λ (fs : List RowFaultView). section_faults others rows is_own is_taken text s ++ fs) (same_written is_own later text ss)
+  same_written is_own is_taken text x4 = search (rules, same_section)
 
   same_text : (is_taken : List ℕ → Bool) (text : List ℕ) (sections : List SectionRows) → text_faults modes rows is_taken text sections ≡ text_faults others rows is_taken text sections
-  same_text is_taken text sections =
-      ap (λ (fs : List RowFaultView). ordered_by fault_line (ordered_by fault_number (fs ++ route_faults text (ball_devices_of sections)))) (same_written (is_own_shot sections) is_taken text sections)
+  same_text is_taken text sections = search (rules, same_written)
 
   same_modes : (is_taken : List ℕ → Bool) (ms : List ModeRows) → mode_faults modes rows is_taken ms ≡ mode_faults others rows is_taken ms
-  same_modes is_taken [] = refl
-  same_modes is_taken (m ∷ ms) =
-      let later = taken_after is_taken (listed_of rows m.sections) in
-      ap (λ (fs : List RowFaultView). fs ++ mode_faults modes rows later ms) (same_text is_taken (mode_text_name m.name) m.sections)
-      ∙ ap (λ (fs : List RowFaultView). text_faults others rows is_taken (mode_text_name m.name) m.sections ++ fs) (same_modes later ms)
+  same_modes is_taken x2 = search (rules, same_text)
 
   pub same_faults : faults_by modes rows ≡ faults_by others rows
-  same_faults =
-      let later = taken_after is_none_taken (listed_of rows rows.machine) in
-      ap (λ (fs : List RowFaultView). fs ++ mode_faults modes rows later rows.modes) (same_text is_none_taken machine_name rows.machine)
-      ∙ ap (λ (fs : List RowFaultView). text_faults others rows is_none_taken machine_name rows.machine ++ fs) (same_modes later rows.modes)
+  same_faults = search (rules, same_text, same_modes)
 
 -- ---- the events of modes, of two lists of names
 
@@ -158,8 +119,4 @@ events-append [] more = refl
 events-append (n ∷ names) more = ap (λ (es : List (List ℕ)). mode_events n ++ es) (events-append names more) ∙ sym (append_assoc (mode_events n) (events_of_modes names) (events_of_modes more))
 
 pub joined-events : (names more keys : List (List ℕ)) (q : List ℕ) → is_among keys q ≡ is_among (events_of_modes names) q → is_among (keys ++ events_of_modes more) q ≡ is_among (events_of_modes (names ++ more)) q
-joined-events names more keys q same =
-    list_any-append (λ k. bytes_eq k q) keys (events_of_modes more)
-    ∙ ap (λ (b : Bool). b || is_among (events_of_modes more) q) same
-    ∙ sym (list_any-append (λ k. bytes_eq k q) (events_of_modes names) (events_of_modes more))
-    ∙ ap (λ (es : List (List ℕ)). is_among es q) (sym (events-append names more))
+joined-events names more keys q same = search (rules, list_any-append, events-append)

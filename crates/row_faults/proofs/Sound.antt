@@ -1,53 +1,32 @@
 -- Rows without faults are sound.
-use Rattle.std.proofs.Common.{◌≡◌, ℕ, ◌≤◌, nat_lt, get_or, Bool, true, false, not, ◌&&◌, ◌||◌, List, [], ◌∷◌, ◌++◌, map, filter, Option, Some, None, IfSome, is_some, unwrap_or, codes, refl, arith}
-use Rattle.std.specs.Option.{is_none}
-use Rattle.std.specs.List.{All, flat_map}
-use Rattle.std.proofs.lemmas.Bool.{ltb-false, not-false}
-use Rattle.std.proofs.lemmas.List.Elements.{All-nil, All-cons, All-weaker}
+use Rattle.std.proofs.Common.{rules, ◌≡◌, ℕ, get_or, Bool, true, false, not, ◌||◌, List, [], ◌∷◌, ◌++◌, map, filter, Option, Some, None, IfSome, is_some, unwrap_or, codes, refl, arith}
+use Rattle.std.specs.{Option.is_none, List.{All, flat_map}}
+use Rattle.std.proofs.lemmas.{Bool.{ltb-false, not-false}, List.Elements.{All-nil, All-cons, All-weaker}}
 use Rattle.mpf_tables.specs.SectionTables as tables
-use Rattle.mpf_sections.specs.declared.words.CoilAction.{CoilAction}
-use Rattle.mpf_sections.specs.declared.words.CoilAction.TheVariants.{Pulse, Enable, Disable}
-use Rattle.mpf_sections.specs.Rows.{Written, Coil, CoilItem, CoilPlayer, Flipper, Autofire, CoilRule, flipper, autofire, VariableItem, VariablePlayer, Shot, ShotGroup, BallDevice, SectionRows}
-use Rattle.mpf_sections.specs.Typed.{entries_in, timers_in}
+use Rattle.mpf_sections.specs.Rows.{Written, Coil, CoilItem, CoilPlayer, Flipper, Autofire, CoilRule, VariablePlayer, Shot, ShotGroup, BallDevice, SectionRows}
+use Rattle.mpf_sections.specs.{Typed.{entries_in, timers_in}, TypedBalls.ball_devices_in}
 use Rattle.mpf_sections.specs.TypedCoils.{coils_in, coil_players_in, coil_rule_of}
-use Rattle.mpf_sections.specs.TypedGame.{variable_players_in}
-use Rattle.mpf_sections.specs.TypedShots.{shots_in, shot_groups_in}
-use Rattle.mpf_sections.specs.TypedBalls.{ball_devices_in}
-use Rattle.row_faults.specs.VariableFaults.{is_barred, variable_item_faults, variable_player_faults, variable_faults}
-use Rattle.mpf_sections.specs.Short.{IsPulseInRange, IsCoilInRange, IsItemInRange, IsCoilPlayerInRange}
+use Rattle.mpf_sections.specs.{TypedGame.variable_players_in, TypedShots.{shots_in, shot_groups_in}}
+use Rattle.row_faults.specs.VariableFaults.{is_barred, variable_player_faults, variable_faults}
+use Rattle.mpf_sections.specs.Short.{IsCoilInRange, IsItemInRange, IsCoilPlayerInRange}
 use Rattle.mpf_sections.proofs.CoilRows.{coils_in_range, coil_players_in_range}
-use Rattle.mpf_config.specs.Rows.{ModeRows, Rows}
-use Rattle.mpf_config.specs.BundleText.{machine_name, mode_text_name}
+use Rattle.mpf_config.specs.{Rows.{ModeRows, Rows}, BundleText.{machine_name, mode_text_name}}
 use Rattle.machine_definitions.specs.Definitions.{coil_called, has_switch, ball_devices_of}
-use Rattle.machine_definitions.specs.Shots.{shot_called, has_profile}
-use Rattle.machine_definitions.proofs.Called.{called-such}
-use Rattle.row_faults.specs.FaultView.{RowFaultView}
-use Rattle.row_faults.specs.declared.fault.RowFaultKind.TheVariants.{Name, PulseLimit, PowerLimit, HoldNotAllowed}
+use Rattle.machine_definitions.{specs.Shots.{shot_called, has_profile}, proofs.Called.called-such}
+use Rattle.row_faults.specs.{FaultView.RowFaultView, declared.fault.RowFaultKind.TheVariants.Name}
 use Rattle.row_faults.specs.Reserved.{events_of_modes, mode_names, is_reserved_by, posts_in, posts_of, reserved_among}
-use Rattle.row_faults.specs.CoilFaults.{fault_at, fault_if, is_above, is_enable, coil_name_faults, switch_name_faults, coil_faults, item_faults_by, item_faults, coil_player_faults, hold_faults_by, hold_faults, flipper_faults, autofire_faults, rule_faults}
-use Rattle.row_faults.specs.AsWritten.{ordered_by}
-use Rattle.row_faults.specs.RowFaults.{fault_line, fault_number, name_fault, starts_at_end, timer_fault, coil_faults_in, section_faults, written_faults, all_faults, text_faults, mode_faults, is_none_taken, faults_by, row_faults}
+use Rattle.row_faults.specs.CoilFaults.{fault_if, coil_name_faults, switch_name_faults, coil_faults, item_faults_by, item_faults, coil_player_faults, hold_faults_by, hold_faults, flipper_faults, autofire_faults, rule_faults}
+use Rattle.row_faults.specs.RowFaults.{name_fault, starts_at_end, timer_fault, coil_faults_in, section_faults, written_faults, text_faults, mode_faults, is_none_taken, faults_by, row_faults}
 use Rattle.row_faults.specs.BallFaults.{is_place, eject_coil_faults, target_faults, ball_device_faults, route_faults}
 use Rattle.row_faults.specs.ShotFaults.{shot_switch_faults, profile_faults, shot_faults, Listed, first_shot, listed_by, listed_in, listed_of, is_own_shot, are_of_two_profiles, is_misplaced, taken_with, taken_after, kept_if, misplaced}
-use Rattle.row_faults.specs.Sound.{ChangesNothingBarred, IsHoldWithin, IsCoilSound, IsCoilSuch, IsActionWithin, IsItemSound, IsCoilPlayerSound, IsFlipperSound, IsAutofireSound, IsRuleSound, IsShotSound, IsShotGroupSound, IsBallDeviceSound, IsSectionSound, IsSound}
-use Rattle.row_faults.proofs.None.{filled, fault_if-none, or-none, map-none, append-none, flat_map-none, filter-none, ordered-none, once-none, All-each, each-All, map-All}
-use Rattle.row_faults.proofs.Called.{machine-called, mode-called}
-use Rattle.row_faults.proofs.AsWritten.{written-none}
-use Rattle.row_faults.proofs.Routed.{route_faults-none}
+use Rattle.row_faults.specs.Sound.{ChangesNothingBarred, IsHoldWithin, IsCoilSound, IsCoilSuch, IsItemSound, IsCoilPlayerSound, IsFlipperSound, IsAutofireSound, IsRuleSound, IsShotSound, IsShotGroupSound, IsBallDeviceSound, IsSectionSound, IsSound}
+use Rattle.row_faults.proofs.None.{fault_if-none, or-none, map-none, append-none, flat_map-none, filter-none, ordered-none, once-none, All-each, each-All, map-All}
+use Rattle.row_faults.proofs.{Called.{machine-called, mode-called}, AsWritten.written-none, Routed.route_faults-none}
 
 -- ---- tests that find nothing
 
-above-none : (o : Option ℕ) (greatest : ℕ) → is_above o greatest ≡ false → IfSome o (λ n. n ≤ greatest)
-above-none None greatest e = tt
-above-none (Some n) greatest e = ltb-false greatest n e
-
-weaker-some : (P Q : ℕ → Type 0) (o : Option ℕ) → ((n : ℕ) → P n → Q n) → IfSome o P → IfSome o Q
-weaker-some P Q None f h = tt
-weaker-some P Q (Some n) f h = f n h
-
 taken : (P : ℕ → Type 0) (o : Option ℕ) (d : ℕ) → IfSome o P → P d → P (unwrap_or o d)
-taken P None d h p = p
-taken P (Some n) d h p = h
+taken P x2 d h p = search rules
 
 -- ---- settings
 
@@ -58,17 +37,7 @@ no_part = ([], [])
 -- ---- coils
 
 coil-sound : (text : List ℕ) (c : Coil) → IsCoilInRange c → coil_faults text c ≡ [] → IsCoilSound c
-coil-sound text c range e =
-    let parts = append-none (fault_if (nat_lt c.max_pulse_ms c.pulse_ms) PulseLimit text c.name) _ e in
-    let powers = or-none (nat_lt c.max_pulse_power c.pulse_power) (nat_lt c.max_hold_power c.hold_power) (fault_if-none _ PowerLimit text c.name parts.1) in
-    record {
-      pulse = record {
-        shortest = range.pulse_ms.0;
-        longest = ltb-false c.max_pulse_ms c.pulse_ms (fault_if-none _ PulseLimit text c.name parts.0);
-        greatest = ltb-false c.max_pulse_power c.pulse_power powers.0;
-      };
-      hold = ltb-false c.max_hold_power c.hold_power powers.1;
-    }
+coil-sound text c range e = search rules
 
 module _ (machine : List SectionRows) (all : All IsCoilSound (flat_map coils_in machine)) (text : List ℕ) where
   sound : (name : List ℕ) (c : Coil) → coil_called machine name ≡ Some c → IsCoilSound c
@@ -80,47 +49,18 @@ module _ (machine : List SectionRows) (all : All IsCoilSound (flat_map coils_in 
   named-sound w e = by (coil_called machine w.text) refl e
     where
       by : (o : Option Coil) → coil_called machine w.text ≡ o → fault_if (is_none o) Name text w ≡ [] → IsCoilSuch machine w.text IsCoilSound
-      by None is e = absurd (filled (fault_at Name text w) [] e)
-      by (Some c) is e = record { coil = c; called = is; such = sound w.text c is }
+      by x1 is e = search (rules, sound)
 
   switch-sound : (w : Written) → switch_name_faults machine text w ≡ [] → has_switch machine w.text ≡ true
   switch-sound w e = not-false (has_switch machine w.text) (fault_if-none _ Name text w e)
 
   -- ---- coil players
 
-  action-within : (c : Coil) (i : CoilItem) (action : CoilAction) → IsCoilSound c → IsItemInRange i → IfSome i.pulse_ms (λ n. n ≤ c.max_pulse_ms) → IfSome i.pulse_power (λ n. n ≤ c.max_pulse_power)
-      → IfSome i.hold_power (λ n. n ≤ c.max_hold_power) → (is_enable action && not c.may_hold) ≡ false → IsActionWithin c i action
-  action-within c i Pulse own range ms power hold e = record {
-    shortest = taken (λ n. 1 ≤ n) i.pulse_ms c.pulse_ms (weaker-some IsPulseInRange (λ n. 1 ≤ n) i.pulse_ms (λ n h. h.0) range.pulse_ms) own.pulse.shortest;
-    longest = taken (λ n. n ≤ c.max_pulse_ms) i.pulse_ms c.pulse_ms ms own.pulse.longest;
-    greatest = taken (λ n. n ≤ c.max_pulse_power) i.pulse_power c.pulse_power power own.pulse.greatest;
-  }
-  action-within c i Enable own range ms power hold e = record {
-    allowed = not-false c.may_hold e;
-    greatest = taken (λ n. n ≤ c.max_hold_power) i.hold_power c.hold_power hold own.hold;
-  }
-  action-within c i Disable own range ms power hold e = tt
-
   item-sound : (i : CoilItem) → IsItemInRange i → item_faults machine text i ≡ [] → IsItemSound machine i
   item-sound i range e = by (coil_called machine i.coil.text) refl e
     where
       by : (o : Option Coil) → coil_called machine i.coil.text ≡ o → item_faults_by text i o ≡ [] → IsItemSound machine i
-      by None is e = absurd (filled (fault_at Name text i.coil) [] e)
-      by (Some c) is e =
-          let long = fault_if (is_above i.pulse_ms c.max_pulse_ms) PulseLimit text i.coil in
-          let strong = fault_if (is_above i.pulse_power c.max_pulse_power || is_above i.hold_power c.max_hold_power) PowerLimit text i.coil in
-          let parts = append-none (long ++ strong) _ e in
-          let limits = append-none long strong parts.0 in
-          let powers = or-none (is_above i.pulse_power c.max_pulse_power) (is_above i.hold_power c.max_hold_power) (fault_if-none _ PowerLimit text i.coil limits.1) in
-          record {
-            coil = c;
-            called = is;
-            such = action-within c i i.action (sound i.coil.text c is) range
-                (above-none i.pulse_ms c.max_pulse_ms (fault_if-none _ PulseLimit text i.coil limits.0))
-                (above-none i.pulse_power c.max_pulse_power powers.0)
-                (above-none i.hold_power c.max_hold_power powers.1)
-                (fault_if-none _ HoldNotAllowed text i.coil parts.1);
-          }
+      by x1 is e = search (rules, append-none, or-none, fault_if-none, rules, taken, not-false, sound, ltb-false)
 
   player-sound : (p : CoilPlayer) → IsCoilPlayerInRange p → coil_player_faults machine text p ≡ [] → IsCoilPlayerSound machine p
   player-sound p range e = let none = flat_map-none (item_faults machine text) p.items e in λ i d within. item-sound (get_or p.items i d) (range i d within) (none i d within)
@@ -132,8 +72,7 @@ module _ (machine : List SectionRows) (all : All IsCoilSound (flat_map coils_in 
   hold-sound f (Some w) e = by (coil_called machine w.text) refl e
     where
       by : (o : Option Coil) → coil_called machine w.text ≡ o → hold_faults_by text f w o ≡ [] → IsCoilSuch machine w.text (λ c. IsHoldWithin c c.hold_power)
-      by None is e = absurd (filled (fault_at Name text w) [] e)
-      by (Some c) is e = record { coil = c; called = is; such = record { allowed = not-false c.may_hold (fault_if-none _ HoldNotAllowed text _ e); greatest = (sound w.text c is).hold } }
+      by x1 is e = search (rules, not-false, fault_if-none, sound)
 
   flipper-sound : (f : Flipper) → flipper_faults machine text f ≡ [] → IsFlipperSound machine f
   flipper-sound f e =
@@ -152,15 +91,12 @@ module _ (machine : List SectionRows) (all : All IsCoilSound (flat_map coils_in 
       record { coil = named-sound a.coil (none 0 no_part (omega arith)); switch = switch-sound a.rule.switch (none 1 no_part (omega arith)) }
 
   rule-sound : (o : Option CoilRule) → rule_faults machine text o ≡ [] → IsRuleSound machine o
-  rule-sound None e = tt
-  rule-sound (Some (flipper f)) e = flipper-sound f e
-  rule-sound (Some (autofire a)) e = autofire-sound a e
+  rule-sound x1 e = search (rules, flipper-sound, autofire-sound)
 
   -- ---- ball devices
 
   eject-sound : (o : Option Written) → eject_coil_faults machine text o ≡ [] → IfSome o (λ w. IsCoilSuch machine w.text IsCoilSound)
-  eject-sound None e = tt
-  eject-sound (Some w) e = named-sound w e
+  eject-sound x1 e = search (rules, named-sound)
 
   ball_device-sound : (d : BallDevice) → ball_device_faults machine text d ≡ [] → IsBallDeviceSound machine d
   ball_device-sound d e =
@@ -186,12 +122,10 @@ shot-sound rows text s e =
     }
   where
     hit-sound : (o : Option Written) → shot_switch_faults rows.machine text o ≡ [] → IfSome o (λ w. has_switch rows.machine w.text ≡ true)
-    hit-sound None e = tt
-    hit-sound (Some w) e = not-false (has_switch rows.machine w.text) (fault_if-none _ Name text w e)
+    hit-sound x1 e = search rules
 
 kept-none : (b : Bool) (w : Written) (ws : List Written) → kept_if b w ws ≡ [] → (b ≡ false) × (ws ≡ [])
-kept-none true w ws e = absurd (filled w ws e)
-kept-none false w ws e = (refl, e)
+kept-none x1 w ws e = search rules
 
 -- groups in which no name is misplaced list shots of their own text
 listed-own : (rows : Rows) (is_own is_taken : List ℕ → Bool) (ls : List Listed) → misplaced rows is_own is_taken ls ≡ [] → All (λ l. is_own l.shot.text ≡ true) ls
@@ -272,14 +206,8 @@ module _ (modes : List (List ℕ)) (rows : Rows) (is_own : List ℕ → Bool) (t
         ball_devices = λ i d within. ball_device-sound machine all text (get_or (ball_devices_in s) i d) (h.devices i d within);
       }
 
-  -- no variable is changed that no row may change
-  item-free : (item : VariableItem) → variable_item_faults modes text item ≡ [] → is_barred modes item.variable.text ≡ false
-  item-free item e = fault_if-none _ Name text item.variable e
-
   player-free : (p : VariablePlayer) → variable_player_faults modes text p ≡ [] → All (λ item. is_barred modes item.variable.text ≡ false) p.items
-  player-free p e =
-      All-weaker (λ item. variable_item_faults modes text item ≡ []) (λ item. is_barred modes item.variable.text ≡ false) item-free p.items
-      (flat_map-none (variable_item_faults modes text) p.items e)
+  player-free p e = search (rules, All-weaker, fault_if-none, flat_map-none)
 
   section-free : (s : SectionRows) → HasNone s → All (λ p. All (λ item. is_barred modes item.variable.text ≡ false) p.items) (variable_players_in s)
   section-free s h =
@@ -308,10 +236,7 @@ module _ (modes : List (List ℕ)) (rows : Rows) where
   -- of a text without faults neither its sections have any, nor the ways of balls
   all-none : (is_taken : List ℕ → Bool) (text : List ℕ) (sections : List SectionRows) → text_faults modes rows is_taken text sections ≡ []
       → (written_faults modes rows (is_own_shot sections) is_taken text sections ≡ []) × (route_faults text (ball_devices_of sections) ≡ [])
-  all-none is_taken text sections e =
-      let written = written_faults modes rows (is_own_shot sections) is_taken text sections in
-      let all = all_faults modes rows is_taken text sections in
-      append-none written (route_faults text (ball_devices_of sections)) (ordered-none fault_number all (ordered-none fault_line (ordered_by fault_number all) e))
+  all-none is_taken text sections e = search (rules, append-none, ordered-none)
 
   text-none : (is_taken : List ℕ → Bool) (text : List ℕ) (sections : List SectionRows) → text_faults modes rows is_taken text sections ≡ [] → TextHasNone text sections
   text-none is_taken text sections e =
@@ -329,8 +254,7 @@ module _ (modes : List (List ℕ)) (rows : Rows) where
 
   text-sound : All IsCoilSound (flat_map coils_in rows.machine) → (text : List ℕ) (sections : List SectionRows) → ((name : List ℕ) → is_own_shot sections name ≡ true → is_some (shot_called rows name) ≡ true) → TextHasNone text sections
       → All (IsSectionSound rows) sections
-  text-sound all text sections called h =
-      All-weaker (HasNone modes rows (is_own_shot sections) text) (IsSectionSound rows) (section-sound modes rows (is_own_shot sections) text all called) sections h
+  text-sound all text sections called h = search (rules, All-weaker, section-sound)
 
   text-changes : (text : List ℕ) (sections : List SectionRows) → TextHasNone text sections → All (λ s. All (λ p. All (λ item. is_barred modes item.variable.text ≡ false) p.items) (variable_players_in s)) sections
   text-changes text sections h =

@@ -1,18 +1,13 @@
 -- Where a text has no groups, nothing asks for the shots that it defines.
-use Rattle.std.proofs.Common.{◌≡◌, ◌⊎◌, inl, inr, ℕ, Bool, List, [], ◌∷◌, ◌++◌, map, refl, ap, sym, ◌∙◌}
+use Rattle.std.proofs.Common.{rules, ◌≡◌, ◌⊎◌, ℕ, Bool, List, [], ◌∷◌, ◌++◌, map, refl, ap, sym, ◌∙◌}
 use Rattle.std.specs.List.{filter, flat_map}
-use Rattle.mpf_sections.specs.Rows.{Written, SectionRows}
-use Rattle.mpf_sections.specs.Typed.{timers_in}
-use Rattle.mpf_sections.specs.TypedBalls.{ball_devices_in}
-use Rattle.mpf_sections.specs.TypedShots.{shots_in, shot_groups_in}
+use Rattle.mpf_sections.specs.{Rows.{Written, SectionRows}, TypedShots.{shots_in, shot_groups_in}}
+use Rattle.mpf_sections.specs.{Typed.timers_in, TypedBalls.ball_devices_in}
 use Rattle.mpf_config.specs.Rows.{Rows}
-use Rattle.row_faults.specs.FaultView.{RowFaultView}
-use Rattle.row_faults.specs.Reserved.{posts_in, reserved_among}
-use Rattle.row_faults.specs.VariableFaults.{variable_faults}
+use Rattle.row_faults.{specs.{FaultView.RowFaultView, BallFaults.ball_device_faults}, proofs.None.append-none}
+use Rattle.row_faults.specs.{Reserved.{posts_in, reserved_among}, VariableFaults.variable_faults}
 use Rattle.row_faults.specs.ShotFaults.{shot_faults, listed_by, listed_in, is_own_shot, misplaced, taken_after}
-use Rattle.row_faults.specs.BallFaults.{ball_device_faults}
 use Rattle.row_faults.specs.RowFaults.{name_fault, coil_faults_in, starts_at_end, timer_fault, section_faults, written_faults}
-use Rattle.row_faults.proofs.None.{append-none}
 
 module _ (modes : List (List ℕ)) (rows : Rows) (text : List ℕ) where
   -- the faults of a section, where its groups may not list these shots
@@ -43,5 +38,4 @@ module _ (modes : List (List ℕ)) (rows : Rows) (text : List ℕ) where
   -- so either they are found, or nothing asks for them
   pub by_own : (found is_taken : List ℕ → Bool) (sections : List SectionRows) → (flat_map shot_groups_in sections ≡ []) ⊎ ((name : List ℕ) → found name ≡ is_own_shot sections name)
       → written_faults modes rows found is_taken text sections ≡ written_faults modes rows (is_own_shot sections) is_taken text sections
-  by_own found is_taken sections (inl none) = unasked found (is_own_shot sections) sections none is_taken
-  by_own found is_taken sections (inr is) = λ i. written_faults modes rows (λ name. is name i) is_taken text sections
+  by_own found is_taken sections x4 = search (rules, unasked)

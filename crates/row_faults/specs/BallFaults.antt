@@ -1,15 +1,12 @@
 -- What is wrong with ball devices. Here `machine` is the sections of the machine text, and `text` is the name of the
 -- text.
 use Rattle.std.specs.Prelude.{ℕ, Bool, false, not, ◌||◌, List, [], ◌∷◌, ◌++◌, Option, Some, None, is_some, codes}
-use Rattle.std.specs.List.{flat_map}
-use Rattle.std.specs.Str.{bytes_eq}
+use Rattle.std.specs.{List.flat_map, Str.bytes_eq}
 use Rattle.mpf_tables.specs.SectionTables as tables
-use Rattle.mpf_sections.specs.Rows.{Written, BallDevice, SectionRows}
-use Rattle.mpf_sections.specs.TypedBalls.{playfield}
+use Rattle.mpf_sections.specs.{Rows.{Written, BallDevice, SectionRows}, TypedBalls.playfield}
 use Rattle.machine_definitions.specs.Definitions.{ball_device_called}
 use Rattle.row_faults.specs.declared.fault.RowFaultKind.TheVariants.{Name, BallRoute}
-use Rattle.row_faults.specs.FaultView.{RowFaultView}
-use Rattle.row_faults.specs.AsWritten.{as_written}
+use Rattle.row_faults.specs.{FaultView.RowFaultView, AsWritten.as_written}
 use Rattle.row_faults.specs.CoilFaults.{fault_if, coil_name_faults, switch_name_faults}
 use Rattle.row_faults.specs.Routes.{leads_to_playfield, lacks_coil, switch_names, all_taken, is_one_taken}
 

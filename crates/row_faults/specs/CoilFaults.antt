@@ -1,17 +1,13 @@
 -- What is wrong with coils, and with what is said of them elsewhere. Here `machine` is the sections of the machine
 -- text, which define the coils and the switches, and `text` is the name of the text.
 use Rattle.std.specs.Prelude.{ℕ, nat_lt, Bool, true, false, not, ◌&&◌, ◌||◌, List, [], ◌∷◌, ◌++◌, Option, Some, None, codes}
-use Rattle.std.specs.List.{flat_map}
-use Rattle.std.specs.Option.{is_none}
+use Rattle.std.specs.{List.flat_map, Option.is_none}
 use Rattle.mpf_tables.specs.SectionTables as tables
-use Rattle.mpf_sections.specs.declared.words.CoilAction.{CoilAction}
-use Rattle.mpf_sections.specs.declared.words.CoilAction.TheVariants.{Pulse, Enable, Disable}
+use Rattle.mpf_sections.specs.declared.words.CoilAction.{CoilAction, TheVariants.{Pulse, Enable, Disable}}
 use Rattle.mpf_sections.specs.Rows.{Written, Coil, CoilItem, CoilPlayer, Flipper, Autofire, CoilRule, flipper, autofire, SectionRows}
 use Rattle.machine_definitions.specs.Definitions.{coil_called, has_switch}
-use Rattle.row_faults.specs.declared.fault.RowFaultKind.{RowFaultKind}
+use Rattle.row_faults.specs.{declared.fault.RowFaultKind.RowFaultKind, FaultView.RowFaultView, AsWritten.as_written}
 use Rattle.row_faults.specs.declared.fault.RowFaultKind.TheVariants.{Name, PulseLimit, PowerLimit, HoldNotAllowed}
-use Rattle.row_faults.specs.FaultView.{RowFaultView}
-use Rattle.row_faults.specs.AsWritten.{as_written}
 
 -- a fault of this kind at a name
 abbrev pub fault_at : RowFaultKind → List ℕ → Written → RowFaultView

@@ -2,10 +2,8 @@
 use Rattle.std.specs.Prelude.{◌≡◌, ℕ, Bool, List, ◌++◌, map}
 use Rattle.mpf_sections.specs.Rows.{Written}
 use Rattle.mpf_config.specs.Rows.{Rows}
-use Rattle.row_faults.specs.FaultView.{RowFaultView}
-use Rattle.row_faults.specs.Reserved.{reserved_among}
-use Rattle.row_faults.specs.RowFaults.{name_fault}
-use Rattle.row_faults.specs.ShotFaults.{Listed, misplaced}
+use Rattle.row_faults.specs.{FaultView.RowFaultView, RowFaults.name_fault}
+use Rattle.row_faults.specs.{Reserved.reserved_among, ShotFaults.{Listed, misplaced}}
 
 -- The faults that were found in a text so far, and what faults depend on: all rows, the events of modes, and the name of
 -- the text.

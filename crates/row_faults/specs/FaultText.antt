@@ -1,11 +1,8 @@
 -- The line that a fault of rows is printed as.
-use Rattle.std.specs.Prelude.{ℕ, List, [], ◌∷◌, ◌++◌, codes}
-use Rattle.std.specs.Fmt.{decimal}
-use Rattle.mpf_config.specs.FaultLine.{spaced}
-use Rattle.mpf_config.specs.Escaped.{escaped}
-use Rattle.row_faults.specs.declared.fault.RowFaultKind.{RowFaultKind}
+use Rattle.std.specs.{Prelude.{ℕ, List, [], ◌∷◌, ◌++◌, codes}, Fmt.decimal}
+use Rattle.mpf_config.specs.{FaultLine.spaced, Escaped.escaped}
+use Rattle.row_faults.specs.{declared.fault.RowFaultKind.RowFaultKind, FaultView.RowFaultView}
 use Rattle.row_faults.specs.declared.fault.RowFaultKind.TheVariants.{Name, PulseLimit, PowerLimit, HoldNotAllowed, TimerAtEnd, BallRoute}
-use Rattle.row_faults.specs.FaultView.{RowFaultView}
 
 -- the number and the name of a fault of a row
 abbrev pub row_fault_number : RowFaultKind → ℕ

@@ -1,19 +1,12 @@
 -- The faults of what the program has, and what lists and sets gain.
 use Rattle.std.specs.Prelude.{◌≡◌, ◌⊎◌, ◌||◌, ℕ, Bool, List, [], ◌++◌, length, map, filter, Option, Some, option_map}
-use Rattle.std.specs.List.{flat_map, list_any}
-use Rattle.std.specs.Str.{bytes_eq}
-use Rattle.std.specs.Borrow.{Bor}
-use Rattle.std.specs.Global.{Vec, Global}
-use Rattle.std.specs.HashMap.{HashMap}
-use Rattle.std.specs.HashSet.{HashSet}
-use Rattle.std.specs.BTreeSet.{BTreeSet}
-use Rattle.std.specs.declared.borrow.CowSlice.{CowSlice}
+use Rattle.std.specs.{List.{flat_map, list_any}, Str.bytes_eq, Borrow.Bor, Global.{Vec, Global}, BTreeSet.BTreeSet}
+use Rattle.std.specs.{HashMap.HashMap, HashSet.HashSet, declared.borrow.CowSlice.CowSlice}
 use Rattle.yaml_subset.specs.Keys.{is_among, copies_view}
 use Rattle.section_tables.specs.declared.rows.Name.{Name}
 use Rattle.section_tables.specs.declared.rows.Entry as entry_rows
 use Rattle.section_tables.specs.declared.rows.Keyed as keyed_rows
-use Rattle.mpf_sections.specs.declared.section.Section.{Section}
-use Rattle.mpf_sections.specs.declared.typed.NameAt.{NameAt}
+use Rattle.mpf_sections.specs.declared.{section.Section.Section, typed.NameAt.NameAt}
 use Rattle.mpf_sections.specs.declared.coils.Coil as typed_coils
 use Rattle.mpf_sections.specs.declared.coils.CoilItem as typed_coil_items
 use Rattle.mpf_sections.specs.declared.coil_rules.Flipper as typed_flippers
@@ -22,33 +15,23 @@ use Rattle.mpf_sections.specs.declared.balls.BallDevice as typed_balls
 use Rattle.mpf_sections.specs.declared.game.VariableItem as typed_variable_items
 use Rattle.mpf_sections.specs.declared.shots.Shot as typed_shots
 use Rattle.mpf_sections.specs.declared.shots.ShotGroup as typed_groups
-use Rattle.mpf_sections.specs.Rows.{Written, BallDevice, ShotGroup}
+use Rattle.mpf_sections.specs.{Rows.{Written, BallDevice, ShotGroup}, TypedShots.{shot_of, shots_in, shot_groups_in}}
 use Rattle.mpf_sections.specs.Typed.{step_block_of, entries_in, switches_in, event_players_in, counters_in, timers_in}
 use Rattle.mpf_sections.specs.TypedCoils.{coils_in, coil_item_of, coil_players_in, coil_rule_of}
-use Rattle.mpf_sections.specs.TypedBalls.{ball_devices_in}
-use Rattle.mpf_sections.specs.TypedGame.{variable_item_of}
-use Rattle.mpf_sections.specs.TypedShots.{shot_of, shots_in, shot_groups_in}
+use Rattle.mpf_sections.specs.{TypedBalls.ball_devices_in, TypedGame.variable_item_of}
 use Rattle.mpf_sections.specs.View.{name_view, name_at_view, entry_view, keyed_view, content_view, section_view, coil_view, coil_item_view, flipper_view, autofire_view, ball_device_view, variable_item_view, shot_view, shot_group_view}
-use Rattle.mpf_config.specs.declared.config.ModeText.{ModeText}
-use Rattle.mpf_config.specs.Rows.{Rows}
-use Rattle.mpf_config.specs.View.{mode_view}
-use Rattle.machine_definitions.specs.Definitions.{ball_devices_of}
-use Rattle.machine_definitions.specs.Found.{is_found, section_rows}
-use Rattle.row_faults.specs.declared.fault.RowFault.{RowFault}
-use Rattle.row_faults.specs.declared.fault.RowFaultKind.{RowFaultKind}
-use Rattle.row_faults.specs.declared.as_written.Named.{Named}
-use Rattle.row_faults.specs.FaultView.{RowFaultView}
-use Rattle.row_faults.specs.FaultText.{row_fault_line}
-use Rattle.row_faults.specs.AsWritten.{ordered_by, in_order}
+use Rattle.mpf_config.specs.{declared.config.ModeText.ModeText, Rows.Rows, View.mode_view}
+use Rattle.machine_definitions.specs.{Definitions.ball_devices_of, Found.{is_found, section_rows}}
+use Rattle.row_faults.specs.declared.{fault.{RowFault.RowFault, RowFaultKind.RowFaultKind}, as_written.Named.Named}
+use Rattle.row_faults.specs.{FaultView.RowFaultView, Named.named_faults}
+use Rattle.row_faults.specs.{FaultText.row_fault_line, AsWritten.{ordered_by, in_order}}
 use Rattle.row_faults.specs.Reserved.{events_of_modes, switch_posts, player_posts, counter_posts, step_posts, posts_in}
 use Rattle.row_faults.specs.VariableFaults.{variable_item_faults, variable_faults}
 use Rattle.row_faults.specs.CoilFaults.{fault_if, coil_name_faults, switch_name_faults, coil_faults, item_faults_by, item_faults, coil_player_faults, hold_faults_by, hold_faults, flipper_faults, autofire_faults, rule_faults}
 use Rattle.row_faults.specs.ShotFaults.{shot_switch_faults, profile_faults, shot_faults, Listed, listed_with, listed_by, listed_in, listed_of, is_own_shot, is_misplaced, taken_after}
 use Rattle.row_faults.specs.BallFaults.{eject_coil_faults, target_faults, ball_device_faults, route_faults}
 use Rattle.row_faults.specs.RowFaults.{starts_at_end, timer_fault, coil_faults_in, section_faults, written_faults, text_faults, mode_faults}
-use Rattle.row_faults.specs.Numbers.{number_found, number_of}
-use Rattle.row_faults.specs.Named.{named_faults}
-use Rattle.row_faults.specs.Collected.{FaultsView, group_faults}
+use Rattle.row_faults.specs.{Numbers.{number_found, number_of}, Collected.{FaultsView, group_faults}}
 use Rattle.row_faults.specs.View.{row_fault_view, row_faults_view, keys_view, devices_view}
 
 -- ---- coils

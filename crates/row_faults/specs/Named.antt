@@ -1,11 +1,9 @@
 -- What contracts of the functions inside this crate see of what a setting names.
-use Rattle.std.specs.Prelude.{ℕ, List, map, option_map}
-use Rattle.std.specs.List.{flat_map}
+use Rattle.std.specs.{Prelude.{ℕ, List, map, option_map}, List.flat_map}
 use Rattle.mpf_sections.specs.View.{name_view, name_at_view, flipper_view}
 use Rattle.mpf_config.specs.Rows.{Rows}
-use Rattle.row_faults.specs.declared.as_written.Named.{Named}
+use Rattle.row_faults.specs.{declared.as_written.Named.Named, FaultView.RowFaultView}
 use Rattle.row_faults.specs.declared.as_written.Named.TheVariants as named
-use Rattle.row_faults.specs.FaultView.{RowFaultView}
 use Rattle.row_faults.specs.CoilFaults.{switch_name_faults, hold_faults}
 use Rattle.row_faults.specs.ShotFaults.{shot_switch_faults, profile_faults}
 use Rattle.row_faults.specs.BallFaults.{eject_coil_faults, target_faults}

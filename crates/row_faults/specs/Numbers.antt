@@ -1,13 +1,8 @@
 -- Ball devices by their places among them, from 0.
 use Rattle.std.specs.Prelude.{◌≡◌, ℕ, zero, suc, ◌+◌, ◌<◌, if◌then◌else◌, List, length, get_or, Option, None, Some, IfSome, unwrap_or, slice_get}
-use Rattle.std.specs.Str.{bytes_eq}
-use Rattle.std.specs.Borrow.{Bor}
-use Rattle.std.specs.HashMap.{HashMap}
-use Rattle.std.specs.Map.{lookup}
-use Rattle.mpf_sections.specs.Rows.{BallDevice}
-use Rattle.mpf_sections.specs.TypedBalls.{playfield}
-use Rattle.machine_definitions.specs.Definitions.{ball_device_among}
-use Rattle.machine_definitions.specs.Found.{has_bytes}
+use Rattle.std.specs.{Str.bytes_eq, Borrow.Bor, HashMap.HashMap, Map.lookup}
+use Rattle.mpf_sections.specs.{Rows.BallDevice, TypedBalls.playfield}
+use Rattle.machine_definitions.specs.{Definitions.ball_device_among, Found.has_bytes}
 
 -- the place that is found by a name
 abbrev pub number_found : {S : Type 0} → HashMap (Bor (List ℕ)) ℕ S → List ℕ → Option ℕ

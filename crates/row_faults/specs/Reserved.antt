@@ -1,6 +1,5 @@
 -- Events that no row may post, and what rows post.
-use Rattle.std.specs.Prelude.{ℕ, Bool, ◌||◌, List, [], ◌∷◌, ◌++◌, map, filter, codes}
-use Rattle.std.specs.List.{flat_map}
+use Rattle.std.specs.{Prelude.{ℕ, Bool, ◌||◌, List, [], ◌∷◌, ◌++◌, map, filter, codes}, List.flat_map}
 use Rattle.yaml_subset.specs.Keys.{is_among}
 use Rattle.section_tables.specs.Kinds.{Setting}
 use Rattle.mpf_tables.specs.SectionTables as tables

@@ -1,10 +1,8 @@
 -- Where ball devices send their balls and by what, and which ball switches they have. Here `devices` are the ball
 -- devices of the machine text, in plan order.
 use Rattle.std.specs.Prelude.{ℕ, zero, suc, Bool, false, not, ◌&&◌, ◌||◌, List, [], ◌∷◌, length, map, Option, None, Some}
-use Rattle.std.specs.Option.{is_none}
-use Rattle.std.specs.Str.{bytes_eq}
-use Rattle.mpf_sections.specs.Rows.{BallDevice}
-use Rattle.mpf_sections.specs.TypedBalls.{playfield, is_trough}
+use Rattle.std.specs.{Option.is_none, Str.bytes_eq}
+use Rattle.mpf_sections.specs.{Rows.BallDevice, TypedBalls.{playfield, is_trough}}
 use Rattle.machine_definitions.specs.Definitions.{ball_device_among}
 
 -- ---- targets

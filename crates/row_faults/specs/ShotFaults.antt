@@ -1,17 +1,13 @@
 -- What is wrong with shots, and with the shots that groups list. Here `rows` are those of all texts, and `text` is the
 -- name of the text.
 use Rattle.std.specs.Prelude.{ℕ, Bool, true, false, not, ◌||◌, List, [], ◌∷◌, map, Option, Some, None, codes}
-use Rattle.std.specs.List.{flat_map, list_any}
-use Rattle.std.specs.Str.{bytes_eq}
+use Rattle.std.specs.{List.{flat_map, list_any}, Str.bytes_eq}
 use Rattle.mpf_tables.specs.SectionTables as tables
-use Rattle.mpf_sections.specs.Rows.{Written, Shot, ShotGroup, SectionRows}
-use Rattle.mpf_sections.specs.TypedShots.{shots_in, shot_groups_in}
+use Rattle.mpf_sections.specs.{Rows.{Written, Shot, ShotGroup, SectionRows}, TypedShots.{shots_in, shot_groups_in}}
 use Rattle.mpf_config.specs.Rows.{Rows}
 use Rattle.machine_definitions.specs.Shots.{shot_called, has_profile}
 use Rattle.row_faults.specs.declared.fault.RowFaultKind.TheVariants.{Name}
-use Rattle.row_faults.specs.FaultView.{RowFaultView}
-use Rattle.row_faults.specs.AsWritten.{as_written}
-use Rattle.row_faults.specs.CoilFaults.{fault_if, switch_name_faults}
+use Rattle.row_faults.specs.{FaultView.RowFaultView, AsWritten.as_written, CoilFaults.{fault_if, switch_name_faults}}
 
 -- ---- entries of `shots`
 

@@ -1,13 +1,9 @@
 -- The faults of what rows say of variables.
-use Rattle.std.specs.Prelude.{ℕ, Bool, ◌||◌, List}
-use Rattle.std.specs.List.{flat_map}
-use Rattle.mpf_sections.specs.Rows.{VariableItem, VariablePlayer, SectionRows}
-use Rattle.mpf_sections.specs.TypedGame.{variable_players_in}
+use Rattle.std.specs.{Prelude.{ℕ, Bool, ◌||◌, List}, List.flat_map}
+use Rattle.mpf_sections.specs.{Rows.{VariableItem, VariablePlayer, SectionRows}, TypedGame.variable_players_in}
 use Rattle.machine_definitions.specs.Players.{player_event, is_set_by_game}
 use Rattle.row_faults.specs.declared.fault.RowFaultKind.TheVariants.{Name}
-use Rattle.row_faults.specs.FaultView.{RowFaultView}
-use Rattle.row_faults.specs.Reserved.{is_reserved_by}
-use Rattle.row_faults.specs.CoilFaults.{fault_if}
+use Rattle.row_faults.specs.{FaultView.RowFaultView, Reserved.is_reserved_by, CoilFaults.fault_if}
 
 -- whether no row may change the variable: the game alone sets it, or its change posts a reserved event
 abbrev pub is_barred : List (List ℕ) → List ℕ → Bool

@@ -1,12 +1,8 @@
 -- What contracts see of faults.
-use Rattle.std.specs.Prelude.{ℕ, List, map}
-use Rattle.std.specs.BTreeSet.{BTreeSet}
-use Rattle.std.specs.Global.{Vec}
+use Rattle.std.specs.{Prelude.{ℕ, List, map}, BTreeSet.BTreeSet, Global.Vec}
 use Rattle.mpf_sections.specs.declared.balls.BallDevice as typed_balls
-use Rattle.mpf_sections.specs.Rows.{BallDevice}
-use Rattle.mpf_sections.specs.View.{ball_device_view}
-use Rattle.row_faults.specs.declared.fault.RowFault.{RowFault}
-use Rattle.row_faults.specs.FaultView.{RowFaultView}
+use Rattle.mpf_sections.specs.{Rows.BallDevice, View.ball_device_view}
+use Rattle.row_faults.specs.{declared.fault.RowFault.RowFault, FaultView.RowFaultView}
 
 abbrev pub row_fault_view : RowFault → RowFaultView
 row_fault_view f = record { kind = f.kind; text = f.text.items; line = f.line; name = f.name.items }

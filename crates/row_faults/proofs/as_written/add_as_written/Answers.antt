@@ -1,7 +1,5 @@
-use Rattle.std.proofs.Common.{ap, sym, ◌∙◌}
-use Rattle.std.specs.List.{flat_map}
-use Rattle.row_faults.specs.Collected.{with_faults}
-use Rattle.row_faults.specs.Named.{named_faults}
+use Rattle.std.{proofs.Common.{ap, sym, ◌∙◌}, specs.List.flat_map}
+use Rattle.row_faults.specs.{Collected.with_faults, Named.named_faults}
 use Rattle.row_faults.proofs.AsWritten.{seen-in_order, seen-unwritten}
 use Rattle.row_faults.proofs.as_written.add_as_written.Goals as goal
 

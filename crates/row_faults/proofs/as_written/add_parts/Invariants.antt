@@ -1,7 +1,5 @@
-use Rattle.std.proofs.Common.{◌≡◌, drop}
-use Rattle.std.specs.List.{flat_map}
-use Rattle.row_faults.specs.Named.{named_faults}
-use Rattle.row_faults.specs.Collected.{with_faults}
+use Rattle.std.{proofs.Common.{◌≡◌, drop}, specs.List.flat_map}
+use Rattle.row_faults.specs.{Named.named_faults, Collected.with_faults}
 use Rattle.row_faults.proofs.as_written.add_parts.Given as goal
 
 abbrev pub invariant-loop-part : goal.invariant-loop-part

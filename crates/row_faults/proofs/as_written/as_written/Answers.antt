@@ -1,7 +1,5 @@
-use Rattle.std.proofs.Common.{rules, ap, ◌∙◌}
-use Rattle.std.proofs.lemmas.Fn.{always_returns_same}
-use Rattle.row_faults.specs.AsWritten.{ordered_by, written_before}
-use Rattle.row_faults.proofs.ByLine.{sorted-is}
+use Rattle.std.proofs.{Common.{rules, ap, ◌∙◌}, lemmas.Fn.always_returns_same}
+use Rattle.row_faults.{specs.AsWritten.{ordered_by, written_before}, proofs.ByLine.sorted-is}
 use Rattle.row_faults.proofs.as_written.as_written.Goals as goal
 
 pub returns : goal.returns

@@ -1,9 +1,6 @@
-use Rattle.std.proofs.Common.{◌≡◌, map, drop}
-use Rattle.std.specs.List.{flat_map}
-use Rattle.mpf_sections.specs.TypedBalls.{ball_device_of}
-use Rattle.mpf_sections.specs.View.{entry_view}
-use Rattle.row_faults.specs.BallFaults.{ball_device_faults}
-use Rattle.row_faults.specs.Collected.{with_faults}
+use Rattle.std.{proofs.Common.{◌≡◌, map, drop}, specs.List.flat_map}
+use Rattle.mpf_sections.specs.{TypedBalls.ball_device_of, View.entry_view}
+use Rattle.row_faults.specs.{BallFaults.ball_device_faults, Collected.with_faults}
 use Rattle.row_faults.proofs.ball_faults.add_ball_devices.Given as goal
 
 abbrev pub invariant-loop-entry : goal.invariant-loop-entry

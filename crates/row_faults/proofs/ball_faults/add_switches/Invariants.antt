@@ -1,8 +1,6 @@
-use Rattle.std.proofs.Common.{◌≡◌, map, drop}
-use Rattle.std.specs.List.{flat_map}
+use Rattle.std.{proofs.Common.{◌≡◌, map, drop}, specs.List.flat_map}
 use Rattle.mpf_sections.specs.View.{name_view}
-use Rattle.row_faults.specs.CoilFaults.{switch_name_faults}
-use Rattle.row_faults.specs.Collected.{with_faults}
+use Rattle.row_faults.specs.{CoilFaults.switch_name_faults, Collected.with_faults}
 use Rattle.row_faults.proofs.ball_faults.add_switches.Given as goal
 
 abbrev pub invariant-loop-switch : goal.invariant-loop-switch

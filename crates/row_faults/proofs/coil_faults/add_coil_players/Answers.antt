@@ -1,11 +1,6 @@
-use Rattle.std.proofs.Common.{map, sym, ap, ◌∙◌}
-use Rattle.std.proofs.lemmas.List.{at_drop_all}
-use Rattle.std.specs.List.{flat_map}
-use Rattle.mpf_sections.specs.TypedCoils.{coil_player_of, coil_players_in}
-use Rattle.mpf_sections.specs.View.{player_view}
-use Rattle.row_faults.specs.CoilFaults.{coil_player_faults}
-use Rattle.row_faults.specs.Collected.{with_faults}
-use Rattle.row_faults.proofs.Collected.{with-none}
+use Rattle.std.{proofs.{Common.{map, sym, ap, ◌∙◌}, lemmas.List.at_drop_all}, specs.List.flat_map}
+use Rattle.mpf_sections.specs.{TypedCoils.{coil_player_of, coil_players_in}, View.player_view}
+use Rattle.row_faults.{specs.{CoilFaults.coil_player_faults, Collected.with_faults}, proofs.Collected.with-none}
 use Rattle.row_faults.proofs.coil_faults.add_coil_players.Goals as goal
 
 pub returns : goal.returns

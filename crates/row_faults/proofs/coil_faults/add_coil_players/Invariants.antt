@@ -1,9 +1,6 @@
-use Rattle.std.proofs.Common.{◌≡◌, map, drop}
-use Rattle.std.specs.List.{flat_map}
-use Rattle.mpf_sections.specs.TypedCoils.{coil_player_of}
-use Rattle.mpf_sections.specs.View.{player_view}
-use Rattle.row_faults.specs.CoilFaults.{coil_player_faults}
-use Rattle.row_faults.specs.Collected.{with_faults}
+use Rattle.std.{proofs.Common.{◌≡◌, map, drop}, specs.List.flat_map}
+use Rattle.mpf_sections.specs.{TypedCoils.coil_player_of, View.player_view}
+use Rattle.row_faults.specs.{CoilFaults.coil_player_faults, Collected.with_faults}
 use Rattle.row_faults.proofs.coil_faults.add_coil_players.Given as goal
 
 abbrev pub invariant-loop-player : goal.invariant-loop-player

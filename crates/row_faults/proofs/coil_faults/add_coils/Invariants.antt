@@ -1,9 +1,6 @@
-use Rattle.std.proofs.Common.{◌≡◌, map, drop}
-use Rattle.std.specs.List.{flat_map}
-use Rattle.mpf_sections.specs.TypedCoils.{coil_of}
-use Rattle.mpf_sections.specs.View.{entry_view}
-use Rattle.row_faults.specs.CoilFaults.{coil_faults}
-use Rattle.row_faults.specs.Collected.{with_faults}
+use Rattle.std.{proofs.Common.{◌≡◌, map, drop}, specs.List.flat_map}
+use Rattle.mpf_sections.specs.{TypedCoils.coil_of, View.entry_view}
+use Rattle.row_faults.specs.{CoilFaults.coil_faults, Collected.with_faults}
 use Rattle.row_faults.proofs.coil_faults.add_coils.Given as goal
 
 abbrev pub invariant-loop-entry : goal.invariant-loop-entry

@@ -1,6 +1,5 @@
 use Rattle.std.proofs.Common.{◌≡◌, length}
-use Rattle.row_faults.specs.Rising.{HaveLines, are_rising}
-use Rattle.row_faults.specs.View.{row_faults_view}
+use Rattle.row_faults.specs.{Rising.{HaveLines, are_rising}, View.row_faults_view}
 use Rattle.row_faults.proofs.once.are_rising.Given as goal
 
 abbrev pub invariant-loop-rest : goal.invariant-loop-rest

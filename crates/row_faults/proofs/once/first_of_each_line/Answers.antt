@@ -1,5 +1,4 @@
-use Rattle.std.proofs.Common.{rules, ◌∙◌}
-use Rattle.yaml_subset.specs.Keys.{copies_view}
+use Rattle.std.proofs.Common.{rules}
 use Rattle.row_faults.proofs.RowFaults.{lists-new, lists-again}
 use Rattle.row_faults.proofs.once.first_of_each_line.Goals as goal
 

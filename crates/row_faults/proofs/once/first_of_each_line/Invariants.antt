@@ -1,7 +1,6 @@
 use Rattle.std.proofs.Common.{◌≡◌, ◌++◌, []}
 use Rattle.yaml_subset.specs.Keys.{copies_view}
-use Rattle.row_faults.specs.RowFaults.{listed_once}
-use Rattle.row_faults.specs.View.{row_faults_view}
+use Rattle.row_faults.specs.{RowFaults.listed_once, View.row_faults_view}
 use Rattle.row_faults.proofs.once.first_of_each_line.Given as goal
 
 abbrev pub invariant-loop-fault : goal.invariant-loop-fault

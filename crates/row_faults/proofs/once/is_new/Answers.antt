@@ -1,5 +1,4 @@
-use Rattle.std.proofs.Common.{◌||◌, List, ℕ, not, ap, ◌∙◌}
-use Rattle.std.specs.Str.{bytes_eq}
+use Rattle.std.{proofs.Common.{◌||◌, List, ℕ, not, ap, ◌∙◌}, specs.Str.bytes_eq}
 use Rattle.yaml_subset.specs.Keys.{is_among, copies_view}
 use Rattle.row_faults.proofs.once.is_new.Goals as goal
 

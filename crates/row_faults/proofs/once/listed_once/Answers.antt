@@ -1,6 +1,4 @@
-use Rattle.std.proofs.Common.{rules, sym, ap, ◌∙◌, subst}
-use Rattle.row_faults.specs.Rising.{HaveLines, are_rising}
-use Rattle.row_faults.specs.View.{row_faults_view}
+use Rattle.std.proofs.Common.{rules}
 use Rattle.row_faults.proofs.Rising.{once-rising}
 use Rattle.row_faults.proofs.once.listed_once.Goals as goal
 

@@ -1,7 +1,5 @@
-use Rattle.std.proofs.Common.{◌||◌, ◌++◌, List, ℕ, ap, ◌∙◌}
-use Rattle.std.specs.Str.{bytes_eq}
-use Rattle.yaml_subset.specs.Keys.{is_among}
-use Rattle.yaml_subset.proofs.KeySets.{insert_key-among}
+use Rattle.std.{proofs.Common.{◌||◌, ◌++◌, List, ℕ, ap, ◌∙◌}, specs.Str.bytes_eq}
+use Rattle.yaml_subset.{specs.Keys.is_among, proofs.KeySets.insert_key-among}
 use Rattle.row_faults.specs.View.{keys_view}
 use Rattle.row_faults.proofs.reserved.add_event.Goals as goal
 

@@ -1,9 +1,6 @@
-use Rattle.std.proofs.Common.{List, map, ap, sym, ◌∙◌}
-use Rattle.std.specs.List.{flat_map}
-use Rattle.mpf_sections.specs.Rows.{Written}
-use Rattle.mpf_sections.specs.View.{name_view}
-use Rattle.row_faults.specs.Collected.{with_faults, post_faults}
-use Rattle.row_faults.proofs.AsWritten.{seen-in_order, seen-unwritten}
+use Rattle.std.{proofs.Common.{List, map, ap, sym, ◌∙◌}, specs.List.flat_map}
+use Rattle.mpf_sections.specs.{Rows.Written, View.name_view}
+use Rattle.row_faults.{specs.Collected.{with_faults, post_faults}, proofs.AsWritten.{seen-in_order, seen-unwritten}}
 use Rattle.row_faults.proofs.reserved.add_in_order.Goals as goal
 
 pub returns : goal.returns

@@ -1,5 +1,4 @@
-use Rattle.std.proofs.Common.{◌≡◌, ◌++◌, ◌∷◌, ◌||◌, ℕ, Bool, List, codes, OnOk, subst, ap, ◌∙◌}
-use Rattle.std.specs.Str.{bytes_eq}
+use Rattle.std.{proofs.Common.{◌≡◌, ◌++◌, ◌∷◌, ◌||◌, ℕ, Bool, List, codes, OnOk, subst, ap, ◌∙◌}, specs.Str.bytes_eq}
 use Rattle.yaml_subset.specs.Keys.{is_among}
 use Rattle.row_faults.specs.View.{keys_view}
 use Rattle.row_faults.proofs.reserved.add_mode.Goals as goal

@@ -1,5 +1,4 @@
-use Rattle.std.proofs.Common.{◌≡◌, map, drop}
-use Rattle.std.specs.List.{flat_map}
+use Rattle.std.{proofs.Common.{◌≡◌, map, drop}, specs.List.flat_map}
 use Rattle.mpf_sections.specs.View.{name_view}
 use Rattle.row_faults.specs.Collected.{with_faults, post_faults}
 use Rattle.row_faults.proofs.reserved.add_parts.Given as goal

@@ -1,9 +1,6 @@
-use Rattle.std.proofs.Common.{◌≡◌, map, drop}
-use Rattle.std.specs.List.{flat_map}
-use Rattle.mpf_sections.specs.Typed.{event_player_of}
-use Rattle.mpf_sections.specs.View.{player_view}
-use Rattle.row_faults.specs.Reserved.{player_posts}
-use Rattle.row_faults.specs.Collected.{with_faults, post_faults}
+use Rattle.std.{proofs.Common.{◌≡◌, map, drop}, specs.List.flat_map}
+use Rattle.mpf_sections.specs.{Typed.event_player_of, View.player_view}
+use Rattle.row_faults.specs.{Reserved.player_posts, Collected.{with_faults, post_faults}}
 use Rattle.row_faults.proofs.reserved.add_players.Given as goal
 
 abbrev pub invariant-loop-player : goal.invariant-loop-player

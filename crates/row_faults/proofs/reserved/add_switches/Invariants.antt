@@ -1,9 +1,6 @@
-use Rattle.std.proofs.Common.{◌≡◌, map, drop}
-use Rattle.std.specs.List.{flat_map}
-use Rattle.mpf_sections.specs.Typed.{switch_of}
-use Rattle.mpf_sections.specs.View.{entry_view}
-use Rattle.row_faults.specs.Reserved.{switch_posts}
-use Rattle.row_faults.specs.Collected.{with_faults, post_faults}
+use Rattle.std.{proofs.Common.{◌≡◌, map, drop}, specs.List.flat_map}
+use Rattle.mpf_sections.specs.{Typed.switch_of, View.entry_view}
+use Rattle.row_faults.specs.{Reserved.switch_posts, Collected.{with_faults, post_faults}}
 use Rattle.row_faults.proofs.reserved.add_switches.Given as goal
 
 abbrev pub invariant-loop-entry : goal.invariant-loop-entry

@@ -1,8 +1,7 @@
 use Rattle.std.proofs.Common.{◌≡◌, ℕ, List, ◌++◌, map, drop}
 use Rattle.yaml_subset.specs.Keys.{is_among}
 use Rattle.mpf_config.specs.View.{name_view}
-use Rattle.row_faults.specs.Reserved.{events_of_modes}
-use Rattle.row_faults.specs.View.{keys_view}
+use Rattle.row_faults.specs.{Reserved.events_of_modes, View.keys_view}
 use Rattle.row_faults.proofs.reserved.events_of_modes.Given as goal
 
 -- the events so far, and those of the other modes

@@ -1,8 +1,7 @@
 use Rattle.std.proofs.Common.{◌≡◌, ◌||◌, Bool, false, sym, ap, ◌∙◌}
 use Rattle.yaml_subset.specs.Keys.{is_among}
 use Rattle.machine_definitions.specs.GameEvents.{reserved_game_events}
-use Rattle.row_faults.specs.View.{keys_view}
-use Rattle.row_faults.proofs.RowFaults.{has_name}
+use Rattle.row_faults.{specs.View.keys_view, proofs.RowFaults.has_name}
 use Rattle.row_faults.proofs.reserved.is_reserved.Goals as goal
 
 pub returns-else-is_of_game : goal.returns-else-is_of_game

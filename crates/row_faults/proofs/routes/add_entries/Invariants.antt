@@ -1,6 +1,5 @@
 use Rattle.std.proofs.Common.{◌≡◌, ◌++◌, map, drop}
-use Rattle.mpf_sections.specs.TypedBalls.{ball_device_of}
-use Rattle.mpf_sections.specs.View.{entry_view}
+use Rattle.mpf_sections.specs.{TypedBalls.ball_device_of, View.entry_view}
 use Rattle.row_faults.specs.View.{devices_view}
 use Rattle.row_faults.proofs.routes.add_entries.Given as goal
 

@@ -1,16 +1,10 @@
 use Rattle.std.proofs.Common.{◌≡◌, ◌++◌, ◌||◌, ◌+◌, ◌<◌, ℕ, Bool, false, not, List, drop, length, get_or, sym, ap, ◌∙◌, arith}
 use Rattle.std.proofs.lemmas.List.{length-map, get_or-map}
-use Rattle.mpf_sections.specs.View.{ball_device_view}
-use Rattle.mpf_sections.specs.Rows.{BallDevice}
-use Rattle.machine_definitions.specs.Found.{is_found}
-use Rattle.machine_definitions.proofs.Finding.{next-is}
-use Rattle.row_faults.specs.declared.fault.RowFaultKind.TheVariants.{BallRoute}
-use Rattle.row_faults.specs.Collected.{FaultsView, with_faults}
-use Rattle.row_faults.specs.CoilFaults.{fault_if}
-use Rattle.row_faults.specs.Routes.{leads_to_playfield, lacks_coil}
-use Rattle.row_faults.specs.BallFaults.{is_route_wrong, rest_faults}
-use Rattle.row_faults.specs.View.{devices_view}
-use Rattle.row_faults.proofs.Collected.{with-more}
+use Rattle.mpf_sections.specs.{View.ball_device_view, Rows.BallDevice}
+use Rattle.machine_definitions.{specs.Found.is_found, proofs.Finding.next-is}
+use Rattle.row_faults.{specs.declared.fault.RowFaultKind.TheVariants.BallRoute, proofs.Collected.with-more}
+use Rattle.row_faults.specs.{Collected.{FaultsView, with_faults}, CoilFaults.fault_if, View.devices_view}
+use Rattle.row_faults.specs.{Routes.{leads_to_playfield, lacks_coil}, BallFaults.{is_route_wrong, rest_faults}}
 use Rattle.row_faults.proofs.routes.add_faults.Goals as goal
 
 pub loop-number-preserved : goal.loop-number-preserved

@@ -1,8 +1,6 @@
 use Rattle.std.proofs.Common.{◌≡◌, drop}
 use Rattle.machine_definitions.specs.Found.{is_found}
-use Rattle.row_faults.specs.BallFaults.{rest_faults, route_faults}
-use Rattle.row_faults.specs.Collected.{with_faults}
-use Rattle.row_faults.specs.View.{devices_view}
+use Rattle.row_faults.specs.{BallFaults.{rest_faults, route_faults}, Collected.with_faults, View.devices_view}
 use Rattle.row_faults.proofs.routes.add_faults.Given as goal
 
 abbrev pub invariant-loop-number : goal.invariant-loop-number

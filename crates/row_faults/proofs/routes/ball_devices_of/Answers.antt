@@ -1,10 +1,7 @@
-use Rattle.std.proofs.Common.{◌+◌, ◌++◌, List, map, drop, ap, ◌∙◌}
-use Rattle.std.proofs.lemmas.List.{append_assoc}
-use Rattle.mpf_sections.specs.TypedBalls.{ball_device_of, ball_devices_in}
-use Rattle.mpf_sections.specs.View.{section_view}
+use Rattle.std.proofs.{Common.{◌+◌, ◌++◌, List, map, drop, ap, ◌∙◌}, lemmas.List.append_assoc}
+use Rattle.mpf_sections.specs.{TypedBalls.{ball_device_of, ball_devices_in}, View.section_view}
 use Rattle.mpf_sections.proofs.BallRows.{ball_devices_are}
-use Rattle.machine_definitions.specs.Definitions.{ball_devices_of}
-use Rattle.machine_definitions.proofs.Finding.{next-is}
+use Rattle.machine_definitions.{specs.Definitions.ball_devices_of, proofs.Finding.next-is}
 use Rattle.row_faults.specs.View.{devices_view}
 use Rattle.row_faults.proofs.routes.ball_devices_of.Goals as goal
 

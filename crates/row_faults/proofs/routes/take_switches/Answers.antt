@@ -1,9 +1,8 @@
-use Rattle.std.proofs.Common.{rules, ◌≡◌, ◌||◌, ◌+◌, Bool, true, false, not, List, map, drop, refl, sym, ap, ◌∙◌}
+use Rattle.std.proofs.Common.{rules, ◌≡◌, ◌||◌, ◌+◌, Bool, true, false, not, List, map, drop, sym, ap, ◌∙◌}
 use Rattle.std.specs.Str.{bytes_eq}
-use Rattle.machine_definitions.specs.Found.{is_found}
+use Rattle.machine_definitions.{specs.Found.is_found, proofs.Finding.{name-found, took-name, or_more, next-is}}
 use Rattle.mpf_sections.specs.View.{name_view}
 use Rattle.row_faults.specs.Routes.{taken_too, all_taken, is_one_taken}
-use Rattle.machine_definitions.proofs.Finding.{name-found, took-name, or_more, next-is}
 use Rattle.row_faults.proofs.routes.take_switches.Goals as goal
 use Rattle.row_faults.proofs.routes.take_switches.Goals.{then-again, else-again}
 

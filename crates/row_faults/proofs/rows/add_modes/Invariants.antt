@@ -1,8 +1,7 @@
 use Rattle.std.proofs.Common.{◌≡◌, ◌++◌, map, drop}
 use Rattle.mpf_config.specs.View.{mode_view}
 use Rattle.machine_definitions.specs.Found.{is_found}
-use Rattle.row_faults.specs.RowFaults.{mode_faults}
-use Rattle.row_faults.specs.View.{keys_view, row_faults_view}
+use Rattle.row_faults.specs.{RowFaults.mode_faults, View.{keys_view, row_faults_view}}
 use Rattle.row_faults.proofs.rows.add_modes.Given as goal
 
 abbrev pub invariant-loop-text : goal.invariant-loop-text

@@ -1,12 +1,9 @@
 use Rattle.std.proofs.Common.{◌≡◌, ◌++◌, ℕ, Bool, List, map, drop, ◌+◌, ap, ◌∙◌}
 use Rattle.mpf_sections.specs.View.{section_view}
-use Rattle.machine_definitions.specs.Found.{is_found}
-use Rattle.machine_definitions.proofs.Finding.{next-is}
-use Rattle.row_faults.specs.Collected.{FaultsView, with_faults}
-use Rattle.row_faults.specs.RowFaults.{section_faults, written_faults}
+use Rattle.machine_definitions.{specs.Found.is_found, proofs.Finding.next-is}
+use Rattle.row_faults.specs.{Collected.{FaultsView, with_faults}, RowFaults.{section_faults, written_faults}}
 use Rattle.row_faults.specs.ShotFaults.{listed_in, listed_of, taken_after}
-use Rattle.row_faults.proofs.Collected.{with-more}
-use Rattle.row_faults.proofs.Listed.{taken-more}
+use Rattle.row_faults.proofs.{Collected.with-more, Listed.taken-more}
 use Rattle.row_faults.proofs.rows.add_sections.Goals as goal
 
 pub loop-section-preserved : goal.loop-section-preserved

@@ -1,9 +1,7 @@
 use Rattle.std.proofs.Common.{◌≡◌, map, drop}
 use Rattle.mpf_sections.specs.View.{section_view}
 use Rattle.machine_definitions.specs.Found.{is_found}
-use Rattle.row_faults.specs.Collected.{with_faults}
-use Rattle.row_faults.specs.RowFaults.{written_faults}
-use Rattle.row_faults.specs.ShotFaults.{listed_of, taken_after}
+use Rattle.row_faults.specs.{Collected.with_faults, RowFaults.written_faults, ShotFaults.{listed_of, taken_after}}
 use Rattle.row_faults.proofs.rows.add_sections.Given as goal
 
 abbrev pub invariant-loop-section : goal.invariant-loop-section

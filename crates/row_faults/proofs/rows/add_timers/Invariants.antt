@@ -1,9 +1,6 @@
-use Rattle.std.proofs.Common.{◌≡◌, map, drop}
-use Rattle.std.specs.List.{filter}
-use Rattle.mpf_sections.specs.Typed.{timer_of}
-use Rattle.mpf_sections.specs.View.{entry_view}
-use Rattle.row_faults.specs.RowFaults.{starts_at_end, timer_fault}
-use Rattle.row_faults.specs.Collected.{with_faults}
+use Rattle.std.{proofs.Common.{◌≡◌, map, drop}, specs.List.filter}
+use Rattle.mpf_sections.specs.{Typed.timer_of, View.entry_view}
+use Rattle.row_faults.specs.{RowFaults.{starts_at_end, timer_fault}, Collected.with_faults}
 use Rattle.row_faults.proofs.rows.add_timers.Given as goal
 
 abbrev pub invariant-loop-entry : goal.invariant-loop-entry

@@ -1,14 +1,10 @@
-use Rattle.std.proofs.Common.{◌≡◌, ℕ, List, map, ◌++◌, [], sym, ap, ◌∙◌}
-use Rattle.std.proofs.lemmas.Result.{IfOk-weaker}
+use Rattle.std.proofs.{Common.{◌≡◌, ℕ, List, map, ◌++◌, [], sym, ap, ◌∙◌}, lemmas.Result.IfOk-weaker}
 use Rattle.yaml_subset.specs.Keys.{is_among}
-use Rattle.mpf_sections.specs.View.{section_view}
+use Rattle.mpf_sections.specs.{View.section_view, Typed.listed_modes}
 use Rattle.mpf_config.specs.View.{rows_view, mode_view}
-use Rattle.mpf_sections.specs.Typed.{listed_modes}
 use Rattle.row_faults.specs.Reserved.{events_of_modes, mode_names}
-use Rattle.row_faults.specs.RowFaults.{listed_once, row_faults}
-use Rattle.row_faults.specs.View.{keys_view, row_faults_view}
-use Rattle.row_faults.proofs.Sound.{no_faults_sound}
-use Rattle.row_faults.proofs.RowFaults.{same_faults, joined-events}
+use Rattle.row_faults.specs.{RowFaults.{listed_once, row_faults}, View.{keys_view, row_faults_view}}
+use Rattle.row_faults.proofs.{Sound.no_faults_sound, RowFaults.{same_faults, joined-events}}
 use Rattle.row_faults.proofs.rows.faults_of_rows.Goals as goal
 
 pub returns-clause-exact : goal.returns-clause-exact

@@ -1,14 +1,9 @@
-use Rattle.std.proofs.Common.{◌≡◌, ◌++◌, ℕ, Bool, List, map, ap, ◌∙◌}
-use Rattle.std.specs.Borrow.{Bor}
-use Rattle.std.specs.List.{list_any}
+use Rattle.std.{proofs.Common.{◌≡◌, ◌++◌, ℕ, Bool, List, map, ap, ◌∙◌}, specs.{Borrow.Bor, List.list_any}}
 use Rattle.mpf_sections.specs.View.{section_view}
-use Rattle.mpf_config.specs.BundleText.{machine_name}
-use Rattle.mpf_config.specs.View.{mode_view, rows_view}
+use Rattle.mpf_config.specs.{BundleText.machine_name, View.{mode_view, rows_view}}
 use Rattle.machine_definitions.specs.Found.{has_bytes, is_found}
-use Rattle.row_faults.specs.FaultView.{RowFaultView}
+use Rattle.row_faults.specs.{FaultView.RowFaultView, ShotFaults.{listed_of, taken_after}, View.keys_view}
 use Rattle.row_faults.specs.RowFaults.{text_faults, mode_faults, is_none_taken}
-use Rattle.row_faults.specs.ShotFaults.{listed_of, taken_after}
-use Rattle.row_faults.specs.View.{keys_view}
 use Rattle.row_faults.proofs.rows.faults_of_texts.Goals as goal
 
 pub returns : goal.returns

@@ -1,9 +1,6 @@
-use Rattle.std.proofs.Common.{rules, ◌≡◌, ap, sym, subst, ◌∙◌}
-use Rattle.std.proofs.lemmas.Fn.{always_returns_same}
-use Rattle.row_faults.specs.declared.fault.RowFault.{RowFault}
-use Rattle.row_faults.specs.AsWritten.{ordered_by}
-use Rattle.row_faults.specs.RowFaults.{fault_number}
-use Rattle.row_faults.specs.View.{row_fault_view, row_faults_view}
+use Rattle.std.proofs.{Common.{rules, ◌≡◌, ap, sym, subst, ◌∙◌}, lemmas.Fn.always_returns_same}
+use Rattle.row_faults.specs.{declared.fault.RowFault.RowFault, View.{row_fault_view, row_faults_view}}
+use Rattle.row_faults.specs.{AsWritten.ordered_by, RowFaults.fault_number}
 use Rattle.row_faults.proofs.ByLine.{at-most, in-order, sorted-is, ordered-seen}
 use Rattle.row_faults.proofs.rows.sort_by_number.Goals as goal
 

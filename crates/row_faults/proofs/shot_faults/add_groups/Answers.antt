@@ -1,13 +1,8 @@
-use Rattle.std.proofs.Common.{◌≡◌, List, map, drop, ◌+◌, ap, ◌∙◌}
-use Rattle.std.specs.List.{flat_map}
-use Rattle.mpf_sections.specs.TypedShots.{shot_group_of}
-use Rattle.mpf_sections.specs.View.{entry_view}
-use Rattle.machine_definitions.specs.Found.{is_found}
-use Rattle.machine_definitions.proofs.Finding.{next-is}
-use Rattle.row_faults.specs.Collected.{FaultsView, with_faults, group_faults}
-use Rattle.row_faults.specs.ShotFaults.{listed_by, taken_after}
-use Rattle.row_faults.proofs.Collected.{group-more}
-use Rattle.row_faults.proofs.Listed.{taken-more}
+use Rattle.std.{proofs.Common.{◌≡◌, List, map, drop, ◌+◌, ap, ◌∙◌}, specs.List.flat_map}
+use Rattle.mpf_sections.specs.{TypedShots.shot_group_of, View.entry_view}
+use Rattle.machine_definitions.{specs.Found.is_found, proofs.Finding.next-is}
+use Rattle.row_faults.specs.{Collected.{FaultsView, with_faults, group_faults}, ShotFaults.{listed_by, taken_after}}
+use Rattle.row_faults.proofs.{Collected.group-more, Listed.taken-more}
 use Rattle.row_faults.proofs.shot_faults.add_groups.Goals as goal
 
 pub loop-group-preserved : goal.loop-group-preserved

@@ -1,10 +1,7 @@
-use Rattle.std.proofs.Common.{◌≡◌, map, drop}
-use Rattle.std.specs.List.{flat_map}
-use Rattle.mpf_sections.specs.TypedShots.{shot_group_of}
-use Rattle.mpf_sections.specs.View.{entry_view}
+use Rattle.std.{proofs.Common.{◌≡◌, map, drop}, specs.List.flat_map}
+use Rattle.mpf_sections.specs.{TypedShots.shot_group_of, View.entry_view}
 use Rattle.machine_definitions.specs.Found.{is_found}
-use Rattle.row_faults.specs.ShotFaults.{listed_by, taken_after}
-use Rattle.row_faults.specs.Collected.{with_faults, group_faults}
+use Rattle.row_faults.specs.{ShotFaults.{listed_by, taken_after}, Collected.{with_faults, group_faults}}
 use Rattle.row_faults.proofs.shot_faults.add_groups.Given as goal
 
 abbrev pub invariant-loop-group : goal.invariant-loop-group

@@ -1,14 +1,10 @@
-use Rattle.std.proofs.Common.{◌≡◌, ◌||◌, ℕ, List, [], ◌∷◌, map, option_map, drop, ◌+◌, ap, ◌∙◌}
-use Rattle.std.specs.Str.{bytes_eq}
+use Rattle.std.{proofs.Common.{◌≡◌, ◌||◌, ℕ, List, [], ◌∷◌, map, option_map, drop, ◌+◌, ap, ◌∙◌}, specs.Str.bytes_eq}
 use Rattle.mpf_sections.specs.View.{name_view, shot_view}
-use Rattle.machine_definitions.specs.Found.{is_found}
-use Rattle.machine_definitions.proofs.Finding.{took-name, next-is}
+use Rattle.machine_definitions.{specs.Found.is_found, proofs.Finding.{took-name, next-is}}
 use Rattle.row_faults.specs.declared.fault.RowFaultKind.TheVariants as kinds
-use Rattle.row_faults.specs.CoilFaults.{fault_if}
-use Rattle.row_faults.specs.Collected.{with_faults, group_faults}
+use Rattle.row_faults.specs.{CoilFaults.fault_if, Collected.{with_faults, group_faults}}
 use Rattle.row_faults.specs.ShotFaults.{Listed, listed_with, taken_with, taken_after, is_misplaced}
-use Rattle.row_faults.proofs.Collected.{group-more, fault-kept}
-use Rattle.row_faults.proofs.Listed.{taken-more}
+use Rattle.row_faults.proofs.{Collected.{group-more, fault-kept}, Listed.taken-more}
 use Rattle.row_faults.proofs.shot_faults.add_listed.Goals as goal
 
 pub loop-name-preserved : goal.loop-name-preserved

@@ -1,9 +1,7 @@
-use Rattle.std.proofs.Common.{◌≡◌, map, drop}
-use Rattle.std.proofs.Common.{option_map}
+use Rattle.std.proofs.Common.{◌≡◌, map, drop, option_map}
 use Rattle.mpf_sections.specs.View.{name_view, shot_view}
 use Rattle.machine_definitions.specs.Found.{is_found}
-use Rattle.row_faults.specs.ShotFaults.{listed_with, taken_after}
-use Rattle.row_faults.specs.Collected.{with_faults, group_faults}
+use Rattle.row_faults.specs.{ShotFaults.{listed_with, taken_after}, Collected.{with_faults, group_faults}}
 use Rattle.row_faults.proofs.shot_faults.add_listed.Given as goal
 
 abbrev pub invariant-loop-name : goal.invariant-loop-name

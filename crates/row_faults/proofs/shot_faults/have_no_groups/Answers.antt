@@ -1,10 +1,7 @@
 use Rattle.std.proofs.Common.{◌≡◌, ◌==◌, true, List, [], ◌∷◌, ◌++◌, ◌+◌, length, map, drop, refl, sym, ap, ◌∙◌, arith}
-use Rattle.std.specs.List.{flat_map}
-use Rattle.std.proofs.lemmas.Bool.{eqb-true}
-use Rattle.mpf_sections.specs.Rows.{SectionRows}
-use Rattle.mpf_sections.specs.Typed.{entries_of}
+use Rattle.std.{specs.List.flat_map, proofs.lemmas.Bool.eqb-true}
+use Rattle.mpf_sections.specs.{Rows.SectionRows, Typed.entries_of, View.{entry_view, section_view}}
 use Rattle.mpf_sections.specs.TypedShots.{shot_groups_name, shot_group_of, shot_groups_in}
-use Rattle.mpf_sections.specs.View.{entry_view, section_view}
 use Rattle.machine_definitions.proofs.Finding.{next-is}
 use Rattle.row_faults.proofs.shot_faults.have_no_groups.Goals as goal
 

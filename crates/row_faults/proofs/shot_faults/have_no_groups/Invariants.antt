@@ -1,7 +1,5 @@
-use Rattle.std.proofs.Common.{◌≡◌, map, drop}
-use Rattle.std.specs.List.{flat_map}
-use Rattle.mpf_sections.specs.TypedShots.{shot_groups_in}
-use Rattle.mpf_sections.specs.View.{section_view}
+use Rattle.std.{proofs.Common.{◌≡◌, map, drop}, specs.List.flat_map}
+use Rattle.mpf_sections.specs.{TypedShots.shot_groups_in, View.section_view}
 use Rattle.row_faults.proofs.shot_faults.have_no_groups.Given as goal
 
 abbrev pub invariant-loop-section : goal.invariant-loop-section

@@ -1,8 +1,5 @@
-use Rattle.std.proofs.Common.{◌≡◌, ◌||◌, ℕ, List, map, drop}
-use Rattle.std.specs.List.{list_any, flat_map}
-use Rattle.std.specs.Str.{bytes_eq}
-use Rattle.mpf_sections.specs.TypedShots.{shots_in}
-use Rattle.mpf_sections.specs.View.{section_view}
+use Rattle.std.{proofs.Common.{◌≡◌, ◌||◌, ℕ, List, map, drop}, specs.{List.{list_any, flat_map}, Str.bytes_eq}}
+use Rattle.mpf_sections.specs.{TypedShots.shots_in, View.section_view}
 use Rattle.machine_definitions.specs.Found.{is_found}
 use Rattle.row_faults.specs.ShotFaults.{is_own_shot}
 use Rattle.row_faults.proofs.shot_faults.shots_of.Given as goal

@@ -1,10 +1,6 @@
-use Rattle.std.proofs.Common.{◌||◌, Bool, List, map, drop, ◌+◌, ap, ◌∙◌}
-use Rattle.std.specs.List.{list_any}
-use Rattle.std.specs.Str.{bytes_eq}
-use Rattle.mpf_sections.specs.TypedShots.{shot_of}
-use Rattle.mpf_sections.specs.View.{entry_view}
-use Rattle.machine_definitions.specs.Found.{is_found}
-use Rattle.machine_definitions.proofs.Finding.{took-name, or_more, next-is}
+use Rattle.std.{proofs.Common.{◌||◌, Bool, List, map, drop, ◌+◌, ap, ◌∙◌}, specs.{List.list_any, Str.bytes_eq}}
+use Rattle.mpf_sections.specs.{TypedShots.shot_of, View.entry_view}
+use Rattle.machine_definitions.{specs.Found.is_found, proofs.Finding.{took-name, or_more, next-is}}
 use Rattle.row_faults.proofs.shot_faults.take_shots.Goals as goal
 
 pub loop-entry-preserved : goal.loop-entry-preserved

@@ -1,8 +1,5 @@
-use Rattle.std.proofs.Common.{◌≡◌, ◌||◌, ℕ, List, map, drop}
-use Rattle.std.specs.List.{list_any}
-use Rattle.std.specs.Str.{bytes_eq}
-use Rattle.mpf_sections.specs.TypedShots.{shot_of}
-use Rattle.mpf_sections.specs.View.{entry_view}
+use Rattle.std.{proofs.Common.{◌≡◌, ◌||◌, ℕ, List, map, drop}, specs.{List.list_any, Str.bytes_eq}}
+use Rattle.mpf_sections.specs.{TypedShots.shot_of, View.entry_view}
 use Rattle.machine_definitions.specs.Found.{is_found}
 use Rattle.row_faults.proofs.shot_faults.take_shots.Given as goal
 

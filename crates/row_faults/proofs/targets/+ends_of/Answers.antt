@@ -1,7 +1,5 @@
-use Rattle.std.proofs.Common.{◌≡◌, ◌+◌, ◌-◌, ◌/◌, suc, map, get_or, ap, ◌∙◌, arith}
-use Rattle.std.proofs.lemmas.Result.{IfOk-weaker}
-use Rattle.row_faults.specs.Numbers.{after}
-use Rattle.row_faults.proofs.Numbers.{twice-is, once-more}
+use Rattle.std.proofs.{Common.{◌≡◌, ◌+◌, ◌-◌, ◌/◌, suc, map, get_or, ap, ◌∙◌, arith}, lemmas.Result.IfOk-weaker}
+use Rattle.row_faults.{specs.Numbers.after, proofs.Numbers.{twice-is, once-more}}
 use Rattle.row_faults.proofs.targets.+ends_of.Goals as goal
 
 pub returns-then-times-eq1 : goal.returns-then-times-eq1

@@ -1,11 +1,7 @@
 use Rattle.std.proofs.Common.{◌≡◌, ℕ, ◌==◌, List, length, map, sym, ap, ◌∙◌}
-use Rattle.std.proofs.lemmas.Result.{IfOk-weaker}
-use Rattle.std.proofs.lemmas.List.{length-map}
-use Rattle.mpf_sections.specs.Rows.{BallDevice}
-use Rattle.mpf_sections.specs.View.{ball_device_view}
-use Rattle.row_faults.specs.View.{devices_view}
-use Rattle.row_faults.specs.Numbers.{number_found, number_of}
-use Rattle.row_faults.proofs.Leads.{leads-by-ends}
+use Rattle.std.proofs.lemmas.{Result.IfOk-weaker, List.length-map}
+use Rattle.mpf_sections.specs.{Rows.BallDevice, View.ball_device_view}
+use Rattle.row_faults.{specs.{View.devices_view, Numbers.{number_found, number_of}}, proofs.Leads.leads-by-ends}
 use Rattle.row_faults.proofs.targets.leads_of.Goals as goal
 
 pub returns : goal.returns

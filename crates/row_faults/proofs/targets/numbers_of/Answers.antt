@@ -1,15 +1,9 @@
-use Rattle.std.proofs.Common.{rules, ◌≡◌, ℕ, ◌+◌, ◌<◌, Bool, true, false, if◌then◌else◌, List, [], ◌∷◌, ◌++◌, length, take, Option, Some, None, IfSome, option_map, sym, ap, subst, ◌∙◌, arith}
-use Rattle.std.specs.List.{slice_get}
-use Rattle.std.specs.Str.{bytes_eq}
-use Rattle.std.proofs.lemmas.List.{take_more, length-map, get_or-map}
-use Rattle.std.proofs.lemmas.List.Sums.{fold_push}
-use Rattle.std.proofs.lemmas.Iterator.Adapters.{option_map_id}
-use Rattle.std.proofs.lemmas.Option.{slice_get-map, slice_get-get_or}
-use Rattle.mpf_sections.specs.Rows.{BallDevice}
-use Rattle.mpf_sections.specs.View.{ball_device_view}
-use Rattle.row_faults.specs.View.{devices_view}
-use Rattle.machine_definitions.specs.Definitions.{latest_ball_device, ball_device_among}
-use Rattle.row_faults.specs.Numbers.{number_found, device_at}
+use Rattle.std.proofs.Common.{rules, ◌≡◌, ℕ, ◌+◌, ◌<◌, Bool, true, if◌then◌else◌, List, [], ◌∷◌, ◌++◌, length, take, Option, Some, IfSome, option_map, sym, ap, subst, ◌∙◌, arith}
+use Rattle.std.specs.{List.slice_get, Str.bytes_eq}
+use Rattle.std.proofs.lemmas.List.{take_more, length-map, get_or-map, Sums.fold_push}
+use Rattle.std.proofs.lemmas.{Iterator.Adapters.option_map_id, Option.{slice_get-map, slice_get-get_or}}
+use Rattle.mpf_sections.specs.{Rows.BallDevice, View.ball_device_view}
+use Rattle.row_faults.specs.{View.devices_view, Numbers.{number_found, device_at}}
 use Rattle.machine_definitions.proofs.Finding.{took-value}
 use Rattle.row_faults.proofs.targets.numbers_of.Goals as goal
 

@@ -1,6 +1,5 @@
 use Rattle.std.proofs.Common.{◌≡◌, ℕ, ◌<◌, List, length, take, IfSome}
-use Rattle.row_faults.specs.Numbers.{number_found, device_at}
-use Rattle.row_faults.specs.View.{devices_view}
+use Rattle.row_faults.specs.{Numbers.{number_found, device_at}, View.devices_view}
 use Rattle.machine_definitions.specs.Definitions.{ball_device_among}
 use Rattle.row_faults.proofs.targets.numbers_of.Given as goal
 

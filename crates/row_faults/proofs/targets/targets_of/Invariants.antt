@@ -1,6 +1,5 @@
 use Rattle.std.proofs.Common.{◌≡◌, ◌++◌, length, map, drop}
-use Rattle.row_faults.specs.Numbers.{number_found, number_of}
-use Rattle.row_faults.specs.View.{devices_view}
+use Rattle.row_faults.specs.{Numbers.{number_found, number_of}, View.devices_view}
 use Rattle.row_faults.proofs.targets.targets_of.Given as goal
 
 abbrev pub invariant-loop-device : goal.invariant-loop-device

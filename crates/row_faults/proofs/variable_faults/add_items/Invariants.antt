@@ -1,9 +1,6 @@
-use Rattle.std.proofs.Common.{◌≡◌, map, drop}
-use Rattle.std.specs.List.{flat_map}
-use Rattle.mpf_sections.specs.TypedGame.{variable_item_of}
-use Rattle.mpf_sections.specs.View.{keyed_view}
-use Rattle.row_faults.specs.VariableFaults.{variable_item_faults}
-use Rattle.row_faults.specs.Collected.{with_faults}
+use Rattle.std.{proofs.Common.{◌≡◌, map, drop}, specs.List.flat_map}
+use Rattle.mpf_sections.specs.{TypedGame.variable_item_of, View.keyed_view}
+use Rattle.row_faults.specs.{VariableFaults.variable_item_faults, Collected.with_faults}
 use Rattle.row_faults.proofs.variable_faults.add_items.Given as goal
 
 abbrev pub invariant-loop-item : goal.invariant-loop-item
