@@ -1,15 +1,6 @@
-<<<<<<< /work/main/crates/row_contributions/proofs/collect_devices/collect_device/Answers.antt
 use Rattle.std.{proofs.Common.{rules, ◌≡◌, ◌++◌, sym, ap, subst, ◌∙◌}, specs.Prelude.OnOk}
 use Rattle.mpf_sections.specs.View.{entry_view}
 use Rattle.row_contributions.specs.{DeviceEntries.timer_device, Contributions.{device_contributions, where_device}}
-=======
-use Rattle.std.proofs.Common.{rules, ◌≡◌, ◌++◌, sym, ap, subst, ◌∙◌}
-use Rattle.std.specs.Prelude.{OnOk}
-use Rattle.mpf_sections.specs.View.{entry_view, step_block_view}
-use Rattle.plan_tables.specs.declared.devices.Settings.TheVariants as kinds
-use Rattle.row_contributions.specs.DeviceEntries.{step_settings, step_device, timer_device}
-use Rattle.row_contributions.specs.Contributions.{device_contributions, where_device}
->>>>>>> proofs/collect_devices/collect_device/Answers.antt
 use Rattle.plan_contributions.specs.View.{contributions_view}
 use Rattle.row_contributions.proofs.DeviceParts.{accrual_there, sequence_there, timer_there, save_there}
 use Rattle.row_contributions.proofs.collect_devices.collect_device.Goals as goal

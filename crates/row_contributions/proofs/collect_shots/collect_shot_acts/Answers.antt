@@ -1,16 +1,4 @@
-<<<<<<< /work/main/crates/row_contributions/proofs/collect_shots/collect_shot_acts/Answers.antt
 use Rattle.std.proofs.Common.{rules}
-=======
-use Rattle.std.proofs.Common.{rules, ◌++◌, map, ap, ◌∙◌}
-use Rattle.std.specs.List.{flat_map}
-use Rattle.std.specs.Prelude.{option_map}
-use Rattle.mpf_sections.specs.View.{handler_view, name_at_view}
-use Rattle.plan_tables.specs.declared.devices.Act.TheVariants.{Hit, Advance, ResetShot, EnableShot, DisableShot}
-use Rattle.row_contributions.specs.DeviceEntries.{acts}
-use Rattle.row_contributions.specs.ShotEntries.{switch_hits}
-use Rattle.row_contributions.specs.Contributions.{act_at}
-use Rattle.plan_contributions.specs.View.{contributions_view}
->>>>>>> proofs/collect_shots/collect_shot_acts/Answers.antt
 use Rattle.row_contributions.proofs.DeviceParts.{made_after}
 use Rattle.row_contributions.proofs.collect_shots.collect_shot_acts.Goals as goal
 
