@@ -1,15 +1,11 @@
 -- What can be given to a plan, by names.
 use Rattle.std.specs.Prelude.{ℕ, Bool, List, ◌++◌, codes}
 use Rattle.mpf_values.specs.Events.{Condition}
-use Rattle.plan_tables.specs.declared.entries.SwitchKind.{SwitchKind}
-use Rattle.plan_tables.specs.declared.entries.CoilLimits.{CoilLimits}
-use Rattle.plan_tables.specs.declared.entries.ModeEvent.{ModeEvent}
+use Rattle.plan_tables.specs.declared.entries.{SwitchKind.SwitchKind, CoilLimits.CoilLimits, ModeEvent.ModeEvent}
 use Rattle.plan_tables.specs.declared.entries.ModeEvent.TheVariants.{WillStart, Starting, Started, Stopping, Stopped}
-use Rattle.plan_tables.specs.declared.devices.Settings.{Settings}
-use Rattle.plan_tables.specs.declared.table.Table.{Table}
+use Rattle.plan_tables.specs.declared.{devices.Settings.Settings, table.Table.Table}
 use Rattle.plan_rows.specs.declared.place.Place.{Place}
-use Rattle.plan_contributions.specs.declared.contribution.Aim.{Aim}
-use Rattle.plan_contributions.specs.Effects.{Effect}
+use Rattle.plan_contributions.specs.{declared.contribution.Aim.Aim, Effects.Effect}
 
 -- One thing that a row gives: an entry of a table, by its name; how the last given switch is read, and whether a ball
 -- that presses it is on the playfield; an event that this switch posts when it becomes active, or inactive; a mode by

@@ -1,10 +1,8 @@
 -- What a list of contributions gains, as the program has it.
-use Rattle.std.specs.Prelude.{◌≡◌, ℕ, List, [], ◌∷◌, ◌++◌}
-use Rattle.std.specs.Global.{Vec}
+use Rattle.std.specs.{Prelude.{◌≡◌, ℕ, List, [], ◌∷◌, ◌++◌}, Global.Vec}
 use Rattle.plan_contributions.specs.declared.contribution.Effect as effects
 use Rattle.plan_contributions.specs.declared.contribution.Contribution as contributions
-use Rattle.plan_contributions.specs.Contributions.{Contribution, does_in}
-use Rattle.plan_contributions.specs.View.{effect_view, contributions_view}
+use Rattle.plan_contributions.specs.{Contributions.{Contribution, does_in}, View.{effect_view, contributions_view}}
 
 -- a list of contributions has grown by these
 abbrev pub Gains : (old new : Vec contributions.Contribution) → List Contribution → Type 0

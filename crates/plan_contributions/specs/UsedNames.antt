@@ -1,10 +1,7 @@
 -- The names that contributions use, and those under which they give something.
-use Rattle.std.specs.Prelude.{ℕ, ◌==◌, if◌then◌else◌, List, [], ◌∷◌, Option, None, Some}
-use Rattle.std.specs.List.{flat_map}
-use Rattle.plan_tables.specs.declared.entries.ModeEvent.TheVariants.{WillStart}
-use Rattle.plan_tables.specs.declared.table.Table.{Table}
-use Rattle.plan_tables.specs.declared.table.Table.TheVariants.{Events, Switches, Coils, Variables}
-use Rattle.plan_tables.specs.Limits.{order_of}
+use Rattle.std.specs.{Prelude.{ℕ, ◌==◌, if◌then◌else◌, List, [], ◌∷◌, Option, None, Some}, List.flat_map}
+use Rattle.plan_tables.specs.{declared.entries.ModeEvent.TheVariants.WillStart, Limits.order_of}
+use Rattle.plan_tables.specs.declared.table.Table.{Table, TheVariants.{Events, Switches, Coils, Variables}}
 use Rattle.plan_contributions.specs.Contributions.{Contribution, gives, active, inactive, mode, mode_event, mode_event_name, binds, does, does_in, listens, mentions, coil, under}
 use Rattle.plan_contributions.specs.Effects.{Effect, posts, works, changes, enters, leaves, loses, arrives, requests, adds_balls}
 
