@@ -1,18 +1,12 @@
 -- The alarms that come by a moment.
 use Rattle.std.proofs.Common.{◌≡◌, ℕ, suc, ◌<◌, ◌≤◌, ◌^◌, ◌⊎◌, Bool, true, false, None, Ok, List, ◌∷◌, length, inl, inr, refl, ap, subst, arith}
-use Rattle.plan_tables.specs.PlanView.{PlanView}
-use Rattle.plan_tables.specs.Valid.{IsValid}
-use Rattle.written_machine.specs.declared.line.Line.{Line}
-use Rattle.written_machine.specs.Machine.{Machine}
+use Rattle.plan_tables.specs.{PlanView.PlanView, Valid.IsValid}
+use Rattle.written_machine.specs.{declared.line.Line.Line, NextAlarm.is_due_by}
+use Rattle.written_machine.specs.{Machine.Machine, AlarmsBy.{alarms_by, state_after}, PlanOrder.settled}
 use Rattle.written_machine.specs.Run.{Source, IsNoAlarmDueBy, IsNextAlarm, Stimulus, Alarm, IsAllowed, IsReached}
-use Rattle.written_machine.specs.NextAlarm.{is_due_by}
-use Rattle.written_machine.specs.AlarmsBy.{alarms_by, state_after}
-use Rattle.written_machine.specs.PlanOrder.{settled}
-use Rattle.written_machine.proofs.NextAlarms.{due-comes, not_due-nothing}
-use Rattle.written_machine.proofs.AlarmsEnd.{alarms_by-more, alarms_by-next}
+use Rattle.written_machine.proofs.{NextAlarms.{due-comes, not_due-nothing}, AlarmsEnd.{alarms_by-more, alarms_by-next}}
 use Rattle.pin_rig.specs.declared.input.Input.TheVariants as inputs
-use Rattle.pin_rig.specs.Rig.{RigView, stimulus_at}
-use Rattle.pin_rig.proofs.Judging.{allowed-judged}
+use Rattle.pin_rig.{specs.Rig.{RigView, stimulus_at}, proofs.Judging.allowed-judged}
 use Rattle.pinball_shell.specs.RunOfLog.{all_alarms_by}
 
 -- ---- one alarm

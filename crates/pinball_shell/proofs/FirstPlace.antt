@@ -1,24 +1,18 @@
 -- What the place of the first element that passes says.
-use Rattle.std.proofs.Common.{◌≡◌, ℕ, ◌<◌, ◌≤◌, Bool, true, false, not, cond, nat_lt, Some, None, List, length, position, arith}
+use Rattle.std.proofs.Common.{rules, ◌≡◌, ℕ, ◌<◌, ◌≤◌, Bool, false, not, cond, nat_lt, Some, None, List, length, position, arith}
 use Rattle.std.specs.List.{position_or_len}
-use Rattle.std.proofs.lemmas.Bool.{ltb-true, ltb-false}
-use Rattle.std.proofs.lemmas.Option.{cond_some}
-use Rattle.std.proofs.lemmas.List.Sums.{prefix_len-le-length}
+use Rattle.std.proofs.lemmas.{Bool.{ltb-true, ltb-false}, Option.cond_some, List.Sums.prefix_len-le-length}
 
 cond_none : (b : Bool) (n : ℕ) → cond b (Some n) None ≡ None → b ≡ false
-cond_none true n h = cc
-cond_none false n h = cc
+cond_none x1 n h = search rules
 
 -- it is within the list
 pub place_some : {X : Type 0} (p : X → Bool) (xs : List X) (n : ℕ) → position p xs ≡ Some n → (position_or_len p xs ≡ n) × (position_or_len p xs < length xs)
-place_some p xs n h =
-    let both = cond_some (nat_lt (position_or_len p xs) (length xs)) (position_or_len p xs) n h in
-    (both.1, ltb-true (position_or_len p xs) (length xs) both.0)
+place_some p xs n h = search (rules, cond_some, nat_lt, ltb-true)
 
 -- or none passes
 pub place_none : {X : Type 0} (p : X → Bool) (xs : List X) → position p xs ≡ None → length xs ≤ position_or_len p xs
-place_none p xs h =
-    ltb-false (position_or_len p xs) (length xs) (cond_none (nat_lt (position_or_len p xs) (length xs)) (position_or_len p xs) h)
+place_none p xs h = search (rules, ltb-false, cond_none, nat_lt)
 
 pub place_end : {X : Type 0} (p : X → Bool) (xs : List X) → position p xs ≡ None → length xs ≡ position_or_len p xs
 place_end p xs h = omega (arith, place_none p xs h, prefix_len-le-length (λ x. not (p x)) xs)

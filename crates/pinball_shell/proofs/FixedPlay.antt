@@ -1,36 +1,21 @@
 -- On a board that tells its answers there is one play of a log.
-use Rattle.std.proofs.Common.{◌≡◌, ◌⊎◌, ℕ, zero, suc, ◌+◌, ◌-◌, ◌<◌, ◌≤◌, Bool, true, false, ◌||◌, Option, Some, None, IsSome, IfSome, List, [], ◌∷◌, ◌++◌, length, take, drop, filter, inl, inr, refl, ap, sym, ◌∙◌, subst, arith, append_assoc, length-append}
-use Rattle.std.specs.Str.Lines.{lines}
-use Rattle.std.specs.Io.KnownBytes.{Appends}
-use Rattle.std.proofs.lemmas.Bool.{cases_lt, false≢true}
-use Rattle.plan_tables.specs.PlanView.{PlanView, coil_numbers}
-use Rattle.plan_tables.specs.declared.entries.CoilId.{CoilId}
-use Rattle.coil_guard.specs.declared.command.Command.{Command}
-use Rattle.coil_guard.specs.declared.state.CoilState.{CoilState}
+use Rattle.std.proofs.Common.{rules, ◌≡◌, ◌⊎◌, ℕ, zero, suc, ◌+◌, ◌-◌, ◌<◌, ◌≤◌, Bool, true, false, Option, Some, IsSome, IfSome, List, [], ◌∷◌, ◌++◌, length, take, drop, inl, inr, refl, ap, sym, ◌∙◌, subst, arith, append_assoc, length-append}
+use Rattle.std.{specs.{Str.Lines.lines, Io.KnownBytes.Appends}, proofs.lemmas.Bool.{cases_lt, false≢true}}
+use Rattle.plan_tables.specs.{PlanView.PlanView, declared.entries.CoilId.CoilId}
+use Rattle.coil_guard.specs.{declared.command.Command.Command, SentCommands.coil_of}
 use Rattle.coil_guard.specs.Boards.{Answers, takes_all, first_answer, IsAnswered}
-use Rattle.coil_guard.specs.CoilStep.{is_on_at}
-use Rattle.coil_guard.specs.Coils.{coil_at}
-use Rattle.coil_guard.specs.SentCommands.{coil_of}
-use Rattle.written_machine.specs.declared.line.Line.{Line}
-use Rattle.written_machine.specs.declared.line.Happening.{Happening}
+use Rattle.written_machine.specs.{declared.line.Line.Line, CheckedView.CheckedView, Machine.{Machine, initial}}
 use Rattle.written_machine.specs.declared.line.Happening.TheVariants as happenings
-use Rattle.written_machine.specs.CheckedView.{CheckedView}
-use Rattle.written_machine.specs.Machine.{Machine, initial}
-use Rattle.coil_driver.specs.Board.{BoardView, HasTakenAll, HasNotTaken, command_of, commands_of, after_lines}
-use Rattle.coil_driver.specs.ShutDown.{ArePutOff, is_faulted}
+use Rattle.coil_driver.specs.{Board.{BoardView, HasTakenAll, HasNotTaken, commands_of, after_lines}, ShutDown.ArePutOff}
 use Rattle.coil_driver.proofs.Serving.{commands-append}
 use Rattle.pin_rig.specs.declared.input.StepFault.TheVariants.{BoardFault}
-use Rattle.pin_rig.specs.Rig.{RigView}
-use Rattle.pin_rig.specs.ShutDown.{coils_to_put_off}
-use Rattle.pin_rig.specs.Steps.{at_rest}
-use Rattle.pinball_shell.specs.declared.refusal.Refusal.TheVariants.{Step}
-use Rattle.pinball_shell.specs.LogText.{said}
+use Rattle.pin_rig.specs.{Rig.RigView, ShutDown.coils_to_put_off, Steps.at_rest}
+use Rattle.pinball_shell.{specs.declared.refusal.Refusal.TheVariants.Step, proofs.Serving.traced-append}
+use Rattle.pinball_shell.specs.{LogText.said, TraceText.{printed_texts, log_verdict}}
 use Rattle.pinball_shell.specs.RunOfLog.{given_by_line, Printed, Traced, Refused, printed_for_line, printed_for_lines, printed_for_log, after_line, traced}
 use Rattle.trace_lines.specs.LineText.{off_texts}
-use Rattle.pinball_shell.specs.TraceText.{printed_texts, log_verdict}
 use Rattle.pinball_shell.specs.Ends.{printed_for_first, IsBefore, IsPlayedOut, IsCutOff, IsEnd}
 use Rattle.pinball_shell.specs.FixedPlay.{TellsAll, TakenIsPlayedOut, AnswersFixThePlay}
-use Rattle.pinball_shell.proofs.Serving.{traced-append}
 
 -- ---- answers
 
@@ -52,9 +37,7 @@ both_ways a b same tells took refused =
     by a.answers.next a.answers.later tells took (subst (λ (x : Answers). IfSome (first_answer x.next x.later) (λ t. t ≡ false)) (sym same) refused)
   where
     by : (next : List Bool) (later : Option Bool) → IsSome later → IfSome (first_answer next later) (λ t. t ≡ true) → IfSome (first_answer next later) (λ t. t ≡ false) → ⊥
-    by [] None is took refused = false≢true is
-    by [] (Some t) is took refused = false≢true (sym refused ∙ took)
-    by (t ∷ more) later is took refused = false≢true (sym refused ∙ took)
+    by x1 x2 is took refused = search rules
 
 -- a board that takes all commands takes the next one
 no_fault : (a b : BoardView) → a.answers ≡ takes_all → HasNotTaken a b → ⊥
@@ -87,35 +70,18 @@ taken-refused xs ys x a b c m n same tells all some fault =
 
 off-same : (coils : List CoilId) (a b last other : BoardView) (off others : List CoilId) (f g : ℕ) → a.answers ≡ b.answers → TellsAll a → ArePutOff coils a off f last → ArePutOff coils b others g other → off ≡ others
 off-same [] a b last other off others f g same tells h k = h.0 ∙ sym k.0
-off-same (coil ∷ more) a b last other off others f g same tells (m, inl (one, (rest, is, later))) (m', inl (one', (rest', is', later'))) =
-    is ∙ ap (λ (cs : List CoilId). coil ∷ cs) (off-same more m m' last other rest rest' f g (answered-alike true a b m m' same one.answer one'.answer) (answered-tells true a m tells one.answer) later later') ∙ sym is'
-off-same (coil ∷ more) a b last other off others f g same tells (m, inr (fault, (n, is, later))) (m', inr (fault', (n', is', later'))) =
-    off-same more m m' last other off others n n' (answered-alike false a b m m' same fault.answer fault'.answer) (answered-tells false a m tells fault.answer) later later'
-off-same (coil ∷ more) a b last other off others f g same tells (m, inl (one, rest)) (m', inr (fault, rest')) =
-    absurd (both_ways a b same tells one.answer.as_told fault.answer.as_told)
-off-same (coil ∷ more) a b last other off others f g same tells (m, inr (fault, rest)) (m', inl (one, rest')) =
-    absurd (both_ways b a (sym same) (alike-tells a b same tells) one.answer.as_told fault.answer.as_told)
+off-same (coil ∷ more) a b last other off others f g same tells (m, inl (one, (rest, is, later))) (m', inl (one', (rest', is', later'))) = search (rules, same, tells, rest, answered-alike, answered-tells, off-same more m m' last other rest rest' f g (answered-alike true a b m m' same one.answer one'.answer) (answered-tells true a m tells one.answer) later later')
+off-same (coil ∷ more) a b last other off others f g same tells (m, inr (fault, (n, is, later))) (m', inr (fault', (n', is', later'))) = search (rules, same, tells, answered-alike, answered-tells, off-same more m m' last other off others n n' (answered-alike false a b m m' same fault.answer fault'.answer) (answered-tells false a m tells fault.answer) later later')
+off-same (coil ∷ more) a b last other off others f g same tells (m, inl (one, rest)) (m', inr (fault, rest')) = search (rules, same, tells, rest, both_ways)
+off-same (coil ∷ more) a b last other off others f g same tells (m, inr (fault, rest)) (m', inl (one, rest')) = search (rules, same, tells, rest, both_ways, alike-tells)
 
 off-all : (coils : List CoilId) (a last : BoardView) (off : List CoilId) (f : ℕ) → a.answers ≡ takes_all → ArePutOff coils a off f last → off ≡ coils
 off-all [] a last off f takes h = h.0
-off-all (coil ∷ more) a last off f takes (m, inl (one, (rest, is, later))) =
-    is ∙ ap (λ (cs : List CoilId). coil ∷ cs) (off-all more m last rest f (answered-takes true a m takes one.answer) later)
-off-all (coil ∷ more) a last off f takes (m, inr (fault, rest)) =
-    absurd (no_fault a m takes fault)
-
-put_off-by : ℕ → List CoilState → Option CoilId → PlanView → List CoilId
-put_off-by moment sent faulted plan = filter (λ (coil : CoilId). is_on_at moment (coil_at sent coil) || is_faulted faulted coil) (coil_numbers plan)
-
-coils-by : (rig : RigView) → coils_to_put_off rig ≡ put_off-by rig.machine.moment rig.sent rig.faulted rig.checked.plan
-unfolding put_off-by
-coils-by rig = refl
+off-all (coil ∷ more) a last off f takes (m, inl (one, (rest, is, later))) = search (rules, rest, answered-takes, off-all more m last rest f (answered-takes true a m takes one.answer) later)
+off-all (coil ∷ more) a last off f takes (m, inr (fault, rest)) = search (rules, rest, no_fault)
 
 coils-same : (a b : RigView) → a.machine.moment ≡ b.machine.moment → a.sent ≡ b.sent → a.faulted ≡ b.faulted → a.checked ≡ b.checked → coils_to_put_off a ≡ coils_to_put_off b
-coils-same a b moment sent faulted checked =
-    let plan = ap (λ (c : CheckedView). c.plan) checked in
-    let one = coils-by a in
-    let two = coils-by b in
-    cc
+coils-same a b moment sent faulted checked = search rules
 
 -- ---- two places of one list
 
@@ -147,9 +113,7 @@ two-places {X} (a ∷ xs) (b ∷ ys) later more x y e =
 -- ---- what is printed
 
 commands-past : (shown zs : List Printed) (line : Line) (command : Command) → line.happening ≡ happenings.Coil command → commands_of (traced (shown ++ Traced line ∷ zs)) ≡ commands_of (traced shown) ++ command ∷ commands_of (traced zs)
-commands-past shown zs line command is =
-    ap commands_of (traced-append shown (Traced line ∷ zs)) ∙ commands-append (traced shown) (line ∷ traced zs)
-    ∙ ap (λ (what : Happening). commands_of (traced shown) ++ (command_of what ++ commands_of (traced zs))) is
+commands-past shown zs line command is = search (rules, traced-append, commands-append)
 
 -- A board does not take more than what comes before a line, where one that answers alike has not taken the line's command.
 taken-past : (shown zs longer : List Printed) (line : Line) (command : Command) (a b c m n : BoardView) → a.answers ≡ b.answers → TellsAll a → line.happening ≡ happenings.Coil command → longer ≡ shown ++ Traced line ∷ zs
@@ -296,10 +260,7 @@ taken-played_out c log board last before after verdict takes play =
     (out, play.verdict_is ∙ ap log_verdict out.printed_is, off-all (coils_to_put_off play.rig) play.rig.board last play.off play.faults (all-takes (commands_of (traced play.printed)) board play.rig.board takes out.served.taken) play.put_off)
   where
     played_out : (printed : List Printed) (rig : RigView) → IsEnd c.plan c.bound log (at_rest c board) printed rig → IsPlayedOut c.plan c.bound log (at_rest c board) printed rig
-    played_out printed rig (inl out) = out
-    played_out printed rig (inr cut) =
-        let taking = all-takes (commands_of (traced cut.shown)) board cut.mid.board takes cut.served.taken in
-        absurd (no_fault cut.mid.board rig.board taking cut.halted.not_taken)
+    played_out printed rig x3 = search (rules, all-takes, no_fault)
 
 pub answers-fix_play : AnswersFixThePlay
 answers-fix_play c log board twin last twin_last before after start end verdict found tells same play again =

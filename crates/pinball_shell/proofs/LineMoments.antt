@@ -1,16 +1,12 @@
 -- The lines of a cascade are of its moment.
-use Rattle.std.proofs.Common.{◌≡◌, ℕ, List, [], ◌∷◌, ◌++◌, refl, sym, ◌∙◌, subst}
+use Rattle.std.proofs.Common.{rules, ◌≡◌, ℕ, List, [], ◌∷◌, ◌++◌, refl, sym, ◌∙◌, subst}
 use Rattle.plan_tables.specs.PlanView.{PlanView, work_of}
-use Rattle.written_machine.specs.declared.line.Line.{Line}
-use Rattle.written_machine.specs.Machine.{Machine}
+use Rattle.written_machine.specs.{declared.line.Line.Line, Moves.{Move, do_move, Does}}
+use Rattle.written_machine.specs.{Machine.Machine, Run.{Stimulus, moment_of, begin}, PlanOrder.settled}
 use Rattle.written_machine.specs.EventStep.{taken, EventStep, EventSteps}
-use Rattle.written_machine.specs.Run.{Stimulus, moment_of, begin}
-use Rattle.written_machine.specs.PlanOrder.{settled}
-use Rattle.written_machine.specs.Moves.{Move, Wrote, Began, Ended, Asked, Booked, do_move, Does}
 use Rattle.written_machine.proofs.Does.{start-by, stop-by, book-by, does-keeps, moment-move}
 use Rattle.written_machine.proofs.Parts.{does-begin, does-before, does-after}
-use Rattle.written_machine.proofs.Keeps.{step-keeps, steps-keep}
-use Rattle.written_machine.proofs.PlanSteps.{plan_steps-event_steps}
+use Rattle.written_machine.proofs.{Keeps.{step-keeps, steps-keep}, PlanSteps.plan_steps-event_steps}
 
 abbrev AreAt : ℕ → List Line → Type 0
 AreAt m [] = Unit {0}
@@ -30,12 +26,7 @@ IsAt m s = (s.moment ≡ m) × AreAt m s.lines
 
 module _ (plan : PlanView) (m : ℕ) where
   lines-move : (x : Move) (s : Machine) → IsAt m s → AreAt m (do_move plan x s).lines
-  lines-move (Wrote owner what) s h = at-push m s.lines _ h.1 h.0
-  lines-move (Began k) s h = start-by plan k s (λ t. AreAt m t.lines) h.1 h.1
-  lines-move (Ended k) s h = stop-by plan k s (λ t. AreAt m t.lines) h.1 h.1
-  lines-move (Asked owner command) s h = at-push m s.lines _ h.1 h.0
-  lines-move (Booked owner call) s h = book-by owner call s (λ t. AreAt m t.lines) (λ is. at-push m s.lines _ h.1 h.0) h.1
-  lines-move _ s h = h.1
+  lines-move x1 s h = search (rules, at-push, start-by, stop-by, book-by)
 
   at-does : {may : Move → Type 0} {c : _} {s t : Machine} → Does plan may c s t → IsAt m s → IsAt m t
   at-does {may} {c} {s} {t} d = does-keeps plan may (IsAt m) (λ x u allowed h. (moment-move plan x u ∙ h.0, lines-move x u h)) d

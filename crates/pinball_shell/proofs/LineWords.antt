@@ -1,14 +1,10 @@
 -- The first word of a line, and the words after it.
-use Rattle.std.proofs.Common.{◌≡◌, ℕ, ◌+◌, ◌<◌, Bool, true, false, not, cond, nat_lt, Some, None, List, [], ◌∷◌, length, take, drop, get_or, position, filter, refl, ap, sym, ◌∙◌, subst, arith, inl, inr, add-zero, one-add, get_or-drop, length-take, length-drop}
-use Rattle.std.specs.List.{position_or_len, slice_split}
+use Rattle.std.proofs.Common.{rules, ◌≡◌, ℕ, ◌+◌, ◌<◌, Bool, true, not, cond, nat_lt, Some, None, List, [], ◌∷◌, length, take, drop, get_or, position, filter, refl, ap, sym, ◌∙◌, subst, arith, inl, inr, add-zero, one-add, get_or-drop, length-take, length-drop}
+use Rattle.std.{specs.List.{position_or_len, slice_split}, proofs.lemmas.Bool.{cases_lt, cond-true, lt-ltb}}
 use Rattle.std.proofs.lemmas.List.Splits.{slice_split_first, slice_split_none, slice_split-cons_yes}
-use Rattle.std.proofs.lemmas.List.Sums.{passes_at_first, prefix_len-le-length}
-use Rattle.std.proofs.lemmas.List.{drop_more, take_all, drop_all}
-use Rattle.std.proofs.lemmas.Bool.{cases_lt, cond-true, lt-ltb}
+use Rattle.std.proofs.lemmas.List.{drop_more, take_all, drop_all, Sums.{passes_at_first, prefix_len-le-length}}
 use Rattle.yaml_bytes.specs.Bytes.{is_blank}
-use Rattle.pinball_shell.specs.LogText.{words}
-use Rattle.pinball_shell.proofs.FirstPlace.{place_some, place_none}
-use Rattle.pinball_shell.proofs.TextLines.{none_passes}
+use Rattle.pinball_shell.{specs.LogText.words, proofs.{FirstPlace.{place_some, place_none}, TextLines.none_passes}}
 
 abbrev pub is_filled : List ℕ → Bool
 is_filled w = nat_lt 0 (length w)
@@ -21,8 +17,7 @@ abbrev is_word_byte : ℕ → Bool
 is_word_byte b = not (is_blank b)
 
 skip-cons : (b : ℕ) (bs : List ℕ) (t : Bool) → is_blank b ≡ t → words bs ≡ words (drop (position_or_len is_word_byte bs) bs) → words (b ∷ bs) ≡ words (drop (cond (not (not t)) (1 + position_or_len is_word_byte bs) 0) (b ∷ bs))
-skip-cons b bs true h more = words-blank b bs h ∙ more ∙ sym (ap (λ (k : ℕ). words (drop k (b ∷ bs))) (one-add (position_or_len is_word_byte bs)))
-skip-cons b bs false h more = refl
+skip-cons b bs x3 h more = search (rules, words-blank, one-add)
 
 -- nor do those before the first word
 words-skip : (bs : List ℕ) → words bs ≡ words (drop (position_or_len is_word_byte bs) bs)
@@ -57,8 +52,7 @@ word_first [] h k = absurd (omega arith)
 word_first (b ∷ bs) h k = go (is_blank b) k
   where
     go : (t : Bool) → not t ≡ true → 0 < cond (not t) (1 + position_or_len is_blank bs) 0
-    go true e = cc
-    go false e = omega arith
+    go x1 e = search rules
 
 pub words-some : (text : List ℕ) (n len : ℕ) → position is_word_byte text ≡ Some n → len ≡ position_or_len is_blank (drop n text) → words text ≡ take len (drop n text) ∷ words (drop len (drop n text))
 words-some text n len h is =
@@ -71,6 +65,4 @@ words-some text n len h is =
 
 -- the same, for a text that was cut twice
 pub words-cut : (text word_on word rest : List ℕ) (n len : ℕ) → position is_word_byte text ≡ Some n → word_on ≡ drop n text → len ≡ position_or_len is_blank word_on → word ≡ take len word_on → rest ≡ drop len word_on → words text ≡ word ∷ words rest
-words-cut text word_on word rest n len h on is front back =
-    words-some text n len h (is ∙ ap (position_or_len is_blank) on)
-    ∙ sym (ap (λ (w : List ℕ). w ∷ words rest) (front ∙ ap (take len) on) ∙ ap (λ (r : List ℕ). take len (drop n text) ∷ words r) (back ∙ ap (drop len) on))
+words-cut text word_on word rest n len h on is front back = search (rules, words-some)

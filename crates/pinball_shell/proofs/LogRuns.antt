@@ -1,33 +1,20 @@
 -- The trace of a log is that of a run which the log gives.
-use Rattle.std.proofs.Common.{◌≡◌, ◌≢◌, ℕ, zero, suc, ◌+◌, ◌<◌, ◌≤◌, ◌^◌, Bool, true, false, Option, Some, None, option_map, option_to_list, Result, Ok, Err, List, [], ◌∷◌, ◌++◌, length, position, inl, inr, refl, ap, sym, ◌∙◌, subst, arith, append_assoc, append-nil}
-use Rattle.std.specs.Option.{option_map_or}
-use Rattle.std.specs.Str.{bytes_eq}
-use Rattle.std.specs.Str.Lines.{lines}
-use Rattle.plan_tables.specs.PlanView.{PlanView, switch_named}
-use Rattle.plan_tables.specs.declared.entries.SwitchId.{SwitchId}
-use Rattle.written_machine.specs.declared.line.Line.{Line}
-use Rattle.written_machine.specs.Machine.{Machine, initial}
+use Rattle.std.proofs.Common.{rules, ◌≡◌, ◌≢◌, ℕ, zero, suc, ◌+◌, ◌<◌, ◌≤◌, ◌^◌, Bool, true, false, Option, Some, option_to_list, Result, Ok, List, [], ◌∷◌, ◌++◌, length, inl, inr, refl, ap, sym, ◌∙◌, subst, arith, append_assoc, append-nil}
+use Rattle.std.specs.{Option.option_map_or, Str.Lines.lines}
+use Rattle.plan_tables.specs.PlanView.{PlanView}
+use Rattle.written_machine.specs.{declared.line.Line.Line, CheckedView.CheckedView}
+use Rattle.written_machine.specs.{Machine.{Machine, initial}, PlanOrder.{plan_steps, settled}}
 use Rattle.written_machine.specs.Run.{Source, Stimulus, SwitchChange, Alarm, Wait, moment_of, IsNoAlarmDueBy, IsAllowed, begin, IsReached}
-use Rattle.written_machine.specs.NextAlarm.{most_alarms}
-use Rattle.written_machine.specs.AlarmsBy.{alarms_by, state_after}
-use Rattle.written_machine.specs.CheckedView.{CheckedView}
-use Rattle.written_machine.specs.Accepted.{IsAccepted}
-use Rattle.written_machine.specs.PlanOrder.{plan_steps, settled}
-use Rattle.written_machine.proofs.Alarms.{settled-moment}
+use Rattle.written_machine.specs.{NextAlarm.most_alarms, AlarmsBy.{alarms_by, state_after}, Accepted.IsAccepted}
+use Rattle.written_machine.proofs.{Alarms.settled-moment, Cascade.verified-cascades_end}
 use Rattle.written_machine.proofs.AlarmsEnd.{alarms_by-none, alarms_by-more, alarms_by-all}
-use Rattle.written_machine.proofs.Cascade.{verified-cascades_end}
 use Rattle.written_machine.proofs.PlanSteps.{settled-run, settled-idle, settled-steps}
-use Rattle.pin_rig.specs.declared.input.StepFault.{StepFault}
-use Rattle.pin_rig.specs.Refused.{admitted}
-use Rattle.pin_rig.proofs.Judging.{admitted-is}
-use Rattle.pinball_shell.specs.declared.refusal.Refusal.{Refusal}
-use Rattle.pinball_shell.specs.LogText.{Said, said}
-use Rattle.pinball_shell.specs.LogText as says
-use Rattle.pinball_shell.specs.RunOfLog.{if_admitted, change_of, given_by_line, trace_of, all_alarms_by, with_alarms, printed_for_line, after_line, printed_for_lines, printed_for_log, traced}
+use Rattle.pin_rig.{specs.{declared.input.StepFault.StepFault, Refused.admitted}, proofs.Judging.admitted-is}
+use Rattle.pinball_shell.specs.{declared.refusal.Refusal.Refusal, LogText.{Said, said}}
+use Rattle.pinball_shell.specs.RunOfLog.{if_admitted, given_by_line, trace_of, all_alarms_by, with_alarms, printed_for_line, after_line, printed_for_lines, printed_for_log, traced}
 use Rattle.pinball_shell.specs.RunGiven.{given_of, given_by_lines, stimuli_of, without_alarms, IsRunInOrder, IsPlayOfLog}
-use Rattle.pinball_shell.proofs.FirstPlace.{place_some}
+use Rattle.pinball_shell.proofs.{FirstPlace.place_some, Serving.{traced-append, traced-lines}}
 use Rattle.pinball_shell.proofs.Alarms.{cases_due, alarm-allowed, AreAll, all-next}
-use Rattle.pinball_shell.proofs.Serving.{traced-append, traced-lines}
 use Rattle.pinball_shell.proofs.Stimuli.{state_after-append, trace_of-append}
 
 -- ---- what a line gives comes in time
@@ -45,44 +32,18 @@ in_time : (now at : ℕ) (stimulus given : Stimulus) → if_admitted (admitted n
 in_time now at stimulus given = go (admitted now at) refl
   where
     go : (r : Result Unit StepFault) → admitted now at ≡ r → if_admitted r stimulus ≡ Ok (Some given) → (now ≤ at) × (at < 2 ^ 40) × (stimulus ≡ given)
-    go (Ok u) is h = let there = admitted-is now at is in (there.0, there.1, given_is stimulus given h)
-    go (Err fault) is h = cc
-
--- a switch that has the name is one of the plan's
-named_within : (plan : PlanView) (name : List ℕ) (switch : SwitchId) → switch_named plan name ≡ Some switch → switch.0 < length plan.switches
-named_within plan name switch h = go (position (λ s. bytes_eq name s.name) plan.switches) refl h
-  where
-    go : (o : Option ℕ) → position (λ s. bytes_eq name s.name) plan.switches ≡ o → option_map (λ n. record { 0 = n }) o ≡ Some switch → switch.0 < length plan.switches
-    go None is e = cc
-    go (Some n) is e =
-        let (at, within) = place_some (λ s. bytes_eq name s.name) plan.switches n is in
-        let same : n ≡ switch.0 = ap (λ (o : Option SwitchId). option_map_or (λ s. s.0) o 0) e in
-        omega (arith, at, within, same)
+    go x1 is h = search (rules, admitted-is, given_is)
 
 module _ (plan : PlanView) (now : ℕ) where
-  given-change : (at : ℕ) (o : Option SwitchId) (level : Bool) (stimulus : Stimulus) → ((switch : SwitchId) → o ≡ Some switch → switch.0 < length plan.switches) → change_of now at o level ≡ Ok (Some stimulus) → IsGivenInTime plan now stimulus
-  given-change at None level stimulus within h = cc
-  given-change at (Some switch) level stimulus within h =
-      let (forward, early, is) = in_time now at (SwitchChange at switch level) stimulus h in
-      subst (IsGivenInTime plan now) is (forward, early, within switch refl)
-
   pub given-in_time : (line : Said) (stimulus : Stimulus) → given_by_line plan now line ≡ Ok (Some stimulus) → IsGivenInTime plan now stimulus
-  given-in_time (says.Wait at) stimulus h =
-      let (forward, early, is) = in_time now at (Wait at) stimulus h in
-      subst (IsGivenInTime plan now) is (forward, early)
-  given-in_time (says.Change at name level) stimulus h = given-change at (switch_named plan name) level stimulus (named_within plan name) h
-  given-in_time _ stimulus h = cc
+  given-in_time x1 stimulus h = search (rules, in_time, place_some)
 
 -- in time, and nothing is due any more: it may come
 pub may_come : (plan : PlanView) (now : ℕ) (s : Machine) (stimulus : Stimulus) → IsGivenInTime plan now stimulus → s.moment ≤ moment_of stimulus → IsNoAlarmDueBy s (moment_of stimulus) → IsAllowed plan s stimulus
-may_come plan now s (SwitchChange at n level) (forward, early, within) ahead quiet = (record { forward = ahead; early = early; quiet = quiet }, within)
-may_come plan now s (Alarm at source) none ahead quiet = absurd none
-may_come plan now s (Wait at) (forward, early) ahead quiet = record { forward = ahead; early = early; quiet = quiet }
+may_come plan now s x4 x5 ahead quiet = search (rules, quiet)
 
 pub in_time-early : (plan : PlanView) (now : ℕ) (stimulus : Stimulus) → IsGivenInTime plan now stimulus → (now ≤ moment_of stimulus) × (moment_of stimulus < 2 ^ 40)
-in_time-early plan now (SwitchChange at n level) (forward, early, within) = (forward, early)
-in_time-early plan now (Alarm at source) none = absurd none
-in_time-early plan now (Wait at) (forward, early) = (forward, early)
+in_time-early plan now x3 x4 = search rules
 
 -- ---- the stimuli of a run
 
@@ -132,12 +93,10 @@ no_alarm_last stimuli none before at source is = differ (sym none ∙ ap (ends_w
 
 -- what comes in time is no alarm
 in_time-given : (plan : PlanView) (now : ℕ) (stimulus : Stimulus) → IsGivenInTime plan now stimulus → without_alarms (stimulus ∷ []) ≡ stimulus ∷ []
-in_time-given plan now (Alarm at source) none = absurd none
-in_time-given plan now _ time = refl
+in_time-given plan now x3 x4 = search rules
 
 in_time-no_alarm : (plan : PlanView) (now : ℕ) (stimulus : Stimulus) → IsGivenInTime plan now stimulus → is_alarm stimulus ≡ false
-in_time-no_alarm plan now (Alarm at source) none = absurd none
-in_time-no_alarm plan now _ time = refl
+in_time-no_alarm plan now x3 x4 = search rules
 
 module _ (c : CheckedView) (accepted : IsAccepted c) where
   -- Some run in plan order was given these stimuli, and alarms, and whether one of those came last; it has this trace and leads
@@ -167,8 +126,7 @@ module _ (c : CheckedView) (accepted : IsAccepted c) where
           run = settled-run c good r.stimuli trace s r.run r.idle stimulus allowed;
           idle = idle;
         };
-        order = subst (λ (xs : List Stimulus). IsRunInOrder c.plan xs (initial c.plan) (trace ++ next.lines) next) (sym names)
-            (in_order-push c.plan (stimuli_of r.stimuli) (initial c.plan) trace s h.order stimulus allowed c.bound idle);
+        order = search (rules, in_order-push);
         given_is =
             ap without_alarms names ∙ without_alarms-append (stimuli_of r.stimuli) (stimulus ∷ []) ∙ ap (λ (gs : List Stimulus). gs ++ without_alarms (stimulus ∷ [])) h.given_is
             ∙ ap (λ (gs : List Stimulus). given ++ gs) is;
@@ -246,8 +204,7 @@ module _ (c : CheckedView) (accepted : IsAccepted c) where
 
   -- where nothing is given, the run goes on as it was
   run-nothing : (given : List Stimulus) (trace : List Line) (s : Machine) → IsRunGiven given false trace s → IsRunGiven (given ++ []) false (trace ++ []) s
-  run-nothing given trace s run =
-      subst (λ (gs : List Stimulus). IsRunGiven gs false (trace ++ []) s) (sym (append-nil given)) (subst (λ (ls : List Line). IsRunGiven given false ls s) (sym (append-nil trace)) run)
+  run-nothing given trace s run = search (rules, run, append-nil)
 
   run-line : (number : ℕ) (given : List Stimulus) (trace : List Line) (s : Machine) (line : Said) → IsRunGiven given false trace s → (is : Result (Option Stimulus) Refusal) → given_by_line c.plan s.moment line ≡ is
       → IsRunGiven (given ++ option_to_list (given_of is)) false (trace ++ traced (printed_for_line c.plan c.bound number s is)) (after_line c.plan c.bound s is)

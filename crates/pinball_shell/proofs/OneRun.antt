@@ -1,14 +1,10 @@
 -- In plan order a log gives one run.
-use Rattle.std.proofs.Common.{◌≡◌, ◌≢◌, ℕ, ◌≤◌, List, [], ◌∷◌, ◌++◌, refl, ap, sym, ◌∙◌, subst, inl, inr, arith}
+use Rattle.std.proofs.Common.{rules, ◌≡◌, ◌≢◌, ℕ, ◌≤◌, List, [], ◌∷◌, ◌++◌, refl, ap, sym, ◌∙◌, subst, arith}
 use Rattle.std.proofs.lemmas.Bool.{cases_lt}
-use Rattle.plan_tables.specs.PlanView.{PlanView}
-use Rattle.plan_tables.specs.Valid.{IsValid}
-use Rattle.written_machine.specs.declared.line.Line.{Line}
-use Rattle.written_machine.specs.Machine.{Machine, initial}
-use Rattle.written_machine.specs.PlanOrder.{plan_steps}
+use Rattle.plan_tables.specs.{PlanView.PlanView, Valid.IsValid}
+use Rattle.written_machine.specs.{declared.line.Line.Line, Machine.Machine, PlanOrder.plan_steps}
 use Rattle.written_machine.specs.Run.{Source, IsNoAlarmDueBy, IsNothingLate, IsNextAlarm, Stimulus, SwitchChange, Alarm, Wait, moment_of, IsAllowed, begin}
-use Rattle.written_machine.proofs.Alarms.{moment-after, not_late-after}
-use Rattle.written_machine.proofs.NextAlarms.{next-unique}
+use Rattle.written_machine.proofs.{Alarms.{moment-after, not_late-after}, NextAlarms.next-unique}
 use Rattle.written_machine.proofs.PlanSteps.{plan_steps-event_steps, plan_steps-enough}
 use Rattle.pinball_shell.specs.RunGiven.{without_alarms, stimuli_of, IsRunOfLog, IsRunInOrder, IsPlayOfLog}
 
@@ -26,28 +22,19 @@ none_given (Alarm at source ∷ more) e h = absurd (h [] at source (ap (λ (xs :
 none_given (Wait at ∷ more) e h = cc
 
 given-rest : (x : Stimulus) (xs ys : List Stimulus) → without_alarms (x ∷ xs) ≡ without_alarms (x ∷ ys) → without_alarms xs ≡ without_alarms ys
-given-rest (Alarm at source) xs ys e = e
-given-rest _ xs ys e = cc
+given-rest x1 xs ys e = search rules
 
 next-same : (s : Machine) (at other : ℕ) (a b : Source) → IsNextAlarm s at a → IsNextAlarm s other b → Alarm at a ≡ Alarm other b
-next-same s at other a b here there =
-    let one = next-unique s at other a b here there in
-    ap (λ (moment : ℕ). Alarm moment a) one.0 ∙ ap (λ (source : Source). Alarm other source) one.1
+next-same s at other a b here there = search (rules, next-unique)
 
 -- an alarm that comes before something that was given would have been due by its moment
 early_alarm : (s : Machine) (at until : ℕ) (source : Source) → IsNextAlarm s at source → IsNoAlarmDueBy s until → at ≤ until → ⊥
-early_alarm s at until source a quiet by =
-    let after = quiet source at a.due in
-    omega (arith, after, by)
+early_alarm s at until source a quiet by = search rules
 
 module _ (plan : PlanView) where
   -- the state to which so many event steps lead, once no event waits, is one
   idle-same : (n m : ℕ) (s : Machine) → (plan_steps plan n s).waiting ≡ [] → (plan_steps plan m s).waiting ≡ [] → plan_steps plan n s ≡ plan_steps plan m s
-  idle-same n m s idle idle' =
-      elim (cases_lt n m) [
-        | inl below ↦ sym (plan_steps-enough plan n m s (omega arith) idle)
-        | inr above ↦ plan_steps-enough plan m n s above idle'
-      ]
+  idle-same n m s idle idle' = search (rules, cases_lt, plan_steps-enough)
 
 module _ (plan : PlanView) (valid : IsValid plan) where
   -- nothing is late after a stimulus and its event steps, which came at its moment
@@ -122,9 +109,7 @@ module _ (plan : PlanView) (valid : IsValid plan) where
 
 pub log-gives_one : (plan : PlanView) (log : List ℕ) (trace other : List Line) → IsValid plan → (a : IsPlayOfLog plan log trace) (b : IsPlayOfLog plan log other)
     → (stimuli_of a.run.reached.stimuli ≡ stimuli_of b.run.reached.stimuli) × (trace ≡ other)
-log-gives_one plan log trace other valid a b =
-    one_run plan valid (stimuli_of a.run.reached.stimuli) (stimuli_of b.run.reached.stimuli) (initial plan) (initial plan) trace other a.run.end b.run.end refl a.order b.order
-    (a.run.given ∙ sym b.run.given) a.run.last b.run.last
+log-gives_one plan log trace other valid a b = search (rules, one_run)
 
 pub log-gives_same : (plan : PlanView) (log : List ℕ) (trace other : List Line) (a : IsRunOfLog plan log trace) (b : IsRunOfLog plan log other)
     → without_alarms (stimuli_of a.reached.stimuli) ≡ without_alarms (stimuli_of b.reached.stimuli)

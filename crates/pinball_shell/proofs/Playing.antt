@@ -1,34 +1,21 @@
 -- Alarms and lines of a log that are played one after another.
-use Rattle.std.proofs.Common.{◌≡◌, ℕ, ◌+◌, ◌-◌, ◌<◌, ◌≤◌, Bool, true, false, ◌||◌, cond, Option, Some, None, Result, Ok, Err, List, [], ◌∷◌, ◌++◌, length, map, take, inr, refl, ap, sym, ◌∙◌, subst, arith, append_assoc, append-nil, length-append}
-use Rattle.std.specs.List.{list_any}
-use Rattle.std.specs.Io.KnownBytes.{Appends, append_known}
-use Rattle.std.specs.Str.Lines.{lines}
-use Rattle.std.proofs.Math.Seq.{take-append_seam}
-use Rattle.plan_tables.specs.PlanView.{PlanView}
-use Rattle.plan_tables.specs.Valid.{IsValid}
-use Rattle.written_machine.specs.declared.line.Line.{Line}
-use Rattle.written_machine.specs.Machine.{Machine, initial}
+use Rattle.std.proofs.Common.{rules, ◌≡◌, ℕ, ◌+◌, ◌-◌, ◌<◌, ◌≤◌, Bool, false, ◌||◌, cond, Option, Some, None, Result, Ok, List, [], ◌∷◌, ◌++◌, length, map, take, inr, refl, ap, sym, ◌∙◌, subst, arith, append_assoc, append-nil, length-append}
+use Rattle.std.specs.{List.list_any, Io.KnownBytes.{Appends, append_known}, Str.Lines.lines}
+use Rattle.std.proofs.{Math.Seq.take-append_seam, KnownBytes.Appends-trans}
+use Rattle.plan_tables.specs.{PlanView.PlanView, Valid.IsValid}
+use Rattle.written_machine.specs.{declared.line.Line.Line, Machine.{Machine, initial}}
 use Rattle.written_machine.specs.Run.{IsNoAlarmDueBy, Stimulus, Alarm, moment_of, IsReached}
-use Rattle.written_machine.specs.NextAlarm.{most_alarms}
-use Rattle.written_machine.specs.PlanOrder.{settled}
-use Rattle.written_machine.proofs.Alarms.{settled-moment}
-use Rattle.written_machine.proofs.AlarmsEnd.{alarms_by-none}
-use Rattle.std.proofs.KnownBytes.{Appends-trans}
-use Rattle.pin_rig.specs.declared.input.StepFault.TheVariants.{BoardFault}
-use Rattle.pin_rig.specs.Rig.{RigView}
-use Rattle.pinball_shell.specs.declared.fault.Verdict.{Verdict}
+use Rattle.written_machine.specs.{NextAlarm.most_alarms, PlanOrder.settled}
+use Rattle.written_machine.proofs.{Alarms.settled-moment, AlarmsEnd.alarms_by-none}
+use Rattle.pin_rig.specs.{declared.input.StepFault.TheVariants.BoardFault, Rig.RigView}
+use Rattle.pinball_shell.specs.declared.{fault.Verdict.Verdict, refusal.Refusal.{Refusal, TheVariants.Step}}
 use Rattle.pinball_shell.specs.declared.fault.Verdict.TheVariants as verdicts
-use Rattle.pinball_shell.specs.declared.refusal.Refusal.{Refusal}
-use Rattle.pinball_shell.specs.declared.refusal.Refusal.TheVariants.{Step}
-use Rattle.pinball_shell.specs.LogText.{said}
+use Rattle.pinball_shell.specs.{LogText.said, TraceText.{refused_text, is_refused, log_verdict}, Ends.after_log_lines}
 use Rattle.pinball_shell.specs.RunOfLog.{given_by_line, trace_of, all_alarms_by, with_alarms, Printed, Traced, Refused, printed_for_line, after_line, printed_for_lines}
-use Rattle.pinball_shell.specs.TraceText.{refused_text, is_refused, log_verdict}
-use Rattle.pinball_shell.specs.Ends.{after_log_lines}
 use Rattle.pinball_shell.specs.Played.{worse_of, IsPrinted, IsPrintedToFault, IsPlayed, IsPlayedToFault, IsLinePlayed, IsLinePlayedToFault, IsLogPlayed}
 use Rattle.pinball_shell.proofs.Alarms.{ComesBy, all-first, all-fewer}
 use Rattle.trace_lines.proofs.Pages.{written-out}
-use Rattle.pinball_shell.proofs.Serving.{served-none}
-use Rattle.pinball_shell.proofs.Printing.{printed-none, printed-then, texts-append, played-none, played-then, played-fault, fault-first}
+use Rattle.pinball_shell.proofs.Printing.{printed-then, texts-append, played-none, played-then, played-fault, fault-first}
 
 module _ (plan : PlanView) (bound : ℕ) where
   -- some alarms are played, and those that are left complete them
@@ -114,9 +101,7 @@ module _ (plan : PlanView) (bound : ℕ) where
 
       -- or of an alarm before it
       pub line-alarm_fault : IsPlayedToFault plan bound (all_alarms_by plan bound until s.machine) s u a c → IsLinePlayedToFault plan bound number line s u a c
-      line-alarm_fault alarms =
-          let there = subst (λ (at : ℕ). IsPlayedToFault plan bound (all_alarms_by plan bound at s.machine) s u a c) same alarms in
-          fault-is (fault-first plan bound (all_alarms_by plan bound (moment_of stimulus) s.machine) (stimulus ∷ []) s u a c there)
+      line-alarm_fault alarms = search (rules, fault-is, fault-first)
 
   -- ---- the lines of a log
 
@@ -124,15 +109,8 @@ module _ (plan : PlanView) (bound : ℕ) where
   any-append (Traced l ∷ xs) ys = any-append xs ys
   any-append _ ys = refl
 
-  either_refused : (t u : Bool) → worse_of (cond t verdicts.Refused verdicts.Yes) (cond u verdicts.Refused verdicts.Yes) ≡ cond (t || u) verdicts.Refused verdicts.Yes
-  either_refused true true = refl
-  either_refused true false = refl
-  either_refused false true = refl
-  either_refused false false = refl
-
   verdict-append : (xs ys : List Printed) → worse_of (log_verdict xs) (log_verdict ys) ≡ log_verdict (xs ++ ys)
-  verdict-append xs ys =
-      either_refused (list_any is_refused xs) (list_any is_refused ys) ∙ sym (ap (λ (b : Bool). cond b verdicts.Refused verdicts.Yes) (any-append xs ys))
+  verdict-append xs ys = search (rules, any-append)
 
   -- one line more
   after-push : (xs : List (List ℕ)) (line : List ℕ) (s : Machine) → after_log_lines plan bound (xs ++ line ∷ []) s ≡ after_line plan bound (after_log_lines plan bound xs s) (given_by_line plan (after_log_lines plan bound xs s).moment (said line))

@@ -1,27 +1,17 @@
 -- What is printed on a rig, one part after another.
-use Rattle.std.proofs.Common.{◌≡◌, ℕ, Option, None, List, [], ◌∷◌, ◌++◌, map, refl, ap, sym, ◌∙◌, subst, append_assoc, append-nil}
-use Rattle.std.specs.List.{flat_map}
-use Rattle.std.specs.Io.KnownBytes.{Appends}
-use Rattle.std.proofs.lemmas.Grind.{flat_map-append}
-use Rattle.std.proofs.lemmas.List.{map-append}
-use Rattle.std.proofs.lemmas.List.Folds.{flat_map-map}
+use Rattle.std.proofs.Common.{rules, ◌≡◌, ℕ, Option, None, List, [], ◌∷◌, ◌++◌, map, refl, ap, sym, ◌∙◌, subst, append_assoc, append-nil}
+use Rattle.std.{specs.{List.flat_map, Io.KnownBytes.Appends}, proofs.KnownBytes.{Appends-nil, Appends-trans}}
+use Rattle.std.proofs.lemmas.{Grind.flat_map-append, List.{map-append, Folds.flat_map-map}}
 use Rattle.plan_tables.specs.PlanView.{PlanView}
-use Rattle.written_machine.specs.declared.line.Line.{Line}
-use Rattle.written_machine.specs.Machine.{Machine}
-use Rattle.written_machine.specs.Run.{Stimulus}
-use Rattle.written_machine.specs.AlarmsBy.{state_after}
-use Rattle.written_machine.specs.PlanOrder.{settled}
+use Rattle.written_machine.specs.{declared.line.Line.Line, Machine.Machine, Run.Stimulus}
+use Rattle.written_machine.specs.{AlarmsBy.state_after, PlanOrder.settled}
 use Rattle.coil_driver.specs.Board.{commands_of, after_lines, HasTakenAll}
-use Rattle.std.proofs.KnownBytes.{Appends-nil, Appends-trans}
-use Rattle.pin_rig.specs.declared.input.Input.{Input}
-use Rattle.pin_rig.specs.Rig.{RigView, RigStep, RigHalt}
-use Rattle.pinball_shell.specs.RunOfLog.{trace_of, Printed, Traced}
+use Rattle.pin_rig.specs.{declared.input.Input.Input, Rig.{RigView, RigStep, RigHalt}}
+use Rattle.pinball_shell.specs.{RunOfLog.{trace_of, Printed, Traced}, TraceText.{printed_text, printed_texts}}
 use Rattle.trace_lines.specs.LineText.{line_text}
-use Rattle.pinball_shell.specs.TraceText.{printed_text, printed_texts}
 use Rattle.pinball_shell.specs.Played.{IsPrinted, IsPrintedToFault, IsPlayed, IsPlayedToFault, IsInputPlayed, IsInputPlayedToFault}
-use Rattle.pinball_shell.proofs.LineMoments.{line-moment}
+use Rattle.pinball_shell.proofs.{LineMoments.line-moment, Stimuli.{state_after-append, trace_of-append}}
 use Rattle.pinball_shell.proofs.Serving.{served-none, served-then, traced-lines}
-use Rattle.pinball_shell.proofs.Stimuli.{state_after-append, trace_of-append}
 
 module _ (plan : PlanView) where
   pub printed-none : (rig : RigView) (a : Option (List ℕ)) → rig.faulted ≡ None → IsPrinted plan [] rig rig a a
@@ -31,10 +21,7 @@ module _ (plan : PlanView) where
   texts-append xs ys = flat_map-append (printed_text plan) xs ys
 
   pub printed-then : (xs ys : List Printed) (s t u : RigView) (a b c : Option (List ℕ)) → IsPrinted plan xs s t a b → IsPrinted plan ys t u b c → IsPrinted plan (xs ++ ys) s u a c
-  printed-then xs ys s t u a b c h k = record {
-    served = served-then xs ys s t u h.served k.served;
-    text = subst (Appends a c) (sym (texts-append xs ys)) (Appends-trans a b c _ _ h.text k.text);
-  }
+  printed-then xs ys s t u a b c h k = search (rules, served-then, texts-append, Appends-trans)
 
   -- a fault, after something was printed
   pub fault-after : (xs ys : List Printed) (s t u : RigView) (a b c : Option (List ℕ)) → IsPrinted plan xs s t a b → IsPrintedToFault plan ys t u b c → IsPrintedToFault plan (xs ++ ys) s u a c
@@ -53,37 +40,13 @@ module _ (plan : PlanView) where
 
   -- or before something that would be printed
   pub fault-before : (xs ys : List Printed) (s t : RigView) (a b : Option (List ℕ)) → IsPrintedToFault plan xs s t a b → IsPrintedToFault plan (xs ++ ys) s t a b
-  fault-before xs ys s t a b k = record {
-    shown = k.shown;
-    line = k.line;
-    command = k.command;
-    line_is = k.line_is;
-    later = k.later ++ ys;
-    whole = ap (λ (ps : List Printed). ps ++ ys) k.whole ∙ append_assoc k.shown (Traced k.line ∷ k.later) ys;
-    moment_is = k.moment_is;
-    mid = k.mid;
-    earlier = k.earlier;
-    halted = k.halted;
-  }
+  fault-before xs ys s t a b k = search (rules, append_assoc)
 
   -- ---- lines
 
-  lines-text : (ls : List Line) → printed_texts plan (map Traced ls) ≡ flat_map (line_text plan) ls
-  lines-text ls = flat_map-map (printed_text plan) Traced ls
-
   lines-printed : (ls : List Line) (s t : RigView) (a b : Option (List ℕ)) → t.checked ≡ s.checked → HasTakenAll (commands_of ls) s.board t.board → t.sent ≡ after_lines ls s.sent → t.faulted ≡ None
       → Appends a b (flat_map (line_text plan) ls) → IsPrinted plan (map Traced ls) s t a b
-  lines-printed ls s t a b checked_is taken sent_is running text =
-      let same = sym (traced-lines ls) in
-      record {
-        served = record {
-          checked_is = checked_is;
-          taken = subst (λ (xs : List Line). HasTakenAll (commands_of xs) s.board t.board) same taken;
-          sent_is = subst (λ (xs : List Line). t.sent ≡ after_lines xs s.sent) same sent_is;
-          running = running;
-        };
-        text = subst (Appends a b) (sym (lines-text ls)) text;
-      }
+  lines-printed ls s t a b checked_is taken sent_is running text = search (rules, traced-lines, flat_map-map)
 
 -- ---- one step
 
@@ -97,10 +60,7 @@ module _ (input : Input) (old new : RigView) (a b : Option (List ℕ)) where
       record {
         stimulus = c.stimulus;
         stimulus_is = c.stimulus_is;
-        played = record {
-          state = c.machine_is;
-          printed = subst (λ (ls : List Line). IsPrinted plan (map Traced ls) old new a b) lines (lines-printed plan new.lines old new a b c.checked_is r.taken c.sent_is r.running text);
-        };
+        played = search (rules, lines-printed);
       }
 
   pub step-played : (plan : PlanView) → old.checked.plan ≡ plan → RigStep input old new → Appends a b (flat_map (line_text plan) new.lines) → IsInputPlayed plan input old new a b
@@ -140,9 +100,7 @@ module _ (plan : PlanView) (bound : ℕ) where
   traces xs s = map Traced (trace_of plan bound xs s)
 
   traces-then : (xs ys : List Stimulus) (s t : Machine) → t ≡ state_after plan bound xs s → traces (xs ++ ys) s ≡ traces xs s ++ traces ys t
-  traces-then xs ys s t is =
-      ap (map Traced) (trace_of-append plan bound xs ys s) ∙ map-append Traced (trace_of plan bound xs s) (trace_of plan bound ys (state_after plan bound xs s))
-      ∙ ap (λ (m : Machine). traces xs s ++ traces ys m) (sym is)
+  traces-then xs ys s t is = search (rules, trace_of-append, map-append)
 
   pub played-none : (s : RigView) (a : Option (List ℕ)) → s.faulted ≡ None → IsPlayed plan bound [] s s a a
   played-none s a running = record { state = refl; printed = printed-none plan s a running }

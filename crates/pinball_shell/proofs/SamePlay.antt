@@ -1,22 +1,15 @@
 -- The bound says only how many event steps there may be, and not what they do.
-use Rattle.std.proofs.Common.{◌≡◌, ℕ, zero, suc, ◌+◌, ◌<◌, ◌≤◌, ◌^◌, Option, Some, Result, Ok, List, [], ◌∷◌, ◌++◌, map, inl, inr, refl, ap, sym, ◌∙◌, subst, arith}
+use Rattle.std.proofs.Common.{rules, ◌≡◌, ℕ, zero, suc, ◌+◌, ◌<◌, ◌≤◌, ◌^◌, Option, Some, Result, Ok, List, [], ◌∷◌, ◌++◌, map, inl, inr, refl, ap, sym, ◌∙◌, subst, arith}
 use Rattle.std.specs.Str.Lines.{lines}
 use Rattle.plan_tables.specs.PlanView.{PlanView}
-use Rattle.written_machine.specs.declared.line.Line.{Line}
-use Rattle.written_machine.specs.Machine.{Machine, initial}
+use Rattle.written_machine.specs.{declared.line.Line.Line, CheckedView.CheckedView}
+use Rattle.written_machine.specs.{Machine.Machine, AlarmsBy.{alarms_by, state_after}, PlanOrder.settled}
 use Rattle.written_machine.specs.Run.{Stimulus, Alarm, moment_of, IsNoAlarmDueBy, IsAllowed, IsReached}
-use Rattle.written_machine.specs.NextAlarm.{most_alarms}
-use Rattle.written_machine.specs.AlarmsBy.{alarms_by, state_after}
-use Rattle.written_machine.specs.CheckedView.{CheckedView}
-use Rattle.written_machine.specs.Accepted.{IsAccepted}
-use Rattle.written_machine.specs.PlanOrder.{settled}
-use Rattle.written_machine.proofs.Alarms.{settled-moment}
+use Rattle.written_machine.specs.{NextAlarm.most_alarms, Accepted.IsAccepted}
+use Rattle.written_machine.proofs.{Alarms.settled-moment, Cascade.verified-cascades_end}
 use Rattle.written_machine.proofs.AlarmsEnd.{alarms_by-none, alarms_by-more, alarms_by-all}
-use Rattle.written_machine.proofs.Cascade.{verified-cascades_end}
-use Rattle.written_machine.proofs.PlanSteps.{settled-idle, settled-same}
-use Rattle.written_machine.proofs.Reached.{reached-initial, reached-next}
-use Rattle.pinball_shell.specs.declared.refusal.Refusal.{Refusal}
-use Rattle.pinball_shell.specs.LogText.{said}
+use Rattle.written_machine.proofs.{PlanSteps.{settled-idle, settled-same}, Reached.{reached-initial, reached-next}}
+use Rattle.pinball_shell.specs.{declared.refusal.Refusal.Refusal, LogText.said}
 use Rattle.pinball_shell.specs.RunOfLog.{given_by_line, trace_of, all_alarms_by, with_alarms, Printed, Traced, printed_for_line, after_line, printed_for_lines, printed_for_log}
 use Rattle.pinball_shell.proofs.Alarms.{cases_due, alarm-allowed, AreAll, all-next}
 use Rattle.pinball_shell.proofs.Stimuli.{state_after-append, trace_of-append}
@@ -148,11 +141,5 @@ module _ (plan : PlanView) (ws vs : List ℕ) (a b : ℕ) where
         (λ i. h.printed i ++ printed_for_lines plan b (number + 1) more (h.state i))
         ∙ ap (λ (rest : List Printed). printed_for_line plan a number s given ++ rest) (same-lines (number + 1) more (after_line plan a s given) h.reached)
 
-    same-log : (log : List ℕ) → printed_for_log plan b log ≡ printed_for_log plan a log
-    same-log log = same-lines 1 (lines log) (initial plan) ([], reached-initial plan)
-
 pub plays_the_same : (c d : CheckedView) → IsAccepted c → IsAccepted d → c.plan ≡ d.plan → (log : List ℕ) → printed_for_log c.plan c.bound log ≡ printed_for_log d.plan d.bound log
-plays_the_same c d c_is d_is same log =
-    let moved : CheckedView = record { plan = d.plan; weights = c.weights; bound = c.bound } in
-    let moved_is : IsAccepted moved = subst (λ (p : PlanView). IsAccepted (record { plan = p; weights = c.weights; bound = c.bound })) same c_is in
-    ap (λ (p : PlanView). printed_for_log p c.bound log) same ∙ same-log d.plan d.weights c.weights d.bound c.bound d_is moved_is log
+plays_the_same c d c_is d_is same log = search (rules, same, same-lines, reached-initial)

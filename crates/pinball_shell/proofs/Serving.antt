@@ -1,17 +1,14 @@
 -- What a board has taken, one part after another.
-use Rattle.std.proofs.Common.{◌≡◌, ℕ, Option, Some, None, Ok, List, [], ◌∷◌, ◌++◌, map, inl, inr, refl, ap, sym, ◌∙◌, subst, append_assoc, append-nil}
+use Rattle.std.proofs.Common.{rules, ◌≡◌, ℕ, Option, Some, None, Ok, List, [], ◌∷◌, ◌++◌, map, inl, inr, refl, ap, sym, ◌∙◌, subst, append_assoc, append-nil}
 use Rattle.std.proofs.lemmas.Grind.{flat_map-append}
 use Rattle.plan_tables.specs.declared.entries.CoilId.{CoilId}
-use Rattle.coil_guard.specs.declared.command.Command.{Command}
-use Rattle.coil_guard.specs.declared.command.Command.TheVariants.{Disable}
-use Rattle.coil_guard.specs.declared.state.CoilState.{CoilState}
+use Rattle.coil_guard.specs.declared.{command.Command.{Command, TheVariants.Disable}, state.CoilState.CoilState}
 use Rattle.coil_guard.specs.Boards.{IsToldAfter}
 use Rattle.written_machine.specs.declared.line.Line.{Line}
 use Rattle.coil_driver.specs.Board.{BoardView, HasTaken, HasTakenAll, command_of, commands_of, after_line, after_lines, TellsMore}
 use Rattle.coil_driver.specs.ShutDown.{ArePutOff}
 use Rattle.pin_rig.specs.Rig.{RigView}
-use Rattle.pinball_shell.specs.RunOfLog.{Printed, Traced, Refused, traced}
-use Rattle.pinball_shell.specs.Ends.{IsServed, IsHalted}
+use Rattle.pinball_shell.specs.{RunOfLog.{Printed, Traced, Refused, traced}, Ends.{IsServed, IsHalted}}
 
 -- ---- the lines of the trace among what is printed
 
@@ -38,23 +35,10 @@ commands-append : (xs ys : List Line) → commands_of (xs ++ ys) ≡ commands_of
 commands-append xs ys = flat_map-append (λ l. command_of l.happening) xs ys
 
 pub served-none : (rig : RigView) (printed : List Printed) → rig.faulted ≡ None → traced printed ≡ [] → IsServed printed rig rig
-served-none rig printed running none = record {
-  checked_is = refl;
-  taken = subst (λ (ls : List Line). HasTakenAll (commands_of ls) rig.board rig.board) (sym none) refl;
-  sent_is = sym (ap (λ (ls : List Line). after_lines ls rig.sent) none);
-  running = running;
-}
+served-none rig printed running none = search rules
 
 pub served-then : (xs ys : List Printed) (a b c : RigView) → IsServed xs a b → IsServed ys b c → IsServed (xs ++ ys) a c
-served-then xs ys a b c h k = record {
-  checked_is = k.checked_is ∙ h.checked_is;
-  taken =
-      subst (λ (cs : List Command). HasTakenAll cs a.board c.board) (sym (ap commands_of (traced-append xs ys) ∙ commands-append (traced xs) (traced ys)))
-      (taken-append (commands_of (traced xs)) (commands_of (traced ys)) a.board b.board c.board h.taken k.taken);
-  sent_is =
-      k.sent_is ∙ ap (after_lines (traced ys)) h.sent_is ∙ sym (after_lines-append (traced xs) (traced ys) a.sent) ∙ sym (ap (λ (ls : List Line). after_lines ls a.sent) (traced-append xs ys));
-  running = k.running;
-}
+served-then xs ys a b c h k = search (rules, traced-append, commands-append, taken-append, after_lines-append)
 
 -- ---- what is told
 
@@ -62,9 +46,7 @@ taken-tells : (command : Command) (a b : BoardView) → HasTaken command a b →
 taken-tells command a b h = go a.told b.told h.list
   where
     go : (told next : Option (List Command)) → IsToldAfter command (Ok tt) told next → TellsMore (command ∷ []) told next
-    go None next is = is
-    go (Some xs) None is = tt
-    go (Some xs) (Some ys) is = is
+    go x1 x2 is = search rules
 
 tells-then : (xs ys : List Command) (a b c : Option (List Command)) → TellsMore xs a b → TellsMore ys b c → TellsMore (xs ++ ys) a c
 tells-then [] ys a b c h k = subst (λ (o : Option (List Command)). TellsMore ys o c) h k

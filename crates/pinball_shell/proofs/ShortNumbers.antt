@@ -1,14 +1,10 @@
 -- Numbers of few digits, read digit by digit.
-use Rattle.std.proofs.Common.{◌≡◌, ℕ, suc, ◌+◌, ◌-◌, ◌*◌, ◌^◌, ◌<◌, ◌≤◌, nat_le, true, Some, None, List, [], ◌∷◌, ◌++◌, length, take, get_or, refl, sym, ap, ◌∙◌, arith, length-append, length-take-le}
-use Rattle.std.specs.List.{list_all}
-use Rattle.std.specs.Char.{is_ascii_digit}
-use Rattle.std.proofs.lemmas.List.{take_more, take_all}
-use Rattle.std.proofs.lemmas.Bool.{cond-true, le-leb}
-use Rattle.std.proofs.lemmas.List.Folds.{list_all-append}
-use Rattle.std.proofs.lemmas.Str.Parse.{digits_value_short}
+use Rattle.std.proofs.Common.{rules, ◌≡◌, ℕ, suc, ◌+◌, ◌-◌, ◌*◌, ◌^◌, ◌<◌, ◌≤◌, nat_le, true, Some, None, List, [], ◌∷◌, ◌++◌, length, take, get_or, refl, sym, ap, ◌∙◌, arith, length-append, length-take-le}
+use Rattle.std.specs.{List.list_all, Char.is_ascii_digit}
+use Rattle.std.proofs.lemmas.List.{take_more, take_all, Folds.list_all-append}
+use Rattle.std.proofs.lemmas.{Bool.{cond-true, le-leb}, Str.Parse.digits_value_short}
 use Rattle.yaml_bytes.specs.Numbers.{value_of_digits, number_at}
-use Rattle.yaml_bytes.proofs.AllBytes.{Are-from_list_all}
-use Rattle.yaml_bytes.proofs.WrittenNumbers.{own, number_complete}
+use Rattle.yaml_bytes.proofs.{AllBytes.Are-from_list_all, WrittenNumbers.{own, number_complete}}
 use Rattle.pinball_shell.specs.LogText.{moment_in}
 use native.Mathlib.Nat.{pow-zero, pow-suc, mul_assoc}
 
@@ -48,6 +44,4 @@ moment-few digits n some few are value = cond-true (nat_le (length digits) 20) (
 
 -- the same, for a text that is all digits
 pub moment-all : (text : List ℕ) (i n : ℕ) → 0 < i → i ≤ 18 → i ≡ length text → list_all is_ascii_digit (take i text) ≡ true → n ≡ value_of_digits (take i text) → moment_in text ≡ Some n
-moment-all text i n some few whole digits value =
-    let all : take i text ≡ text = take_all i text (omega arith) in
-    moment-few text n (omega arith) (omega arith) (ap (list_all is_ascii_digit) (sym all) ∙ digits) (value ∙ ap value_of_digits all)
+moment-all text i n some few whole digits value = search (rules, take_all, moment-few)

@@ -1,11 +1,8 @@
 -- Stimuli that come one after another.
 use Rattle.std.proofs.Common.{◌≡◌, ℕ, List, [], ◌∷◌, ◌++◌, refl, ap, sym, ◌∙◌, append_assoc}
 use Rattle.plan_tables.specs.PlanView.{PlanView}
-use Rattle.written_machine.specs.declared.line.Line.{Line}
-use Rattle.written_machine.specs.Machine.{Machine}
-use Rattle.written_machine.specs.Run.{Stimulus}
-use Rattle.written_machine.specs.AlarmsBy.{state_after}
-use Rattle.written_machine.specs.PlanOrder.{settled}
+use Rattle.written_machine.specs.{declared.line.Line.Line, Machine.Machine, Run.Stimulus}
+use Rattle.written_machine.specs.{AlarmsBy.state_after, PlanOrder.settled}
 use Rattle.pinball_shell.specs.RunOfLog.{trace_of}
 
 module _ (plan : PlanView) (bound : ℕ) where

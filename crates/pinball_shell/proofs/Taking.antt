@@ -1,87 +1,58 @@
 -- What a line gives is taken by the rig, once no alarm is due by its moment.
-use Rattle.std.proofs.Common.{◌≡◌, ℕ, ◌<◌, ◌≤◌, ◌^◌, false, Option, None, Some, Result, Ok, Err, IsOk, OnOk, IfOk, List, [], ◌∷◌, inl, inr, refl, ap, sym, ◌∙◌, subst, arith, append-nil}
-use Rattle.plan_tables.specs.PlanView.{PlanView}
-use Rattle.plan_tables.specs.Valid.{IsValid}
-use Rattle.written_machine.specs.declared.line.Line.{Line}
-use Rattle.written_machine.specs.CheckedView.{CheckedView}
-use Rattle.written_machine.specs.Accepted.{IsAccepted}
-use Rattle.written_machine.specs.Machine.{Machine}
-use Rattle.written_machine.specs.Run.{Stimulus, Alarm, moment_of, IsReached}
-use Rattle.written_machine.specs.NextAlarm.{is_due_by}
-use Rattle.written_machine.proofs.NextAlarms.{not_due-nothing}
+use Rattle.std.proofs.Common.{rules, ◌≡◌, ℕ, ◌<◌, ◌≤◌, ◌^◌, false, Option, None, Some, Result, Ok, Err, IsOk, OnOk, IfOk, List, [], ◌∷◌, refl, ap, sym, ◌∙◌, subst, arith, append-nil}
+use Rattle.plan_tables.specs.{PlanView.PlanView, Valid.IsValid, declared.devices.DeviceRow.DeviceRow}
+use Rattle.written_machine.specs.{CheckedView.CheckedView, Machine.Machine, NextAlarm.is_due_by}
+use Rattle.written_machine.{specs.Run.{Stimulus, Alarm, moment_of, IsReached}, proofs.NextAlarms.not_due-nothing}
 use Rattle.coil_driver.specs.Board.{BoardView, commands_of, TellsMore}
-use Rattle.machine_core.specs.declared.fault.CoreFault.{CoreFault}
+use Rattle.machine_core.specs.{declared.fault.CoreFault.CoreFault, Fit.{IsFit, IsFirstWrong}}
 use Rattle.machine_core.specs.declared.fault.CoreFault.TheVariants as core_faults
-use Rattle.machine_core.specs.Fit.{IsFit, IsFirstWrong}
 use Rattle.std.proofs.KnownBytes.{Appends-trans}
-use Rattle.pin_rig.specs.declared.input.Input.{Input}
+use Rattle.pin_rig.{specs.declared.input.{Input.Input, StepFault.StepFault}, proofs.Judging.allowed-judged}
 use Rattle.pin_rig.specs.declared.input.Input.TheVariants as inputs
-use Rattle.pin_rig.specs.declared.input.StepFault.{StepFault}
-use Rattle.pin_rig.specs.Rig.{RigView, stimulus_at, IsOfRun}
-use Rattle.pin_rig.specs.Steps.{IsOfInput, at_rest}
-use Rattle.pin_rig.proofs.Judging.{allowed-judged}
-use Rattle.plan_tables.specs.declared.devices.DeviceRow.{DeviceRow}
+use Rattle.pin_rig.specs.{Rig.{RigView, stimulus_at, IsOfRun}, Steps.at_rest}
 use Rattle.device_objects.specs.declared.state.DeviceState.{DeviceState}
-use Rattle.pinball_shell.specs.declared.fault.ShellFault.{ShellFault}
+use Rattle.pinball_shell.specs.declared.fault.{ShellFault.ShellFault, Verdict.Verdict}
 use Rattle.pinball_shell.specs.declared.fault.ShellFault.TheVariants as faults
-use Rattle.pinball_shell.specs.Status.{fault_of_rig}
-use Rattle.pinball_shell.specs.declared.play.Stop.{Stop}
+use Rattle.pinball_shell.specs.{Status.fault_of_rig, LogText.{Said, said}, Ends.{IsServed, IsEnd, IsPlayOn}}
+use Rattle.pinball_shell.specs.declared.{play.Stop.Stop, refusal.Refusal.Refusal}
 use Rattle.pinball_shell.specs.declared.play.Stop.TheVariants as stops
-use Rattle.pinball_shell.specs.declared.fault.Verdict.{Verdict}
 use Rattle.pinball_shell.specs.declared.fault.Verdict.TheVariants as verdicts
-use Rattle.pinball_shell.specs.declared.refusal.Refusal.{Refusal}
-use Rattle.pinball_shell.specs.LogText.{Said, said}
-use Rattle.pinball_shell.specs.RunOfLog.{given_by_line, Printed, Refused, traced}
-use Rattle.pinball_shell.specs.Ends.{IsServed, IsEnd, IsPlayOn}
+use Rattle.pinball_shell.specs.RunOfLog.{given_by_line, Printed, traced}
 use Rattle.pinball_shell.specs.Played.{input_of, GivesInput, GoesOrHalts, IsPlayed, IsPlayedToFault, IsRigOf, IsInputPlayed, IsInputPlayedToFault, AreAlarmsPlayed, AreAlarmsPlayedToFault, IsLinePlayed, IsLinePlayedToFault, IsLogPlayed, IsShutDown}
-use Rattle.pinball_shell.proofs.Alarms.{ComesBy, alarm-taken}
+use Rattle.pinball_shell.proofs.{Alarms.{ComesBy, alarm-taken}, Playing.{line-played, line-fault, line-alarm_fault}}
 use Rattle.pinball_shell.proofs.LogRuns.{IsGivenInTime, given-in_time, in_time-early, may_come}
 use Rattle.pinball_shell.proofs.Serving.{served-tells, halted-tells, end-tells, traced-append}
-use Rattle.pinball_shell.proofs.Playing.{line-played, line-fault, line-alarm_fault}
 
 -- ---- what the rig takes
 
-input_of-stimulus : (plan : PlanView) (now : ℕ) (stimulus : Stimulus) → IsGivenInTime plan now stimulus → IsOfInput (input_of stimulus) stimulus
-input_of-stimulus plan now (Alarm at source) none = absurd none
-input_of-stimulus plan now _ time = refl
-
 -- what comes in time is taken, once nothing is due by its moment
 in_time-taken : (rig : RigView) (now : ℕ) (stimulus : Stimulus) → rig.faulted ≡ None → IsGivenInTime rig.checked.plan now stimulus → rig.machine.moment ≤ moment_of stimulus → is_due_by (moment_of stimulus) rig.machine ≡ false → stimulus_at rig (input_of stimulus) ≡ Ok stimulus
-in_time-taken rig now stimulus running time ahead quiet =
-    allowed-judged rig (input_of stimulus) stimulus running (input_of-stimulus rig.checked.plan now stimulus time)
-    (may_come rig.checked.plan now rig.machine stimulus time ahead (not_due-nothing rig.machine (moment_of stimulus) quiet))
+in_time-taken rig now stimulus running time ahead quiet = search (rules, stimulus, allowed-judged, may_come, not_due-nothing)
 
 -- ---- on a rig of the plan
 
 pub ok_where : {T E : Type 0} (r : Result T E) (x : T) → r ≡ Ok x → IsOk r
-ok_where (Ok y) x h = refl
-ok_where (Err e) x h = cc
+ok_where x1 x h = search rules
 
 -- where a step of playing has halted, so has what goes on to it
 pub halts-on : {T U : Type 0} (stop : Stop) (r : Result U Stop) (goes : T → Type 0) (next : U → Type 0) (first halts : Type 0) → r ≡ Err stop → (first → halts) → GoesOrHalts {T = T} (Err stop) goes first → GoesOrHalts r next halts
 halts-on {T} {U} stop r goes next first halts is step = subst (λ (q : Result U Stop). GoesOrHalts {T = T} (Err stop) goes first → GoesOrHalts q next halts) (sym is) (by stop)
   where
     by : (s : Stop) → GoesOrHalts {T = T} (Err s) goes first → GoesOrHalts {T = U} (Err s) next halts
-    by stops.Board h = step h
-    by stops.Write h = tt
+    by x1 h = search rules
 
 pub halts-in : {T : Type 0} (r : Result T Stop) (goes : T → Type 0) (halts : Type 0) → r ≡ Err stops.Board → GoesOrHalts r goes halts → halts
 halts-in {T} r goes halts is = subst (λ (q : Result T Stop). GoesOrHalts q goes halts → halts) (sym is) (λ h. h)
 
 -- what is known of an answer, in two parts
 pub ok-both : {T E : Type 0} (r : Result T E) (A : Type 0) (B P : T → Type 0) → ((x : T) → A → B x → P x) → OnOk r A → IfOk r B → IfOk r P
-ok-both (Ok x) A B P both a b = both x a b
-ok-both (Err e) A B P both a b = tt
+ok-both x1 A B P both a b = search rules
 
 is_ok : (a b : Stimulus) (r : Result Stimulus StepFault) → r ≡ Ok a → r ≡ Ok b → a ≡ b
 is_ok a b r h k = let same : ◌≡◌ {A = Result Stimulus StepFault} (Ok a) (Ok b) = sym h ∙ k in cc
 
 pub rig_of-served : (plan : PlanView) (printed : List Printed) (old now : RigView) → IsServed printed old now → IsRigOf plan old → IsRigOf plan now
-rig_of-served plan printed old now served h = record {
-  plan_is = ap (λ (c : CheckedView). c.plan) served.checked_is ∙ h.plan_is;
-  accepted = subst IsAccepted (sym served.checked_is) h.accepted;
-  running = served.running;
-}
+rig_of-served plan printed old now served h = search rules
 
 module _ (plan : PlanView) (old now : RigView) (is : now.checked ≡ old.checked) (number : ℕ) (line : List ℕ) (t : RigView) (a b : Option (List ℕ)) where
   pub line-same : (v : Verdict) → IsLinePlayed plan now.checked.bound number line now t a b v → IsLinePlayed plan old.checked.bound number line now t a b v
@@ -98,11 +69,7 @@ valid-of plan rig h = subst IsValid h.plan_is h.accepted.valid
 
 -- what a board tells once the log is over
 end-told : (plan : PlanView) (bound : ℕ) (log : List ℕ) (old : RigView) (printed : List Printed) (new : RigView) → IsEnd plan bound log old printed new → TellsMore (commands_of (traced printed)) old.board.told new.board.told
-end-told plan bound log old printed new (inl out) = served-tells printed old new out.served
-end-told plan bound log old printed new (inr cut) =
-    let lines : traced printed ≡ traced cut.shown = ap traced cut.printed_is ∙ traced-append cut.shown (Refused cut.number _ ∷ []) ∙ append-nil (traced cut.shown) in
-    subst (λ (ls : List Line). TellsMore (commands_of ls) old.board.told new.board.told) (sym lines)
-    (halted-tells (commands_of (traced cut.shown)) cut.command old.board cut.mid new (served-tells cut.shown old cut.mid cut.served) cut.halted)
+end-told plan bound log old printed new x7 = search (rules, served-tells, traced-append, append-nil, halted-tells)
 
 -- a log that was played on a new rig, which was then shut down
 pub log-played : (plan : PlanView) (c : CheckedView) (first rig : RigView) (board last : BoardView) (log : List ℕ) (a b d : Option (List ℕ)) (v : Verdict) → plan ≡ c.plan → first ≡ at_rest c board
@@ -136,16 +103,10 @@ reached-of plan first now h is held = subst (λ (p : PlanView). IsReached p held
 -- an input whose stimulus is known plays that
 module _ (plan : PlanView) (bound : ℕ) (input : Input) (old new : RigView) (a b : Option (List ℕ)) (stimulus : Stimulus) (same : old.checked.bound ≡ bound) (is : stimulus_at old input ≡ Ok stimulus) where
   pub known-played : IsInputPlayed plan input old new a b → IsPlayed plan bound (stimulus ∷ []) old new a b
-  known-played h =
-      let the : h.stimulus ≡ stimulus = is_ok h.stimulus stimulus (stimulus_at old input) h.stimulus_is is in
-      subst (λ (k : ℕ). IsPlayed plan k (stimulus ∷ []) old new a b) same
-      (subst (λ (x : Stimulus). IsPlayed plan old.checked.bound (x ∷ []) old new a b) the h.played)
+  known-played h = search (rules, stimulus, is_ok)
 
   pub known-fault : IsInputPlayedToFault plan input old new a b → IsPlayedToFault plan bound (stimulus ∷ []) old new a b
-  known-fault h =
-      let the : h.stimulus ≡ stimulus = is_ok h.stimulus stimulus (stimulus_at old input) h.stimulus_is is in
-      subst (λ (k : ℕ). IsPlayedToFault plan k (stimulus ∷ []) old new a b) same
-      (subst (λ (x : Stimulus). IsPlayedToFault plan old.checked.bound (x ∷ []) old new a b) the h.played)
+  known-fault h = search (rules, stimulus, is_ok)
 
 module _ (plan : PlanView) (until : ℕ) (first now new : RigView) (a b : Option (List ℕ)) (same : now.checked ≡ first.checked) (running : now.faulted ≡ None) (early : until < 2 ^ 40) (next : ComesBy now.machine until) where
   pub alarm-played : IsInputPlayed plan inputs.Alarm now new a b → IsPlayed plan first.checked.bound (Alarm next.at next.source ∷ []) now new a b

@@ -1,14 +1,11 @@
 -- What was accepted of a bundle is accepted again with its certificate, which is not too long to be read.
-use Rattle.std.proofs.Common.{◌≡◌, ℕ, ◌≤◌, ◌^◌, List, ◌++◌, length, None, Some, Result, Ok, Err, inl, refl, ap, sym, ◌∙◌}
-use Rattle.mpf_config.specs.Rows.{Rows, RowsFault}
-use Rattle.mpf_config.specs.Reading.{rows_at}
+use Rattle.std.proofs.Common.{rules, ◌≡◌, ℕ, ◌≤◌, ◌^◌, List, ◌++◌, length, None, Some, Result, Ok, Err, inl, refl, ap, sym, ◌∙◌}
+use Rattle.mpf_config.specs.{Rows.{Rows, RowsFault}, Reading.rows_at}
 use Rattle.written_machine.specs.CheckedView.{CheckedView}
-use Rattle.config_checker.specs.CertificateText.{certificate_text}
-use Rattle.config_checker.specs.Checking.{FaultView, checked_at}
-use Rattle.config_checker.proofs.ReadBack.{read-again}
-use Rattle.config_checker.proofs.CertificateLength.{certificate-few}
+use Rattle.config_checker.specs.{CertificateText.certificate_text, Checking.{FaultView, checked_at}}
+use Rattle.config_checker.proofs.{ReadBack.read-again, CertificateLength.certificate-few}
 use Rattle.pinball_shell.specs.Reply.{Answer, answer_of, replied, reply_to, reply_with}
-use Rattle.pinball_shell.specs.CheckOutput.{notes_text, answer_text, acceptance_text, verification_text, reply_text, check_output, verify_output}
+use Rattle.pinball_shell.specs.CheckOutput.{notes_text, acceptance_text, verification_text, reply_text, check_output, verify_output}
 
 -- an answer with something accepted is that of the checker
 accepted_is : (found : Result CheckedView (List FaultView)) (c : CheckedView) → answer_of found ≡ Ok c → found ≡ Ok c
@@ -34,14 +31,10 @@ pub is_printed_again : (bundle : List ℕ) (c : CheckedView) → (reply_to bundl
     → (check_output bundle ≡ notes_text (reply_to bundle).notes ++ acceptance_text c)
     × (verify_output (certificate_text c) bundle ≡ notes_text (reply_to bundle).notes ++ verification_text c)
 unfolding reply_text
-is_printed_again bundle c accepted = (
-  ap (λ (a : Answer). notes_text (reply_to bundle).notes ++ answer_text acceptance_text a) accepted,
-  ap (reply_text verification_text) (is_accepted_again bundle c accepted) ∙ ap (λ (a : Answer). notes_text (reply_to bundle).notes ++ answer_text verification_text a) accepted,
-)
+is_printed_again bundle c accepted = search (rules, is_accepted_again)
 
 short-printed : (bundle : List ℕ) (read : Result Rows RowsFault) (c : CheckedView) → rows_at bundle ≡ read → (replied None read).answer ≡ Ok c → length (certificate_text c) ≤ 2 ^ 20
-short-printed bundle (Ok rows) c is accepted = certificate-few rows bundle c is (accepted_is (checked_at rows) c accepted)
-short-printed bundle (Err f) c is accepted = absurd cc
+short-printed bundle x2 c is accepted = search (rules, certificate-few, accepted_is)
 
 pub is_short : (bundle : List ℕ) (c : CheckedView) → (reply_to bundle).answer ≡ Ok c → length (certificate_text c) ≤ 2 ^ 20
 is_short bundle c accepted = short-printed bundle (rows_at bundle) c refl accepted

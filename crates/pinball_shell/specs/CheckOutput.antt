@@ -1,12 +1,8 @@
 -- What is printed for a bundle: a function of its bytes.
-use Rattle.std.specs.Prelude.{ℕ, List, [], ◌∷◌, ◌++◌, Ok, Err, codes}
-use Rattle.std.specs.List.{flat_map}
-use Rattle.mpf_config.specs.Rows.{Note}
-use Rattle.mpf_config.specs.FaultLine.{fault_line}
-use Rattle.mpf_config.specs.NoteLine.{note_line}
+use Rattle.std.specs.{Prelude.{ℕ, List, [], ◌∷◌, ◌++◌, Ok, Err, codes}, List.flat_map}
+use Rattle.mpf_config.specs.{Rows.Note, FaultLine.fault_line, NoteLine.note_line}
 use Rattle.written_machine.specs.CheckedView.{CheckedView}
-use Rattle.config_checker.specs.CertificateText.{bound_line, certificate_text}
-use Rattle.config_checker.specs.ReportText.{report_text}
+use Rattle.config_checker.specs.{CertificateText.{bound_line, certificate_text}, ReportText.report_text}
 use Rattle.pinball_shell.specs.Reply.{RefusalView, unread, unfit, Answer, Reply, reply_to, reply_with}
 
 -- a line for each note, in order

@@ -1,28 +1,18 @@
 -- How the play of a log on a board ends.
 use Rattle.std.specs.Prelude.{◌≡◌, ◌⊎◌, ℕ, ◌-◌, Option, None, Some, List, [], ◌∷◌, ◌++◌, map, take, IfSome}
-use Rattle.std.specs.Io.KnownBytes.{Appends}
-use Rattle.std.specs.Str.Lines.{lines}
-use Rattle.plan_tables.specs.PlanView.{PlanView}
-use Rattle.plan_tables.specs.declared.entries.CoilId.{CoilId}
-use Rattle.coil_guard.specs.declared.command.Command.{Command}
-use Rattle.coil_guard.specs.declared.command.Command.TheVariants.{Disable}
-use Rattle.coil_guard.specs.SentCommands.{coil_of}
-use Rattle.written_machine.specs.declared.line.Line.{Line}
+use Rattle.std.specs.{Io.KnownBytes.Appends, Str.Lines.lines}
+use Rattle.plan_tables.specs.{PlanView.PlanView, declared.entries.CoilId.CoilId}
+use Rattle.coil_guard.specs.{declared.command.Command.{Command, TheVariants.Disable}, SentCommands.coil_of}
+use Rattle.written_machine.specs.{declared.line.Line.Line, CheckedView.CheckedView, Machine.{Machine, initial}}
 use Rattle.written_machine.specs.declared.line.Happening.TheVariants as happenings
-use Rattle.written_machine.specs.CheckedView.{CheckedView}
-use Rattle.written_machine.specs.Machine.{Machine, initial}
 use Rattle.coil_driver.specs.Board.{BoardView, HasTakenAll, HasNotTaken, commands_of, after_lines, TellsMore}
 use Rattle.coil_driver.specs.ShutDown.{ArePutOff}
 use Rattle.pin_rig.specs.declared.input.StepFault.TheVariants.{BoardFault}
-use Rattle.pin_rig.specs.Rig.{RigView}
-use Rattle.pin_rig.specs.ShutDown.{coils_to_put_off}
-use Rattle.pin_rig.specs.Steps.{at_rest}
-use Rattle.pinball_shell.specs.declared.fault.Verdict.{Verdict}
-use Rattle.pinball_shell.specs.declared.refusal.Refusal.TheVariants.{Step}
-use Rattle.pinball_shell.specs.LogText.{said}
+use Rattle.pin_rig.specs.{Rig.RigView, ShutDown.coils_to_put_off, Steps.at_rest}
+use Rattle.pinball_shell.specs.declared.{fault.Verdict.Verdict, refusal.Refusal.TheVariants.Step}
+use Rattle.pinball_shell.specs.{LogText.said, TraceText.{printed_texts, log_verdict}}
 use Rattle.pinball_shell.specs.RunOfLog.{given_by_line, Printed, Traced, Refused, after_line, printed_for_lines, printed_for_log, traced}
 use Rattle.trace_lines.specs.LineText.{off_texts}
-use Rattle.pinball_shell.specs.TraceText.{printed_texts, log_verdict}
 
 -- ---- a log up to some line
 

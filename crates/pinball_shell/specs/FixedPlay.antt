@@ -1,15 +1,11 @@
 -- What the answers of a board fix.
-use Rattle.std.specs.Prelude.{◌≡◌, ℕ, Option, IsSome, List}
-use Rattle.std.specs.Io.KnownBytes.{Appends}
+use Rattle.std.specs.{Prelude.{◌≡◌, ℕ, Option, IsSome, List}, Io.KnownBytes.Appends}
 use Rattle.coil_guard.specs.Boards.{takes_all}
 use Rattle.written_machine.specs.CheckedView.{CheckedView}
 use Rattle.coil_driver.specs.Board.{BoardView}
-use Rattle.pin_rig.specs.ShutDown.{coils_to_put_off}
-use Rattle.pin_rig.specs.Steps.{at_rest}
-use Rattle.pinball_shell.specs.declared.fault.Verdict.{Verdict}
-use Rattle.pinball_shell.specs.RunOfLog.{printed_for_log}
-use Rattle.pinball_shell.specs.TraceText.{log_verdict}
-use Rattle.pinball_shell.specs.Ends.{IsPlayedOut, IsPlayOn}
+use Rattle.pin_rig.specs.{ShutDown.coils_to_put_off, Steps.at_rest}
+use Rattle.pinball_shell.specs.{declared.fault.Verdict.Verdict, Ends.{IsPlayedOut, IsPlayOn}}
+use Rattle.pinball_shell.specs.{RunOfLog.printed_for_log, TraceText.log_verdict}
 
 -- the board tells its answers to all commands to come
 abbrev pub TellsAll : BoardView → Type 0

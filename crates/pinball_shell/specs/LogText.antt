@@ -1,9 +1,7 @@
 -- What the lines of a log say.
 use Rattle.std.specs.Prelude.{ℕ, ◌-◌, nat_lt, nat_le, ◌==◌, Bool, true, false, ◌||◌, if◌then◌else◌, Option, Some, None, List, [], ◌∷◌, length, slice_index, filter}
-use Rattle.std.specs.List.{slice_split}
-use Rattle.std.specs.Str.{byte}
-use Rattle.yaml_bytes.specs.Bytes.{is_blank}
-use Rattle.yaml_bytes.specs.Numbers.{number_at}
+use Rattle.std.specs.{List.slice_split, Str.byte}
+use Rattle.yaml_bytes.specs.{Bytes.is_blank, Numbers.number_at}
 
 -- what a line asks for: a wait up to a moment, or at a moment a new raw level of the switch of a name
 pub data Said : Type 0 where

@@ -1,15 +1,11 @@
 -- What contracts see of a line of a log.
 use Rattle.std.specs.Prelude.{◌≡◌, ℕ, ◌<◌, ◌≤◌, true, Option, Result, List, ◌∷◌, ◌++◌, length}
-use Rattle.std.specs.List.{list_all}
-use Rattle.std.specs.Char.{is_ascii_digit}
-use Rattle.yaml_bytes.specs.Bytes.{is_blank}
-use Rattle.yaml_bytes.specs.Numbers.{value_of_digits}
+use Rattle.std.specs.{List.list_all, Char.is_ascii_digit}
+use Rattle.yaml_bytes.specs.{Bytes.is_blank, Numbers.value_of_digits}
 use Rattle.plan_tables.specs.PlanView.{PlanView}
 use Rattle.written_machine.specs.Run.{Stimulus}
-use Rattle.pinball_shell.specs.LogText.{Said, Nothing, Wait, Change, Unreadable}
-use Rattle.pinball_shell.specs.RunOfLog.{given_by_line}
-use Rattle.pinball_shell.specs.declared.refusal.Refusal.{Refusal}
-use Rattle.pinball_shell.specs.declared.log_line.Said.{Said as SaidLine}
+use Rattle.pinball_shell.specs.{LogText.{Said, Nothing, Wait, Change, Unreadable}, RunOfLog.given_by_line}
+use Rattle.pinball_shell.specs.declared.{refusal.Refusal.Refusal, log_line.Said.Said as SaidLine}
 use Rattle.pinball_shell.specs.declared.log_line.Said.TheVariants as lines
 
 abbrev pub said_view : SaidLine → Said

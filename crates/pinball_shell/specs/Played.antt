@@ -1,31 +1,21 @@
 -- What playing does to a rig, and to what is written.
 use Rattle.std.specs.Prelude.{◌≡◌, ℕ, ◌≤◌, false, Option, Some, None, Result, Ok, Err, List, [], ◌∷◌, ◌++◌, map}
 use Rattle.std.specs.Io.KnownBytes.{Appends}
-use Rattle.plan_tables.specs.PlanView.{PlanView}
-use Rattle.plan_tables.specs.declared.entries.CoilId.{CoilId}
+use Rattle.plan_tables.specs.{PlanView.PlanView, declared.entries.CoilId.CoilId}
 use Rattle.coil_guard.specs.declared.command.Command.{Command}
-use Rattle.written_machine.specs.declared.line.Line.{Line}
+use Rattle.written_machine.specs.{declared.line.Line.Line, Accepted.IsAccepted, NextAlarm.is_due_by}
 use Rattle.written_machine.specs.declared.line.Happening.TheVariants as happenings
-use Rattle.written_machine.specs.CheckedView.{CheckedView}
-use Rattle.written_machine.specs.Accepted.{IsAccepted}
+use Rattle.written_machine.specs.{CheckedView.CheckedView, AlarmsBy.state_after}
 use Rattle.written_machine.specs.Run.{Stimulus, SwitchChange, Alarm, Wait, moment_of}
-use Rattle.written_machine.specs.NextAlarm.{is_due_by}
-use Rattle.written_machine.specs.AlarmsBy.{state_after}
-use Rattle.coil_driver.specs.Board.{BoardView}
-use Rattle.coil_driver.specs.ShutDown.{ArePutOff}
-use Rattle.pin_rig.specs.declared.input.Input.{Input}
+use Rattle.coil_driver.specs.{Board.BoardView, ShutDown.ArePutOff}
+use Rattle.pin_rig.specs.{declared.input.Input.Input, Rig.{RigView, stimulus_at}, ShutDown.coils_to_put_off}
 use Rattle.pin_rig.specs.declared.input.Input.TheVariants as inputs
-use Rattle.pin_rig.specs.Rig.{RigView, stimulus_at}
-use Rattle.pin_rig.specs.ShutDown.{coils_to_put_off}
-use Rattle.pinball_shell.specs.declared.fault.Verdict.{Verdict}
+use Rattle.pinball_shell.specs.declared.{fault.Verdict.Verdict, refusal.Refusal.Refusal, play.Stop.Stop}
 use Rattle.pinball_shell.specs.declared.fault.Verdict.TheVariants as verdicts
-use Rattle.pinball_shell.specs.declared.refusal.Refusal.{Refusal}
-use Rattle.pinball_shell.specs.declared.play.Stop.{Stop}
 use Rattle.pinball_shell.specs.declared.play.Stop.TheVariants as stops
-use Rattle.pinball_shell.specs.LogText.{said}
+use Rattle.pinball_shell.specs.{LogText.said, TraceText.{printed_texts, log_verdict}}
 use Rattle.pinball_shell.specs.RunOfLog.{given_by_line, trace_of, all_alarms_by, Printed, Traced, printed_for_line, after_line}
 use Rattle.trace_lines.specs.LineText.{off_texts}
-use Rattle.pinball_shell.specs.TraceText.{printed_texts, log_verdict}
 use Rattle.pinball_shell.specs.Ends.{IsServed, IsHalted, IsEnd, IsPlayOn}
 
 -- what a rig is given for a stimulus: which alarm comes, it says itself

@@ -1,11 +1,9 @@
 -- The reply to a bundle: a function of its bytes.
 use Rattle.std.specs.Prelude.{ℕ, List, [], Option, Some, None, Result, Ok, Err}
-use Rattle.mpf_config.specs.Rows.{Note, Rows, RowsFault}
-use Rattle.mpf_config.specs.Reading.{rows_at}
+use Rattle.mpf_config.specs.{Rows.{Note, Rows, RowsFault}, Reading.rows_at}
 use Rattle.written_machine.specs.CheckedView.{CheckedView}
 use Rattle.config_checker.specs.Checking.{FaultView, checked_at, checked_with_at}
-use Rattle.pinball_shell.specs.declared.fault.Verdict.{Verdict}
-use Rattle.pinball_shell.specs.declared.fault.Verdict.TheVariants.{Yes, Refused}
+use Rattle.pinball_shell.specs.declared.fault.Verdict.{Verdict, TheVariants.{Yes, Refused}}
 
 -- why a bundle is refused: it has no rows, or its rows have faults
 pub data RefusalView : Type 0 where

@@ -1,15 +1,11 @@
 -- What contracts see of a reply.
-use Rattle.std.specs.Prelude.{◌≡◌, ℕ, List, Option, option_map, Result, Ok, Err, map}
-use Rattle.std.specs.Borrow.{Bor}
-use Rattle.mpf_config.specs.declared.config.Config.{Config}
-use Rattle.mpf_config.specs.declared.config.Note.{Note}
+use Rattle.std.specs.{Prelude.{◌≡◌, ℕ, List, Option, option_map, Result, Ok, Err, map}, Borrow.Bor}
+use Rattle.mpf_config.specs.{declared.config.{Config.Config, Note.Note}, Reading.rows_at}
 use Rattle.mpf_config.specs.View as rows_views
-use Rattle.mpf_config.specs.Reading.{rows_at}
 use Rattle.written_machine.specs.CheckedView.{CheckedView}
 use Rattle.config_checker.specs.View as checked_views
-use Rattle.pinball_shell.specs.declared.reply.BundleRefusal.{BundleRefusal}
+use Rattle.pinball_shell.specs.declared.reply.{BundleRefusal.BundleRefusal, Reply.Reply as HeldReply}
 use Rattle.pinball_shell.specs.declared.reply.BundleRefusal.TheVariants as refusals
-use Rattle.pinball_shell.specs.declared.reply.Reply.{Reply as HeldReply}
 use Rattle.pinball_shell.specs.declared.fault.Verdict.{Verdict}
 use Rattle.pinball_shell.specs.Reply.{RefusalView, unread, unfit, Answer, Reply, answer_of, checked_by, replied, reply_with, verdict_of}
 use Rattle.pinball_shell.specs.CheckOutput.{notes_text, refusal_lines, refusal_text, acceptance_text, verification_text, reply_text}

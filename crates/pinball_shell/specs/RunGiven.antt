@@ -1,16 +1,11 @@
 -- Which run a log gives, whatever plays it.
 use Rattle.std.specs.Prelude.{◌≡◌, ◌≢◌, ℕ, Option, None, Result, Ok, Err, List, [], ◌∷◌, ◌++◌, map, option_to_list}
-use Rattle.std.specs.Option.{option_map_or}
-use Rattle.std.specs.Str.Lines.{lines}
-use Rattle.plan_tables.specs.PlanView.{PlanView}
-use Rattle.plan_tables.specs.Valid.{IsValid}
-use Rattle.written_machine.specs.declared.line.Line.{Line}
-use Rattle.written_machine.specs.CheckedView.{CheckedView}
-use Rattle.written_machine.specs.Machine.{Machine, initial}
-use Rattle.written_machine.specs.PlanOrder.{plan_steps}
+use Rattle.std.specs.{Option.option_map_or, Str.Lines.lines}
+use Rattle.plan_tables.specs.{PlanView.PlanView, Valid.IsValid}
+use Rattle.written_machine.specs.{declared.line.Line.Line, Machine.{Machine, initial}}
+use Rattle.written_machine.specs.{CheckedView.CheckedView, PlanOrder.plan_steps}
 use Rattle.written_machine.specs.Run.{Source, Stimulus, SwitchChange, Alarm, Wait, moment_of, IsAllowed, begin, IsReached}
-use Rattle.pinball_shell.specs.declared.refusal.Refusal.{Refusal}
-use Rattle.pinball_shell.specs.LogText.{said}
+use Rattle.pinball_shell.specs.{declared.refusal.Refusal.Refusal, LogText.said}
 use Rattle.pinball_shell.specs.RunOfLog.{given_by_line, printed_for_log, traced}
 
 -- the stimulus that a line gives, if it gives one

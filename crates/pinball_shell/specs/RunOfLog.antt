@@ -1,19 +1,12 @@
 -- The run of a log: which stimuli its lines give, and what is printed for them.
 use Rattle.std.specs.Prelude.{ℕ, ◌+◌, Bool, Option, Some, None, Result, Ok, Err, List, [], ◌∷◌, ◌++◌, map}
 use Rattle.std.specs.Str.Lines.{lines}
-use Rattle.plan_tables.specs.PlanView.{PlanView, switch_named}
-use Rattle.plan_tables.specs.declared.entries.SwitchId.{SwitchId}
-use Rattle.written_machine.specs.declared.line.Line.{Line}
-use Rattle.written_machine.specs.Machine.{Machine, initial}
+use Rattle.plan_tables.specs.{PlanView.{PlanView, switch_named}, declared.entries.SwitchId.SwitchId}
+use Rattle.written_machine.specs.{declared.line.Line.Line, Machine.{Machine, initial}}
 use Rattle.written_machine.specs.Run.{Stimulus, SwitchChange, Wait, moment_of}
-use Rattle.written_machine.specs.NextAlarm.{most_alarms}
-use Rattle.written_machine.specs.AlarmsBy.{alarms_by, state_after}
-use Rattle.written_machine.specs.PlanOrder.{settled}
-use Rattle.pin_rig.specs.declared.input.StepFault.{StepFault}
-use Rattle.pin_rig.specs.declared.input.StepFault.TheVariants.{NoSuchSwitch}
-use Rattle.pin_rig.specs.Refused.{admitted}
-use Rattle.pinball_shell.specs.declared.refusal.Refusal.{Refusal}
-use Rattle.pinball_shell.specs.declared.refusal.Refusal.TheVariants.{Step, BadLine}
+use Rattle.written_machine.specs.{NextAlarm.most_alarms, AlarmsBy.{alarms_by, state_after}, PlanOrder.settled}
+use Rattle.pin_rig.specs.{declared.input.StepFault.{StepFault, TheVariants.NoSuchSwitch}, Refused.admitted}
+use Rattle.pinball_shell.specs.declared.refusal.Refusal.{Refusal, TheVariants.{Step, BadLine}}
 use Rattle.pinball_shell.specs.LogText.{Said, Nothing, Unreadable, said}
 use Rattle.pinball_shell.specs.LogText as says
 

@@ -1,7 +1,6 @@
 -- What is printed for a log, whatever its plan was accepted with.
 use Rattle.std.specs.Prelude.{◌≡◌, ℕ, List}
-use Rattle.written_machine.specs.CheckedView.{CheckedView}
-use Rattle.written_machine.specs.Accepted.{IsAccepted}
+use Rattle.written_machine.specs.{CheckedView.CheckedView, Accepted.IsAccepted}
 use Rattle.pinball_shell.specs.RunOfLog.{printed_for_log}
 
 -- Where two that are accepted have the same plan, the same is printed for every log, whatever weights and bound each has.

@@ -2,10 +2,8 @@
 use Rattle.std.specs.Prelude.{ℕ, List, [], ◌∷◌, ◌++◌, Option, None, Some, Result, Ok, Err, codes}
 use Rattle.machine_core.specs.declared.fault.CoreFault.{CoreFault}
 use Rattle.machine_core.specs.declared.fault.CoreFault.TheVariants as rig
-use Rattle.pinball_shell.specs.declared.fault.ShellFault.{ShellFault}
+use Rattle.pinball_shell.specs.declared.fault.{ShellFault.ShellFault, Verdict.{Verdict, TheVariants.{Yes, Refused}}}
 use Rattle.pinball_shell.specs.declared.fault.ShellFault.TheVariants.{NoMemory, Read, Write, TooLong, WrongDevice}
-use Rattle.pinball_shell.specs.declared.fault.Verdict.{Verdict}
-use Rattle.pinball_shell.specs.declared.fault.Verdict.TheVariants.{Yes, Refused}
 
 -- 0 for a yes, 1 for a refusal, 3 for a fault
 abbrev pub status_of : Result Verdict ShellFault → ℕ

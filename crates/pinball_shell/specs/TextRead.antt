@@ -1,6 +1,5 @@
 -- What contracts say of texts that are read, where their readers tell what they have, and of what is written for them.
-use Rattle.std.specs.Prelude.{ℕ, ◌<◌, ◌≤◌, IfSome, Option, List, length}
-use Rattle.std.specs.Io.KnownBytes.{Appends}
+use Rattle.std.specs.{Prelude.{ℕ, ◌<◌, ◌≤◌, IfSome, Option, List, length}, Io.KnownBytes.Appends}
 
 -- the text has at most so many bytes
 abbrev pub HasAtMost : ℕ → Option (List ℕ) → Type 0

@@ -1,13 +1,11 @@
 -- What is printed for a log, as bytes.
 use Rattle.std.specs.Prelude.{ℕ, Bool, true, false, if◌then◌else◌, List, [], ◌∷◌, ◌++◌, codes}
-use Rattle.std.specs.List.{flat_map, list_any}
-use Rattle.std.specs.Fmt.{decimal}
+use Rattle.std.specs.{List.{flat_map, list_any}, Fmt.decimal}
 use Rattle.plan_tables.specs.PlanView.{PlanView}
 use Rattle.trace_lines.specs.LineText.{line_text}
 use Rattle.pin_rig.specs.Refused.{step_fault_number, step_fault_name}
-use Rattle.pinball_shell.specs.declared.fault.Verdict.{Verdict}
+use Rattle.pinball_shell.specs.declared.{fault.Verdict.Verdict, refusal.Refusal.Refusal}
 use Rattle.pinball_shell.specs.declared.fault.Verdict.TheVariants as verdicts
-use Rattle.pinball_shell.specs.declared.refusal.Refusal.{Refusal}
 use Rattle.pinball_shell.specs.declared.refusal.Refusal.TheVariants as refusals
 use Rattle.pinball_shell.specs.RunOfLog.{Printed, Traced, Refused}
 

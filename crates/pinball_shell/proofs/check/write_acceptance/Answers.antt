@@ -1,6 +1,5 @@
 use Rattle.std.proofs.Common.{◌∷◌, [], ◌++◌, codes, refl}
-use Rattle.config_checker.specs.CertificateText.{certificate_text}
-use Rattle.config_checker.proofs.Writing.{written-last}
+use Rattle.config_checker.{specs.CertificateText.certificate_text, proofs.Writing.written-last}
 use Rattle.pinball_shell.specs.CheckOutput.{acceptance_text}
 use Rattle.pinball_shell.proofs.check.write_acceptance.Goals as goal
 

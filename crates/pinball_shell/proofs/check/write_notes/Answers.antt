@@ -1,5 +1,4 @@
-use Rattle.mpf_config.specs.View.{note_view}
-use Rattle.mpf_config.specs.NoteLine.{note_line}
+use Rattle.mpf_config.specs.{View.note_view, NoteLine.note_line}
 use Rattle.config_checker.proofs.Writing.{written-more, written-all, written-seen}
 use Rattle.pinball_shell.proofs.check.write_notes.Goals as goal
 

@@ -1,8 +1,5 @@
-use Rattle.std.proofs.Common.{take}
-use Rattle.std.specs.List.{flat_map}
-use Rattle.std.specs.Io.KnownBytes.{Appends}
-use Rattle.mpf_config.specs.View.{note_view}
-use Rattle.mpf_config.specs.NoteLine.{note_line}
+use Rattle.std.{proofs.Common.take, specs.{List.flat_map, Io.KnownBytes.Appends}}
+use Rattle.mpf_config.specs.{View.note_view, NoteLine.note_line}
 use Rattle.pinball_shell.proofs.check.write_notes.Given as goal
 
 -- the lines of the notes so far are written

@@ -1,7 +1,6 @@
 use Rattle.std.proofs.Common.{◌∷◌, [], ◌++◌, codes, refl, append_assoc}
 use Rattle.config_checker.proofs.Writing.{written-last}
-use Rattle.pinball_shell.specs.ReplyView.{refusal_view}
-use Rattle.pinball_shell.specs.CheckOutput.{refusal_lines, refusal_text}
+use Rattle.pinball_shell.specs.{ReplyView.refusal_view, CheckOutput.{refusal_lines, refusal_text}}
 use Rattle.pinball_shell.proofs.check.write_refusal.Goals as goal
 
 pub returns : goal.returns

@@ -1,6 +1,5 @@
 use Rattle.std.proofs.Common.{◌∷◌, [], ◌++◌, codes, refl}
-use Rattle.config_checker.specs.CertificateText.{bound_line}
-use Rattle.config_checker.proofs.Writing.{written-last}
+use Rattle.config_checker.{specs.CertificateText.bound_line, proofs.Writing.written-last}
 use Rattle.pinball_shell.specs.CheckOutput.{verification_text}
 use Rattle.pinball_shell.proofs.check.write_verification.Goals as goal
 

@@ -1,6 +1,4 @@
-use Rattle.std.proofs.Common.{◌≡◌, true, take}
-use Rattle.std.specs.List.{list_all}
-use Rattle.std.specs.Char.{is_ascii_digit}
+use Rattle.std.{proofs.Common.{◌≡◌, true, take}, specs.{List.list_all, Char.is_ascii_digit}}
 use Rattle.yaml_bytes.specs.Numbers.{value_of_digits}
 use Rattle.pinball_shell.proofs.log_line.first_digits.Given as goal
 

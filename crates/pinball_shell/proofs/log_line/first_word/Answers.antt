@@ -1,5 +1,4 @@
-use Rattle.std.proofs.Common.{sym, ◌∙◌, not, arith}
-use Rattle.std.proofs.lemmas.List.Sums.{prefix_len-le-length}
+use Rattle.std.proofs.{Common.{sym, ◌∙◌, not, arith}, lemmas.List.Sums.prefix_len-le-length}
 use Rattle.yaml_bytes.specs.Bytes.{is_blank}
 use Rattle.pinball_shell.proofs.LineWords.{words-cut, words-none}
 use Rattle.pinball_shell.proofs.log_line.first_word.Goals as goal

@@ -1,5 +1,4 @@
-use Rattle.std.proofs.Common.{◌<◌, ◌-◌, length, sym, ◌∙◌, arith}
-use Rattle.std.proofs.lemmas.Bool.{eqb-false}
+use Rattle.std.proofs.{Common.{◌<◌, ◌-◌, length, sym, ◌∙◌, arith}, lemmas.Bool.eqb-false}
 use Rattle.pinball_shell.proofs.UsualLines.{usual-said}
 use Rattle.pinball_shell.proofs.log_line.read_usual.Goals as goal
 

@@ -1,9 +1,7 @@
-use Rattle.std.proofs.Common.{Err, ap, sym, ◌∙◌}
-use Rattle.std.proofs.lemmas.Result.{err_from_is_err_and}
+use Rattle.std.proofs.{Common.{Err, ap, sym, ◌∙◌}, lemmas.Result.err_from_is_err_and}
 use Rattle.written_machine.proofs.NextAlarms.{not_due-nothing}
 use Rattle.std.specs.Io.KnownBytes.{append_known}
-use Rattle.pinball_shell.specs.RunOfLog.{all_alarms_by}
-use Rattle.pinball_shell.proofs.Alarms.{comes, alarm-taken}
+use Rattle.pinball_shell.{specs.RunOfLog.all_alarms_by, proofs.Alarms.{comes, alarm-taken}}
 use Rattle.pinball_shell.proofs.Taking.{ok_where, alarm-played, alarm-fault, halts-on, reached-of, valid-of}
 use Rattle.pinball_shell.proofs.Playing.{alarms-start, alarms-fewer, alarms-more, alarms-fault, alarms-stop}
 use Rattle.pinball_shell.proofs.play.play_alarms.Goals as goal

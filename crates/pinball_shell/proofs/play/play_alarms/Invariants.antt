@@ -1,7 +1,5 @@
-use Rattle.std.proofs.Common.{length}
-use Rattle.std.specs.Io.KnownBytes.{append_known}
-use Rattle.pinball_shell.specs.RunOfLog.{all_alarms_by}
-use Rattle.pinball_shell.proofs.Playing.{AreAlarmsGoing}
+use Rattle.std.{proofs.Common.length, specs.Io.KnownBytes.append_known}
+use Rattle.pinball_shell.{specs.RunOfLog.all_alarms_by, proofs.Playing.AreAlarmsGoing}
 use Rattle.pinball_shell.proofs.play.play_alarms.Given as goal
 
 -- the alarms that are left complete those that were played

@@ -1,6 +1,4 @@
-use Rattle.std.proofs.Common.{subst}
-use Rattle.std.specs.List.{flat_map}
-use Rattle.std.specs.Io.KnownBytes.{Appends, append_known}
+use Rattle.std.{proofs.Common.subst, specs.{List.flat_map, Io.KnownBytes.{Appends, append_known}}}
 use Rattle.trace_lines.specs.LineText.{line_text}
 use Rattle.pinball_shell.proofs.Printing.{step-played, step-halted}
 use Rattle.pinball_shell.proofs.play.play_input.Goals as goal

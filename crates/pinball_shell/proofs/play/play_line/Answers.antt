@@ -1,6 +1,4 @@
-use Rattle.std.proofs.Common.{Err, Ok, ap, ◌∙◌}
-use Rattle.std.proofs.lemmas.Result.{err_from_is_err_and}
-use Rattle.std.specs.Io.KnownBytes.{append_known}
+use Rattle.std.{proofs.{Common.{Err, Ok, ap, ◌∙◌}, lemmas.Result.err_from_is_err_and}, specs.Io.KnownBytes.append_known}
 use Rattle.pinball_shell.proofs.Taking.{ok_where, halts-on, input-given, given-early, given-forward, given-taken, given-plan, given-played, given-fault, given-alarm_fault}
 use Rattle.pinball_shell.proofs.play.play_line.Goals as goal
 

@@ -1,5 +1,4 @@
-use Rattle.std.proofs.Common.{Err, ap, ◌∙◌}
-use Rattle.std.specs.Io.KnownBytes.{append_known}
+use Rattle.std.{proofs.Common.{Err, ap, ◌∙◌}, specs.Io.KnownBytes.append_known}
 use Rattle.pinball_shell.proofs.Playing.{lines-more, lines-fault}
 use Rattle.pinball_shell.proofs.Taking.{rig_of-served, line-same, fault-same, halts-in, ok-both}
 use Rattle.pinball_shell.proofs.play.play_lines.Goals as goal

@@ -1,5 +1,4 @@
-use Rattle.std.proofs.Common.{length}
-use Rattle.std.specs.Io.KnownBytes.{append_known}
+use Rattle.std.{proofs.Common.length, specs.Io.KnownBytes.append_known}
 use Rattle.pinball_shell.proofs.Playing.{AreLinesGoing}
 use Rattle.pinball_shell.proofs.play.play_lines.Given as goal
 

@@ -1,11 +1,8 @@
-use Rattle.std.proofs.Common.{Err, IsErrOf, ap, sym, ◌∙◌, map, subst}
-use Rattle.std.proofs.lemmas.Result.{err_from_is_err_and}
+use Rattle.std.proofs.{Common.{Err, IsErrOf, ap, sym, ◌∙◌, map, subst}, lemmas.Result.err_from_is_err_and}
 use Rattle.coil_driver.specs.Board.{BoardView, board_view}
 use Rattle.machine_core.specs.Fit.{IsFit}
 use Rattle.pinball_shell.specs.declared.fault.ShellFault.TheVariants as faults
-use Rattle.pinball_shell.proofs.LogRuns.{log_is_run}
-use Rattle.pinball_shell.proofs.Playing.{log-written}
-use Rattle.pinball_shell.proofs.Taking.{log-played, wrong-unfit}
+use Rattle.pinball_shell.proofs.{LogRuns.log_is_run, Playing.log-written, Taking.{log-played, wrong-unfit}}
 use Rattle.pinball_shell.proofs.play.play_log.Goals as goal
 
 pub returns-in_err-printed-clause-run : goal.returns-in_err-printed-clause-run

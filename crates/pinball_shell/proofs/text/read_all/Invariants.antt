@@ -1,5 +1,4 @@
-use Rattle.std.proofs.Common.{◌≤◌, ◌-◌, vec_len}
-use Rattle.std.specs.Io.KnownBytes.{Consumes}
+use Rattle.std.{proofs.Common.{◌≤◌, ◌-◌, vec_len}, specs.Io.KnownBytes.Consumes}
 use Rattle.pinball_shell.proofs.text.read_all.Given as goal
 
 -- what was read so far is what the reader gave, and is within the limit
